@@ -1,0 +1,14 @@
+//! The owners that all data of the repository is made of: a [`Sequence`] of items, a [`Text`], which is a sequence of
+//! bytes, and a [`Boxed`] value. Contracts see a sequence as the list of its items and a box as the value in it, with
+//! no capacity and no pointer, so that a contract can say that data equals what a definition computes.
+//!
+//! This is the lowest crate: it stands on std alone.
+#![tactic(auto)]
+
+mod boxed;
+mod copies;
+mod sequence;
+
+pub use boxed::Boxed;
+pub use copies::ExactClone;
+pub use sequence::{Sequence, Text};
