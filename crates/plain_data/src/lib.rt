@@ -7,8 +7,10 @@
 
 mod boxed;
 mod copies;
+mod ordered_map;
 mod sequence;
 
 pub use boxed::Boxed;
 pub use copies::ExactClone;
+pub use ordered_map::OrderedMap;
 pub use sequence::{Sequence, Text};
