@@ -1,2 +1,4 @@
+pub mod Addresses
 pub mod Values
 pub mod Deltas
+pub mod DeltaMaps

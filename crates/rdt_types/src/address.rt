@@ -1,6 +1,7 @@
 //! Where a value stands: a kind and a key.
 
 use plain_data::{ExactClone, Text};
+use std::cmp::Ordering;
 
 /// What a value is, and so which operations it has. Kinds are ordered as they stand here.
 #[derive(Clone, Copy, Debug, PartialEq, Eq, PartialOrd, Ord)]
@@ -8,8 +9,8 @@ pub enum Kind {
     Counter,
 }
 
-/// The place of a value. One key with two kinds makes two addresses. Addresses are ordered by kind, then by the key's bytes.
-#[derive(Clone, Debug, Drop, PartialEq, Eq, PartialOrd, Ord)]
+/// The place of a value. One key with two kinds makes two addresses.
+#[derive(Clone, Debug, Drop, PartialEq, Eq)]
 pub struct Address {
     pub kind: Kind,
     pub key: Text,
@@ -19,4 +20,39 @@ impl ExactClone for Address {
     ghost use Rattle.std.proofs.Common.{rules};
 
     ghost exact = { Prim.search rules };
+}
+
+/// By kind, and addresses of one kind by their keys' bytes.
+impl Ord for Address {
+    ghost use Rattle.std.proofs.Common.{rules};
+    ghost use Rattle.std.specs.Cmp.Rules.{comparing};
+    ghost use Rattle.rdt_types.specs.Addresses.{address_cmp};
+
+    ghost cmp = { address_cmp };
+
+    ghost total = { Prim.search (comparing, rules) };
+
+    ghost matches_partial_cmp = { Prim.search (comparing, rules) };
+
+    ghost matches_eq = { Prim.search (comparing, rules) };
+
+    fn cmp(&self, other: &Address) -> Ordering {
+        self.kind.cmp(&other.kind).then(self.key.cmp(&other.key))
+    }
+}
+
+impl PartialOrd for Address {
+    ghost use Rattle.std.proofs.Common.{rules};
+    ghost use Rattle.std.specs.Cmp.{partial_order_from_own_ties};
+    ghost use Rattle.std.specs.Cmp.Rules.{comparing};
+    ghost use Rattle.std.specs.Ordering.{as_partial_cmp};
+    ghost use Rattle.rdt_types.specs.Addresses.{address_cmp};
+
+    ghost partial_cmp = { as_partial_cmp address_cmp };
+
+    ghost laws = { partial_order_from_own_ties (Prim.search (comparing, rules)) (Prim.search (comparing, rules)) };
+
+    fn partial_cmp(&self, other: &Address) -> Option<Ordering> {
+        Some(self.cmp(other))
+    }
 }

@@ -7,6 +7,7 @@
 
 mod address;
 mod delta;
+mod delta_map;
 mod operation;
 mod outcome;
 mod settings;
@@ -14,6 +15,7 @@ mod value;
 
 pub use address::{Address, Kind};
 pub use delta::{Delta, apply, compose, compositions_apply_in_turn, delta_of, deltas_write};
+pub use delta_map::{DeltaMap, add_delta};
 pub use operation::WriteOp;
 pub use outcome::{Item, ItemList, Outcome};
 pub use settings::Settings;

@@ -1,0 +1,24 @@
+-- Deltas at several addresses, as the list of pairs by rising address.
+use Rattle.std.specs.Prelude.{List, Option, Some, None}
+use Rattle.std.specs.Map.{lookup}
+use Rattle.std.specs.BTreeMap.{insert_entry, is_at}
+use Rattle.rdt_types.specs.declared.address.Address.{Address}
+use Rattle.rdt_types.specs.declared.delta.Delta.{Delta}
+use Rattle.rdt_types.specs.Addresses.{address_cmp}
+use Rattle.rdt_types.specs.Deltas.{compose}
+
+abbrev pub Deltas : Type 0
+Deltas = List (Address × Delta)
+
+-- the delta at an address, if there is one
+abbrev pub delta_at : Deltas → Address → Option Delta
+delta_at deltas address = lookup (is_at (address_cmp address)) deltas
+
+-- a delta after one that may stand before it
+abbrev pub after_maybe : Option Delta → Delta → Delta
+after_maybe None delta = delta
+after_maybe (Some before) delta = compose before delta
+
+-- one more delta at an address, after what stands there
+abbrev pub with_delta : Deltas → Address → Delta → Deltas
+with_delta deltas address delta = insert_entry address_cmp deltas address (after_maybe (delta_at deltas address) delta)
