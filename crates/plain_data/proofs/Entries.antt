@@ -4,7 +4,7 @@ use Rattle.std.specs.List.{slice_get, insert, AllByRecursion}
 use Rattle.std.specs.List.Sorted.{IsStrictlySortedBy, IsPartitionedBy}
 use Rattle.std.specs.Map.{lookup, keys_of}
 use Rattle.std.specs.BTreeMap.{insert_entry, is_at}
-use Rattle.std.specs.Cmp.{IsTotalOrder}
+use Rattle.std.specs.Cmp.{IsTotalOrder, alike_right}
 use Rattle.std.specs.Ordering.{is_lt, is_eq, is_gt, match_ordering, ordering_reverse}
 use Rattle.std.specs.declared.cmp.Ordering.{Ordering}
 use Rattle.std.specs.declared.cmp.Ordering.TheVariants.{Less, Equal, Greater}
@@ -153,3 +153,35 @@ pub within-get : {X : Type 0} (xs : List X) (i : ℕ) (x : X) → slice_get xs i
 within-get [] i x e = absurd (cc)
 within-get (y ∷ ys) zero x e = omega arith
 within-get (y ∷ ys) (suc i) x e = omega (arith, within-get ys i x e)
+
+-- ---- what is found after one more entry
+
+module _ {K V : Type 0} (R : K → K → Ordering) (o : IsTotalOrder R) where
+  found_by : (b c : Bool) (v : V) (u w : Option V) → b ≡ c → cond b (Some v) w ≡ cond c (Some v) (cond b u w)
+  found_by true true v u w e = refl
+  found_by false false v u w e = refl
+  found_by true false v u w e = absurd (false≢true (sym e))
+  found_by false true v u w e = absurd (false≢true e)
+
+  lookup_placed : (r : Ordering) (q k : K) (v : V) (x : K × V) (es : List (K × V)) → R k x.0 ≡ r
+      → lookup (is_at (R q)) (insert_entry R es k v) ≡ cond (is_eq (R q k)) (Some v) (lookup (is_at (R q)) es)
+      → lookup (is_at (R q)) (placed R o r k v x es) ≡ cond (is_eq (R q k)) (Some v) (lookup (is_at (R q)) (x ∷ es))
+  lookup_placed Less q k v x es e more = refl
+  lookup_placed Equal q k v x es e more = found_by (is_eq (R q x.0)) (is_eq (R q k)) v (Some x.1) (lookup (is_at (R q)) es) (ap is_eq (sym (alike_right o k x.0 q e)))
+  lookup_placed Greater q k v x es e more = ap (λ l. cond (is_eq (R q x.0)) (Some x.1) l) more ∙ by (is_eq (R q k)) (is_eq (R q x.0)) refl refl
+    where
+      by : (b c : Bool) → is_eq (R q k) ≡ b → is_eq (R q x.0) ≡ c
+          → cond c (Some x.1) (cond b (Some v) (lookup (is_at (R q)) es)) ≡ cond b (Some v) (cond c (Some x.1) (lookup (is_at (R q)) es))
+      by false c f g = refl
+      by true false f g = refl
+      by true true f g = absurd (false≢true (ap is_eq (sym e) ∙ (ap is_eq (sym (o.congr q k x.0 (equal (R q k) f))) ∙ g)))
+
+  -- at an equal key there is the new value, and at each other key what was there
+  pub lookup-insert_entry : (q k : K) (v : V) (es : List (K × V)) → lookup (is_at (R q)) (insert_entry R es k v) ≡ cond (is_eq (R q k)) (Some v) (lookup (is_at (R q)) es)
+  lookup-insert_entry q k v [] = refl
+  lookup-insert_entry q k v (x ∷ es) = lookup_placed (R k x.0) q k v x es refl (lookup-insert_entry q k v es)
+
+  -- equal keys find the same
+  pub lookup-alike : (a b : K) (es : List (K × V)) → R a b ≡ Equal → lookup (is_at (R a)) es ≡ lookup (is_at (R b)) es
+  lookup-alike a b [] e = refl
+  lookup-alike a b (x ∷ es) e = ap (λ r. cond (is_eq r) (Some x.1) (lookup (is_at (R a)) es)) (o.congr a b x.0 e) ∙ ap (λ l. cond (is_eq (R b x.0)) (Some x.1) l) (lookup-alike a b es e)

@@ -1,0 +1,14 @@
+//! The language of transactions, and what it means to run a body: the definitions that every promise of the store cites.
+//!
+//! Read first `specs/States.antt` (the values that commits leave), `specs/Running.antt` (what a body does on them) and
+//! `specs/Journals.antt` (what a legal journal is). The language's trees come from `txn_trees`, its tokens and grammar
+//! from `txn_grammar`; what runs, validates or keeps commits stands on this crate.
+#![tactic(auto)]
+
+mod commit;
+mod laws;
+mod run;
+
+pub use commit::{Commit, CommitList};
+pub use laws::deltas_leave_what_operations_leave;
+pub use run::{Run, Seen, SeenList};
