@@ -1,0 +1,4 @@
+pub mod Counts
+pub mod Sources
+pub mod Sinks
+pub mod Memory
