@@ -1,5 +1,5 @@
 -- Laws of lines, and what a line that has begun goes on to.
-use Rattle.std.proofs.Common.{◌≡◌, ◌≢◌, ◌==◌, ℕ, ◌+◌, ◌-◌, ◌<◌, ◌≤◌, ◌⊎◌, List, [], ◌∷◌, ◌++◌, length, take, drop, min, Option, Some, None, IfSome, nat_lt, if◌then◌else◌, refl, ap, sym, ◌∙◌, inl, inr, subst, arith, append_assoc, length-append, length-drop}
+use Rattle.std.proofs.Common.{◌≡◌, ◌≢◌, ℕ, ◌+◌, ◌<◌, ◌≤◌, List, [], ◌∷◌, ◌++◌, length, take, drop, Option, Some, None, IfSome, refl, ap, sym, ◌∙◌, inl, inr, subst, arith, append_assoc, length-append, length-drop}
 use Rattle.std.proofs.lemmas.Bool.{ne_eqb}
 use Rattle.std.proofs.lemmas.Bool.Decides.{leb_tells}
 use Rattle.std.proofs.lemmas.List.{take-append-drop, drop-drop, length-take, length-take-le, take_all, take-append-le, append-nil}
@@ -68,12 +68,12 @@ HasBegun-more n b (Some all) mid (Some rest) begun next other =
 -- of a front and what follows it, the first m are those of its first m and what follows
 take-take_append : (m : ℕ) (xs ys : List ℕ) → take m (take m xs ++ ys) ≡ take m (xs ++ ys)
 take-take_append m xs ys = elim (leb_tells (length xs) m) [
-    inl whole ↦ ap (λ front. take m (front ++ ys)) (take_all m xs whole.1)
+  | inl whole ↦ ap (λ front. take m (front ++ ys)) (take_all m xs whole.1)
   | inr more ↦
       let within : m ≤ length xs = omega (arith, more.1) in
       let long : m ≤ length (take m xs) = omega (arith, length-take-le m xs within) in
       take-append-le m (take m xs) ys long ∙ take_all m (take m xs) (omega (arith, length-take-le m xs within)) ∙ sym (take-append-le m xs ys within)
-  ]
+]
 
 -- of one byte more, as much is kept as fits
 pub IsKept-more : (n b : ℕ) (old mid new : Option (List ℕ)) (kept more : List ℕ) → HasBegun n old mid → mid ≡ with_front (b ∷ []) new
@@ -85,16 +85,16 @@ IsKept-more n b (Some all) mid (Some rest) kept more begun next is_kept is =
     let here : drop n all ≡ b ∷ rest = cc in
     let taken = next-taken n b all rest begun.0 here in (
       is ∙ ap (λ front. take LONGEST_LINE (front ++ b ∷ [])) is_kept.0
-      ∙ take-take_append LONGEST_LINE (take n all) (b ∷ []) ∙ ap (take LONGEST_LINE) (sym taken.1),
+          ∙ take-take_append LONGEST_LINE (take n all) (b ∷ []) ∙ ap (take LONGEST_LINE) (sym taken.1),
       omega (arith, ap length is, length-take LONGEST_LINE (kept ++ b ∷ []), length-append kept (b ∷ []), is_kept.1),
     )
 
 -- a line of n bytes is answered as it should be
 answers_first : (raw kept all rest : List ℕ) (n : ℕ) → length raw ≡ n → kept ≡ take LONGEST_LINE raw → IsFirstLine raw all rest → Answers (line_of n kept) all rest
 answers_first raw kept all rest n long is first = elim (leb_tells (LONGEST_LINE + 1) n) [
-    inl above ↦ rw above.0 (raw, omega (arith, above.1), first)
+  | inl above ↦ rw above.0 (raw, omega (arith, above.1), first)
   | inr within ↦ rw within.0 (subst (λ line. IsFirstLine line all rest) (sym (is ∙ take_all LONGEST_LINE raw (omega (arith, within.1)))) first)
-  ]
+]
 
 -- n bytes and then a newline are the first line
 pub TakesLine-newline : (n : ℕ) (old mid new : Option (List ℕ)) (kept : List ℕ) → n < LONGEST_RUN → HasBegun n old mid

@@ -8,6 +8,7 @@ ghost use Rattle.dio_core.specs.Sinks.{Takes};
 ghost use Rattle.dio_core.specs.Memory.{plan_of, fails_next, faulted, after_next, Supplies, Stores};
 
 use crate::count::Count;
+use crate::listener::End;
 use crate::sink::{Sink, Took};
 use crate::source::{Got, Source};
 use std::alloc::{AllocError, Global};
@@ -221,4 +222,49 @@ impl Sink for MemSink {
     fn write_faults(&self) -> u64 {
         self.plan.faults()
     }
+}
+
+/// A link in memory.
+#[derive(Drop)]
+pub struct MemLink {
+    /// What the link reads.
+    pub source: MemSource,
+    /// What the link writes to.
+    pub sink: MemSink,
+}
+
+impl Source for MemLink {
+    ghost left = { λ l. Some l.source.left };
+
+    ghost read_faults = { λ l. l.source.plan.faults };
+
+    fn read(&mut self, buf: &mut [u8]) -> Got {
+        self.source.read(buf)
+    }
+
+    fn read_faults(&self) -> u64 {
+        self.source.read_faults()
+    }
+}
+
+impl Sink for MemLink {
+    ghost taken = { λ l. Some l.sink.taken };
+
+    ghost write_faults = { λ l. l.sink.plan.faults };
+
+    fn write(&mut self, bytes: &[u8]) -> Took {
+        self.sink.write(bytes)
+    }
+
+    fn flush(&mut self) -> bool {
+        self.sink.flush()
+    }
+
+    fn write_faults(&self) -> u64 {
+        self.sink.write_faults()
+    }
+}
+
+impl End for MemLink {
+    fn end(&mut self) {}
 }

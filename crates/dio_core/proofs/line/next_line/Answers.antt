@@ -10,14 +10,14 @@ returns-in-None-2-clause-line g c =
     let left = g.S.Source.left in
     subst (λ line. TakesLine line (left c.args.source.now) (left c.next_byte.new.source)) (sym c.answer.ensures)
     (TakesLine-end c.loop-taken.taken (left c.args.source.now) (left c.loop-taken.source) (left c.next_byte.new.source) c.loop-taken.kept
-     c.loop-taken-test.true (grind (arith, common_steps)) c.loop-taken.invariant.begun (grind (arith, common_steps)) (grind (arith, common_steps)) c.loop-taken.invariant.kept)
+    c.loop-taken-test.true (grind (arith, common_steps)) c.loop-taken.invariant.begun (grind (arith, common_steps)) (grind (arith, common_steps)) c.loop-taken.invariant.kept)
 
 pub returns-in-Some-eq10-clause-line : goal.returns-in-Some-eq10-clause-line
 returns-in-Some-eq10-clause-line g c =
     let left = g.S.Source.left in
     subst (λ line. TakesLine line (left c.args.source.now) (left c.next_byte.new.source)) (sym c.answer-in-Some-eq10.ensures)
     (TakesLine-newline c.loop-taken.taken (left c.args.source.now) (left c.loop-taken.source) (left c.next_byte.new.source) c.loop-taken.kept
-     c.loop-taken-test.true c.loop-taken.invariant.begun (grind (arith, common_steps)) c.loop-taken.invariant.kept)
+    c.loop-taken-test.true c.loop-taken.invariant.begun (grind (arith, common_steps)) c.loop-taken.invariant.kept)
 
 -- what holds anyway holds after an error
 on_err : {T E P : Type 0} → (r : Result T E) → P → OnErr r P
@@ -28,9 +28,12 @@ pub returns-in_err-keep-in-Some-clause-begun : goal.returns-in_err-keep-in-Some-
 returns-in_err-keep-in-Some-clause-begun g c =
     let left = g.S.Source.left in
     let few : c.loop-taken.taken + 1 < LONGEST_RUN = omega (arith, c.in_err-keep-in-Some.ensures.err, c.loop-taken.invariant.kept.1) in
-    on_err c.from_residual-in_err-keep-in-Some.result
-    (c.loop-taken.taken + 1, few, HasBegun-more c.loop-taken.taken c.in-Some.byte (left c.args.source.now) (left c.loop-taken.source) (left c.next_byte.new.source)
-     c.loop-taken.invariant.begun (grind (arith, common_steps)) (grind (arith, common_steps)))
+    on_err c.from_residual-in_err-keep-in-Some.result (
+      c.loop-taken.taken + 1,
+      few,
+      HasBegun-more c.loop-taken.taken c.in-Some.byte (left c.args.source.now) (left c.loop-taken.source) (left c.next_byte.new.source)
+          c.loop-taken.invariant.begun (grind (arith, common_steps)) (grind (arith, common_steps)),
+    )
 
 pub loop-taken-preserved : goal.loop-taken-preserved
 loop-taken-preserved g c =
