@@ -1,0 +1,4 @@
+pub mod Counts
+pub mod Sinks
+pub mod Sources
+pub mod Lines

@@ -1,0 +1,127 @@
+//! A file on a disk, and what a crash may leave of it, where the disk tells it.
+
+ghost use Rattle.std.specs.Prelude.{◌≡◌, ℕ, ◌<◌, ◌≤◌, [], List, Option, None, length, IfOk, IfSome, OnErr, IsErr};
+ghost use Rattle.dio_core.specs.Counts.{one_more, Grows, Rose};
+ghost use Rattle.dio_core.specs.Disks.{Durable, DiskState, Shows, Writes, Shortens, Syncs, Does, Passes};
+
+use crate::count::Count;
+
+/// A call of a disk failed, which the disk has counted.
+#[derive(Clone, Copy, Debug, PartialEq, Eq)]
+pub struct DiskFault;
+
+/// A file on a disk. Between two syncs a crash may undo, or leave in part, what was written and cut since.
+pub trait Disk: Send {
+    /// What a read gives and a crash may leave now, or None where the disk doesn't tell.
+    ghost state: { Self → Option DiskState };
+
+    /// What a crash might have left at each earlier moment.
+    ghost past: { Self → List Durable };
+
+    /// How many calls have failed, up to the last value of a u64.
+    ghost disk_faults: { Self → ℕ };
+
+    /// The length of the file.
+    fn length(&mut self) -> Result<u64, DiskFault>
+        ensures length { IfOk result (λ n. IfSome (state self.old) (λ s. n ≡ length s.file)) }
+        ensures same { state self.new ≡ state self.old }
+        ensures past { past self.new ≡ past self.old }
+        ensures count { Grows (disk_faults self.old) (disk_faults self.new) }
+        ensures fault { OnErr result (Rose (disk_faults self.old) (disk_faults self.new)) };
+
+    /// Reads bytes of the file from the place `at` on into the front of `buf`: at least one below the end of the
+    /// file, and 0 past it.
+    fn read(&mut self, at: u64, buf: &mut [u8]) -> Result<usize, DiskFault>
+        requires { 0 < length buf.old }
+        ensures within { IfOk result (λ n. n ≤ length buf.new) }
+        ensures shows { IfOk result (λ n. IfSome (state self.old) (λ s. Shows s.file at n buf.new)) }
+        ensures same { state self.new ≡ state self.old }
+        ensures past { past self.new ≡ past self.old }
+        ensures count { Grows (disk_faults self.old) (disk_faults self.new) }
+        ensures fault { OnErr result (Rose (disk_faults self.old) (disk_faults self.new)) };
+
+    /// Writes all the bytes at the place `at`, over what is there and past the end. After a fault some of them may be
+    /// written.
+    fn write_at(&mut self, at: u64, bytes: &[u8]) -> Result<(), DiskFault>
+        ensures writes { Does (Writes result at bytes.now) (state self.old) (state self.new) }
+        ensures past { Passes (past self.old) (state self.old) (past self.new) (state self.new) }
+        ensures count { Grows (disk_faults self.old) (disk_faults self.new) }
+        ensures fault { OnErr result (Rose (disk_faults self.old) (disk_faults self.new)) };
+
+    /// Cuts the file to a length. After a fault the file may have any length between.
+    fn cut(&mut self, to: u64) -> Result<(), DiskFault>
+        requires { IfSome (state self.old) (λ s. to ≤ length s.file) }
+        ensures cuts { Does (Shortens result to) (state self.old) (state self.new) }
+        ensures past { Passes (past self.old) (state self.old) (past self.new) (state self.new) }
+        ensures count { Grows (disk_faults self.old) (disk_faults self.new) }
+        ensures fault { OnErr result (Rose (disk_faults self.old) (disk_faults self.new)) };
+
+    /// Makes all that was written and cut outlast a crash.
+    fn sync(&mut self) -> Result<(), DiskFault>
+        ensures syncs { Does (Syncs result) (state self.old) (state self.new) }
+        ensures past { Passes (past self.old) (state self.old) (past self.new) (state self.new) }
+        ensures count { Grows (disk_faults self.old) (disk_faults self.new) }
+        ensures fault { OnErr result (Rose (disk_faults self.old) (disk_faults self.new)) };
+
+    /// How many calls have failed.
+    fn disk_faults(&self) -> u64
+        ensures { result ≡ disk_faults self.now };
+}
+
+/// A disk that isn't there: each call fails, and is counted.
+#[derive(Debug, Drop)]
+pub struct NoDisk {
+    faults: Count,
+}
+
+impl NoDisk {
+    /// No call has failed yet.
+    pub fn new() -> NoDisk
+        ensures { ⟦<NoDisk as Disk>⟧.disk_faults result ≡ 0 }
+    {
+        NoDisk {
+            faults: Count::new(),
+        }
+    }
+
+    /// Fails, and counts it.
+    fn fail<T: Drop>(&mut self) -> Result<T, DiskFault>
+        ensures fails { IsErr result }
+        ensures counted { ⟦<NoDisk as Disk>⟧.disk_faults self.new ≡ one_more (⟦<NoDisk as Disk>⟧.disk_faults self.old) }
+    {
+        self.faults.add_one();
+        Err(DiskFault)
+    }
+}
+
+impl Disk for NoDisk {
+    ghost state = { λ _. None };
+
+    ghost past = { λ _. [] };
+
+    ghost disk_faults = { λ d. d.faults };
+
+    fn length(&mut self) -> Result<u64, DiskFault> {
+        self.fail()
+    }
+
+    fn read(&mut self, _at: u64, _buf: &mut [u8]) -> Result<usize, DiskFault> {
+        self.fail()
+    }
+
+    fn write_at(&mut self, _at: u64, _bytes: &[u8]) -> Result<(), DiskFault> {
+        self.fail()
+    }
+
+    fn cut(&mut self, _to: u64) -> Result<(), DiskFault> {
+        self.fail()
+    }
+
+    fn sync(&mut self) -> Result<(), DiskFault> {
+        self.fail()
+    }
+
+    fn disk_faults(&self) -> u64 {
+        self.faults.get()
+    }
+}

@@ -1,0 +1,104 @@
+//! Where links come in, and are given back when they are done.
+
+ghost use Rattle.std.specs.Prelude.{◌≡◌, ℕ, List, Option, None, OnOk, OnErr};
+ghost use Rattle.dio_core.specs.Counts.{Grows, Rose};
+ghost use Rattle.dio_core.specs.Listeners.{Accepts, IsFailed, with_last};
+
+use crate::count::Count;
+use crate::memory::MemLink;
+use crate::sink::Sink;
+use crate::source::Source;
+use std::alloc::AllocError;
+
+/// A link that can be closed.
+pub trait End: Source + Sink {
+    /// Closes the link. What it tells and its counts stay.
+    fn end(&mut self)
+        ensures left { Self.left self.new ≡ Self.left self.old }
+        ensures taken { Self.taken self.new ≡ Self.taken self.old }
+        ensures read_faults { Self.read_faults self.new ≡ Self.read_faults self.old }
+        ensures write_faults { Self.write_faults self.new ≡ Self.write_faults self.old };
+}
+
+/// What an accept gave.
+#[derive(Drop)]
+pub enum Accepted<K> {
+    /// The first link that was left.
+    Link(K),
+    /// No link, since none is left.
+    NoMore,
+    /// No link, for a fault.
+    Failed,
+}
+
+/// Links that come in one after another, and are given back, each with a status.
+pub trait Listener {
+    type Link: Source + Sink + End + Send + Drop;
+
+    /// The links left, or None where the listener doesn't tell.
+    ghost links: { Self → Option (List Self.Link) };
+
+    /// The links given back, each with its status, or None where the listener doesn't tell.
+    ghost given_back: { Self → Option (List (Self.Link × ℕ)) };
+
+    /// How many accepts have failed, up to the last value of a u64.
+    ghost accept_faults: { Self → ℕ };
+
+    /// Takes the next link.
+    fn accept(&mut self) -> Accepted<Self::Link>
+        ensures accepts { Accepts result (links self.old) (links self.new) }
+        ensures same { given_back self.new ≡ given_back self.old }
+        ensures count { Grows (accept_faults self.old) (accept_faults self.new) }
+        ensures fault { IsFailed result → Rose (accept_faults self.old) (accept_faults self.new) };
+
+    /// Gives a link back that is done with. For want of memory the link is gone.
+    fn give_back(&mut self, link: Self::Link, status: u8) -> Result<(), AllocError>
+        ensures ok { OnOk result (given_back self.new ≡ with_last (given_back self.old) (link, status)) }
+        ensures err { OnErr result (given_back self.new ≡ given_back self.old) }
+        ensures same { links self.new ≡ links self.old }
+        ensures count { accept_faults self.new ≡ accept_faults self.old };
+
+    /// How many accepts have failed.
+    fn accept_faults(&self) -> u64
+        ensures { result ≡ accept_faults self.now };
+}
+
+/// A listener that isn't there: each accept fails, and is counted.
+#[derive(Debug, Drop)]
+pub struct NoListener {
+    faults: Count,
+}
+
+impl NoListener {
+    /// No accept has failed yet.
+    pub fn new() -> NoListener
+        ensures { ⟦<NoListener as Listener>⟧.accept_faults result ≡ 0 }
+    {
+        NoListener {
+            faults: Count::new(),
+        }
+    }
+}
+
+impl Listener for NoListener {
+    type Link = MemLink;
+
+    ghost links = { λ _. None };
+
+    ghost given_back = { λ _. None };
+
+    ghost accept_faults = { λ l. l.faults };
+
+    fn accept(&mut self) -> Accepted<MemLink> {
+        self.faults.add_one();
+        Accepted::Failed
+    }
+
+    fn give_back(&mut self, _link: MemLink, _status: u8) -> Result<(), AllocError> {
+        Ok(())
+    }
+
+    fn accept_faults(&self) -> u64 {
+        self.faults.get()
+    }
+}

@@ -1,0 +1,270 @@
+//! A source, a sink and a link in memory, which tell what they hold. They give and take pieces of a named size, and
+//! fail at named calls.
+
+ghost use Rattle.std.specs.Prelude.{◌≡◌, [], ◌<◌, ◌≤◌, drop, length, vec_len, IfOk, Some, false, not};
+ghost use Rattle.dio_core.specs.Counts.{one_more, Grows, Rose};
+ghost use Rattle.dio_core.specs.Sources.{Gives};
+ghost use Rattle.dio_core.specs.Sinks.{Takes};
+ghost use Rattle.dio_core.specs.Memory.{plan_of, fails_next, faulted, after_next, Supplies, Stores};
+
+use crate::count::Count;
+use crate::listener::End;
+use crate::sink::{Sink, Took};
+use crate::source::{Got, Source};
+use std::alloc::{AllocError, Global};
+use std::marker::Model;
+
+/// Which calls of an object in memory are to fail, and how many have failed.
+#[derive(Drop)]
+pub struct FaultPlan {
+    fails: Vec<u64>,
+    next: Count,
+    faults: Count,
+}
+
+impl Model for FaultPlan {
+    ghost use Rattle.dio_core.specs.Memory.{Plan};
+
+    ghost Value = { Plan };
+
+    ghost view = { λ p. record { fails = p.fails.items; next = p.next; faults = p.faults } };
+}
+
+impl FaultPlan {
+    /// The calls with these numbers are to fail. The first call has the number 0.
+    pub fn new(alloc: Global, fails: &[u64]) -> Result<FaultPlan, AllocError>
+        ensures { IfOk result (λ plan. plan ≡ plan_of fails.now) }
+    {
+        Ok(FaultPlan {
+            fails: Vec::from_slice(alloc, fails)?,
+            next: Count::new(),
+            faults: Count::new(),
+        })
+    }
+
+    /// Begins the next call. Whether it fails, which is counted.
+    pub fn begin_call(&mut self) -> bool
+        ensures fails { result ≡ fails_next self.old }
+        ensures after { self.new ≡ after_next self.old }
+    {
+        let fails = self.fails.contains(&self.next.get());
+        self.next.add_one();
+        if fails {
+            self.faults.add_one();
+        }
+        fails
+    }
+
+    /// Counts a fault of the call that has begun, which was not to fail.
+    pub fn add_fault(&mut self)
+        ensures { self.new ≡ faulted self.old }
+    {
+        self.faults.add_one();
+    }
+
+    /// How many calls have failed.
+    pub fn faults(&self) -> u64
+        ensures { result ≡ self.now.faults }
+    {
+        self.faults.get()
+    }
+}
+
+/// A source of bytes in memory.
+#[derive(Drop)]
+pub struct MemSource {
+    bytes: Vec<u8>,
+    at: usize,
+    piece: usize,
+    plan: FaultPlan,
+}
+
+impl Model for MemSource {
+    ghost use Rattle.std.specs.Prelude.{◌<◌, ◌≤◌, drop, length};
+    ghost use Rattle.dio_core.specs.Memory.{Supply};
+
+    ghost Value = { Supply };
+
+    ghost view = { λ s. record { left = drop s.at s.bytes.items; piece = s.piece; plan = s.plan } };
+
+    ghost invariant = { λ s. (s.at ≤ length s.bytes.items) × (0 < s.piece) };
+}
+
+impl MemSource {
+    /// A source of these bytes. It gives at most `piece` of them in a call, and fails at the calls with the numbers
+    /// in `fails`, the first call being 0.
+    pub fn new(
+        alloc: Global,
+        bytes: &[u8],
+        piece: usize,
+        fails: &[u64],
+    ) -> Result<MemSource, AllocError>
+        requires { 0 < piece }
+        ensures left { IfOk result (λ source. source.left ≡ bytes.now) }
+        ensures piece { IfOk result (λ source. source.piece ≡ piece) }
+        ensures plan { IfOk result (λ source. source.plan ≡ plan_of fails.now) }
+    {
+        Ok(MemSource {
+            bytes: Vec::from_slice(alloc, bytes)?,
+            at: 0,
+            piece,
+            plan: FaultPlan::new(alloc, fails)?,
+        })
+    }
+}
+
+impl Source for MemSource {
+    ghost left = { λ s. Some s.left };
+
+    ghost read_faults = { λ s. s.plan.faults };
+
+    fn read(&mut self, buf: &mut [u8]) -> Got
+        requires { 0 < length buf.old }
+        ensures gives { Gives result buf.new (Some self.old.left) (Some self.new.left) }
+        ensures count { Grows self.old.plan.faults self.new.plan.faults }
+        ensures fault { result ≡ Got.Failed → Rose self.old.plan.faults self.new.plan.faults }
+        ensures exact { Supplies result buf.old buf.new self.old self.new }
+    {
+        if self.plan.begin_call() {
+            return Got::Failed;
+        }
+        let rest = &self.bytes[self.at..];
+        if rest.is_empty() {
+            return Got::End;
+        }
+        let count = rest.len().min(buf.len()).min(self.piece);
+        buf[..count].copy_from_slice(&rest[..count]);
+        self.at += count;
+        Got::Bytes(count)
+    }
+
+    fn read_faults(&self) -> u64 {
+        self.plan.faults()
+    }
+}
+
+/// A sink of bytes in memory.
+#[derive(Drop)]
+pub struct MemSink {
+    taken: Vec<u8>,
+    piece: usize,
+    plan: FaultPlan,
+}
+
+impl Model for MemSink {
+    ghost use Rattle.std.specs.Prelude.{◌<◌};
+    ghost use Rattle.dio_core.specs.Memory.{Intake};
+
+    ghost Value = { Intake };
+
+    ghost view = { λ s. record { taken = s.taken.items; piece = s.piece; plan = s.plan } };
+
+    ghost invariant = { λ s. 0 < s.piece };
+}
+
+impl MemSink {
+    /// A sink that has taken nothing. It takes at most `piece` bytes in a call, and fails at the calls with the
+    /// numbers in `fails`, the first call being 0. Writes and flushes are calls. A write that finds no memory fails
+    /// too, and is counted.
+    pub fn new(alloc: Global, piece: usize, fails: &[u64]) -> Result<MemSink, AllocError>
+        requires { 0 < piece }
+        ensures taken { IfOk result (λ sink. sink.taken ≡ []) }
+        ensures piece { IfOk result (λ sink. sink.piece ≡ piece) }
+        ensures plan { IfOk result (λ sink. sink.plan ≡ plan_of fails.now) }
+    {
+        Ok(MemSink {
+            taken: Vec::new(alloc),
+            piece,
+            plan: FaultPlan::new(alloc, fails)?,
+        })
+    }
+
+    /// The bytes taken so far.
+    pub fn taken(&self) -> &[u8]
+        ensures { result.now ≡ self.now.taken }
+    {
+        self.taken.as_slice()
+    }
+}
+
+impl Sink for MemSink {
+    ghost taken = { λ s. Some s.taken };
+
+    ghost write_faults = { λ s. s.plan.faults };
+
+    fn write(&mut self, bytes: &[u8]) -> Took
+        requires { 0 < length bytes.now }
+        ensures takes { Takes result bytes.now (Some self.old.taken) (Some self.new.taken) }
+        ensures count { Grows self.old.plan.faults self.new.plan.faults }
+        ensures fault { result ≡ Took.Failed → Rose self.old.plan.faults self.new.plan.faults }
+        ensures exact { Stores result bytes.now self.old self.new }
+    {
+        if self.plan.begin_call() {
+            return Took::Failed;
+        }
+        let count = bytes.len().min(self.piece);
+        if self.taken.extend_from_slice(&bytes[..count]).is_err() {
+            self.plan.add_fault();
+            return Took::Failed;
+        }
+        Took::Bytes(count)
+    }
+
+    fn flush(&mut self) -> bool
+        ensures same { Some self.new.taken ≡ Some self.old.taken }
+        ensures count { Grows self.old.plan.faults self.new.plan.faults }
+        ensures fault { result ≡ false → Rose self.old.plan.faults self.new.plan.faults }
+        ensures exact { (result ≡ not (fails_next self.old.plan)) × (self.new ≡ record self.old { plan = after_next self.old.plan }) }
+    {
+        !self.plan.begin_call()
+    }
+
+    fn write_faults(&self) -> u64 {
+        self.plan.faults()
+    }
+}
+
+/// A link in memory.
+#[derive(Drop)]
+pub struct MemLink {
+    /// What the link reads.
+    pub source: MemSource,
+    /// What the link writes to.
+    pub sink: MemSink,
+}
+
+impl Source for MemLink {
+    ghost left = { λ l. Some l.source.left };
+
+    ghost read_faults = { λ l. l.source.plan.faults };
+
+    fn read(&mut self, buf: &mut [u8]) -> Got {
+        self.source.read(buf)
+    }
+
+    fn read_faults(&self) -> u64 {
+        self.source.read_faults()
+    }
+}
+
+impl Sink for MemLink {
+    ghost taken = { λ l. Some l.sink.taken };
+
+    ghost write_faults = { λ l. l.sink.plan.faults };
+
+    fn write(&mut self, bytes: &[u8]) -> Took {
+        self.sink.write(bytes)
+    }
+
+    fn flush(&mut self) -> bool {
+        self.sink.flush()
+    }
+
+    fn write_faults(&self) -> u64 {
+        self.sink.write_faults()
+    }
+}
+
+impl End for MemLink {
+    fn end(&mut self) {}
+}
