@@ -1,7 +1,7 @@
 -- A reader fits its rule where its parts do: one lemma for each way to put readers together.
 use Rattle.std.proofs.Common.{◌≡◌, Bool, true, false, not, List, [], ◌∷◌, ◌++◌, Option, Some, None, Ok, Err, refl, ap, sym, ◌∙◌, subst, cond, inl, inr}
 use Rattle.std.proofs.lemmas.List.Elements.{All-nil, All-append, All-cons}
-use Rattle.predictive_parsing.specs.Reading.{Reader, next, and_then, pure, one, on_made, either, optional}
+use Rattle.predictive_parsing.specs.Reading.{Reader, next, is_made, begins, and_then, pure, one, on_made, either, optional}
 use Rattle.predictive_parsing.specs.Rules.{Rule, One, Then, Pure, Or, Optional}
 use Rattle.predictive_parsing.specs.Fits.{Fits, Taken, Stuck, Completes, any, unless}
 use Rattle.predictive_parsing.proofs.Basic.{next_kept, assoc, cut_twice, ok_pair, err_same, both, not_true, bind_ok, bind_err, taken_as, stuck_as, completes_as}
@@ -21,6 +21,10 @@ module _ {I : Type 0} (Possible : I → Type 0) where
   -- ---- one item
 
   module _ {A : Type 0} (f : I → Option A) where
+    -- an item that is derived is one that begins so
+    pub one_begins : (ts us : List I) (a : A) → One f ts a us → begins f (next ts) ≡ true
+    one_begins ts us a r = ap (λ xs. begins f (next xs)) r.first ∙ ap is_made r.made
+
     one_ok : (item : I) (ts us : List I) (a : A) (o : Option A) → f item ≡ o → on_made item o ts ≡ Ok (a, us) → (f item ≡ Some a) × (ts ≡ us)
     one_ok item ts us a (Some b) e h = let k = ok_pair b a ts us h in (e ∙ ap (λ x. Some x) k.0, k.1)
     one_ok item ts us a None e h = absurd (cc)

@@ -2,4 +2,4 @@ pub mod Basic
 pub mod Combined
 pub mod Lists
 pub mod Wholes
-pub mod Turns
+pub mod Loops

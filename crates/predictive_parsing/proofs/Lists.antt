@@ -1,11 +1,22 @@
 -- Lists of what fits.
 use Rattle.std.proofs.Common.{◌≡◌, ℕ, zero, suc, ◌<◌, ◌≤◌, Bool, true, false, not, List, [], ◌∷◌, ◌++◌, length, Option, None, Ok, Err, refl, ap, sym, ◌∙◌, subst, inl, inr, arith, length-append}
 use Rattle.std.proofs.lemmas.List.Elements.{All-nil}
-use Rattle.predictive_parsing.specs.Reading.{Outcome, Reader, next, and_then, pure, turns, many, list}
+use Rattle.predictive_parsing.specs.Reading.{Reader, next, and_then, pure, many, list}
 use Rattle.predictive_parsing.specs.Rules.{Rule, Then, Pure, Many, none, more, ListOf}
 use Rattle.predictive_parsing.specs.Fits.{Fits, Taken, Stuck, Completes, unless}
 use Rattle.predictive_parsing.proofs.Basic.{bool_cases, both, not_true, ok_pair, Bound, bind_ok, bind_err, taken_as, stuck_as}
+use Rattle.predictive_parsing.proofs.Loops.{many_stop, many_go}
 use Rattle.predictive_parsing.proofs.Combined.{pure_fits, then_taken, then_fits, first_stuck, second_stuck, seen}
+
+-- What begins with an item takes one at least.
+module _ {I A : Type 0} (Possible : I → Type 0) (starts : Option I → Bool) (item : Reader I A) (P : Rule I A) (between : Option I → Bool) (fi : Fits Possible item P between)
+    (begins : (ts us : List I) (a : A) → P ts a us → starts (next ts) ≡ true) (at_end : starts None ≡ false) where
+  shrinks_by : (ts us front : List I) (a : A) → ts ≡ front ++ us → P (front ++ []) a [] → length us < length ts
+  shrinks_by ts us [] a e r = absurd (let k = begins [] [] a r in cc)
+  shrinks_by ts us (t ∷ front) a e r = omega (arith, ap length e, length-append front us)
+
+  pub shrinks : (ts us : List I) (a : A) → item ts ≡ Ok (a, us) → length us < length ts
+  shrinks ts us a e = let x = fi.takes ts us a e in shrinks_by ts us x.front a x.cut (x.derives [])
 
 module _ {I A : Type 0} (Possible : I → Type 0) (starts : Option I → Bool) (item : Reader I A) (P : Rule I A) (between : Option I → Bool) (fi : Fits Possible item P between)
     (begins : (ts us : List I) (a : A) → P ts a us → starts (next ts) ≡ true) (at_end : starts None ≡ false)
@@ -13,41 +24,8 @@ module _ {I A : Type 0} (Possible : I → Type 0) (starts : Option I → Bool) (
   all : Reader I (List A)
   all = many starts item
 
-  -- ---- how many turns are allowed makes no difference, as each takes an item
-
-  shorter_by : (ts us front : List I) (a : A) → ts ≡ front ++ us → P (front ++ []) a [] → length us < length ts
-  shorter_by ts us [] a e r = absurd (let k = begins [] [] a r in cc)
-  shorter_by ts us (t ∷ front) a e r = omega (arith, ap length e, length-append front us)
-
   shorter : (ts us : List I) (a : A) → item ts ≡ Ok (a, us) → length us < length ts
-  shorter ts us a e = let x = fi.takes ts us a e in shorter_by ts us x.front a x.cut (x.derives [])
-
-  after : ℕ → A → Reader I (List A)
-  after n a us = and_then (turns starts item n us) (λ rest. pure (a ∷ rest))
-
-  turns_stop : (n : ℕ) (ts : List I) → starts (next ts) ≡ false → turns starts item n ts ≡ Ok ([], ts)
-  unfolding turns
-  turns_stop zero ts s = refl
-  turns_stop (suc n) ts s = rw s refl
-
-  turns_go : (n : ℕ) (ts : List I) → starts (next ts) ≡ true → turns starts item (suc n) ts ≡ and_then (item ts) (after n)
-  unfolding turns after
-  turns_go n ts s = rw s refl
-
-  same_after : (m n : ℕ) (ts : List I) (r : Outcome I A) → item ts ≡ r → ((us : List I) (a : A) → item ts ≡ Ok (a, us) → turns starts item m us ≡ turns starts item n us) → and_then r (after m) ≡ and_then r (after n)
-  unfolding after
-  same_after m n ts (Ok (a, us)) e same = ap (λ o. and_then o (λ rest. pure (a ∷ rest))) (same us a e)
-  same_after m n ts (Err us) e same = refl
-
-  same_turns : (m n : ℕ) (ts : List I) → length ts ≤ m → length ts ≤ n → turns starts item m ts ≡ turns starts item n ts
-  same_turns zero n [] l k = turns_stop zero [] at_end ∙ sym (turns_stop n [] at_end)
-  same_turns zero n (t ∷ ts) l k = absurd (omega arith)
-  same_turns (suc m) zero [] l k = turns_stop (suc m) [] at_end ∙ sym (turns_stop zero [] at_end)
-  same_turns (suc m) zero (t ∷ ts) l k = absurd (omega arith)
-  same_turns (suc m) (suc n) ts l k = elim (bool_cases (starts (next ts))) [
-    | inl s ↦ turns_go m ts s ∙ same_after m n ts (item ts) refl (λ us a e. let h = shorter ts us a e in same_turns m n us (omega arith) (omega arith)) ∙ sym (turns_go n ts s)
-    | inr s ↦ turns_stop (suc m) ts s ∙ sym (turns_stop (suc n) ts s)
-  ]
+  shorter = shrinks Possible starts item P between fi begins at_end
 
   -- ---- one turn
 
@@ -59,22 +37,12 @@ module _ {I A : Type 0} (Possible : I → Type 0) (starts : Option I → Bool) (
   AndAll a = Then (Many P) (λ rest. Pure (a ∷ rest))
 
   all_stop : (ts : List I) → starts (next ts) ≡ false → all ts ≡ Ok ([], ts)
-  unfolding all many
-  all_stop ts s = turns_stop (length ts) ts s
-
-  some_left : (ts : List I) → starts (next ts) ≡ true → (n : ℕ) × (length ts ≡ suc n)
-  some_left [] s = absurd (cc)
-  some_left (t ∷ ts) s = (length ts, omega arith)
+  unfolding all
+  all_stop ts s = many_stop starts item at_end shorter ts s
 
   all_go : (ts : List I) → starts (next ts) ≡ true → and_then (item ts) and_all ≡ all ts
-  unfolding all many and_all after
-  all_go ts s =
-      let k = some_left ts s in
-      sym (ap (λ m. turns starts item m ts) k.1 ∙ turns_go k.0 ts s ∙ with_all (item ts) refl k.0 k.1)
-    where
-      with_all : (r : Outcome I A) → item ts ≡ r → (n : ℕ) → length ts ≡ suc n → and_then r (after n) ≡ and_then r and_all
-      with_all (Ok (a, us)) e n l = let h = shorter ts us a e in ap (λ o. and_then o (λ rest. pure (a ∷ rest))) (same_turns n (length us) us (omega arith) (omega arith))
-      with_all (Err us) e n l = refl
+  unfolding all and_all
+  all_go ts s = sym (many_go starts item at_end shorter ts s)
 
   -- a derivation of one and of the others is one of all
   one_more : (ts us : List I) (xs : List A) → Then P AndAll ts xs us → Many P ts xs us
