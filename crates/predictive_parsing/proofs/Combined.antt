@@ -1,0 +1,247 @@
+-- A reader fits its rule where its parts do: one lemma for each way to put readers together.
+use Rattle.std.proofs.Common.{◌≡◌, Bool, true, false, not, List, [], ◌∷◌, ◌++◌, Option, Some, None, Ok, Err, refl, ap, sym, ◌∙◌, subst, cond, inl, inr}
+use Rattle.std.proofs.lemmas.List.Elements.{All-nil, All-append, All-cons}
+use Rattle.predictive_parsing.specs.Reading.{Reader, next, is_made, begins, and_then, pure, one, on_made, either, optional}
+use Rattle.predictive_parsing.specs.Rules.{Rule, One, Then, Pure, Or, Optional}
+use Rattle.predictive_parsing.specs.Fits.{Fits, Taken, Stuck, Completes, any, unless}
+use Rattle.predictive_parsing.proofs.Basic.{next_kept, assoc, cut_twice, ok_pair, err_same, both, not_true, bind_ok, bind_err, taken_as, stuck_as, completes_as}
+
+module _ {I : Type 0} (Possible : I → Type 0) where
+  -- ---- no item
+
+  -- Nothing is taken, and so anything may follow.
+  pub pure_fits : {A : Type 0} (a : A) → Fits Possible (pure a) (Pure a) any
+  pure_fits a = record {
+    takes = λ ts us b e. let k = ok_pair a b ts us e in record { front = []; cut = k.1; derives = λ vs. record { is = sym k.0; here = refl }; again = λ vs h. ap (λ x. Ok (x, vs)) k.0 };
+    reads = λ ts us b r h. ap (λ x. Ok (x, ts)) (sym r.is) ∙ ap (λ xs. Ok (b, xs)) r.here;
+    refuses = λ ts us e. absurd (cc);
+    some = record { rest = []; value = a; possible = All-nil Possible; derives = λ vs. record { is = refl; here = refl } };
+  }
+
+  -- ---- one item
+
+  module _ {A : Type 0} (f : I → Option A) where
+    -- an item that is derived is one that begins so
+    pub one_begins : (ts us : List I) (a : A) → One f ts a us → begins f (next ts) ≡ true
+    one_begins ts us a r = ap (λ xs. begins f (next xs)) r.first ∙ ap is_made r.made
+
+    one_ok : (item : I) (ts us : List I) (a : A) (o : Option A) → f item ≡ o → on_made item o ts ≡ Ok (a, us) → (f item ≡ Some a) × (ts ≡ us)
+    one_ok item ts us a (Some b) e h = let k = ok_pair b a ts us h in (e ∙ ap (λ x. Some x) k.0, k.1)
+    one_ok item ts us a None e h = absurd (cc)
+
+    one_err : (item : I) (ts us : List I) (o : Option A) → f item ≡ o → on_made item o ts ≡ Err us → (f item ≡ None) × (item ∷ ts ≡ us)
+    one_err item ts us None e h = (e, err_same (item ∷ ts) us h)
+    one_err item ts us (Some a) e h = absurd (cc)
+
+    -- an item of which f makes a value is taken
+    pub one_made : (item : I) (ts : List I) (a : A) → f item ≡ Some a → one f (item ∷ ts) ≡ Ok (a, ts)
+    unfolding one
+    one_made item ts a e = ap (λ o. on_made item o ts) e
+
+    -- another item is refused, and so is the end
+    pub one_refused : (item : I) (vs : List I) → next vs ≡ Some item → f item ≡ None → one f vs ≡ Err vs
+    unfolding one
+    one_refused item [] e n = absurd (cc)
+    one_refused item (v ∷ vs) e n = let k : v ≡ item = cc in ap (λ o. on_made v o vs) (ap f k ∙ n)
+
+    pub one_ended : (vs : List I) → next vs ≡ None → one f vs ≡ Err vs
+    unfolding one
+    one_ended [] e = refl
+    one_ended (v ∷ vs) e = absurd (cc)
+
+    one_takes : (ts us : List I) (a : A) → one f ts ≡ Ok (a, us) → Taken (one f) (One f) ts a us
+    unfolding one
+    one_takes [] us a e = absurd (cc)
+    one_takes (item ∷ ts) us a e =
+        let k = one_ok item ts us a (f item) refl e in
+        record {
+          front = item ∷ [];
+          cut = ap (λ xs. item ∷ xs) k.1;
+          derives = λ vs. record { item = item; first = refl; made = k.0 };
+          again = λ vs h. one_made item vs a k.0;
+        }
+
+    module _ (example : I) (value : A) (made : f example ≡ Some value) (possible : Possible example) where
+      one_some : Completes Possible (One f) []
+      one_some = record {
+        rest = example ∷ [];
+        value = value;
+        possible = All-cons Possible example [] possible (All-nil Possible);
+        derives = λ vs. record { item = example; first = refl; made = made };
+      }
+
+      one_stuck : (ts us : List I) → one f ts ≡ Err us → Stuck Possible (one f) (One f) ts us
+      unfolding one
+      one_stuck [] us e =
+          let k : [] ≡ us = err_same {A = A} [] us e in
+          record { front = []; cut = k; again = λ vs h. one_ended vs (h ∙ ap next (sym k)); completes = one_some }
+      one_stuck (item ∷ ts) us e =
+          let k = one_err item ts us (f item) refl e in
+          record { front = []; cut = k.1; again = λ vs h. one_refused item vs (h ∙ ap next (sym k.1)) k.0; completes = one_some }
+
+      -- One item says all of itself. An example shows that there is such an item.
+      pub one_fits : Fits Possible (one f) (One f) any
+      one_fits = record {
+        takes = one_takes;
+        reads = λ ts us a r h. ap (one f) r.first ∙ one_made r.item us a r.made;
+        refuses = one_stuck;
+        some = one_some;
+      }
+
+  -- ---- one thing, and then another
+
+  module _ {A B : Type 0} (p : Reader I A) (P : Rule I A) (q : A → Reader I B) (Q : A → Rule I B) where
+    abbrev after : Reader I B
+    after ts = and_then (p ts) q
+
+    -- the fronts of both, one after the other
+    pub then_taken : (ts us vs : List I) (a : A) (b : B) → Taken p P ts a us → Taken (q a) (Q a) us b vs → Taken after (Then P Q) ts b vs
+    then_taken ts us vs a b x y = record {
+      front = x.front ++ y.front;
+      cut = cut_twice ts us vs x.front y.front x.cut y.cut;
+      derives = λ ws. record {
+        value = a;
+        middle = y.front ++ ws;
+        first = subst (λ xs. P xs a (y.front ++ ws)) (sym (assoc x.front y.front ws)) (x.derives (y.front ++ ws));
+        second = y.derives ws;
+      };
+      again = λ ws h.
+          ap after (assoc x.front y.front ws)
+          ∙ ap (λ o. and_then o q) (x.again (y.front ++ ws) (next_kept us y.front vs ws y.cut h))
+          ∙ y.again ws h;
+    }
+
+    -- what the first goes on to, and then something of the second
+    pub then_completes : (front : List I) → ((a : A) → Completes Possible (Q a) []) → Completes Possible P front → Completes Possible (Then P Q) front
+    then_completes front some x =
+        let y = some x.value in
+        record {
+          rest = x.rest ++ y.rest;
+          value = y.value;
+          possible = All-append Possible x.rest y.rest x.possible y.possible;
+          derives = λ vs. record {
+            value = x.value;
+            middle = y.rest ++ vs;
+            first = subst (λ xs. P (front ++ xs) x.value (y.rest ++ vs)) (sym (assoc x.rest y.rest vs)) (x.derives (y.rest ++ vs));
+            second = y.derives vs;
+          };
+        }
+
+    pub first_stuck : (ts us : List I) → ((a : A) → Completes Possible (Q a) []) → Stuck Possible p P ts us → Stuck Possible after (Then P Q) ts us
+    first_stuck ts us some x = record {
+      front = x.front;
+      cut = x.cut;
+      again = λ vs h. ap (λ o. and_then o q) (x.again vs h);
+      completes = then_completes x.front some x.completes;
+    }
+
+    pub second_stuck : (ts us vs : List I) (a : A) → Taken p P ts a us → Stuck Possible (q a) (Q a) us vs → Stuck Possible after (Then P Q) ts vs
+    second_stuck ts us vs a x y = record {
+      front = x.front ++ y.front;
+      cut = cut_twice ts us vs x.front y.front x.cut y.cut;
+      again = λ ws h.
+          ap after (assoc x.front y.front ws)
+          ∙ ap (λ o. and_then o q) (x.again (y.front ++ ws) (next_kept us y.front vs ws y.cut h))
+          ∙ y.again ws h;
+      completes = record {
+        rest = y.completes.rest;
+        value = y.completes.value;
+        possible = y.completes.possible;
+        derives = λ ws.
+            let left = y.completes.rest ++ ws in
+            record {
+              value = a;
+              middle = y.front ++ left;
+              first = subst (λ xs. P xs a (y.front ++ left)) (sym (assoc x.front y.front left)) (x.derives (y.front ++ left));
+              second = y.completes.derives ws;
+            };
+      };
+    }
+
+    module _ (between follows : Option I → Bool) (fp : Fits Possible p P between) (fq : (a : A) → Fits Possible (q a) (Q a) follows)
+        (meets : (a : A) (us vs : List I) (b : B) → Q a us b vs → follows (next vs) ≡ true → between (next us) ≡ true) where
+      then_refuses : (ts vs : List I) → after ts ≡ Err vs → Stuck Possible after (Then P Q) ts vs
+      then_refuses ts vs e = elim (bind_err (p ts) q vs e) [
+        | inl h ↦ first_stuck ts vs (λ a. (fq a).some) (fp.refuses ts vs h)
+        | inr x ↦ second_stuck ts x.middle vs x.value (fp.takes ts x.middle x.value x.first) ((fq x.value).refuses x.middle vs x.second)
+      ]
+
+      -- What begins the second is what may follow the first.
+      pub then_fits : Fits Possible after (Then P Q) follows
+      then_fits = record {
+        takes = λ ts vs b e.
+            let x = bind_ok (p ts) q b vs e in
+            then_taken ts x.middle vs x.value b (fp.takes ts x.middle x.value x.first) ((fq x.value).takes x.middle vs b x.second);
+        reads = λ ts vs b r h.
+            ap (λ o. and_then o q) (fp.reads ts r.middle r.value r.first (meets r.value r.middle vs b r.second h))
+            ∙ (fq r.value).reads r.middle vs b r.second h;
+        refuses = then_refuses;
+        some = then_completes [] (λ a. (fq a).some) fp.some;
+      }
+
+  -- ---- short forms of the same
+
+  -- less may follow than could
+  pub narrowed : {A : Type 0} {p : Reader I A} {P : Rule I A} {wide : Option I → Bool} (narrow : Option I → Bool) → ((h : Option I) → narrow h ≡ true → wide h ≡ true) → Fits Possible p P wide → Fits Possible p P narrow
+  narrowed narrow within fp = record {
+    takes = fp.takes;
+    reads = λ ts us a r h. fp.reads ts us a r (within (next us) h);
+    refuses = fp.refuses;
+    some = fp.some;
+  }
+
+  -- what was read, seen as another value
+  pub seen : {A B : Type 0} {p : Reader I A} {P : Rule I A} {follows : Option I → Bool} (f : A → B) → Fits Possible p P follows
+      → Fits Possible (λ ts. and_then (p ts) (λ a. pure (f a))) (Then P (λ a. Pure (f a))) follows
+  seen {A} {B} {p} {P} {follows} f fp =
+      then_fits p P (λ a. pure (f a)) (λ a. Pure (f a)) follows follows fp (λ a. narrowed follows (λ h e. refl) (pure_fits (f a)))
+      (λ a us vs b r h. ap (λ xs. follows (next xs)) r.here ∙ h)
+
+  -- a first thing that anything may follow
+  pub onwards : {A B : Type 0} {p : Reader I A} {P : Rule I A} {q : A → Reader I B} {Q : A → Rule I B} {follows : Option I → Bool}
+      → Fits Possible p P any → ((a : A) → Fits Possible (q a) (Q a) follows) → Fits Possible (λ ts. and_then (p ts) q) (Then P Q) follows
+  onwards {A} {B} {p} {P} {q} {Q} {follows} fp fq = then_fits p P q Q any follows fp fq (λ a us vs b r h. refl)
+
+  -- ---- by what is ahead
+
+  module _ {A : Type 0} (starts : Option I → Bool) (p q : Reader I A) (P Q : Rule I A) (follows : Option I → Bool)
+      (fp : Fits Possible p P follows) (fq : Fits Possible q Q follows)
+      (begins : (ts us : List I) (a : A) → P ts a us → starts (next ts) ≡ true)
+      (other : (ts us : List I) (a : A) → Q ts a us → follows (next us) ≡ true → starts (next ts) ≡ false) where
+    by : (b : Bool) (ts : List I) → starts (next ts) ≡ b → either starts p q ts ≡ cond b (p ts) (q ts)
+    by b ts s = ap (λ c. cond c (p ts) (q ts)) s
+
+    chosen : (ts : List I) (b : Bool) → starts (next ts) ≡ b → (vs : List I) → next vs ≡ next ts → cond b (p vs) (q vs) ≡ either starts p q vs
+    chosen ts b s vs e = sym (by b vs (ap starts e ∙ s))
+
+    takes_by : (ts us : List I) (a : A) (b : Bool) → starts (next ts) ≡ b → cond b (p ts) (q ts) ≡ Ok (a, us) → Taken (either starts p q) (Or P Q) ts a us
+    takes_by ts us a true s e = taken_as p (either starts p q) P (Or P Q) (λ xs ys c r. inl r) ts us a (chosen ts true s) (fp.takes ts us a e)
+    takes_by ts us a false s e = taken_as q (either starts p q) Q (Or P Q) (λ xs ys c r. inr r) ts us a (chosen ts false s) (fq.takes ts us a e)
+
+    reads_by : (ts us : List I) (a : A) → Or P Q ts a us → follows (next us) ≡ true → either starts p q ts ≡ Ok (a, us)
+    reads_by ts us a (inl r) h = by true ts (begins ts us a r) ∙ fp.reads ts us a r h
+    reads_by ts us a (inr r) h = by false ts (other ts us a r h) ∙ fq.reads ts us a r h
+
+    refuses_by : (ts us : List I) (b : Bool) → starts (next ts) ≡ b → cond b (p ts) (q ts) ≡ Err us → Stuck Possible (either starts p q) (Or P Q) ts us
+    refuses_by ts us true s e = stuck_as p (either starts p q) P (Or P Q) (λ xs ys c r. inl r) Possible ts us (chosen ts true s) (fp.refuses ts us e)
+    refuses_by ts us false s e = stuck_as q (either starts p q) Q (Or P Q) (λ xs ys c r. inr r) Possible ts us (chosen ts false s) (fq.refuses ts us e)
+
+    -- The test is true where the first begins, and false where the second does.
+    pub either_fits : Fits Possible (either starts p q) (Or P Q) follows
+    either_fits = record {
+      takes = λ ts us a e. takes_by ts us a (starts (next ts)) refl e;
+      reads = reads_by;
+      refuses = λ ts us e. refuses_by ts us (starts (next ts)) refl e;
+      some = completes_as p p P (Or P Q) (λ xs ys c r. inl r) Possible [] fp.some;
+    }
+
+  module _ {A : Type 0} (starts : Option I → Bool) (p : Reader I A) (P : Rule I A) (follows : Option I → Bool) (fp : Fits Possible p P follows)
+      (begins : (ts us : List I) (a : A) → P ts a us → starts (next ts) ≡ true) where
+    -- One or none, where what follows can't be taken for the one.
+    pub optional_fits : Fits Possible (optional starts p) (Optional P) (unless starts follows)
+    unfolding optional
+    optional_fits = either_fits starts _ _ _ _ (unless starts follows)
+        (narrowed (unless starts follows) (λ h e. (both (follows h) (not (starts h)) e).0) (seen (λ a. Some a) fp))
+        (narrowed (unless starts follows) (λ h e. refl) (pure_fits None))
+        (λ ts us a r. begins ts r.middle r.value r.first)
+        (λ ts us a r e. ap (λ xs. starts (next xs)) r.here ∙ not_true (starts (next us)) (both (follows (next us)) (not (starts (next us))) e).1)

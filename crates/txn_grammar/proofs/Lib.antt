@@ -1,0 +1,3 @@
+pub mod QuotedFits
+pub mod TokenFits
+pub mod GrammarFits

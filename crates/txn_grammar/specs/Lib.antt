@@ -1,0 +1,10 @@
+pub mod Characters
+pub mod Quoted
+pub mod QuotedReader
+pub mod Spellings
+pub mod Numbers
+pub mod Lexer
+pub mod Tokens
+pub mod Grammar
+pub mod Reader
+pub mod Tree
