@@ -1,8 +1,14 @@
 //! Laws of the definitions, each the contract of a function that does nothing.
 
+ghost use Rattle.txn_lang.specs.Journals.{LegalCommitsFollow};
 ghost use Rattle.txn_lang.specs.Running.{DeltasLeaveWhatOperationsLeave};
 
 /// The law that the deltas of a run leave at each address what its operations leave, one after the other.
 pub fn deltas_leave_what_operations_leave()
     ensures { DeltasLeaveWhatOperationsLeave }
+{}
+
+/// The law that each commit of a legal journal is what its body does on the state of the commits before it.
+pub fn legal_commits_follow()
+    ensures { LegalCommitsFollow }
 {}

@@ -10,5 +10,5 @@ mod laws;
 mod run;
 
 pub use commit::{Commit, CommitList};
-pub use laws::deltas_leave_what_operations_leave;
+pub use laws::{deltas_leave_what_operations_leave, legal_commits_follow};
 pub use run::{Run, Seen, SeenList};

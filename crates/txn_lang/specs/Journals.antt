@@ -1,0 +1,52 @@
+-- Journals, and what makes one legal: each commit is what its body does on the state that the commits before it leave.
+use Rattle.std.specs.Prelude.{◌≡◌, ℕ, ◌+◌, ◌<◌, ◌==◌, List, [], ◌∷◌, ◌++◌, length, take, filter, slice_get, Some}
+use Rattle.txn_trees.specs.declared.statement.Body.{Body}
+use Rattle.txn_grammar.specs.Tree.{tree}
+use Rattle.txn_lang.specs.declared.commit.Commit.{Commit}
+use Rattle.txn_lang.specs.declared.run.Run.{Run}
+use Rattle.txn_lang.specs.States.{Journal, known, left_by}
+use Rattle.txn_lang.specs.Running.{exec}
+use Rattle.txn_lang.specs.Running.Ran.{done}
+
+-- the commits of one client
+abbrev pub own : ℕ → Journal → Journal
+own client journal = filter (λ commit. commit.client == client) journal
+
+-- the commit that a run makes after these
+abbrev pub commit_of : Journal → ℕ → List ℕ → Run → Commit
+commit_of before client body run = record {
+  number = length before + 1;
+  client = client;
+  seq = length (own client before) + 1;
+  body = body;
+  outcome = run.outcome;
+  deltas = run.deltas;
+}
+
+-- The commit is what its body does on the state that these leave.
+pub record IsRunAfter (before : Journal) (commit : Commit) : Type 0 where
+  pub body : Body
+  pub run : Run
+  pub read : tree commit.body ≡ Some body
+  pub ran : exec body (known (left_by before)) ≡ done run
+  pub outcome : commit.outcome ≡ run.outcome
+  pub deltas : commit.deltas ≡ run.deltas
+
+-- The commit may follow these: it has the next number and the next seq of its client, and, unless it is one of the
+-- first m, whose bodies nobody ran again, it is what its body does.
+pub record MayFollow (m : ℕ) (before : Journal) (commit : Commit) : Type 0 where
+  pub number : commit.number ≡ length before + 1
+  pub seq : commit.seq ≡ length (own commit.client before) + 1
+  pub runs : m < commit.number → IsRunAfter before commit
+
+abbrev pub IsLegalAfter : ℕ → Journal → Journal → Type 0
+IsLegalAfter m before [] = Unit {0}
+IsLegalAfter m before (commit ∷ rest) = MayFollow m before commit × IsLegalAfter m (before ++ commit ∷ []) rest
+
+-- each commit of the journal may follow those before it
+abbrev pub IsLegal : ℕ → Journal → Type 0
+IsLegal m journal = IsLegalAfter m [] journal
+
+-- a law: of a legal journal each commit, by its place, may follow those before it
+abbrev pub LegalCommitsFollow : Type 0
+LegalCommitsFollow = (m : ℕ) (journal : Journal) → IsLegal m journal → (i : ℕ) (commit : Commit) → slice_get journal i ≡ Some commit → MayFollow m (take i journal) commit
