@@ -1,1 +1,3 @@
 pub mod Overlays
+pub mod Trims
+pub mod Writes

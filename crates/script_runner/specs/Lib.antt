@@ -1,2 +1,4 @@
 pub mod Values
 pub mod Overlay
+pub mod Words
+pub mod Play

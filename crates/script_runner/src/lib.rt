@@ -1,5 +1,7 @@
 //! Runs a script of transactions in one thread.
 #![tactic(auto)]
 
+mod reply;
 mod running;
 mod values;
+mod words;

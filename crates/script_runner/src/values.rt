@@ -1,10 +1,11 @@
 //! The values at all addresses.
 
-ghost use Rattle.std.specs.Prelude.{◌≡◌, IfOk};
-ghost use Rattle.script_runner.specs.Values.{state_in};
+ghost use Rattle.std.specs.Prelude.{◌≡◌, IfOk, OnOk};
+ghost use Rattle.txn_lang.specs.States.{after};
+ghost use Rattle.script_runner.specs.Values.{state_in, with_written};
 ghost use Rattle.rdt_types.specs.Values.{default_of};
 
-use rdt_types::{Address, Value, default_value};
+use rdt_types::{Address, Delta, DeltaMap, Value, apply, default_value};
 use std::alloc::{AllocError, Global};
 use std::collections::BTreeMap;
 
@@ -32,5 +33,24 @@ impl Values {
             Some(value) => value.clone(),
             None => Ok(default_value(address.kind)),
         }
+    }
+    /// Writes what a delta makes of the value at an address. For want of memory nothing is written.
+    fn write_one(&mut self, address: &Address, delta: &Delta) -> Result<(), AllocError>
+        ensures { OnOk result ((a : Address) → state_in self.new a ≡ with_written (state_in self.old) (address.now, delta.now) a) }
+    {
+        let value = apply(delta, &self.value_at(address)?)?;
+        let address = address.clone()?;
+        self.written.insert(address, value)?;
+        Ok(())
+    }
+
+    /// Writes what the deltas of a commit make of the values. For want of memory some may be written and others not.
+    pub fn write(&mut self, deltas: &DeltaMap) -> Result<(), AllocError>
+        ensures { OnOk result ((a : Address) → state_in self.new a ≡ after deltas.now a (state_in self.old a)) }
+    {
+        for (address, delta) in deltas.as_slice() {
+            self.write_one(address, delta)?;
+        }
+        Ok(())
     }
 }

@@ -1,0 +1,106 @@
+//! The words of a line.
+
+ghost use Rattle.std.specs.Prelude.{◌≡◌, ◌≤◌, ◌<◌, length, IfSome};
+ghost use Rattle.std.specs.List.{prefix_len};
+ghost use Rattle.txn_grammar.specs.Characters.{is_blank};
+ghost use Rattle.script_runner.specs.Words as spec;
+
+/// Space, tab and CR separate words.
+fn is_blank(byte: u8) -> bool
+    ensures { result ≡ is_blank byte }
+{
+    byte == b' ' || byte == b'\t' || byte == b'\r'
+}
+
+/// How many bytes at the front are blanks.
+fn blanks_len(text: &[u8]) -> usize
+    ensures value { result ≡ prefix_len is_blank text.now }
+    ensures within { result ≤ length text.now }
+{
+    let mut len = 0;
+    while len < text.len() && is_blank(text[len]) {
+        len += 1;
+    }
+    len
+}
+
+/// How many bytes the first word has.
+fn word_len(text: &[u8]) -> usize
+    ensures value { result ≡ prefix_len spec.is_solid text.now }
+    ensures within { result ≤ length text.now }
+{
+    let mut len = 0;
+    while len < text.len() && !is_blank(text[len]) {
+        len += 1;
+    }
+    len
+}
+
+/// The text without the blanks at its front.
+fn trimmed_start(text: &[u8]) -> &[u8]
+    ensures value { result.now ≡ spec.trimmed_start text.now }
+    ensures shorter { length result.now ≤ length text.now }
+{
+    &text[blanks_len(text)..]
+}
+
+/// The text without the blanks at its end.
+fn trimmed_end(text: &[u8]) -> &[u8]
+    ensures value { result.now ≡ spec.trimmed_end text.now }
+    ensures shorter { length result.now ≤ length text.now }
+{
+    let mut end = text.len();
+    while end > 0 && is_blank(text[end - 1]) {
+        end -= 1;
+    }
+    &text[..end]
+}
+
+/// The text without the blanks at both ends.
+pub fn trimmed(text: &[u8]) -> &[u8]
+    ensures value { result.now ≡ spec.trimmed text.now }
+    ensures shorter { length result.now ≤ length text.now }
+{
+    trimmed_start(trimmed_end(text))
+}
+
+/// The first word of a text that begins with no blank.
+pub fn first_word(text: &[u8]) -> &[u8]
+    ensures value { result.now ≡ spec.first_word text.now }
+    ensures shorter { length result.now ≤ length text.now }
+{
+    &text[..word_len(text)]
+}
+
+/// What comes behind the first word and its blanks.
+pub fn after_word(text: &[u8]) -> &[u8]
+    ensures value { result.now ≡ spec.after_word text.now }
+    ensures shorter { length result.now ≤ length text.now }
+{
+    trimmed_start(&text[word_len(text)..])
+}
+
+/// Whether a text asks for nothing: it is empty, or a remark.
+pub fn is_quiet(text: &[u8]) -> bool
+    ensures { result ≡ spec.is_quiet text.now }
+{
+    match text {
+        [] => true,
+        [first, ..] => *first == b'#',
+    }
+}
+
+/// The client that a word names: a number from 0 to 63, without a leading zero.
+pub fn client_named(word: &[u8]) -> Option<u32>
+    ensures value { result ≡ spec.client_named word.now }
+    ensures small { IfSome result (λ client. client < 64) }
+{
+    match word {
+        [units] if units.is_ascii_digit() => Some(u32::from(units - b'0')),
+        [tens @ b'1'..=b'6', units] if units.is_ascii_digit() => {
+            let client = u32::from(tens - b'0') * 10 + u32::from(units - b'0');
+            if client <= 63 { Some(client) } else { None }
+        }
+        _ => None,
+    }
+}
