@@ -1,3 +1,5 @@
 pub mod QuotedFits
 pub mod TokenFits
 pub mod GrammarFits
+pub mod Values
+pub mod Cuts

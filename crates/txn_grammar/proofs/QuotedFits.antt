@@ -1,12 +1,14 @@
 -- The reader of quoted texts reads what the rule derives.
-use Rattle.std.proofs.Common.{◌≡◌, ◌<◌, ◌^◌, ℕ, Bool, true, false, not, ◌&&◌, List, [], ◌∷◌, Option, Some, None, Ok, refl, ap, sym, ◌∙◌, inl, inr, arith, cond, ◌==◌, nat_le}
+use Rattle.std.proofs.Common.{◌≡◌, ◌<◌, ◌^◌, ℕ, Bool, true, false, not, ◌&&◌, List, [], ◌∷◌, ◌++◌, length, Option, Some, None, Ok, Err, IsErr, refl, ap, sym, ◌∙◌, inl, inr, arith, cond, ◌==◌, nat_le}
+use Rattle.std.specs.Result.{is_err}
 use Rattle.std.proofs.lemmas.Bool.Decides.{nat_tests}
-use Rattle.predictive_parsing.specs.Reading.{Reader, next, is_made, begins, one}
+use Rattle.predictive_parsing.specs.Reading.{Outcome, Reader, next, is_made, begins, one}
 use Rattle.predictive_parsing.specs.Rules.{One, Then, Pure, Many}
 use Rattle.predictive_parsing.specs.Fits.{Fits, any, unless}
 use Rattle.predictive_parsing.proofs.Basic.{sound, bool_cases, both, not_true}
 use Rattle.predictive_parsing.proofs.Combined.{pure_fits, one_fits, then_fits, either_fits, seen, onwards, narrowed}
-use Rattle.predictive_parsing.proofs.Lists.{many_fits}
+use Rattle.predictive_parsing.proofs.Lists.{many_fits, shrinks}
+use Rattle.predictive_parsing.proofs.Loops.{with_front, no_front, turn, refused, ended}
 use Rattle.txn_grammar.specs.Characters.{Text, is_quote, is_backslash, is_hex_mark, is_plain}
 use Rattle.txn_grammar.specs.Quoted.{passing, short, hex_digit, hex_byte, Hex, Escape, Piece, Quoted}
 use Rattle.txn_grammar.specs.QuotedReader.{ahead, inside, hex, escape, piece, pieces, quoted}
@@ -100,3 +102,33 @@ quoted_sound z bytes rest e = sound quoted Quoted z rest bytes (quoted_fits.take
 
 pub quoted_complete : (z bytes rest : List ℕ) → Quoted z bytes rest → quoted z ≡ Ok (bytes, rest)
 quoted_complete z bytes rest r = quoted_fits.reads z rest bytes r refl
+
+err_of : {A : Type 0} (r : Outcome ℕ A) → IsErr r → (us : List ℕ) × (r ≡ Err us)
+err_of (Ok read) e = absurd (cc)
+err_of (Err us) e = (us, refl)
+
+-- ---- the loop that reads the bytes
+
+pub piece_shrinks : (ts us : List ℕ) (a : ℕ) → piece ts ≡ Ok (a, us) → length us < length ts
+piece_shrinks = shrinks IsByte inside piece Piece any piece_fits piece_begins refl
+
+pub pieces_turn : (found ts us : List ℕ) (whole : Outcome ℕ Text) (a : ℕ) → with_front found (pieces ts) ≡ whole → inside (next ts) ≡ true → piece ts ≡ Ok (a, us) → with_front (found ++ a ∷ []) (pieces us) ≡ whole
+unfolding pieces
+pieces_turn found ts us whole a so_far s e = turn inside piece refl piece_shrinks found ts whole so_far us a s e
+
+pub pieces_refused : (found ts : List ℕ) (whole : Outcome ℕ Text) → with_front found (pieces ts) ≡ whole → inside (next ts) ≡ true → IsErr (piece ts) → IsErr whole
+unfolding pieces
+pieces_refused found ts whole so_far s e =
+    let k = err_of (piece ts) e in
+    ap is_err (refused inside piece refl piece_shrinks found ts whole so_far k.0 s k.1)
+
+pub pieces_ended : (found ts : List ℕ) (whole : Outcome ℕ Text) → with_front found (pieces ts) ≡ whole → inside (next ts) ≡ false → whole ≡ Ok (found, ts)
+unfolding pieces
+pieces_ended found ts whole so_far s = ended inside piece refl piece_shrinks found ts whole so_far s
+
+pub pieces_begin : (ts : List ℕ) → with_front [] (pieces ts) ≡ pieces ts
+pieces_begin ts = no_front (pieces ts)
+
+-- a text in quotes takes a byte at least
+pub quoted_shrinks : (z rest bytes : List ℕ) → quoted z ≡ Ok (bytes, rest) → length rest < length z
+quoted_shrinks = shrinks IsByte (ahead is_quote) quoted Quoted any quoted_fits (λ ts us a r. first_passes is_quote ts r.middle r.value r.first) refl

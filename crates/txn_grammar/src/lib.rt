@@ -1,12 +1,18 @@
 //! The tokens and the grammar of transaction bodies.
 #![tactic(auto)]
 
+mod character;
 mod laws;
+mod lexer;
+mod number;
+mod quoted;
+mod spelling;
 mod symbol;
 mod target;
 mod token;
 
 pub use laws::{quoted_is_rule, refuses_first, tree_is_body};
+pub use lexer::tokens;
 pub use symbol::Symbol;
 pub use target::Target;
 pub use token::{Lexeme, Spot, Token};
