@@ -1,13 +1,14 @@
 -- Journals that grow by a commit.
-use Rattle.std.proofs.Common.{◌≡◌, ℕ, zero, suc, ◌+◌, List, [], ◌∷◌, ◌++◌, take, fold, Some, sym, subst, append_assoc}
+use Rattle.std.proofs.Common.{◌≡◌, ◌==◌, ◌≤◌, ℕ, zero, suc, ◌+◌, not, length, refl, arith, List, [], ◌∷◌, ◌++◌, take, fold, Some, sym, subst, append_assoc}
 use Rattle.std.specs.List.{slice_get}
 use Rattle.std.proofs.lemmas.List.{append-nil}
 use Rattle.std.proofs.lemmas.List.Sums.{fold-append}
+use Rattle.std.proofs.lemmas.List.Filters.{length-filter_both}
 use Rattle.rdt_types.specs.declared.address.Address.{Address}
 use Rattle.rdt_types.specs.Values.{default_of}
 use Rattle.txn_lang.specs.declared.commit.Commit.{Commit}
 use Rattle.txn_lang.specs.States.{Journal, left_by, after}
-use Rattle.txn_lang.specs.Journals.{MayFollow, IsLegal, IsLegalAfter, LegalCommitsFollow}
+use Rattle.txn_lang.specs.Journals.{own, MayFollow, IsLegal, IsLegalAfter, LegalCommitsFollow}
 
 -- one more commit leaves what its deltas make of what was left
 pub left_by-push : (journal : Journal) (commit : Commit) (a : Address) → left_by (journal ++ commit ∷ []) a ≡ after commit.deltas a (left_by journal a)
@@ -32,3 +33,7 @@ follow_after m before (c ∷ journal) legal (suc i) commit here =
 
 pub legal_commits_follow : LegalCommitsFollow
 legal_commits_follow m journal legal i commit here = follow_after m [] journal legal i commit here
+
+-- a client has no more commits than the journal
+pub length-own-le : (client : ℕ) (journal : Journal) → length (own client journal) ≤ length journal
+length-own-le client journal = omega (arith, length-filter_both (λ c. c.client == client) (λ c. not (c.client == client)) (λ c. refl) journal)
