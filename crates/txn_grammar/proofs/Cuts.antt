@@ -1,5 +1,5 @@
 -- A text is cut token by token.
-use Rattle.std.proofs.Common.{◌≡◌, ℕ, zero, suc, ◌+◌, ◌-◌, ◌<◌, ◌≤◌, Bool, true, false, cond, List, [], ◌∷◌, ◌++◌, length, take, drop, slice_index, Option, Some, None, Ok, Err, nat_lt, refl, ap, sym, ◌∙◌, inl, inr, arith, append_assoc, subst, length-drop, get_or-drop, drop-drop}
+use Rattle.std.proofs.Common.{◌≡◌, ℕ, zero, suc, ◌+◌, ◌-◌, ◌<◌, ◌≤◌, Bool, true, false, cond, List, [], ◌∷◌, ◌++◌, length, take, drop, slice_index, Option, Some, None, Ok, Err, nat_lt, refl, ap, sym, ◌∙◌, inl, inr, arith, append_assoc, length-drop, get_or-drop, drop-drop}
 use Rattle.std.specs.List.{prefix_len}
 use Rattle.std.proofs.lemmas.Bool.Decides.{nat_tests}
 use Rattle.std.proofs.lemmas.List.Sums.{prefix_len-le-length}
@@ -11,7 +11,7 @@ use Rattle.txn_grammar.specs.declared.token.Lexeme.{Lexeme}
 use Rattle.txn_grammar.specs.Characters.{Text, is_letter, is_digit, is_word, is_blank, is_quote}
 use Rattle.txn_grammar.specs.QuotedReader.{quoted}
 use Rattle.txn_grammar.specs.Spellings.{long_mark, short_mark}
-use Rattle.txn_grammar.specs.Lexer.{spot, lexeme, word_at, number_at, text_at, quoted_lexeme, mark_at, mark_lexeme, short_lexeme, token_at, lex_from, lex}
+use Rattle.txn_grammar.specs.Lexer.{spot, word_at, number_at, text_at, quoted_lexeme, mark_at, mark_lexeme, short_lexeme, token_at, lex_from}
 use Rattle.txn_grammar.proofs.QuotedFits.{quoted_shrinks}
 
 -- ---- a token takes a byte at least, and no more than there are

@@ -1,6 +1,5 @@
 -- Each rule of the grammar has its reader.
-use Rattle.std.proofs.Common.{◌≡◌, ℕ, Bool, true, false, ◌||◌, List, [], ◌∷◌, Option, Some, None, Result, Ok, Err, refl, ap, sym, ◌∙◌, inl, inr}
-use Rattle.rdt_types.specs.declared.address.Kind.{Kind}
+use Rattle.std.proofs.Common.{◌≡◌, Bool, true, false, ◌||◌, List, [], ◌∷◌, Some, Result, Ok, Err, refl, ap, ◌∙◌, inl, inr}
 use Rattle.txn_trees.specs.declared.expression.Expr.{Expr}
 use Rattle.txn_trees.specs.declared.statement.Stmt.{Stmt}
 use Rattle.txn_trees.specs.declared.statement.StmtNode.TheVariants as stmt
@@ -21,8 +20,8 @@ use Rattle.txn_grammar.specs.Lexer.{lex, Spelled}
 use Rattle.txn_grammar.specs.Tree.{tree, if_read}
 use Rattle.txn_grammar.specs.Tokens.{at, symbol_at, same_symbol, number, kind_of, kind_of_symbol}
 use Rattle.txn_grammar.specs.Grammar.{number_expr, text_expr, target_of, read_expr, stmt_at, write_stmt, body_of, Number, Key, Targeted, NoArguments, OneArgument, Read, Expression, Emit, Write, Statement, BodyRule, IsBody}
-use Rattle.txn_grammar.specs.Reader.{word, sees, number_read, key_read, targeted, no_arguments, one_argument, read, expression, emit, write, statement, begins_statement, body}
-use Rattle.txn_grammar.proofs.TokenFits.{begins_at, sees_at, symbol_is, kind_is, KindToken, word_fits, number_fits, key_fits, kind_fits, write_word_fits, read_word_fits, spelled_emit, spelled_open, spelled_close, spelled_dot, spelled_semicolon}
+use Rattle.txn_grammar.specs.Reader.{sees, number_read, key_read, targeted, no_arguments, one_argument, read, expression, emit, write, statement, begins_statement, body}
+use Rattle.txn_grammar.proofs.TokenFits.{begins_at, sees_at, kind_is, KindToken, word_fits, number_fits, key_fits, kind_fits, write_word_fits, read_word_fits, spelled_emit, spelled_open, spelled_close, spelled_dot, spelled_semicolon}
 
 -- ---- expressions
 
@@ -101,7 +100,7 @@ or_true : (a b : Bool) → b ≡ true → a || b ≡ true
 or_true true b e = refl
 or_true false b e = e
 
-statement_begins : (ts us : List Spot) (a : Stmt) → Statement ts a us → begins_statement (next ts) ≡ true
+pub statement_begins : (ts us : List Spot) (a : Stmt) → Statement ts a us → begins_statement (next ts) ≡ true
 statement_begins ts us a (inl r) = ap (λ b. b || begins (at kind_of) (next ts)) (emit_begins ts us a r)
 statement_begins ts us a (inr r) = or_true (sees s.Emit (next ts)) _ (one_begins Spelled (at kind_of) ts r.first.middle r.first.value r.first.first)
 

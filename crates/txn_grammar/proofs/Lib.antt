@@ -3,3 +3,5 @@ pub mod TokenFits
 pub mod GrammarFits
 pub mod Values
 pub mod Cuts
+pub mod Cursors
+pub mod Bodies

@@ -1,12 +1,12 @@
 -- The reader of quoted texts reads what the rule derives.
-use Rattle.std.proofs.Common.{◌≡◌, ◌<◌, ◌^◌, ℕ, Bool, true, false, not, ◌&&◌, List, [], ◌∷◌, ◌++◌, length, Option, Some, None, Ok, Err, IsErr, refl, ap, sym, ◌∙◌, inl, inr, arith, cond, ◌==◌, nat_le}
+use Rattle.std.proofs.Common.{◌≡◌, ◌<◌, ℕ, Bool, true, false, not, ◌&&◌, List, [], ◌∷◌, ◌++◌, length, Some, None, Ok, Err, IsErr, refl, ap, ◌∙◌, inl, inr, arith, cond, ◌==◌, nat_le}
 use Rattle.std.specs.Result.{is_err}
 use Rattle.std.proofs.lemmas.Bool.Decides.{nat_tests}
-use Rattle.predictive_parsing.specs.Reading.{Outcome, Reader, next, is_made, begins, one}
+use Rattle.predictive_parsing.specs.Reading.{Outcome, next, one}
 use Rattle.predictive_parsing.specs.Rules.{One, Then, Pure, Many}
 use Rattle.predictive_parsing.specs.Fits.{Fits, any, unless}
 use Rattle.predictive_parsing.proofs.Basic.{sound, bool_cases, both, not_true}
-use Rattle.predictive_parsing.proofs.Combined.{pure_fits, one_fits, then_fits, either_fits, seen, onwards, narrowed}
+use Rattle.predictive_parsing.proofs.Combined.{one_fits, then_fits, either_fits, seen, onwards}
 use Rattle.predictive_parsing.proofs.Lists.{many_fits, shrinks}
 use Rattle.predictive_parsing.proofs.Loops.{with_front, no_front, turn, refused, ended}
 use Rattle.txn_grammar.specs.Characters.{Text, is_quote, is_backslash, is_hex_mark, is_plain}

@@ -1,12 +1,12 @@
 -- One token.
-use Rattle.std.proofs.Common.{◌≡◌, ℕ, Bool, true, false, List, [], ◌∷◌, Option, Some, None, refl, ap, sym, ◌∙◌, cond, codes, pos, rules}
+use Rattle.std.proofs.Common.{◌≡◌, ℕ, Bool, true, false, List, [], ◌∷◌, Option, Some, None, refl, ap, sym, ◌∙◌, cond, codes, pos}
 use denote.Enum.Bare.{same_true, true_same}
 use Rattle.rdt_types.specs.declared.address.Kind.{Kind}
 use Rattle.rdt_types.specs.declared.address.Kind.TheVariants as kind
 use Rattle.txn_trees.specs.declared.word.WriteWord.TheVariants as write
 use Rattle.txn_trees.specs.declared.word.ReadWord.TheVariants as read
-use Rattle.predictive_parsing.specs.Reading.{Reader, next, is_made, begins, one, turns, many}
-use Rattle.predictive_parsing.specs.Rules.{Rule, One}
+use Rattle.predictive_parsing.specs.Reading.{is_made, begins, one, turns, many}
+use Rattle.predictive_parsing.specs.Rules.{One}
 use Rattle.predictive_parsing.specs.Fits.{Fits, any}
 use Rattle.predictive_parsing.proofs.Combined.{one_fits}
 use Rattle.txn_grammar.specs.declared.symbol.Symbol.{Symbol}
@@ -15,7 +15,6 @@ use Rattle.txn_grammar.specs.contracts.symbol.Symbol.{the_type}
 use Rattle.txn_grammar.specs.declared.token.Token.{Token}
 use Rattle.txn_grammar.specs.declared.token.Token.TheVariants as t
 use Rattle.txn_grammar.specs.declared.token.Spot.{Spot}
-use Rattle.txn_grammar.specs.Characters.{Text}
 use Rattle.txn_grammar.specs.QuotedReader.{quoted, pieces, piece}
 use Rattle.txn_grammar.specs.Spellings.{reserved_word, statement_word, expression_word, kind_word, long_mark, short_mark}
 use Rattle.txn_grammar.specs.Numbers.{number_value, small_value}

@@ -1,5 +1,5 @@
 -- The value of digits only grows as digits come.
-use Rattle.std.proofs.Common.{◌≡◌, ℕ, ◌+◌, ◌*◌, ◌-◌, ◌^◌, ◌<◌, ◌≤◌, Bool, true, false, List, [], ◌∷◌, length, take, fold, refl, ap, sym, ◌∙◌, arith, nat_lt, Option, Some, None, ℤ, pos, zero, suc}
+use Rattle.std.proofs.Common.{◌≡◌, ℕ, ◌^◌, ◌<◌, ◌≤◌, true, false, List, [], ◌∷◌, length, take, fold, refl, ap, sym, ◌∙◌, arith, nat_lt, Some, None, pos, zero, suc}
 use Rattle.std.proofs.lemmas.Bool.Decides.{nat_tests}
 use Rattle.std.proofs.lemmas.List.{take_all}
 use Rattle.txn_grammar.specs.Numbers.{with_digit, digits_value, small_value}

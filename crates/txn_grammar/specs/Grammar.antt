@@ -3,7 +3,7 @@
 --   body = stmt { stmt }
 --   stmt = "emit" expr ";" | kind "(" text ")" "." write "(" expr ")" ";"
 --   expr = number | kind "(" text ")" "." read "(" ")"
-use Rattle.std.specs.Prelude.{◌≡◌, ℕ, List, [], ◌∷◌, ℤ}
+use Rattle.std.specs.Prelude.{ℕ, List, [], ◌∷◌, ℤ}
 use Rattle.rdt_types.specs.declared.address.Kind.{Kind}
 use Rattle.txn_trees.specs.declared.expression.Expr.{Expr, roll-Expr}
 use Rattle.txn_trees.specs.declared.expression.ExprNode.{ExprNode}

@@ -8,3 +8,4 @@ pub mod Tokens
 pub mod Grammar
 pub mod Reader
 pub mod Tree
+pub mod Reads

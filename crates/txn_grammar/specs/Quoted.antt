@@ -1,5 +1,5 @@
 -- Texts in quotes.
-use Rattle.std.specs.Prelude.{ℕ, ◌+◌, ◌-◌, ◌*◌, Bool, true, false, ◌&&◌, ◌||◌, ◌==◌, nat_le, if◌then◌else◌, Option, Some, None, List}
+use Rattle.std.specs.Prelude.{ℕ, ◌+◌, ◌-◌, ◌*◌, Bool, ◌&&◌, ◌||◌, ◌==◌, nat_le, if◌then◌else◌, Option, Some, None}
 use Rattle.predictive_parsing.specs.Rules.{Rule, One, Pure, Or, Many, ◌>>=◌}
 use Rattle.txn_grammar.specs.Characters.{Text, is_digit, is_quote, is_backslash, is_hex_mark, is_plain}
 

@@ -1,6 +1,6 @@
 -- The reader of texts in quotes.
-use Rattle.std.specs.Prelude.{ℕ, Bool, true, false, not, Option, Some, None, List}
-use Rattle.predictive_parsing.specs.Reading.{Reader, ◌>>=◌, ◌>>◌, pure, one, either, many}
+use Rattle.std.specs.Prelude.{ℕ, Bool, false, not, Option, Some, None}
+use Rattle.predictive_parsing.specs.Reading.{Reader, ◌>>=◌, pure, one, either, many}
 use Rattle.txn_grammar.specs.Characters.{Text, is_quote, is_backslash, is_hex_mark, is_plain}
 use Rattle.txn_grammar.specs.Quoted.{passing, short, hex_digit, hex_byte}
 

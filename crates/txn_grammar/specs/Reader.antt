@@ -1,11 +1,10 @@
 -- The reader of bodies, rule by rule as the grammar has them.
 use Rattle.std.specs.Prelude.{ℕ, Bool, ◌||◌, List, [], ◌∷◌, Option}
-use Rattle.rdt_types.specs.declared.address.Kind.{Kind}
 use Rattle.txn_trees.specs.declared.expression.Expr.{Expr}
 use Rattle.txn_trees.specs.declared.statement.Stmt.{Stmt}
 use Rattle.txn_trees.specs.declared.statement.StmtNode.TheVariants as stmt
 use Rattle.txn_trees.specs.declared.statement.Body.{Body}
-use Rattle.predictive_parsing.specs.Reading.{Reader, ◌>>=◌, ◌>>◌, pure, begins, one, either, list}
+use Rattle.predictive_parsing.specs.Reading.{Reader, ◌>>=◌, pure, begins, one, either, list}
 use Rattle.txn_grammar.specs.declared.symbol.Symbol.{Symbol}
 use Rattle.txn_grammar.specs.declared.symbol.Symbol.TheVariants as s
 use Rattle.txn_grammar.specs.declared.token.Spot.{Spot}

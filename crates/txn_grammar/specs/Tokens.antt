@@ -1,5 +1,5 @@
 -- What rules ask of a token.
-use Rattle.std.specs.Prelude.{ℕ, Bool, true, false, if◌then◌else◌, nat_le, length, List, codes, ℤ, Option, Some, None}
+use Rattle.std.specs.Prelude.{ℕ, Bool, false, if◌then◌else◌, nat_le, length, codes, ℤ, Option, Some, None}
 use Rattle.std.specs.Str.{bytes_eq}
 use denote.Enum.Bare.{sameb}
 use Rattle.rdt_types.specs.declared.address.Kind.{Kind}

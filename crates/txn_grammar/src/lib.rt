@@ -1,18 +1,25 @@
 //! The tokens and the grammar of transaction bodies.
 #![tactic(auto)]
 
+mod body;
 mod character;
+mod cursor;
+mod expression;
 mod laws;
 mod lexer;
 mod number;
 mod quoted;
 mod spelling;
+mod statement;
+mod stop;
 mod symbol;
 mod target;
 mod token;
 
+pub use body::read_body;
 pub use laws::{quoted_is_rule, refuses_first, tree_is_body};
 pub use lexer::tokens;
+pub use stop::ReadError;
 pub use symbol::Symbol;
 pub use target::Target;
 pub use token::{Lexeme, Spot, Token};

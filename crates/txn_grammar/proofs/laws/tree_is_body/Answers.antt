@@ -1,4 +1,4 @@
-use Rattle.predictive_parsing.proofs.Wholes.{whole_sound, whole_complete, whole_unique}
+use Rattle.predictive_parsing.proofs.Wholes.{whole_unique}
 use Rattle.predictive_parsing.specs.Fits.{any, unless}
 use Rattle.std.proofs.Common.{refl}
 use Rattle.txn_grammar.specs.Lexer.{Spelled}

@@ -1,4 +1,4 @@
-use Rattle.std.proofs.Common.{rules, arith, ◌∙◌, ap, ◌≡◌, drop, ◌<◌, length, ◌++◌, ◌∷◌, [], ◌+◌}
+use Rattle.std.proofs.Common.{rules, arith, ◌∙◌, ap, drop, ◌<◌, length, ◌+◌}
 use Rattle.std.proofs.lemmas.List.{take_rest}
 use Rattle.txn_grammar.specs.Lexer.{lex, lex_from, spot, token_at}
 use Rattle.txn_grammar.proofs.Cuts.{one_more, lexeme_at, moves_at}
