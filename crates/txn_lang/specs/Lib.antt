@@ -1,3 +1,4 @@
 pub mod States
 pub mod Running
 pub mod Journals
+pub mod Early

@@ -5,10 +5,14 @@
 //! from `txn_grammar`; what runs, validates or keeps commits stands on this crate.
 #![tactic(auto)]
 
+mod checked;
 mod commit;
+mod early;
 mod laws;
 mod run;
 
+pub use checked::Checked;
 pub use commit::{Commit, CommitList};
+pub use early::{EarlyError, early_read};
 pub use laws::{deltas_leave_what_operations_leave, legal_commits_follow};
 pub use run::{Run, Seen, SeenList};
