@@ -1,3 +1,6 @@
 pub mod Overlays
 pub mod Trims
 pub mod Writes
+pub mod Turns
+pub mod Plays
+pub mod Legality

@@ -94,12 +94,7 @@ fn client_line(
 
 /// A line without the blanks at its ends.
 #[tactic(auto, unfolding(crate::specs::Play::text_line))]
-fn text_line(
-    alloc: Global,
-    limit: u32,
-    world: &mut World,
-    text: &[u8],
-) -> Result<Text, AllocError>
+fn text_line(alloc: Global, limit: u32, world: &mut World, text: &[u8]) -> Result<Text, AllocError>
     requires keeps { Keeps world.old }
     requires short { length text.now ≤ LONGEST_LINE }
     ensures answers { Answers result world.new.journal (spec.text_line limit world.old.journal text.now) }
@@ -115,12 +110,7 @@ fn text_line(
 }
 
 /// Does a line, and answers its reply. After want of memory the world is of no use.
-pub fn answer(
-    alloc: Global,
-    limit: u32,
-    world: &mut World,
-    line: &Line,
-) -> Result<Text, AllocError>
+pub fn answer(alloc: Global, limit: u32, world: &mut World, line: &Line) -> Result<Text, AllocError>
     requires keeps { Keeps world.old }
     requires short { IsShort line.now }
     ensures answers { Answers result world.new.journal (spec.answer limit world.old.journal line.now) }
