@@ -1,0 +1,14 @@
+//! The top call of Diamond: it reads the command's words, runs the command over a source, a sink, a disk and a
+//! listener, and answers the status with which the program ends.
+//!
+//! It stands above all other libraries; the program `diamond` makes the real objects and calls it. Read first the
+//! contract of [`diamond`], and then the definitions that it cites: `Play` and `Script` of `script_runner`, and
+//! `Journals` of `txn_lang`.
+#![tactic(auto)]
+
+mod top;
+mod words;
+
+pub use top::{BAD_WORDS, diamond};
+pub use words::USAGE;
+
