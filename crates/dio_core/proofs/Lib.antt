@@ -2,3 +2,4 @@ pub mod Counts
 pub mod Sinks
 pub mod Sources
 pub mod Lines
+pub mod Disks

@@ -1,8 +1,9 @@
 //! A file on a disk, and what a crash may leave of it, where the disk tells it.
 
-ghost use Rattle.std.specs.Prelude.{◌≡◌, ℕ, ◌<◌, ◌≤◌, [], List, Option, None, length, IfOk, IfSome, OnErr, IsErr};
+ghost use Rattle.std.specs.Prelude.{◌≡◌, ℕ, ◌<◌, ◌≤◌, [], List, Option, None, length, take, IfOk, IfSome, OnErr, IsErr};
+ghost use Rattle.std.specs.List.{AllByRecursion};
 ghost use Rattle.dio_core.specs.Counts.{one_more, Grows, Rose};
-ghost use Rattle.dio_core.specs.Disks.{Durable, DiskState, Shows, Writes, Shortens, Syncs, Does, Passes};
+ghost use Rattle.dio_core.specs.Disks.{Durable, DiskState, MayLeave, settled, Shows, Writes, Shortens, Syncs, Does, Passes};
 
 use crate::count::Count;
 
@@ -124,4 +125,15 @@ impl Disk for NoDisk {
     fn disk_faults(&self) -> u64 {
         self.faults.get()
     }
+}
+
+/// What the disk model says of all files, written and cut in any way.
+pub fn laws_of_crashes()
+    // Right after a sync a crash leaves the file as it reads.
+    ensures synced { (file image : List ℕ) → MayLeave (settled file) image → image ≡ file }
+
+    // A front that no write and no cut has reached since is left as it was synced.
+    ensures front { (p : ℕ) (durable : Durable) (image : List ℕ) → p ≤ durable.least → p ≤ length durable.synced
+        → AllByRecursion (λ range. p ≤ range.0) durable.loose → MayLeave durable image → take p image ≡ take p durable.synced }
+{
 }

@@ -18,3 +18,6 @@ pub use memory::{FaultPlan, MemLink, MemSink, MemSource};
 pub use process::{StdSink, StdSource};
 pub use sink::{Sink, Took, write_all};
 pub use source::{Got, Source};
+
+#[cfg(test)]
+mod tests;

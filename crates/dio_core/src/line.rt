@@ -1,8 +1,8 @@
 //! The lines of a source.
 
-ghost use Rattle.std.specs.Prelude.{◌≡◌, ◌<◌, ◌≤◌, ◌∷◌, ◌++◌, [], length, take, IfOk, OnOk, OnErr};
+ghost use Rattle.std.specs.Prelude.{◌≡◌, ℕ, ◌<◌, ◌≤◌, List, ◌∷◌, ◌++◌, [], Some, length, take, IfOk, OnOk, OnErr};
 ghost use Rattle.dio_core.specs.Counts.{Grows, Rose};
-ghost use Rattle.dio_core.specs.Lines.{TakesLine, IsShort, BreaksOff, GivesByte, line_of};
+ghost use Rattle.dio_core.specs.Lines.{lines, lines_from, TakesLine, IsShort, IsUnbroken, HasBegun, BreaksOff, GivesByte, line_of};
 
 use crate::source::{Got, Source};
 use plain_data::Text;
@@ -106,4 +106,22 @@ fn answer(taken: usize, kept: Text) -> Line
         return Line::TooLong;
     }
     Line::Bytes(kept)
+}
+
+/// How any input is cut into lines, of which none contains a newline.
+pub fn laws_of_lines()
+    // The bytes up to a newline are a line.
+    ensures newline { (line rest : List ℕ) → IsUnbroken line → length line < LONGEST_RUN
+        → lines (line ++ NEWLINE ∷ rest) ≡ line ∷ lines rest }
+
+    // So are those up to the end of the input, if there is at least one.
+    ensures last { (line : List ℕ) → IsUnbroken line → 0 < length line → length line < LONGEST_RUN → lines line ≡ line ∷ [] }
+
+    // So are as many as the longest run.
+    ensures run { (line rest : List ℕ) → IsUnbroken line → length line ≡ LONGEST_RUN → lines (line ++ rest) ≡ line ∷ lines rest }
+
+    // Where a line has broken off, the lines are those of what is left, of which the first has begun with what was taken.
+    ensures begun { (n : ℕ) (all rest : List ℕ) → n < LONGEST_RUN → HasBegun n (Some all) (Some rest)
+        → lines all ≡ lines_from rest (take n all) }
+{
 }
