@@ -84,6 +84,14 @@ abbrev pub Syncs : {A E : Type 0} → Result A E → DiskState → DiskState →
 Syncs (Ok _) old new = new ≡ record { file = old.file; durable = settled old.file }
 Syncs (Err _) old new = new ≡ old
 
+-- a crash may leave the file as it reads
+abbrev pub LeavesFile : DiskState → Type 0
+LeavesFile state = MayLeave state.durable state.file
+
+-- where P held before such a call, it holds after it
+abbrev pub Preserves : (DiskState → Type 0) → (DiskState → DiskState → Type 0) → Type 0
+Preserves P step = (old new : DiskState) → P old → step old new → P new
+
 -- a call did this, of a disk that may not tell
 abbrev pub Does : (DiskState → DiskState → Type 0) → Option DiskState → Option DiskState → Type 0
 Does step None new = new ≡ None

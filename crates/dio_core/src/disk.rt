@@ -1,11 +1,12 @@
 //! A file on a disk, and what a crash may leave of it, where the disk tells it.
 
-ghost use Rattle.std.specs.Prelude.{◌≡◌, ℕ, ◌<◌, ◌≤◌, [], List, Option, None, length, take, IfOk, IfSome, OnErr, IsErr};
+ghost use Rattle.std.specs.Prelude.{◌≡◌, ℕ, ◌<◌, ◌≤◌, [], List, Option, None, length, take, IfOk, IfSome, OnErr, Result};
 ghost use Rattle.std.specs.List.{AllByRecursion};
-ghost use Rattle.dio_core.specs.Counts.{one_more, Grows, Rose};
-ghost use Rattle.dio_core.specs.Disks.{Durable, DiskState, MayLeave, settled, Shows, Writes, Shortens, Syncs, Does, Passes};
+ghost use Rattle.dio_core.specs.Counts.{Grows, Rose, Fails};
+ghost use Rattle.dio_core.specs.Disks.{Durable, DiskState, MayLeave, settled, Shows, Writes, Shortens, Syncs, LeavesFile, Preserves, Does, Passes};
 
 use crate::count::Count;
+use std::marker::Model;
 
 /// A call of a disk failed, which the disk has counted.
 #[derive(Clone, Copy, Debug, PartialEq, Eq)]
@@ -75,20 +76,26 @@ pub struct NoDisk {
     faults: Count,
 }
 
+impl Model for NoDisk {
+    ghost use Rattle.std.specs.Prelude.{ℕ};
+
+    ghost Value = { ℕ };
+
+    ghost view = { λ d. d.faults };
+}
+
 impl NoDisk {
     /// No call has failed yet.
     pub fn new() -> NoDisk
-        ensures { ⟦<NoDisk as Disk>⟧.disk_faults result ≡ 0 }
+        ensures { result ≡ 0 }
     {
         NoDisk {
             faults: Count::new(),
         }
     }
 
-    /// Fails, and counts it.
     fn fail<T: Drop>(&mut self) -> Result<T, DiskFault>
-        ensures fails { IsErr result }
-        ensures counted { ⟦<NoDisk as Disk>⟧.disk_faults self.new ≡ one_more (⟦<NoDisk as Disk>⟧.disk_faults self.old) }
+        ensures { Fails result self.old self.new }
     {
         self.faults.add_one();
         Err(DiskFault)
@@ -100,25 +107,35 @@ impl Disk for NoDisk {
 
     ghost past = { λ _. [] };
 
-    ghost disk_faults = { λ d. d.faults };
+    ghost disk_faults = { λ d. d };
 
-    fn length(&mut self) -> Result<u64, DiskFault> {
+    fn length(&mut self) -> Result<u64, DiskFault>
+        ensures { Fails result self.old self.new }
+    {
         self.fail()
     }
 
-    fn read(&mut self, _at: u64, _buf: &mut [u8]) -> Result<usize, DiskFault> {
+    fn read(&mut self, _at: u64, _buf: &mut [u8]) -> Result<usize, DiskFault>
+        ensures { Fails result self.old self.new }
+    {
         self.fail()
     }
 
-    fn write_at(&mut self, _at: u64, _bytes: &[u8]) -> Result<(), DiskFault> {
+    fn write_at(&mut self, _at: u64, _bytes: &[u8]) -> Result<(), DiskFault>
+        ensures { Fails result self.old self.new }
+    {
         self.fail()
     }
 
-    fn cut(&mut self, _to: u64) -> Result<(), DiskFault> {
+    fn cut(&mut self, _to: u64) -> Result<(), DiskFault>
+        ensures { Fails result self.old self.new }
+    {
         self.fail()
     }
 
-    fn sync(&mut self) -> Result<(), DiskFault> {
+    fn sync(&mut self) -> Result<(), DiskFault>
+        ensures { Fails result self.old self.new }
+    {
         self.fail()
     }
 
@@ -135,5 +152,10 @@ pub fn laws_of_crashes()
     // A front that no write and no cut has reached since is left as it was synced.
     ensures front { (p : ℕ) (durable : Durable) (image : List ℕ) → p ≤ durable.least → p ≤ length durable.synced
         → AllByRecursion (λ range. p ≤ range.0) durable.loose → MayLeave durable image → take p image ≡ take p durable.synced }
+
+    // A crash may always leave the file as it reads, so each of these calls allows some crash.
+    ensures writes { (result : Result ℕ ℕ) (at : ℕ) (bytes : List ℕ) → Preserves LeavesFile (Writes result at bytes) }
+    ensures cuts { (result : Result ℕ ℕ) (to : ℕ) → Preserves LeavesFile (Shortens result to) }
+    ensures syncs { (result : Result ℕ ℕ) → Preserves LeavesFile (Syncs result) }
 {
 }

@@ -21,3 +21,5 @@ pub use source::{Got, Source};
 
 #[cfg(test)]
 mod tests;
+#[cfg(test)]
+mod told_disk;
