@@ -288,6 +288,5 @@ impl Sink for MemLink {
 impl End for MemLink {
     fn end(&mut self)
         ensures { self.new ≡ self.old }
-    {
-    }
+    {}
 }

@@ -32,8 +32,16 @@ fn lines_end_at_newlines_and_at_the_end(rt: HostRuntime) -> Result<(), Fail> {
     ];
     for (input, first, second) in rows {
         let mut source = MemSource::new(alloc, input.as_bytes(), 3, &[])?;
-        assert_eq!(rt; shown(&next_line(alloc, &mut source)), first.as_bytes(), "{input:?}");
-        assert_eq!(rt; shown(&next_line(alloc, &mut source)), second.as_bytes(), "{input:?}");
+        assert_eq!(rt;
+            shown(&next_line(alloc, &mut source)),
+            first.as_bytes(),
+            "{input:?}"
+        );
+        assert_eq!(rt;
+            shown(&next_line(alloc, &mut source)),
+            second.as_bytes(),
+            "{input:?}"
+        );
     }
     Ok(())
 }
@@ -74,7 +82,11 @@ fn a_read_fault_takes_what_was_read(rt: HostRuntime) -> Result<(), Fail> {
     for (call, wanted) in rows {
         let mut source = MemSource::new(alloc, b"ab\nc", 1, &[call])?;
         for want in wanted {
-            assert_eq!(rt; shown(&next_line(alloc, &mut source)), want.as_bytes(), "call {call}");
+            assert_eq!(rt;
+                shown(&next_line(alloc, &mut source)),
+                want.as_bytes(),
+                "call {call}"
+            );
         }
         assert_eq!(rt; source.read_faults(), 1);
     }
