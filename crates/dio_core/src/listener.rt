@@ -1,7 +1,7 @@
 //! Where links come in, and are given back when they are done.
 
 ghost use Rattle.std.specs.Prelude.{◌≡◌, ℕ, List, Option, None, OnOk, OnErr};
-ghost use Rattle.dio_core.specs.Counts.{Grows, Rose};
+ghost use Rattle.dio_core.specs.Counts.{one_more, Grows, Rose};
 ghost use Rattle.dio_core.specs.Listeners.{Accepts, IsFailed, with_last};
 
 use crate::count::Count;
@@ -9,6 +9,7 @@ use crate::memory::MemLink;
 use crate::sink::Sink;
 use crate::source::Source;
 use std::alloc::AllocError;
+use std::marker::Model;
 
 /// A link that can be closed.
 pub trait End: Source + Sink {
@@ -69,10 +70,18 @@ pub struct NoListener {
     faults: Count,
 }
 
+impl Model for NoListener {
+    ghost use Rattle.std.specs.Prelude.{ℕ};
+
+    ghost Value = { ℕ };
+
+    ghost view = { λ l. l.faults };
+}
+
 impl NoListener {
     /// No accept has failed yet.
     pub fn new() -> NoListener
-        ensures { ⟦<NoListener as Listener>⟧.accept_faults result ≡ 0 }
+        ensures { result ≡ 0 }
     {
         NoListener {
             faults: Count::new(),
@@ -87,9 +96,12 @@ impl Listener for NoListener {
 
     ghost given_back = { λ _. None };
 
-    ghost accept_faults = { λ l. l.faults };
+    ghost accept_faults = { λ l. l };
 
-    fn accept(&mut self) -> Accepted<MemLink> {
+    fn accept(&mut self) -> Accepted<MemLink>
+        ensures fails { IsFailed result }
+        ensures counted { self.new ≡ one_more self.old }
+    {
         self.faults.add_one();
         Accepted::Failed
     }

@@ -1,11 +1,11 @@
 //! A source, a sink and a link in memory, which tell what they hold. They give and take pieces of a named size, and
 //! fail at named calls.
 
-ghost use Rattle.std.specs.Prelude.{◌≡◌, [], ◌<◌, ◌≤◌, drop, length, vec_len, IfOk, Some, false, not};
+ghost use Rattle.std.specs.Prelude.{◌≡◌, [], ◌<◌, ◌≤◌, drop, length, vec_len, IfOk, Some, false};
 ghost use Rattle.dio_core.specs.Counts.{one_more, Grows, Rose};
 ghost use Rattle.dio_core.specs.Sources.{Gives};
 ghost use Rattle.dio_core.specs.Sinks.{Takes};
-ghost use Rattle.dio_core.specs.Memory.{plan_of, fails_next, faulted, after_next, Supplies, Stores};
+ghost use Rattle.dio_core.specs.Memory.{plan_of, fails_next, faulted, after_next, Supplies, Stores, Flushes};
 
 use crate::count::Count;
 use crate::listener::End;
@@ -214,7 +214,7 @@ impl Sink for MemSink {
         ensures same { Some self.new.taken ≡ Some self.old.taken }
         ensures count { Grows self.old.plan.faults self.new.plan.faults }
         ensures fault { result ≡ false → Rose self.old.plan.faults self.new.plan.faults }
-        ensures exact { (result ≡ not (fails_next self.old.plan)) × (self.new ≡ record self.old { plan = after_next self.old.plan }) }
+        ensures exact { Flushes result self.old self.new }
     {
         !self.plan.begin_call()
     }
@@ -238,7 +238,14 @@ impl Source for MemLink {
 
     ghost read_faults = { λ l. l.source.plan.faults };
 
-    fn read(&mut self, buf: &mut [u8]) -> Got {
+    fn read(&mut self, buf: &mut [u8]) -> Got
+        requires { 0 < length buf.old }
+        ensures gives { Gives result buf.new (Some self.old.source.left) (Some self.new.source.left) }
+        ensures count { Grows self.old.source.plan.faults self.new.source.plan.faults }
+        ensures fault { result ≡ Got.Failed → Rose self.old.source.plan.faults self.new.source.plan.faults }
+        ensures exact { Supplies result buf.old buf.new self.old.source self.new.source }
+        ensures sink { self.new.sink ≡ self.old.sink }
+    {
         self.source.read(buf)
     }
 
@@ -252,11 +259,24 @@ impl Sink for MemLink {
 
     ghost write_faults = { λ l. l.sink.plan.faults };
 
-    fn write(&mut self, bytes: &[u8]) -> Took {
+    fn write(&mut self, bytes: &[u8]) -> Took
+        requires { 0 < length bytes.now }
+        ensures takes { Takes result bytes.now (Some self.old.sink.taken) (Some self.new.sink.taken) }
+        ensures count { Grows self.old.sink.plan.faults self.new.sink.plan.faults }
+        ensures fault { result ≡ Took.Failed → Rose self.old.sink.plan.faults self.new.sink.plan.faults }
+        ensures exact { Stores result bytes.now self.old.sink self.new.sink }
+        ensures source { self.new.source ≡ self.old.source }
+    {
         self.sink.write(bytes)
     }
 
-    fn flush(&mut self) -> bool {
+    fn flush(&mut self) -> bool
+        ensures same { Some self.new.sink.taken ≡ Some self.old.sink.taken }
+        ensures count { Grows self.old.sink.plan.faults self.new.sink.plan.faults }
+        ensures fault { result ≡ false → Rose self.old.sink.plan.faults self.new.sink.plan.faults }
+        ensures exact { Flushes result self.old.sink self.new.sink }
+        ensures source { self.new.source ≡ self.old.source }
+    {
         self.sink.flush()
     }
 
@@ -266,5 +286,7 @@ impl Sink for MemLink {
 }
 
 impl End for MemLink {
-    fn end(&mut self) {}
+    fn end(&mut self)
+        ensures { self.new ≡ self.old }
+    {}
 }
