@@ -6,7 +6,7 @@ ghost use Rattle.txn_grammar.specs.Tokens as spec;
 ghost use Rattle.txn_grammar.specs.Reader as reader;
 ghost use Rattle.txn_grammar.specs.Reads.{Reads, ahead};
 
-use crate::stop::ReadError;
+use crate::error::ReadError;
 use crate::symbol::Symbol;
 use crate::token::{Spot, Token};
 use plain_data::Text;

@@ -4,6 +4,7 @@
 mod body;
 mod character;
 mod cursor;
+mod error;
 mod expression;
 mod laws;
 mod lexer;
@@ -11,15 +12,14 @@ mod number;
 mod quoted;
 mod spelling;
 mod statement;
-mod stop;
 mod symbol;
 mod target;
 mod token;
 
 pub use body::read_body;
+pub use error::ReadError;
 pub use laws::{quoted_is_rule, refuses_first, tree_is_body};
 pub use lexer::tokens;
-pub use stop::ReadError;
 pub use symbol::Symbol;
 pub use target::Target;
 pub use token::{Lexeme, Spot, Token};
