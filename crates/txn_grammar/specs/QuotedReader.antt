@@ -1,5 +1,5 @@
 -- The reader of texts in quotes.
-use Rattle.std.specs.Prelude.{◌≡◌, ℕ, Bool, true, false, not, Option, Some, None, List, Ok, Err, IsErr}
+use Rattle.std.specs.Prelude.{◌≡◌, ℕ, Bool, false, not, Option, Some, None, Ok, IsErr}
 use Rattle.std.specs.Borrow.{Bor}
 use Rattle.predictive_parsing.specs.Reading.{Outcome, Reader, ◌>>=◌, pure, one, either, many}
 use Rattle.txn_grammar.specs.Characters.{Text, is_quote, is_backslash, is_hex_mark, is_plain}

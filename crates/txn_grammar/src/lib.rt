@@ -1,4 +1,9 @@
-//! The tokens and the grammar of transaction bodies.
+//! The tokens and the grammar of transaction bodies, and the reader that turns a text into its tree.
+//!
+//! [`read_body`] is what the language stands on: bytes go through `lexer` to tokens, and from a `cursor` over these
+//! through `expression` and `statement` to a body. Read the definitions first: `specs/Lexer` says what tokens a text
+//! has, `specs/Grammar` which tokens are a body, and `specs/Tree` what body a text is. `laws` ties the grammar, a
+//! relation, to the function by which the code is proved.
 #![tactic(auto)]
 
 mod body;
@@ -14,6 +19,8 @@ mod spelling;
 mod statement;
 mod symbol;
 mod target;
+#[cfg(test)]
+mod tests;
 mod token;
 
 pub use body::read_body;
