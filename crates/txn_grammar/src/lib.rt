@@ -13,6 +13,7 @@ mod error;
 mod expression;
 mod laws;
 mod lexer;
+mod meaning;
 mod number;
 mod quoted;
 mod spelling;
