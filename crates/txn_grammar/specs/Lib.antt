@@ -9,3 +9,4 @@ pub mod Grammar
 pub mod Reader
 pub mod Tree
 pub mod Reads
+pub mod Examples

@@ -1,6 +1,7 @@
 -- The reader of texts in quotes.
-use Rattle.std.specs.Prelude.{ℕ, Bool, false, not, Option, Some, None}
-use Rattle.predictive_parsing.specs.Reading.{Reader, ◌>>=◌, pure, one, either, many}
+use Rattle.std.specs.Prelude.{◌≡◌, ℕ, Bool, false, not, Option, Some, None, Ok, IsErr}
+use Rattle.std.specs.Borrow.{Bor}
+use Rattle.predictive_parsing.specs.Reading.{Outcome, Reader, ◌>>=◌, pure, one, either, many}
 use Rattle.txn_grammar.specs.Characters.{Text, is_quote, is_backslash, is_hex_mark, is_plain}
 use Rattle.txn_grammar.specs.Quoted.{passing, short, hex_digit, hex_byte}
 
@@ -37,3 +38,8 @@ quoted = do
   bytes ← pieces
   _ ← one (passing is_quote)
   pure bytes
+
+-- What code finds is what the reader reads, with the bytes behind it; it finds nothing where the reader refuses.
+abbrev pub Finds : {A : Type 0} → Outcome ℕ A → Option (A × Bor Text) → Type 0
+Finds outcome (Some found) = outcome ≡ Ok (found.0, found.1.now)
+Finds outcome None = IsErr outcome

@@ -1,8 +1,8 @@
 -- What a function of the reader's code ensures.
 use Rattle.std.specs.Prelude.{◌≡◌, ◌≢◌, List, [], ◌∷◌, Option, None, Result, Ok, Err}
 use Rattle.predictive_parsing.specs.Reading.{Outcome}
-use Rattle.txn_grammar.specs.declared.stop.ReadError.{ReadError}
-use Rattle.txn_grammar.specs.declared.stop.ReadError.TheVariants.{NoMemory}
+use Rattle.txn_grammar.specs.declared.error.ReadError.{ReadError}
+use Rattle.txn_grammar.specs.declared.error.ReadError.TheVariants.{NoMemory}
 use Rattle.txn_grammar.specs.declared.token.Spot.{Spot}
 
 -- The outcome is the reader's, and the tokens left are those behind what was read, or those from the refused one on;

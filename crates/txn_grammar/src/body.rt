@@ -1,13 +1,13 @@
 //! The one call that reads a text as a body.
 
 ghost use Rattle.std.specs.Prelude.{◌≡◌, ◌<◌, ◌-◌, ◌^◌, length, IfOk, Some, None, Err};
-ghost use Rattle.txn_grammar.specs.declared.stop.ReadError.TheVariants.{Refused};
+ghost use Rattle.txn_grammar.specs.declared.error.ReadError.TheVariants.{Refused};
 ghost use Rattle.txn_grammar.specs.Tree.{tree};
 
 use crate::cursor::Cursor;
+use crate::error::ReadError;
 use crate::lexer::tokens;
 use crate::statement::body;
-use crate::stop::ReadError;
 use std::alloc::Global;
 use txn_trees::Body;
 

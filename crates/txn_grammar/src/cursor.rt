@@ -1,22 +1,21 @@
 //! The tokens that are left, and what is asked of the one ahead.
 
-ghost use Rattle.std.specs.Prelude.{◌≡◌, ◌∷◌, [], ◌↔◌, drop, length, IsTrue, MatchOption};
+ghost use Rattle.std.specs.Prelude.{◌≡◌, ◌↔◌, [], drop, Ok, Err, IsTrue, MatchOption};
 ghost use Rattle.predictive_parsing.specs.Reading as read;
+ghost use Rattle.txn_grammar.specs.declared.error.ReadError.TheVariants.{Refused};
 ghost use Rattle.txn_grammar.specs.Tokens as spec;
 ghost use Rattle.txn_grammar.specs.Reader as reader;
 ghost use Rattle.txn_grammar.specs.Reads.{Reads, ahead};
 
-use crate::stop::ReadError;
+use crate::error::ReadError;
+use crate::meaning::{is_key, is_symbol, key_of, kind_of, number_of, read_word_of, write_word_of};
 use crate::symbol::Symbol;
-use crate::token::{Spot, Token};
+use crate::token::Spot;
 use plain_data::Text;
 use rdt_types::Kind;
 use std::collections::VecDeque;
 use std::marker::Model;
 use txn_trees::{ReadWord, WriteWord};
-
-/// The most bytes of a key, its escapes read.
-const KEY_LIMIT: usize = 1024;
 
 /// The tokens of a body that are left to read. Each reader either takes what it reads off the front, or refuses and
 /// leaves the token that doesn't fit at the front.
@@ -34,106 +33,6 @@ impl Model for Cursor {
     ghost view = { λ c. c.rest.items };
 }
 
-#[tactic(auto, unfolding(crate::specs::Tokens::same_symbol))]
-fn is_symbol(symbol: Symbol, token: &Token) -> bool
-    ensures { result ≡ spec.is_symbol symbol token.now }
-{
-    match token {
-        Token::Symbol(found) => *found == symbol,
-        _ => false,
-    }
-}
-
-fn number_of(token: &Token) -> Option<i64>
-    ensures { result ≡ spec.number token.now }
-{
-    match token {
-        Token::Number(value) => Some(*value),
-        _ => None,
-    }
-}
-
-fn kind_of(token: &Token) -> Option<Kind>
-    ensures { result ≡ spec.kind_of token.now }
-{
-    match token {
-        Token::Symbol(Symbol::Counter) => Some(Kind::Counter),
-        _ => None,
-    }
-}
-
-fn write_named(kind: Kind, name: &[u8]) -> Option<WriteWord>
-    ensures { result ≡ spec.write_named kind name.now }
-{
-    match kind {
-        Kind::Counter => {
-            if name == b"put".as_slice() {
-                Some(WriteWord::Put)
-            } else if name == b"add".as_slice() {
-                Some(WriteWord::Add)
-            } else {
-                None
-            }
-        }
-    }
-}
-
-fn write_word_of(kind: Kind, token: &Token) -> Option<WriteWord>
-    ensures { result ≡ spec.write_word kind token.now }
-{
-    match token {
-        Token::Name(name) => write_named(kind, name.as_slice()),
-        _ => None,
-    }
-}
-
-fn read_named(kind: Kind, name: &[u8]) -> Option<ReadWord>
-    ensures { result ≡ spec.read_named kind name.now }
-{
-    match kind {
-        Kind::Counter => {
-            if name == b"get".as_slice() {
-                Some(ReadWord::Get)
-            } else {
-                None
-            }
-        }
-    }
-}
-
-fn read_word_of(kind: Kind, token: &Token) -> Option<ReadWord>
-    ensures { result ≡ spec.read_word kind token.now }
-{
-    match token {
-        Token::Name(name) => read_named(kind, name.as_slice()),
-        _ => None,
-    }
-}
-
-fn is_key(token: &Token) -> bool
-    ensures { result ≡ read.is_made (spec.key token.now) }
-{
-    match token {
-        Token::Text(bytes) => bytes.len() <= KEY_LIMIT,
-        _ => false,
-    }
-}
-
-fn key_of(token: Token) -> Option<Text>
-    ensures { result ≡ spec.key token }
-{
-    match token {
-        Token::Text(bytes) => {
-            if bytes.len() <= KEY_LIMIT {
-                Some(bytes)
-            } else {
-                None
-            }
-        }
-        _ => None,
-    }
-}
-
 impl Cursor {
     /// At the first of these tokens.
     pub(crate) fn new(rest: VecDeque<Spot>) -> Cursor
@@ -149,73 +48,60 @@ impl Cursor {
         self.rest.is_empty()
     }
 
-    fn advance(&mut self)
-        ensures { self.new ≡ drop 1 self.old }
+    /// Takes the token ahead where something was made of it, and refuses it else.
+    fn take<A: Copy>(&mut self, made: Option<A>) -> Result<A, ReadError>
+        ensures { MatchOption made ((result ≡ Err Refused) × (self.new ≡ self.old)) (λ value. (result ≡ Ok value) × (self.new ≡ drop 1 self.old)) }
     {
-        self.rest.pop_front();
+        match made {
+            Some(value) => {
+                self.rest.pop_front();
+                Ok(value)
+            }
+            None => Err(ReadError::Refused),
+        }
     }
 
     fn symbol_ahead(&self, symbol: Symbol) -> Option<u32>
         ensures { result ≡ ahead (spec.symbol_at symbol) self.now }
     {
-        match self.rest.front() {
-            Some(spot) => {
-                if is_symbol(symbol, &spot.token) {
-                    Some(spot.column)
-                } else {
-                    None
-                }
-            }
-            None => None,
+        let spot = self.rest.front()?;
+        if is_symbol(symbol, &spot.token) {
+            Some(spot.column)
+        } else {
+            None
         }
     }
 
     fn number_ahead(&self) -> Option<(u32, i64)>
         ensures { result ≡ ahead (spec.at spec.number) self.now }
     {
-        match self.rest.front() {
-            Some(spot) => match number_of(&spot.token) {
-                Some(value) => Some((spot.column, value)),
-                None => None,
-            },
-            None => None,
-        }
+        let spot = self.rest.front()?;
+        let value = number_of(&spot.token)?;
+        Some((spot.column, value))
     }
 
     fn kind_ahead(&self) -> Option<(u32, Kind)>
         ensures { result ≡ ahead (spec.at spec.kind_of) self.now }
     {
-        match self.rest.front() {
-            Some(spot) => match kind_of(&spot.token) {
-                Some(kind) => Some((spot.column, kind)),
-                None => None,
-            },
-            None => None,
-        }
+        let spot = self.rest.front()?;
+        let value = kind_of(&spot.token)?;
+        Some((spot.column, value))
     }
 
     fn write_word_ahead(&self, kind: Kind) -> Option<(u32, WriteWord)>
         ensures { result ≡ ahead (spec.at (spec.write_word kind)) self.now }
     {
-        match self.rest.front() {
-            Some(spot) => match write_word_of(kind, &spot.token) {
-                Some(word) => Some((spot.column, word)),
-                None => None,
-            },
-            None => None,
-        }
+        let spot = self.rest.front()?;
+        let value = write_word_of(kind, &spot.token)?;
+        Some((spot.column, value))
     }
 
     fn read_word_ahead(&self, kind: Kind) -> Option<(u32, ReadWord)>
         ensures { result ≡ ahead (spec.at (spec.read_word kind)) self.now }
     {
-        match self.rest.front() {
-            Some(spot) => match read_word_of(kind, &spot.token) {
-                Some(word) => Some((spot.column, word)),
-                None => None,
-            },
-            None => None,
-        }
+        let spot = self.rest.front()?;
+        let value = read_word_of(kind, &spot.token)?;
+        Some((spot.column, value))
     }
 
     fn key_is_ahead(&self) -> bool
@@ -253,13 +139,8 @@ impl Cursor {
     pub(crate) fn symbol(&mut self, symbol: Symbol) -> Result<u32, ReadError>
         ensures { Reads (reader.word symbol self.old) result self.new }
     {
-        match self.symbol_ahead(symbol) {
-            Some(column) => {
-                self.advance();
-                Ok(column)
-            }
-            None => Err(ReadError::Refused),
-        }
+        let ahead = self.symbol_ahead(symbol);
+        self.take(ahead)
     }
 
     /// A number, with its column.
@@ -267,13 +148,8 @@ impl Cursor {
     pub(crate) fn number(&mut self) -> Result<(u32, i64), ReadError>
         ensures { Reads (read.one (spec.at spec.number) self.old) result self.new }
     {
-        match self.number_ahead() {
-            Some(number) => {
-                self.advance();
-                Ok(number)
-            }
-            None => Err(ReadError::Refused),
-        }
+        let ahead = self.number_ahead();
+        self.take(ahead)
     }
 
     /// The word of a kind, with its column.
@@ -281,13 +157,8 @@ impl Cursor {
     pub(crate) fn kind(&mut self) -> Result<(u32, Kind), ReadError>
         ensures { Reads (read.one (spec.at spec.kind_of) self.old) result self.new }
     {
-        match self.kind_ahead() {
-            Some(kind) => {
-                self.advance();
-                Ok(kind)
-            }
-            None => Err(ReadError::Refused),
-        }
+        let ahead = self.kind_ahead();
+        self.take(ahead)
     }
 
     /// A write of this kind, with its column.
@@ -295,13 +166,8 @@ impl Cursor {
     pub(crate) fn write_word(&mut self, kind: Kind) -> Result<(u32, WriteWord), ReadError>
         ensures { Reads (read.one (spec.at (spec.write_word kind)) self.old) result self.new }
     {
-        match self.write_word_ahead(kind) {
-            Some(word) => {
-                self.advance();
-                Ok(word)
-            }
-            None => Err(ReadError::Refused),
-        }
+        let ahead = self.write_word_ahead(kind);
+        self.take(ahead)
     }
 
     /// A read of this kind, with its column.
@@ -309,13 +175,8 @@ impl Cursor {
     pub(crate) fn read_word(&mut self, kind: Kind) -> Result<(u32, ReadWord), ReadError>
         ensures { Reads (read.one (spec.at (spec.read_word kind)) self.old) result self.new }
     {
-        match self.read_word_ahead(kind) {
-            Some(word) => {
-                self.advance();
-                Ok(word)
-            }
-            None => Err(ReadError::Refused),
-        }
+        let ahead = self.read_word_ahead(kind);
+        self.take(ahead)
     }
 
     /// A key, with its column.

@@ -6,7 +6,7 @@ ghost use Rattle.txn_grammar.specs.Reader as spec;
 ghost use Rattle.txn_grammar.specs.Reads.{Reads};
 
 use crate::cursor::Cursor;
-use crate::stop::ReadError;
+use crate::error::ReadError;
 use crate::symbol::Symbol;
 use crate::target::Target;
 use plain_data::{Boxed, Sequence};

@@ -1,10 +1,11 @@
 //! Texts in quotes. Each function reads at the front and answers with what is behind what it read.
 
-ghost use Rattle.std.specs.Prelude.{◌≡◌, ◌<◌, Ok, IsErr, IfSome, IfOk, MatchOption};
+ghost use Rattle.std.specs.Prelude.{◌≡◌, ◌<◌, IfSome, IfOk};
 ghost use Rattle.predictive_parsing.specs.Reading.{next, one};
 ghost use Rattle.txn_grammar.specs.Characters.{is_backslash, is_hex_mark, is_plain, is_quote};
 ghost use Rattle.txn_grammar.specs.Quoted as rule;
 ghost use Rattle.txn_grammar.specs.QuotedReader as spec;
+ghost use Rattle.txn_grammar.specs.QuotedReader.{Finds};
 
 use crate::character::{is_backslash, is_digit, is_hex_mark, is_plain, is_quote};
 use plain_data::Text;
@@ -39,7 +40,7 @@ fn short(byte: u8) -> Option<u8>
 
 #[tactic(auto, unfolding(predictive_parsing::specs::Reading::one))]
 fn next_hex_digit(text: &[u8]) -> Option<(u8, &[u8])>
-    ensures read { MatchOption result (IsErr (one rule.hex_digit text.now)) (λ found. one rule.hex_digit text.now ≡ Ok (found.0, found.1.now)) }
+    ensures read { Finds (one rule.hex_digit text.now) result }
     ensures below { IfSome result (λ found. found.0 < 16) }
 {
     let (first, rest) = text.split_first()?;
@@ -50,7 +51,7 @@ fn next_hex_digit(text: &[u8]) -> Option<(u8, &[u8])>
 /// `x` and two digits.
 #[tactic(auto, unfolding(predictive_parsing::specs::Reading::one, crate::specs::QuotedReader::hex))]
 fn hex(text: &[u8]) -> Option<(u8, &[u8])>
-    ensures { MatchOption result (IsErr (spec.hex text.now)) (λ found. spec.hex text.now ≡ Ok (found.0, found.1.now)) }
+    ensures { Finds (spec.hex text.now) result }
 {
     let (mark, digits) = text.split_first()?;
     if !is_hex_mark(*mark) {
@@ -64,7 +65,7 @@ fn hex(text: &[u8]) -> Option<(u8, &[u8])>
 /// One byte behind a backslash.
 #[tactic(auto, unfolding(predictive_parsing::specs::Reading::one))]
 fn short_escape(text: &[u8]) -> Option<(u8, &[u8])>
-    ensures { MatchOption result (IsErr (one rule.short text.now)) (λ found. one rule.short text.now ≡ Ok (found.0, found.1.now)) }
+    ensures { Finds (one rule.short text.now) result }
 {
     let (first, rest) = text.split_first()?;
     let byte = short(*first)?;
@@ -104,7 +105,7 @@ fn goes_on(text: &[u8]) -> bool
 /// A backslash, and what it makes of the bytes behind it.
 #[tactic(auto, unfolding(predictive_parsing::specs::Reading::one, crate::specs::QuotedReader::escape))]
 fn escape(text: &[u8]) -> Option<(u8, &[u8])>
-    ensures { MatchOption result (IsErr (spec.escape text.now)) (λ found. spec.escape text.now ≡ Ok (found.0, found.1.now)) }
+    ensures { Finds (spec.escape text.now) result }
 {
     let (mark, behind) = text.split_first()?;
     if !is_backslash(*mark) {
@@ -119,7 +120,7 @@ fn escape(text: &[u8]) -> Option<(u8, &[u8])>
 
 #[tactic(auto, unfolding(predictive_parsing::specs::Reading::one))]
 fn plain(text: &[u8]) -> Option<(u8, &[u8])>
-    ensures { MatchOption result (IsErr (one (rule.passing is_plain) text.now)) (λ found. one (rule.passing is_plain) text.now ≡ Ok (found.0, found.1.now)) }
+    ensures { Finds (one (rule.passing is_plain) text.now) result }
 {
     let (first, rest) = text.split_first()?;
     if is_plain(*first) {
@@ -132,7 +133,7 @@ fn plain(text: &[u8]) -> Option<(u8, &[u8])>
 /// One byte of the text.
 #[tactic(auto, unfolding(crate::specs::QuotedReader::piece))]
 fn piece(text: &[u8]) -> Option<(u8, &[u8])>
-    ensures { MatchOption result (IsErr (spec.piece text.now)) (λ found. spec.piece text.now ≡ Ok (found.0, found.1.now)) }
+    ensures { Finds (spec.piece text.now) result }
 {
     if begins_escape(text) {
         escape(text)
@@ -143,7 +144,7 @@ fn piece(text: &[u8]) -> Option<(u8, &[u8])>
 
 /// All bytes of the text, up to its closing quote.
 fn pieces(alloc: Global, text: &[u8]) -> Result<Option<(Text, &[u8])>, AllocError>
-    ensures { IfOk result (λ answer. MatchOption answer (IsErr (spec.pieces text.now)) (λ found. spec.pieces text.now ≡ Ok (found.0, found.1.now))) }
+    ensures { IfOk result (λ answer. Finds (spec.pieces text.now) answer) }
 {
     let mut bytes = Text::new(alloc);
     let mut rest = text;
@@ -159,7 +160,7 @@ fn pieces(alloc: Global, text: &[u8]) -> Result<Option<(Text, &[u8])>, AllocErro
 
 #[tactic(auto, unfolding(predictive_parsing::specs::Reading::one))]
 fn quote(text: &[u8]) -> Option<(u8, &[u8])>
-    ensures { MatchOption result (IsErr (one (rule.passing is_quote) text.now)) (λ found. one (rule.passing is_quote) text.now ≡ Ok (found.0, found.1.now)) }
+    ensures { Finds (one (rule.passing is_quote) text.now) result }
 {
     let (first, rest) = text.split_first()?;
     if is_quote(*first) {
@@ -172,7 +173,7 @@ fn quote(text: &[u8]) -> Option<(u8, &[u8])>
 /// The bytes of the text in quotes that begins here, and what is behind it; none where it is malformed.
 #[tactic(auto, unfolding(crate::specs::QuotedReader::quoted))]
 pub(crate) fn quoted(alloc: Global, text: &[u8]) -> Result<Option<(Text, &[u8])>, AllocError>
-    ensures { IfOk result (λ answer. MatchOption answer (IsErr (spec.quoted text.now)) (λ found. spec.quoted text.now ≡ Ok (found.0, found.1.now))) }
+    ensures { IfOk result (λ answer. Finds (spec.quoted text.now) answer) }
 {
     let Some((_, inside)) = quote(text) else {
         return Ok(None);

@@ -7,8 +7,8 @@ ghost use Rattle.txn_grammar.specs.Reader as spec;
 ghost use Rattle.txn_grammar.specs.Reads.{Reads};
 
 use crate::cursor::Cursor;
+use crate::error::ReadError;
 use crate::expression::{expression, targeted};
-use crate::stop::ReadError;
 use crate::symbol::Symbol;
 use crate::target::Target;
 use plain_data::Sequence;

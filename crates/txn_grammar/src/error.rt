@@ -12,7 +12,7 @@ pub enum ReadError {
 
 impl From<AllocError> for ReadError {
     ghost use Rattle.std.specs.Prelude.{◌≡◌};
-    ghost use Rattle.txn_grammar.specs.declared.stop.ReadError.TheVariants.{NoMemory};
+    ghost use Rattle.txn_grammar.specs.declared.error.ReadError.TheVariants.{NoMemory};
 
     ghost from_gives = { λ _ e. e ≡ NoMemory };
 

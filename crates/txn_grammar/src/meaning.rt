@@ -1,0 +1,123 @@
+//! What a token stands for, as rules ask it.
+
+ghost use Rattle.std.specs.Prelude.{◌≡◌};
+ghost use Rattle.predictive_parsing.specs.Reading as read;
+ghost use Rattle.txn_grammar.specs.Tokens as spec;
+
+use crate::symbol::Symbol;
+use crate::token::Token;
+use plain_data::Text;
+use rdt_types::Kind;
+use txn_trees::{ReadWord, WriteWord};
+
+/// The most bytes of a key, its escapes read.
+const KEY_LIMIT: usize = 1024;
+
+/// Whether the token is this symbol.
+#[tactic(auto, unfolding(crate::specs::Tokens::same_symbol))]
+pub(crate) fn is_symbol(symbol: Symbol, token: &Token) -> bool
+    ensures { result ≡ spec.is_symbol symbol token.now }
+{
+    match token {
+        Token::Symbol(found) => *found == symbol,
+        _ => false,
+    }
+}
+
+/// The number that the token is.
+pub(crate) fn number_of(token: &Token) -> Option<i64>
+    ensures { result ≡ spec.number token.now }
+{
+    match token {
+        Token::Number(value) => Some(*value),
+        _ => None,
+    }
+}
+
+/// The kind whose word the token is.
+pub(crate) fn kind_of(token: &Token) -> Option<Kind>
+    ensures { result ≡ spec.kind_of token.now }
+{
+    match token {
+        Token::Symbol(Symbol::Counter) => Some(Kind::Counter),
+        _ => None,
+    }
+}
+
+/// The write of this name that the kind has.
+fn write_named(kind: Kind, name: &[u8]) -> Option<WriteWord>
+    ensures { result ≡ spec.write_named kind name.now }
+{
+    match kind {
+        Kind::Counter => {
+            if name == b"put".as_slice() {
+                Some(WriteWord::Put)
+            } else if name == b"add".as_slice() {
+                Some(WriteWord::Add)
+            } else {
+                None
+            }
+        }
+    }
+}
+
+/// The write of this kind whose name the token is.
+pub(crate) fn write_word_of(kind: Kind, token: &Token) -> Option<WriteWord>
+    ensures { result ≡ spec.write_word kind token.now }
+{
+    match token {
+        Token::Name(name) => write_named(kind, name.as_slice()),
+        _ => None,
+    }
+}
+
+/// The read of this name that the kind has.
+fn read_named(kind: Kind, name: &[u8]) -> Option<ReadWord>
+    ensures { result ≡ spec.read_named kind name.now }
+{
+    match kind {
+        Kind::Counter => {
+            if name == b"get".as_slice() {
+                Some(ReadWord::Get)
+            } else {
+                None
+            }
+        }
+    }
+}
+
+/// The read of this kind whose name the token is.
+pub(crate) fn read_word_of(kind: Kind, token: &Token) -> Option<ReadWord>
+    ensures { result ≡ spec.read_word kind token.now }
+{
+    match token {
+        Token::Name(name) => read_named(kind, name.as_slice()),
+        _ => None,
+    }
+}
+
+/// Whether the token is a text that isn't too long for a key.
+pub(crate) fn is_key(token: &Token) -> bool
+    ensures { result ≡ read.is_made (spec.key token.now) }
+{
+    match token {
+        Token::Text(bytes) => bytes.len() <= KEY_LIMIT,
+        _ => false,
+    }
+}
+
+/// The key that the token is, which is consumed in any case.
+pub(crate) fn key_of(token: Token) -> Option<Text>
+    ensures { result ≡ spec.key token }
+{
+    match token {
+        Token::Text(bytes) => {
+            if bytes.len() <= KEY_LIMIT {
+                Some(bytes)
+            } else {
+                None
+            }
+        }
+        _ => None,
+    }
+}
