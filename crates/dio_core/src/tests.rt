@@ -176,5 +176,11 @@ fn streams_of_std_pass_bytes_and_count_errors(rt: HostRuntime) -> Result<(), Fai
     let mut broken = StdSink::new(Broken);
     assert!(rt; !write_all(&mut broken, b"ab") && !broken.flush());
     assert_eq!(rt; broken.write_faults(), 2);
+
+    // The streams of the process are such a reader and such a writer.
+    let input = StdSource::new(alloc, rt.stdin())?;
+    let mut output = StdSink::new(rt.stdout());
+    assert!(rt; output.flush());
+    assert_eq!(rt; (input.read_faults(), output.write_faults()), (0, 0));
     Ok(())
 }
