@@ -202,6 +202,13 @@ module _ {I : Type 0} (Possible : I → Type 0) where
       → Fits Possible p P any → ((a : A) → Fits Possible (q a) (Q a) follows) → Fits Possible (λ ts. and_then (p ts) q) (Then P Q) follows
   onwards {A} {B} {p} {P} {q} {Q} {follows} fp fq = then_fits p P q Q any follows fp fq (λ a us vs b r h. refl)
 
+  -- a first thing, and what may follow it
+  pub followed : {A B : Type 0} {p : Reader I A} {P : Rule I A} {between : Option I → Bool} {q : A → Reader I B} {Q : A → Rule I B} {follows : Option I → Bool}
+      → Fits Possible p P between → ((a : A) → Fits Possible (q a) (Q a) follows)
+      → ((a : A) (us vs : List I) (b : B) → Q a us b vs → follows (next vs) ≡ true → between (next us) ≡ true)
+      → Fits Possible (λ ts. and_then (p ts) q) (Then P Q) follows
+  followed {A} {B} {p} {P} {between} {q} {Q} {follows} fp fq meets = then_fits p P q Q between follows fp fq meets
+
   -- ---- by what is ahead
 
   module _ {A : Type 0} (starts : Option I → Bool) (p q : Reader I A) (P Q : Rule I A) (follows : Option I → Bool)

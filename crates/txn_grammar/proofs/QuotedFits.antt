@@ -6,7 +6,7 @@ use Rattle.predictive_parsing.specs.Reading.{Outcome, next, one}
 use Rattle.predictive_parsing.specs.Rules.{One, Then, Pure, Many}
 use Rattle.predictive_parsing.specs.Fits.{Fits, any, unless}
 use Rattle.predictive_parsing.proofs.Basic.{sound, bool_cases, both, not_true}
-use Rattle.predictive_parsing.proofs.Combined.{one_fits, then_fits, either_fits, seen, onwards}
+use Rattle.predictive_parsing.proofs.Combined.{one_fits, followed, either_fits, seen, onwards}
 use Rattle.predictive_parsing.proofs.Lists.{many_fits, shrinks}
 use Rattle.predictive_parsing.proofs.Loops.{with_front, no_front, turn, refused, ended}
 use Rattle.txn_grammar.specs.Characters.{Text, is_quote, is_backslash, is_hex_mark, is_plain}
@@ -93,7 +93,7 @@ quote_ends us vs bytes a r =
 
 pub quoted_fits : Fits IsByte quoted Quoted any
 unfolding quoted
-quoted_fits = onwards IsByte (byte_fits is_quote 34 refl (omega arith)) (λ _. then_fits IsByte pieces (Many Piece) _ (λ bytes. Then (One (passing is_quote)) (λ _. Pure bytes)) (unless inside any) any pieces_fits
+quoted_fits = onwards IsByte (byte_fits is_quote 34 refl (omega arith)) (λ _. followed IsByte pieces_fits
     (λ bytes. seen IsByte (λ _. bytes) (byte_fits is_quote 34 refl (omega arith)))
     (λ bytes us vs a r e. quote_ends us vs bytes a r))
 

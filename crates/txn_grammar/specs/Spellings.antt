@@ -16,32 +16,62 @@ looked_up text (row ∷ rest) = if bytes_eq text row.0 then Some row.1 else look
 -- the words of statements
 abbrev pub statement_words : Spellings
 statement_words =
-    (codes "let", s.Let) ∷ (codes "emit", s.Emit) ∷ (codes "fail", s.Fail) ∷ (codes "if", s.If) ∷ (codes "else", s.Else)
-    ∷ (codes "for", s.For) ∷ (codes "in", s.In) ∷ []
+    (codes "let", s.Let)
+    ∷ (codes "emit", s.Emit)
+    ∷ (codes "fail", s.Fail)
+    ∷ (codes "if", s.If)
+    ∷ (codes "else", s.Else)
+    ∷ (codes "for", s.For)
+    ∷ (codes "in", s.In) ∷ []
 
 -- the words of expressions
 abbrev pub expression_words : Spellings
 expression_words =
-    (codes "and", s.And) ∷ (codes "or", s.Or) ∷ (codes "not", s.Not) ∷ (codes "true", s.True) ∷ (codes "false", s.False)
-    ∷ (codes "len", s.Len) ∷ (codes "str", s.Str) ∷ []
+    (codes "and", s.And)
+    ∷ (codes "or", s.Or)
+    ∷ (codes "not", s.Not)
+    ∷ (codes "true", s.True)
+    ∷ (codes "false", s.False)
+    ∷ (codes "len", s.Len)
+    ∷ (codes "str", s.Str) ∷ []
 
 -- the words of kinds
 abbrev pub kind_words : Spellings
 kind_words =
-    (codes "bool", s.Bool) ∷ (codes "counter", s.Counter) ∷ (codes "text", s.Text) ∷ (codes "set", s.Set)
-    ∷ (codes "hash", s.Hash) ∷ (codes "list", s.List) ∷ (codes "peak", s.Peak) ∷ []
+    (codes "bool", s.Bool)
+    ∷ (codes "counter", s.Counter)
+    ∷ (codes "text", s.Text)
+    ∷ (codes "set", s.Set)
+    ∷ (codes "hash", s.Hash)
+    ∷ (codes "list", s.List)
+    ∷ (codes "peak", s.Peak) ∷ []
 
 -- the marks of two bytes
 abbrev pub long_marks : Spellings
-long_marks = (codes "==", s.Equal) ∷ (codes "!=", s.Unequal) ∷ (codes "<=", s.AtMost) ∷ (codes ">=", s.AtLeast) ∷ []
+long_marks =
+    (codes "==", s.Equal)
+    ∷ (codes "!=", s.Unequal)
+    ∷ (codes "<=", s.AtMost)
+    ∷ (codes ">=", s.AtLeast) ∷ []
 
 -- the marks of one byte
 abbrev pub short_marks : Spellings
 short_marks =
-    (codes "<", s.Less) ∷ (codes ">", s.Greater) ∷ (codes "=", s.Assign) ∷ (codes "+", s.Plus) ∷ (codes "-", s.Minus)
-    ∷ (codes "*", s.Times) ∷ (codes "(", s.OpenParen) ∷ (codes ")", s.CloseParen) ∷ (codes "[", s.OpenBracket)
-    ∷ (codes "]", s.CloseBracket) ∷ (codes "{", s.OpenBrace) ∷ (codes "}", s.CloseBrace) ∷ (codes ",", s.Comma)
-    ∷ (codes ";", s.Semicolon) ∷ (codes ".", s.Dot) ∷ []
+    (codes "<", s.Less)
+    ∷ (codes ">", s.Greater)
+    ∷ (codes "=", s.Assign)
+    ∷ (codes "+", s.Plus)
+    ∷ (codes "-", s.Minus)
+    ∷ (codes "*", s.Times)
+    ∷ (codes "(", s.OpenParen)
+    ∷ (codes ")", s.CloseParen)
+    ∷ (codes "[", s.OpenBracket)
+    ∷ (codes "]", s.CloseBracket)
+    ∷ (codes "{", s.OpenBrace)
+    ∷ (codes "}", s.CloseBrace)
+    ∷ (codes ",", s.Comma)
+    ∷ (codes ";", s.Semicolon)
+    ∷ (codes ".", s.Dot) ∷ []
 
 abbrev pub or_else : Option Symbol → Option Symbol → Option Symbol
 or_else (Some symbol) other = Some symbol
