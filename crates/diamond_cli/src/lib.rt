@@ -12,3 +12,5 @@ mod words;
 pub use top::{BAD_WORDS, diamond};
 pub use words::USAGE;
 
+#[cfg(test)]
+mod tests;

@@ -14,3 +14,6 @@ pub use boxed::Boxed;
 pub use copies::ExactClone;
 pub use ordered_map::OrderedMap;
 pub use sequence::{Sequence, Text};
+
+#[cfg(test)]
+mod tests;

@@ -20,3 +20,6 @@ pub use operation::WriteOp;
 pub use outcome::{Item, ItemList, Outcome};
 pub use settings::Settings;
 pub use value::{Value, default_value};
+
+#[cfg(test)]
+mod tests;

@@ -1,8 +1,9 @@
 //! A script: its lines are read, done and answered, one after another.
 
-ghost use Rattle.std.specs.Prelude.{◌≡◌, ◌==◌, ◌⊎◌, [], ◌∷◌, OnOk, IfSome, IsTrue};
+ghost use Rattle.std.specs.Prelude.{◌≡◌, ◌≤◌, ◌==◌, ◌⊎◌, ℕ, List, [], ◌∷◌, length, Some, OnOk, IfSome, IsTrue};
 ghost use Rattle.std.specs.List.{list_any};
 ghost use Rattle.dio_core.specs.Counts.{Grows, Rose};
+ghost use Rattle.dio_core.specs.Lines.{lines};
 ghost use Rattle.script_runner.specs.Worlds.{Keeps};
 ghost use Rattle.script_runner.specs.Play.{play};
 ghost use Rattle.script_runner.specs.Script.{Turns, Ran, IsPlayed, IsBrokenOff, IsTooLong, TookFront};
@@ -96,6 +97,11 @@ pub fn run_script<S: Source, W: Sink>(
     ensures write_fault { result ≡ WRITE_FAULT → Rose (W.write_faults sink.old) (W.write_faults sink.new) }
     ensures reads { Grows (S.read_faults source.old) (S.read_faults source.new) }
     ensures writes { Grows (W.write_faults sink.old) (W.write_faults sink.new) }
+
+    // An input of no more lines than may be read, and over which no count rose, is played to its end, memory aside.
+    ensures completes { (bytes : List ℕ) → S.left source.old ≡ Some bytes → length (lines bytes) ≤ MOST_LINES
+        → ¬ (Rose (S.read_faults source.old) (S.read_faults source.new)) → ¬ (Rose (W.write_faults sink.old) (W.write_faults sink.new))
+        → (result ≡ WHOLE) ⊎ (result ≡ NO_MEMORY) }
     ensures statuses { IsTrue (list_any (λ s. s == result) (WHOLE ∷ READ_FAULT ∷ WRITE_FAULT ∷ NO_MEMORY ∷ TOO_LONG ∷ [])) }
 {
     match run_lines(alloc, settings.limit, source, sink) {

@@ -1,6 +1,6 @@
 -- Errors of the early reader.
-use Rattle.txn_grammar.specs.declared.stop.ReadError.{ReadError}
-use Rattle.txn_grammar.specs.declared.stop.ReadError.TheVariants as read
+use Rattle.txn_grammar.specs.declared.error.ReadError.{ReadError}
+use Rattle.txn_grammar.specs.declared.error.ReadError.TheVariants as read
 use Rattle.txn_lang.specs.declared.early.EarlyError.{EarlyError}
 use Rattle.txn_lang.specs.declared.early.EarlyError.TheVariants as early
 
