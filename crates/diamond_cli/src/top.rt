@@ -1,17 +1,18 @@
 //! The top call.
 
-ghost use Rattle.std.specs.Prelude.{◌≡◌, ◌≢◌, ◌==◌, ◌⊎◌, ◌↔◌, [], ◌∷◌, IfSome, IsTrue, false, map};
+ghost use Rattle.std.specs.Prelude.{◌≡◌, ◌≢◌, ◌≤◌, ◌==◌, ◌⊎◌, ◌↔◌, ℕ, List, [], ◌∷◌, length, Some, IfSome, IsTrue, true, false, map};
 ghost use Rattle.std.specs.List.{list_any};
 ghost use Rattle.dio_core.specs.Counts.{Rose};
+ghost use Rattle.dio_core.specs.Lines.{lines};
 ghost use Rattle.txn_lang.specs.Journals.{IsLegal};
 ghost use Rattle.script_runner.specs.Play.{play};
-ghost use Rattle.script_runner.specs.Script.{IsPlayed, IsBrokenOff, IsTooLong, TookFront};
+ghost use Rattle.script_runner.specs.Script.{IsPlayed, IsBrokenOff, IsTooLong, IsCutOff};
 ghost use Rattle.diamond_cli.specs.Words.{is_run, standard_limit};
 
 use crate::words::is_run;
 use dio_core::{Disk, Listener, Sink, Source};
 use rdt_types::Settings;
-use script_runner::{NO_MEMORY, READ_FAULT, TOO_LONG, WHOLE, WRITE_FAULT, run_script};
+use script_runner::{MOST_LINES, NO_MEMORY, READ_FAULT, TOO_LONG, WHOLE, WRITE_FAULT, run_script};
 use std::alloc::Global;
 
 /// The status where the words are not of the form.
@@ -43,7 +44,7 @@ pub fn diamond<S: Source, W: Sink, D: Disk, N: Listener>(
     ensures too_long { result ≡ TOO_LONG → IfSome (S.left source.old) (λ bytes. IsTooLong standard_limit bytes (S.left source.new) (W.taken sink.old) (W.taken sink.new)) }
 
     // At 4 and 5 it took a front of the output.
-    ensures front { (result ≡ WRITE_FAULT) ⊎ (result ≡ NO_MEMORY) → IfSome (S.left source.old) (λ bytes. TookFront standard_limit bytes (W.taken sink.old) (W.taken sink.new)) }
+    ensures front { (result ≡ WRITE_FAULT) ⊎ (result ≡ NO_MEMORY) → IfSome (S.left source.old) (λ bytes. IsCutOff standard_limit bytes (S.left source.new) (W.taken sink.old) (W.taken sink.new)) }
 
     // The journal of the script is legal: each commit is what its body does on the state of those before it.
     ensures legal { result ≢ BAD_WORDS → IfSome (S.left source.old) (λ bytes. IsLegal 0 (play standard_limit bytes).journal) }
@@ -51,6 +52,12 @@ pub fn diamond<S: Source, W: Sink, D: Disk, N: Listener>(
     // A fault has its cause in this call.
     ensures read_fault { result ≡ READ_FAULT → Rose (S.read_faults source.old) (S.read_faults source.new) }
     ensures write_fault { result ≡ WRITE_FAULT → Rose (W.write_faults sink.old) (W.write_faults sink.new) }
+    // Where the words are of the form, an input of no more lines than may be read, and over which no count rose, is
+    // played to its end, memory aside.
+    ensures completes { (bytes : List ℕ) → is_run (map (λ word. word.now) words.now) ≡ true → S.left source.old ≡ Some bytes
+        → length (lines bytes) ≤ MOST_LINES
+        → ¬ (Rose (S.read_faults source.old) (S.read_faults source.new)) → ¬ (Rose (W.write_faults sink.old) (W.write_faults sink.new))
+        → (result ≡ WHOLE) ⊎ (result ≡ NO_MEMORY) }
     ensures statuses { IsTrue (list_any (λ s. s == result) (WHOLE ∷ BAD_WORDS ∷ READ_FAULT ∷ WRITE_FAULT ∷ NO_MEMORY ∷ TOO_LONG ∷ [])) }
 {
     if !is_run(words) {

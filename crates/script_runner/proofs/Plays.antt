@@ -1,5 +1,6 @@
 -- Many lines of a script.
-use Rattle.std.proofs.Common.{◌≡◌, ℕ, ◌+◌, ◌≤◌, ◌<◌, true, false, List, [], ◌∷◌, ◌++◌, length, Option, Some, None, Ok, Err, refl, sym, ap, ◌∙◌, subst, arith, append_assoc, length-append, fold}
+use Rattle.std.proofs.Common.{◌≡◌, ℕ, ◌+◌, ◌≤◌, ◌<◌, true, false, List, [], ◌∷◌, ◌++◌, length, Option, Some, None, Ok, Err, refl, sym, ap, ◌∙◌, subst, arith, append_assoc, length-append, fold, ◌⊎◌, inl, inr}
+use Rattle.std.specs.Prelude.{IfSome}
 use Rattle.std.proofs.lemmas.List.{append-nil}
 use Rattle.std.proofs.lemmas.List.Sums.{fold-append}
 use Rattle.dio_core.specs.declared.line.Line.{Line}
@@ -15,7 +16,7 @@ use Rattle.script_runner.specs.declared.stop.Stop.{Stop}
 use Rattle.script_runner.specs.declared.stop.Stop.TheVariants as stop
 use Rattle.script_runner.specs.declared.stop.TheConstants.{MOST_LINES}
 use Rattle.script_runner.specs.Play.{Played, played, play, nothing_played, one_more, answer_raw}
-use Rattle.script_runner.specs.Script.{Told, DoesLine, BeginsLine, Turns, HasPlayed, PlaysOn, IsPlayed, IsBrokenOff, IsTooLong, TookFront, Ran}
+use Rattle.script_runner.specs.Script.{Told, DoesLine, BeginsLine, Turns, HasPlayed, PlaysOn, IsPlayed, IsBrokenOff, IsTooLong, IsCutOff, ReadsLine, Ran}
 use Rattle.script_runner.proofs.Turns.{with_back-twice}
 
 -- one more line, played after the others
@@ -66,41 +67,58 @@ module _ (limit : ℕ) where
   plays-more (Some all) (Some rest) (Some rest_then) old new taken took took_then n past turn = more_played all rest rest_then old new taken took took_then n past turn
 
   -- the output of lines is a front of that of the whole input
-  front_of : (all : Text) (raws more : List Text) (took taken : Told) (text : Text) → lines all ≡ raws ++ more
-      → with_back took text ≡ with_back taken (played limit raws).output → TookFront limit all taken took
-  front_of all raws more took taken text read output =
-      let rest = played-grows limit raws more in
+  cut_off : (all : Text) (raws : List Text) (rest : Text) (left took taken : Told) (text : Text)
+      → lines all ≡ raws ++ lines rest → length raws ≤ MOST_LINES → (left ≡ Some rest) ⊎ BreaksOff (Some rest) left
+      → with_back took text ≡ with_back taken (played limit raws).output → IsCutOff limit all left taken took
+  cut_off all raws rest left took taken text read few place output =
+      let more = played-grows limit raws (lines rest) in
       record {
-        more = text ++ rest.0;
+        raws = raws;
+        rest = rest;
+        read = read;
+        few = few;
+        place = place;
+        more = text ++ more.0;
         output =
-            sym (with_back-twice took text rest.0)
-            ∙ (ap (λ t. with_back t rest.0) output
-            ∙ (with_back-twice taken (played limit raws).output rest.0
-            ∙ ap (with_back taken) (sym rest.1 ∙ sym (ap (λ ls. (played limit ls).output) read))));
+          sym (with_back-twice took text more.0)
+          ∙ (ap (λ t. with_back t more.0) output
+          ∙ (with_back-twice taken (played limit raws).output more.0
+          ∙ ap (with_back taken) (sym more.1 ∙ sym (ap (λ ls. (played limit ls).output) read))));
       }
 
   -- a line whose reply was begun
-  begun_front : (all rest : Text) (old : Journal) (taken took took_then : Told) (n : ℕ)
-      → HasPlayed limit all rest old taken took n → BeginsLine limit rest old took took_then → TookFront limit all taken took_then
-  begun_front all rest old taken took took_then n past line =
+  begun_front : (all rest : Text) (old : Journal) (left taken took took_then : Told) (n : ℕ) → n < MOST_LINES
+      → HasPlayed limit all rest old taken took n → BeginsLine limit rest left old took took_then → IsCutOff limit all left taken took_then
+  begun_front all rest old left taken took took_then n few past begun =
       let out = (played limit past.raws).output in
+      let line = begun.line in
       let reply = (answer_raw limit old line.raw).1 in
-      front_of all (past.raws ++ line.raw ∷ []) (lines line.rest) took_then taken line.more
-      (past.read ∙ (ap (λ ls. past.raws ++ ls) line.read ∙ sym (append_assoc past.raws (line.raw ∷ []) (lines line.rest))))
-      (line.output
-      ∙ (ap (λ t. with_back t reply) past.output
-      ∙ (with_back-twice taken out reply
-      ∙ ap (with_back taken) (ap (λ j. out ++ (answer_raw limit j line.raw).1) past.made ∙ sym (ap (λ (p : Played). p.output) (played-push limit past.raws line.raw))))))
+      cut_off all (past.raws ++ line.raw ∷ []) line.rest left took_then taken begun.more
+        (past.read ∙ (ap (λ ls. past.raws ++ ls) line.read ∙ sym (append_assoc past.raws (line.raw ∷ []) (lines line.rest))))
+        (omega (arith, length-append past.raws (line.raw ∷ []), past.many))
+        (inl line.behind)
+        (begun.output
+          ∙ (ap (λ t. with_back t reply) past.output
+          ∙ (with_back-twice taken out reply
+          ∙ ap (with_back taken) (ap (λ j. out ++ (answer_raw limit j line.raw).1) past.made ∙ sym (ap (λ (p : Played). p.output) (played-push limit past.raws line.raw))))))
 
   with_back-nothing : (t : Told) → with_back t [] ≡ t
   with_back-nothing None = refl
   with_back-nothing (Some taken) = ap (λ xs. Some xs) (append-nil taken)
 
-  -- nothing more was written
-  same_front : (all rest : Text) (old : Journal) (taken took took_then : Told) (n : ℕ)
-      → HasPlayed limit all rest old taken took n → took_then ≡ took → TookFront limit all taken took_then
-  same_front all rest old taken took took_then n past same =
-      front_of all past.raws (lines rest) took_then taken [] past.read (with_back-nothing took_then ∙ (same ∙ past.output))
+  -- a line was begun, and nothing more was written
+  broken_front : (all rest : Text) (old : Journal) (left taken took took_then : Told) (n : ℕ) → n ≤ MOST_LINES
+      → HasPlayed limit all rest old taken took n → BreaksOff (Some rest) left → took_then ≡ took → IsCutOff limit all left taken took_then
+  broken_front all rest old left taken took took_then n few past broken same =
+      cut_off all past.raws rest left took_then taken [] past.read (omega (arith, past.many)) (inr broken) (with_back-nothing took_then ∙ (same ∙ past.output))
+
+  -- there was no memory in a line, or for what it does
+  wanting_front : (all rest : Text) (old : Journal) (left taken took took_then : Told) (n : ℕ) → n < MOST_LINES
+      → HasPlayed limit all rest old taken took n → BreaksOff (Some rest) left ⊎ ReadsLine rest left → took_then ≡ took → IsCutOff limit all left taken took_then
+  wanting_front all rest old left taken took took_then n few past (inl broken) same = broken_front all rest old left taken took took_then n (omega arith) past broken same
+  wanting_front all rest old left taken took took_then n few past (inr line) same =
+      let reply = (answer_raw limit old line.raw).1 in
+      begun_front all rest old left taken took took_then n few past (record { line = line; more = reply; output = ap (λ t. with_back t reply) same })
 
   broken_off : (all rest : Text) (old : Journal) (left taken took took_then : Told) (n : ℕ) → n ≤ MOST_LINES
       → HasPlayed limit all rest old taken took n → BreaksOff (Some rest) left → took_then ≡ took → IsBrokenOff limit all left taken took_then
@@ -113,15 +131,15 @@ module _ (limit : ℕ) where
     output = same ∙ past.output;
   }
 
-  stopped : (all rest : Text) (old new : Journal) (left taken took took_then : Told) (n : ℕ) → n ≤ MOST_LINES
+  stopped : (all rest : Text) (old new : Journal) (left taken took took_then : Told) (n : ℕ) → n < MOST_LINES
       → HasPlayed limit all rest old taken took n → (e : Stop) → Turns limit (Err e) (Some rest) left old new took took_then → Ran limit (Err e) (Some all) left taken took_then
-  stopped all rest old new left taken took took_then n few past stop.ReadFault turn = broken_off all rest old left taken took took_then n few past turn.0 turn.1
-  stopped all rest old new left taken took took_then n few past stop.WriteFault turn = begun_front all rest old taken took took_then n past turn
-  stopped all rest old new left taken took took_then n few past stop.NoMemory turn = same_front all rest old taken took took_then n past turn
+  stopped all rest old new left taken took took_then n few past stop.ReadFault turn = broken_off all rest old left taken took took_then n (omega arith) past turn.0 turn.1
+  stopped all rest old new left taken took took_then n few past stop.WriteFault turn = begun_front all rest old left taken took took_then n few past turn
+  stopped all rest old new left taken took took_then n few past stop.NoMemory turn = wanting_front all rest old left taken took took_then n few past turn.0 turn.1
   stopped all rest old new left taken took took_then n few past stop.TooManyLines turn = absurd turn
 
   -- a turn that stopped
-  pub plays-stopped : (left now now_then : Told) (old new : Journal) (taken took took_then : Told) (n : ℕ) → n ≤ MOST_LINES
+  pub plays-stopped : (left now now_then : Told) (old new : Journal) (taken took took_then : Told) (n : ℕ) → n < MOST_LINES
       → PlaysOn limit left now old taken took n → (e : Stop) → Turns limit (Err e) now now_then old new took took_then → Ran limit (Err e) left now_then taken took_then
   plays-stopped None now now_then old new taken took took_then n few past e turn = tt
   plays-stopped (Some all) None now_then old new taken took took_then n few past e turn = absurd past
@@ -131,10 +149,20 @@ module _ (limit : ℕ) where
   unread : (all rest : Text) (journal : Journal) (left taken took : Told) (n : ℕ) → n ≤ MOST_LINES
       → HasPlayed limit all rest journal taken took n → BreaksOff (Some rest) left → (f : LineFault) → Ran limit (Err (stop_of f)) (Some all) left taken took
   unread all rest journal left taken took n few past broken fault.ReadFault = broken_off all rest journal left taken took took n few past broken refl
-  unread all rest journal left taken took n few past broken fault.NoMemory = same_front all rest journal taken took took n past refl
+  unread all rest journal left taken took n few past broken fault.NoMemory = broken_front all rest journal left taken took took n few past broken refl
 
   pub plays-unread : (left now now_then : Told) (journal : Journal) (taken took : Told) (n : ℕ) → n ≤ MOST_LINES
       → PlaysOn limit left now journal taken took n → BreaksOff now now_then → (f : LineFault) → Ran limit (Err (stop_of f)) left now_then taken took
   plays-unread None now now_then journal taken took n few past broken f = tt
   plays-unread (Some all) None now_then journal taken took n few past broken f = absurd past
   plays-unread (Some all) (Some rest) now_then journal taken took n few past broken f = unread all rest journal now_then taken took n few past broken f
+
+-- the whole output is a front of itself
+pub played_cut_off : (limit : ℕ) (all : Text) (left taken took : Told) → IsPlayed limit all left taken took → IsCutOff limit all left taken took
+played_cut_off limit all left taken took whole =
+    cut_off limit all (lines all) [] left took taken [] (sym (append-nil (lines all))) whole.few (inl whole.whole) (with_back-nothing limit took ∙ whole.output)
+
+pub played_is_cut_off : (limit : ℕ) (old left taken took : Told)
+    → IfSome old (λ all. IsPlayed limit all left taken took) → IfSome old (λ all. IsCutOff limit all left taken took)
+played_is_cut_off limit None left taken took whole = tt
+played_is_cut_off limit (Some all) left taken took whole = played_cut_off limit all left taken took whole

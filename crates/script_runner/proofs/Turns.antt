@@ -38,11 +38,17 @@ module _ (limit : ℕ) (all rest : Text) (old new : Journal) (reply : Text) (tak
       ∙ ap (with_back taken) (sym (ap (λ (k : Line). (answer limit old k).1) is ∙ ap (λ (p : Journal × Text). p.1) answered))))
 
   begins : (l : Line) → TakesLine l (Some all) (Some rest) → IsShort l → (l ≡ line.End → ⊥) → answer limit old l ≡ (new, reply)
-      → BeginsLine limit all old taken taken_then
-  begins (line.Bytes bytes) takes short some answered =
-      record { raw = bytes; rest = rest; read = takes.0; more = drop front.0 reply; output = begun bytes (line.Bytes bytes) (line_of-short bytes short) answered }
-  begins line.TooLong takes short some answered =
-      record { raw = takes.0; rest = rest; read = takes.2.0; more = drop front.0 reply; output = begun takes.0 line.TooLong (line_of-long takes.0 takes.1) answered }
+      → BeginsLine limit all (Some rest) old taken taken_then
+  begins (line.Bytes bytes) takes short some answered = record {
+    line = record { raw = bytes; rest = rest; read = takes.0; behind = refl };
+    more = drop front.0 reply;
+    output = begun bytes (line.Bytes bytes) (line_of-short bytes short) answered;
+  }
+  begins line.TooLong takes short some answered = record {
+    line = record { raw = takes.0; rest = rest; read = takes.2.0; behind = refl };
+    more = drop front.0 reply;
+    output = begun takes.0 line.TooLong (line_of-long takes.0 takes.1) answered;
+  }
   begins line.End takes short some answered = absurd (some refl)
 
 -- a line whose reply was not written whole

@@ -1,5 +1,5 @@
 -- What a run of a script has read and written when it ends, or when it stops before.
-use Rattle.std.specs.Prelude.{◌≡◌, ℕ, ◌<◌, ◌≤◌, ◌+◌, Bool, true, false, List, [], ◌∷◌, ◌++◌, length, Option, Some, None, IfSome, Result, Ok, Err}
+use Rattle.std.specs.Prelude.{◌≡◌, ℕ, ◌<◌, ◌≤◌, ◌+◌, ◌⊎◌, Bool, true, false, List, [], ◌∷◌, ◌++◌, length, Option, Some, None, IfSome, Result, Ok, Err}
 use Rattle.dio_core.specs.Lines.{lines, BreaksOff}
 use Rattle.dio_core.specs.Sinks.{with_back}
 use Rattle.txn_grammar.specs.Characters.{Text}
@@ -22,13 +22,18 @@ pub record DoesLine (limit : ℕ) (all rest : Text) (old new : Journal) (taken t
   pub journal : new ≡ (answer_raw limit old raw).0
   pub output : taken_then ≡ with_back taken (answer_raw limit old raw).1
 
--- One line was read, and a front of its reply was written.
-pub record BeginsLine (limit : ℕ) (all : Text) (old : Journal) (taken taken_then : Told) : Type 0 where
+-- One line was read.
+pub record ReadsLine (all : Text) (left : Told) : Type 0 where
   pub raw : Text
   pub rest : Text
   pub read : lines all ≡ raw ∷ lines rest
+  pub behind : left ≡ Some rest
+
+-- One line was read, and a front of its reply was written.
+pub record BeginsLine (limit : ℕ) (all : Text) (left : Told) (old : Journal) (taken taken_then : Told) : Type 0 where
+  pub line : ReadsLine all left
   pub more : Text
-  pub output : with_back taken_then more ≡ with_back taken (answer_raw limit old raw).1
+  pub output : with_back taken_then more ≡ with_back taken (answer_raw limit old line.raw).1
 
 abbrev pub DoesLineOn : ℕ → Text → Told → Journal → Journal → Told → Told → Type 0
 DoesLineOn limit all None old new taken taken_then = ⊥
@@ -39,8 +44,8 @@ abbrev pub TurnsOn : ℕ → Result Bool Stop → Text → Told → Journal → 
 TurnsOn limit (Ok true) all left old new taken taken_then = DoesLineOn limit all left old new taken taken_then
 TurnsOn limit (Ok false) all left old new taken taken_then = (all ≡ []) × (left ≡ Some []) × (taken_then ≡ taken)
 TurnsOn limit (Err stop.ReadFault) all left old new taken taken_then = BreaksOff (Some all) left × (taken_then ≡ taken)
-TurnsOn limit (Err stop.WriteFault) all left old new taken taken_then = BeginsLine limit all old taken taken_then
-TurnsOn limit (Err stop.NoMemory) all left old new taken taken_then = taken_then ≡ taken
+TurnsOn limit (Err stop.WriteFault) all left old new taken taken_then = BeginsLine limit all left old taken taken_then
+TurnsOn limit (Err stop.NoMemory) all left old new taken taken_then = (BreaksOff (Some all) left ⊎ ReadsLine all left) × (taken_then ≡ taken)
 TurnsOn limit (Err stop.TooManyLines) all left old new taken taken_then = ⊥
 
 abbrev pub Turns : ℕ → Result Bool Stop → Told → Told → Journal → Journal → Told → Told → Type 0
@@ -92,8 +97,13 @@ pub record IsTooLong (limit : ℕ) (all : Text) (left taken taken_then : Told) :
   pub behind : left ≡ Some rest
   pub output : taken_then ≡ with_back taken (played limit raws).output
 
--- What was taken is a front of the whole output.
-pub record TookFront (limit : ℕ) (all : Text) (taken taken_then : Told) : Type 0 where
+-- No line behind the last one that may be read was read, and what was taken is a front of the whole output.
+pub record IsCutOff (limit : ℕ) (all : Text) (left taken taken_then : Told) : Type 0 where
+  pub raws : List Text
+  pub rest : Text
+  pub read : lines all ≡ raws ++ lines rest
+  pub few : length raws ≤ MOST_LINES
+  pub place : (left ≡ Some rest) ⊎ BreaksOff (Some rest) left
   pub more : Text
   pub output : with_back taken_then more ≡ with_back taken (play limit all).output
 
@@ -101,8 +111,8 @@ abbrev pub RanOn : ℕ → Result (Unit {0}) Stop → Text → Told → Told →
 RanOn limit (Ok done) all left taken taken_then = IsPlayed limit all left taken taken_then
 RanOn limit (Err stop.ReadFault) all left taken taken_then = IsBrokenOff limit all left taken taken_then
 RanOn limit (Err stop.TooManyLines) all left taken taken_then = IsTooLong limit all left taken taken_then
-RanOn limit (Err stop.WriteFault) all left taken taken_then = TookFront limit all taken taken_then
-RanOn limit (Err stop.NoMemory) all left taken taken_then = TookFront limit all taken taken_then
+RanOn limit (Err stop.WriteFault) all left taken taken_then = IsCutOff limit all left taken taken_then
+RanOn limit (Err stop.NoMemory) all left taken taken_then = IsCutOff limit all left taken taken_then
 
 -- what a run did, of a source that may not tell
 abbrev pub Ran : ℕ → Result (Unit {0}) Stop → Told → Told → Told → Told → Type 0

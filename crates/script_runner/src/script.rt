@@ -6,7 +6,7 @@ ghost use Rattle.dio_core.specs.Counts.{Grows, Rose};
 ghost use Rattle.dio_core.specs.Lines.{lines};
 ghost use Rattle.script_runner.specs.Worlds.{Keeps};
 ghost use Rattle.script_runner.specs.Play.{play};
-ghost use Rattle.script_runner.specs.Script.{Turns, Ran, IsPlayed, IsBrokenOff, IsTooLong, TookFront};
+ghost use Rattle.script_runner.specs.Script.{Turns, Ran, IsPlayed, IsBrokenOff, IsTooLong, IsCutOff};
 ghost use Rattle.txn_lang.specs.Journals.{IsLegal};
 
 use crate::lines::answer;
@@ -74,7 +74,7 @@ fn run_lines<S: Source, W: Sink>(
 ///
 /// 0: the input was read to its end. 3: a read failed. 4: a write failed. 5: there was no memory. 9: there is a line
 /// behind the last one that may be read.
-#[tactic(auto, using(crate::proofs::Legality::played_is_legal))]
+#[tactic(auto, using(crate::proofs::Legality::played_is_legal, crate::proofs::Plays::played_is_cut_off))]
 pub fn run_script<S: Source, W: Sink>(
     alloc: Global,
     settings: &Settings,
@@ -90,7 +90,7 @@ pub fn run_script<S: Source, W: Sink>(
     ensures too_long { result ≡ TOO_LONG → IfSome (S.left source.old) (λ bytes. IsTooLong settings.now.limit bytes (S.left source.new) (W.taken sink.old) (W.taken sink.new)) }
 
     // At 4 and 5 a front of the output was taken.
-    ensures front { (result ≡ WRITE_FAULT) ⊎ (result ≡ NO_MEMORY) → IfSome (S.left source.old) (λ bytes. TookFront settings.now.limit bytes (W.taken sink.old) (W.taken sink.new)) }
+    ensures front { (result ≡ WRITE_FAULT) ⊎ (result ≡ NO_MEMORY) → IfSome (S.left source.old) (λ bytes. IsCutOff settings.now.limit bytes (S.left source.new) (W.taken sink.old) (W.taken sink.new)) }
 
     // A fault has its cause in this call.
     ensures read_fault { result ≡ READ_FAULT → Rose (S.read_faults source.old) (S.read_faults source.new) }
