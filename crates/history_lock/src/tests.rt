@@ -1,0 +1,167 @@
+ghost use Rattle.std.specs.Prelude.{◌≡◌, [], None};
+ghost use mathlib.Core.List.{IsPrefix};
+
+use super::*;
+use std::alloc::{AllocError, Global};
+use std::marker::Brand;
+use std::process::Abort;
+use std::sync::Wait;
+use std::test::*;
+use std::thread::{Threads, join};
+
+/// A list of authors' numbers, in which every entry may follow, and a count.
+#[derive(Drop)]
+struct Roll {
+    entries: Vec<u32>,
+    count: u64,
+}
+
+impl Stands for Roll {
+    type Entry = u32;
+
+    ghost list = { λ r. r.entries.items };
+
+    ghost tally = { λ r. r.count };
+
+    ghost names = { λ e. e };
+
+    ghost may_follow = { λ _ _ _. Unit {0} };
+
+    fn entries(&self) -> u64 {
+        self.entries.len() as u64
+    }
+
+    fn count(&self) -> u64 {
+        self.count
+    }
+}
+
+fn empty_roll(alloc: Global) -> Roll
+    ensures { result.entries.items ≡ [] }
+{
+    Roll {
+        entries: Vec::new(alloc),
+        count: 0,
+    }
+}
+
+/// The author adds its number.
+fn add<N: Naming, R: Wait>(
+    rt: &R,
+    lock: &HistoryLock<Roll, N>,
+    author: &mut Author<Roll, N>,
+) -> Result<(), AllocError>
+    ensures { IsPrefix author.old.front.seen author.new.front.seen }
+{
+    let mut guard = lock.enter(rt, &mut author.front);
+    let done = guard.value.entries.push(author.number);
+    lock.leave(rt, &mut author.front, guard);
+    match done {
+        Ok(()) => Ok(()),
+        Err(_) => Err(AllocError),
+    }
+}
+
+/// The author raises the count to 1.
+fn raise<N: Naming, R: Wait>(rt: &R, lock: &HistoryLock<Roll, N>, author: &mut Author<Roll, N>) {
+    let mut guard = lock.enter(rt, &mut author.front);
+    if guard.value.count < 1 {
+        guard.value.count = 1;
+    }
+    lock.leave(rt, &mut author.front, guard);
+}
+
+fn author_of<N: Naming, R: Abort>(
+    rt: &R,
+    lock: &HistoryLock<Roll, N>,
+    front: Front<Roll, N>,
+) -> Author<Roll, N>
+    requires { front.author ≡ None }
+{
+    match lock.draw_author(front) {
+        Drawn::Author(author) => author,
+        Drawn::Spent(_, _) => panic!(rt; "no number is left"),
+    }
+}
+
+#[test]
+fn calls_of_two_authors(rt: HostRuntime) -> Result<(), Fail> {
+    let opened = Opened::new(rt.alloc(), empty_roll(rt.alloc()), 0)?;
+    two_authors::<Brand, _>(&rt, opened)
+}
+
+fn two_authors<N: Naming, R: Wait + Abort>(rt: &R, opened: Opened<Roll>) -> Result<(), Fail>
+    requires named { (opened.table ≡ N.table) × (opened.first ≡ N.first) × (opened.base ≡ N.base) }
+{
+    let (lock, mut front) = opened.named::<N>();
+    assert_eq!(rt; lock.length(&mut front), 0);
+    let other = lock.split(&mut front);
+    let mut zero = author_of(rt, &lock, other);
+    let other = lock.split(&mut front);
+    let mut one = author_of(rt, &lock, other);
+    assert_eq!(rt; (zero.number, one.number), (0, 1));
+
+    let early = lock.split(&mut zero.front);
+    add(rt, &lock, &mut zero)?;
+    assert_eq!(rt; lock.length(&mut one.front), 1);
+    let mut late = lock.split(&mut zero.front);
+    lock.meet(&mut late, early);
+    assert_eq!(rt; lock.length(&mut late), 1);
+
+    raise(rt, &lock, &mut one);
+    assert_eq!(rt; zero.front.count(), 0);
+    let told = lock.split(&mut one.front);
+    lock.meet(&mut zero.front, told);
+    assert_eq!(rt; zero.front.count(), 1);
+    let roll = lock.close(rt, zero.front);
+    assert_eq!(rt; roll.entries.as_slice(), [0].as_slice());
+    Ok(())
+}
+
+/// How many entries each of two threads adds.
+const ADDED: usize = 1_000;
+
+#[test]
+fn two_threads_add_entries(rt: HostRuntime) -> Result<(), Fail> {
+    let opened = Opened::new(rt.alloc(), empty_roll(rt.alloc()), 0)?;
+    two_threads::<Brand, _>(&rt, opened)
+}
+
+fn add_many<N: Naming, R: Wait>(
+    rt: &R,
+    lock: &HistoryLock<Roll, N>,
+    mut author: Author<Roll, N>,
+) -> Result<Author<Roll, N>, AllocError> {
+    for _ in 0..ADDED {
+        add(rt, lock, &mut author)?;
+    }
+    Ok(author)
+}
+
+fn two_threads<N: Naming + Send + Sync, R: Threads + Wait + Abort + Sync>(
+    rt: &R,
+    opened: Opened<Roll>,
+) -> Result<(), Fail>
+    requires named { (opened.table ≡ N.table) × (opened.first ≡ N.first) × (opened.base ≡ N.base) }
+    requires author { opened.front.author ≡ None }
+{
+    let (lock, mut front) = opened.named::<N>();
+    let other = lock.split(&mut front);
+    let zero = author_of(rt, &lock, other);
+    let one = author_of(rt, &lock, front);
+    let (zero, one) = join(
+        rt,
+        || add_many(rt, &lock, zero),
+        || add_many(rt, &lock, one),
+    );
+    let _ = zero?;
+    let roll = lock.close(rt, one?.front);
+    assert_eq!(rt; roll.entries.len(), 2 * ADDED);
+    for number in [0, 1] {
+        assert_eq!(rt;
+            roll.entries.iter().filter(|n| **n == number).count(),
+            ADDED
+        );
+    }
+    Ok(())
+}
