@@ -65,7 +65,7 @@ module _ {E : Type 0} where
       by false = p
 
   -- the longer of two lists is no shorter than either
-  pub longer-length : (xs ys : List E) → (length xs ≤ length (longer xs ys)) × (length ys ≤ length (longer xs ys))
+  longer-length : (xs ys : List E) → (length xs ≤ length (longer xs ys)) × (length ys ≤ length (longer xs ys))
   longer-length xs ys = by (ltb (length xs) (length ys)) refl
     where
       by : (t : Bool) → ltb (length xs) (length ys) ≡ t → (length xs ≤ length (longer xs ys)) × (length ys ≤ length (longer xs ys))
@@ -86,7 +86,7 @@ module _ {E : Type 0} where
       same ∙ sym (own-between names n xs (longer xs ys) list (IsPrefix-shorter xs (longer xs ys) list p both (longer-length xs ys).0) both same)
 
   -- the two that met are no longer than the one that was made of them
-  pub joined-length : (v w : View E) (m : Meeting E) → (joined v w).meeting ≡ Some m → (length m.mine.seen ≤ length (joined v w).known.seen) × (length m.other.seen ≤ length (joined v w).known.seen)
+  joined-length : (v w : View E) (m : Meeting E) → (joined v w).meeting ≡ Some m → (length m.mine.seen ≤ length (joined v w).known.seen) × (length m.other.seen ≤ length (joined v w).known.seen)
   joined-length v w m is =
       let two : Meeting E = record { mine = v.known; other = w.known } in
       let same : two ≡ m = cc is in
@@ -129,7 +129,7 @@ module _ {S E : Type 0} (names : E → ℕ) (may : ℕ → List E → E → Type
       )
 
   -- the two tokens are compared with the one that was made of them, whose prefix is no shorter than theirs
-  pub compares : (id : ℕ) (me : Me S (View E)) → me.0.spent ≡ false
+  compares : (id : ℕ) (me : Me S (View E)) → me.0.spent ≡ false
       → ((m : Meeting E) → me.0.meeting ≡ Some m → (length m.mine.seen ≤ length me.0.known.seen) × (length m.other.seen ≤ length me.0.known.seen))
       → Allows Holds slots id me 0 (λ n. n) (λ found after. Compares names may me after)
   compares id me alive short s h long at small =
@@ -162,6 +162,11 @@ module _ {S E : Type 0} (names : E → ℕ) (may : ℕ → List E → E → Type
           }),
         ),
       )
+
+  -- so a token may compare the two of which it was just made
+  pub compares_joined : (id : ℕ) (me : Me S (View E)) (v w : View E) (slots_held : List (ℕ × S)) → me ≡ (joined v w, slots_held) → v.spent ≡ false → Allows Holds slots id me 0 (λ n. n) (λ found after. Compares names may me after)
+  compares_joined id me v w slots_held is alive =
+      subst (λ (x : Me S (View E)). Allows Holds slots id x 0 (λ n. n) (λ found after. Compares names may x after)) (sym is) (compares id (joined v w, slots_held) alive (joined-length v w))
 
   -- the copy knows as much
   pub copies : (id : ℕ) (v : View E) → v.spent ≡ false → Splits Holds id v v (split_off v)

@@ -1,15 +1,24 @@
 -- What the calls of a lock do to what a token knows.
-use Rattle.std.specs.Prelude.{◌≡◌, ◌≢◌, ℕ, ◌+◌, ◌≤◌, Option, Some, None, List, [], length, max, ltb, if◌then◌else◌}
+use Rattle.std.specs.Prelude.{◌≡◌, ◌≢◌, ◌⊎◌, ℕ, ◌+◌, ◌≤◌, Option, Some, None, List, [], length, max, ltb, if◌then◌else◌}
 use mathlib.Core.List.{IsPrefix}
 use Rattle.history_lock.specs.declared.limits.TheConstants.{MOST_DRAWS}
 use Rattle.history_lock.specs.declared.known.Known.{Known}
 use Rattle.history_lock.specs.Entries.{own}
 
--- if both are authors, they have different numbers
+-- if both tokens have an author, the numbers differ
 abbrev pub HaveDifferentNumbers : Option ℕ → Option ℕ → Type 0
 HaveDifferentNumbers mine other = (n : ℕ) → mine ≡ Some n → other ≢ Some n
 
 module _ {E : Type 0} where
+  -- one of the two lists begins the other
+  abbrev pub OneBeginsOther : List E → List E → Type 0
+  OneBeginsOther xs ys = IsPrefix xs ys ⊎ IsPrefix ys xs
+
+  -- the token has seen the whole of this list, and knows this count
+  pub record IsCurrent (k : Known E) (list : List E) (tally : ℕ) : Type 0 where
+    pub seen : k.seen ≡ list
+    pub count : k.count ≡ tally
+
   -- the token of a lock that was just made
   abbrev pub newborn : List E → ℕ → Known E
   newborn list count = record { seen = list; count = count; draws = 0; looks = 0; author = None }

@@ -1,5 +1,6 @@
 //! What lies under the lock, and the guard that lends it.
 ghost use Rattle.std.specs.Prelude.{◌≡◌, length};
+ghost use Rattle.history_lock.specs.Tokens.{IsCurrent};
 
 use crate::front::Front;
 use crate::naming::Naming;
@@ -19,11 +20,11 @@ impl<T: Stands, N: Naming> Model for Held<T, N> {
 
     ghost Value = { Known T.Entry };
 
-    ghost use Rattle.std.specs.Prelude.{◌≡◌};
+    ghost use Rattle.history_lock.specs.Tokens.{IsCurrent};
 
     ghost view = { λ h. h.entered };
 
-    ghost invariant = { λ h. (T.list h.value.value ≡ h.entered.seen) × (T.tally h.value.value ≡ h.entered.count) };
+    ghost invariant = { λ h. IsCurrent h.entered (T.list h.value.value) (T.tally h.value.value) };
 }
 
 /// Lends the value for reading and writing. `leave` spends it: it cannot be dropped.
@@ -43,8 +44,7 @@ impl<'a, T: Stands + Drop, N: Naming> HistoryGuard<'a, T, N> {
         place: MutexGuard<'a, Option<Held<T, N>>>,
         held: Held<T, N>,
     ) -> HistoryGuard<'a, T, N>
-        ensures list { T.list result.value.value ≡ held.seen }
-        ensures tally { T.tally result.value.value ≡ held.count }
+        ensures value { IsCurrent held (T.list result.value.value) (T.tally result.value.value) }
         ensures entered { result.entered ≡ held }
     {
         let Held { value, entered } = held;

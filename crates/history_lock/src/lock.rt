@@ -2,7 +2,7 @@
 ghost use Rattle.std.specs.Prelude.{◌≡◌, ◌+◌, ◌<◌, ◌≤◌, [], length, max, Some, None, MatchOption};
 ghost use mathlib.Core.List.{IsPrefix};
 ghost use Rattle.history_lock.specs.Entries.{own, IsLawful};
-ghost use Rattle.history_lock.specs.Tokens.{HaveDifferentNumbers, HoldsOwn, IsDrawn, copy_of, looked, met};
+ghost use Rattle.history_lock.specs.Tokens.{HaveDifferentNumbers, HoldsOwn, IsDrawn, OneBeginsOther, copy_of, looked, met};
 ghost use Rattle.history_lock.specs.Authors.{IfAuthor, IfSpent};
 
 use crate::author::{Author, Drawn};
@@ -35,16 +35,18 @@ impl<T: Stands, N: Naming> Model for HistoryLock<T, N> {
 
     ghost use Rattle.std.specs.Prelude.{◌≡◌, ◌≤◌, length};
     ghost use Rattle.history_lock.specs.declared.limits.TheConstants.{LAST_FIRST};
+    ghost use Rattle.history_lock.specs.declared.rule.TheConstants.{WORDS};
 
     ghost view = { λ l. l.table.shared.table_id };
 
-    ghost invariant = { λ l.
-        (l.table.shared.table_id ≡ N.table)
-        × (l.table.shared.table_id.words ≡ 3)
-        × (l.first ≡ N.first)
-        × (l.first ≤ LAST_FIRST)
-        × (l.table.shared.key.first ≡ N.first)
-        × (length (T.list l.table.shared.key.value) ≡ N.base) };
+    ghost invariant = { λ l. record {
+      named : l.table.shared.table_id ≡ N.table;
+      three_words : l.table.shared.table_id.words ≡ WORDS;
+      numbered : l.first ≡ N.first;
+      small : l.first ≤ LAST_FIRST;
+      key_first : l.table.shared.key.first ≡ N.first;
+      key_base : length (T.list l.table.shared.key.value) ≡ N.base;
+    } };
 }
 
 impl<T: Stands + Drop, N: Naming> HistoryLock<T, N> {
@@ -76,6 +78,7 @@ impl<T: Stands + Drop, N: Naming> HistoryLock<T, N> {
     /// Mine takes in the other: it becomes the longer of the two, which the shorter begins, and keeps its own author and looks.
     pub fn meet(&self, mine: &mut Front<T, N>, other: Front<T, N>)
         ensures met { mine.new ≡ met mine.old other }
+        ensures one_list { OneBeginsOther mine.old.seen other.seen }
         ensures begins_mine { IsPrefix mine.old.seen mine.new.seen }
         ensures begins_other { IsPrefix other.seen mine.new.seen }
         ensures own_entries { HoldsOwn T.names mine.old mine.new.seen }
@@ -123,8 +126,9 @@ impl<T: Stands + Drop, N: Naming> HistoryLock<T, N> {
     /// `Spent` comes exactly where so many numbers were drawn before that none is left. It takes at most `MOST_DRAWS` tries.
     pub fn draw_author(&self, mut front: Front<T, N>) -> Drawn<T, N>
         requires author { front.author ≡ None }
-        ensures drawn { IfAuthor T.names N.first front result }
-        ensures spent { IfSpent front result }
+        ensures author { IfAuthor result (λ number author. IsDrawn T.names N.first front number author) }
+        ensures spent { IfSpent result (λ drawn token. drawn ≡ MOST_DRAWS) }
+        ensures given_back { IfSpent result (λ drawn token. token ≡ record front { draws = drawn }) }
     {
         while front.draws < MOST_DRAWS {
             if let Some(number) = self.try_draw(&mut front) {

@@ -40,17 +40,19 @@ impl<T: Stands> Model for Opened<T> {
     ghost use Rattle.history_lock.specs.Entries.{IsLawful};
     ghost use Rattle.history_lock.specs.Steps.{opened};
     ghost use Rattle.history_lock.specs.declared.limits.TheConstants.{LAST_FIRST};
+    ghost use Rattle.history_lock.specs.declared.rule.TheConstants.{WORDS};
 
     ghost view = { λ o. record { table = o.seat.table_id; first = o.first; base = length (T.list o.value.value); front = o.seat.me.0.known } };
 
-    ghost invariant = { λ o.
-        (o.seat.table_id ≡ o.table.shared.table_id)
-        × (o.seat.me ≡ (opened o.first (T.list o.value.value) (T.tally o.value.value), []))
-        × (o.count ≡ T.tally o.value.value)
-        × (o.table.shared.key ≡ record { value = o.value.value; first = o.first })
-        × (o.table.shared.table_id.words ≡ 3)
-        × (o.first ≤ LAST_FIRST)
-        × IsLawful T.may_follow (length (T.list o.value.value)) (T.list o.value.value) };
+    ghost invariant = { λ o. record {
+      seated : o.seat.table_id ≡ o.table.shared.table_id;
+      three_words : o.table.shared.table_id.words ≡ WORDS;
+      token : o.seat.me ≡ (opened o.first (T.list o.value.value) (T.tally o.value.value), []);
+      counted : o.count ≡ T.tally o.value.value;
+      key : o.table.shared.key ≡ record { value = o.value.value; first = o.first };
+      small : o.first ≤ LAST_FIRST;
+      lawful : IsLawful T.may_follow (length (T.list o.value.value)) (T.list o.value.value);
+    } };
 }
 
 impl<T: Stands + Drop> Opened<T> {
@@ -76,9 +78,7 @@ impl<T: Stands + Drop> Opened<T> {
             count,
         })
     }
-}
 
-impl<T: Stands + Drop> Opened<T> {
     /// The lock under the name N, which has to be this lock's, and the first token.
     pub fn named<N: Naming>(self) -> (HistoryLock<T, N>, Front<T, N>)
         requires table { self.table ≡ N.table }

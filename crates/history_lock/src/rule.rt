@@ -14,6 +14,9 @@ pub const DRAWS: usize = 1;
 /// The word with the count.
 pub const COUNT: usize = 2;
 
+/// How many words there are.
+pub const WORDS: usize = 3;
+
 /// What the table is told when it is made.
 #[derive(Drop)]
 pub struct Opening<T> {

@@ -2,7 +2,7 @@
 ghost use Rattle.std.specs.Prelude.{◌≡◌, ◌+◌, ◌<◌, ◌≤◌, ◌^◌, length, take, true, IfSome, MatchBool};
 ghost use mathlib.Core.List.{IsPrefix};
 ghost use Rattle.history_lock.specs.Entries.{AddsOwn, IsLawful};
-ghost use Rattle.history_lock.specs.Tokens.{HoldsOwn, IsLater};
+ghost use Rattle.history_lock.specs.Tokens.{HoldsOwn, IsCurrent, IsLater};
 
 use crate::front::Front;
 use crate::held::{Held, HistoryGuard};
@@ -15,9 +15,8 @@ use std::sync::Wait;
 impl<T: Stands + Drop, N: Naming> HistoryLock<T, N> {
     /// Waits for the lock, and until the length and the count that the token finds are those of the value. The token becomes the value's list and count.
     pub fn enter<'a, R: Wait>(&'a self, rt: &R, front: &mut Front<T, N>) -> HistoryGuard<'a, T, N>
-        ensures list { T.list result.value.value ≡ front.new.seen }
-        ensures count { T.tally result.value.value ≡ front.new.count }
-        ensures entered { (result.entered.seen ≡ front.new.seen) × (result.entered.count ≡ front.new.count) }
+        ensures value { IsCurrent front.new (T.list result.value.value) (T.tally result.value.value) }
+        ensures entered { IsCurrent front.new result.entered.seen result.entered.count }
         ensures later { IsLater T.names front.old front.new }
         ensures looks { front.old.looks < front.new.looks }
         ensures lawful { IsLawful T.may_follow N.base front.new.seen }
@@ -33,8 +32,7 @@ impl<T: Stands + Drop, N: Naming> HistoryLock<T, N> {
     /// Gives the value back, and waits in that it tries to add each entry until it succeeds. The token becomes the value's list and count.
     pub fn leave<R: Wait>(&self, rt: &R, front: &mut Front<T, N>, guard: HistoryGuard<'_, T, N>)
         // The token is as it was at that `enter`.
-        requires same_list { front.old.seen ≡ guard.entered.seen }
-        requires same_count { front.old.count ≡ guard.entered.count }
+        requires entered { IsCurrent front.old guard.entered.seen guard.entered.count }
 
         // Only entries that name the token's author were added, and the count isn't below what it was.
         requires adds_own { AddsOwn T.names front.old.author guard.entered.seen (T.list guard.value.value) }
@@ -72,8 +70,8 @@ impl<T: Stands + Drop, N: Naming> HistoryLock<T, N> {
         rt: &R,
         front: &mut Front<T, N>,
     ) -> Option<HistoryGuard<'a, T, N>>
-        ensures value { IfSome result (λ guard. (T.list guard.value.value ≡ front.new.seen) × (T.tally guard.value.value ≡ front.new.count)) }
-        ensures entered { IfSome result (λ guard. (guard.entered.seen ≡ front.new.seen) × (guard.entered.count ≡ front.new.count)) }
+        ensures value { IfSome result (λ guard. IsCurrent front.new (T.list guard.value.value) (T.tally guard.value.value)) }
+        ensures entered { IfSome result (λ guard. IsCurrent front.new guard.entered.seen guard.entered.count) }
         ensures later { IsLater T.names front.old front.new }
         ensures looks { IfSome result (λ guard. front.old.looks < front.new.looks) }
         ensures lawful { IfSome result (λ guard. IsLawful T.may_follow N.base front.new.seen) }
@@ -90,8 +88,8 @@ impl<T: Stands + Drop, N: Naming> HistoryLock<T, N> {
 
     // The token learns what the lock's own token knows, and loads both words. Says whether they are the value's length and count.
     fn catch_up(&self, front: &mut Front<T, N>, held: Held<T, N>) -> (Held<T, N>, bool)
-        ensures held { (result.0.seen ≡ held.seen) × (result.0.count ≡ held.count) }
-        ensures fits { result.1 ≡ true → (front.new.seen ≡ held.seen) × (front.new.count ≡ held.count) }
+        ensures held { IsCurrent result.0 held.seen held.count }
+        ensures fits { result.1 ≡ true → IsCurrent front.new held.seen held.count }
         ensures later { IsLater T.names front.old front.new }
         ensures looks { front.old.looks < front.new.looks }
         ensures lawful { IsLawful T.may_follow N.base front.new.seen }

@@ -9,26 +9,33 @@ use std::sync::Wait;
 use std::test::*;
 use std::thread::{Threads, join};
 
-/// A list of authors' numbers, in which every entry may follow, and a count.
+/// An author's number, and how many entries the author had added before.
+#[derive(Clone, Copy)]
+struct Mark {
+    author: u32,
+    turn: usize,
+}
+
+/// A list of marks, in which every mark may follow, and a count.
 #[derive(Drop)]
 struct Roll {
-    entries: Vec<u32>,
+    marks: Vec<Mark>,
     count: u64,
 }
 
 impl Stands for Roll {
-    type Entry = u32;
+    type Entry = Mark;
 
-    ghost list = { λ r. r.entries.items };
+    ghost list = { λ r. r.marks.items };
 
     ghost tally = { λ r. r.count };
 
-    ghost names = { λ e. e };
+    ghost names = { λ mark. mark.author };
 
     ghost may_follow = { λ _ _ _. Unit {0} };
 
     fn entries(&self) -> u64 {
-        self.entries.len() as u64
+        self.marks.len() as u64
     }
 
     fn count(&self) -> u64 {
@@ -37,24 +44,29 @@ impl Stands for Roll {
 }
 
 fn empty_roll(alloc: Global) -> Roll
-    ensures { result.entries.items ≡ [] }
+    ensures { result.marks.items ≡ [] }
 {
     Roll {
-        entries: Vec::new(alloc),
+        marks: Vec::new(alloc),
         count: 0,
     }
 }
 
-/// The author adds its number.
+/// The author adds a mark.
 fn add<N: Naming, R: Wait>(
     rt: &R,
     lock: &HistoryLock<Roll, N>,
     author: &mut Author<Roll, N>,
+    turn: usize,
 ) -> Result<(), AllocError>
     ensures { IsPrefix author.old.front.seen author.new.front.seen }
 {
     let mut guard = lock.enter(rt, &mut author.front);
-    let done = guard.value.entries.push(author.number);
+    let mark = Mark {
+        author: author.number,
+        turn,
+    };
+    let done = guard.value.marks.push(mark);
     lock.leave(rt, &mut author.front, guard);
     match done {
         Ok(()) => Ok(()),
@@ -64,11 +76,11 @@ fn add<N: Naming, R: Wait>(
 
 /// The author raises the count to 1.
 fn raise<N: Naming, R: Wait>(rt: &R, lock: &HistoryLock<Roll, N>, author: &mut Author<Roll, N>) {
-    let mut guard = lock.enter(rt, &mut author.front);
-    if guard.value.count < 1 {
-        guard.value.count = 1;
+    let mut section = lock.enter(rt, &mut author.front);
+    if section.value.count < 1 {
+        section.value.count = 1;
     }
-    lock.leave(rt, &mut author.front, guard);
+    lock.leave(rt, &mut author.front, section);
 }
 
 fn author_of<N: Naming, R: Abort>(
@@ -84,10 +96,33 @@ fn author_of<N: Naming, R: Abort>(
     }
 }
 
+/// Whether the author has added so many marks, in order.
+fn has_turns(roll: &Roll, author: u32, turns: usize) -> bool {
+    roll.marks
+        .iter()
+        .filter(|mark| mark.author == author)
+        .map(|mark| mark.turn)
+        .eq(0..turns)
+}
+
 #[test]
 fn calls_of_two_authors(rt: HostRuntime) -> Result<(), Fail> {
     let opened = Opened::new(rt.alloc(), empty_roll(rt.alloc()), 0)?;
     two_authors::<Brand, _>(&rt, opened)
+}
+
+/// A generic caller, which takes the lock and the tokens by value.
+fn close_by_both<T: Stands + Drop, N: Naming, R: Wait>(
+    rt: &R,
+    lock: HistoryLock<T, N>,
+    mut mine: Front<T, N>,
+    other: Front<T, N>,
+) -> T
+    ensures mine { IsPrefix mine.seen (T.list result) }
+    ensures other { IsPrefix other.seen (T.list result) }
+{
+    lock.meet(&mut mine, other);
+    lock.close(rt, mine)
 }
 
 fn two_authors<N: Naming, R: Wait + Abort>(rt: &R, opened: Opened<Roll>) -> Result<(), Fail>
@@ -102,7 +137,7 @@ fn two_authors<N: Naming, R: Wait + Abort>(rt: &R, opened: Opened<Roll>) -> Resu
     assert_eq!(rt; (zero.number, one.number), (0, 1));
 
     let early = lock.split(&mut zero.front);
-    add(rt, &lock, &mut zero)?;
+    add(rt, &lock, &mut zero, 0)?;
     assert_eq!(rt; lock.length(&mut one.front), 1);
     let mut late = lock.split(&mut zero.front);
     lock.meet(&mut late, early);
@@ -113,8 +148,9 @@ fn two_authors<N: Naming, R: Wait + Abort>(rt: &R, opened: Opened<Roll>) -> Resu
     let told = lock.split(&mut one.front);
     lock.meet(&mut zero.front, told);
     assert_eq!(rt; zero.front.count(), 1);
-    let roll = lock.close(rt, zero.front);
-    assert_eq!(rt; roll.entries.as_slice(), [0].as_slice());
+    let roll = close_by_both(rt, lock, zero.front, one.front);
+    assert_eq!(rt; (roll.marks.len(), roll.count), (1, 1));
+    assert!(rt; has_turns(&roll, 0, 1));
     Ok(())
 }
 
@@ -132,8 +168,8 @@ fn add_many<N: Naming, R: Wait>(
     lock: &HistoryLock<Roll, N>,
     mut author: Author<Roll, N>,
 ) -> Result<Author<Roll, N>, AllocError> {
-    for _ in 0..ADDED {
-        add(rt, lock, &mut author)?;
+    for turn in 0..ADDED {
+        add(rt, lock, &mut author, turn)?;
     }
     Ok(author)
 }
@@ -156,12 +192,7 @@ fn two_threads<N: Naming + Send + Sync, R: Threads + Wait + Abort + Sync>(
     );
     let _ = zero?;
     let roll = lock.close(rt, one?.front);
-    assert_eq!(rt; roll.entries.len(), 2 * ADDED);
-    for number in [0, 1] {
-        assert_eq!(rt;
-            roll.entries.iter().filter(|n| **n == number).count(),
-            ADDED
-        );
-    }
+    assert_eq!(rt; roll.marks.len(), 2 * ADDED);
+    assert!(rt; has_turns(&roll, 0, ADDED) && has_turns(&roll, 1, ADDED));
     Ok(())
 }

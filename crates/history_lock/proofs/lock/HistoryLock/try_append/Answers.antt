@@ -13,9 +13,9 @@ compare_exchange_with-found-requires g c =
     let known = c.front.inside.seat.me.0.known in
     let place : length known.seen ≡ c.args.at = ap (λ (k : Known g.row.T-Entry.Denot). length k.seen) c.front.view_is ∙ sym c.requires.place in
     let adds : AddsOwn g.T.Stands.names known.author known.seen list = subst (λ (k : Known g.row.T-Entry.Denot). AddsOwn g.T.Stands.names k.author k.seen list) (sym c.front.view_is) c.requires.adds_own in (
-      front.table ∙ sym lock.0,
-      rw lock.1 (omega arith),
-      rw lock.5 (appends g.T.Stands.names g.T.Stands.may_follow c.self.inside.table.shared.key.first g.N.Naming.base _ c.front.inside.seat.id c.front.inside.seat.me list c.args.at (ap (λ me. me.0.spent) front.me) (ap (λ me. me.0.meeting) front.me) place c.requires.next.0 adds c.requires.lawful),
+      front.table ∙ sym lock.named,
+      rw lock.three_words (omega arith),
+      rw lock.key_base (appends g.T.Stands.names g.T.Stands.may_follow c.self.inside.table.shared.key.first g.N.Naming.base _ c.front.inside.seat.id c.front.inside.seat.me list c.args.at (ap (λ me. me.0.spent) front.me) (ap (λ me. me.0.meeting) front.me) place c.requires.next.0 adds c.requires.lawful),
     )
 
 pub invariant_of-front : goal.invariant_of-front
