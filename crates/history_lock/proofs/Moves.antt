@@ -12,10 +12,10 @@ use Rattle.history_lock.specs.declared.limits.TheConstants.{MOST_DRAWS}
 use Rattle.history_lock.specs.declared.view.View.{View}
 use Rattle.history_lock.specs.declared.view.Meeting.{Meeting}
 use Rattle.history_lock.specs.Entries.{own, NamesBelow, AddsOwn, IsLawful}
-use Rattle.history_lock.specs.Tokens.{HaveDifferentNumbers, looked, longer}
+use Rattle.history_lock.specs.Tokens.{OneBeginsOther, HaveDifferentNumbers, looked, longer}
 use Rattle.history_lock.specs.Steps.{opened, gone, split_off, joined, IsMeeting, Looks, Compares, Draws, Counts, Raises, Appends}
 use Rattle.history_lock.specs.Rule.{Fits, Kept}
-use Rattle.history_lock.proofs.Prefixes.{IsPrefix-self, IsPrefix-take, IsPrefix-shorter, prefix_whole, take-append-one}
+use Rattle.history_lock.proofs.Prefixes.{OneBeginsOther-prefixes, IsPrefix-self, IsPrefix-take, IsPrefix-shorter, prefix_whole, take-append-one}
 use Rattle.history_lock.proofs.Named.{own-between, own-above, own-prefix, NamesBelow-more, IsLawful-prefix}
 use Rattle.history_lock.proofs.Keeping.{Kept-set, Kept-push, Kept-append, Kept-join}
 
@@ -91,6 +91,13 @@ module _ {E : Type 0} where
       let two : Meeting E = record { mine = v.known; other = w.known } in
       let same : two ≡ m = cc is in
       subst (λ (x : Meeting E). (length x.mine.seen ≤ length (joined v w).known.seen) × (length x.other.seen ≤ length (joined v w).known.seen)) same (longer-length v.known.seen w.known.seen)
+
+-- of the two tokens that a comparison was told of, one list begins the other
+pub joined_one_list : {S E : Type 0} (names : E → ℕ) (v w : View E) (slots_held : List (ℕ × S)) (me : Me S (View E)) → me ≡ (joined v w, slots_held)
+    → ((m : Meeting E) → me.0.meeting ≡ Some m → IsMeeting names me.0.known.seen m) → OneBeginsOther v.known.seen w.known.seen
+joined_one_list {S} {E} names v w slots_held me is told =
+    let met = told (record { mine = v.known; other = w.known }) (ap (λ (x : Me S (View E)). x.0.meeting) is) in
+    OneBeginsOther-prefixes v.known.seen w.known.seen me.0.known.seen met.mine met.other
 
 module _ {S E : Type 0} (names : E → ℕ) (may : ℕ → List E → E → Type 0) (f b slots : ℕ) where
   abbrev Holds : State S (View E) → Type 0

@@ -28,7 +28,7 @@ impl<T: Stands, N: Naming> Model for Front<T, N> {
 
     ghost view = { λ f. f.seat.me.0.known };
 
-    ghost invariant = { λ f. IsFront T.may_follow N.table N.first N.base f.seat f.count f.draws };
+    ghost invariant = { λ f. IsFront T.may_follow N.lock f.seat f.count f.draws };
 }
 
 impl<T: Stands, N: Naming> Front<T, N> {
@@ -37,7 +37,7 @@ impl<T: Stands, N: Naming> Front<T, N> {
         ensures count { result ≡ self.now.count }
 
         // The prefix of every token is lawful.
-        ensures lawful { IsLawful T.may_follow N.base self.now.seen }
+        ensures lawful { IsLawful T.may_follow N.lock.base self.now.seen }
     {
         self.count
     }

@@ -40,12 +40,12 @@ impl<T: Stands, N: Naming> Model for HistoryLock<T, N> {
     ghost view = { λ l. l.table.shared.table_id };
 
     ghost invariant = { λ l. record {
-      named : l.table.shared.table_id ≡ N.table;
+      named : l.table.shared.table_id ≡ N.lock.table;
       three_words : l.table.shared.table_id.words ≡ WORDS;
-      numbered : l.first ≡ N.first;
+      numbered : l.first ≡ N.lock.first;
       small : l.first ≤ LAST_FIRST;
-      key_first : l.table.shared.key.first ≡ N.first;
-      key_base : length (T.list l.table.shared.key.value) ≡ N.base;
+      key_first : l.table.shared.key.first ≡ N.lock.first;
+      key_base : length (T.list l.table.shared.key.value) ≡ N.lock.base;
     } };
 }
 
@@ -56,7 +56,7 @@ impl<T: Stands + Drop, N: Naming> HistoryLock<T, N> {
         ensures never_back { IsPrefix front.old.seen front.new.seen }
         ensures looked { front.new ≡ looked front.old front.new.seen }
         ensures own_entries { HoldsOwn T.names front.old front.new.seen }
-        ensures lawful { IsLawful T.may_follow N.base front.new.seen }
+        ensures lawful { IsLawful T.may_follow N.lock.base front.new.seen }
     {
         self.table.shared.load::<Look>(&mut front.seat, LENGTH)
     }
@@ -82,7 +82,7 @@ impl<T: Stands + Drop, N: Naming> HistoryLock<T, N> {
         ensures begins_mine { IsPrefix mine.old.seen mine.new.seen }
         ensures begins_other { IsPrefix other.seen mine.new.seen }
         ensures own_entries { HoldsOwn T.names mine.old mine.new.seen }
-        ensures lawful { IsLawful T.may_follow N.base mine.new.seen }
+        ensures lawful { IsLawful T.may_follow N.lock.base mine.new.seen }
 
         // Two authors that met have different numbers.
         ensures apart { HaveDifferentNumbers mine.old.author other.author }
@@ -104,7 +104,7 @@ impl<T: Stands + Drop, N: Naming> HistoryLock<T, N> {
         requires { front.old.draws < MOST_DRAWS }
         ensures drawn { MatchOption result
             ((front.new ≡ record front.old { draws = front.new.draws }) × (front.old.draws < front.new.draws))
-            (λ n. IsDrawn T.names N.first front.old n front.new) }
+            (λ n. IsDrawn T.names N.lock.first front.old n front.new) }
         ensures limit { front.new.draws ≤ MOST_DRAWS }
     {
         let known = front.draws;
@@ -126,7 +126,7 @@ impl<T: Stands + Drop, N: Naming> HistoryLock<T, N> {
     /// `Spent` comes exactly where so many numbers were drawn before that none is left. It takes at most `MOST_DRAWS` tries.
     pub fn draw_author(&self, mut front: Front<T, N>) -> Drawn<T, N>
         requires author { front.author ≡ None }
-        ensures author { IfAuthor result (λ number author. IsDrawn T.names N.first front number author) }
+        ensures author { IfAuthor result (λ number author. IsDrawn T.names N.lock.first front number author) }
         ensures spent { IfSpent result (λ drawn token. drawn ≡ MOST_DRAWS) }
         ensures given_back { IfSpent result (λ drawn token. token ≡ record front { draws = drawn }) }
     {

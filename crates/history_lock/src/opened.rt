@@ -18,7 +18,7 @@ use std::sync::Mutex;
 
 /// A lock that has no name yet: a name can be given only to a table that is already made.
 ///
-/// Contracts see what a name says of it, and what its first token knows.
+/// Contracts see which lock it is, and what its first token knows.
 #[derive(Drop)]
 pub struct Opened<T: Stands> {
     table: Table<T, View<T::Entry>, Opening<T>, Law, Global>,
@@ -30,11 +30,10 @@ pub struct Opened<T: Stands> {
 }
 
 impl<T: Stands> Model for Opened<T> {
-    ghost use Rattle.std.specs.Prelude.{ℕ};
-    ghost use Rattle.atomic_table.specs.Seated.{TableId};
+    ghost use Rattle.history_lock.specs.Names.{LockId};
     ghost use Rattle.history_lock.specs.declared.known.Known.{Known};
 
-    ghost Value = { record { table : TableId; first : ℕ; base : ℕ; front : Known T.Entry } };
+    ghost Value = { record { lock : LockId; front : Known T.Entry } };
 
     ghost use Rattle.std.specs.Prelude.{◌≡◌, ◌≤◌, [], length};
     ghost use Rattle.history_lock.specs.Entries.{IsLawful};
@@ -42,7 +41,7 @@ impl<T: Stands> Model for Opened<T> {
     ghost use Rattle.history_lock.specs.declared.limits.TheConstants.{LAST_FIRST};
     ghost use Rattle.history_lock.specs.declared.rule.TheConstants.{WORDS};
 
-    ghost view = { λ o. record { table = o.seat.table_id; first = o.first; base = length (T.list o.value.value); front = o.seat.me.0.known } };
+    ghost view = { λ o. record { lock = record { table = o.seat.table_id; first = o.first; base = length (T.list o.value.value) }; front = o.seat.me.0.known } };
 
     ghost invariant = { λ o. record {
       seated : o.seat.table_id ≡ o.table.shared.table_id;
@@ -61,9 +60,9 @@ impl<T: Stands + Drop> Opened<T> {
         requires first { first ≤ LAST_FIRST }
         requires named { NamesBelow T.names first (T.list value) }
         requires lawful { IsLawful T.may_follow (length (T.list value)) (T.list value) }
-        ensures front { IfOk result (λ lock. lock.front ≡ newborn (T.list value) (T.tally value)) }
-        ensures first { IfOk result (λ lock. lock.first ≡ first) }
-        ensures base { IfOk result (λ lock. lock.base ≡ length (T.list value)) }
+        ensures front { IfOk result (λ opened. opened.front ≡ newborn (T.list value) (T.tally value)) }
+        ensures first { IfOk result (λ opened. opened.lock.first ≡ first) }
+        ensures base { IfOk result (λ opened. opened.lock.base ≡ length (T.list value)) }
     {
         let count = value.count();
         let words = [value.entries(), 0, count];
@@ -81,9 +80,7 @@ impl<T: Stands + Drop> Opened<T> {
 
     /// The lock under the name N, which has to be this lock's, and the first token.
     pub fn named<N: Naming>(self) -> (HistoryLock<T, N>, Front<T, N>)
-        requires table { self.table ≡ N.table }
-        requires first { self.first ≡ N.first }
-        requires base { self.base ≡ N.base }
+        requires named { self.lock ≡ N.lock }
         ensures front { result.1 ≡ self.front }
     {
         let Opened {

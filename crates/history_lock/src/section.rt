@@ -19,7 +19,7 @@ impl<T: Stands + Drop, N: Naming> HistoryLock<T, N> {
         ensures entered { IsCurrent front.new result.entered.seen result.entered.count }
         ensures later { IsLater T.names front.old front.new }
         ensures looks { front.old.looks < front.new.looks }
-        ensures lawful { IsLawful T.may_follow N.base front.new.seen }
+        ensures lawful { IsLawful T.may_follow N.lock.base front.new.seen }
     {
         for _ in rt.forever() {
             if let Some(guard) = self.try_enter(rt, front) {
@@ -36,7 +36,7 @@ impl<T: Stands + Drop, N: Naming> HistoryLock<T, N> {
 
         // Only entries that name the token's author were added, and the count isn't below what it was.
         requires adds_own { AddsOwn T.names front.old.author guard.entered.seen (T.list guard.value.value) }
-        requires lawful { IsLawful T.may_follow N.base (T.list guard.value.value) }
+        requires lawful { IsLawful T.may_follow N.lock.base (T.list guard.value.value) }
         requires count { guard.entered.count ≤ T.tally guard.value.value }
 
         ensures left { front.new ≡ record front.old { seen = T.list guard.entry.value.value; count = T.tally guard.entry.value.value } }
@@ -59,7 +59,7 @@ impl<T: Stands + Drop, N: Naming> HistoryLock<T, N> {
         ensures seen { IsPrefix front.seen (T.list result) }
         ensures count { front.count ≤ T.tally result }
         ensures own_entries { HoldsOwn T.names front (T.list result) }
-        ensures lawful { IsLawful T.may_follow N.base (T.list result) }
+        ensures lawful { IsLawful T.may_follow N.lock.base (T.list result) }
     {
         self.enter(rt, &mut front).into_value()
     }
@@ -74,7 +74,7 @@ impl<T: Stands + Drop, N: Naming> HistoryLock<T, N> {
         ensures entered { IfSome result (λ guard. IsCurrent front.new guard.entered.seen guard.entered.count) }
         ensures later { IsLater T.names front.old front.new }
         ensures looks { IfSome result (λ guard. front.old.looks < front.new.looks) }
-        ensures lawful { IfSome result (λ guard. IsLawful T.may_follow N.base front.new.seen) }
+        ensures lawful { IfSome result (λ guard. IsLawful T.may_follow N.lock.base front.new.seen) }
     {
         let mut place = self.held.lock(rt);
         let held = place.take()?;
@@ -92,7 +92,7 @@ impl<T: Stands + Drop, N: Naming> HistoryLock<T, N> {
         ensures fits { result.1 ≡ true → IsCurrent front.new held.seen held.count }
         ensures later { IsLater T.names front.old front.new }
         ensures looks { front.old.looks < front.new.looks }
-        ensures lawful { IsLawful T.may_follow N.base front.new.seen }
+        ensures lawful { IsLawful T.may_follow N.lock.base front.new.seen }
     {
         let Held { value, mut entered } = held;
         let copy = self.split(&mut entered);
@@ -127,7 +127,7 @@ impl<T: Stands + Drop, N: Naming> HistoryLock<T, N> {
     fn append_all<R: Wait>(&self, rt: &R, front: &mut Front<T, N>, value: &T, from: u64)
         requires place { from ≡ length front.old.seen }
         requires adds_own { AddsOwn T.names front.old.author front.old.seen (T.list value.now) }
-        requires lawful { IsLawful T.may_follow N.base (T.list value.now) }
+        requires lawful { IsLawful T.may_follow N.lock.base (T.list value.now) }
         ensures { front.new ≡ record front.old { seen = T.list value.now } }
     {
         let all = value.entries();
@@ -148,7 +148,7 @@ impl<T: Stands + Drop, N: Naming> HistoryLock<T, N> {
         requires place { at ≡ length front.old.seen }
         requires next { (at < length (T.list value.now)) × (length (T.list value.now) < 2 ^ 64) }
         requires adds_own { AddsOwn T.names front.old.author front.old.seen (T.list value.now) }
-        requires lawful { IsLawful T.may_follow N.base (T.list value.now) }
+        requires lawful { IsLawful T.may_follow N.lock.base (T.list value.now) }
         ensures { MatchBool result (front.new ≡ record front.old { seen = take (at + 1) (T.list value.now) }) (front.new ≡ front.old) }
     {
         let found = self

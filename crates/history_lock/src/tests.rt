@@ -126,7 +126,7 @@ fn close_by_both<T: Stands + Drop, N: Naming, R: Wait>(
 }
 
 fn two_authors<N: Naming, R: Wait + Abort>(rt: &R, opened: Opened<Roll>) -> Result<(), Fail>
-    requires named { (opened.table ≡ N.table) × (opened.first ≡ N.first) × (opened.base ≡ N.base) }
+    requires named { opened.lock ≡ N.lock }
 {
     let (lock, mut front) = opened.named::<N>();
     assert_eq!(rt; lock.length(&mut front), 0);
@@ -178,7 +178,7 @@ fn two_threads<N: Naming + Send + Sync, R: Threads + Wait + Abort + Sync>(
     rt: &R,
     opened: Opened<Roll>,
 ) -> Result<(), Fail>
-    requires named { (opened.table ≡ N.table) × (opened.first ≡ N.first) × (opened.base ≡ N.base) }
+    requires named { opened.lock ≡ N.lock }
     requires author { opened.front.author ≡ None }
 {
     let (lock, mut front) = opened.named::<N>();
