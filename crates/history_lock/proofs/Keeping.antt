@@ -11,7 +11,7 @@ use Rattle.history_lock.specs.declared.view.View.{View}
 use Rattle.history_lock.specs.declared.view.Meeting.{Meeting}
 use Rattle.history_lock.specs.Entries.{own, IsLawful}
 use Rattle.history_lock.specs.Steps.{IsMeeting}
-use Rattle.history_lock.specs.Rule.{Fits, Kept}
+use Rattle.history_lock.specs.Rule.{IsLive, Fits, Kept}
 use Rattle.history_lock.proofs.Prefixes.{IsPrefix-self, IsPrefix-append}
 use Rattle.history_lock.proofs.Named.{own-push_other, NamesBelow-more}
 
@@ -71,15 +71,15 @@ module _ {E : Type 0} (names : E → ℕ) (may : ℕ → List E → E → Type 0
         (at_set views id j w x e'))
         (λ (t : (i ≢ id) × (get_elem? views i ≡ some u)). ⊎_elim
         (λ (t' : (j ≡ id) × (w ≡ x)). absurd (alone i u t.0 t.1 un a (ap (λ (y : View E). y.known.author) t'.1 ∙ a')))
-        (λ (t' : (j ≢ id) × (get_elem? views j ≡ some x)). kept.apart i j u x n t.1 t'.1 un un' a a')
+        (λ (t' : (j ≢ id) × (get_elem? views j ≡ some x)). kept.apart i j u x n (t.1, un) (t'.1, un') a a')
         (at_set views id j w x e'))
         (at_set views id i w u e)
       where
         -- nobody else has a number of w
         alone : (k : ℕ) (y : View E) → k ≢ id → get_elem? views k ≡ some y → y.spent ≡ false → y.known.author ≡ Some n → w.known.author ≡ Some n → ⊥
         alone k y ne there live is new = ⊎_elim
-            (λ (was : v.known.author ≡ Some n). ne (kept.apart k id y v n there at live alive is was))
-            (λ (past : f + kept.draws ≤ n). let below = (kept.each k y there live).number n is in absurd (omega arith))
+            (λ (was : v.known.author ≡ Some n). ne (kept.apart k id y v n (there, live) (at, alive) is was))
+            (λ (past : f + kept.draws ≤ n). let below = (kept.each k y (there, live)).number n is in absurd (omega arith))
             (author n new)
 
     -- the token at one seat changes, and the list stays. The new one fits, has no other number but one that was just drawn, and knows the whole list where the old one did
@@ -97,20 +97,20 @@ module _ {E : Type 0} (names : E → ℕ) (may : ℕ → List E → E → Type 0
       lawful = kept.lawful;
       named = NamesBelow-more names (f + kept.draws) (f + d') kept.list (omega arith) kept.named;
       whole = whole';
-      each = each';
-      apart = apart_set id v w at alive author;
+      each = λ i u live. each' i u live.0 live.1;
+      apart = λ i j u x n live live'. apart_set id v w at alive author i j u x n live.0 live'.0 live.1 live'.1;
     }
       where
-        whole' : (i : ℕ) × (u : View E) × (get_elem? (set views id w) i ≡ some u) × (u.spent ≡ false) × (u.known.seen ≡ kept.list)
+        whole' : (i : ℕ) × (u : View E) × IsLive (set views id w) i u × (u.known.seen ≡ kept.list)
         whole' = let k = kept.whole in dite (ℕ_discrete k.0 id)
-            (λ e. let same : k.1 ≡ v = some-injective k.1 v (sym k.2 ∙ ap (λ j. get_elem? views j) e ∙ at) in
-            (id, w, at_set_same views id v w at, live, whole (ap (λ (u : View E). u.known.seen) (sym same) ∙ k.4)))
-            (λ ne. (k.0, k.1, set_else views id k.0 w ne ∙ k.2, k.3, k.4))
+            (λ e. let same : k.1 ≡ v = some-injective k.1 v (sym k.2.0 ∙ ap (λ j. get_elem? views j) e ∙ at) in
+            (id, w, (at_set_same views id v w at, live), whole (ap (λ (u : View E). u.known.seen) (sym same) ∙ k.3)))
+            (λ ne. (k.0, k.1, (set_else views id k.0 w ne ∙ k.2.0, k.2.1), k.3))
 
         each' : (i : ℕ) (u : View E) → get_elem? (set views id w) i ≡ some u → u.spent ≡ false → Fits names f b kept.list d' c' u
         each' i u e un = ⊎_elim
             (λ (t : (i ≡ id) × (w ≡ u)). subst (Fits names f b kept.list d' c') t.1 fits)
-            (λ (t : (i ≢ id) × (get_elem? views i ≡ some u)). Fits-more kept.list kept.draws kept.count d' c' u more greater (kept.each i u t.1 un))
+            (λ (t : (i ≢ id) × (get_elem? views i ≡ some u)). Fits-more kept.list kept.draws kept.count d' c' u more greater (kept.each i u (t.1, un)))
             (at_set views id i w u e)
 
     -- a token comes that fits and has no number
@@ -123,18 +123,18 @@ module _ {E : Type 0} (names : E → ℕ) (may : ℕ → List E → E → Type 0
       limit = kept.limit;
       lawful = kept.lawful;
       named = kept.named;
-      whole = (let k = kept.whole in (k.0, k.1, at_longer views (w ∷ []) k.0 k.1 k.2, k.3, k.4));
-      each = λ i u e un. ⊎_elim
-          (λ (was : get_elem? views i ≡ some u). kept.each i u was un)
+      whole = (let k = kept.whole in (k.0, k.1, (at_longer views (w ∷ []) k.0 k.1 k.2.0, k.2.1), k.3));
+      each = λ i u live. ⊎_elim
+          (λ (was : get_elem? views i ≡ some u). kept.each i u (was, live.1))
           (λ (same : w ≡ u). subst (Fits names f b kept.list kept.draws kept.count) same fits)
-          (at_snoc views w u i e);
-      apart = λ i j u x n e e' un un' a a'. ⊎_elim
+          (at_snoc views w u i live.0);
+      apart = λ i j u x n live live' a a'. ⊎_elim
           (λ (was : get_elem? views i ≡ some u). ⊎_elim
-          (λ (was' : get_elem? views j ≡ some x). kept.apart i j u x n was was' un un' a a')
+          (λ (was' : get_elem? views j ≡ some x). kept.apart i j u x n (was, live.1) (was', live'.1) a a')
           (λ (same' : w ≡ x). absurd (bare x n same' a'))
-          (at_snoc views w x j e'))
+          (at_snoc views w x j live'.0))
           (λ (same : w ≡ u). absurd (bare u n same a))
-          (at_snoc views w u i e);
+          (at_snoc views w u i live.0);
     }
       where
         bare : (u : View E) (n : ℕ) → w ≡ u → u.known.author ≡ Some n → ⊥
@@ -142,7 +142,7 @@ module _ {E : Type 0} (names : E → ℕ) (may : ℕ → List E → E → Type 0
 
     -- a token is spent. It doesn't know the whole list, or another does too
     pub Kept-spend : (id : ℕ) (w : View E) → w.spent ≡ true
-        → ((i : ℕ) × (u : View E) × (i ≢ id) × (get_elem? views i ≡ some u) × (u.spent ≡ false) × (u.known.seen ≡ kept.list))
+        → ((i : ℕ) × (u : View E) × (i ≢ id) × IsLive views i u × (u.known.seen ≡ kept.list))
         → Kept names may f b words (set views id w)
     Kept-spend id w spent k = record {
       list = kept.list;
@@ -152,16 +152,16 @@ module _ {E : Type 0} (names : E → ℕ) (may : ℕ → List E → E → Type 0
       limit = kept.limit;
       lawful = kept.lawful;
       named = kept.named;
-      whole = (k.0, k.1, set_else views id k.0 w k.2 ∙ k.3, k.4, k.5);
-      each = λ i u e un. kept.each i u (there i u e un) un;
-      apart = λ i j u x n e e' un un' a a'. kept.apart i j u x n (there i u e un) (there j x e' un') un un' a a';
+      whole = (k.0, k.1, (set_else views id k.0 w k.2 ∙ k.3.0, k.3.1), k.4);
+      each = λ i u live. kept.each i u (there i u live);
+      apart = λ i j u x n live live' a a'. kept.apart i j u x n (there i u live) (there j x live') a a';
     }
       where
-        there : (i : ℕ) (u : View E) → get_elem? (set views id w) i ≡ some u → u.spent ≡ false → get_elem? views i ≡ some u
-        there i u e un = ⊎_elim
-            (λ (t : (i ≡ id) × (w ≡ u)). absurd (true≢false (sym spent ∙ ap (λ (y : View E). y.spent) t.1 ∙ un)))
-            (λ (t : (i ≢ id) × (get_elem? views i ≡ some u)). t.1)
-            (at_set views id i w u e)
+        there : (i : ℕ) (u : View E) → IsLive (set views id w) i u → IsLive views i u
+        there i u live = ⊎_elim
+            (λ (t : (i ≡ id) × (w ≡ u)). absurd (true≢false (sym spent ∙ ap (λ (y : View E). y.spent) t.1 ∙ live.1)))
+            (λ (t : (i ≢ id) × (get_elem? views i ≡ some u)). (t.1, live.1))
+            (at_set views id i w u live.0)
 
     -- an author that knows the whole list adds an entry that names it
     pub Kept-append : (words' : List ℕ) (id : ℕ) (v : View E) (e : E) → get_elem? views id ≡ some v → v.spent ≡ false
@@ -176,9 +176,9 @@ module _ {E : Type 0} (names : E → ℕ) (may : ℕ → List E → E → Type 0
       limit = kept.limit;
       lawful = lawful;
       named = All-push (λ x. names x < f + kept.draws) kept.list e kept.named (fits.number (names e) author);
-      whole = (id, w, at_set_same views id v w at, alive, refl);
-      each = each';
-      apart = apart_set id v w at alive (λ n a. inl a);
+      whole = (id, w, (at_set_same views id v w at, alive), refl);
+      each = λ i u live. each' i u live.0 live.1;
+      apart = λ i j u x n live live'. apart_set id v w at alive (λ n a. inl a) i j u x n live.0 live'.0 live.1 live'.1;
     }
       where
         longer : List E
@@ -188,7 +188,7 @@ module _ {E : Type 0} (names : E → ℕ) (may : ℕ → List E → E → Type 0
         w = record v { known = record v.known { seen = longer } }
 
         fits : Fits names f b kept.list kept.draws kept.count v
-        fits = kept.each id v at alive
+        fits = kept.each id v (at, alive)
 
         w_fits : Fits names f b longer kept.draws kept.count w
         w_fits = record {
@@ -206,8 +206,8 @@ module _ {E : Type 0} (names : E → ℕ) (may : ℕ → List E → E → Type 0
         each' i u is un = ⊎_elim
             (λ (t : (i ≡ id) × (w ≡ u)). subst (Fits names f b longer kept.draws kept.count) t.1 w_fits)
             (λ (t : (i ≢ id) × (get_elem? views i ≡ some u)). Fits-push kept.list kept.draws kept.count u e
-            (λ same. t.0 (kept.apart i id u v (names e) t.1 at un alive same author))
-            (kept.each i u t.1 un))
+            (λ same. t.0 (kept.apart i id u v (names e) (t.1, un) (at, alive) same author))
+            (kept.each i u (t.1, un)))
             (at_set views id i w u is)
 
   -- u is made of the tokens v and w, of which the second is spent
@@ -222,8 +222,8 @@ module _ {E : Type 0} (names : E → ℕ) (may : ℕ → List E → E → Type 0
       joint = Kept-set words views kept kept.draws kept.count words id v u at alive kept.stand (omega arith) kept.limit (omega arith) fits live (λ e. whole (inl e)) (λ n a. inl (sym same ∙ a))
 
       -- who knew the whole list still does, or it is w, and u does
-      knower : (i : ℕ) × (x : View E) × (i ≢ other) × (get_elem? (set views id u) i ≡ some x) × (x.spent ≡ false) × (x.known.seen ≡ kept.list)
+      knower : (i : ℕ) × (x : View E) × (i ≢ other) × IsLive (set views id u) i x × (x.known.seen ≡ kept.list)
       knower = let k = joint.whole in dite (ℕ_discrete k.0 other)
-          (λ e. let is_w : k.1 ≡ w = some-injective k.1 w (sym k.2 ∙ ap (λ j. get_elem? (set views id u) j) e ∙ there) in
-          (id, u, (λ e'. apart (sym e')), at_set_same views id v u at, live, whole (inr (ap (λ (y : View E). y.known.seen) (sym is_w) ∙ k.4))))
-          (λ ne. (k.0, k.1, ne, k.2, k.3, k.4))
+          (λ e. let is_w : k.1 ≡ w = some-injective k.1 w (sym k.2.0 ∙ ap (λ j. get_elem? (set views id u) j) e ∙ there) in
+          (id, u, (λ e'. apart (sym e')), (at_set_same views id v u at, live), whole (inr (ap (λ (y : View E). y.known.seen) (sym is_w) ∙ k.3))))
+          (λ ne. (k.0, k.1, ne, k.2, k.3))

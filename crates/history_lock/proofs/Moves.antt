@@ -30,9 +30,9 @@ opens {E} names may first list count named lawful = record {
   limit = omega arith;
   lawful = lawful;
   named = NamesBelow-more names first (first + 0) list (omega arith) named;
-  whole = (0, opened first list count, refl, refl, refl);
-  each = each';
-  apart = λ i j u x n e e' un un' a a'. absurd (bare i u n e a);
+  whole = (0, opened first list count, (refl, refl), refl);
+  each = λ i u live. each' i u live.0;
+  apart = λ i j u x n live live' a a'. absurd (bare i u n live.0 a);
 }
   where
     fits : Fits names first (length list) list 0 count (opened first list count)
@@ -47,9 +47,9 @@ opens {E} names may first list count named lawful = record {
       meeting = λ m is. absurd cc;
     }
 
-    each' : (i : ℕ) (u : View E) → get_elem? (opened first list count ∷ []) i ≡ some u → u.spent ≡ false → Fits names first (length list) list 0 count u
-    each' zero u e un = subst (Fits names first (length list) list 0 count) (some-injective _ _ e) fits
-    each' (suc i) u e un = absurd (some-ne-none u (sym e))
+    each' : (i : ℕ) (u : View E) → get_elem? (opened first list count ∷ []) i ≡ some u → Fits names first (length list) list 0 count u
+    each' zero u e = subst (Fits names first (length list) list 0 count) (some-injective _ _ e) fits
+    each' (suc i) u e = absurd (some-ne-none u (sym e))
 
     bare : (i : ℕ) (u : View E) (n : ℕ) → get_elem? (opened first list count ∷ []) i ≡ some u → u.known.author ≡ Some n → ⊥
     bare zero u n e a = let a' : None ≡ u.known.author = ap (λ (y : View E). y.known.author) (some-injective _ u e) in absurd (cc (a', a))
@@ -107,7 +107,7 @@ module _ {S E : Type 0} (names : E → ℕ) (may : ℕ → List E → E → Type
   pub looks : (id : ℕ) (me : Me S (View E)) → me.0.spent ≡ false → Allows Holds slots id me 0 (λ n. n) (λ found after. Looks names may me found after)
   looks id me alive s h long at small =
       let v = me.0 in
-      let fits = h.each id v at alive in
+      let fits = h.each id v (at, alive) in
       let w : View E = record v { known = looked v.known h.list } in
       let fits' : Fits names f b h.list h.draws h.count w = record {
         seen = IsPrefix-self h.list;
@@ -141,7 +141,7 @@ module _ {S E : Type 0} (names : E → ℕ) (may : ℕ → List E → E → Type
       → Allows Holds slots id me 0 (λ n. n) (λ found after. Compares names may me after)
   compares id me alive short s h long at small =
       let v = me.0 in
-      let fits = h.each id v at alive in
+      let fits = h.each id v (at, alive) in
       let w : View E = record v { meeting = None } in
       let fits' : Fits names f b h.list h.draws h.count w = record {
         seen = fits.seen;
@@ -178,7 +178,7 @@ module _ {S E : Type 0} (names : E → ℕ) (may : ℕ → List E → E → Type
   -- the copy knows as much
   pub copies : (id : ℕ) (v : View E) → v.spent ≡ false → Splits Holds id v v (split_off v)
   copies id v alive s h at =
-      let fits = h.each id v at alive in
+      let fits = h.each id v (at, alive) in
       let w = split_off v in
       let fits' : Fits names f b h.list h.draws h.count w = record {
         seen = fits.seen;
@@ -197,7 +197,7 @@ module _ {S E : Type 0} (names : E → ℕ) (may : ℕ → List E → E → Type
   pub counts : (id : ℕ) (me : Me S (View E)) → me.0.spent ≡ false → Allows Holds slots id me 2 (λ n. n) (λ found after. Counts me found after)
   counts id me alive s h long at small =
       let v = me.0 in
-      let fits = h.each id v at alive in
+      let fits = h.each id v (at, alive) in
       let found : slice_index s.words 2 ≡ h.count = ap (λ ws. slice_index ws 2) h.stand in
       let w : View E = record v { known = record v.known { count = slice_index s.words 2 } } in
       let fits' : Fits names f b h.list h.draws h.count w = record {
@@ -223,7 +223,7 @@ module _ {S E : Type 0} (names : E → ℕ) (may : ℕ → List E → E → Type
   pub raises : (id : ℕ) (me : Me S (View E)) (n : ℕ) → me.0.spent ≡ false → Allows Holds slots id me 2 (λ x. max x n) (λ found after. Raises n me after)
   raises id me n alive s h long at small =
       let v = me.0 in
-      let fits = h.each id v at alive in
+      let fits = h.each id v (at, alive) in
       let w : View E = record v { known = record v.known { count = n } } in
       let fits' : Fits names f b h.list h.draws (max h.count n) w = record {
         seen = fits.seen;
@@ -252,7 +252,7 @@ module _ {S E : Type 0} (names : E → ℕ) (may : ℕ → List E → E → Type
       v = me.0
 
       fits : Fits names f b h.list h.draws h.count v
-      fits = h.each id v at alive
+      fits = h.each id v (at, alive)
 
       Goal : List ℕ → Type 0
       Goal ws = (w : View E) × (a : Act S) × Valid s.homes me.1 a × Kept names may f b (slice_set ws 1 (either (slice_index ws 1 == old) (old + 1) (slice_index ws 1))) (set s.views id w) × Draws names may old me (slice_index ws 1) (w, carried_after me.1 a)
@@ -319,7 +319,7 @@ module _ {S E : Type 0} (names : E → ℕ) (may : ℕ → List E → E → Type
       by true hit =
           let longer : List E = h.list ++ e ∷ [] in
           let here : length h.list ≡ old = grind (arith, nat_tests) in
-          let same : v.known.seen ≡ h.list = prefix_whole v.known.seen h.list (h.each id v at alive).seen (omega arith) in
+          let same : v.known.seen ≡ h.list = prefix_whole v.known.seen h.list (h.each id v (at, alive)).seen (omega arith) in
           let next : take (old + 1) all ≡ longer = ap (λ (n : ℕ). take (n + 1) all) (sym len) ∙ ap (λ (l : List E). take (length v.known.seen + 1) l) (sym is) ∙ take-append-one v.known.seen rest e ∙ ap (λ l. l ++ e ∷ []) same in
           let law : IsLawful may b longer = subst (IsLawful may b) next (IsLawful-prefix may b (take (old + 1) all) all (IsPrefix-take (old + 1) all) lawful) in
           let one : length h.list + 1 ≡ length longer = sym (length-append h.list (e ∷ [])) in
@@ -354,9 +354,9 @@ module _ {S E : Type 0} (names : E → ℕ) (may : ℕ → List E → E → Type
   joins id v other w alive alive' s h at apart there =
       let u = joined v w in
       let w_at : get_elem? s.views other ≡ some w = sym (set_else s.views id other u apart) ∙ there in
-      let fits = h.each id v at alive in
-      let other_fits = h.each other w w_at alive' in
-      let numbers : HaveDifferentNumbers v.known.author w.known.author = λ n a a'. apart (h.apart other id w v n w_at at alive' alive a' a) in
+      let fits = h.each id v (at, alive) in
+      let other_fits = h.each other w (w_at, alive') in
+      let numbers : HaveDifferentNumbers v.known.author w.known.author = λ n a a'. apart (h.apart other id w v n (w_at, alive') (at, alive) a' a) in
       let two : Meeting E = record { mine = v.known; other = w.known } in
       let meets : IsMeeting names h.list two = record { mine = fits.seen; other = other_fits.seen; own_entries = fits.own_entries; apart = numbers } in
       let fits' : Fits names f b h.list h.draws h.count u = record {

@@ -1,7 +1,7 @@
 //! The lock, and the calls that wait for nobody.
-ghost use Rattle.std.specs.Prelude.{◌≡◌, ◌+◌, ◌<◌, ◌≤◌, [], length, max, Some, None, MatchOption};
+ghost use Rattle.std.specs.Prelude.{◌≡◌, ◌<◌, ◌≤◌, length, None, MatchOption};
 ghost use mathlib.Core.List.{IsPrefix};
-ghost use Rattle.history_lock.specs.Entries.{own, IsLawful};
+ghost use Rattle.history_lock.specs.Entries.{IsLawful};
 ghost use Rattle.history_lock.specs.Tokens.{HaveDifferentNumbers, HoldsOwn, IsDrawn, OneBeginsOther, copy_of, looked, met};
 ghost use Rattle.history_lock.specs.Authors.{IfAuthor, IfSpent};
 
@@ -10,7 +10,7 @@ use crate::front::Front;
 use crate::held::Held;
 use crate::limits::MOST_DRAWS;
 use crate::naming::Naming;
-use crate::rule::{Compare, Copy, DRAWS, Draw, LENGTH, Law, Look, Meet, Opening};
+use crate::rule::{Compare, DRAWS, Draw, Duplicate, LENGTH, Law, Look, Meet, Opening};
 use crate::stands::Stands;
 use crate::view::View;
 use atomic_table::Table;
@@ -66,7 +66,7 @@ impl<T: Stands + Drop, N: Naming> HistoryLock<T, N> {
         ensures unchanged { front.new ≡ front.old }
         ensures copy { result ≡ copy_of front.old }
     {
-        let seat = self.table.shared.split_seat::<Copy>(&mut front.seat);
+        let seat = self.table.shared.split_seat::<Duplicate>(&mut front.seat);
         Front {
             seat,
             count: front.count,

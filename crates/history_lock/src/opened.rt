@@ -8,7 +8,7 @@ use crate::held::Held;
 use crate::limits::LAST_FIRST;
 use crate::lock::HistoryLock;
 use crate::naming::Naming;
-use crate::rule::{Copy, Law, Opening};
+use crate::rule::{Duplicate, Law, Opening};
 use crate::stands::Stands;
 use crate::view::View;
 use atomic_table::{Seat, Table};
@@ -90,7 +90,7 @@ impl<T: Stands + Drop> Opened<T> {
             first,
             count,
         } = self;
-        let copy = table.shared.split_seat::<Copy>(&mut seat);
+        let copy = table.shared.split_seat::<Duplicate>(&mut seat);
         let front = Front {
             seat,
             count,
