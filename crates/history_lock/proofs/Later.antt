@@ -13,8 +13,9 @@ use Rattle.history_lock.proofs.Prefixes.{IsPrefix-take, IsPrefix-trans, length-t
 use Rattle.history_lock.proofs.Named.{AddsOwn-take, IsLawful-prefix}
 
 module _ {E : Type 0} (names : E → ℕ) where
-  pub later_trans : (u v w : Known E) → IsLater names u v → IsLater names v w → IsLater names u w
-  later_trans u v w p q = record {
+  -- later twice is later
+  pub IsLater-trans : (u v w : Known E) → IsLater names u v → IsLater names v w → IsLater names u w
+  IsLater-trans u v w p q = record {
     seen = IsPrefix-trans u.seen v.seen w.seen p.seen q.seen;
     count = (let x = p.count in let y = q.count in omega arith);
     draws = (let x = p.draws in let y = q.draws in omega arith);
