@@ -1,0 +1,160 @@
+//! The calls under the lock, which may wait: `enter`, `leave` and `close`.
+ghost use Rattle.std.specs.Prelude.{◌≡◌, ◌+◌, ◌<◌, ◌≤◌, ◌^◌, length, take, true, IfSome, MatchBool};
+ghost use mathlib.Core.List.{IsPrefix};
+ghost use Rattle.history_lock.specs.Entries.{AddsOwn, IsLawful};
+ghost use Rattle.history_lock.specs.Tokens.{HoldsOwn, IsCurrent, IsLater};
+
+use crate::front::Front;
+use crate::held::{Held, HistoryGuard};
+use crate::lock::HistoryLock;
+use crate::naming::Naming;
+use crate::rule::{Append, COUNT, Count, LENGTH, Raise};
+use crate::stands::Stands;
+use std::sync::Wait;
+
+impl<T: Stands + Drop, N: Naming> HistoryLock<T, N> {
+    /// Waits for the lock, and until the length and the count that the token finds are those of the value. The token becomes the value's list and count.
+    pub fn enter<'a, R: Wait>(&'a self, rt: &R, front: &mut Front<T, N>) -> HistoryGuard<'a, T, N>
+        ensures value { IsCurrent front.new (T.list result.value.value) (T.tally result.value.value) }
+        ensures entered { IsCurrent front.new result.entered.seen result.entered.count }
+        ensures later { IsLater T.names front.old front.new }
+        ensures looks { front.old.looks < front.new.looks }
+        ensures lawful { IsLawful T.may_follow N.lock.base front.new.seen }
+    {
+        for _ in rt.forever() {
+            if let Some(guard) = self.try_enter(rt, front) {
+                return guard;
+            }
+        }
+        unreachable!()
+    }
+
+    /// Gives the value back, and waits in that it tries to add each entry until it succeeds. The token becomes the value's list and count.
+    pub fn leave<R: Wait>(&self, rt: &R, front: &mut Front<T, N>, guard: HistoryGuard<'_, T, N>)
+        // The token is as it was at that `enter`.
+        requires entered { IsCurrent front.old guard.entered.seen guard.entered.count }
+
+        // Only entries that name the token's author were added, and the count isn't below what it was.
+        requires adds_own { AddsOwn T.names front.old.author guard.entered.seen (T.list guard.value.value) }
+        requires lawful { IsLawful T.may_follow N.lock.base (T.list guard.value.value) }
+        requires count { guard.entered.count ≤ T.tally guard.value.value }
+
+        ensures left { front.new ≡ record front.old { seen = T.list guard.entry.value.value; count = T.tally guard.entry.value.value } }
+    {
+        let HistoryGuard {
+            mut place,
+            value,
+            mut entered,
+            entries,
+        } = guard;
+        self.append_all(rt, front, &value, entries);
+        self.raise_count(front, value.count());
+        let copy = self.split(front);
+        self.meet(&mut entered, copy);
+        *place = Some(Held { value, entered });
+    }
+
+    /// Ends the lock, and gives the value back.
+    pub fn close<R: Wait>(self, rt: &R, mut front: Front<T, N>) -> T
+        ensures seen { IsPrefix front.seen (T.list result) }
+        ensures count { front.count ≤ T.tally result }
+        ensures own_entries { HoldsOwn T.names front (T.list result) }
+        ensures lawful { IsLawful T.may_follow N.lock.base (T.list result) }
+    {
+        self.enter(rt, &mut front).into_value()
+    }
+
+    // Waits for the lock, and lends the value where the words are as the value says.
+    fn try_enter<'a, R: Wait>(
+        &'a self,
+        rt: &R,
+        front: &mut Front<T, N>,
+    ) -> Option<HistoryGuard<'a, T, N>>
+        ensures value { IfSome result (λ guard. IsCurrent front.new (T.list guard.value.value) (T.tally guard.value.value)) }
+        ensures entered { IfSome result (λ guard. IsCurrent front.new guard.entered.seen guard.entered.count) }
+        ensures later { IsLater T.names front.old front.new }
+        ensures looks { IfSome result (λ guard. front.old.looks < front.new.looks) }
+        ensures lawful { IfSome result (λ guard. IsLawful T.may_follow N.lock.base front.new.seen) }
+    {
+        let mut place = self.held.lock(rt);
+        let held = place.take()?;
+        let (held, fits) = self.catch_up(front, held);
+        if fits {
+            return Some(HistoryGuard::lend(place, held));
+        }
+        *place = Some(held);
+        None
+    }
+
+    // The token learns what the lock's own token knows, and loads both words. Says whether they are the value's length and count.
+    fn catch_up(&self, front: &mut Front<T, N>, held: Held<T, N>) -> (Held<T, N>, bool)
+        ensures held { IsCurrent result.0 held.seen held.count }
+        ensures fits { result.1 ≡ true → IsCurrent front.new held.seen held.count }
+        ensures later { IsLater T.names front.old front.new }
+        ensures looks { front.old.looks < front.new.looks }
+        ensures lawful { IsLawful T.may_follow N.lock.base front.new.seen }
+    {
+        let Held { value, mut entered } = held;
+        let copy = self.split(&mut entered);
+        self.meet(front, copy);
+        let length = self.length(front);
+        let count = self.learn_count(front);
+        let fits = length == value.entries() && count == value.count();
+        (Held { value, entered }, fits)
+    }
+
+    // A load of the count.
+    fn learn_count(&self, front: &mut Front<T, N>) -> u64
+        ensures count { front.new ≡ record front.old { count = result } }
+        ensures rises { front.old.count ≤ result }
+    {
+        let found = self.table.shared.load::<Count>(&mut front.seat, COUNT);
+        front.count = found;
+        found
+    }
+
+    // The count rises to this number.
+    fn raise_count(&self, front: &mut Front<T, N>, count: u64)
+        ensures { front.new ≡ record front.old { count = count } }
+    {
+        self.table
+            .shared
+            .fetch_max::<Raise>(&mut front.seat, COUNT, count);
+        front.count = count;
+    }
+
+    // Adds the entries that the value's list has beyond the token's prefix, which has this length.
+    fn append_all<R: Wait>(&self, rt: &R, front: &mut Front<T, N>, value: &T, from: u64)
+        requires place { from ≡ length front.old.seen }
+        requires adds_own { AddsOwn T.names front.old.author front.old.seen (T.list value.now) }
+        requires lawful { IsLawful T.may_follow N.lock.base (T.list value.now) }
+        ensures { front.new ≡ record front.old { seen = T.list value.now } }
+    {
+        let all = value.entries();
+        let mut at = from;
+        for _ in rt.forever() {
+            if at >= all {
+                return;
+            }
+            if self.try_append(front, value, at) {
+                at += 1;
+            }
+        }
+        unreachable!()
+    }
+
+    // One try to add the value's entry at this place, the next after the token's prefix. Says whether it was added.
+    fn try_append(&self, front: &mut Front<T, N>, value: &T, at: u64) -> bool
+        requires place { at ≡ length front.old.seen }
+        requires next { (at < length (T.list value.now)) × (length (T.list value.now) < 2 ^ 64) }
+        requires adds_own { AddsOwn T.names front.old.author front.old.seen (T.list value.now) }
+        requires lawful { IsLawful T.may_follow N.lock.base (T.list value.now) }
+        ensures { MatchBool result (front.new ≡ record front.old { seen = take (at + 1) (T.list value.now) }) (front.new ≡ front.old) }
+    {
+        let found = self
+            .table
+            .shared
+            .compare_exchange_with::<Append>(&mut front.seat, LENGTH, at, at + 1, value);
+        found == at
+    }
+}
