@@ -9,6 +9,7 @@
 mod top;
 mod words;
 
+pub use script_runner::NO_MEMORY;
 pub use top::{BAD_WORDS, diamond};
 pub use words::USAGE;
 
