@@ -1,5 +1,5 @@
 -- The journal of a script is legal.
-use Rattle.std.proofs.Common.{◌≡◌, ℕ, Bool, true, false, cond, List, [], ◌∷◌, ◌++◌, length, fold, Option, Some, None, refl, subst}
+use Rattle.std.proofs.Common.{◌≡◌, ℕ, Bool, true, false, cond, List, [], ◌∷◌, ◌++◌, length, fold, Option, Some, None, refl}
 use Rattle.std.specs.Prelude.{nat_le, codes, IfSome}
 use Rattle.std.specs.Str.{bytes_eq}
 use Rattle.dio_core.specs.declared.line.Line.{Line}
@@ -12,11 +12,11 @@ use Rattle.txn_lang.specs.declared.run.Run.{Run}
 use Rattle.txn_lang.specs.States.{Journal, known, left_by}
 use Rattle.txn_lang.specs.Running.{Ran, exec}
 use Rattle.txn_lang.specs.Running.Ran.{need, done}
-use Rattle.txn_lang.specs.Journals.{IsLegal, MayFollow, IsRunAfter, commit_of}
+use Rattle.txn_lang.specs.Journals.{IsLegal, MayFollow, commit_of}
 use Rattle.txn_lang.proofs.Journals.{legal-push}
 use Rattle.script_runner.specs.Script.{Told}
 use Rattle.script_runner.specs.Words.{trimmed, first_word, after_word, is_quiet, client_named}
-use Rattle.script_runner.specs.Play.{Answer, reply_line, full_words, commit_words, unbuilt_words, committed, ended, ran, do_body, client_line, line_of_client, text_line, answer, Played, one_more, played, play, nothing_played}
+use Rattle.script_runner.specs.Play.{Answer, reply_line, full_words, ended, ran, do_body, client_line, line_of_client, text_line, answer, Played, one_more, play, nothing_played}
 
 -- the journal of an answer is legal
 abbrev Keeps : Answer → Type 0

@@ -1,9 +1,8 @@
 -- A run that keeps deltas is the run of the definition, which replays operations.
-use Rattle.std.proofs.Common.{◌≡◌, Bool, true, false, cond, List, [], ◌∷◌, ◌++◌, fold, Option, Some, None, refl, sym, ap, ◌∙◌, subst}
+use Rattle.std.proofs.Common.{◌≡◌, Bool, true, false, cond, List, [], ◌∷◌, ◌++◌, Option, Some, None, refl, sym, ap, ◌∙◌}
 use Rattle.std.specs.List.{list_any}
 use Rattle.std.proofs.lemmas.List.Sums.{fold-append}
-use Rattle.std.specs.Prelude.{pos, ℤ}
-use Rattle.rdt_types.specs.declared.address.Kind.{Kind}
+use Rattle.std.specs.Prelude.{ℤ}
 use Rattle.rdt_types.specs.declared.address.Kind.TheVariants as kind
 use Rattle.rdt_types.specs.declared.address.Address.{Address}
 use Rattle.rdt_types.specs.declared.delta.Delta.{Delta}
@@ -16,9 +15,9 @@ use Rattle.rdt_types.specs.declared.outcome.Item.{Item}
 use Rattle.rdt_types.specs.declared.outcome.Item.TheVariants as item
 use Rattle.rdt_types.specs.Values.{default_of}
 use Rattle.rdt_types.specs.Deltas.{delta_of}
-use Rattle.rdt_types.specs.DeltaMaps.{Deltas, delta_at, after_maybe, with_delta}
+use Rattle.rdt_types.specs.DeltaMaps.{delta_at, with_delta}
 use Rattle.conflict_table.specs.declared.read.ReadOp.TheVariants as read
-use Rattle.conflict_table.specs.Reads.{replay, answer, is_decided, is_put}
+use Rattle.conflict_table.specs.Reads.{replay, answer, is_put}
 use Rattle.txn_trees.specs.declared.word.WriteWord.{WriteWord}
 use Rattle.txn_trees.specs.declared.word.WriteWord.TheVariants as write_word
 use Rattle.txn_trees.specs.declared.word.ReadWord.TheVariants as read_word
@@ -33,7 +32,7 @@ use Rattle.txn_trees.specs.declared.statement.Body.{Body}
 use Rattle.txn_lang.specs.States.{State, known, apply_maybe}
 use Rattle.txn_lang.specs.Running as model
 use Rattle.txn_lang.specs.Running.{Operations, Progress, Step, need, gives, Stepping, at_address, deltas_of, ended, Ran, done, exec, expr_layer, stmt_layer, address_of}
-use Rattle.txn_lang.proofs.Replay.{composed, composed_with, delta_at-deltas, deltas_leave}
+use Rattle.txn_lang.proofs.Replay.{composed, delta_at-deltas, deltas_leave}
 use Rattle.script_runner.specs.declared.running.Work.{Work}
 use Rattle.script_runner.specs.Overlay as over
 use Rattle.script_runner.specs.Overlay.{is_put_delta}

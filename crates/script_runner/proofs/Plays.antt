@@ -1,22 +1,20 @@
 -- Many lines of a script.
-use Rattle.std.proofs.Common.{◌≡◌, ℕ, ◌+◌, ◌≤◌, ◌<◌, true, false, List, [], ◌∷◌, ◌++◌, length, Option, Some, None, Ok, Err, refl, sym, ap, ◌∙◌, subst, arith, append_assoc, length-append, fold, ◌⊎◌, inl, inr}
+use Rattle.std.proofs.Common.{◌≡◌, ℕ, ◌+◌, ◌≤◌, ◌<◌, true, List, [], ◌∷◌, ◌++◌, length, Some, None, Ok, Err, refl, sym, ap, ◌∙◌, arith, append_assoc, length-append, fold, ◌⊎◌, inl, inr}
 use Rattle.std.specs.Prelude.{IfSome}
 use Rattle.std.proofs.lemmas.List.{append-nil}
 use Rattle.std.proofs.lemmas.List.Sums.{fold-append}
-use Rattle.dio_core.specs.declared.line.Line.{Line}
-use Rattle.dio_core.specs.declared.line.Line.TheVariants as line
 use Rattle.dio_core.specs.declared.line.LineFault.{LineFault}
 use Rattle.dio_core.specs.declared.line.LineFault.TheVariants as fault
 use Rattle.script_runner.specs.Stops.{stop_of}
-use Rattle.dio_core.specs.Lines.{lines, TakesLine, BreaksOff, IsFirstLine}
+use Rattle.dio_core.specs.Lines.{lines, BreaksOff}
 use Rattle.dio_core.specs.Sinks.{with_back}
 use Rattle.txn_grammar.specs.Characters.{Text}
 use Rattle.txn_lang.specs.States.{Journal}
 use Rattle.script_runner.specs.declared.stop.Stop.{Stop}
 use Rattle.script_runner.specs.declared.stop.Stop.TheVariants as stop
 use Rattle.script_runner.specs.declared.stop.TheConstants.{MOST_LINES}
-use Rattle.script_runner.specs.Play.{Played, played, play, nothing_played, one_more, answer_raw}
-use Rattle.script_runner.specs.Script.{Told, DoesLine, BeginsLine, Turns, HasPlayed, PlaysOn, IsPlayed, IsBrokenOff, IsTooLong, IsCutOff, ReadsLine, Ran}
+use Rattle.script_runner.specs.Play.{Played, played, nothing_played, one_more, answer_raw}
+use Rattle.script_runner.specs.Script.{Told, DoesLine, BeginsLine, Turns, HasPlayed, PlaysOn, IsPlayed, IsBrokenOff, IsCutOff, ReadsLine, Ran}
 use Rattle.script_runner.proofs.Turns.{with_back-twice}
 
 -- one more line, played after the others
@@ -80,10 +78,10 @@ module _ (limit : ℕ) where
         place = place;
         more = text ++ more.0;
         output =
-          sym (with_back-twice took text more.0)
-          ∙ (ap (λ t. with_back t more.0) output
-          ∙ (with_back-twice taken (played limit raws).output more.0
-          ∙ ap (with_back taken) (sym more.1 ∙ sym (ap (λ ls. (played limit ls).output) read))));
+            sym (with_back-twice took text more.0)
+            ∙ (ap (λ t. with_back t more.0) output
+            ∙ (with_back-twice taken (played limit raws).output more.0
+            ∙ ap (with_back taken) (sym more.1 ∙ sym (ap (λ ls. (played limit ls).output) read))));
       }
 
   -- a line whose reply was begun
@@ -94,13 +92,13 @@ module _ (limit : ℕ) where
       let line = begun.line in
       let reply = (answer_raw limit old line.raw).1 in
       cut_off all (past.raws ++ line.raw ∷ []) line.rest left took_then taken begun.more
-        (past.read ∙ (ap (λ ls. past.raws ++ ls) line.read ∙ sym (append_assoc past.raws (line.raw ∷ []) (lines line.rest))))
-        (omega (arith, length-append past.raws (line.raw ∷ []), past.many))
-        (inl line.behind)
-        (begun.output
-          ∙ (ap (λ t. with_back t reply) past.output
-          ∙ (with_back-twice taken out reply
-          ∙ ap (with_back taken) (ap (λ j. out ++ (answer_raw limit j line.raw).1) past.made ∙ sym (ap (λ (p : Played). p.output) (played-push limit past.raws line.raw))))))
+      (past.read ∙ (ap (λ ls. past.raws ++ ls) line.read ∙ sym (append_assoc past.raws (line.raw ∷ []) (lines line.rest))))
+      (omega (arith, length-append past.raws (line.raw ∷ []), past.many))
+      (inl line.behind)
+      (begun.output
+      ∙ (ap (λ t. with_back t reply) past.output
+      ∙ (with_back-twice taken out reply
+      ∙ ap (with_back taken) (ap (λ j. out ++ (answer_raw limit j line.raw).1) past.made ∙ sym (ap (λ (p : Played). p.output) (played-push limit past.raws line.raw))))))
 
   with_back-nothing : (t : Told) → with_back t [] ≡ t
   with_back-nothing None = refl

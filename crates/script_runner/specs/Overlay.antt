@@ -1,20 +1,19 @@
 -- A run that keeps deltas in place of its operations, on a whole state: what the code does. `proofs/Overlays.antt` shows
 -- that it is the run of the definition.
-use Rattle.std.specs.Prelude.{◌≡◌, ℕ, ℤ, pos, Bool, true, false, if◌then◌else◌, List, [], ◌∷◌, ◌++◌, fold, Option, Some, None}
+use Rattle.std.specs.Prelude.{ℤ, pos, Bool, true, false, if◌then◌else◌, List, [], ◌∷◌, ◌++◌, fold, Option, Some, None}
 use Rattle.rdt_types.specs.declared.address.Kind.TheVariants as kind
 use Rattle.rdt_types.specs.declared.address.Address.{Address}
 use Rattle.rdt_types.specs.declared.delta.Delta.{Delta}
 use Rattle.rdt_types.specs.declared.delta.Delta.TheVariants as delta
 use Rattle.rdt_types.specs.declared.operation.WriteOp.{WriteOp}
 use Rattle.rdt_types.specs.declared.operation.WriteOp.TheVariants as op
-use Rattle.rdt_types.specs.declared.outcome.Item.{Item}
 use Rattle.rdt_types.specs.declared.outcome.Item.TheVariants as item
 use Rattle.rdt_types.specs.declared.outcome.Outcome.TheVariants as outcome
 use Rattle.rdt_types.specs.declared.value.Value.{Value}
 use Rattle.rdt_types.specs.declared.value.Value.TheVariants as value
 use Rattle.rdt_types.specs.Values.{default_of}
 use Rattle.rdt_types.specs.Deltas.{delta_of}
-use Rattle.rdt_types.specs.DeltaMaps.{Deltas, delta_at, with_delta}
+use Rattle.rdt_types.specs.DeltaMaps.{delta_at, with_delta}
 use Rattle.conflict_table.specs.declared.observation.Obs.TheVariants as obs
 use Rattle.txn_trees.specs.declared.word.WriteWord.{WriteWord}
 use Rattle.txn_trees.specs.declared.word.WriteWord.TheVariants as write_word

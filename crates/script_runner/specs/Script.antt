@@ -1,5 +1,5 @@
 -- What a run of a script has read and written when it ends, or when it stops before.
-use Rattle.std.specs.Prelude.{◌≡◌, ℕ, ◌<◌, ◌≤◌, ◌+◌, ◌⊎◌, Bool, true, false, List, [], ◌∷◌, ◌++◌, length, Option, Some, None, IfSome, Result, Ok, Err}
+use Rattle.std.specs.Prelude.{◌≡◌, ℕ, ◌≤◌, ◌⊎◌, Bool, true, false, List, [], ◌∷◌, ◌++◌, length, Option, Some, None, IfSome, Result, Ok, Err}
 use Rattle.dio_core.specs.Lines.{lines, BreaksOff}
 use Rattle.dio_core.specs.Sinks.{with_back}
 use Rattle.txn_grammar.specs.Characters.{Text}
@@ -7,7 +7,7 @@ use Rattle.txn_lang.specs.States.{Journal}
 use Rattle.script_runner.specs.declared.stop.Stop.{Stop}
 use Rattle.script_runner.specs.declared.stop.Stop.TheVariants as stop
 use Rattle.script_runner.specs.declared.stop.TheConstants.{MOST_LINES}
-use Rattle.script_runner.specs.Play.{Played, played, play, answer_raw}
+use Rattle.script_runner.specs.Play.{played, play, answer_raw}
 
 -- what a source has left, or a sink has taken, or None where it doesn't tell
 abbrev pub Told : Type 0

@@ -1,5 +1,5 @@
 -- The words of a line.
-use Rattle.std.specs.Prelude.{◌≡◌, ℕ, ◌+◌, ◌-◌, ◌*◌, ◌==◌, Bool, true, not, ◌&&◌, nat_le, if◌then◌else◌, List, [], ◌∷◌, take, drop, Option, Some, None, codes, refl}
+use Rattle.std.specs.Prelude.{◌≡◌, ℕ, ◌+◌, ◌-◌, ◌*◌, ◌==◌, Bool, true, not, ◌&&◌, nat_le, if◌then◌else◌, [], ◌∷◌, take, drop, Option, Some, None, codes, refl}
 use Rattle.std.specs.List.{prefix_len}
 use Rattle.txn_grammar.specs.Characters.{Text, is_blank, is_digit}
 

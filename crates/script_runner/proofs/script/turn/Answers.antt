@@ -1,4 +1,4 @@
-use Rattle.std.proofs.Common.{◌≡◌, subst, List, ℕ}
+use Rattle.std.proofs.Common.{subst, List, ℕ}
 use Rattle.dio_core.specs.Sinks.{TakesFront}
 use Rattle.script_runner.proofs.Turns.{write_faults}
 use Rattle.script_runner.proofs.script.turn.Goals as goal
