@@ -29,12 +29,15 @@ pub fn diamond<S: Source, W: Sink, D: Disk, N: Listener>(
     words: &[&str],
     source: &mut S,
     sink: &mut W,
-    _disk: &mut D,
-    _listener: &mut N,
+    disk: &mut D,
+    listener: &mut N,
 ) -> u8
     // 1 comes exactly where the words are not of the form, and then nothing was read or written.
     ensures form { (result ≡ BAD_WORDS) ↔ (is_run (map (λ word. word.now) words.now) ≡ false) }
     ensures untouched { result ≡ BAD_WORDS → (source.new ≡ source.old) × (sink.new ≡ sink.old) }
+
+    // No command so far uses the disk or the listener.
+    ensures unused { (disk.new ≡ disk.old) × (listener.new ≡ listener.old) }
 
     // At 0 nothing is left, and the sink took the whole output.
     ensures whole { result ≡ WHOLE → IfSome (S.left source.old) (λ bytes. IsPlayed standard_limit bytes (S.left source.new) (W.taken sink.old) (W.taken sink.new)) }
