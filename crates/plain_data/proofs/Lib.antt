@@ -1,1 +1,4 @@
 pub mod Entries
+pub mod TextMaps
+pub mod Merging
+pub mod Overlays

@@ -8,12 +8,16 @@
 mod boxed;
 mod copies;
 mod ordered_map;
+mod overlay;
 mod sequence;
+mod text_map;
 
 pub use boxed::Boxed;
 pub use copies::ExactClone;
 pub use ordered_map::OrderedMap;
+pub use overlay::Marking;
 pub use sequence::{Sequence, Text};
+pub use text_map::{TextMap, TextSet};
 
 #[cfg(test)]
 mod tests;

@@ -108,6 +108,22 @@ impl<K: Ord, V> OrderedMap<K, V> {
         }
     }
 
+    /// The pairs of a `Vec`, in its own memory.
+    pub fn from_vec(entries: Vec<(K, V)>) -> OrderedMap<K, V>
+        requires { IsStrictlySortedBy K.cmp (keys_of entries.items) }
+        ensures { result ≡ entries.items }
+    {
+        OrderedMap { entries }
+    }
+
+    /// The pairs as a `Vec`, in the same memory.
+    pub fn into_vec(self) -> Vec<(K, V)>
+        ensures { result.items ≡ self }
+    {
+        let OrderedMap { entries } = self;
+        entries
+    }
+
     /// The pairs, by rising key.
     pub fn as_slice(&self) -> &[(K, V)]
         ensures pairs { result.now ≡ self.now }
@@ -143,6 +159,7 @@ impl<K: Ord + Drop, V: Drop> OrderedMap<K, V> {
     pub fn insert(&mut self, key: K, value: V) -> Result<(), AllocError>
         ensures ok { OnOk result (self.new ≡ insert_entry K.cmp self.old key value) }
         ensures err { OnErr result (self.new ≡ self.old) }
+        ensures rising { IsStrictlySortedBy K.cmp (keys_of self.new) }
     {
         put(&mut self.entries, key, value)
     }

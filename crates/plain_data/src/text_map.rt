@@ -1,0 +1,147 @@
+//! Maps and sets of texts.
+
+ghost use Rattle.std.specs.Prelude.{◌≡◌, ◌↔◌, [], length, IsTrue, IfOk, OnOk, OnErr};
+ghost use Rattle.std.specs.Option.{option_copied};
+ghost use Rattle.std.specs.FinMap as map;
+ghost use Rattle.std.specs.Map.{keys_of};
+ghost use Rattle.std.specs.List.Sorted.{IsStrictlySortedBy};
+ghost use Rattle.plain_data.specs.Texts.{text_cmp};
+
+use crate::copies::ExactClone;
+use crate::ordered_map::OrderedMap;
+use crate::sequence::Text;
+use std::alloc::{AllocError, Global};
+use std::marker::Model;
+
+/// A value for each of some texts, by rising text. Contracts see the finite map.
+#[derive(Debug, Drop)]
+pub struct TextMap<V> {
+    entries: OrderedMap<Text, V>,
+}
+
+/// Some texts, by rising text. Contracts see the finite set.
+pub type TextSet = TextMap<()>;
+
+impl<V> Model for TextMap<V> {
+    ghost use Rattle.std.specs.Prelude.{T};
+    ghost use Rattle.std.specs.Coded.{coded_list, coded_ℕ};
+    ghost use Rattle.std.specs.FinMap as map;
+    ghost use Rattle.plain_data.specs.Texts.{text_cmp};
+
+    ghost Value = { map.FinMap text_cmp V };
+
+    ghost coded = { map.code (coded_list coded_ℕ) V.code };
+
+    ghost view = { λ m. map.from_sorted m.entries };
+
+    ghost invariant = { λ m. T (map.is_sorted text_cmp m.entries) };
+}
+
+impl<V> TextMap<V> {
+    /// A map without keys, which takes no memory yet.
+    pub fn new(alloc: Global) -> TextMap<V>
+        ensures { result ≡ map.empty }
+    {
+        TextMap {
+            entries: OrderedMap::new(alloc),
+        }
+    }
+
+    /// The pairs of a `Vec`, in its own memory.
+    pub fn from_vec(entries: Vec<(Text, V)>) -> TextMap<V>
+        requires { IsStrictlySortedBy text_cmp (keys_of entries.items) }
+        ensures { map.entries result ≡ entries.items }
+    {
+        TextMap {
+            entries: OrderedMap::from_vec(entries),
+        }
+    }
+
+    /// The pairs as a `Vec`, in the same memory.
+    pub fn into_vec(self) -> Vec<(Text, V)>
+        ensures { result.items ≡ map.entries self }
+    {
+        let TextMap { entries } = self;
+        entries.into_vec()
+    }
+
+    /// The pairs, by rising key.
+    pub fn as_slice(&self) -> &[(Text, V)]
+        ensures pairs { result.now ≡ map.entries self.now }
+        ensures rising { IsStrictlySortedBy text_cmp (keys_of result.now) }
+    {
+        self.entries.as_slice()
+    }
+
+    /// The number of keys.
+    pub fn len(&self) -> usize
+        ensures { result ≡ map.len self.now }
+    {
+        self.entries.len()
+    }
+
+    /// Whether there is no key.
+    pub fn is_empty(&self) -> bool
+        ensures { IsTrue result ↔ (self.now ≡ map.empty) }
+    {
+        self.entries.is_empty()
+    }
+
+    /// The value at a key, found by halving.
+    pub fn get(&self, key: &Text) -> Option<&V>
+        ensures { option_copied result ≡ map.get self.now key.now }
+    {
+        self.entries.get(key)
+    }
+
+    /// Whether a key is there.
+    pub fn contains(&self, key: &Text) -> bool
+        ensures { result ≡ map.contains_key self.now key.now }
+    {
+        self.get(key).is_some()
+    }
+}
+
+impl<V: Drop> TextMap<V> {
+    /// Puts a value at a key, in the place of the one that was there. For want of memory the pair is dropped.
+    pub fn insert(&mut self, key: Text, value: V) -> Result<(), AllocError>
+        ensures ok { OnOk result (self.new ≡ map.insert self.old key value) }
+        ensures err { OnErr result (self.new ≡ self.old) }
+    {
+        self.entries.insert(key, value)
+    }
+}
+
+impl<V: ExactClone> Clone for TextMap<V> {
+    ghost is_clone = { λ original copy. copy ≡ original };
+
+    fn clone(&self) -> Result<Self, AllocError> {
+        let entries = self.entries.clone()?;
+        Ok(TextMap { entries })
+    }
+}
+
+impl<V: ExactClone> ExactClone for TextMap<V> {
+    ghost exact = { λ original copy same. same };
+}
+
+impl<V: PartialEq> PartialEq for TextMap<V> {
+    ghost use Rattle.std.specs.Prelude.{nat_eq, ◌&&◌};
+    ghost use Rattle.std.specs.Cmp.{on_per, and_per, partial_equiv_from_equiv};
+    ghost use Rattle.std.specs.Cmp.Lexicographic.{pointwise, lists_per, nat_list_eq_equiv};
+
+    ghost eq = { λ a b. pointwise (λ x y. pointwise nat_eq x.0 y.0 && V.eq x.1 y.1) (map.entries a) (map.entries b) };
+
+    ghost laws = { on_per map.entries (lists_per (and_per (on_per (λ p. p.0) (partial_equiv_from_equiv nat_list_eq_equiv)) (on_per (λ p. p.1) V.laws))) };
+
+    fn eq(&self, other: &Self) -> bool {
+        self.as_slice() == other.as_slice()
+    }
+}
+
+impl<V: Eq> Eq for TextMap<V> {
+    ghost use Rattle.std.specs.Cmp.{on_equiv, and_equiv};
+    ghost use Rattle.std.specs.Cmp.Lexicographic.{lists_equiv, nat_list_eq_equiv};
+
+    ghost laws = { on_equiv map.entries (lists_equiv (and_equiv (on_equiv (λ p. p.0) nat_list_eq_equiv) (on_equiv (λ p. p.1) V.Eq.laws))) };
+}
