@@ -1,7 +1,7 @@
 -- Marks laid over a map: each mark leaves a value at its key, or nothing.
 use Rattle.std.specs.Prelude.{List, fold, Option, Some, None}
 use Rattle.std.specs.FinMap as map
-use Rattle.plain_data.specs.Texts.{Bytes, MapOf}
+use Rattle.plain_data.specs.Texts.{Bytes, MapOf, SetOfTexts}
 
 module _ {V : Type 0} where
   -- the map with a value at a key, or with nothing there
@@ -21,3 +21,7 @@ module _ {V : Type 0} where
   abbrev pub found_after : {M : Type 0} → (M → Option V) → Option M → Option V → Option V
   found_after left None before = before
   found_after left (Some mark) before = left mark
+
+-- the texts of either set
+abbrev pub union : SetOfTexts → SetOfTexts → SetOfTexts
+union some others = overlaid (λ text. Some text) some others

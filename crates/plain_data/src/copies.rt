@@ -11,6 +11,14 @@ impl ExactClone for u8 {
     ghost exact = { λ original copy same. same };
 }
 
+impl ExactClone for bool {
+    ghost exact = { λ original copy same. same };
+}
+
+impl ExactClone for () {
+    ghost exact = { λ original copy same. same };
+}
+
 impl<A: ExactClone, B: ExactClone> ExactClone for (A, B) {
     ghost exact = { λ original copy same i. (A.exact original.0 copy.0 same.0 i, B.exact original.1 copy.1 same.1 i) };
 }

@@ -1,4 +1,9 @@
 pub mod Addresses
+pub mod Marks
+pub mod Keyed
+pub mod Listed
 pub mod Values
 pub mod Deltas
 pub mod DeltaMaps
+pub mod Printed
+pub mod Shards

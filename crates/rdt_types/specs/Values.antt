@@ -1,6 +1,10 @@
 -- Values, and the operations that write them.
-use Rattle.std.specs.Prelude.{◌≡◌, ℤ, pos, refl}
+use Rattle.std.specs.Prelude.{◌≡◌, ℤ, pos, negsuc, Bool, true, false, not, List, [], ◌∷◌, ◌++◌, refl}
 use Rattle.std.specs.Int.{w64, int_wrapping_add}
+use Rattle.std.specs.List.{filter}
+use Rattle.std.specs.Ordering.{eq_by_cmp}
+use Rattle.std.specs.FinMap as map
+use Rattle.plain_data.specs.Texts.{Bytes, text_cmp, MapOf, SetOfTexts, with_text, without_text}
 use Rattle.rdt_types.specs.declared.address.Kind.{Kind}
 use Rattle.rdt_types.specs.declared.address.Kind.TheVariants as kind
 use Rattle.rdt_types.specs.declared.value.Value.{Value}
@@ -14,13 +18,89 @@ wrapping_sum a b = int_wrapping_add w64 a b
 
 -- the value of an address that was never written
 abbrev pub default_of : Kind → Value
+default_of kind.Bool = value.Bool false
 default_of kind.Counter = value.Counter (pos 0)
+default_of kind.Text = value.Text []
+default_of kind.Set = value.Set map.empty
+default_of kind.Hash = value.Hash map.empty
+default_of kind.List = value.List []
 
--- the value after one operation: a put replaces it, and an addition adds to it
+-- the kind of a value
+abbrev pub kind_of : Value → Kind
+kind_of (value.Bool b) = kind.Bool
+kind_of (value.Counter n) = kind.Counter
+kind_of (value.Text t) = kind.Text
+kind_of (value.Set s) = kind.Set
+kind_of (value.Hash m) = kind.Hash
+kind_of (value.List items) = kind.List
+
+-- the kind that an operation writes
+abbrev pub kind_written : WriteOp → Kind
+kind_written (op.PutBool b) = kind.Bool
+kind_written (op.PutCounter n) = kind.Counter
+kind_written (op.AddCounter n) = kind.Counter
+kind_written (op.PutText t) = kind.Text
+kind_written (op.SetAdd x) = kind.Set
+kind_written (op.SetRemove x) = kind.Set
+kind_written op.SetClear = kind.Set
+kind_written (op.HashPut f t) = kind.Hash
+kind_written (op.HashRemove f) = kind.Hash
+kind_written op.HashClear = kind.Hash
+kind_written (op.ListPush x) = kind.List
+kind_written (op.ListRemove x) = kind.List
+kind_written op.ListClear = kind.List
+
+-- What a value holds, by its kind. Of a value of another kind that is what a default holds: no operation meets one.
+abbrev pub bool_in : Value → Bool
+bool_in (value.Bool b) = b
+bool_in _ = false
+
+abbrev pub counter_in : Value → ℤ
+counter_in (value.Counter n) = n
+counter_in _ = pos 0
+
+abbrev pub text_in : Value → Bytes
+text_in (value.Text t) = t
+text_in _ = []
+
+abbrev pub set_in : Value → SetOfTexts
+set_in (value.Set s) = s
+set_in _ = map.empty
+
+abbrev pub hash_in : Value → MapOf Bytes
+hash_in (value.Hash m) = m
+hash_in _ = map.empty
+
+abbrev pub list_in : Value → List Bytes
+list_in (value.List items) = items
+list_in _ = []
+
+-- the items that aren't equal to a text
+abbrev pub others : Bytes → List Bytes → List Bytes
+others x items = filter (λ item. not (eq_by_cmp text_cmp item x)) items
+
+-- The value after one operation. A put replaces what was there, and an addition to a counter adds to it. Elements and
+-- fields are added, put and removed as of a set and a finite map. A push adds an item at the end, and a remove of a list
+-- drops every equal item. A clear leaves nothing.
 abbrev pub write : WriteOp → Value → Value
+write (op.PutBool b) v = value.Bool b
 write (op.PutCounter n) v = value.Counter n
-write (op.AddCounter n) (value.Counter v) = value.Counter (wrapping_sum v n)
+write (op.AddCounter n) v = value.Counter (wrapping_sum (counter_in v) n)
+write (op.PutText t) v = value.Text t
+write (op.SetAdd x) v = value.Set (with_text (set_in v) x)
+write (op.SetRemove x) v = value.Set (without_text (set_in v) x)
+write op.SetClear v = value.Set map.empty
+write (op.HashPut f t) v = value.Hash (map.insert (hash_in v) f t)
+write (op.HashRemove f) v = value.Hash (map.remove (hash_in v) f)
+write op.HashClear v = value.Hash map.empty
+write (op.ListPush x) v = value.List (list_in v ++ x ∷ [])
+write (op.ListRemove x) v = value.List (others x (list_in v))
+write op.ListClear v = value.List []
 
 -- adding 1 to the greatest number gives the least
-addition-wraps : write (op.AddCounter (pos 1)) (value.Counter (pos 9223372036854775807)) ≡ value.Counter (Rattle.std.specs.Prelude.negsuc 9223372036854775807)
+addition-wraps : write (op.AddCounter (pos 1)) (value.Counter (pos 9223372036854775807)) ≡ value.Counter (negsuc 9223372036854775807)
 addition-wraps = refl
+
+-- a remove of a list drops every equal item
+remove-drops-all : write (op.ListRemove (1 ∷ [])) (value.List ((1 ∷ []) ∷ (2 ∷ []) ∷ (1 ∷ []) ∷ [])) ≡ value.List ((2 ∷ []) ∷ [])
+remove-drops-all = refl

@@ -1,12 +1,36 @@
 //! Where a value stands: a kind and a key.
 
+ghost use Rattle.std.specs.Prelude.{◌≡◌};
+ghost use Rattle.rdt_types.specs.Printed.{word_of};
+
 use plain_data::{ExactClone, Text};
 use std::cmp::Ordering;
 
 /// What a value is, and so which operations it has. Kinds are ordered as they stand here.
 #[derive(Clone, Copy, Debug, PartialEq, Eq, PartialOrd, Ord)]
 pub enum Kind {
+    Bool,
     Counter,
+    Text,
+    Set,
+    Hash,
+    List,
+}
+
+impl Kind {
+    /// The word of the kind.
+    pub fn word(self) -> &'static [u8]
+        ensures { result.now ≡ word_of self }
+    {
+        match self {
+            Kind::Bool => b"bool".as_slice(),
+            Kind::Counter => b"counter".as_slice(),
+            Kind::Text => b"text".as_slice(),
+            Kind::Set => b"set".as_slice(),
+            Kind::Hash => b"hash".as_slice(),
+            Kind::List => b"list".as_slice(),
+        }
+    }
 }
 
 /// The place of a value. One key with two kinds makes two addresses.

@@ -1,11 +1,21 @@
 //! What a body that ran comes to.
 
-use plain_data::{ExactClone, Sequence};
+use crate::value::TextList;
+use plain_data::{ExactClone, Sequence, Text};
 
 /// A value that a body emits.
 #[derive(Clone, Debug, Drop, PartialEq, Eq)]
 pub enum Item {
     Int(i64),
+    Bool(bool),
+    Text(Text),
+    Texts(TextList),
+}
+
+impl ExactClone for Item {
+    ghost use Rattle.std.proofs.Common.{rules};
+
+    ghost exact = { Prim.search rules };
 }
 
 /// Values in the order in which they were emitted.
@@ -16,9 +26,15 @@ pub type ItemList = Sequence<Item>;
 pub enum Outcome {
     /// It ran to its end, and emitted these values.
     Ok(ItemList),
+    /// It failed, for this reason.
+    Fail(Text),
+    /// It would have gone on for too long.
+    Spent,
+    /// It would have made or written too much.
+    Big,
 }
 
-impl ExactClone for Item {
+impl ExactClone for Outcome {
     ghost use Rattle.std.proofs.Common.{rules};
 
     ghost exact = { Prim.search rules };

@@ -1,0 +1,59 @@
+//! Which shard holds the value at an address.
+
+ghost use Rattle.std.specs.Prelude.{◌≡◌, ◌≤◌, fold};
+ghost use Rattle.std.specs.List.{flat_map};
+ghost use Rattle.rdt_types.specs.Printed.{spelled, spelling_of as spelling, printed_text};
+ghost use Rattle.rdt_types.specs.Shards as spec;
+
+use crate::address::Address;
+use crate::printed::{Spelling, spelling_of};
+
+/// One byte more, in 32 bits.
+fn hashed(hash: u32, byte: u8) -> u32
+    ensures { result ≡ spec.hashed hash byte }
+{
+    hash.wrapping_mul(31).wrapping_add(u32::from(byte))
+}
+
+/// Some bytes more.
+fn hashed_all(hash: u32, bytes: &[u8]) -> u32
+    ensures { result ≡ fold spec.hashed hash bytes.now }
+{
+    bytes.iter().fold(hash, |hash, byte| hashed(hash, *byte))
+}
+
+/// The bytes of a spelling more.
+fn hashed_spelling(hash: u32, spelling: Spelling) -> u32
+    ensures { result ≡ fold spec.hashed hash (spelled spelling) }
+{
+    match spelling {
+        Spelling::Plain(byte) => hashed(hash, byte),
+        Spelling::Escaped(byte) => hashed(hashed(hash, b'\\'), byte),
+        Spelling::Hexadecimal(high, low) => {
+            let begun = hashed_all(hash, b"\\x".as_slice());
+            hashed(hashed(begun, high), low)
+        }
+    }
+}
+
+/// A printed text more.
+fn hashed_text(hash: u32, text: &[u8]) -> u32
+    ensures { result ≡ fold spec.hashed hash (printed_text text.now) }
+{
+    let mut hash = hashed(hash, b'"');
+    for byte in text {
+        hash = hashed_spelling(hash, spelling_of(*byte));
+    }
+    hashed(hash, b'"')
+}
+
+/// The shard of an address among as many as there are, from 1 to 16: begun with 0, each byte of the printed address makes
+/// 31 times what was there and itself, in 32 bits, and the rest of that by the number of shards is the answer.
+pub fn shard_of(address: &Address, shards: u8) -> u8
+    requires { (1 ≤ shards) × (shards ≤ 16) }
+    ensures { result ≡ spec.shard_of address.now shards }
+{
+    let begun = hashed_all(0, address.kind.word());
+    let key = hashed_text(hashed(begun, b'('), address.key.as_slice());
+    (hashed(key, b')') % u32::from(shards)) as u8
+}
