@@ -1,12 +1,28 @@
 //! Observations.
 
-use plain_data::ExactClone;
+use plain_data::{ExactClone, Text};
 
-/// What a read has seen of the value at an address.
+/// What a read has seen of the value at an address: its answer rests on this, and on nothing else of the value.
 #[derive(Clone, Debug, Drop, PartialEq, Eq)]
 pub enum Obs {
+    /// The whole of a bool.
+    BoolIs,
     /// The whole of a counter.
     CounterIs,
+    /// The whole of a text.
+    TextIs,
+    /// Whether an element is in a set.
+    SetHas(Text),
+    /// The whole of a set.
+    SetAll,
+    /// What stands at a field of a hash, if anything.
+    HashAt(Text),
+    /// The whole of a hash.
+    HashAll,
+    /// The item at a place of a list, counted from 0. It is made only of places within the list.
+    ListAt(u64),
+    /// The whole of a list.
+    ListAll,
 }
 
 impl ExactClone for Obs {

@@ -12,7 +12,42 @@ use Rattle.rdt_types.specs.contracts.address.KindOrd.TheImpl as kinds
 use Rattle.rdt_types.specs.Addresses.{address_cmp}
 
 same_kind : (j k : Kind) → kinds.ghosts.cmp j k ≡ Equal → j ≡ k
+same_kind kind.Bool kind.Bool e = refl
+same_kind kind.Bool kind.Counter e = absurd (cc)
+same_kind kind.Bool kind.Text e = absurd (cc)
+same_kind kind.Bool kind.Set e = absurd (cc)
+same_kind kind.Bool kind.Hash e = absurd (cc)
+same_kind kind.Bool kind.List e = absurd (cc)
+same_kind kind.Counter kind.Bool e = absurd (cc)
 same_kind kind.Counter kind.Counter e = refl
+same_kind kind.Counter kind.Text e = absurd (cc)
+same_kind kind.Counter kind.Set e = absurd (cc)
+same_kind kind.Counter kind.Hash e = absurd (cc)
+same_kind kind.Counter kind.List e = absurd (cc)
+same_kind kind.Text kind.Bool e = absurd (cc)
+same_kind kind.Text kind.Counter e = absurd (cc)
+same_kind kind.Text kind.Text e = refl
+same_kind kind.Text kind.Set e = absurd (cc)
+same_kind kind.Text kind.Hash e = absurd (cc)
+same_kind kind.Text kind.List e = absurd (cc)
+same_kind kind.Set kind.Bool e = absurd (cc)
+same_kind kind.Set kind.Counter e = absurd (cc)
+same_kind kind.Set kind.Text e = absurd (cc)
+same_kind kind.Set kind.Set e = refl
+same_kind kind.Set kind.Hash e = absurd (cc)
+same_kind kind.Set kind.List e = absurd (cc)
+same_kind kind.Hash kind.Bool e = absurd (cc)
+same_kind kind.Hash kind.Counter e = absurd (cc)
+same_kind kind.Hash kind.Text e = absurd (cc)
+same_kind kind.Hash kind.Set e = absurd (cc)
+same_kind kind.Hash kind.Hash e = refl
+same_kind kind.Hash kind.List e = absurd (cc)
+same_kind kind.List kind.Bool e = absurd (cc)
+same_kind kind.List kind.Counter e = absurd (cc)
+same_kind kind.List kind.Text e = absurd (cc)
+same_kind kind.List kind.Set e = absurd (cc)
+same_kind kind.List kind.Hash e = absurd (cc)
+same_kind kind.List kind.List e = refl
 
 both_equal : (r s : Ordering) → ordering_then r s ≡ Equal → (r ≡ Equal) × (s ≡ Equal)
 both_equal Equal s e = (refl, e)
