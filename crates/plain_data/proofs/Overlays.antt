@@ -1,7 +1,8 @@
 -- One pass over two lists of pairs whose keys rise makes the overlay of their maps.
-use Rattle.std.proofs.Common.{◌≡◌, Bool, true, false, not, cond, T, ◌&&◌, Option, Some, None, List, [], ◌∷◌, ◌++◌, fold, refl, sym, ap, ◌∙◌, subst, append_assoc}
-use Rattle.std.specs.List.{AllByRecursion}
-use Rattle.std.specs.Cmp.{alike_right, eq_by_cmp_equiv}
+use Rattle.std.proofs.Common.{◌≡◌, ℕ, zero, suc, nat_eq, length, Bool, true, false, not, cond, T, ◌&&◌, Option, Some, None, List, [], ◌∷◌, ◌++◌, fold, refl, sym, ap, ◌∙◌, subst, append_assoc, rules}
+use Rattle.std.specs.List.{AllByRecursion, list_all}
+use Rattle.std.specs.Option.{unwrap_or}
+use Rattle.std.specs.Cmp.{alike_right, eq_by_cmp_equiv, tied_itself}
 use Rattle.std.specs.Ordering.{is_lt, is_eq, eq_by_cmp, ordering_reverse, match_ordering}
 use Rattle.std.specs.declared.cmp.Ordering.{Ordering}
 use Rattle.std.specs.declared.cmp.Ordering.TheVariants.{Less, Equal, Greater}
@@ -12,7 +13,7 @@ use Rattle.std.specs.Cmp.Lexicographic.{nat_list_cmp_total}
 use Rattle.plain_data.specs.Texts.{Bytes, MapOf, text_cmp}
 use Rattle.plain_data.specs.Overlays.{with_at, marked_by, overlaid, found_after}
 use Rattle.plain_data.specs.Merging.{before, after, pair_at, merged}
-use Rattle.plain_data.proofs.TextMaps.{both, halves, less}
+use Rattle.plain_data.proofs.TextMaps.{both, halves, less, empty-from_sorted}
 use Rattle.plain_data.proofs.Merging.{before_below, after_below, before_at, after_at, before_above, after_above}
 
 same : (x y : Bytes) → text_cmp x y ≡ Equal → x ≡ y
@@ -199,3 +200,79 @@ module _ {V M : Type 0} (left : M → Option V) where
 -- maps with the same at each key are equal
 pub same_map : {V : Type 0} (m n : MapOf V) → ((q : Bytes) → map.get m q ≡ map.get n q) → m ≡ n
 same_map m n is = map.same_map nat_list_cmp_total same m n is
+
+-- ---- small maps
+
+-- no map is as empty as the empty one
+pub entries-empty : {V : Type 0} → map.entries (map.empty {X = V} {R = text_cmp}) ≡ []
+entries-empty {V} = ap map.entries (sym ((empty-from_sorted {V = V} text_cmp [] tt).0 refl)) ∙ map.entries-from_sorted text_cmp [] tt
+
+-- a value put into the empty map is all that it has
+pub entries-one : {V : Type 0} (key : Bytes) (value : V) → map.entries (map.insert {R = text_cmp} map.empty key value) ≡ (key, value) ∷ []
+entries-one key value = map.entries-insert nat_list_cmp_total map.empty key value ∙ ap (put text_cmp key value) entries-empty
+
+pub len-one : {V : Type 0} (key : Bytes) (value : V) → map.len (map.insert {R = text_cmp} map.empty key value) ≡ 1
+len-one key value = map.len-entries _ ∙ ap length (entries-one key value)
+
+-- no marks change nothing
+pub overlaid-none : {V M : Type 0} (left : M → Option V) (m : MapOf V) → overlaid left m map.empty ≡ m
+overlaid-none left m = ap (marked_by left m) entries-empty
+
+-- and one mark is done
+pub overlaid-one : {V M : Type 0} (left : M → Option V) (m : MapOf V) (key : Bytes) (mark : M) → overlaid left m (map.insert map.empty key mark) ≡ with_at m key (left mark)
+overlaid-one left m key mark = ap (marked_by left m) (entries-one key mark)
+
+-- ---- what holds of all values of a map
+
+Some_is : {V : Type 0} (x y : V) → Some x ≡ Some y → x ≡ y
+Some_is x y e = ap (λ o. unwrap_or o x) e
+
+module _ {V : Type 0} (p : V → Bool) where
+  found_all : (es : List (Bytes × V)) (q : Bytes) (value : V) → T (list_all (λ e. p e.1) es) → find text_cmp q es ≡ Some value → T (p value)
+  found_all [] q value all is = absurd (cc)
+  found_all (e ∷ es) q value all is = by (found_all es q value (halves _ _ all).1) (eq_by_cmp text_cmp q e.0) is
+    where
+      by : (find text_cmp q es ≡ Some value → T (p value)) → (b : Bool) → cond b (Some e.1) (find text_cmp q es) ≡ Some value → T (p value)
+      by rest true f = subst (λ v. T (p v)) (Some_is e.1 value f) (halves _ _ all).0
+      by rest false f = rest f
+
+  -- what holds of all values holds of one that is found
+  pub get-all : (m : MapOf V) (q : Bytes) (value : V) → T (list_all (λ e. p e.1) (map.entries m)) → map.get m q ≡ Some value → T (p value)
+  get-all m q value all is = found_all (map.entries m) q value all (sym (map.get-entries m q) ∙ is)
+
+  all_found : (es : List (Bytes × V)) → T (is_sorted text_cmp es) → ((q : Bytes) (value : V) → find text_cmp q es ≡ Some value → T (p value)) → T (list_all (λ e. p e.1) es)
+  all_found [] rising each = tt
+  all_found (e ∷ es) rising each =
+      both _ _ (each e.0 e.1 (ap (λ r. cond (is_eq r) (Some e.1) (find text_cmp e.0 es)) (tied_itself nat_list_cmp_total e.0)))
+      (all_found es (halves _ _ rising).1 (λ q value is. each q value (behind q value is (eq_by_cmp text_cmp q e.0) refl)))
+    where
+      behind : (q : Bytes) (value : V) → find text_cmp q es ≡ Some value → (b : Bool) → eq_by_cmp text_cmp q e.0 ≡ b → cond b (Some e.1) (find text_cmp q es) ≡ Some value
+      behind q value is false t = is
+      behind q value is true t =
+          let none = ap (λ k. find text_cmp k es) (same q e.0 (tied _ t)) ∙ find-none e.0 es (halves _ _ rising).0 in
+          absurd (let h : None ≡ Some value = sym none ∙ is in cc)
+
+  -- what holds of each that is found holds of all
+  pub all-get : (m : MapOf V) → ((q : Bytes) (value : V) → map.get m q ≡ Some value → T (p value)) → T (list_all (λ e. p e.1) (map.entries m))
+  all-get m each = all_found (map.entries m) (map.entries_sorted m) (λ q value is. each q value (map.get-entries m q ∙ is))
+
+-- what follows another number is not 0
+pub nonzero : (n : ℕ) → nat_eq (suc n) 0 ≡ false
+nonzero n = search rules
+
+-- a map that has something is not empty
+pub some-len : {V : Type 0} (m : MapOf V) (q : Bytes) (value : V) → map.get m q ≡ Some value → T (not (nat_eq (map.len m) 0))
+some-len {V} m q value is = by (map.len m) refl
+  where
+    by : (n : ℕ) → map.len m ≡ n → T (not (nat_eq n 0))
+    by zero e = absurd (let h : None ≡ Some value = sym (ap (λ k. map.get k q) (map.empty_of_len m e) ∙ map.get-empty text_cmp q) ∙ is in cc)
+    by (suc n) e = subst (λ b. T (not b)) (sym (nonzero n)) tt
+
+-- and one that isn't empty has something
+pub len-some : {V : Type 0} (m : MapOf V) → T (not (nat_eq (map.len m) 0)) → (q : Bytes) × (value : V) × (map.get m q ≡ Some value)
+len-some {V} m some = by (map.entries m) refl
+  where
+    by : (es : List (Bytes × V)) → map.entries m ≡ es → (q : Bytes) × (value : V) × (map.get m q ≡ Some value)
+    by [] e = absurd (subst (λ n. T (not (nat_eq n 0))) (map.len-entries m ∙ ap length e) some)
+    by (x ∷ es) e =
+        (x.0, x.1, map.get-entries m x.0 ∙ ap (find text_cmp x.0) e ∙ ap (λ r. cond (is_eq r) (Some x.1) (find text_cmp x.0 es)) (tied_itself nat_list_cmp_total x.0))

@@ -1,2 +1,5 @@
 pub mod Laws
 pub mod Addresses
+pub mod Keyed
+pub mod Listed
+pub mod Shards

@@ -49,12 +49,15 @@ impl ExactClone for Address {
 /// By kind, and addresses of one kind by their keys' bytes.
 impl Ord for Address {
     ghost use Rattle.std.proofs.Common.{rules};
+    ghost use Rattle.std.specs.Cmp.{on_total, then_total};
+    ghost use Rattle.std.specs.Cmp.Lexicographic.{nat_list_cmp_total};
     ghost use Rattle.std.specs.Cmp.Rules.{comparing};
+    ghost use Rattle.rdt_types.specs.contracts.address.KindOrd.TheImpl.Laws as kinds;
     ghost use Rattle.rdt_types.specs.Addresses.{address_cmp};
 
     ghost cmp = { address_cmp };
 
-    ghost total = { Prim.search (comparing, rules) };
+    ghost total = { then_total (on_total (λ a. a.kind) (kinds.total-law)) (on_total (λ a. a.key) nat_list_cmp_total) };
 
     ghost matches_partial_cmp = { Prim.search (comparing, rules) };
 

@@ -1,6 +1,8 @@
 //! Deltas of lists.
 
-ghost use Rattle.std.specs.Prelude.{◌≡◌, ◌++◌, T, Some, IfOk, OnOk};
+ghost use Rattle.std.specs.Prelude.{◌≡◌, ◌++◌, if◌then◌else◌, T, Some, IfOk, OnOk};
+ghost use Rattle.std.specs.FinMap as map;
+ghost use Rattle.plain_data.specs.Overlays.{union};
 ghost use Rattle.rdt_types.specs.Listed as spec;
 ghost use Rattle.rdt_types.specs.Listed.{has_form};
 
@@ -56,6 +58,21 @@ fn without(alloc: Global, removed: &TextSet, items: &TextList) -> Result<TextLis
         }
     }
     Ok(kept)
+}
+
+/// The texts of either set, or none where all is cleared before.
+fn removed_by_both(
+    alloc: Global,
+    cleared: bool,
+    first: &TextSet,
+    second: &TextSet,
+) -> Result<TextSet, AllocError>
+    ensures { IfOk result (λ removed. removed ≡ (if cleared then map.empty else union first.now second.now)) }
+{
+    if cleared {
+        return Ok(TextSet::new(alloc));
+    }
+    first.overlaid(alloc, &Naming, second)
 }
 
 /// Adds copies of items at the end.
@@ -126,11 +143,7 @@ impl ListDelta {
         if second.cleared {
             return second.clone();
         }
-        let removed = if self.cleared {
-            TextSet::new(alloc)
-        } else {
-            self.removed.overlaid(alloc, &Naming, &second.removed)?
-        };
+        let removed = removed_by_both(alloc, self.cleared, &self.removed, &second.removed)?;
         let mut pushed = without(alloc, &second.removed, &self.pushed)?;
         push_all(&mut pushed, &second.pushed)?;
         Ok(ListDelta {

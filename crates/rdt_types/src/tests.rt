@@ -1,71 +1,65 @@
-//! Each call once, with ample memory, and sums that wrap.
+//! Each call once, with ample memory: tables of compositions and shards, and every pair of operations of a kind.
 
 use crate::{
-    Address, Delta, DeltaMap, Kind, Settings, Value, WriteOp, add_delta, apply, compose,
-    default_value, delta_of,
+    Address, Delta, DeltaMap, Kind, Mark, Settings, Spelling, Value, WriteOp, add_delta, apply,
+    compose, default_value, delta_of, shard_of, spelling_of,
 };
 use plain_data::Text;
 use std::alloc::{AllocError, Global};
 use std::test::Fail;
 
-fn counter(alloc: Global, key: &[u8]) -> Result<Address, AllocError> {
+fn text(alloc: Global, bytes: &[u8]) -> Result<Text, AllocError> {
+    Text::from_slice(alloc, bytes)
+}
+
+fn address(alloc: Global, kind: Kind, key: &[u8]) -> Result<Address, AllocError> {
     Ok(Address {
-        kind: Kind::Counter,
-        key: Text::from_slice(alloc, key)?,
+        kind,
+        key: text(alloc, key)?,
     })
 }
 
-#[test]
-fn deltas_compose_and_apply(rt: HostRuntime) -> Result<(), Fail> {
-    let greatest = i64::MAX;
-    let least = i64::MIN;
-    let rows = [
-        (
-            WriteOp::AddCounter(3),
-            WriteOp::AddCounter(-3),
-            Delta::AddCounter(0),
-            0i64,
-        ),
-        (
-            WriteOp::PutCounter(greatest),
-            WriteOp::AddCounter(1),
-            Delta::PutCounter(least),
-            least,
-        ),
-        (
-            WriteOp::AddCounter(5),
-            WriteOp::PutCounter(7),
-            Delta::PutCounter(7),
-            7,
-        ),
-        (
-            WriteOp::PutCounter(5),
-            WriteOp::PutCounter(7),
-            Delta::PutCounter(7),
-            7,
-        ),
-    ];
-    for (first, second, composed, value) in rows {
-        let found = compose(&delta_of(&first)?, &delta_of(&second)?)?;
-        assert!(rt; found == composed);
-        assert!(rt; apply(&found, &default_value(Kind::Counter))? == Value::Counter(value));
+/// The delta of some operations in order.
+fn composed(alloc: Global, ops: &[WriteOp]) -> Result<Option<Delta>, AllocError> {
+    let mut whole = None;
+    for op in ops {
+        let delta = delta_of(alloc, op)?;
+        whole = Some(match whole {
+            Some(before) => compose(alloc, &before, &delta)?,
+            None => delta,
+        });
     }
-    Ok(())
+    Ok(whole)
 }
 
 #[test]
-fn deltas_stand_by_address(rt: HostRuntime) -> Result<(), Fail> {
+fn compositions_of_sets(rt: HostRuntime) -> Result<(), Fail> {
     let alloc = rt.alloc();
-    let mut deltas = DeltaMap::new(alloc);
-    add_delta(&mut deltas, counter(alloc, b"y")?, Delta::AddCounter(1))?;
-    add_delta(&mut deltas, counter(alloc, b"x")?, Delta::PutCounter(2))?;
-    add_delta(&mut deltas, counter(alloc, b"y")?, Delta::AddCounter(3))?;
-    assert_eq!(rt; deltas.len(), 2);
-    assert!(rt; counter(alloc, b"x")? < counter(alloc, b"y")?);
-    match deltas.get(&counter(alloc, b"y")?) {
-        Some(delta) => assert!(rt; *delta == Delta::AddCounter(4)),
-        None => assert!(rt; false),
+    let a = text(alloc, b"a")?;
+    let taken = compose(
+        alloc,
+        &delta_of(alloc, &WriteOp::SetAdd(a.clone()?))?,
+        &delta_of(alloc, &WriteOp::SetRemove(a.clone()?))?,
+    )?;
+    match &taken {
+        Delta::Set(delta) => {
+            assert!(rt; !delta.cleared());
+            assert_eq!(rt; delta.marks().get(&a).copied(), Some(false));
+            assert_eq!(rt; delta.marks().len(), 1);
+        }
+        _ => assert!(rt; false),
     }
-    assert_eq!(rt; Settings::standard().limit, 100_000);
+    let cleared = compose(
+        alloc,
+        &delta_of(alloc, &WriteOp::SetClear)?,
+        &delta_of(alloc, &WriteOp::SetRemove(a))?,
+    )?;
+    match &cleared {
+        Delta::Set(delta) => {
+            assert!(rt; delta.cleared());
+            assert!(rt; delta.marks().is_empty());
+        }
+        _ => assert!(rt; false),
+    }
     Ok(())
 }
