@@ -105,6 +105,22 @@ spelled_put : Spelled (spot 1 (t.Name (codes "put")))
 unfolding lex token_at word_at word_token reserved_word statement_word expression_word kind_word
 spelled_put = (codes "put", refl)
 
+spelled_add : Spelled (spot 1 (t.Name (codes "add")))
+unfolding lex token_at word_at word_token reserved_word statement_word expression_word kind_word
+spelled_add = (codes "add", refl)
+
+spelled_push : Spelled (spot 1 (t.Name (codes "push")))
+unfolding lex token_at word_at word_token reserved_word statement_word expression_word kind_word
+spelled_push = (codes "push", refl)
+
+spelled_has : Spelled (spot 1 (t.Name (codes "has")))
+unfolding lex token_at word_at word_token reserved_word statement_word expression_word kind_word
+spelled_has = (codes "has", refl)
+
+spelled_at : Spelled (spot 1 (t.Name (codes "at")))
+unfolding lex token_at word_at word_token reserved_word statement_word expression_word kind_word
+spelled_at = (codes "at", refl)
+
 pub spelled_emit : Spelled (spot 1 (t.Symbol s.Emit))
 unfolding lex token_at word_at word_token reserved_word statement_word expression_word kind_word
 spelled_emit = (codes "emit", refl)
@@ -135,7 +151,17 @@ pub kind_fits : Fits Spelled (one (at kind_of)) (One (at kind_of)) any
 kind_fits = token_fits kind_of (t.Symbol s.Counter) kind.Counter refl spelled_counter
 
 pub write_word_fits : (k : Kind) → Fits Spelled (one (at (write_word k))) (One (at (write_word k))) any
+write_word_fits kind.Bool = token_fits (write_word kind.Bool) (t.Name (codes "put")) write.Put refl spelled_put
 write_word_fits kind.Counter = token_fits (write_word kind.Counter) (t.Name (codes "put")) write.Put refl spelled_put
+write_word_fits kind.Text = token_fits (write_word kind.Text) (t.Name (codes "put")) write.Put refl spelled_put
+write_word_fits kind.Set = token_fits (write_word kind.Set) (t.Name (codes "add")) write.Add refl spelled_add
+write_word_fits kind.Hash = token_fits (write_word kind.Hash) (t.Name (codes "put")) write.Put refl spelled_put
+write_word_fits kind.List = token_fits (write_word kind.List) (t.Name (codes "push")) write.Push refl spelled_push
 
 pub read_word_fits : (k : Kind) → Fits Spelled (one (at (read_word k))) (One (at (read_word k))) any
+read_word_fits kind.Bool = token_fits (read_word kind.Bool) (t.Name (codes "get")) read.Get refl spelled_get
 read_word_fits kind.Counter = token_fits (read_word kind.Counter) (t.Name (codes "get")) read.Get refl spelled_get
+read_word_fits kind.Text = token_fits (read_word kind.Text) (t.Name (codes "get")) read.Get refl spelled_get
+read_word_fits kind.Set = token_fits (read_word kind.Set) (t.Name (codes "has")) read.Has refl spelled_has
+read_word_fits kind.Hash = token_fits (read_word kind.Hash) (t.Name (codes "get")) read.Get refl spelled_get
+read_word_fits kind.List = token_fits (read_word kind.List) (t.Name (codes "at")) read.At refl spelled_at

@@ -1,5 +1,5 @@
 -- What rules ask of a token.
-use Rattle.std.specs.Prelude.{ℕ, Bool, false, if◌then◌else◌, nat_le, length, codes, ℤ, Option, Some, None}
+use Rattle.std.specs.Prelude.{ℕ, Bool, true, false, if◌then◌else◌, nat_le, length, codes, ℤ, Option, Some, None}
 use Rattle.std.specs.Str.{bytes_eq}
 use denote.Enum.Bare.{sameb}
 use Rattle.rdt_types.specs.declared.address.Kind.{Kind}
@@ -58,17 +58,71 @@ abbrev pub kind_of : Token → Option Kind
 kind_of (t.Symbol symbol) = kind_of_symbol symbol
 kind_of other = None
 
+-- the names of writes
+abbrev pub write_spelled : Text → Option WriteWord
+write_spelled name =
+    if bytes_eq name (codes "put") then Some write.Put
+    else (if bytes_eq name (codes "add") then Some write.Add
+    else (if bytes_eq name (codes "remove") then Some write.Remove
+    else (if bytes_eq name (codes "clear") then Some write.Clear
+    else (if bytes_eq name (codes "push") then Some write.Push
+    else None))))
+
 -- the writes of each kind
+abbrev pub has_write : Kind → WriteWord → Bool
+has_write kind.Bool write.Put = true
+has_write kind.Counter write.Put = true
+has_write kind.Counter write.Add = true
+has_write kind.Text write.Put = true
+has_write kind.Set write.Add = true
+has_write kind.Set write.Remove = true
+has_write kind.Set write.Clear = true
+has_write kind.Hash write.Put = true
+has_write kind.Hash write.Remove = true
+has_write kind.Hash write.Clear = true
+has_write kind.List write.Push = true
+has_write kind.List write.Remove = true
+has_write kind.List write.Clear = true
+has_write _ _ = false
+
+-- a word, where it passes
+abbrev pub where_has : {A : Type 0} → (A → Bool) → Option A → Option A
+where_has has None = None
+where_has has (Some word) = if has word then Some word else None
+
 abbrev pub write_named : Kind → Text → Option WriteWord
-write_named kind.Counter name = if bytes_eq name (codes "put") then Some write.Put else (if bytes_eq name (codes "add") then Some write.Add else None)
+write_named k name = where_has (has_write k) (write_spelled name)
 
 abbrev pub write_word : Kind → Token → Option WriteWord
 write_word k (t.Name name) = write_named k name
 write_word k other = None
 
+-- the names of reads
+abbrev pub read_spelled : Text → Option ReadWord
+read_spelled name =
+    if bytes_eq name (codes "get") then Some read.Get
+    else (if bytes_eq name (codes "has") then Some read.Has
+    else (if bytes_eq name (codes "all") then Some read.All
+    else (if bytes_eq name (codes "fields") then Some read.Fields
+    else (if bytes_eq name (codes "at") then Some read.At
+    else None))))
+
 -- the reads of each kind
+abbrev pub has_read : Kind → ReadWord → Bool
+has_read kind.Bool read.Get = true
+has_read kind.Counter read.Get = true
+has_read kind.Text read.Get = true
+has_read kind.Set read.Has = true
+has_read kind.Set read.All = true
+has_read kind.Hash read.Has = true
+has_read kind.Hash read.Get = true
+has_read kind.Hash read.Fields = true
+has_read kind.List read.At = true
+has_read kind.List read.All = true
+has_read _ _ = false
+
 abbrev pub read_named : Kind → Text → Option ReadWord
-read_named kind.Counter name = if bytes_eq name (codes "get") then Some read.Get else None
+read_named k name = where_has (has_read k) (read_spelled name)
 
 abbrev pub read_word : Kind → Token → Option ReadWord
 read_word k (t.Name name) = read_named k name

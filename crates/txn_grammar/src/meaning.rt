@@ -44,20 +44,45 @@ pub(crate) fn kind_of(token: &Token) -> Option<Kind>
     }
 }
 
+/// The write of this name.
+fn write_spelled(name: &[u8]) -> Option<WriteWord>
+    ensures { result ≡ spec.write_spelled name.now }
+{
+    if name == b"put".as_slice() {
+        Some(WriteWord::Put)
+    } else if name == b"add".as_slice() {
+        Some(WriteWord::Add)
+    } else if name == b"remove".as_slice() {
+        Some(WriteWord::Remove)
+    } else if name == b"clear".as_slice() {
+        Some(WriteWord::Clear)
+    } else if name == b"push".as_slice() {
+        Some(WriteWord::Push)
+    } else {
+        None
+    }
+}
+
+/// Whether the kind has the write.
+fn has_write(kind: Kind, word: WriteWord) -> bool
+    ensures { result ≡ spec.has_write kind word }
+{
+    match (kind, word) {
+        (Kind::Bool | Kind::Counter | Kind::Text | Kind::Hash, WriteWord::Put) => true,
+        (Kind::Counter | Kind::Set, WriteWord::Add) => true,
+        (Kind::Set | Kind::Hash | Kind::List, WriteWord::Remove | WriteWord::Clear) => true,
+        (Kind::List, WriteWord::Push) => true,
+        _ => false,
+    }
+}
+
 /// The write of this name that the kind has.
 fn write_named(kind: Kind, name: &[u8]) -> Option<WriteWord>
     ensures { result ≡ spec.write_named kind name.now }
 {
-    match kind {
-        Kind::Counter => {
-            if name == b"put".as_slice() {
-                Some(WriteWord::Put)
-            } else if name == b"add".as_slice() {
-                Some(WriteWord::Add)
-            } else {
-                None
-            }
-        }
+    match write_spelled(name) {
+        Some(word) if has_write(kind, word) => Some(word),
+        _ => None,
     }
 }
 
@@ -71,18 +96,46 @@ pub(crate) fn write_word_of(kind: Kind, token: &Token) -> Option<WriteWord>
     }
 }
 
+/// The read of this name.
+fn read_spelled(name: &[u8]) -> Option<ReadWord>
+    ensures { result ≡ spec.read_spelled name.now }
+{
+    if name == b"get".as_slice() {
+        Some(ReadWord::Get)
+    } else if name == b"has".as_slice() {
+        Some(ReadWord::Has)
+    } else if name == b"all".as_slice() {
+        Some(ReadWord::All)
+    } else if name == b"fields".as_slice() {
+        Some(ReadWord::Fields)
+    } else if name == b"at".as_slice() {
+        Some(ReadWord::At)
+    } else {
+        None
+    }
+}
+
+/// Whether the kind has the read.
+fn has_read(kind: Kind, word: ReadWord) -> bool
+    ensures { result ≡ spec.has_read kind word }
+{
+    match (kind, word) {
+        (Kind::Bool | Kind::Counter | Kind::Text | Kind::Hash, ReadWord::Get) => true,
+        (Kind::Set | Kind::Hash, ReadWord::Has) => true,
+        (Kind::Set | Kind::List, ReadWord::All) => true,
+        (Kind::Hash, ReadWord::Fields) => true,
+        (Kind::List, ReadWord::At) => true,
+        _ => false,
+    }
+}
+
 /// The read of this name that the kind has.
 fn read_named(kind: Kind, name: &[u8]) -> Option<ReadWord>
     ensures { result ≡ spec.read_named kind name.now }
 {
-    match kind {
-        Kind::Counter => {
-            if name == b"get".as_slice() {
-                Some(ReadWord::Get)
-            } else {
-                None
-            }
-        }
+    match read_spelled(name) {
+        Some(word) if has_read(kind, word) => Some(word),
+        _ => None,
     }
 }
 

@@ -3,7 +3,7 @@
 -- The definition replays the body's own operations on plain values. It speaks of the statements that are read so far:
 -- `emit`, and the writes and reads of counters whose keys are literal texts.
 use Rattle.std.specs.Prelude.{◌≡◌, ℕ, ℤ, pos, Bool, true, if◌then◌else◌, List, [], ◌∷◌, ◌++◌, fold, filter, map, Option, Some, None}
-use Rattle.std.specs.List.{list_any}
+use Rattle.std.specs.List.{list_any, AllByRecursion}
 use Rattle.std.specs.Ordering.{is_eq}
 use Rattle.rdt_types.specs.declared.address.Kind.{Kind}
 use Rattle.rdt_types.specs.declared.address.Kind.TheVariants as kind
@@ -15,7 +15,7 @@ use Rattle.rdt_types.specs.declared.outcome.Item.{Item}
 use Rattle.rdt_types.specs.declared.outcome.Item.TheVariants as item
 use Rattle.rdt_types.specs.declared.outcome.Outcome.TheVariants as outcome
 use Rattle.rdt_types.specs.Addresses.{address_cmp}
-use Rattle.rdt_types.specs.Values.{default_of}
+use Rattle.rdt_types.specs.Values.{default_of, kind_written}
 use Rattle.rdt_types.specs.Deltas.{delta_of}
 use Rattle.rdt_types.specs.DeltaMaps.{Deltas, with_delta}
 use Rattle.conflict_table.specs.declared.observation.Obs.{Obs}
@@ -88,7 +88,7 @@ observes a o p = record p { observations = with_seen p.observations (record { ad
 -- a read that the own operations don't decide: it needs the value, and observes it
 abbrev pub read_value : ReadOp → Address → List WriteOp → Option Value → Stepping Item
 read_value r a own None = λ p. need a
-read_value r a own (Some v) = λ p. gives (answer r (replay own v)) (observes a (observed r) p)
+read_value r a own (Some v) = λ p. gives (answer r (replay own v)) (observes a (observed r own v) p)
 
 -- A read answers what it answers of the value after the own operations at the address. Where they decide it, they do so
 -- on the default as on any value.
@@ -184,6 +184,10 @@ exec b m = ended (run_all m b.stmts start)
 
 -- ---- a law
 
+-- each operation is of the kind of its address
+abbrev pub AreOfTheirKinds : Operations → Type 0
+AreOfTheirKinds own = AllByRecursion (λ w. kind_written w.1 ≡ w.0.kind) own
+
 -- the deltas of operations leave at each address what the operations leave, one after the other
 abbrev pub DeltasLeaveWhatOperationsLeave : Type 0
-DeltasLeaveWhatOperationsLeave = (own : Operations) (a : Address) (v : Value) → after (deltas_of own) a v ≡ replay (at_address a own) v
+DeltasLeaveWhatOperationsLeave = (own : Operations) (a : Address) (v : Value) → AreOfTheirKinds own → after (deltas_of own) a v ≡ replay (at_address a own) v
