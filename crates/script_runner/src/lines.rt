@@ -35,7 +35,7 @@ fn commit(
     let words = commit_words(alloc, number as u64 + 1, &run.outcome)?;
     let reply = reply_line(alloc, client, words.as_slice())?;
     let body = Text::from_slice(alloc, body)?;
-    world.add(client, body, run)?;
+    world.add(alloc, client, body, run)?;
     Ok(reply)
 }
 

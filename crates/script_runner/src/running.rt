@@ -5,6 +5,7 @@ ghost use Rattle.rdt_types.specs.DeltaMaps.{delta_at};
 ghost use Rattle.txn_lang.specs.States.{known, apply_maybe};
 ghost use Rattle.txn_lang.specs.Running.{exec, address_of, with_seen, expr_layer, key_in};
 ghost use Rattle.txn_lang.specs.Running.Ran.{done};
+ghost use Rattle.conflict_table.specs.Reads as reads;
 ghost use Rattle.script_runner.specs.Overlay as spec;
 ghost use Rattle.script_runner.specs.Values.{state_in};
 
@@ -56,77 +57,97 @@ fn observe(observations: &mut SeenList, seen: Seen) -> Result<(), AllocError>
     observations.push(seen)
 }
 
-fn counter_in(value: &Value) -> i64
-    ensures { result ≡ spec.counter_in value.now }
+/// The whole of a bool, a counter or a text. No other value is read whole.
+fn whole(alloc: Global, value: Value) -> Item
+    ensures { result ≡ reads.whole value }
 {
-    let Value::Counter(n) = value;
-    *n
+    match value {
+        Value::Bool(b) => Item::Bool(b),
+        Value::Counter(n) => Item::Int(n),
+        Value::Text(text) => Item::Text(text),
+        _ => Item::Text(Text::new(alloc)),
+    }
 }
 
-/// The counter at an address, after what the run has written there.
-#[tactic(auto, unfolding(crate::specs::Overlay::read_counter))]
-fn read_counter(values: &Values, work: &mut Work, address: Address) -> Result<i64, AllocError>
-    ensures { IfOk result (λ n. (n, work.new) ≡ spec.read_counter (state_in values.now) address work.old) }
+/// The whole of a value, as it is observed.
+fn whole_observed(value: &Value) -> Obs
+    ensures { result ≡ reads.whole_observed value.now }
+{
+    match value {
+        Value::Bool(_) => Obs::BoolIs,
+        Value::Text(_) => Obs::TextIs,
+        _ => Obs::CounterIs,
+    }
+}
+
+/// The whole of the value at an address, after what the run has written there.
+#[tactic(auto, unfolding(crate::specs::Overlay::read_whole))]
+fn read_whole(
+    alloc: Global,
+    values: &Values,
+    work: &mut Work,
+    address: Address,
+) -> Result<Item, AllocError>
+    ensures { IfOk result (λ i. (i, work.new) ≡ spec.read_whole (state_in values.now) address work.old) }
 {
     match work.deltas.get(&address) {
-        Some(Delta::PutCounter(n)) => Ok(*n),
+        Some(Delta::PutCounter(n)) => Ok(Item::Int(*n)),
         Some(delta) => {
-            let value = apply(delta, &values.value_at(&address)?)?;
-            observe(&mut work.observations, counter_seen(address))?;
-            Ok(counter_in(&value))
+            let value = values.value_at(alloc, &address)?;
+            let obs = whole_observed(&value);
+            let written = apply(alloc, delta, &value)?;
+            observe(&mut work.observations, Seen { address, obs })?;
+            Ok(whole(alloc, written))
         }
         None => {
-            let value = values.value_at(&address)?;
-            observe(&mut work.observations, counter_seen(address))?;
-            Ok(counter_in(&value))
+            let value = values.value_at(alloc, &address)?;
+            let obs = whole_observed(&value);
+            observe(&mut work.observations, Seen { address, obs })?;
+            Ok(whole(alloc, value))
         }
     }
 }
 
-fn counter_seen(address: Address) -> Seen
-    ensures { result ≡ record { address = address; obs = Obs.CounterIs } }
-{
-    Seen {
-        address,
-        obs: Obs::CounterIs,
-    }
-}
-
-/// The number that an expression is. What is read has no other expression.
-#[tactic(auto, unfolding(crate::specs::Overlay::number_of))]
-fn number_of(
+/// What an expression is. What is read has no other expression.
+#[tactic(auto, unfolding(crate::specs::Overlay::item_of))]
+fn item_of(
     alloc: Global,
     values: &Values,
     work: &mut Work,
     expr: &Expr,
-) -> Result<i64, AllocError>
-    ensures { IfOk result (λ n. (n, work.new) ≡ spec.number_of (state_in values.now) expr.now work.old) }
+) -> Result<Item, AllocError>
+    ensures { IfOk result (λ i. (i, work.new) ≡ spec.item_of (state_in values.now) expr.now work.old) }
 {
     match &expr.node {
-        ExprNode::Number(n) => Ok(*n),
+        ExprNode::Number(n) => Ok(Item::Int(*n)),
         ExprNode::Read(Kind::Counter, key, ReadWord::Get, _) => {
-            read_counter(values, work, counter_at(alloc, key.get())?)
+            read_whole(alloc, values, work, counter_at(alloc, key.get())?)
         }
-        _ => Ok(0),
+        _ => Ok(Item::Int(0)),
     }
 }
 
 /// The operation of a counter that a word names.
-fn operation_of(word: WriteWord, n: i64) -> Option<WriteOp>
-    ensures { result ≡ spec.operation_of word n }
+fn operation_of(word: WriteWord, item: &Item) -> Option<WriteOp>
+    ensures { result ≡ spec.operation_of word item.now }
 {
-    match word {
-        WriteWord::Put => Some(WriteOp::PutCounter(n)),
-        WriteWord::Add => Some(WriteOp::AddCounter(n)),
+    match (word, item) {
+        (WriteWord::Put, Item::Int(n)) => Some(WriteOp::PutCounter(*n)),
+        (WriteWord::Add, Item::Int(n)) => Some(WriteOp::AddCounter(*n)),
         _ => None,
     }
 }
 
-fn write(work: &mut Work, address: Address, op: Option<WriteOp>) -> Result<(), AllocError>
+fn write(
+    alloc: Global,
+    work: &mut Work,
+    address: Address,
+    op: Option<WriteOp>,
+) -> Result<(), AllocError>
     ensures { OnOk result (work.new ≡ spec.writing address op work.old) }
 {
     match op {
-        Some(op) => add_delta(&mut work.deltas, address, delta_of(&op)?),
+        Some(op) => add_delta(alloc, &mut work.deltas, address, delta_of(alloc, &op)?),
         None => Ok(()),
     }
 }
@@ -138,13 +159,13 @@ fn step(alloc: Global, values: &Values, work: &mut Work, stmt: &Stmt) -> Result<
 {
     match &stmt.node {
         StmtNode::Emit(expr) => {
-            let n = number_of(alloc, values, work, expr)?;
-            work.emitted.push(Item::Int(n))
+            let item = item_of(alloc, values, work, expr)?;
+            work.emitted.push(item)
         }
         StmtNode::Write(Kind::Counter, key, word, arguments) => match arguments.as_slice() {
             [argument] => {
-                let n = number_of(alloc, values, work, argument)?;
-                write(work, counter_at(alloc, key)?, operation_of(*word, n))
+                let item = item_of(alloc, values, work, argument)?;
+                write(alloc, work, counter_at(alloc, key)?, operation_of(*word, &item))
             }
             _ => Ok(()),
         },

@@ -26,30 +26,36 @@ impl Values {
     }
 
     /// A copy of the value at an address.
-    pub fn value_at(&self, address: &Address) -> Result<Value, AllocError>
+    pub fn value_at(&self, alloc: Global, address: &Address) -> Result<Value, AllocError>
         ensures { IfOk result (λ v. v ≡ state_in self.now address.now) }
     {
         match self.written.get(address) {
             Some(value) => value.clone(),
-            None => Ok(default_value(address.kind)),
+            None => Ok(default_value(alloc, address.kind)),
         }
     }
+
     /// Writes what a delta makes of the value at an address. For want of memory nothing is written.
-    fn write_one(&mut self, address: &Address, delta: &Delta) -> Result<(), AllocError>
+    fn write_one(
+        &mut self,
+        alloc: Global,
+        address: &Address,
+        delta: &Delta,
+    ) -> Result<(), AllocError>
         ensures { OnOk result ((a : Address) → state_in self.new a ≡ with_written (state_in self.old) (address.now, delta.now) a) }
     {
-        let value = apply(delta, &self.value_at(address)?)?;
+        let value = apply(alloc, delta, &self.value_at(alloc, address)?)?;
         let address = address.clone()?;
         self.written.insert(address, value)?;
         Ok(())
     }
 
     /// Writes what the deltas of a commit make of the values. For want of memory some may be written and others not.
-    pub fn write(&mut self, deltas: &DeltaMap) -> Result<(), AllocError>
+    pub fn write(&mut self, alloc: Global, deltas: &DeltaMap) -> Result<(), AllocError>
         ensures { OnOk result ((a : Address) → state_in self.new a ≡ after deltas.now a (state_in self.old a)) }
     {
         for (address, delta) in deltas.as_slice() {
-            self.write_one(address, delta)?;
+            self.write_one(alloc, address, delta)?;
         }
         Ok(())
     }

@@ -46,7 +46,13 @@ impl World {
     }
 
     /// Adds the commit of a run. After want of memory the world is of no use.
-    pub fn add(&mut self, client: u32, body: Text, run: Run) -> Result<(), AllocError>
+    pub fn add(
+        &mut self,
+        alloc: Global,
+        client: u32,
+        body: Text,
+        run: Run,
+    ) -> Result<(), AllocError>
         requires keeps { Keeps self.old }
         requires room { length self.old.journal < 2 ^ 32 }
         ensures journal { OnOk result (self.new.journal ≡ self.old.journal ++ commit_of self.old.journal client body run ∷ []) }
@@ -54,7 +60,7 @@ impl World {
     {
         let number = self.journal.len() as u64 + 1;
         let seq = self.seqs.next(client);
-        self.values.write(&run.deltas)?;
+        self.values.write(alloc, &run.deltas)?;
         self.seqs.set(client, seq)?;
         self.journal.push(Commit {
             number,

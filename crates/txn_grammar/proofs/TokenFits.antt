@@ -19,7 +19,7 @@ use Rattle.txn_grammar.specs.QuotedReader.{quoted, pieces, piece}
 use Rattle.txn_grammar.specs.Spellings.{reserved_word, statement_word, expression_word, kind_word, long_mark, short_mark}
 use Rattle.txn_grammar.specs.Numbers.{number_value, small_value}
 use Rattle.txn_grammar.specs.Lexer.{spot, lex, token_at, word_at, word_token, number_at, text_at, mark_at, Spelled}
-use Rattle.txn_grammar.specs.Tokens.{with_column, at, same_symbol, is_symbol, symbol_at, number, key, kind_of, kind_of_symbol, write_word, read_word}
+use Rattle.txn_grammar.specs.Tokens.{with_column, at, same_symbol, is_symbol, symbol_at, number, key, kind_of, kind_of_symbol, write_word, read_word, write_named, read_named}
 use Rattle.txn_grammar.specs.Grammar.{Word}
 use Rattle.txn_grammar.specs.Reader.{word, sees}
 
@@ -151,6 +151,7 @@ pub kind_fits : Fits Spelled (one (at kind_of)) (One (at kind_of)) any
 kind_fits = token_fits kind_of (t.Symbol s.Counter) kind.Counter refl spelled_counter
 
 pub write_word_fits : (k : Kind) → Fits Spelled (one (at (write_word k))) (One (at (write_word k))) any
+unfolding write_named
 write_word_fits kind.Bool = token_fits (write_word kind.Bool) (t.Name (codes "put")) write.Put refl spelled_put
 write_word_fits kind.Counter = token_fits (write_word kind.Counter) (t.Name (codes "put")) write.Put refl spelled_put
 write_word_fits kind.Text = token_fits (write_word kind.Text) (t.Name (codes "put")) write.Put refl spelled_put
@@ -159,6 +160,7 @@ write_word_fits kind.Hash = token_fits (write_word kind.Hash) (t.Name (codes "pu
 write_word_fits kind.List = token_fits (write_word kind.List) (t.Name (codes "push")) write.Push refl spelled_push
 
 pub read_word_fits : (k : Kind) → Fits Spelled (one (at (read_word k))) (One (at (read_word k))) any
+unfolding read_named
 read_word_fits kind.Bool = token_fits (read_word kind.Bool) (t.Name (codes "get")) read.Get refl spelled_get
 read_word_fits kind.Counter = token_fits (read_word kind.Counter) (t.Name (codes "get")) read.Get refl spelled_get
 read_word_fits kind.Text = token_fits (read_word kind.Text) (t.Name (codes "get")) read.Get refl spelled_get

@@ -90,7 +90,7 @@ abbrev pub where_has : {A : Type 0} → (A → Bool) → Option A → Option A
 where_has has None = None
 where_has has (Some word) = if has word then Some word else None
 
-abbrev pub write_named : Kind → Text → Option WriteWord
+unfoldable pub write_named : Kind → Text → Option WriteWord
 write_named k name = where_has (has_write k) (write_spelled name)
 
 abbrev pub write_word : Kind → Token → Option WriteWord
@@ -121,7 +121,7 @@ has_read kind.List read.At = true
 has_read kind.List read.All = true
 has_read _ _ = false
 
-abbrev pub read_named : Kind → Text → Option ReadWord
+unfoldable pub read_named : Kind → Text → Option ReadWord
 read_named k name = where_has (has_read k) (read_spelled name)
 
 abbrev pub read_word : Kind → Token → Option ReadWord

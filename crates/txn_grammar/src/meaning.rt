@@ -77,6 +77,7 @@ fn has_write(kind: Kind, word: WriteWord) -> bool
 }
 
 /// The write of this name that the kind has.
+#[tactic(auto, unfolding(crate::specs::Tokens::write_named))]
 fn write_named(kind: Kind, name: &[u8]) -> Option<WriteWord>
     ensures { result ≡ spec.write_named kind name.now }
 {
@@ -130,6 +131,7 @@ fn has_read(kind: Kind, word: ReadWord) -> bool
 }
 
 /// The read of this name that the kind has.
+#[tactic(auto, unfolding(crate::specs::Tokens::read_named))]
 fn read_named(kind: Kind, name: &[u8]) -> Option<ReadWord>
     ensures { result ≡ spec.read_named kind name.now }
 {
