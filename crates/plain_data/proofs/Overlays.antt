@@ -1,9 +1,9 @@
 -- One pass over two lists of pairs whose keys rise makes the overlay of their maps.
-use Rattle.std.proofs.Common.{◌≡◌, ℕ, zero, suc, nat_eq, length, Bool, true, false, not, cond, T, ◌&&◌, Option, Some, None, List, [], ◌∷◌, ◌++◌, fold, refl, sym, ap, ◌∙◌, subst, append_assoc, rules}
+use Rattle.std.proofs.Common.{◌≡◌, ℕ, zero, suc, nat_eq, length, Bool, true, false, not, cond, T, Option, Some, None, List, [], ◌∷◌, ◌++◌, fold, refl, sym, ap, ◌∙◌, subst, append_assoc, rules}
 use Rattle.std.specs.List.{AllByRecursion, list_all}
 use Rattle.std.specs.Option.{unwrap_or}
 use Rattle.std.specs.Cmp.{alike_right, eq_by_cmp_equiv, tied_itself}
-use Rattle.std.specs.Ordering.{is_lt, is_eq, eq_by_cmp, ordering_reverse, match_ordering}
+use Rattle.std.specs.Ordering.{is_lt, is_eq, eq_by_cmp, ordering_reverse}
 use Rattle.std.specs.declared.cmp.Ordering.{Ordering}
 use Rattle.std.specs.declared.cmp.Ordering.TheVariants.{Less, Equal, Greater}
 use Rattle.std.specs.FinMap as map

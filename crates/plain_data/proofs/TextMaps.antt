@@ -1,5 +1,5 @@
 -- Lists of pairs whose keys rise, as the finite maps of std see them.
-use Rattle.std.proofs.Common.{◌≡◌, Some, Bool, true, false, cond, T, ◌&&◌, ℕ, suc, List, [], ◌∷◌, length, ◌↔◌, refl, sym, ap, ◌∙◌, subst}
+use Rattle.std.proofs.Common.{◌≡◌, Some, Bool, true, false, cond, T, ◌&&◌, List, [], ◌∷◌, length, ◌↔◌, refl, sym, ap, ◌∙◌, subst}
 use Rattle.std.specs.Cmp.{IsTotalOrder}
 use Rattle.std.specs.List.{AllByRecursion}
 use Rattle.std.specs.List.Sorted.{IsStrictlySortedBy}
@@ -9,7 +9,6 @@ use Rattle.std.specs.Ordering.{is_lt, match_ordering}
 use Rattle.std.specs.declared.cmp.Ordering.{Ordering}
 use Rattle.std.specs.declared.cmp.Ordering.TheVariants.{Less, Equal, Greater}
 use Rattle.std.specs.FinMap as map
-use Rattle.std.specs.FinMap.{FinMap}
 use Rattle.std.specs.FinMap.Entries.{find, put, is_sorted, below_all, by_order}
 
 -- two that hold

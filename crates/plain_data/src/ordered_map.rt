@@ -118,7 +118,8 @@ impl<K: Ord, V> OrderedMap<K, V> {
 
     /// The pairs as a `Vec`, in the same memory.
     pub fn into_vec(self) -> Vec<(K, V)>
-        ensures { result.items ≡ self }
+        ensures pairs { result.items ≡ self }
+        ensures rising { IsStrictlySortedBy K.cmp (keys_of result.items) }
     {
         let OrderedMap { entries } = self;
         entries

@@ -1,6 +1,7 @@
 //! Each call once, with ample memory.
 
-use crate::{Boxed, OrderedMap, Sequence, Text};
+use crate::{Boxed, Marking, OrderedMap, Sequence, Text, TextMap, TextSet};
+use std::alloc::AllocError;
 use std::test::Fail;
 
 #[test]
@@ -43,5 +44,64 @@ fn maps_are_in_order(rt: HostRuntime) -> Result<(), Fail> {
     assert_eq!(rt; map.get(&6).copied(), None);
     let copy = map.clone()?;
     assert_eq!(rt; copy.as_slice(), map.as_slice());
+    Ok(())
+}
+
+/// Marks that keep a number below 10 and take away what has a greater one.
+#[derive(Drop)]
+struct BelowTen;
+
+impl Marking<u8, u8> for BelowTen {
+    ghost use Rattle.std.specs.Prelude.{if◌then◌else◌, nat_lt, Some, None};
+
+    ghost left = { λ _ mark. if nat_lt mark 10 then Some mark else None };
+
+    fn left(&self, mark: &u8) -> Result<Option<u8>, AllocError> {
+        Ok(if *mark < 10 { Some(*mark) } else { None })
+    }
+}
+
+#[test]
+fn maps_of_texts_are_overlaid(rt: HostRuntime) -> Result<(), Fail> {
+    let alloc = rt.alloc();
+    let mut under = TextMap::new(alloc);
+    let mut marks = TextMap::new(alloc);
+    for (key, value) in [(b"b", 1u8), (b"a", 2), (b"d", 3)] {
+        under.insert(Text::from_slice(alloc, key.as_slice())?, value)?;
+    }
+    for (key, mark) in [(b"c", 4u8), (b"a", 10), (b"d", 5)] {
+        marks.insert(Text::from_slice(alloc, key.as_slice())?, mark)?;
+    }
+    let whole = under.overlaid(alloc, &BelowTen, &marks)?;
+    let rows = [
+        (b"a", None),
+        (b"b", Some(1u8)),
+        (b"c", Some(4)),
+        (b"d", Some(5)),
+    ];
+    for (key, value) in rows {
+        let key = Text::from_slice(alloc, key.as_slice())?;
+        assert_eq!(rt; whole.get(&key).copied(), value);
+        assert_eq!(rt; whole.contains(&key), value.is_some());
+    }
+    assert_eq!(rt; whole.len(), 3);
+    assert!(rt; whole.clone()? == whole);
+    assert!(rt; whole != under);
+    Ok(())
+}
+
+#[test]
+fn maps_give_their_vectors_back(rt: HostRuntime) -> Result<(), Fail> {
+    let alloc = rt.alloc();
+    let mut set = TextSet::new(alloc);
+    assert!(rt; set.is_empty());
+    set.insert(Text::from_slice(alloc, b"a")?, ())?;
+    assert_eq!(rt; set.as_slice().len(), 1);
+    let again = TextSet::from_vec(set.into_vec());
+    assert!(rt; again.contains(&Text::from_slice(alloc, b"a")?));
+    let mut map = OrderedMap::new(alloc);
+    map.insert(1u8, 2u8)?;
+    let same = OrderedMap::from_vec(map.into_vec());
+    assert_eq!(rt; same.get(&1).copied(), Some(2));
     Ok(())
 }

@@ -59,7 +59,8 @@ impl<V> TextMap<V> {
 
     /// The pairs as a `Vec`, in the same memory.
     pub fn into_vec(self) -> Vec<(Text, V)>
-        ensures { result.items ≡ map.entries self }
+        ensures pairs { result.items ≡ map.entries self }
+        ensures rising { IsStrictlySortedBy text_cmp (keys_of result.items) }
     {
         let TextMap { entries } = self;
         entries.into_vec()

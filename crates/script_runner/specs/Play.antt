@@ -24,10 +24,12 @@ use Rattle.script_runner.specs.Words.{trimmed, first_word, after_word, is_quiet,
 
 abbrev pub item_text : Item → Text
 item_text (item.Int n) = signed_decimal n
+item_text _ = 63 ∷ []
 
 -- `ok` and the emitted values, each behind a space
 abbrev pub outcome_text : Outcome → Text
 outcome_text (outcome.Ok items) = codes "ok" ++ flat_map (λ i. 32 ∷ item_text i) items
+outcome_text _ = 63 ∷ []
 
 -- a reply line: the client, a space, the words and a newline
 abbrev pub reply_line : ℕ → Text → Text

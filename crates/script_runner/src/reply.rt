@@ -20,7 +20,7 @@ fn push_number(alloc: Global, text: &mut Text, number: u64) -> Result<(), AllocE
 fn push_item(alloc: Global, text: &mut Text, item: &Item) -> Result<(), AllocError>
     ensures { OnOk result (text.new ≡ text.old ++ spec.item_text item.now) }
 {
-    let Item::Int(number) = item;
+    let Item::Int(number) = item else { return text.push(b'?'); };
     let digits = number.to_string(alloc)?;
     text.extend_from_slice(digits.as_bytes())
 }
@@ -29,7 +29,7 @@ fn push_item(alloc: Global, text: &mut Text, item: &Item) -> Result<(), AllocErr
 fn push_outcome(alloc: Global, text: &mut Text, outcome: &Outcome) -> Result<(), AllocError>
     ensures { OnOk result (text.new ≡ text.old ++ spec.outcome_text outcome.now) }
 {
-    let Outcome::Ok(items) = outcome;
+    let Outcome::Ok(items) = outcome else { return text.push(b'?'); };
     text.extend_from_slice(b"ok")?;
     for item in items.as_slice() {
         text.push(b' ')?;

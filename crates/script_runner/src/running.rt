@@ -110,12 +110,7 @@ fn read_whole(
 
 /// What an expression is. What is read has no other expression.
 #[tactic(auto, unfolding(crate::specs::Overlay::item_of))]
-fn item_of(
-    alloc: Global,
-    values: &Values,
-    work: &mut Work,
-    expr: &Expr,
-) -> Result<Item, AllocError>
+fn item_of(alloc: Global, values: &Values, work: &mut Work, expr: &Expr) -> Result<Item, AllocError>
     ensures { IfOk result (λ i. (i, work.new) ≡ spec.item_of (state_in values.now) expr.now work.old) }
 {
     match &expr.node {
@@ -165,7 +160,12 @@ fn step(alloc: Global, values: &Values, work: &mut Work, stmt: &Stmt) -> Result<
         StmtNode::Write(Kind::Counter, key, word, arguments) => match arguments.as_slice() {
             [argument] => {
                 let item = item_of(alloc, values, work, argument)?;
-                write(alloc, work, counter_at(alloc, key)?, operation_of(*word, &item))
+                write(
+                    alloc,
+                    work,
+                    counter_at(alloc, key)?,
+                    operation_of(*word, &item),
+                )
             }
             _ => Ok(()),
         },

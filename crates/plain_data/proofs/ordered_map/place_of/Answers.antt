@@ -1,7 +1,5 @@
-use Rattle.std.proofs.Common.{◌≡◌, sym, ap, ◌∙◌, arith, rules}
-use Rattle.std.specs.List.Sorted.{IsPartitionPoint}
+use Rattle.std.proofs.Common.{sym, ap, ◌∙◌, arith, rules}
 use Rattle.std.specs.Ordering.{is_gt}
-use Rattle.std.specs.Prelude.{true, false}
 use Rattle.std.proofs.lemmas.List.Sorted.{IsPartitionPoint-from_clause}
 use Rattle.plain_data.proofs.Entries.{get_or-found, greater, partitioned, within-get}
 use Rattle.plain_data.proofs.ordered_map.place_of.Goals as goal

@@ -1,5 +1,4 @@
 use Rattle.std.proofs.Common.{◌≡◌, None, Some, sym, ap, ◌∙◌}
-use Rattle.std.specs.List.{slice_get}
 use Rattle.std.proofs.lemmas.Map.Entries.{lookup_at_gap}
 use Rattle.plain_data.proofs.Entries.{lookup-hit, less}
 use Rattle.plain_data.proofs.ordered_map.value_at.Goals as goal

@@ -1,4 +1,4 @@
-use Rattle.std.proofs.Common.{◌≡◌, [], ◌∷◌, ◌++◌, sym, ap, ◌∙◌, rules}
+use Rattle.std.proofs.Common.{sym, ap, ◌∙◌, rules}
 use Rattle.plain_data.specs.Merging.{before, after}
 use Rattle.plain_data.proofs.Merging.{before_none, after_none, before_below, before_at, after_above, all_copied, one_copied}
 use Rattle.plain_data.proofs.TextMaps.{empty-length}

@@ -1,4 +1,4 @@
-use Rattle.std.proofs.Common.{◌≡◌, ℕ, ◌++◌, length}
+use Rattle.std.proofs.Common.{◌≡◌, ◌++◌, length}
 use Rattle.plain_data.specs.Merging.{before, after}
 use Rattle.plain_data.proofs.overlay.copy_before.Given as goal
 

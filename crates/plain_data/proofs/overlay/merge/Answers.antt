@@ -1,4 +1,4 @@
-use Rattle.std.proofs.Common.{◌≡◌, ◌+◌, ◌++◌, ◌∷◌, drop, length, sym, ap, rules, arith, ◌∙◌}
+use Rattle.std.proofs.Common.{◌+◌, ◌++◌, drop, sym, ap, arith}
 use Rattle.std.proofs.Math.ListN.{drop_of_length-le}
 use Rattle.plain_data.specs.Merging.{merged}
 use Rattle.plain_data.proofs.Merging.{one_merged, rest_merged, drop-item}

@@ -1,7 +1,5 @@
-use Rattle.std.proofs.Common.{◌≡◌, sym, ap, ◌∙◌, subst}
+use Rattle.std.proofs.Common.{◌∙◌}
 use Rattle.std.specs.FinMap as map
-use Rattle.std.specs.Map.{keys_of}
-use Rattle.std.specs.List.Sorted.{IsStrictlySortedBy}
 use Rattle.plain_data.specs.Texts.{text_cmp}
 use Rattle.plain_data.proofs.TextMaps.{sorted-from_rising}
 use Rattle.plain_data.proofs.text_map.TextMap.from_vec.Goals as goal

@@ -1,4 +1,4 @@
-use Rattle.std.proofs.Common.{◌≡◌, ◌∙◌, sym}
+use Rattle.std.proofs.Common.{◌∙◌, sym}
 use Rattle.plain_data.specs.Texts.{text_cmp}
 use Rattle.plain_data.proofs.TextMaps.{empty-from_sorted}
 use Rattle.plain_data.proofs.text_map.TextMap.is_empty.Goals as goal

@@ -1,4 +1,4 @@
-use Rattle.std.proofs.Common.{◌≡◌, length, sym, ap, ◌∙◌}
+use Rattle.std.proofs.Common.{length, sym, ap, ◌∙◌}
 use Rattle.std.specs.FinMap as map
 use Rattle.plain_data.specs.Texts.{text_cmp}
 use Rattle.plain_data.proofs.text_map.TextMap.len.Goals as goal

@@ -1,4 +1,3 @@
-use Rattle.std.proofs.Common.{◌≡◌}
 use Rattle.plain_data.specs.Texts.{text_cmp}
 use Rattle.plain_data.proofs.TextMaps.{empty-from_sorted}
 use Rattle.plain_data.proofs.text_map.TextMap.new.Goals as goal

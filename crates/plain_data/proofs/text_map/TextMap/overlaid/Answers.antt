@@ -1,4 +1,4 @@
-use Rattle.std.proofs.Common.{◌≡◌, ◌∙◌}
+use Rattle.std.proofs.Common.{◌∙◌}
 use Rattle.std.specs.FinMap as map
 use Rattle.plain_data.specs.Texts.{text_cmp}
 use Rattle.plain_data.proofs.TextMaps.{rising-from_sorted}
