@@ -1,12 +1,15 @@
 -- The readers of values, addresses and outcomes read what their rules derive.
-use Rattle.std.proofs.Common.{◌≡◌, ◌<◌, ℕ, Bool, true, false, not, ◌&&◌, List, [], ◌∷◌, ◌++◌, Option, Some, None, Ok, Err, refl, ap, sym, ◌∙◌, arith, inl, inr, codes, nat_eq, nat_le}
+use Rattle.std.proofs.Common.{◌≡◌, ◌<◌, ℕ, Bool, true, false, not, ◌&&◌, List, [], ◌∷◌, ◌++◌, length, Option, Some, None, Ok, Err, refl, ap, sym, ◌∙◌, arith, inl, inr, codes, nat_eq, nat_le}
 use Rattle.std.proofs.lemmas.Bool.Decides.{nat_tests}
 use Rattle.predictive_parsing.specs.Reading.{Reader, next, pure, either, list, many}
+use Rattle.predictive_parsing.specs.Reading as reading
 use Rattle.predictive_parsing.specs.Rules.{Rule, One, Then, Pure, Or, Many, ListOf}
 use Rattle.predictive_parsing.specs.Fits.{Fits, any, unless}
 use Rattle.predictive_parsing.proofs.Basic.{both, not_true}
 use Rattle.predictive_parsing.proofs.Combined.{pure_fits, onwards, followed, either_fits, seen, narrowed}
-use Rattle.predictive_parsing.proofs.Lists.{many_fits, list_fits}
+use Rattle.predictive_parsing.proofs.Lists.{many_fits, list_fits, shrinks}
+use Rattle.predictive_parsing.proofs.Loops.{with_front}
+use Rattle.predictive_parsing.proofs.Loops as loops
 use Rattle.plain_data.specs.Texts.{Bytes}
 use Rattle.rdt_types.specs.declared.address.Kind.{Kind}
 use Rattle.rdt_types.specs.declared.address.Kind.TheVariants as kinds
@@ -18,7 +21,7 @@ use Rattle.rdt_types.specs.Printed.{word_of}
 use Rattle.dtext.specs.Printing.{printed_bool}
 use Rattle.dtext.specs.Columns.{IsByte}
 use Rattle.dtext.specs.Spellings.{Byte, Word, SpelledBy, Of, Behind, is_digit, TextRule, NumberRule, BoolRule, AfterComma, first_and, Separated, TextsRule, AddressRule, ItemRule, AfterSpace, OutcomeRule}
-use Rattle.dtext.specs.Reading.{sees, guided, byte, word, of, behind, text, number, begins_number, bool, after_comma, some_texts, texts, kind_ahead, kind, address, item, after_space, emitted, ran, failed, outcome}
+use Rattle.dtext.specs.Reading.{sees, guided, byte, word, of, behind, text, number, begins_number, bool, after_comma, more_texts, some_texts, texts, kind_ahead, kind, address, item, after_space, emitted, ran, failed, outcome}
 use Rattle.dtext.proofs.Words.{fits_as, byte_fits, byte_taken, are_bytes, word_fits, guided_fits}
 use Rattle.dtext.proofs.TextFits.{byte_begins, text_fits}
 use Rattle.dtext.proofs.NumberFits.{no_digit, number_fits, number_begins}
@@ -229,3 +232,39 @@ unfolding outcome
 outcome_fits = either_fits IsByte (sees 111) ran _ Ran (Or Failed (Or Spent Big)) ended ran_fits (narrowed IsByte ended (λ h e. refl) no_run_fits)
     (λ ts us a r. ap (λ xs. sees 111 (next xs)) r.first)
     (λ ts us a r e. no_run_apart ts us a r)
+
+-- ---- the loops that read texts and values
+
+-- a text behind a comma takes a byte at least
+pub after_comma_shrinks : (ts us a : Bytes) → after_comma ts ≡ Ok (a, us) → length us < length ts
+after_comma_shrinks = shrinks IsByte (sees 44) after_comma AfterComma any after_comma_fits after_comma_begins refl
+
+module _ (found : List Bytes) (ts : Bytes) (all : reading.Outcome ℕ (List Bytes)) (so_far : with_front found (more_texts ts) ≡ all) where
+  pub more_texts_turn : (us a : Bytes) → sees 44 (next ts) ≡ true → after_comma ts ≡ Ok (a, us) → with_front (found ++ a ∷ []) (more_texts us) ≡ all
+  unfolding more_texts
+  more_texts_turn us a s e = loops.turn (sees 44) after_comma refl after_comma_shrinks found ts all so_far us a s e
+
+  pub more_texts_refused : (us : Bytes) → sees 44 (next ts) ≡ true → after_comma ts ≡ Err us → all ≡ Err us
+  unfolding more_texts
+  more_texts_refused us s e = loops.refused (sees 44) after_comma refl after_comma_shrinks found ts all so_far us s e
+
+  pub more_texts_ended : sees 44 (next ts) ≡ false → all ≡ Ok (found, ts)
+  unfolding more_texts
+  more_texts_ended s = loops.ended (sees 44) after_comma refl after_comma_shrinks found ts all so_far s
+
+-- a value behind a space takes a byte at least
+pub after_space_shrinks : (ts us : Bytes) (a : Item) → after_space ts ≡ Ok (a, us) → length us < length ts
+after_space_shrinks = shrinks IsByte (sees 32) after_space AfterSpace no_digit after_space_fits after_space_begins refl
+
+module _ (found : List Item) (ts : Bytes) (all : reading.Outcome ℕ (List Item)) (so_far : with_front found (emitted ts) ≡ all) where
+  pub emitted_turn : (us : Bytes) (a : Item) → sees 32 (next ts) ≡ true → after_space ts ≡ Ok (a, us) → with_front (found ++ a ∷ []) (emitted us) ≡ all
+  unfolding emitted
+  emitted_turn us a s e = loops.turn (sees 32) after_space refl after_space_shrinks found ts all so_far us a s e
+
+  pub emitted_refused : (us : Bytes) → sees 32 (next ts) ≡ true → after_space ts ≡ Err us → all ≡ Err us
+  unfolding emitted
+  emitted_refused us s e = loops.refused (sees 32) after_space refl after_space_shrinks found ts all so_far us s e
+
+  pub emitted_ended : sees 32 (next ts) ≡ false → all ≡ Ok (found, ts)
+  unfolding emitted
+  emitted_ended s = loops.ended (sees 32) after_space refl after_space_shrinks found ts all so_far s

@@ -1,3 +1,4 @@
+pub mod Cursors
 pub mod Words
 pub mod TextFits
 pub mod Digits

@@ -93,6 +93,10 @@ leading byte = if nat_le 49 byte && nat_le byte 57 then Some (byte - 48) else No
 abbrev pub with_digit : ℕ → ℕ → ℕ
 with_digit value byte = 10 * value + (byte - 48)
 
+-- the value with one byte more, where that is a digit and keeps the number within the limit
+abbrev pub more : ℕ → ℕ → ℕ → Option ℕ
+more limit value byte = if is_digit byte && nat_le (with_digit value byte) limit then Some (with_digit value byte) else None
+
 -- as many digits as keep the number within the limit, behind those that make this value
 unfoldable pub digits : ℕ → ℕ → Reader ℕ ℕ
 digits limit value [] = Ok (value, [])
@@ -144,10 +148,13 @@ more_texts = many (sees 44) after_comma
 unfoldable pub some_texts : Reader ℕ (List Bytes)
 some_texts = of first_and (list text (sees 44) after_comma)
 
+abbrev pub elements : Reader ℕ (List Bytes)
+elements = either (sees 34) some_texts (pure [])
+
 unfoldable pub texts : Reader ℕ (List Bytes)
 texts = do
   _ ← byte 91
-  found ← either (sees 34) some_texts (pure [])
+  found ← elements
   _ ← byte 93
   pure found
 
@@ -195,12 +202,14 @@ ran = behind (codes "ok") (of outcomes.Ok emitted)
 unfoldable pub failed : Reader ℕ Outcome
 failed = behind (codes "fail ") (of outcomes.Fail text)
 
+abbrev pub spent : Reader ℕ Outcome
+spent = of (λ _. outcomes.Spent) (word (codes "spent"))
+
+abbrev pub big : Reader ℕ Outcome
+big = of (λ _. outcomes.Big) (word (codes "big"))
+
 unfoldable pub outcome : Reader ℕ Outcome
-outcome =
-    either (sees 111) ran
-    (either (sees 102) failed
-    (either (sees 115) (of (λ _. outcomes.Spent) (word (codes "spent")))
-    (of (λ _. outcomes.Big) (word (codes "big")))))
+outcome = either (sees 111) ran (either (sees 102) failed (either (sees 115) spent big))
 
 unfoldable pub text_behind : Reader ℕ Bytes
 text_behind = do
@@ -221,19 +230,27 @@ text_or_field = do
 unfoldable pub put_value : Reader ℕ WriteOp
 put_value = either begins_number (of op.PutCounter number) (either (sees 34) text_or_field (of op.PutBool bool))
 
+abbrev pub put : Reader ℕ WriteOp
+put = behind (codes "t ") put_value
+
+abbrev pub push : Reader ℕ WriteOp
+push = behind (codes "sh ") (of op.ListPush text)
+
 -- `put` and `push` begin alike
 unfoldable pub put_or_push : Reader ℕ WriteOp
-put_or_push = behind (codes "pu") (either (sees 116) (behind (codes "t ") put_value) (behind (codes "sh ") (of op.ListPush text)))
+put_or_push = behind (codes "pu") (either (sees 116) put push)
+
+abbrev pub added : Reader ℕ WriteOp
+added = either begins_number (of op.AddCounter number) (of op.SetAdd text)
 
 unfoldable pub addition : Reader ℕ WriteOp
-addition = behind (codes "add ") (either begins_number (of op.AddCounter number) (of op.SetAdd text))
+addition = behind (codes "add ") added
 
 unfoldable pub removal : Reader ℕ WriteOp
 removal = behind (codes "remove ") (of op.SetRemove text)
 
+abbrev pub clearing : Reader ℕ WriteOp
+clearing = of (λ _. op.SetClear) (word (codes "clear"))
+
 unfoldable pub part : Reader ℕ WriteOp
-part =
-    either (sees 112) put_or_push
-    (either (sees 97) addition
-    (either (sees 114) removal
-    (of (λ _. op.SetClear) (word (codes "clear")))))
+part = either (sees 112) put_or_push (either (sees 97) addition (either (sees 114) removal clearing))

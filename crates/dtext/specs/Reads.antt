@@ -1,5 +1,5 @@
 -- What a function of the reader's code ensures.
-use Rattle.std.specs.Prelude.{◌≡◌, ◌≢◌, ℕ, Result, Ok, Err}
+use Rattle.std.specs.Prelude.{◌≡◌, ◌≢◌, ℕ, [], ◌∷◌, Option, None, Result, Ok, Err}
 use Rattle.plain_data.specs.Texts.{Bytes}
 use Rattle.predictive_parsing.specs.Reading.{Outcome}
 use Rattle.dtext.specs.declared.error.Stop.{Stop}
@@ -10,3 +10,8 @@ use Rattle.dtext.specs.declared.error.Stop.TheVariants.{NoMemory}
 abbrev pub Reads : {A : Type 0} → Outcome ℕ A → Result A Stop → Bytes → Type 0
 Reads outcome (Ok a) left = outcome ≡ Ok (a, left)
 Reads outcome (Err stop) left = stop ≢ NoMemory → outcome ≡ Err left
+
+-- what f makes of the byte ahead
+abbrev pub made_of : {A : Type 0} → (ℕ → Option A) → Bytes → Option A
+made_of f [] = None
+made_of f (byte ∷ bytes) = f byte
