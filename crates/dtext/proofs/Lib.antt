@@ -6,3 +6,4 @@ pub mod NumberFits
 pub mod FormFits
 pub mod PartFits
 pub mod PrintedBack
+pub mod Wholes

@@ -1,7 +1,9 @@
 -- What a function of the reader's code ensures.
-use Rattle.std.specs.Prelude.{◌≡◌, ◌≢◌, ℕ, [], ◌∷◌, Option, None, Result, Ok, Err}
+use Rattle.std.specs.Prelude.{◌≡◌, ◌≢◌, ℕ, ◌+◌, ◌-◌, length, [], ◌∷◌, Option, None, Result, Ok, Err}
 use Rattle.plain_data.specs.Texts.{Bytes}
 use Rattle.predictive_parsing.specs.Reading.{Outcome}
+use Rattle.dtext.specs.declared.error.TextError.{TextError}
+use Rattle.dtext.specs.declared.error.TextError.TheVariants.{At}
 use Rattle.dtext.specs.declared.error.Stop.{Stop}
 use Rattle.dtext.specs.declared.error.Stop.TheVariants.{NoMemory}
 
@@ -15,3 +17,8 @@ Reads outcome (Err stop) left = stop ≢ NoMemory → outcome ≡ Err left
 abbrev pub made_of : {A : Type 0} → (ℕ → Option A) → Bytes → Option A
 made_of f [] = None
 made_of f (byte ∷ bytes) = f byte
+
+-- What is answered of so many bytes: their value, or the column of the first of those that are left.
+abbrev pub answer : {A : Type 0} → Result A Bytes → ℕ → Result A TextError
+answer (Ok a) count = Ok a
+answer (Err rest) count = Err (At (count - length rest + 1))

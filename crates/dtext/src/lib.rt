@@ -6,7 +6,11 @@ mod error;
 mod item;
 mod number;
 mod part;
+mod print;
+mod read;
 mod text;
 mod value;
 
 pub use error::TextError;
+pub use read::{read_address, read_item, read_outcome, read_part, read_text};
+pub use print::{print_address, print_item, print_outcome, print_part, print_text};

@@ -1,0 +1,71 @@
+-- The whole of some bytes.
+use Rattle.std.proofs.Common.{◌≡◌, ◌≢◌, ◌<◌, ◌≤◌, ◌+◌, ◌-◌, ℕ, Bool, true, ◌⊎◌, List, [], ◌∷◌, ◌++◌, length, Option, None, Result, Ok, Err, IfOk, refl, ap, sym, ◌∙◌, subst, inl, inr, arith, length-append, append_assoc, append-nil}
+use Rattle.predictive_parsing.specs.Reading.{Outcome, Reader, whole, whole_of}
+use Rattle.predictive_parsing.specs.Rules.{Rule, Whole}
+use Rattle.predictive_parsing.specs.Fits.{Fits}
+use Rattle.predictive_parsing.specs.Stops.{StopsAt, NoFurther}
+use Rattle.predictive_parsing.proofs.Wholes.{whole_sound, whole_complete, whole_unique, whole_stops}
+use Rattle.plain_data.specs.Texts.{Bytes}
+use Rattle.dtext.specs.declared.error.TextError.{TextError}
+use Rattle.dtext.specs.declared.error.TextError.TheVariants.{At, NoMemory}
+use Rattle.dtext.specs.Columns.{IsByte, IsColumn}
+use Rattle.dtext.specs.Reads.{answer}
+
+module _ {A : Type 0} (p : Reader ℕ A) (P : Rule ℕ A) (follows : Option ℕ → Bool) (fp : Fits IsByte p P follows) (ends : follows None ≡ true) where
+  -- ---- what a reader answers of the whole
+
+  module _ (bytes : Bytes) (result : Result A TextError) (told : result ≢ Err NoMemory → result ≡ answer (whole_of (p bytes)) (length bytes)) where
+    ok_by : (w : Result A Bytes) (a : A) → Ok a ≡ answer w (length bytes) → w ≡ Ok a
+    ok_by (Ok b) a e = cc
+    ok_by (Err rest) a e = absurd (cc)
+
+    err_by : (w : Result A Bytes) (column : ℕ) → Err (At column) ≡ answer w (length bytes) → (rest : Bytes) × (w ≡ Err rest) × (column ≡ length bytes - length rest + 1)
+    err_by (Ok b) column e = absurd (cc)
+    err_by (Err rest) column e = (rest, refl, cc)
+
+    pub told_ok : (a : A) → result ≡ Ok a → Whole P bytes a
+    unfolding whole
+    told_ok a e = whole_sound IsByte p P follows fp ends bytes a (ok_by (whole_of (p bytes)) a (sym e ∙ told (λ h. let k = sym e ∙ h in cc)))
+
+    pub told_spelling : (a : A) → Whole P bytes a → result ≢ Err NoMemory → result ≡ Ok a
+    unfolding whole
+    told_spelling a r n = told n ∙ ap (λ w. answer w (length bytes)) (whole_complete IsByte p P follows fp ends bytes a r)
+
+    column_by : (column : ℕ) (rest : Bytes) → StopsAt IsByte P bytes rest → column ≡ length bytes - length rest + 1 → IsColumn P bytes column
+    column_by column rest s e = record { rest = rest; stops = s; place = omega (arith, e, ap length s.cut, length-append s.before rest) }
+
+    pub told_column : (column : ℕ) → result ≡ Err (At column) → IsColumn P bytes column
+    unfolding whole
+    told_column column e =
+        let k = err_by (whole_of (p bytes)) column (sym e ∙ told (λ h. let k = sym e ∙ h in cc)) in
+        column_by column k.0 (whole_stops IsByte p P follows fp ends bytes k.0 k.1) k.2
+
+  if_ok : (r : Result A TextError) (Q : A → Type 0) → ((a : A) → r ≡ Ok a → Q a) → IfOk r Q
+  if_ok (Ok a) Q h = h a refl
+  if_ok (Err e) Q h = tt
+
+  -- The three promises of a call that reads the whole of some bytes.
+  pub record Promised (bytes : Bytes) (result : Result A TextError) : Type 0 where
+    pub read : IfOk result (λ a. Whole P bytes a)
+    pub spellings : (a : A) → Whole P bytes a → result ≢ Err NoMemory → result ≡ Ok a
+    pub refused : (column : ℕ) → result ≡ Err (At column) → IsColumn P bytes column
+
+  -- They hold of what the reader makes of a cursor at the first of these bytes.
+  pub promised : (bytes cursor : Bytes) (result : Result A TextError) → cursor ≡ bytes → (result ≢ Err NoMemory → result ≡ answer (whole_of (p cursor)) (length bytes)) → Promised bytes result
+  promised bytes cursor result same told =
+      let known : result ≢ Err NoMemory → result ≡ answer (whole_of (p bytes)) (length bytes) = λ n. told n ∙ ap (λ ts. answer (whole_of (p ts)) (length bytes)) same in
+      record { read = if_ok result (λ a. Whole P bytes a) (told_ok bytes result known); spellings = told_spelling bytes result known; refused = told_column bytes result known }
+
+  pub one_value : (bytes : Bytes) (a b : A) → Whole P bytes a → Whole P bytes b → a ≡ b
+  one_value bytes a b r s = whole_unique IsByte p P follows fp ends bytes a b r s
+
+-- ---- columns
+
+module _ {A : Type 0} (P : Rule ℕ A) (bytes : Bytes) where
+  -- where no spelling has the next byte too, the bytes are none
+  stopped : (before rest : Bytes) → bytes ≡ before ++ rest → NoFurther P before rest → (a : A) → Whole P bytes a → ⊥
+  stopped before [] e none a r = none a (subst (λ ts. Whole P ts a) (e ∙ append-nil before) r)
+  stopped before (b ∷ rest) e none a r = none rest a (subst (λ ts. Whole P ts a) (e ∙ sym (append_assoc before (b ∷ []) rest)) r)
+
+  pub column_no_spelling : (column : ℕ) (a : A) → IsColumn P bytes column → Whole P bytes a → ⊥
+  column_no_spelling column a x r = stopped x.stops.before x.rest x.stops.cut x.stops.no_further a r
