@@ -1,9 +1,9 @@
 -- The whole of some bytes.
-use Rattle.std.proofs.Common.{◌≡◌, ◌≢◌, ◌<◌, ◌≤◌, ◌+◌, ◌-◌, ℕ, Bool, true, ◌⊎◌, List, [], ◌∷◌, ◌++◌, length, Option, None, Result, Ok, Err, IfOk, refl, ap, sym, ◌∙◌, subst, inl, inr, arith, length-append, append_assoc, append-nil}
+use Rattle.std.proofs.Common.{◌≡◌, ◌≢◌, ◌<◌, ◌≤◌, ◌+◌, ◌-◌, ℕ, Bool, true, ◌⊎◌, List, [], ◌∷◌, ◌++◌, length, Option, None, Result, Ok, Err, IfOk, refl, ap, sym, ◌∙◌, subst, inl, inr, arith, length-append, append_assoc, append-nil, get_or, drop}
 use Rattle.predictive_parsing.specs.Reading.{Outcome, Reader, whole, whole_of}
 use Rattle.predictive_parsing.specs.Rules.{Rule, Whole}
 use Rattle.predictive_parsing.specs.Fits.{Fits}
-use Rattle.predictive_parsing.specs.Stops.{StopsAt, NoFurther}
+use Rattle.predictive_parsing.specs.Stops.{StopsAt, NoFurther, CanGoOn}
 use Rattle.predictive_parsing.proofs.Wholes.{whole_sound, whole_complete, whole_unique, whole_stops}
 use Rattle.plain_data.specs.Texts.{Bytes}
 use Rattle.dtext.specs.declared.error.TextError.{TextError}
@@ -69,3 +69,39 @@ module _ {A : Type 0} (P : Rule ℕ A) (bytes : Bytes) where
 
   pub column_no_spelling : (column : ℕ) (a : A) → IsColumn P bytes column → Whole P bytes a → ⊥
   column_no_spelling column a x r = stopped x.stops.before x.rest x.stops.cut x.stops.no_further a r
+
+-- Of two cuts of the same bytes, the longer front goes on with the byte at which the shorter one ends.
+record Longer (before rest longer : Bytes) : Type 0 where
+  byte : ℕ
+  others : Bytes
+  more : Bytes
+  ahead : rest ≡ byte ∷ others
+  whole : longer ≡ (before ++ byte ∷ []) ++ more
+
+one_further : (b c : ℕ) (before rest longer : Bytes) → b ≡ c → Longer before rest longer → Longer (b ∷ before) rest (c ∷ longer)
+one_further b c before rest longer e x = record { byte = x.byte; others = x.others; more = x.more; ahead = x.ahead; whole = ap (λ d. d ∷ longer) (sym e) ∙ ap (λ xs. b ∷ xs) x.whole }
+
+longer_cut : (before rest longer left : Bytes) → before ++ rest ≡ longer ++ left → length before < length longer → Longer before rest longer
+longer_cut before rest [] left e l = absurd (omega arith)
+longer_cut [] [] (c ∷ longer) left e l = absurd (cc)
+longer_cut [] (b ∷ rest) (c ∷ longer) left e l = record { byte = b; others = rest; more = longer; ahead = refl; whole = ap (λ d. d ∷ longer) (ap (λ xs. get_or xs 0 0) (sym e)) }
+longer_cut (b ∷ before) rest (c ∷ longer) left e l =
+    one_further b c before rest longer (ap (λ xs. get_or xs 0 0) e) (longer_cut before rest longer left (ap (drop 1) e) (omega arith))
+
+module _ {A : Type 0} (P : Rule ℕ A) where
+  no_longer : (before rest longer : Bytes) → NoFurther P before rest → CanGoOn IsByte P longer → Longer before rest longer → ⊥
+  no_longer before rest longer none goes x =
+      let stop : NoFurther P before (x.byte ∷ x.others) = subst (NoFurther P before) x.ahead none in
+      let others = goes.0 in
+      stop (x.more ++ others) goes.1 (subst (λ ts. Whole P ts goes.1) (ap (λ xs. xs ++ others) x.whole ∙ append_assoc (before ++ x.byte ∷ []) x.more others) goes.3)
+
+  not_longer : (bytes rest left : Bytes) (s : StopsAt IsByte P bytes rest) (t : StopsAt IsByte P bytes left) → length s.before < length t.before → ⊥
+  not_longer bytes rest left s t l = no_longer s.before rest t.before s.no_further t.goes_on (longer_cut s.before rest t.before left (sym s.cut ∙ t.cut) l)
+
+  same_length : (m n : ℕ) → (m < n → ⊥) → (n < m → ⊥) → m ≡ n
+  same_length m n a b = omega (arith, a, b)
+
+  pub one_column : (bytes : Bytes) (c d : ℕ) → IsColumn P bytes c → IsColumn P bytes d → c ≡ d
+  one_column bytes c d x y =
+      let k = same_length (length x.stops.before) (length y.stops.before) (not_longer bytes x.rest y.rest x.stops y.stops) (not_longer bytes y.rest x.rest y.stops x.stops) in
+      omega (arith, x.place, y.place)

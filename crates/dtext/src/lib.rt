@@ -4,6 +4,7 @@
 mod cursor;
 mod error;
 mod item;
+mod laws;
 mod number;
 mod part;
 mod print;
@@ -13,4 +14,7 @@ mod value;
 
 pub use error::TextError;
 pub use read::{read_address, read_item, read_outcome, read_part, read_text};
+pub use laws::{
+    columns_are_of_no_spelling, columns_are_unique, printed_reads_back, spellings_have_one_value,
+};
 pub use print::{print_address, print_item, print_outcome, print_part, print_text};
