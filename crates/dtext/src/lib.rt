@@ -13,8 +13,11 @@ mod text;
 mod value;
 
 pub use error::TextError;
-pub use read::{read_address, read_item, read_outcome, read_part, read_text};
 pub use laws::{
     columns_are_of_no_spelling, columns_are_unique, printed_reads_back, spellings_have_one_value,
 };
 pub use print::{print_address, print_item, print_outcome, print_part, print_text};
+pub use read::{read_address, read_item, read_outcome, read_part, read_text};
+
+#[cfg(test)]
+mod tests;

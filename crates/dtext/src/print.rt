@@ -109,12 +109,7 @@ fn push_named(out: &mut Text, word: &[u8], text: &Text) -> Result<(), AllocError
 }
 
 /// Adds a word, and a number behind it.
-fn push_counted(
-    alloc: Global,
-    out: &mut Text,
-    word: &[u8],
-    number: i64,
-) -> Result<(), AllocError>
+fn push_counted(alloc: Global, out: &mut Text, word: &[u8], number: i64) -> Result<(), AllocError>
     ensures { OnOk result (out.new ≡ out.old ++ (word.now ++ signed_decimal number)) }
 {
     out.extend_from_slice(word)?;

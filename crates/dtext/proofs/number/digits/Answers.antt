@@ -10,10 +10,12 @@ loop-more-smaller c =
     (made_shorter (more c.args.limit c.loop-more.value) c.loop-more.cursor c.in-Some.more (sym c.in-Some.ensures.value))
 
 pub loop-more-preserved : goal.loop-more-preserved
-loop-more-preserved c =
-    (ap (spec.digits c.args.limit c.in-Some.more) c.skip.ensures
-    ∙ sym (digits_more c.args.limit c.loop-more.value c.loop-more.cursor c.in-Some.more (sym c.in-Some.ensures.value))
-    ∙ c.loop-more.invariant.0, c.in-Some.ensures.within)
+loop-more-preserved c = (
+  ap (spec.digits c.args.limit c.in-Some.more) c.skip.ensures
+      ∙ sym (digits_more c.args.limit c.loop-more.value c.loop-more.cursor c.in-Some.more (sym c.in-Some.ensures.value))
+      ∙ c.loop-more.invariant.0,
+  c.in-Some.ensures.within,
+)
 
 pub returns : goal.returns
 returns c = record {
