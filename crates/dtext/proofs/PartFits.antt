@@ -1,0 +1,232 @@
+-- The reader of write parts reads what the rule derives. The reader's rule is the table of forms with equal fronts put
+-- together; both derive the same.
+use Rattle.std.proofs.Common.{◌≡◌, ℕ, Bool, true, false, not, ◌&&◌, List, [], ◌∷◌, ◌++◌, Option, Some, None, refl, ap, sym, ◌∙◌, arith, inl, inr, codes}
+use Rattle.predictive_parsing.specs.Reading.{Reader, next, pure, either, optional}
+use Rattle.predictive_parsing.specs.Rules.{Rule, Then, Pure, Or, Optional}
+use Rattle.predictive_parsing.specs.Fits.{Fits, any, unless}
+use Rattle.predictive_parsing.proofs.Basic.{both}
+use Rattle.predictive_parsing.proofs.Combined.{onwards, either_fits, seen, narrowed, optional_fits}
+use Rattle.plain_data.specs.Texts.{Bytes}
+use Rattle.rdt_types.specs.declared.operation.WriteOp.{WriteOp}
+use Rattle.rdt_types.specs.declared.operation.WriteOp.TheVariants as op
+use Rattle.dtext.specs.Columns.{IsByte}
+use Rattle.dtext.specs.Spellings.{Byte, Word, Of, Behind, TextRule, NumberRule, BoolRule, FieldRule, PartRule}
+use Rattle.dtext.specs.Reading.{sees, word, of, behind, text, number, begins_number, bool, text_behind, put_of, text_or_field, put_value, put_or_push, addition, removal, part}
+use Rattle.dtext.proofs.Words.{fits_as, byte_fits, byte_taken}
+use Rattle.dtext.proofs.TextFits.{byte_begins, text_fits}
+use Rattle.dtext.proofs.NumberFits.{no_digit, number_fits, number_begins}
+use Rattle.dtext.proofs.FormFits.{behind_fits, named_fits, bool_fits, bool_apart, text_next, ended}
+
+-- ---- what is put
+
+TextBehind : Rule ℕ Bytes
+TextBehind = Then (Byte 32) (λ _. TextRule)
+
+text_behind_fits : Fits IsByte text_behind TextBehind any
+unfolding text_behind TextBehind
+text_behind_fits = onwards IsByte (byte_fits 32 (omega arith)) (λ _. text_fits)
+
+text_behind_begins : (ts us a : Bytes) → TextBehind ts a us → sees 32 (next ts) ≡ true
+unfolding TextBehind
+text_behind_begins ts us a r = byte_begins 32 ts r.middle r.value r.first
+
+-- no other text follows
+abbrev alone : Option ℕ → Bool
+alone = unless (sees 32) any
+
+abbrev TextOrField : Rule ℕ WriteOp
+TextOrField = Then TextRule (λ first. Then (Optional TextBehind) (λ second. Pure (put_of first second)))
+
+text_or_field_fits : Fits IsByte text_or_field TextOrField alone
+unfolding text_or_field
+text_or_field_fits = onwards IsByte text_fits (λ first. seen IsByte (put_of first) (optional_fits IsByte (sees 32) text_behind TextBehind any text_behind_fits text_behind_begins))
+
+abbrev TextOrBool : Rule ℕ WriteOp
+TextOrBool = Or TextOrField (Of op.PutBool BoolRule)
+
+text_or_bool_fits : Fits IsByte (either (sees 34) text_or_field (of op.PutBool bool)) TextOrBool alone
+text_or_bool_fits = either_fits IsByte (sees 34) text_or_field (of op.PutBool bool) TextOrField (Of op.PutBool BoolRule) alone text_or_field_fits (narrowed IsByte alone (λ h e. refl) (seen IsByte op.PutBool bool_fits))
+    (λ ts us a r. ap (sees 34) (text_next ts r.middle r.value r.first))
+    (λ ts us a r e. bool_apart (sees 34) refl refl ts r.middle r.value r.first)
+
+text_or_bool_apart : (ts us : Bytes) (a : WriteOp) → TextOrBool ts a us → begins_number (next ts) ≡ false
+text_or_bool_apart ts us a (inl r) = ap begins_number (text_next ts r.middle r.value r.first)
+text_or_bool_apart ts us a (inr r) = bool_apart begins_number refl refl ts r.middle r.value r.first
+
+abbrev PutValue : Rule ℕ WriteOp
+PutValue = Or (Of op.PutCounter NumberRule) TextOrBool
+
+ended_is_alone : (h : Option ℕ) → ended h ≡ true → alone h ≡ true
+ended_is_alone h e = (both (no_digit h) (not (sees 32 h)) e).1
+
+ended_no_digit : (h : Option ℕ) → ended h ≡ true → no_digit h ≡ true
+ended_no_digit h e = (both (no_digit h) (not (sees 32 h)) e).0
+
+put_value_fits : Fits IsByte put_value PutValue ended
+unfolding put_value
+put_value_fits = either_fits IsByte begins_number (of op.PutCounter number) _ (Of op.PutCounter NumberRule) TextOrBool ended
+    (narrowed IsByte ended ended_no_digit (seen IsByte op.PutCounter number_fits)) (narrowed IsByte ended ended_is_alone text_or_bool_fits)
+    (λ ts us a r. number_begins ts r.middle r.value r.first)
+    (λ ts us a r e. text_or_bool_apart ts us a r)
+
+-- ---- the forms, by their fronts
+
+abbrev Put : Rule ℕ WriteOp
+Put = Behind (codes "t ") PutValue
+
+abbrev Push : Rule ℕ WriteOp
+Push = Behind (codes "sh ") (Of op.ListPush TextRule)
+
+abbrev PutOrPush : Rule ℕ WriteOp
+PutOrPush = Behind (codes "pu") (Or Put Push)
+
+put_or_push_fits : Fits IsByte put_or_push PutOrPush ended
+unfolding put_or_push
+put_or_push_fits = behind_fits (codes "pu") refl (either_fits IsByte (sees 116) _ _ Put Push ended (behind_fits (codes "t ") refl put_value_fits) (narrowed IsByte ended (λ h e. refl) (behind_fits (codes "sh ") refl (seen IsByte op.ListPush text_fits)))
+    (λ ts us a r. ap (λ xs. sees 116 (next xs)) r.first)
+    (λ ts us a r e. ap (λ xs. sees 116 (next xs)) r.first))
+
+abbrev Addition : Rule ℕ WriteOp
+Addition = Behind (codes "add ") (Or (Of op.AddCounter NumberRule) (Of op.SetAdd TextRule))
+
+addition_fits : Fits IsByte addition Addition no_digit
+unfolding addition
+addition_fits = behind_fits (codes "add ") refl (either_fits IsByte begins_number _ _ (Of op.AddCounter NumberRule) (Of op.SetAdd TextRule) no_digit (seen IsByte op.AddCounter number_fits) (narrowed IsByte no_digit (λ h e. refl) (seen IsByte op.SetAdd text_fits))
+    (λ ts us a r. number_begins ts r.middle r.value r.first)
+    (λ ts us a r e. ap begins_number (text_next ts r.middle r.value r.first)))
+
+abbrev Removal : Rule ℕ WriteOp
+Removal = Behind (codes "remove ") (Of op.SetRemove TextRule)
+
+removal_fits : Fits IsByte removal Removal any
+unfolding removal
+removal_fits = behind_fits (codes "remove ") refl (seen IsByte op.SetRemove text_fits)
+
+abbrev Clearing : Rule ℕ WriteOp
+Clearing = Of (λ _. op.SetClear) (Word (codes "clear"))
+
+clearing_fits : Fits IsByte (of (λ _. op.SetClear) (word (codes "clear"))) Clearing any
+clearing_fits = named_fits (codes "clear") op.SetClear refl
+
+removal_or_clearing_fits : Fits IsByte (either (sees 114) removal (of (λ _. op.SetClear) (word (codes "clear")))) (Or Removal Clearing) any
+removal_or_clearing_fits = either_fits IsByte (sees 114) removal _ Removal Clearing any removal_fits clearing_fits
+    (λ ts us a r. ap (λ xs. sees 114 (next xs)) r.first)
+    (λ ts us a r e. ap (λ xs. sees 114 (next xs)) r.first)
+
+removal_or_clearing_apart : (test : Option ℕ → Bool) → test (Some 114) ≡ false → test (Some 99) ≡ false → (ts us : Bytes) (a : WriteOp) → Or Removal Clearing ts a us → test (next ts) ≡ false
+removal_or_clearing_apart test m c ts us a (inl r) = ap (λ xs. test (next xs)) r.first ∙ m
+removal_or_clearing_apart test m c ts us a (inr r) = ap (λ xs. test (next xs)) r.first ∙ c
+
+abbrev NoPut : Rule ℕ WriteOp
+NoPut = Or Addition (Or Removal Clearing)
+
+no_put_fits : Fits IsByte (either (sees 97) addition (either (sees 114) removal (of (λ _. op.SetClear) (word (codes "clear"))))) NoPut no_digit
+no_put_fits = either_fits IsByte (sees 97) addition _ Addition (Or Removal Clearing) no_digit addition_fits (narrowed IsByte no_digit (λ h e. refl) removal_or_clearing_fits)
+    (λ ts us a r. ap (λ xs. sees 97 (next xs)) r.first)
+    (λ ts us a r e. removal_or_clearing_apart (sees 97) refl refl ts us a r)
+
+no_put_apart : (ts us : Bytes) (a : WriteOp) → NoPut ts a us → sees 112 (next ts) ≡ false
+no_put_apart ts us a (inl r) = ap (λ xs. sees 112 (next xs)) r.first
+no_put_apart ts us a (inr r) = removal_or_clearing_apart (sees 112) refl refl ts us a r
+
+-- ---- the table
+
+abbrev Factored : Rule ℕ WriteOp
+Factored = Or PutOrPush NoPut
+
+factored_fits : Fits IsByte part Factored ended
+unfolding part
+factored_fits = either_fits IsByte (sees 112) put_or_push _ PutOrPush NoPut ended put_or_push_fits (narrowed IsByte ended ended_no_digit no_put_fits)
+    (λ ts us a r. ap (λ xs. sees 112 (next xs)) r.first)
+    (λ ts us a r e. no_put_apart ts us a r)
+
+-- ---- from the fronts put together to the table
+
+-- a text, and whether another is behind it
+field_to : (ts ms ns ks us : Bytes) (first : Bytes) (second : Option Bytes) (a : WriteOp) → ts ≡ codes "put " ++ ms → TextRule ms first ns → Optional TextBehind ns second ks → a ≡ put_of first second → ks ≡ us → PartRule ts a us
+unfolding TextBehind
+field_to ts ms ns ks us first second a e h (inl s) is here =
+    let t = s.first in
+    inr (inr (inr (inl (record {
+      value = tt;
+      middle = ms;
+      first = e;
+      second = record {
+        value = first;
+        middle = ns;
+        first = h;
+        second = record {
+          value = t.value;
+          middle = t.middle;
+          first = t.first;
+          second = record { value = s.value; middle = s.middle; first = t.second; second = record { is = is ∙ ap (put_of first) s.second.is; here = s.second.here ∙ here } };
+        };
+      };
+    }))))
+field_to ts ms ns ks us first second a e h (inr s) is here =
+    inr (inr (inl (record { value = tt; middle = ms; first = e; second = record { value = first; middle = ns; first = h; second = record { is = is ∙ ap (put_of first) s.is; here = s.here ∙ here } } })))
+
+put_to : (ts ms us : Bytes) (a : WriteOp) → ts ≡ codes "put " ++ ms → PutValue ms a us → PartRule ts a us
+put_to ts ms us a e (inl n) = inr (inl (record { value = tt; middle = ms; first = e; second = n }))
+put_to ts ms us a e (inr (inl t)) = let o = t.second in field_to ts ms t.middle o.middle us t.value o.value a e t.first o.first o.second.is o.second.here
+put_to ts ms us a e (inr (inr b)) = inl (record { value = tt; middle = ms; first = e; second = b })
+
+put_or_push_to : (ts ms us : Bytes) (a : WriteOp) → ts ≡ codes "pu" ++ ms → Or Put Push ms a us → PartRule ts a us
+put_or_push_to ts ms us a e (inl r) = put_to ts r.middle us a (e ∙ ap (λ xs. codes "pu" ++ xs) r.first) r.second
+put_or_push_to ts ms us a e (inr r) = inr (inr (inr (inr (inr (inr (inr (inl (record { value = tt; middle = r.middle; first = e ∙ ap (λ xs. codes "pu" ++ xs) r.first; second = r.second }))))))))
+
+addition_to : (ts ms us : Bytes) (a : WriteOp) → ts ≡ codes "add " ++ ms → Or (Of op.AddCounter NumberRule) (Of op.SetAdd TextRule) ms a us → PartRule ts a us
+addition_to ts ms us a e (inl r) = inr (inr (inr (inr (inl (record { value = tt; middle = ms; first = e; second = r })))))
+addition_to ts ms us a e (inr r) = inr (inr (inr (inr (inr (inl (record { value = tt; middle = ms; first = e; second = r }))))))
+
+part_to : (ts us : Bytes) (a : WriteOp) → Factored ts a us → PartRule ts a us
+part_to ts us a (inl r) = put_or_push_to ts r.middle us a r.first r.second
+part_to ts us a (inr (inl r)) = addition_to ts r.middle us a r.first r.second
+part_to ts us a (inr (inr (inl r))) = inr (inr (inr (inr (inr (inr (inl r))))))
+part_to ts us a (inr (inr (inr r))) = inr (inr (inr (inr (inr (inr (inr (inr r)))))))
+
+-- ---- and back
+
+put_from : (ts ms us : Bytes) (a : WriteOp) → ts ≡ codes "put " ++ ms → PutValue ms a us → Factored ts a us
+put_from ts ms us a e v = inl (record { value = tt; middle = codes "t " ++ ms; first = e; second = inl (record { value = tt; middle = ms; first = refl; second = v }) })
+
+-- a text with none behind it, and one with another
+text_from : (ts us : Bytes) (a : WriteOp) → Of op.PutText TextRule ts a us → TextOrField ts a us
+text_from ts us a r = record { value = r.value; middle = r.middle; first = r.first; second = record { value = None; middle = r.middle; first = inr (record { is = refl; here = refl }); second = r.second } }
+
+field_from : (ts us : Bytes) (a : WriteOp) → FieldRule ts a us → TextOrField ts a us
+unfolding TextBehind
+field_from ts us a r =
+    let s = r.second in
+    let t = s.second in
+    record {
+      value = r.value;
+      middle = r.middle;
+      first = r.first;
+      second = record {
+        value = Some t.value;
+        middle = t.middle;
+        first = inl (record { value = t.value; middle = t.middle; first = record { value = s.value; middle = s.middle; first = s.first; second = t.first }; second = record { is = refl; here = refl } });
+        second = t.second;
+      };
+    }
+
+addition_from : (ts ms us : Bytes) (a : WriteOp) → ts ≡ codes "add " ++ ms → Or (Of op.AddCounter NumberRule) (Of op.SetAdd TextRule) ms a us → Factored ts a us
+addition_from ts ms us a e r = inr (inl (record { value = tt; middle = ms; first = e; second = r }))
+
+push_from : (ts ms us : Bytes) (a : WriteOp) → ts ≡ codes "push " ++ ms → Of op.ListPush TextRule ms a us → Factored ts a us
+push_from ts ms us a e r = inl (record { value = tt; middle = codes "sh " ++ ms; first = e; second = inr (record { value = tt; middle = ms; first = refl; second = r }) })
+
+part_from : (ts us : Bytes) (a : WriteOp) → PartRule ts a us → Factored ts a us
+part_from ts us a (inl r) = put_from ts r.middle us a r.first (inr (inr r.second))
+part_from ts us a (inr (inl r)) = put_from ts r.middle us a r.first (inl r.second)
+part_from ts us a (inr (inr (inl r))) = put_from ts r.middle us a r.first (inr (inl (text_from r.middle us a r.second)))
+part_from ts us a (inr (inr (inr (inl r)))) = put_from ts r.middle us a r.first (inr (inl (field_from r.middle us a r.second)))
+part_from ts us a (inr (inr (inr (inr (inl r))))) = addition_from ts r.middle us a r.first (inl r.second)
+part_from ts us a (inr (inr (inr (inr (inr (inl r)))))) = addition_from ts r.middle us a r.first (inr r.second)
+part_from ts us a (inr (inr (inr (inr (inr (inr (inl r))))))) = inr (inr (inl r))
+part_from ts us a (inr (inr (inr (inr (inr (inr (inr (inl r)))))))) = push_from ts r.middle us a r.first r.second
+part_from ts us a (inr (inr (inr (inr (inr (inr (inr (inr r)))))))) = inr (inr (inr r))
+
+pub part_fits : Fits IsByte part PartRule ended
+part_fits = fits_as part_to part_from factored_fits

@@ -1,0 +1,25 @@
+-- Spellings, read.
+use Rattle.std.specs.Prelude.{◌≡◌, [], ◌∷◌, codes, negsuc, Ok, Err, refl}
+use Rattle.predictive_parsing.specs.Reading.{one, turns, many, list, optional, whole}
+use Rattle.rdt_types.specs.declared.outcome.Item.TheVariants as items
+use Rattle.rdt_types.specs.declared.operation.WriteOp.TheVariants as op
+use Rattle.dtext.specs.Reading.{byte, word, hexadecimal, escape, piece, pieces, text, digits, positive, natural, negative, number, item, part, put_or_push, put_value, text_or_field, text_behind, bool, texts}
+
+-- a text that doesn't end
+open_text : whole text (codes "\"a") ≡ Err []
+unfolding whole text pieces piece byte many turns one
+open_text = refl
+
+-- a needless zero: nothing goes on behind `0`
+needless_zero : whole item (codes "01") ≡ Err (codes "1")
+unfolding whole item number natural byte one
+needless_zero = refl
+
+minus_five : whole item (codes "-5") ≡ Ok (items.Int (negsuc 4))
+unfolding whole item number negative positive digits byte one
+minus_five = refl
+
+-- a field and a text are a hash's
+field_put : whole part (codes "put \"f\" \"v\"") ≡ Ok (op.HashPut (codes "f") (codes "v"))
+unfolding whole part put_or_push put_value text_or_field text_behind optional word text pieces piece byte many turns one
+field_put = refl

@@ -1,0 +1,256 @@
+-- The readers of spellings: functions that look one byte ahead, form by form as the rules have them.
+use Rattle.std.specs.Prelude.{ℕ, ◌+◌, ◌-◌, ◌*◌, ◌^◌, Bool, true, false, not, ◌&&◌, ◌||◌, nat_eq, nat_le, if◌then◌else◌, List, [], ◌∷◌, ℤ, pos, neg_ℤ, codes, Option, Some, None, Ok, Err}
+use Rattle.plain_data.specs.Texts.{Bytes}
+use Rattle.predictive_parsing.specs.Reading.{Reader, ◌>>=◌, pure, next, one, either, many, list, optional}
+use Rattle.rdt_types.specs.declared.address.Kind.{Kind}
+use Rattle.rdt_types.specs.declared.address.Kind.TheVariants as kinds
+use Rattle.rdt_types.specs.declared.address.Address.{Address}
+use Rattle.rdt_types.specs.declared.outcome.Item.{Item}
+use Rattle.rdt_types.specs.declared.outcome.Item.TheVariants as items
+use Rattle.rdt_types.specs.declared.outcome.Outcome.{Outcome}
+use Rattle.rdt_types.specs.declared.outcome.Outcome.TheVariants as outcomes
+use Rattle.rdt_types.specs.declared.operation.WriteOp.{WriteOp}
+use Rattle.rdt_types.specs.declared.operation.WriteOp.TheVariants as op
+use Rattle.rdt_types.specs.Printed.{word_of}
+use Rattle.dtext.specs.Printing.{printed_bool}
+use Rattle.dtext.specs.Spellings.{exactly, plain, short, is_digit, hex_value, hex_byte, first_and}
+
+-- ---- what is ahead
+
+-- whether a byte is ahead that passes the test
+abbrev pub ahead : (ℕ → Bool) → Option ℕ → Bool
+ahead test None = false
+ahead test (Some byte) = test byte
+
+-- whether this byte is ahead
+abbrev pub sees : ℕ → Option ℕ → Bool
+sees wanted = ahead (λ byte. nat_eq byte wanted)
+
+-- what is ahead tells what is to be read
+abbrev pub guided : {A B : Type 0} → (Option ℕ → A) → (A → Reader ℕ B) → Reader ℕ B
+guided guess q = λ bytes. q (guess (next bytes)) bytes
+
+-- ---- bytes and words
+
+unfoldable pub byte : ℕ → Reader ℕ (Unit {0})
+byte wanted = one (exactly wanted)
+
+unfoldable pub word : Bytes → Reader ℕ (Unit {0})
+word [] = pure tt
+word (first ∷ rest) = do
+  _ ← byte first
+  word rest
+
+-- what is read, seen as another value
+abbrev pub of : {A B : Type 0} → (A → B) → Reader ℕ A → Reader ℕ B
+of f p = do
+  a ← p
+  pure (f a)
+
+-- a word, and then what the reader reads
+abbrev pub behind : {A : Type 0} → Bytes → Reader ℕ A → Reader ℕ A
+behind front p = do
+  _ ← word front
+  p
+
+-- ---- texts
+
+unfoldable pub hexadecimal : Reader ℕ ℕ
+hexadecimal = do
+  _ ← byte 120
+  high ← one hex_value
+  low ← one hex_value
+  pure (hex_byte high low)
+
+unfoldable pub escape : Reader ℕ ℕ
+escape = do
+  _ ← byte 92
+  either (sees 120) hexadecimal (one short)
+
+unfoldable pub piece : Reader ℕ ℕ
+piece = either (sees 92) escape (one plain)
+
+-- the bytes of a text go on where there is a byte and no quote
+abbrev pub inside : Option ℕ → Bool
+inside = ahead (λ byte. not (nat_eq byte 34))
+
+unfoldable pub pieces : Reader ℕ Bytes
+pieces = many inside piece
+
+unfoldable pub text : Reader ℕ Bytes
+text = do
+  _ ← byte 34
+  found ← pieces
+  _ ← byte 34
+  pure found
+
+-- ---- numbers and truth values
+
+-- a digit of 1 to 9, with which a number other than 0 begins
+abbrev pub leading : ℕ → Option ℕ
+leading byte = if nat_le 49 byte && nat_le byte 57 then Some (byte - 48) else None
+
+abbrev pub with_digit : ℕ → ℕ → ℕ
+with_digit value byte = 10 * value + (byte - 48)
+
+-- the value with one byte more, where that is a digit and keeps the number within the limit
+abbrev pub more : ℕ → ℕ → ℕ → Option ℕ
+more limit value byte = if is_digit byte && nat_le (with_digit value byte) limit then Some (with_digit value byte) else None
+
+-- as many digits as keep the number within the limit, behind those that make this value
+unfoldable pub digits : ℕ → ℕ → Reader ℕ ℕ
+digits limit value [] = Ok (value, [])
+digits limit value (byte ∷ bytes) =
+    if is_digit byte && nat_le (with_digit value byte) limit then digits limit (with_digit value byte) bytes
+    else Ok (value, byte ∷ bytes)
+
+-- a number from 1 to the limit
+unfoldable pub positive : ℕ → Reader ℕ ℕ
+positive limit = do
+  first ← one leading
+  digits limit first
+
+abbrev pub zero_read : Reader ℕ ℕ
+zero_read = do
+  _ ← byte 48
+  pure 0
+
+-- a number from 0 to the limit
+unfoldable pub natural : ℕ → Reader ℕ ℕ
+natural limit = either (sees 48) zero_read (positive limit)
+
+unfoldable pub negative : Reader ℕ ℤ
+negative = do
+  _ ← byte 45
+  n ← positive (2 ^ 63)
+  pure (neg_ℤ (pos n))
+
+unfoldable pub number : Reader ℕ ℤ
+number = either (sees 45) negative (of pos (natural (2 ^ 63 - 1)))
+
+-- whether a number begins with what is ahead
+abbrev pub begins_number : Option ℕ → Bool
+begins_number = ahead (λ byte. is_digit byte || nat_eq byte 45)
+
+unfoldable pub bool : Reader ℕ Bool
+bool = guided (sees 116) (λ b. of (λ _. b) (word (printed_bool b)))
+
+-- ---- texts in brackets
+
+unfoldable pub after_comma : Reader ℕ Bytes
+after_comma = do
+  _ ← byte 44
+  text
+
+unfoldable pub more_texts : Reader ℕ (List Bytes)
+more_texts = many (sees 44) after_comma
+
+unfoldable pub some_texts : Reader ℕ (List Bytes)
+some_texts = of first_and (list text (sees 44) after_comma)
+
+abbrev pub elements : Reader ℕ (List Bytes)
+elements = either (sees 34) some_texts (pure [])
+
+unfoldable pub texts : Reader ℕ (List Bytes)
+texts = do
+  _ ← byte 91
+  found ← elements
+  _ ← byte 93
+  pure found
+
+-- ---- what is read as a whole
+
+-- the kind whose word the byte begins; where it begins none, any, which is then refused
+abbrev pub kind_by : ℕ → Kind
+kind_by byte =
+    if nat_eq byte 98 then kinds.Bool
+    else if nat_eq byte 99 then kinds.Counter
+    else if nat_eq byte 116 then kinds.Text
+    else if nat_eq byte 115 then kinds.Set
+    else if nat_eq byte 104 then kinds.Hash
+    else kinds.List
+
+abbrev pub kind_ahead : Option ℕ → Kind
+kind_ahead None = kinds.List
+kind_ahead (Some byte) = kind_by byte
+
+unfoldable pub kind : Reader ℕ Kind
+kind = guided kind_ahead (λ kind. of (λ _. kind) (word (word_of kind)))
+
+unfoldable pub address : Reader ℕ Address
+address = do
+  kind ← kind
+  _ ← byte 40
+  key ← text
+  _ ← byte 41
+  pure (record { kind = kind; key = key })
+
+unfoldable pub item : Reader ℕ Item
+item = either begins_number (of items.Int number) (either (sees 34) (of items.Text text) (either (sees 91) (of items.Texts texts) (of items.Bool bool)))
+
+unfoldable pub after_space : Reader ℕ Item
+after_space = do
+  _ ← byte 32
+  item
+
+unfoldable pub emitted : Reader ℕ (List Item)
+emitted = many (sees 32) after_space
+
+unfoldable pub ran : Reader ℕ Outcome
+ran = behind (codes "ok") (of outcomes.Ok emitted)
+
+unfoldable pub failed : Reader ℕ Outcome
+failed = behind (codes "fail ") (of outcomes.Fail text)
+
+abbrev pub spent : Reader ℕ Outcome
+spent = of (λ _. outcomes.Spent) (word (codes "spent"))
+
+abbrev pub big : Reader ℕ Outcome
+big = of (λ _. outcomes.Big) (word (codes "big"))
+
+unfoldable pub outcome : Reader ℕ Outcome
+outcome = either (sees 111) ran (either (sees 102) failed (either (sees 115) spent big))
+
+unfoldable pub text_behind : Reader ℕ Bytes
+text_behind = do
+  _ ← byte 32
+  text
+
+-- a text alone is a text's, and two are a field and a text of a hash
+abbrev pub put_of : Bytes → Option Bytes → WriteOp
+put_of text None = op.PutText text
+put_of field (Some text) = op.HashPut field text
+
+unfoldable pub text_or_field : Reader ℕ WriteOp
+text_or_field = do
+  first ← text
+  second ← optional (sees 32) text_behind
+  pure (put_of first second)
+
+unfoldable pub put_value : Reader ℕ WriteOp
+put_value = either begins_number (of op.PutCounter number) (either (sees 34) text_or_field (of op.PutBool bool))
+
+abbrev pub put : Reader ℕ WriteOp
+put = behind (codes "t ") put_value
+
+abbrev pub push : Reader ℕ WriteOp
+push = behind (codes "sh ") (of op.ListPush text)
+
+-- `put` and `push` begin alike
+unfoldable pub put_or_push : Reader ℕ WriteOp
+put_or_push = behind (codes "pu") (either (sees 116) put push)
+
+abbrev pub added : Reader ℕ WriteOp
+added = either begins_number (of op.AddCounter number) (of op.SetAdd text)
+
+unfoldable pub addition : Reader ℕ WriteOp
+addition = behind (codes "add ") added
+
+unfoldable pub removal : Reader ℕ WriteOp
+removal = behind (codes "remove ") (of op.SetRemove text)
+
+abbrev pub clearing : Reader ℕ WriteOp
+clearing = of (λ _. op.SetClear) (word (codes "clear"))
+
+unfoldable pub part : Reader ℕ WriteOp
+part = either (sees 112) put_or_push (either (sees 97) addition (either (sees 114) removal clearing))

@@ -1,0 +1,196 @@
+-- The spellings of texts, addresses, values, outcomes and write parts, as rules: `P bytes value rest` says that the
+-- bytes are a spelling of the value, and then the rest. Nothing here chooses, looks ahead or counts.
+use Rattle.std.specs.Prelude.{◌≡◌, ℕ, ◌+◌, ◌-◌, ◌*◌, ◌^◌, ◌<◌, Bool, not, ◌&&◌, ◌||◌, nat_eq, nat_le, if◌then◌else◌, List, [], ◌∷◌, ◌++◌, ℤ, pos, negsuc, codes, Option, Some, None}
+use Rattle.std.specs.Fmt.{signed_decimal}
+use Rattle.plain_data.specs.Texts.{Bytes}
+use Rattle.predictive_parsing.specs.Rules.{Rule, One, Pure, Or, Many, ListOf, Whole, ◌>>=◌}
+use Rattle.rdt_types.specs.declared.address.Kind.{Kind}
+use Rattle.rdt_types.specs.declared.address.Address.{Address}
+use Rattle.rdt_types.specs.declared.outcome.Item.{Item}
+use Rattle.rdt_types.specs.declared.outcome.Item.TheVariants as item
+use Rattle.rdt_types.specs.declared.outcome.Outcome.{Outcome}
+use Rattle.rdt_types.specs.declared.outcome.Outcome.TheVariants as outcome
+use Rattle.rdt_types.specs.declared.operation.WriteOp.{WriteOp}
+use Rattle.rdt_types.specs.declared.operation.WriteOp.TheVariants as op
+use Rattle.rdt_types.specs.Printed.{word_of}
+use Rattle.dtext.specs.Printing.{printed_bool}
+
+-- ---- bytes and words
+
+-- this byte
+abbrev pub exactly : ℕ → ℕ → Option (Unit {0})
+exactly wanted byte = if nat_eq byte wanted then Some tt else None
+
+abbrev pub Byte : ℕ → Rule ℕ (Unit {0})
+Byte wanted = One (exactly wanted)
+
+-- these bytes
+abbrev pub Word : Bytes → Rule ℕ (Unit {0})
+Word word bytes _ rest = bytes ≡ word ++ rest
+
+-- the bytes that f gives for the value
+abbrev pub SpelledBy : {A : Type 0} → (A → Bytes) → Rule ℕ A
+SpelledBy f bytes a rest = bytes ≡ f a ++ rest
+
+-- what the rule derives, seen as another value
+abbrev pub Of : {A B : Type 0} → (A → B) → Rule ℕ A → Rule ℕ B
+Of f P = do
+  a ← P
+  Pure (f a)
+
+-- a word, and then what the rule derives
+abbrev pub Behind : {A : Type 0} → Bytes → Rule ℕ A → Rule ℕ A
+Behind word P = do
+  _ ← Word word
+  P
+
+-- ---- texts
+
+-- What stands for itself between quotes: all bytes but those below 32, 127, `"` and `\`.
+abbrev pub is_plain : ℕ → Bool
+is_plain byte = nat_le 32 byte && not (nat_eq byte 127) && not (nat_eq byte 34) && not (nat_eq byte 92)
+
+abbrev pub plain : ℕ → Option ℕ
+plain byte = if is_plain byte then Some byte else None
+
+-- the byte that one byte behind a backslash stands for: `"`, `\` or, for `n`, a newline
+abbrev pub short : ℕ → Option ℕ
+short byte = if nat_eq byte 34 || nat_eq byte 92 then Some byte else (if nat_eq byte 110 then Some 10 else None)
+
+abbrev pub is_digit : ℕ → Bool
+is_digit byte = nat_le 48 byte && nat_le byte 57
+
+-- the value of a hexadecimal digit, `0` to `9` or `a` to `f`
+abbrev pub hex_value : ℕ → Option ℕ
+hex_value byte = if is_digit byte then Some (byte - 48) else (if nat_le 97 byte && nat_le byte 102 then Some (byte - 87) else None)
+
+abbrev pub hex_byte : ℕ → ℕ → ℕ
+hex_byte high low = 16 * high + low
+
+-- `x` and two hexadecimal digits
+abbrev pub Hexadecimal : Rule ℕ ℕ
+Hexadecimal = do
+  _ ← Byte 120
+  high ← One hex_value
+  low ← One hex_value
+  Pure (hex_byte high low)
+
+-- a backslash, and what it makes of the bytes behind it
+abbrev pub Escape : Rule ℕ ℕ
+Escape = do
+  _ ← Byte 92
+  Or Hexadecimal (One short)
+
+-- one byte of a text
+abbrev pub Piece : Rule ℕ ℕ
+Piece = Or Escape (One plain)
+
+-- a quote, the bytes of the text, and a quote
+abbrev pub TextRule : Rule ℕ Bytes
+TextRule = do
+  _ ← Byte 34
+  text ← Many Piece
+  _ ← Byte 34
+  Pure text
+
+-- ---- numbers and truth values
+
+-- what 64 bits hold
+abbrev pub Fits64 : ℤ → Type 0
+Fits64 (pos n) = n < 2 ^ 63
+Fits64 (negsuc n) = n < 2 ^ 63
+
+-- the decimal form of a number, and no other
+pub record NumberRule (bytes : Bytes) (n : ℤ) (rest : Bytes) : Type 0 where
+  pub spelled : bytes ≡ signed_decimal n ++ rest
+  pub fits : Fits64 n
+
+abbrev pub BoolRule : Rule ℕ Bool
+BoolRule = SpelledBy printed_bool
+
+-- ---- texts in brackets
+
+abbrev pub AfterComma : Rule ℕ Bytes
+AfterComma = do
+  _ ← Byte 44
+  TextRule
+
+abbrev pub first_and : {A : Type 0} → A × List A → List A
+first_and (first, rest) = first ∷ rest
+
+-- none, or one and any number of others behind commas
+abbrev pub Separated : Rule ℕ (List Bytes)
+Separated = Or (Of first_and (ListOf TextRule AfterComma)) (Pure [])
+
+abbrev pub TextsRule : Rule ℕ (List Bytes)
+TextsRule = do
+  _ ← Byte 91
+  texts ← Separated
+  _ ← Byte 93
+  Pure texts
+
+-- ---- what is read as a whole
+
+-- the word of a kind, and a key in parentheses
+abbrev pub AddressRule : Rule ℕ Address
+AddressRule = do
+  kind ← SpelledBy word_of
+  _ ← Byte 40
+  key ← TextRule
+  _ ← Byte 41
+  Pure (record { kind = kind; key = key })
+
+-- a value that a body emits
+abbrev pub ItemRule : Rule ℕ Item
+ItemRule = Or (Of item.Int NumberRule) (Or (Of item.Text TextRule) (Or (Of item.Texts TextsRule) (Of item.Bool BoolRule)))
+
+abbrev pub AfterSpace : Rule ℕ Item
+AfterSpace = do
+  _ ← Byte 32
+  ItemRule
+
+-- how a body ended
+abbrev pub OutcomeRule : Rule ℕ Outcome
+OutcomeRule =
+    Or (Behind (codes "ok") (Of outcome.Ok (Many AfterSpace)))
+    (Or (Behind (codes "fail ") (Of outcome.Fail TextRule))
+    (Or (Of (λ _. outcome.Spent) (Word (codes "spent")))
+    (Of (λ _. outcome.Big) (Word (codes "big")))))
+
+-- a field, a space and a text
+abbrev pub FieldRule : Rule ℕ WriteOp
+FieldRule = do
+  field ← TextRule
+  _ ← Byte 32
+  text ← TextRule
+  Pure (op.HashPut field text)
+
+-- One write without its kind: the form decides, and what sets, hashes and lists share is a set's.
+abbrev pub PartRule : Rule ℕ WriteOp
+PartRule =
+    Or (Behind (codes "put ") (Of op.PutBool BoolRule))
+    (Or (Behind (codes "put ") (Of op.PutCounter NumberRule))
+    (Or (Behind (codes "put ") (Of op.PutText TextRule))
+    (Or (Behind (codes "put ") FieldRule)
+    (Or (Behind (codes "add ") (Of op.AddCounter NumberRule))
+    (Or (Behind (codes "add ") (Of op.SetAdd TextRule))
+    (Or (Behind (codes "remove ") (Of op.SetRemove TextRule))
+    (Or (Behind (codes "push ") (Of op.ListPush TextRule))
+    (Of (λ _. op.SetClear) (Word (codes "clear"))))))))))
+
+-- ---- spellings, all of the bytes
+
+abbrev pub IsText : Bytes → Bytes → Type 0
+IsText = Whole TextRule
+
+abbrev pub IsAddress : Bytes → Address → Type 0
+IsAddress = Whole AddressRule
+
+abbrev pub IsItem : Bytes → Item → Type 0
+IsItem = Whole ItemRule
+
+abbrev pub IsOutcome : Bytes → Outcome → Type 0
+IsOutcome = Whole OutcomeRule
+
+abbrev pub IsPart : Bytes → WriteOp → Type 0
+IsPart = Whole PartRule

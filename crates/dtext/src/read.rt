@@ -1,0 +1,115 @@
+//! Reading: the whole of some bytes as one value, or the column at which they stop being a spelling.
+//!
+//! Each call makes three promises: what it reads is spelled by the bytes (`read`); each spelling is read, want of memory
+//! aside (`spellings`); and else the column is that of the first byte with which no spelling goes on, whatever comes
+//! then, or the one behind the last byte where the bytes end too early (`refused`).
+
+ghost use Rattle.std.specs.Prelude.{◌≡◌, ◌≢◌, ◌<◌, ◌+◌, ◌-◌, ◌^◌, ℕ, length, IfOk, Ok, Err};
+ghost use Rattle.predictive_parsing.specs.Reading as reading;
+ghost use Rattle.predictive_parsing.specs.Reading.{whole_of};
+ghost use Rattle.plain_data.specs.Texts.{Bytes};
+ghost use Rattle.rdt_types.specs.declared.address.Address.{Address};
+ghost use Rattle.rdt_types.specs.declared.outcome.Item.{Item};
+ghost use Rattle.rdt_types.specs.declared.outcome.Outcome.{Outcome};
+ghost use Rattle.rdt_types.specs.declared.operation.WriteOp.{WriteOp};
+ghost use Rattle.dtext.specs.declared.error.TextError.TheVariants.{At, NoMemory};
+ghost use Rattle.dtext.specs.Columns.{IsColumn};
+ghost use Rattle.dtext.specs.Reading as spec;
+ghost use Rattle.dtext.specs.Reads.{Reads, answer};
+ghost use Rattle.dtext.specs.Spellings.{TextRule, IsText, AddressRule, IsAddress, ItemRule, IsItem, OutcomeRule, IsOutcome, PartRule, IsPart};
+
+use crate::cursor::Cursor;
+use crate::error::{Stop, TextError};
+use crate::item::{item, outcome};
+use crate::part::part;
+use crate::text::text;
+use crate::value::address;
+use plain_data::Text;
+use rdt_types::{Address, Item, Outcome, WriteOp};
+use std::alloc::Global;
+
+/// The column of the first of the bytes that are left.
+fn column_of(length: usize, left: usize) -> u32
+    requires { length < 2 ^ 32 - 1 }
+    ensures { result ≡ length - left + 1 }
+{
+    (length.saturating_sub(left) + 1) as u32
+}
+
+/// What was read of so many bytes, where none is left behind it, and else the column of the first that is left.
+fn finish<A: Drop>(found: Result<A, Stop>, cursor: &Cursor, length: usize) -> Result<A, TextError>
+    requires { length < 2 ^ 32 - 1 }
+    ensures { (outcome : reading.Outcome ℕ A) → Reads outcome found cursor.now → result ≢ Err NoMemory → result ≡ answer (whole_of outcome) length }
+{
+    match found {
+        Ok(value) => {
+            if cursor.len() == 0 {
+                Ok(value)
+            } else {
+                Err(TextError::At(column_of(length, cursor.len())))
+            }
+        }
+        Err(Stop::Refused) => Err(TextError::At(column_of(length, cursor.len()))),
+        Err(Stop::NoMemory) => Err(TextError::NoMemory),
+    }
+}
+
+/// Reads a text in quotes.
+pub fn read_text(alloc: Global, bytes: &[u8]) -> Result<Text, TextError>
+    requires { length bytes.now < 2 ^ 32 - 1 }
+    ensures read { IfOk result (λ text. IsText bytes.now text) }
+    ensures spellings { (text : Bytes) → IsText bytes.now text → result ≢ Err NoMemory → result ≡ Ok text }
+    ensures refused { (column : ℕ) → result ≡ Err (At column) → IsColumn TextRule bytes.now column }
+{
+    let mut cursor = Cursor::new(bytes);
+    let found = text(alloc, &mut cursor);
+    finish(found, &cursor, bytes.len())
+}
+
+/// Reads an address: the word of its kind, and its key in parentheses.
+pub fn read_address(alloc: Global, bytes: &[u8]) -> Result<Address, TextError>
+    requires { length bytes.now < 2 ^ 32 - 1 }
+    ensures read { IfOk result (λ address. IsAddress bytes.now address) }
+    ensures spellings { (address : Address) → IsAddress bytes.now address → result ≢ Err NoMemory → result ≡ Ok address }
+    ensures refused { (column : ℕ) → result ≡ Err (At column) → IsColumn AddressRule bytes.now column }
+{
+    let mut cursor = Cursor::new(bytes);
+    let found = address(alloc, &mut cursor);
+    finish(found, &cursor, bytes.len())
+}
+
+/// Reads a value that a body emits.
+pub fn read_item(alloc: Global, bytes: &[u8]) -> Result<Item, TextError>
+    requires { length bytes.now < 2 ^ 32 - 1 }
+    ensures read { IfOk result (λ item. IsItem bytes.now item) }
+    ensures spellings { (item : Item) → IsItem bytes.now item → result ≢ Err NoMemory → result ≡ Ok item }
+    ensures refused { (column : ℕ) → result ≡ Err (At column) → IsColumn ItemRule bytes.now column }
+{
+    let mut cursor = Cursor::new(bytes);
+    let found = item(alloc, &mut cursor);
+    finish(found, &cursor, bytes.len())
+}
+
+/// Reads how a body ended.
+pub fn read_outcome(alloc: Global, bytes: &[u8]) -> Result<Outcome, TextError>
+    requires { length bytes.now < 2 ^ 32 - 1 }
+    ensures read { IfOk result (λ outcome. IsOutcome bytes.now outcome) }
+    ensures spellings { (outcome : Outcome) → IsOutcome bytes.now outcome → result ≢ Err NoMemory → result ≡ Ok outcome }
+    ensures refused { (column : ℕ) → result ≡ Err (At column) → IsColumn OutcomeRule bytes.now column }
+{
+    let mut cursor = Cursor::new(bytes);
+    let found = outcome(alloc, &mut cursor);
+    finish(found, &cursor, bytes.len())
+}
+
+/// Reads one write without its kind, which the form decides; what sets, hashes and lists share is read as a set's.
+pub fn read_part(alloc: Global, bytes: &[u8]) -> Result<WriteOp, TextError>
+    requires { length bytes.now < 2 ^ 32 - 1 }
+    ensures read { IfOk result (λ part. IsPart bytes.now part) }
+    ensures spellings { (part : WriteOp) → IsPart bytes.now part → result ≢ Err NoMemory → result ≡ Ok part }
+    ensures refused { (column : ℕ) → result ≡ Err (At column) → IsColumn PartRule bytes.now column }
+{
+    let mut cursor = Cursor::new(bytes);
+    let found = part(alloc, &mut cursor);
+    finish(found, &cursor, bytes.len())
+}
