@@ -1,15 +1,12 @@
 -- What a script does: the journal that its lines make, and the bytes that answer them.
 use Rattle.std.specs.Prelude.{ℕ, ◌+◌, nat_le, if◌then◌else◌, List, [], ◌∷◌, ◌++◌, fold, length, Option, Some, None, codes}
-use Rattle.std.specs.List.{flat_map}
 use Rattle.std.specs.Str.{bytes_eq}
-use Rattle.std.specs.Fmt.{decimal, signed_decimal}
+use Rattle.std.specs.Fmt.{decimal}
 use Rattle.dio_core.specs.declared.line.Line.{Line}
 use Rattle.dio_core.specs.declared.line.Line.TheVariants as line
 use Rattle.dio_core.specs.Lines.{lines, line_of}
-use Rattle.rdt_types.specs.declared.outcome.Item.{Item}
-use Rattle.rdt_types.specs.declared.outcome.Item.TheVariants as item
 use Rattle.rdt_types.specs.declared.outcome.Outcome.{Outcome}
-use Rattle.rdt_types.specs.declared.outcome.Outcome.TheVariants as outcome
+use Rattle.dtext.specs.Printing.{printed_outcome}
 use Rattle.txn_trees.specs.declared.statement.Body.{Body}
 use Rattle.txn_grammar.specs.Characters.{Text}
 use Rattle.txn_grammar.specs.Tree.{tree}
@@ -22,21 +19,12 @@ use Rattle.script_runner.specs.Words.{trimmed, first_word, after_word, is_quiet,
 
 -- ---- replies
 
-abbrev pub item_text : Item → Text
-item_text (item.Int n) = signed_decimal n
-item_text _ = 63 ∷ []
-
--- `ok` and the emitted values, each behind a space
-abbrev pub outcome_text : Outcome → Text
-outcome_text (outcome.Ok items) = codes "ok" ++ flat_map (λ i. 32 ∷ item_text i) items
-outcome_text _ = 63 ∷ []
-
 -- a reply line: the client, a space, the words and a newline
 abbrev pub reply_line : ℕ → Text → Text
 reply_line client words = ((decimal client ++ 32 ∷ []) ++ words) ++ 10 ∷ []
 
 abbrev pub commit_words : ℕ → Outcome → Text
-commit_words number outcome = ((codes "commit " ++ decimal number) ++ 32 ∷ []) ++ outcome_text outcome
+commit_words number outcome = ((codes "commit " ++ decimal number) ++ 32 ∷ []) ++ printed_outcome outcome
 
 abbrev pub full_words : ℕ → Text
 full_words limit = codes "full " ++ decimal limit

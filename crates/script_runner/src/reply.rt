@@ -1,11 +1,12 @@
 //! The bytes of replies.
 
 ghost use Rattle.std.specs.Prelude.{◌≡◌, ◌++◌, IfOk, OnOk};
-ghost use Rattle.std.specs.Fmt.{decimal, signed_decimal};
+ghost use Rattle.std.specs.Fmt.{decimal};
 ghost use Rattle.script_runner.specs.Play as spec;
 
+use dtext::print_outcome;
 use plain_data::Text;
-use rdt_types::{Item, Outcome};
+use rdt_types::Outcome;
 use std::alloc::{AllocError, Global};
 
 /// Adds a number in digits.
@@ -16,28 +17,6 @@ fn push_number(alloc: Global, text: &mut Text, number: u64) -> Result<(), AllocE
     text.extend_from_slice(digits.as_bytes())
 }
 
-/// Adds an emitted value.
-fn push_item(alloc: Global, text: &mut Text, item: &Item) -> Result<(), AllocError>
-    ensures { OnOk result (text.new ≡ text.old ++ spec.item_text item.now) }
-{
-    let Item::Int(number) = item else { return text.push(b'?'); };
-    let digits = number.to_string(alloc)?;
-    text.extend_from_slice(digits.as_bytes())
-}
-
-/// Adds an outcome.
-fn push_outcome(alloc: Global, text: &mut Text, outcome: &Outcome) -> Result<(), AllocError>
-    ensures { OnOk result (text.new ≡ text.old ++ spec.outcome_text outcome.now) }
-{
-    let Outcome::Ok(items) = outcome else { return text.push(b'?'); };
-    text.extend_from_slice(b"ok")?;
-    for item in items.as_slice() {
-        text.push(b' ')?;
-        push_item(alloc, text, item)?;
-    }
-    Ok(())
-}
-
 /// The words of a commit's reply.
 pub fn commit_words(alloc: Global, number: u64, outcome: &Outcome) -> Result<Text, AllocError>
     ensures { IfOk result (λ words. words ≡ spec.commit_words number outcome.now) }
@@ -45,7 +24,8 @@ pub fn commit_words(alloc: Global, number: u64, outcome: &Outcome) -> Result<Tex
     let mut words = Text::from_slice(alloc, b"commit ")?;
     push_number(alloc, &mut words, number)?;
     words.push(b' ')?;
-    push_outcome(alloc, &mut words, outcome)?;
+    let printed = print_outcome(alloc, outcome)?;
+    words.extend_from_slice(printed.as_slice())?;
     Ok(words)
 }
 

@@ -14,7 +14,7 @@ use conflict_table::Obs;
 use plain_data::{Sequence, Text};
 use rdt_types::{
     Address, Delta, DeltaMap, Item, ItemList, Kind, Outcome, Value, WriteOp, add_delta, apply,
-    default_value, delta_of,
+    delta_of,
 };
 use std::alloc::{AllocError, Global};
 use txn_lang::{Run, Seen, SeenList};
