@@ -1,9 +1,9 @@
 -- The readers of values, addresses and outcomes read what their rules derive.
-use Rattle.std.proofs.Common.{◌≡◌, ◌<◌, ℕ, Bool, true, false, not, ◌&&◌, List, [], ◌∷◌, ◌++◌, length, Option, Some, None, Ok, Err, refl, ap, sym, ◌∙◌, arith, inl, inr, codes, nat_eq, nat_le}
+use Rattle.std.proofs.Common.{◌≡◌, ◌<◌, ℕ, Bool, true, false, not, List, [], ◌∷◌, ◌++◌, length, Option, Some, None, Ok, Err, refl, ap, sym, ◌∙◌, arith, inl, inr, codes}
 use Rattle.std.proofs.lemmas.Bool.Decides.{nat_tests}
 use Rattle.predictive_parsing.specs.Reading.{Reader, next, pure, either, list, many}
 use Rattle.predictive_parsing.specs.Reading as reading
-use Rattle.predictive_parsing.specs.Rules.{Rule, One, Then, Pure, Or, Many, ListOf}
+use Rattle.predictive_parsing.specs.Rules.{Rule, Then, Pure, Or, Many, ListOf}
 use Rattle.predictive_parsing.specs.Fits.{Fits, any, unless}
 use Rattle.predictive_parsing.proofs.Basic.{both, not_true}
 use Rattle.predictive_parsing.proofs.Combined.{pure_fits, onwards, followed, either_fits, seen, narrowed}
@@ -20,8 +20,8 @@ use Rattle.rdt_types.specs.declared.outcome.Outcome.TheVariants as outcomes
 use Rattle.rdt_types.specs.Printed.{word_of}
 use Rattle.dtext.specs.Printing.{printed_bool}
 use Rattle.dtext.specs.Columns.{IsByte}
-use Rattle.dtext.specs.Spellings.{Byte, Word, SpelledBy, Of, Behind, is_digit, TextRule, NumberRule, BoolRule, AfterComma, first_and, Separated, TextsRule, AddressRule, ItemRule, AfterSpace, OutcomeRule}
-use Rattle.dtext.specs.Reading.{sees, guided, byte, word, of, behind, text, number, begins_number, bool, after_comma, more_texts, some_texts, texts, kind_ahead, kind, address, item, after_space, emitted, ran, failed, outcome}
+use Rattle.dtext.specs.Spellings.{Byte, Word, SpelledBy, Of, Behind, TextRule, NumberRule, BoolRule, AfterComma, first_and, Separated, TextsRule, AddressRule, ItemRule, AfterSpace, OutcomeRule}
+use Rattle.dtext.specs.Reading.{sees, word, of, behind, text, number, begins_number, bool, after_comma, more_texts, some_texts, texts, kind_ahead, kind, address, item, after_space, emitted, ran, failed, outcome}
 use Rattle.dtext.proofs.Words.{fits_as, byte_fits, byte_taken, are_bytes, word_fits, guided_fits}
 use Rattle.dtext.proofs.TextFits.{byte_begins, text_fits}
 use Rattle.dtext.proofs.NumberFits.{no_digit, number_fits, number_begins}

@@ -1,22 +1,22 @@
 -- The reader of numbers reads what their rule derives.
-use Rattle.std.proofs.Common.{◌≡◌, ◌<◌, ◌≤◌, ◌+◌, ◌-◌, ◌*◌, ◌^◌, ℕ, zero, suc, ℤ, pos, negsuc, neg_ℤ, Bool, true, false, not, ◌&&◌, ◌||◌, ◌⊎◌, List, [], ◌∷◌, ◌++◌, Option, Some, None, Ok, Err, refl, ap, sym, ◌∙◌, subst, arith, cond, inl, inr, nat_eq, nat_le, append-nil}
+use Rattle.std.proofs.Common.{◌≡◌, ◌<◌, ◌≤◌, ◌+◌, ◌-◌, ◌*◌, ◌^◌, ℕ, zero, suc, ℤ, pos, negsuc, neg_ℤ, Bool, true, false, ◌&&◌, ◌||◌, ◌⊎◌, [], ◌∷◌, ◌++◌, Option, Some, None, Ok, Err, refl, ap, sym, ◌∙◌, subst, arith, cond, inl, inr, nat_eq, nat_le}
 use Rattle.std.proofs.lemmas.Bool.Decides.{nat_tests}
 use Rattle.std.proofs.lemmas.List.Elements.{All-nil}
-use Rattle.std.specs.Fmt.{decimal, signed_decimal}
+use Rattle.std.specs.Fmt.{decimal}
 use Rattle.std.specs.Char.{digit_value}
 use Rattle.std.specs.Str.Parse.{AllDigits, digits_value_after}
-use Rattle.predictive_parsing.specs.Reading.{Outcome, Reader, next, one, pure, either}
+use Rattle.predictive_parsing.specs.Reading.{next, one}
 use Rattle.predictive_parsing.specs.Rules.{Rule, One, Then, Pure, Or}
-use Rattle.predictive_parsing.specs.Fits.{Fits, Taken, Stuck, Completes, any, unless}
-use Rattle.predictive_parsing.proofs.Basic.{bool_cases, both, not_true, ok_pair, next_kept}
+use Rattle.predictive_parsing.specs.Fits.{Fits, Taken, any, unless}
+use Rattle.predictive_parsing.proofs.Basic.{bool_cases, both, not_true, ok_pair}
 use Rattle.predictive_parsing.proofs.Combined.{one_fits, onwards, either_fits, seen, narrowed}
 use Rattle.plain_data.specs.Texts.{Bytes}
 use Rattle.dtext.specs.Columns.{IsByte}
-use Rattle.dtext.specs.Spellings.{Byte, is_digit, Fits64, NumberRule, Of}
-use Rattle.dtext.specs.Reading.{ahead, sees, byte, leading, with_digit, digits, positive, zero_read, natural, negative, number, begins_number, of}
-use Rattle.dtext.proofs.Words.{fits_as, byte_fits, byte_taken, byte_made}
+use Rattle.dtext.specs.Spellings.{Byte, is_digit, NumberRule, Of}
+use Rattle.dtext.specs.Reading.{ahead, sees, leading, with_digit, digits, positive, zero_read, natural, negative, number, begins_number, of}
+use Rattle.dtext.proofs.Words.{fits_as, byte_fits, byte_taken}
 use Rattle.dtext.proofs.TextFits.{byte_begins}
-use Rattle.dtext.proofs.Digits.{digit_worth, digit_below, digit_of, with_digit_worth, digits_value_after-ge, decimal-value_after, Decimal, decimal_parts, decimal_zero, decimal_leading}
+use Rattle.dtext.proofs.Digits.{digit_worth, digit_below, digit_of, with_digit_worth, digits_value_after-ge, decimal-value_after, decimal_parts, decimal_zero, decimal_leading}
 
 -- no digit follows
 abbrev pub no_digit : Option ℕ → Bool

@@ -1,7 +1,7 @@
 -- The reader of write parts reads what the rule derives. The reader's rule is the table of forms with equal fronts put
 -- together; both derive the same.
-use Rattle.std.proofs.Common.{◌≡◌, ℕ, Bool, true, false, not, ◌&&◌, List, [], ◌∷◌, ◌++◌, Option, Some, None, refl, ap, sym, ◌∙◌, arith, inl, inr, codes}
-use Rattle.predictive_parsing.specs.Reading.{Reader, next, pure, either, optional}
+use Rattle.std.proofs.Common.{◌≡◌, ℕ, Bool, true, false, not, ◌++◌, Option, Some, None, refl, ap, ◌∙◌, arith, inl, inr, codes}
+use Rattle.predictive_parsing.specs.Reading.{next, either}
 use Rattle.predictive_parsing.specs.Rules.{Rule, Then, Pure, Or, Optional}
 use Rattle.predictive_parsing.specs.Fits.{Fits, any, unless}
 use Rattle.predictive_parsing.proofs.Basic.{both}
@@ -11,8 +11,8 @@ use Rattle.rdt_types.specs.declared.operation.WriteOp.{WriteOp}
 use Rattle.rdt_types.specs.declared.operation.WriteOp.TheVariants as op
 use Rattle.dtext.specs.Columns.{IsByte}
 use Rattle.dtext.specs.Spellings.{Byte, Word, Of, Behind, TextRule, NumberRule, BoolRule, FieldRule, PartRule}
-use Rattle.dtext.specs.Reading.{sees, word, of, behind, text, number, begins_number, bool, text_behind, put_of, text_or_field, put_value, put_or_push, addition, removal, part}
-use Rattle.dtext.proofs.Words.{fits_as, byte_fits, byte_taken}
+use Rattle.dtext.specs.Reading.{sees, word, of, number, begins_number, bool, text_behind, put_of, text_or_field, put_value, put_or_push, addition, removal, part}
+use Rattle.dtext.proofs.Words.{fits_as, byte_fits}
 use Rattle.dtext.proofs.TextFits.{byte_begins, text_fits}
 use Rattle.dtext.proofs.NumberFits.{no_digit, number_fits, number_begins}
 use Rattle.dtext.proofs.FormFits.{behind_fits, named_fits, bool_fits, bool_apart, text_next, ended}

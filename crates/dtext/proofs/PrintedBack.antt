@@ -1,11 +1,10 @@
 -- What is printed is a spelling of its value.
-use Rattle.std.proofs.Common.{◌≡◌, ◌<◌, ◌≤◌, ◌+◌, ◌-◌, ◌*◌, ◌/◌, ◌%◌, ℕ, ℤ, Bool, true, false, not, ◌&&◌, ◌||◌, List, [], ◌∷◌, ◌++◌, Some, None, refl, ap, sym, ◌∙◌, subst, arith, inl, inr, cond, codes, nat_eq, nat_le, nat_lt, append_assoc, append-nil}
+use Rattle.std.proofs.Common.{◌≡◌, ◌<◌, ◌≤◌, ◌+◌, ◌-◌, ◌/◌, ◌%◌, ℕ, ℤ, Bool, true, false, ◌&&◌, ◌||◌, List, [], ◌∷◌, ◌++◌, Some, None, refl, ap, sym, ◌∙◌, subst, arith, inl, inr, cond, codes, nat_eq, nat_le, nat_lt, append_assoc}
 use Rattle.std.proofs.lemmas.Bool.Decides.{nat_tests}
 use Rattle.std.specs.List.{flat_map, All}
 use Rattle.std.proofs.lemmas.List.Elements.{All-head, All-tail}
 use Rattle.std.specs.Fmt.{signed_decimal}
-use Rattle.predictive_parsing.specs.Rules.{Rule, One, Then, Pure, Or, Many, none, more, ListOf, Whole}
-use Rattle.predictive_parsing.proofs.Basic.{bool_cases, both}
+use Rattle.predictive_parsing.specs.Rules.{Rule, Many, none, more}
 use Rattle.plain_data.specs.Texts.{Bytes}
 use Rattle.rdt_types.specs.declared.address.Address.{Address}
 use Rattle.rdt_types.specs.declared.outcome.Item.{Item}
@@ -14,12 +13,11 @@ use Rattle.rdt_types.specs.declared.outcome.Outcome.{Outcome}
 use Rattle.rdt_types.specs.declared.outcome.Outcome.TheVariants as outcomes
 use Rattle.rdt_types.specs.declared.operation.WriteOp.{WriteOp}
 use Rattle.rdt_types.specs.declared.operation.WriteOp.TheVariants as op
-use Rattle.rdt_types.specs.declared.printed.Spelling.{Spelling}
 use Rattle.rdt_types.specs.declared.printed.Spelling.TheVariants as spelling
 use Rattle.rdt_types.specs.Printed.{word_of, hex_digit, spelling_of, spelled, printed_text, printed_address}
 use Rattle.dtext.specs.Printing.{printed_bool, separated, printed_texts, printed_item, printed_outcome, printed_part}
 use Rattle.dtext.specs.Printing as print
-use Rattle.dtext.specs.Spellings.{Byte, Word, SpelledBy, Of, Behind, is_plain, plain, short, is_digit, hex_value, hex_byte, Hexadecimal, Escape, Piece, TextRule, Fits64, NumberRule, BoolRule, AfterComma, first_and, Separated, TextsRule, AddressRule, ItemRule, AfterSpace, OutcomeRule, FieldRule, PartRule}
+use Rattle.dtext.specs.Spellings.{Of, Behind, is_plain, plain, short, is_digit, hex_value, hex_byte, Piece, TextRule, Fits64, NumberRule, BoolRule, AfterComma, Separated, TextsRule, AddressRule, ItemRule, AfterSpace, OutcomeRule, FieldRule, PartRule}
 use Rattle.dtext.specs.ReadBack.{FitsItem, FitsOutcome, FitsPart, read_alone}
 use Rattle.dtext.proofs.Words.{byte_made}
 

@@ -1,5 +1,5 @@
 -- The reader of texts reads what the rule derives.
-use Rattle.std.proofs.Common.{◌≡◌, ◌<◌, ℕ, Bool, true, false, not, ◌&&◌, List, [], ◌∷◌, ◌++◌, length, Some, None, Ok, Err, refl, ap, ◌∙◌, inl, inr, arith, cond, nat_eq, nat_le}
+use Rattle.std.proofs.Common.{◌≡◌, ◌<◌, ℕ, Bool, true, false, not, ◌&&◌, [], ◌∷◌, ◌++◌, length, Some, None, Ok, Err, refl, ap, ◌∙◌, inl, inr, arith, cond, nat_eq, nat_le}
 use Rattle.std.proofs.lemmas.Bool.Decides.{nat_tests}
 use Rattle.predictive_parsing.specs.Reading.{Outcome, next, one}
 use Rattle.predictive_parsing.specs.Rules.{One, Then, Pure, Many}
@@ -11,8 +11,8 @@ use Rattle.predictive_parsing.proofs.Loops.{with_front, no_front, turn, refused,
 use Rattle.plain_data.specs.Texts.{Bytes}
 use Rattle.dtext.specs.Columns.{IsByte}
 use Rattle.dtext.specs.Spellings.{Byte, is_plain, plain, short, hex_value, hex_byte, Hexadecimal, Escape, Piece, TextRule}
-use Rattle.dtext.specs.Reading.{sees, inside, byte, hexadecimal, escape, piece, pieces, text}
-use Rattle.dtext.proofs.Words.{byte_fits, byte_taken, byte_is, same_byte}
+use Rattle.dtext.specs.Reading.{sees, inside, hexadecimal, escape, piece, pieces, text}
+use Rattle.dtext.proofs.Words.{byte_fits, byte_taken, same_byte}
 
 -- a byte's rule takes the byte that is ahead
 pub byte_begins : (b : ℕ) (ts us : Bytes) (a : Unit {0}) → Byte b ts a us → sees b (next ts) ≡ true

@@ -1,6 +1,6 @@
 -- The whole of some bytes.
-use Rattle.std.proofs.Common.{◌≡◌, ◌≢◌, ◌<◌, ◌≤◌, ◌+◌, ◌-◌, ℕ, Bool, true, ◌⊎◌, List, [], ◌∷◌, ◌++◌, length, Option, None, Result, Ok, Err, IfOk, refl, ap, sym, ◌∙◌, subst, inl, inr, arith, length-append, append_assoc, append-nil, get_or, drop}
-use Rattle.predictive_parsing.specs.Reading.{Outcome, Reader, whole, whole_of}
+use Rattle.std.proofs.Common.{◌≡◌, ◌≢◌, ◌<◌, ◌+◌, ◌-◌, ℕ, Bool, true, [], ◌∷◌, ◌++◌, length, Option, None, Result, Ok, Err, IfOk, refl, ap, sym, ◌∙◌, subst, arith, length-append, append_assoc, append-nil, get_or, drop}
+use Rattle.predictive_parsing.specs.Reading.{Reader, whole, whole_of}
 use Rattle.predictive_parsing.specs.Rules.{Rule, Whole}
 use Rattle.predictive_parsing.specs.Fits.{Fits}
 use Rattle.predictive_parsing.specs.Stops.{StopsAt, NoFurther, CanGoOn}

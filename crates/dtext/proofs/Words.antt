@@ -1,15 +1,15 @@
 -- Bytes, words, and what the byte ahead tells.
-use Rattle.std.proofs.Common.{◌≡◌, ◌<◌, ℕ, Bool, true, false, not, List, [], ◌∷◌, ◌++◌, Option, Some, None, Ok, Err, refl, ap, sym, ◌∙◌, ◌&&◌, arith, cond, nat_eq, nat_lt}
+use Rattle.std.proofs.Common.{◌≡◌, ◌<◌, ℕ, Bool, true, false, [], ◌∷◌, ◌++◌, Option, Some, None, refl, ap, sym, ◌∙◌, ◌&&◌, arith, cond, nat_eq, nat_lt}
 use Rattle.std.proofs.lemmas.Bool.Decides.{nat_tests}
-use Rattle.predictive_parsing.specs.Reading.{Reader, next, one, and_then, pure}
-use Rattle.predictive_parsing.specs.Rules.{Rule, One, Then, Pure}
-use Rattle.predictive_parsing.specs.Fits.{Fits, Taken, Stuck, Completes, any}
+use Rattle.predictive_parsing.specs.Reading.{Reader, next}
+use Rattle.predictive_parsing.specs.Rules.{Rule, Then}
+use Rattle.predictive_parsing.specs.Fits.{Fits, any}
 use Rattle.predictive_parsing.proofs.Basic.{both, taken_as, stuck_as, completes_as}
 use Rattle.predictive_parsing.proofs.Combined.{pure_fits, one_fits, onwards}
 use Rattle.plain_data.specs.Texts.{Bytes}
 use Rattle.dtext.specs.Columns.{IsByte}
 use Rattle.dtext.specs.Spellings.{exactly, Byte, Word}
-use Rattle.dtext.specs.Reading.{ahead, sees, guided, byte, word}
+use Rattle.dtext.specs.Reading.{guided, byte, word}
 
 -- ---- another rule that derives the same
 

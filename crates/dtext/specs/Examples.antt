@@ -1,9 +1,9 @@
 -- Spellings, read.
-use Rattle.std.specs.Prelude.{◌≡◌, [], ◌∷◌, codes, negsuc, Ok, Err, refl}
-use Rattle.predictive_parsing.specs.Reading.{one, turns, many, list, optional, whole}
+use Rattle.std.specs.Prelude.{◌≡◌, [], codes, negsuc, Ok, Err, refl}
+use Rattle.predictive_parsing.specs.Reading.{one, turns, many, optional, whole}
 use Rattle.rdt_types.specs.declared.outcome.Item.TheVariants as items
 use Rattle.rdt_types.specs.declared.operation.WriteOp.TheVariants as op
-use Rattle.dtext.specs.Reading.{byte, word, hexadecimal, escape, piece, pieces, text, digits, positive, natural, negative, number, item, part, put_or_push, put_value, text_or_field, text_behind, bool, texts}
+use Rattle.dtext.specs.Reading.{byte, word, piece, pieces, text, digits, positive, natural, negative, number, item, part, put_or_push, put_value, text_or_field, text_behind}
 
 -- a text that doesn't end
 open_text : whole text (codes "\"a") ≡ Err []

@@ -1,5 +1,5 @@
 -- The readers of spellings: functions that look one byte ahead, form by form as the rules have them.
-use Rattle.std.specs.Prelude.{ℕ, ◌+◌, ◌-◌, ◌*◌, ◌^◌, Bool, true, false, not, ◌&&◌, ◌||◌, nat_eq, nat_le, if◌then◌else◌, List, [], ◌∷◌, ℤ, pos, neg_ℤ, codes, Option, Some, None, Ok, Err}
+use Rattle.std.specs.Prelude.{ℕ, ◌+◌, ◌-◌, ◌*◌, ◌^◌, Bool, false, not, ◌&&◌, ◌||◌, nat_eq, nat_le, if◌then◌else◌, List, [], ◌∷◌, ℤ, pos, neg_ℤ, codes, Option, Some, None, Ok}
 use Rattle.plain_data.specs.Texts.{Bytes}
 use Rattle.predictive_parsing.specs.Reading.{Reader, ◌>>=◌, pure, next, one, either, many, list, optional}
 use Rattle.rdt_types.specs.declared.address.Kind.{Kind}

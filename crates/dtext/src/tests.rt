@@ -80,136 +80,174 @@ fn printed_forms_read_back(rt: HostRuntime) {
     }
 }
 
-/// The shortest wrong bytes of each form at each place of it, and the column at which they are refused.
-const WRONG: [(Form, &[u8], u32); 117] = [
-    (Form::Text, b"", 1),
-    (Form::Text, b"a", 1),
-    (Form::Text, b"\"", 2),
-    (Form::Text, b"\"\n", 2),
-    (Form::Text, b"\"\x7f", 2),
-    (Form::Text, b"\"a", 3),
-    (Form::Text, b"\"\\", 3),
-    (Form::Text, b"\"\\t", 3),
-    (Form::Text, b"\"\"a", 3),
-    (Form::Text, b"\"\\x", 4),
-    (Form::Text, b"\"\\xg", 4),
-    (Form::Text, b"\"\\xA", 4),
-    (Form::Text, b"\"\\x0", 5),
-    (Form::Text, b"\"\\x0F", 5),
-    (Form::Text, b"\"\\x00", 6),
-    (Form::Address, b"", 1),
-    (Form::Address, b"a", 1),
-    (Form::Address, b"b", 2),
-    (Form::Address, b"ba", 2),
-    (Form::Address, b"bool", 5),
-    (Form::Address, b"bools", 5),
-    (Form::Address, b"bool(", 6),
-    (Form::Address, b"bool(1", 6),
-    (Form::Address, b"bool(\"", 7),
-    (Form::Address, b"bool(\"\"", 8),
-    (Form::Address, b"bool(\"\"]", 8),
-    (Form::Address, b"bool(\"\").", 9),
-    (Form::Address, b"ca", 2),
-    (Form::Address, b"ta", 2),
-    (Form::Address, b"spent", 2),
-    (Form::Address, b"ha", 3),
-    (Form::Address, b"la", 2),
-    (Form::Item, b"", 1),
-    (Form::Item, b" 1", 1),
-    (Form::Item, b"+1", 1),
-    (Form::Item, b"-", 2),
-    (Form::Item, b"-0", 2),
-    (Form::Item, b"--", 2),
-    (Form::Item, b"01", 2),
-    (Form::Item, b"00", 2),
-    (Form::Item, b"1 ", 2),
-    (Form::Item, b"-1-", 3),
-    (Form::Item, b"9223372036854775808", 19),
-    (Form::Item, b"9223372036854775810", 19),
-    (Form::Item, b"10000000000000000000", 20),
-    (Form::Item, b"-9223372036854775809", 20),
-    (Form::Item, b"-92233720368547758080", 21),
-    (Form::Item, b"t", 2),
-    (Form::Item, b"ta", 2),
-    (Form::Item, b"true1", 5),
-    (Form::Item, b"f", 2),
-    (Form::Item, b"falsy", 5),
-    (Form::Item, b"[", 2),
-    (Form::Item, b"[ ", 2),
-    (Form::Item, b"[1", 2),
-    (Form::Item, b"[,", 2),
-    (Form::Item, b"[]]", 3),
-    (Form::Item, b"[\"", 3),
-    (Form::Item, b"[\"\"", 4),
-    (Form::Item, b"[\"\" ", 4),
-    (Form::Item, b"[\"\",", 5),
-    (Form::Item, b"[\"\", ", 5),
-    (Form::Item, b"[\"\",]", 5),
-    (Form::Outcome, b"", 1),
-    (Form::Outcome, b"a", 1),
-    (Form::Outcome, b"o", 2),
-    (Form::Outcome, b"oh", 2),
-    (Form::Outcome, b"okay", 3),
-    (Form::Outcome, b"ok ", 4),
-    (Form::Outcome, b"ok  ", 4),
-    (Form::Outcome, b"ok 1 ", 6),
-    (Form::Outcome, b"ok 1,", 5),
-    (Form::Outcome, b"ok 01", 5),
-    (Form::Outcome, b"f", 2),
-    (Form::Outcome, b"fail", 5),
-    (Form::Outcome, b"fail ", 6),
-    (Form::Outcome, b"fail 1", 6),
-    (Form::Outcome, b"fail \"\" ", 8),
-    (Form::Outcome, b"s", 2),
-    (Form::Outcome, b"set", 2),
-    (Form::Outcome, b"spent ", 6),
-    (Form::Outcome, b"b", 2),
-    (Form::Outcome, b"bit", 3),
-    (Form::Outcome, b"big ", 4),
-    (Form::Part, b"", 1),
-    (Form::Part, b"b", 1),
-    (Form::Part, b"p", 2),
-    (Form::Part, b"pa", 2),
-    (Form::Part, b"pu", 3),
-    (Form::Part, b"pull", 3),
-    (Form::Part, b"put", 4),
-    (Form::Part, b"puts", 4),
-    (Form::Part, b"put ", 5),
-    (Form::Part, b"put [", 5),
-    (Form::Part, b"put t", 6),
-    (Form::Part, b"put true ", 9),
-    (Form::Part, b"put 01", 6),
-    (Form::Part, b"put 1 ", 6),
-    (Form::Part, b"put \"\"\"", 7),
-    (Form::Part, b"put \"\" ", 8),
-    (Form::Part, b"put \"\" 1", 8),
-    (Form::Part, b"put \"\" \"\" ", 10),
-    (Form::Part, b"push", 5),
-    (Form::Part, b"push 1", 6),
-    (Form::Part, b"push \"\" ", 8),
-    (Form::Part, b"a", 2),
-    (Form::Part, b"add", 4),
-    (Form::Part, b"add ", 5),
-    (Form::Part, b"add true", 5),
-    (Form::Part, b"add \"\" ", 7),
-    (Form::Part, b"r", 2),
-    (Form::Part, b"remove", 7),
-    (Form::Part, b"remove 1", 8),
-    (Form::Part, b"remove \"\" ", 10),
-    (Form::Part, b"c", 2),
-    (Form::Part, b"close", 3),
-    (Form::Part, b"clear ", 6),
+// Wrong bytes of each form, the shortest at each place of it, and the columns at which they are refused.
+
+const TEXTS: [(&[u8], u32); 15] = [
+    (b"", 1),
+    (b"a", 1),
+    (b"\"", 2),
+    (b"\"\n", 2),
+    (b"\"\x7f", 2),
+    (b"\"a", 3),
+    (b"\"\\", 3),
+    (b"\"\\t", 3),
+    (b"\"\"a", 3),
+    (b"\"\\x", 4),
+    (b"\"\\xg", 4),
+    (b"\"\\xA", 4),
+    (b"\"\\x0", 5),
+    (b"\"\\x0F", 5),
+    (b"\"\\x00", 6),
 ];
 
-#[test]
-fn wrong_bytes_and_their_columns(rt: HostRuntime) {
-    for (form, wrong, column) in WRONG {
-        let refused = match read_and_print(rt.alloc(), form, wrong) {
-            Err(TextError::At(at)) => at == column,
-            _ => false,
-        };
-        assert!(rt; refused, "column {column}");
+const ADDRESSES: [(&[u8], u32); 17] = [
+    (b"", 1),
+    (b"a", 1),
+    (b"b", 2),
+    (b"ba", 2),
+    (b"bool", 5),
+    (b"bools", 5),
+    (b"bool(", 6),
+    (b"bool(1", 6),
+    (b"bool(\"", 7),
+    (b"bool(\"\"", 8),
+    (b"bool(\"\"]", 8),
+    (b"bool(\"\").", 9),
+    (b"ca", 2),
+    (b"ta", 2),
+    (b"spent", 2),
+    (b"ha", 3),
+    (b"la", 2),
+];
+
+const ITEMS: [(&[u8], u32); 31] = [
+    (b"", 1),
+    (b" 1", 1),
+    (b"+1", 1),
+    (b"-", 2),
+    (b"-0", 2),
+    (b"--", 2),
+    (b"01", 2),
+    (b"00", 2),
+    (b"1 ", 2),
+    (b"-1-", 3),
+    (b"9223372036854775808", 19),
+    (b"9223372036854775810", 19),
+    (b"10000000000000000000", 20),
+    (b"-9223372036854775809", 20),
+    (b"-92233720368547758080", 21),
+    (b"t", 2),
+    (b"ta", 2),
+    (b"true1", 5),
+    (b"f", 2),
+    (b"falsy", 5),
+    (b"[", 2),
+    (b"[ ", 2),
+    (b"[1", 2),
+    (b"[,", 2),
+    (b"[]]", 3),
+    (b"[\"", 3),
+    (b"[\"\"", 4),
+    (b"[\"\" ", 4),
+    (b"[\"\",", 5),
+    (b"[\"\", ", 5),
+    (b"[\"\",]", 5),
+];
+
+const OUTCOMES: [(&[u8], u32); 21] = [
+    (b"", 1),
+    (b"a", 1),
+    (b"o", 2),
+    (b"oh", 2),
+    (b"okay", 3),
+    (b"ok ", 4),
+    (b"ok  ", 4),
+    (b"ok 1 ", 6),
+    (b"ok 1,", 5),
+    (b"ok 01", 5),
+    (b"f", 2),
+    (b"fail", 5),
+    (b"fail ", 6),
+    (b"fail 1", 6),
+    (b"fail \"\" ", 8),
+    (b"s", 2),
+    (b"set", 2),
+    (b"spent ", 6),
+    (b"b", 2),
+    (b"bit", 3),
+    (b"big ", 4),
+];
+
+const PARTS: [(&[u8], u32); 33] = [
+    (b"", 1),
+    (b"b", 1),
+    (b"p", 2),
+    (b"pa", 2),
+    (b"pu", 3),
+    (b"pull", 3),
+    (b"put", 4),
+    (b"puts", 4),
+    (b"put ", 5),
+    (b"put [", 5),
+    (b"put t", 6),
+    (b"put true ", 9),
+    (b"put 01", 6),
+    (b"put 1 ", 6),
+    (b"put \"\"\"", 7),
+    (b"put \"\" ", 8),
+    (b"put \"\" 1", 8),
+    (b"put \"\" \"\" ", 10),
+    (b"push", 5),
+    (b"push 1", 6),
+    (b"push \"\" ", 8),
+    (b"a", 2),
+    (b"add", 4),
+    (b"add ", 5),
+    (b"add true", 5),
+    (b"add \"\" ", 7),
+    (b"r", 2),
+    (b"remove", 7),
+    (b"remove 1", 8),
+    (b"remove \"\" ", 10),
+    (b"c", 2),
+    (b"close", 3),
+    (b"clear ", 6),
+];
+
+/// Whether wrong bytes are refused at their columns.
+fn are_refused(alloc: Global, form: Form, rows: &[(&[u8], u32)]) -> bool {
+    for (wrong, column) in rows {
+        match read_and_print(alloc, form, wrong) {
+            Err(TextError::At(at)) if at == *column => {}
+            _ => return false,
+        }
     }
+    true
+}
+
+#[test]
+fn columns_of_wrong_texts(rt: HostRuntime) {
+    assert!(rt; are_refused(rt.alloc(), Form::Text, &TEXTS));
+}
+
+#[test]
+fn columns_of_wrong_addresses(rt: HostRuntime) {
+    assert!(rt; are_refused(rt.alloc(), Form::Address, &ADDRESSES));
+}
+
+#[test]
+fn columns_of_wrong_values(rt: HostRuntime) {
+    assert!(rt; are_refused(rt.alloc(), Form::Item, &ITEMS));
+}
+
+#[test]
+fn columns_of_wrong_outcomes(rt: HostRuntime) {
+    assert!(rt; are_refused(rt.alloc(), Form::Outcome, &OUTCOMES));
+}
+
+#[test]
+fn columns_of_wrong_parts(rt: HostRuntime) {
+    assert!(rt; are_refused(rt.alloc(), Form::Part, &PARTS));
 }
 
 /// The two hexadecimal digits of a byte.
