@@ -22,6 +22,7 @@ refused f (b ∷ ts) e = ap (λ o. on_made b o ts) e
 -- ---- the loop over a word's bytes
 
 module _ (w ts : Bytes) (i : ℕ) where
+  -- the word from a place on is the byte there and those behind it
   word_cut : i < length w → word (drop i w) ts ≡ and_then (byte (get_or w i 0) ts) (λ _. word (drop (i + 1) w))
   unfolding word
   word_cut l = ap (λ xs. word xs ts) (drop_more w i 0 l)
@@ -46,10 +47,12 @@ pub made_shorter : {A : Type 0} (f : ℕ → Option A) (ts : Bytes) (a : A) → 
 made_shorter f [] a e = absurd (cc)
 made_shorter f (b ∷ ts) a e = omega arith
 
+-- a digit more is there where something is made of the byte
 more_some : (limit value b m : ℕ) (t : Bool) → is_digit b && nat_le (with_digit value b) limit ≡ t → cond t (Some (with_digit value b)) None ≡ Some m → (t ≡ true) × (m ≡ with_digit value b)
 more_some limit value b m true e h = (refl, cc)
 more_some limit value b m false e h = absurd (cc)
 
+-- and none where nothing is
 more_none : (limit value b : ℕ) (t : Bool) → is_digit b && nat_le (with_digit value b) limit ≡ t → ◌≡◌ {A = Option ℕ} (cond t (Some (with_digit value b)) None) None → t ≡ false
 more_none limit value b true e h = absurd (cc)
 more_none limit value b false e h = refl

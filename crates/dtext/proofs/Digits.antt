@@ -16,9 +16,11 @@ use Rattle.dtext.specs.Reading.{with_digit}
 pub digit_worth : (b : ℕ) → is_digit b ≡ true → digit_value b + 48 ≡ b
 digit_worth b e = digit_value_digit b (grind (arith, nat_tests, both (nat_le 48 b) (nat_le b 57) e))
 
+-- a digit is worth less than 10
 pub digit_below : (b : ℕ) → is_digit b ≡ true → digit_value b < 10
 digit_below b e = let k = both (nat_le 48 b) (nat_le b 57) e in let l : b ≤ 57 = grind (arith, nat_tests, k) in omega (arith, digit_worth b e)
 
+-- what is worth less than 10 is a digit
 pub digit_of : (b : ℕ) → digit_value b < 10 → is_digit b ≡ true
 digit_of b h = let k = digit_from_value b h in grind (arith, nat_tests, k)
 
@@ -31,6 +33,7 @@ pub AllDigits-behind : (xs ys : Bytes) → AllDigits 10 (xs ++ ys) → AllDigits
 AllDigits-behind [] ys d = d
 AllDigits-behind (x ∷ xs) ys d = AllDigits-behind xs ys d.1
 
+-- digits are worth what the later ones make of the earlier ones
 pub digits_value_after-append : (n : ℕ) (xs ys : Bytes) → digits_value_after 10 n (xs ++ ys) ≡ digits_value_after 10 (digits_value_after 10 n xs) ys
 digits_value_after-append n [] ys = refl
 digits_value_after-append n (x ∷ xs) ys = digits_value_after-append (n * 10 + digit_value x) xs ys
@@ -67,6 +70,7 @@ pub record Decimal (n : ℕ) : Type 0 where
   pub others : AllDigits 10 rest
   pub value : digits_value_after 10 (digit_value first) rest ≡ n
 
+-- by what the decimal form is, which has a byte at least
 decimal_by : (n : ℕ) (ds : Bytes) → decimal n ≡ ds → 0 < n → n < 2 ^ 64 → Decimal n
 decimal_by n [] e some small = absurd (let k = first_decimal n some small in let l : get_or (decimal n) 0 0 ≡ 0 = ap (λ xs. get_or xs 0 0) e in omega arith)
 decimal_by n (b ∷ ds) e some small =
@@ -85,9 +89,11 @@ decimal_by n (b ∷ ds) e some small =
       value = ap (λ v. digits_value_after 10 v ds) front ∙ worth;
     }
 
+-- each number above 0 has such a form
 pub decimal_parts : (n : ℕ) → 0 < n → n < 2 ^ 64 → Decimal n
 decimal_parts n some small = decimal_by n (decimal n) refl some small
 
+-- that of 0 is its one digit
 pub decimal_zero : decimal 0 ≡ 48 ∷ []
 decimal_zero = decimal_digit 0 (omega arith)
 

@@ -37,10 +37,12 @@ abbrev goes : ℕ → ℕ → ℕ → Bool
 goes limit value b = is_digit b && nat_le (with_digit value b) limit
 
 module _ (limit : ℕ) where
+  -- a digit that keeps within the limit is taken
   digits_go : (value b : ℕ) (ts : Bytes) → goes limit value b ≡ true → digits limit value (b ∷ ts) ≡ digits limit (with_digit value b) ts
   unfolding digits
   digits_go value b ts s = ap (λ t. cond t (digits limit (with_digit value b) ts) (Ok (value, b ∷ ts))) s
 
+  -- where none is ahead the reader is done
   digits_stop : (value : ℕ) (ts : Bytes) → ahead (goes limit value) (next ts) ≡ false → digits limit value ts ≡ Ok (value, ts)
   unfolding digits
   digits_stop value [] s = refl
@@ -55,9 +57,11 @@ module _ (limit : ℕ) where
     within : (n ≤ limit) ⊎ (front ≡ [])
     again : (vs : Bytes) → next vs ≡ next us → digits limit value (front ++ vs) ≡ Ok (n, vs)
 
+  -- nothing is read where no digit more is ahead
   none_read : (value : ℕ) (ts : Bytes) → ahead (goes limit value) (next ts) ≡ false → Digits value ts value ts
   none_read value ts s = record { front = []; cut = refl; all = tt; worth = refl; within = inr refl; again = λ vs h. digits_stop value vs (ap (ahead (goes limit value)) h ∙ s) }
 
+  -- a digit more keeps within the limit
   goes_within : (value b : ℕ) → goes limit value b ≡ true → with_digit value b ≤ limit
   goes_within value b s = grind (arith, nat_tests, (both (is_digit b) (nat_le (with_digit value b) limit) s).1)
 
@@ -66,6 +70,7 @@ module _ (limit : ℕ) where
   still_within value n front l w (inl h) = h
   still_within value n front l w (inr e) = let k : n ≡ value = w ∙ ap (digits_value_after 10 value) e in omega arith
 
+  -- one digit, and what is read behind it
   one_read : (value b : ℕ) (ts us : Bytes) (n : ℕ) → goes limit value b ≡ true → Digits (with_digit value b) ts n us → Digits value (b ∷ ts) n us
   one_read value b ts us n s x =
       let k = both (is_digit b) (nat_le (with_digit value b) limit) s in
@@ -78,11 +83,13 @@ module _ (limit : ℕ) where
         again = λ vs h. digits_go value b (x.front ++ vs) s ∙ x.again vs h;
       }
 
+  -- the reader has one answer
   read_as : (value : ℕ) (ts us vs : Bytes) (n : ℕ) → digits limit value ts ≡ Ok (value, ts) → digits limit value ts ≡ Ok (n, us) → Digits value ts value ts → Digits value ts n us
   read_as value ts us vs n e h x =
       let k = ok_pair value n ts us (sym e ∙ h) in
       subst (λ m. Digits value ts m us) k.0 (subst (λ xs. Digits value ts value xs) k.1 x)
 
+  -- what is read is a run of digits
   digits_read : (value : ℕ) (ts us : Bytes) (n : ℕ) → digits limit value ts ≡ Ok (n, us) → Digits value ts n us
   digits_read value [] us n e = read_as value [] us [] n (digits_stop value [] refl) e (none_read value [] refl)
   digits_read value (b ∷ ts) us n e = elim (bool_cases (goes limit value b)) [
@@ -98,10 +105,12 @@ module _ (limit : ℕ) where
     | inr s ↦ let k = digits_stop value (b ∷ ts) s in cc
   ]
 
+  -- nothing goes on where no digit follows
   no_digit_stops : (value : ℕ) (us : Bytes) → no_digit (next us) ≡ true → ahead (goes limit value) (next us) ≡ false
   no_digit_stops value [] h = refl
   no_digit_stops value (b ∷ us) h = ap (λ t. t && nat_le (with_digit value b) limit) (not_true (is_digit b) h)
 
+  -- a digit of a number within the limit goes on
   goes_on : (value b : ℕ) (ds : Bytes) → digit_value b < 10 → digits_value_after 10 (value * 10 + digit_value b) ds ≤ limit → goes limit value b ≡ true
   goes_on value b ds d l =
       let k = digit_of b d in
@@ -117,6 +126,7 @@ module _ (limit : ℕ) where
       ∙ digits_derived (value * 10 + digit_value b) front us d.1 (inl l) h
   digits_derived value (b ∷ front) us d (inr e) h = absurd (cc)
 
+  -- what is read is derived, and read again
   digits_taken : (value : ℕ) (ts us : Bytes) (n : ℕ) → Digits value ts n us → Taken (digits limit value) (DigitsRule limit value) ts n us
   digits_taken value ts us n x = record {
     front = x.front;
@@ -125,6 +135,7 @@ module _ (limit : ℕ) where
     again = x.again;
   }
 
+  -- digits behind others are read as their rule says
   pub digits_fits : (value : ℕ) → Fits IsByte (digits limit value) (DigitsRule limit value) no_digit
   digits_fits value = record {
     takes = λ ts us n e. digits_taken value ts us n (digits_read value ts us n e);
@@ -138,6 +149,7 @@ module _ (limit : ℕ) where
 
 -- ---- numbers without a sign
 
+-- by whether the byte is a digit of 1 to 9
 leading_by : (b a : ℕ) (t : Bool) → nat_le 49 b && nat_le b 57 ≡ t → cond t (Some (b - 48)) None ≡ Some a → (is_digit b ≡ true) × (a ≡ digit_value b) × (0 < a)
 leading_by b a true e h =
     let k = both (nat_le 49 b) (nat_le b 57) e in
@@ -147,9 +159,11 @@ leading_by b a true e h =
     (d, omega (arith, digit_worth b d), omega arith)
 leading_by b a false e h = absurd (cc)
 
+-- a leading digit is a digit above 0, by its value
 leading_is : (b a : ℕ) → leading b ≡ Some a → (is_digit b ≡ true) × (a ≡ digit_value b) × (0 < a)
 leading_is b a h = leading_by b a (nat_le 49 b && nat_le b 57) refl h
 
+-- each such digit leads
 leading_made : (b : ℕ) → digit_value b < 10 → 48 < b → leading b ≡ Some (digit_value b)
 leading_made b d l =
     let w = digit_worth b (digit_of b d) in
@@ -168,10 +182,12 @@ record NaturalRule (limit : ℕ) (ts : Bytes) (n : ℕ) (us : Bytes) : Type 0 wh
   spelled : ts ≡ decimal n ++ us
   within : n ≤ limit
 
+-- the digit 0, alone
 abbrev ZeroRule : Rule ℕ ℕ
 ZeroRule = Then (Byte 48) (λ _. Pure 0)
 
 module _ (limit : ℕ) (large : 9 ≤ limit) (small : limit < 2 ^ 64) where
+  -- a leading digit and digits behind it are the decimal form of what they are worth
   positive_to : (ts us : Bytes) (n : ℕ) → Then (One leading) (DigitsRule limit) ts n us → PositiveRule limit ts n us
   positive_to ts us n r =
       let o = r.first in
@@ -188,6 +204,7 @@ module _ (limit : ℕ) (large : 9 ≤ limit) (small : limit < 2 ^ 64) where
         within = within;
       }
 
+  -- and the decimal form of a number above 0 is such digits
   positive_from : (ts us : Bytes) (n : ℕ) → PositiveRule limit ts n us → Then (One leading) (DigitsRule limit) ts n us
   positive_from ts us n r =
       let x = decimal_parts n r.some (omega (arith, r.within)) in
@@ -198,13 +215,16 @@ module _ (limit : ℕ) (large : 9 ≤ limit) (small : limit < 2 ^ 64) where
         second = record { front = x.rest; cut = refl; all = x.others; worth = sym x.value; within = inl r.within };
       }
 
+  -- a leading digit is read by its value
   leading_fits : Fits IsByte (one leading) (One leading) any
   leading_fits = one_fits IsByte leading 49 1 refl (omega arith)
 
+  -- numbers above 0
   positive_fits : Fits IsByte (positive limit) (PositiveRule limit) no_digit
   unfolding positive
   positive_fits = fits_as positive_to positive_from (onwards IsByte leading_fits (digits_fits limit))
 
+  -- 0 alone and numbers above 0 are the numbers without a sign
   natural_to : (ts us : Bytes) (n : ℕ) → Or ZeroRule (PositiveRule limit) ts n us → NaturalRule limit ts n us
   natural_to ts us n (inl r) =
       let zero_is : n ≡ 0 = r.second.is in
@@ -214,6 +234,7 @@ module _ (limit : ℕ) (large : 9 ≤ limit) (small : limit < 2 ^ 64) where
       }
   natural_to ts us n (inr r) = record { spelled = r.spelled; within = r.within }
 
+  -- and these are 0 or above
   natural_from : (ts us : Bytes) (n : ℕ) → NaturalRule limit ts n us → Or ZeroRule (PositiveRule limit) ts n us
   natural_from ts us zero r = inl (record { value = tt; middle = us; first = record { item = 48; first = r.spelled ∙ ap (λ xs. xs ++ us) decimal_zero; made = refl }; second = record { is = refl; here = refl } })
   natural_from ts us (suc n) r = inr (record { spelled = r.spelled; some = omega arith; within = r.within })
@@ -225,6 +246,7 @@ module _ (limit : ℕ) (large : 9 ≤ limit) (small : limit < 2 ^ 64) where
       let l = x.not_zero in
       ap (λ xs. sees 48 (next xs)) (r.spelled ∙ ap (λ xs. xs ++ us) x.whole) ∙ grind (arith, nat_tests, l)
 
+  -- numbers without a sign
   natural_fits : Fits IsByte (natural limit) (NaturalRule limit) no_digit
   unfolding natural
   natural_fits = fits_as natural_to natural_from (either_fits IsByte (sees 48) zero_read (positive limit) ZeroRule (PositiveRule limit) no_digit
@@ -238,23 +260,29 @@ module _ (limit : ℕ) (large : 9 ≤ limit) (small : limit < 2 ^ 64) where
 abbrev most : ℕ
 most = 2 ^ 63 - 1
 
+-- how far the least number is below 0
 abbrev least : ℕ
 least = 2 ^ 63
 
+-- `-` and a number above 0
 abbrev NegativeRule : Rule ℕ ℤ
 NegativeRule = Then (Byte 45) (λ _. Of (λ n. neg_ℤ (pos n)) (PositiveRule least))
 
+-- negative numbers
 negative_fits : Fits IsByte negative NegativeRule no_digit
 unfolding negative
 negative_fits = onwards IsByte (byte_fits 45 (omega arith)) (λ _. seen IsByte (λ n. neg_ℤ (pos n)) (positive_fits least (omega arith) (omega arith)))
 
+-- a number without a sign
 abbrev NotNegative : Rule ℕ ℤ
 NotNegative = Of pos (NaturalRule most)
 
+-- they are the decimal form of the negative number
 negative_is : (ts us : Bytes) (m : ℕ) (n : ℤ) → ts ≡ 45 ∷ (decimal m ++ us) → 0 < m → m ≤ least → n ≡ neg_ℤ (pos m) → NumberRule ts n us
 negative_is ts us zero n e some l is = absurd (omega arith)
 negative_is ts us (suc m) n e some l is = subst (λ z. NumberRule ts z us) (sym is) (record { spelled = e; fits = omega arith })
 
+-- both forms are the decimal form of a number of 64 bits
 number_to : (ts us : Bytes) (n : ℤ) → Or NegativeRule NotNegative ts n us → NumberRule ts n us
 number_to ts us n (inl r) =
     let o = r.second in
@@ -264,6 +292,7 @@ number_to ts us n (inr r) =
     let p = r.first in
     subst (λ z. NumberRule ts z us) (sym r.second.is) (record { spelled = p.spelled ∙ ap (λ xs. decimal r.value ++ xs) r.second.here; fits = omega (arith, p.within) })
 
+-- and that form is one of both
 number_from : (ts us : Bytes) (n : ℤ) → NumberRule ts n us → Or NegativeRule NotNegative ts n us
 number_from ts us (pos n) r = inr (record { value = n; middle = us; first = record { spelled = r.spelled; within = omega (arith, r.fits) }; second = record { is = refl; here = refl } })
 number_from ts us (negsuc n) r = inl (record {
@@ -285,24 +314,29 @@ digit_first ts us (suc n) e l =
     let x = decimal_parts (suc n) (omega arith) l in
     (x.first, x.rest ++ us, e ∙ ap (λ xs. xs ++ us) x.whole, omega (arith, x.not_zero), omega (arith, digit_worth x.first (digit_of x.first x.digit), x.digit))
 
+-- a digit is no `-`
 no_minus : (b : ℕ) → 48 ≤ b → nat_eq b 45 ≡ false
 no_minus b l = grind (arith, nat_tests, l)
 
+-- a number without a sign begins with none
 not_negative_begins : (ts us : Bytes) (n : ℤ) → NotNegative ts n us → sees 45 (next ts) ≡ false
 not_negative_begins ts us n r =
     let x = digit_first ts r.middle r.value r.first.spelled (omega (arith, r.first.within)) in
     ap (λ xs. sees 45 (next xs)) x.2 ∙ no_minus x.0 x.3
 
+-- numbers of 64 bits
 pub number_fits : Fits IsByte number NumberRule no_digit
 unfolding number
 number_fits = fits_as number_to number_from (either_fits IsByte (sees 45) negative (of pos (natural most)) NegativeRule NotNegative no_digit negative_fits (seen IsByte pos (natural_fits most (omega arith) (omega arith)))
     (λ ts us n r. byte_begins 45 ts r.middle r.value r.first)
     (λ ts us n r h. not_negative_begins ts us n r))
 
+-- an alternative that holds
 or_right : (a b : Bool) → b ≡ true → a || b ≡ true
 or_right true b e = refl
 or_right false b e = e
 
+-- a byte from `0` to `9` begins a number
 is_digit_by : (b : ℕ) → 48 ≤ b → b ≤ 57 → is_digit b || nat_eq b 45 ≡ true
 is_digit_by b l h = let d : is_digit b ≡ true = grind (arith, nat_tests, l, h) in ap (λ t. t || nat_eq b 45) d
 

@@ -19,13 +19,16 @@ use Rattle.dtext.proofs.FormFits.{behind_fits, named_fits, bool_fits, bool_apart
 
 -- ---- what is put
 
+-- a text behind a space
 TextBehind : Rule ℕ Bytes
 TextBehind = Then (Byte 32) (λ _. TextRule)
 
+-- it is read as its rule says
 text_behind_fits : Fits IsByte text_behind TextBehind any
 unfolding text_behind TextBehind
 text_behind_fits = onwards IsByte (byte_fits 32 (omega arith)) (λ _. text_fits)
 
+-- it begins with the space
 text_behind_begins : (ts us a : Bytes) → TextBehind ts a us → sees 32 (next ts) ≡ true
 unfolding TextBehind
 text_behind_begins ts us a r = byte_begins 32 ts r.middle r.value r.first
@@ -34,34 +37,43 @@ text_behind_begins ts us a r = byte_begins 32 ts r.middle r.value r.first
 abbrev alone : Option ℕ → Bool
 alone = unless (sees 32) any
 
+-- a text, or a field and a text
 abbrev TextOrField : Rule ℕ WriteOp
 TextOrField = Then TextRule (λ first. Then (Optional TextBehind) (λ second. Pure (put_of first second)))
 
+-- a space tells whether a second text follows
 text_or_field_fits : Fits IsByte text_or_field TextOrField alone
 unfolding text_or_field
 text_or_field_fits = onwards IsByte text_fits (λ first. seen IsByte (put_of first) (optional_fits IsByte (sees 32) text_behind TextBehind any text_behind_fits text_behind_begins))
 
+-- what is put, unless it is a number
 abbrev TextOrBool : Rule ℕ WriteOp
 TextOrBool = Or TextOrField (Of op.PutBool BoolRule)
 
+-- a quote tells texts from truth values
 text_or_bool_fits : Fits IsByte (either (sees 34) text_or_field (of op.PutBool bool)) TextOrBool alone
 text_or_bool_fits = either_fits IsByte (sees 34) text_or_field (of op.PutBool bool) TextOrField (Of op.PutBool BoolRule) alone text_or_field_fits (narrowed IsByte alone (λ h e. refl) (seen IsByte op.PutBool bool_fits))
     (λ ts us a r. ap (sees 34) (text_next ts r.middle r.value r.first))
     (λ ts us a r e. bool_apart (sees 34) refl refl ts r.middle r.value r.first)
 
+-- neither begins as a number does
 text_or_bool_apart : (ts us : Bytes) (a : WriteOp) → TextOrBool ts a us → begins_number (next ts) ≡ false
 text_or_bool_apart ts us a (inl r) = ap begins_number (text_next ts r.middle r.value r.first)
 text_or_bool_apart ts us a (inr r) = bool_apart begins_number refl refl ts r.middle r.value r.first
 
+-- what is put
 abbrev PutValue : Rule ℕ WriteOp
 PutValue = Or (Of op.PutCounter NumberRule) TextOrBool
 
+-- where a part ends no text follows
 ended_is_alone : (h : Option ℕ) → ended h ≡ true → alone h ≡ true
 ended_is_alone h e = (both (no_digit h) (not (sees 32 h)) e).1
 
+-- nor does a digit
 ended_no_digit : (h : Option ℕ) → ended h ≡ true → no_digit h ≡ true
 ended_no_digit h e = (both (no_digit h) (not (sees 32 h)) e).0
 
+-- what is put tells its kind by its first byte
 put_value_fits : Fits IsByte put_value PutValue ended
 unfolding put_value
 put_value_fits = either_fits IsByte begins_number (of op.PutCounter number) _ (Of op.PutCounter NumberRule) TextOrBool ended
@@ -71,69 +83,86 @@ put_value_fits = either_fits IsByte begins_number (of op.PutCounter number) _ (O
 
 -- ---- the forms, by their fronts
 
+-- the rest of `put`
 abbrev Put : Rule ℕ WriteOp
 Put = Behind (codes "t ") PutValue
 
+-- the rest of `push`
 abbrev Push : Rule ℕ WriteOp
 Push = Behind (codes "sh ") (Of op.ListPush TextRule)
 
+-- the two with their common front
 abbrev PutOrPush : Rule ℕ WriteOp
 PutOrPush = Behind (codes "pu") (Or Put Push)
 
+-- the byte behind the front tells them apart
 put_or_push_fits : Fits IsByte put_or_push PutOrPush ended
 unfolding put_or_push
 put_or_push_fits = behind_fits (codes "pu") refl (either_fits IsByte (sees 116) _ _ Put Push ended (behind_fits (codes "t ") refl put_value_fits) (narrowed IsByte ended (λ h e. refl) (behind_fits (codes "sh ") refl (seen IsByte op.ListPush text_fits)))
     (λ ts us a r. ap (λ xs. sees 116 (next xs)) r.first)
     (λ ts us a r e. ap (λ xs. sees 116 (next xs)) r.first))
 
+-- an addition to a counter or a set
 abbrev Addition : Rule ℕ WriteOp
 Addition = Behind (codes "add ") (Or (Of op.AddCounter NumberRule) (Of op.SetAdd TextRule))
 
+-- what is added tells which
 addition_fits : Fits IsByte addition Addition no_digit
 unfolding addition
 addition_fits = behind_fits (codes "add ") refl (either_fits IsByte begins_number _ _ (Of op.AddCounter NumberRule) (Of op.SetAdd TextRule) no_digit (seen IsByte op.AddCounter number_fits) (narrowed IsByte no_digit (λ h e. refl) (seen IsByte op.SetAdd text_fits))
     (λ ts us a r. number_begins ts r.middle r.value r.first)
     (λ ts us a r e. ap begins_number (text_next ts r.middle r.value r.first)))
 
+-- an element taken out
 abbrev Removal : Rule ℕ WriteOp
 Removal = Behind (codes "remove ") (Of op.SetRemove TextRule)
 
+-- it is read as its rule says
 removal_fits : Fits IsByte removal Removal any
 unfolding removal
 removal_fits = behind_fits (codes "remove ") refl (seen IsByte op.SetRemove text_fits)
 
+-- the word alone
 abbrev Clearing : Rule ℕ WriteOp
 Clearing = Of (λ _. op.SetClear) (Word (codes "clear"))
 
+-- it is read as its rule says
 clearing_fits : Fits IsByte (of (λ _. op.SetClear) (word (codes "clear"))) Clearing any
 clearing_fits = named_fits (codes "clear") op.SetClear refl
 
+-- the first byte tells these two apart
 removal_or_clearing_fits : Fits IsByte (either (sees 114) removal (of (λ _. op.SetClear) (word (codes "clear")))) (Or Removal Clearing) any
 removal_or_clearing_fits = either_fits IsByte (sees 114) removal _ Removal Clearing any removal_fits clearing_fits
     (λ ts us a r. ap (λ xs. sees 114 (next xs)) r.first)
     (λ ts us a r e. ap (λ xs. sees 114 (next xs)) r.first)
 
+-- neither begins as another part does
 removal_or_clearing_apart : (test : Option ℕ → Bool) → test (Some 114) ≡ false → test (Some 99) ≡ false → (ts us : Bytes) (a : WriteOp) → Or Removal Clearing ts a us → test (next ts) ≡ false
 removal_or_clearing_apart test m c ts us a (inl r) = ap (λ xs. test (next xs)) r.first ∙ m
 removal_or_clearing_apart test m c ts us a (inr r) = ap (λ xs. test (next xs)) r.first ∙ c
 
+-- a part that is neither put nor push
 abbrev NoPut : Rule ℕ WriteOp
 NoPut = Or Addition (Or Removal Clearing)
 
+-- the first byte tells additions from these
 no_put_fits : Fits IsByte (either (sees 97) addition (either (sees 114) removal (of (λ _. op.SetClear) (word (codes "clear"))))) NoPut no_digit
 no_put_fits = either_fits IsByte (sees 97) addition _ Addition (Or Removal Clearing) no_digit addition_fits (narrowed IsByte no_digit (λ h e. refl) removal_or_clearing_fits)
     (λ ts us a r. ap (λ xs. sees 97 (next xs)) r.first)
     (λ ts us a r e. removal_or_clearing_apart (sees 97) refl refl ts us a r)
 
+-- none of these begins with `p`
 no_put_apart : (ts us : Bytes) (a : WriteOp) → NoPut ts a us → sees 112 (next ts) ≡ false
 no_put_apart ts us a (inl r) = ap (λ xs. sees 112 (next xs)) r.first
 no_put_apart ts us a (inr r) = removal_or_clearing_apart (sees 112) refl refl ts us a r
 
 -- ---- the table
 
+-- all forms, equal fronts put together
 abbrev Factored : Rule ℕ WriteOp
 Factored = Or PutOrPush NoPut
 
+-- parts are read as this rule says
 factored_fits : Fits IsByte part Factored ended
 unfolding part
 factored_fits = either_fits IsByte (sees 112) put_or_push _ PutOrPush NoPut ended put_or_push_fits (narrowed IsByte ended ended_no_digit no_put_fits)
@@ -166,19 +195,23 @@ field_to ts ms ns ks us first second a e h (inl s) is here =
 field_to ts ms ns ks us first second a e h (inr s) is here =
     inr (inr (inl (record { value = tt; middle = ms; first = e; second = record { value = first; middle = ns; first = h; second = record { is = is ∙ ap (put_of first) s.is; here = s.here ∙ here } } })))
 
+-- each thing that is put has its row
 put_to : (ts ms us : Bytes) (a : WriteOp) → ts ≡ codes "put " ++ ms → PutValue ms a us → PartRule ts a us
 put_to ts ms us a e (inl n) = inr (inl (record { value = tt; middle = ms; first = e; second = n }))
 put_to ts ms us a e (inr (inl t)) = let o = t.second in field_to ts ms t.middle o.middle us t.value o.value a e t.first o.first o.second.is o.second.here
 put_to ts ms us a e (inr (inr b)) = inl (record { value = tt; middle = ms; first = e; second = b })
 
+-- the two words have their rows
 put_or_push_to : (ts ms us : Bytes) (a : WriteOp) → ts ≡ codes "pu" ++ ms → Or Put Push ms a us → PartRule ts a us
 put_or_push_to ts ms us a e (inl r) = put_to ts r.middle us a (e ∙ ap (λ xs. codes "pu" ++ xs) r.first) r.second
 put_or_push_to ts ms us a e (inr r) = inr (inr (inr (inr (inr (inr (inr (inl (record { value = tt; middle = r.middle; first = e ∙ ap (λ xs. codes "pu" ++ xs) r.first; second = r.second }))))))))
 
+-- both additions have theirs
 addition_to : (ts ms us : Bytes) (a : WriteOp) → ts ≡ codes "add " ++ ms → Or (Of op.AddCounter NumberRule) (Of op.SetAdd TextRule) ms a us → PartRule ts a us
 addition_to ts ms us a e (inl r) = inr (inr (inr (inr (inl (record { value = tt; middle = ms; first = e; second = r })))))
 addition_to ts ms us a e (inr r) = inr (inr (inr (inr (inr (inl (record { value = tt; middle = ms; first = e; second = r }))))))
 
+-- so each form has its row
 part_to : (ts us : Bytes) (a : WriteOp) → Factored ts a us → PartRule ts a us
 part_to ts us a (inl r) = put_or_push_to ts r.middle us a r.first r.second
 part_to ts us a (inr (inl r)) = addition_to ts r.middle us a r.first r.second
@@ -187,6 +220,7 @@ part_to ts us a (inr (inr (inr r))) = inr (inr (inr (inr (inr (inr (inr (inr r))
 
 -- ---- and back
 
+-- a row of `put` is the front and what is put
 put_from : (ts ms us : Bytes) (a : WriteOp) → ts ≡ codes "put " ++ ms → PutValue ms a us → Factored ts a us
 put_from ts ms us a e v = inl (record { value = tt; middle = codes "t " ++ ms; first = e; second = inl (record { value = tt; middle = ms; first = refl; second = v }) })
 
@@ -194,6 +228,7 @@ put_from ts ms us a e v = inl (record { value = tt; middle = codes "t " ++ ms; f
 text_from : (ts us : Bytes) (a : WriteOp) → Of op.PutText TextRule ts a us → TextOrField ts a us
 text_from ts us a r = record { value = r.value; middle = r.middle; first = r.first; second = record { value = None; middle = r.middle; first = inr (record { is = refl; here = refl }); second = r.second } }
 
+-- a field and a text are a text and another
 field_from : (ts us : Bytes) (a : WriteOp) → FieldRule ts a us → TextOrField ts a us
 unfolding TextBehind
 field_from ts us a r =
@@ -211,12 +246,15 @@ field_from ts us a r =
       };
     }
 
+-- a row of `add`
 addition_from : (ts ms us : Bytes) (a : WriteOp) → ts ≡ codes "add " ++ ms → Or (Of op.AddCounter NumberRule) (Of op.SetAdd TextRule) ms a us → Factored ts a us
 addition_from ts ms us a e r = inr (inl (record { value = tt; middle = ms; first = e; second = r }))
 
+-- a row of `push`
 push_from : (ts ms us : Bytes) (a : WriteOp) → ts ≡ codes "push " ++ ms → Of op.ListPush TextRule ms a us → Factored ts a us
 push_from ts ms us a e r = inl (record { value = tt; middle = codes "sh " ++ ms; first = e; second = inr (record { value = tt; middle = ms; first = refl; second = r }) })
 
+-- so each row is a form
 part_from : (ts us : Bytes) (a : WriteOp) → PartRule ts a us → Factored ts a us
 part_from ts us a (inl r) = put_from ts r.middle us a r.first (inr (inr r.second))
 part_from ts us a (inr (inl r)) = put_from ts r.middle us a r.first (inl r.second)
@@ -228,5 +266,6 @@ part_from ts us a (inr (inr (inr (inr (inr (inr (inl r))))))) = inr (inr (inl r)
 part_from ts us a (inr (inr (inr (inr (inr (inr (inr (inl r)))))))) = push_from ts r.middle us a r.first r.second
 part_from ts us a (inr (inr (inr (inr (inr (inr (inr (inr r)))))))) = inr (inr (inr r))
 
+-- parts are read as the table says
 pub part_fits : Fits IsByte part PartRule ended
 part_fits = fits_as part_to part_from factored_fits

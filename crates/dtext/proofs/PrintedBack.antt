@@ -29,12 +29,14 @@ digit_read b n e h =
     let t : is_digit b ≡ true = grind (arith, nat_tests, e, h) in
     ap (λ c. cond c (Some (b - 48)) (cond (nat_le 97 b && nat_le b 102) (Some (b - 87)) None)) t ∙ ap (λ m. Some m) (omega arith)
 
+-- a letter from `a` to `f`, by its value
 letter_read : (b n : ℕ) → b ≡ 87 + n → 10 ≤ n → n < 16 → hex_value b ≡ Some n
 letter_read b n e l h =
     let f : is_digit b ≡ false = grind (arith, nat_tests, e, l) in
     let t : nat_le 97 b && nat_le b 102 ≡ true = grind (arith, nat_tests, e, l, h) in
     ap (λ c. cond c (Some (b - 48)) (cond (nat_le 97 b && nat_le b 102) (Some (b - 87)) None)) f ∙ ap (λ c. cond c (Some (b - 87)) None) t ∙ ap (λ m. Some m) (omega arith)
 
+-- by whether it is a decimal digit
 hex_by : (n : ℕ) (t : Bool) → nat_lt n 10 ≡ t → n < 16 → hex_value (cond t (48 + n) (87 + n)) ≡ Some n
 hex_by n true e h = digit_read (48 + n) n refl (grind (arith, nat_tests, e))
 hex_by n false e h = letter_read (87 + n) n refl (grind (arith, nat_tests, e)) h
@@ -47,6 +49,7 @@ hex_read n h = hex_by n (nat_lt n 10) refl h
 hex_pair : (b : ℕ) → hex_byte (b / 16) (b % 16) ≡ b
 hex_pair b = omega arith
 
+-- a byte by its two digits
 hexadecimal_made : (b : ℕ) (us : Bytes) → b < 256 → Piece (spelled (spelling.Hexadecimal (hex_digit (b / 16)) (hex_digit (b % 16))) ++ us) b us
 hexadecimal_made b us h = inl (record {
   value = tt;
@@ -65,9 +68,11 @@ hexadecimal_made b us h = inl (record {
   });
 })
 
+-- a byte behind a backslash
 escaped_made : (c b : ℕ) (us : Bytes) → short c ≡ Some b → Piece (spelled (spelling.Escaped c) ++ us) b us
 escaped_made c b us h = inl (record { value = tt; middle = c ∷ us; first = byte_made 92 _; second = inr (record { item = c; first = refl; made = h }) })
 
+-- a byte as itself
 plain_made : (b : ℕ) (us : Bytes) → plain b ≡ Some b → Piece (spelled (spelling.Plain b) ++ us) b us
 plain_made b us h = inr (record { item = b; first = refl; made = h })
 
@@ -75,12 +80,15 @@ plain_made b us h = inr (record { item = b; first = refl; made = h })
 newline : (b : ℕ) → nat_eq b 10 ≡ true → short 110 ≡ Some b
 newline b e = let k : b ≡ 10 = grind (arith, nat_tests, e) in ap (λ m. Some m) (sym k)
 
+-- what is printed by digits is a byte
 control_small : (b : ℕ) → nat_lt b 32 || nat_eq b 127 ≡ true → b < 256
 control_small b e = grind (arith, nat_tests, e)
 
+-- what needs no escape is plain
 other_plain : (b : ℕ) → nat_eq b 34 || nat_eq b 92 ≡ false → nat_lt b 32 || nat_eq b 127 ≡ false → is_plain b ≡ true
 other_plain b q h = grind (arith, nat_tests, q, h)
 
+-- by the tests that tell how a byte is printed
 piece_by : (b : ℕ) (us : Bytes) (quoted newline_is control : Bool) → nat_eq b 34 || nat_eq b 92 ≡ quoted → nat_eq b 10 ≡ newline_is → nat_lt b 32 || nat_eq b 127 ≡ control
     → Piece (spelled (cond quoted (spelling.Escaped b) (cond newline_is (spelling.Escaped 110) (cond control (spelling.Hexadecimal (hex_digit (b / 16)) (hex_digit (b % 16))) (spelling.Plain b)))) ++ us) b us
 piece_by b us true n c q e h = escaped_made b b us (ap (λ t. cond t (Some b) (cond (nat_eq b 110) (Some 10) None)) q)
@@ -94,6 +102,7 @@ piece_made b us = piece_by b us (nat_eq b 34 || nat_eq b 92) (nat_eq b 10) (nat_
 
 -- ---- texts
 
+-- the bytes of a text
 pieces_made : (text us : Bytes) → Many Piece (flat_map (λ byte. spelled (spelling_of byte)) text ++ us) text us
 pieces_made [] us = none us
 pieces_made (b ∷ text) us =
@@ -101,6 +110,7 @@ pieces_made (b ∷ text) us =
     subst (λ ts. Many Piece ts (b ∷ text) us) (sym (append_assoc (spelled (spelling_of b)) rest us))
     (more (spelled (spelling_of b) ++ (rest ++ us)) (rest ++ us) us b text (piece_made b (rest ++ us)) (pieces_made text us))
 
+-- a text in quotes
 pub text_made : (text us : Bytes) → TextRule (printed_text text ++ us) text us
 text_made text us =
     let inner = flat_map (λ byte. spelled (spelling_of byte)) text in
@@ -117,6 +127,7 @@ text_of f text us = record { value = text; middle = us; first = text_made text u
 
 -- ---- addresses
 
+-- an address
 pub address_made : (a : Address) (us : Bytes) → AddressRule (printed_address a ++ us) a us
 address_made a us = record {
   value = a.kind;
@@ -132,9 +143,11 @@ address_made a us = record {
 
 -- ---- texts in brackets
 
+-- a text behind a comma
 after_comma_made : (text us : Bytes) → AfterComma (print.after_comma text ++ us) text us
 after_comma_made text us = record { value = tt; middle = printed_text text ++ us; first = byte_made 44 _; second = text_made text us }
 
+-- any number of them
 more_texts_made : (texts : List Bytes) (us : Bytes) → Many AfterComma (flat_map print.after_comma texts ++ us) texts us
 more_texts_made [] us = none us
 more_texts_made (text ∷ texts) us =
@@ -142,6 +155,7 @@ more_texts_made (text ∷ texts) us =
     subst (λ ts. Many AfterComma ts (text ∷ texts) us) (sym (append_assoc (print.after_comma text) rest us))
     (more (print.after_comma text ++ (rest ++ us)) (rest ++ us) us text texts (after_comma_made text (rest ++ us)) (more_texts_made texts us))
 
+-- texts with commas between them
 separated_made : (texts : List Bytes) (us : Bytes) → Separated (separated texts ++ us) texts us
 separated_made [] us = inr (record { is = refl; here = refl })
 separated_made (text ∷ texts) us =
@@ -158,6 +172,7 @@ separated_made (text ∷ texts) us =
       second = record { is = refl; here = refl };
     })
 
+-- texts in brackets
 texts_made : (texts : List Bytes) (us : Bytes) → TextsRule (printed_texts texts ++ us) texts us
 texts_made texts us = record {
   value = tt;
@@ -168,12 +183,15 @@ texts_made texts us = record {
 
 -- ---- values
 
+-- a truth value, seen as another value
 bool_of : {A : Type 0} (f : Bool → A) (b : Bool) (us : Bytes) → Of f BoolRule (printed_bool b ++ us) (f b) us
 bool_of f b us = record { value = b; middle = us; first = refl; second = record { is = refl; here = refl } }
 
+-- a number, seen as another value
 number_of : {A : Type 0} (f : ℤ → A) (n : ℤ) (us : Bytes) → Fits64 n → Of f NumberRule (signed_decimal n ++ us) (f n) us
 number_of f n us h = record { value = n; middle = us; first = record { spelled = refl; fits = h }; second = record { is = refl; here = refl } }
 
+-- a value of any type
 pub item_made : (i : Item) (us : Bytes) → FitsItem i → ItemRule (printed_item i ++ us) i us
 item_made (items.Int n) us h = inl (number_of items.Int n us h)
 item_made (items.Text t) us h = inr (inl (text_of items.Text t us))
@@ -182,9 +200,11 @@ item_made (items.Bool b) us h = inr (inr (inr (bool_of items.Bool b us)))
 
 -- ---- outcomes
 
+-- a value behind a space
 after_space_made : (i : Item) (us : Bytes) → FitsItem i → AfterSpace (print.after_space i ++ us) i us
 after_space_made i us h = record { value = tt; middle = printed_item i ++ us; first = byte_made 32 _; second = item_made i us h }
 
+-- any number of them
 emitted_made : (all : List Item) (us : Bytes) → All FitsItem all → Many AfterSpace (flat_map print.after_space all ++ us) all us
 emitted_made [] us h = none us
 emitted_made (i ∷ all) us h =
@@ -192,6 +212,7 @@ emitted_made (i ∷ all) us h =
     subst (λ ts. Many AfterSpace ts (i ∷ all) us) (sym (append_assoc (print.after_space i) rest us))
     (more (print.after_space i ++ (rest ++ us)) (rest ++ us) us i all (after_space_made i (rest ++ us) (All-head FitsItem i all h)) (emitted_made all us (All-tail FitsItem i all h)))
 
+-- an outcome of any form
 pub outcome_made : (o : Outcome) (us : Bytes) → FitsOutcome o → OutcomeRule (printed_outcome o ++ us) o us
 outcome_made (outcomes.Ok all) us h = inl (record { value = tt; middle = flat_map print.after_space all ++ us; first = refl; second = record { value = all; middle = us; first = emitted_made all us h; second = record { is = refl; here = refl } } })
 outcome_made (outcomes.Fail reason) us h = inr (inl (record { value = tt; middle = printed_text reason ++ us; first = refl; second = text_of outcomes.Fail reason us }))
@@ -200,15 +221,19 @@ outcome_made outcomes.Big us h = inr (inr (inr (record { value = tt; middle = us
 
 -- ---- parts
 
+-- what stands behind a word
 behind_word : {A : Type 0} (w : Bytes) (P : Rule ℕ A) (ts us : Bytes) (a : A) → P ts a us → Behind w P (w ++ ts) a us
 behind_word w P ts us a r = record { value = tt; middle = ts; first = refl; second = r }
 
+-- a removal is a set's
 removal_made : (x us : Bytes) → PartRule (codes "remove " ++ (printed_text x ++ us)) (op.SetRemove x) us
 removal_made x us = inr (inr (inr (inr (inr (inr (inl (behind_word (codes "remove ") (Of op.SetRemove TextRule) (printed_text x ++ us) us (op.SetRemove x) (text_of op.SetRemove x us))))))))
 
+-- a clear is a set's
 clearing_made : (us : Bytes) → PartRule (codes "clear" ++ us) op.SetClear us
 clearing_made us = inr (inr (inr (inr (inr (inr (inr (inr (record { value = tt; middle = us; first = refl; second = record { is = refl; here = refl } }))))))))
 
+-- a field and a text
 field_made : (f t us : Bytes) → FieldRule ((printed_text f ++ 32 ∷ printed_text t) ++ us) (op.HashPut f t) us
 field_made f t us = record {
   value = f;
@@ -217,6 +242,7 @@ field_made f t us = record {
   second = record { value = tt; middle = printed_text t ++ us; first = byte_made 32 _; second = record { value = t; middle = us; first = text_made t us; second = record { is = refl; here = refl } } };
 }
 
+-- a part of any form
 pub part_made : (o : WriteOp) (us : Bytes) → FitsPart o → PartRule (printed_part o ++ us) (read_alone o) us
 part_made (op.PutBool b) us h = inl (behind_word (codes "put ") _ _ us _ (bool_of op.PutBool b us))
 part_made (op.PutCounter n) us h = inr (inl (behind_word (codes "put ") _ _ us _ (number_of op.PutCounter n us h)))

@@ -15,6 +15,7 @@ needless_zero : whole item (codes "01") ≡ Err (codes "1")
 unfolding whole item number natural byte one
 needless_zero = refl
 
+-- a negative number
 minus_five : whole item (codes "-5") ≡ Ok (items.Int (negsuc 4))
 unfolding whole item number negative positive digits byte one
 minus_five = refl

@@ -66,14 +66,18 @@ printed_part op.ListClear = codes "clear"
 
 -- ---- worked rows
 
+-- two values
 two-values : printed_outcome (outcome.Ok (item.Bool true ∷ item.Texts (codes "a" ∷ codes "" ∷ []) ∷ [])) ≡ codes "ok true [\"a\",\"\"]"
 two-values = refl
 
+-- no texts
 no-texts : printed_item (item.Texts []) ≡ codes "[]"
 no-texts = refl
 
+-- a field and a text
 field-put : printed_part (op.HashPut (codes "f") (codes "v")) ≡ codes "put \"f\" \"v\""
 field-put = refl
 
+-- a list's removal
 element-taken-out : printed_part (op.ListRemove (codes "x")) ≡ codes "remove \"x\""
 element-taken-out = refl

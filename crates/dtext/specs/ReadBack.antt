@@ -17,10 +17,12 @@ abbrev pub FitsItem : Item → Type 0
 FitsItem (item.Int n) = Fits64 n
 FitsItem other = Unit {0}
 
+-- each value of an outcome
 abbrev pub FitsOutcome : Outcome → Type 0
 FitsOutcome (outcome.Ok items) = All FitsItem items
 FitsOutcome other = Unit {0}
 
+-- the number of a part
 abbrev pub FitsPart : WriteOp → Type 0
 FitsPart (op.PutCounter n) = Fits64 n
 FitsPart (op.AddCounter n) = Fits64 n
@@ -34,17 +36,22 @@ read_alone op.HashClear = op.SetClear
 read_alone op.ListClear = op.SetClear
 read_alone other = other
 
+-- texts
 abbrev pub TextsReadBack : Type 0
 TextsReadBack = (text : Bytes) → IsText (printed_text text) text
 
+-- addresses
 abbrev pub AddressesReadBack : Type 0
 AddressesReadBack = (address : Address) → IsAddress (printed_address address) address
 
+-- values
 abbrev pub ItemsReadBack : Type 0
 ItemsReadBack = (item : Item) → FitsItem item → IsItem (printed_item item) item
 
+-- outcomes
 abbrev pub OutcomesReadBack : Type 0
 OutcomesReadBack = (outcome : Outcome) → FitsOutcome outcome → IsOutcome (printed_outcome outcome) outcome
 
+-- parts, as they are read alone
 abbrev pub PartsReadBack : Type 0
 PartsReadBack = (part : WriteOp) → FitsPart part → IsPart (printed_part part) (read_alone part)

@@ -1,4 +1,6 @@
 -- The readers of spellings: functions that look one byte ahead, form by form as the rules have them.
+-- Marks stand by their bytes, as in the rules; of the first letters of words 97 is `a`, 98 `b`, 99 `c`, 102 `f`,
+-- 104 `h`, 111 `o`, 112 `p`, 114 `r`, 115 `s`, and 116 `t`.
 use Rattle.std.specs.Prelude.{ℕ, ◌+◌, ◌-◌, ◌*◌, ◌^◌, Bool, false, not, ◌&&◌, ◌||◌, nat_eq, nat_le, if◌then◌else◌, List, [], ◌∷◌, ℤ, pos, neg_ℤ, codes, Option, Some, None, Ok}
 use Rattle.plain_data.specs.Texts.{Bytes}
 use Rattle.predictive_parsing.specs.Reading.{Reader, ◌>>=◌, pure, next, one, either, many, list, optional}
@@ -32,9 +34,11 @@ guided guess q = λ bytes. q (guess (next bytes)) bytes
 
 -- ---- bytes and words
 
+-- this byte
 unfoldable pub byte : ℕ → Reader ℕ (Unit {0})
 byte wanted = one (exactly wanted)
 
+-- these bytes
 unfoldable pub word : Bytes → Reader ℕ (Unit {0})
 word [] = pure tt
 word (first ∷ rest) = do
@@ -55,6 +59,7 @@ behind front p = do
 
 -- ---- texts
 
+-- `x` and two digits
 unfoldable pub hexadecimal : Reader ℕ ℕ
 hexadecimal = do
   _ ← byte 120
@@ -62,11 +67,13 @@ hexadecimal = do
   low ← one hex_value
   pure (hex_byte high low)
 
+-- a backslash, and what it makes of the bytes behind it
 unfoldable pub escape : Reader ℕ ℕ
 escape = do
   _ ← byte 92
   either (sees 120) hexadecimal (one short)
 
+-- one byte of a text
 unfoldable pub piece : Reader ℕ ℕ
 piece = either (sees 92) escape (one plain)
 
@@ -74,9 +81,11 @@ piece = either (sees 92) escape (one plain)
 abbrev pub inside : Option ℕ → Bool
 inside = ahead (λ byte. not (nat_eq byte 34))
 
+-- all of them, up to the closing quote
 unfoldable pub pieces : Reader ℕ Bytes
 pieces = many inside piece
 
+-- a text in quotes
 unfoldable pub text : Reader ℕ Bytes
 text = do
   _ ← byte 34
@@ -90,6 +99,7 @@ text = do
 abbrev pub leading : ℕ → Option ℕ
 leading byte = if nat_le 49 byte && nat_le byte 57 then Some (byte - 48) else None
 
+-- a value with one digit more
 abbrev pub with_digit : ℕ → ℕ → ℕ
 with_digit value byte = 10 * value + (byte - 48)
 
@@ -110,6 +120,7 @@ positive limit = do
   first ← one leading
   digits limit first
 
+-- the digit 0
 abbrev pub zero_read : Reader ℕ ℕ
 zero_read = do
   _ ← byte 48
@@ -119,12 +130,14 @@ zero_read = do
 unfoldable pub natural : ℕ → Reader ℕ ℕ
 natural limit = either (sees 48) zero_read (positive limit)
 
+-- `-` and a number above 0
 unfoldable pub negative : Reader ℕ ℤ
 negative = do
   _ ← byte 45
   n ← positive (2 ^ 63)
   pure (neg_ℤ (pos n))
 
+-- a number of 64 bits
 unfoldable pub number : Reader ℕ ℤ
 number = either (sees 45) negative (of pos (natural (2 ^ 63 - 1)))
 
@@ -132,25 +145,31 @@ number = either (sees 45) negative (of pos (natural (2 ^ 63 - 1)))
 abbrev pub begins_number : Option ℕ → Bool
 begins_number = ahead (λ byte. is_digit byte || nat_eq byte 45)
 
+-- a truth value: `t` tells which
 unfoldable pub bool : Reader ℕ Bool
 bool = guided (sees 116) (λ b. of (λ _. b) (word (printed_bool b)))
 
 -- ---- texts in brackets
 
+-- a text behind a comma
 unfoldable pub after_comma : Reader ℕ Bytes
 after_comma = do
   _ ← byte 44
   text
 
+-- as many of them as there are
 unfoldable pub more_texts : Reader ℕ (List Bytes)
 more_texts = many (sees 44) after_comma
 
+-- a text and others behind commas
 unfoldable pub some_texts : Reader ℕ (List Bytes)
 some_texts = of first_and (list text (sees 44) after_comma)
 
+-- some texts, or none
 abbrev pub elements : Reader ℕ (List Bytes)
 elements = either (sees 34) some_texts (pure [])
 
+-- texts in brackets
 unfoldable pub texts : Reader ℕ (List Bytes)
 texts = do
   _ ← byte 91
@@ -170,13 +189,16 @@ kind_by byte =
     else if nat_eq byte 104 then kinds.Hash
     else kinds.List
 
+-- the same of what is ahead
 abbrev pub kind_ahead : Option ℕ → Kind
 kind_ahead None = kinds.List
 kind_ahead (Some byte) = kind_by byte
 
+-- a kind, by its word
 unfoldable pub kind : Reader ℕ Kind
 kind = guided kind_ahead (λ kind. of (λ _. kind) (word (word_of kind)))
 
+-- a kind, and a key in parentheses
 unfoldable pub address : Reader ℕ Address
 address = do
   kind ← kind
@@ -185,32 +207,41 @@ address = do
   _ ← byte 41
   pure (record { kind = kind; key = key })
 
+-- a value: the byte ahead tells its type
 unfoldable pub item : Reader ℕ Item
 item = either begins_number (of items.Int number) (either (sees 34) (of items.Text text) (either (sees 91) (of items.Texts texts) (of items.Bool bool)))
 
+-- a value behind a space
 unfoldable pub after_space : Reader ℕ Item
 after_space = do
   _ ← byte 32
   item
 
+-- as many of them as there are
 unfoldable pub emitted : Reader ℕ (List Item)
 emitted = many (sees 32) after_space
 
+-- `ok` and the values
 unfoldable pub ran : Reader ℕ Outcome
 ran = behind (codes "ok") (of outcomes.Ok emitted)
 
+-- `fail` and the reason
 unfoldable pub failed : Reader ℕ Outcome
 failed = behind (codes "fail ") (of outcomes.Fail text)
 
+-- the word alone
 abbrev pub spent : Reader ℕ Outcome
 spent = of (λ _. outcomes.Spent) (word (codes "spent"))
 
+-- the word alone
 abbrev pub big : Reader ℕ Outcome
 big = of (λ _. outcomes.Big) (word (codes "big"))
 
+-- how a body ended: the byte ahead tells
 unfoldable pub outcome : Reader ℕ Outcome
 outcome = either (sees 111) ran (either (sees 102) failed (either (sees 115) spent big))
 
+-- a text behind a space
 unfoldable pub text_behind : Reader ℕ Bytes
 text_behind = do
   _ ← byte 32
@@ -221,18 +252,22 @@ abbrev pub put_of : Bytes → Option Bytes → WriteOp
 put_of text None = op.PutText text
 put_of field (Some text) = op.HashPut field text
 
+-- a text, and one more where a space is ahead
 unfoldable pub text_or_field : Reader ℕ WriteOp
 text_or_field = do
   first ← text
   second ← optional (sees 32) text_behind
   pure (put_of first second)
 
+-- what is put, which tells the kind
 unfoldable pub put_value : Reader ℕ WriteOp
 put_value = either begins_number (of op.PutCounter number) (either (sees 34) text_or_field (of op.PutBool bool))
 
+-- the rest of `put`
 abbrev pub put : Reader ℕ WriteOp
 put = behind (codes "t ") put_value
 
+-- the rest of `push`
 abbrev pub push : Reader ℕ WriteOp
 push = behind (codes "sh ") (of op.ListPush text)
 
@@ -240,17 +275,22 @@ push = behind (codes "sh ") (of op.ListPush text)
 unfoldable pub put_or_push : Reader ℕ WriteOp
 put_or_push = behind (codes "pu") (either (sees 116) put push)
 
+-- what is added, which tells the kind
 abbrev pub added : Reader ℕ WriteOp
 added = either begins_number (of op.AddCounter number) (of op.SetAdd text)
 
+-- `add` and what is added
 unfoldable pub addition : Reader ℕ WriteOp
 addition = behind (codes "add ") added
 
+-- `remove` and a text
 unfoldable pub removal : Reader ℕ WriteOp
 removal = behind (codes "remove ") (of op.SetRemove text)
 
+-- the word alone
 abbrev pub clearing : Reader ℕ WriteOp
 clearing = of (λ _. op.SetClear) (word (codes "clear"))
 
+-- one write: the byte ahead tells its word
 unfoldable pub part : Reader ℕ WriteOp
 part = either (sees 112) put_or_push (either (sees 97) addition (either (sees 114) removal clearing))

@@ -1,5 +1,8 @@
 -- The spellings of texts, addresses, values, outcomes and write parts, as rules: `P bytes value rest` says that the
 -- bytes are a spelling of the value, and then the rest. Nothing here chooses, looks ahead or counts.
+--
+-- Marks stand by their bytes: 32 is the space, 34 `"`, 40 `(`, 41 `)`, 44 `,`, 45 `-`, 91 `[`, 92 `\`, 93 `]`, 110 `n`,
+-- and 120 `x`.
 use Rattle.std.specs.Prelude.{◌≡◌, ℕ, ◌+◌, ◌-◌, ◌*◌, ◌^◌, ◌<◌, Bool, not, ◌&&◌, ◌||◌, nat_eq, nat_le, if◌then◌else◌, List, [], ◌∷◌, ◌++◌, ℤ, pos, negsuc, codes, Option, Some, None}
 use Rattle.std.specs.Fmt.{signed_decimal}
 use Rattle.plain_data.specs.Texts.{Bytes}
@@ -20,6 +23,7 @@ use Rattle.dtext.specs.Printing.{printed_bool}
 abbrev pub exactly : ℕ → ℕ → Option (Unit {0})
 exactly wanted byte = if nat_eq byte wanted then Some tt else None
 
+-- this byte
 abbrev pub Byte : ℕ → Rule ℕ (Unit {0})
 Byte wanted = One (exactly wanted)
 
@@ -49,6 +53,7 @@ Behind word P = do
 abbrev pub is_plain : ℕ → Bool
 is_plain byte = nat_le 32 byte && not (nat_eq byte 127) && not (nat_eq byte 34) && not (nat_eq byte 92)
 
+-- a byte that stands for itself
 abbrev pub plain : ℕ → Option ℕ
 plain byte = if is_plain byte then Some byte else None
 
@@ -56,6 +61,7 @@ plain byte = if is_plain byte then Some byte else None
 abbrev pub short : ℕ → Option ℕ
 short byte = if nat_eq byte 34 || nat_eq byte 92 then Some byte else (if nat_eq byte 110 then Some 10 else None)
 
+-- `0` to `9`
 abbrev pub is_digit : ℕ → Bool
 is_digit byte = nat_le 48 byte && nat_le byte 57
 
@@ -63,6 +69,7 @@ is_digit byte = nat_le 48 byte && nat_le byte 57
 abbrev pub hex_value : ℕ → Option ℕ
 hex_value byte = if is_digit byte then Some (byte - 48) else (if nat_le 97 byte && nat_le byte 102 then Some (byte - 87) else None)
 
+-- the byte whose two digits these are
 abbrev pub hex_byte : ℕ → ℕ → ℕ
 hex_byte high low = 16 * high + low
 
@@ -104,16 +111,19 @@ pub record NumberRule (bytes : Bytes) (n : ℤ) (rest : Bytes) : Type 0 where
   pub spelled : bytes ≡ signed_decimal n ++ rest
   pub fits : Fits64 n
 
+-- a truth value, by its word
 abbrev pub BoolRule : Rule ℕ Bool
 BoolRule = SpelledBy printed_bool
 
 -- ---- texts in brackets
 
+-- a text behind a comma
 abbrev pub AfterComma : Rule ℕ Bytes
 AfterComma = do
   _ ← Byte 44
   TextRule
 
+-- one and the others, as a list
 abbrev pub first_and : {A : Type 0} → A × List A → List A
 first_and (first, rest) = first ∷ rest
 
@@ -121,6 +131,7 @@ first_and (first, rest) = first ∷ rest
 abbrev pub Separated : Rule ℕ (List Bytes)
 Separated = Or (Of first_and (ListOf TextRule AfterComma)) (Pure [])
 
+-- texts in brackets
 abbrev pub TextsRule : Rule ℕ (List Bytes)
 TextsRule = do
   _ ← Byte 91
@@ -143,6 +154,7 @@ AddressRule = do
 abbrev pub ItemRule : Rule ℕ Item
 ItemRule = Or (Of item.Int NumberRule) (Or (Of item.Text TextRule) (Or (Of item.Texts TextsRule) (Of item.Bool BoolRule)))
 
+-- a value behind a space
 abbrev pub AfterSpace : Rule ℕ Item
 AfterSpace = do
   _ ← Byte 32
@@ -179,17 +191,22 @@ PartRule =
 
 -- ---- spellings, all of the bytes
 
+-- all of the bytes are the text
 abbrev pub IsText : Bytes → Bytes → Type 0
 IsText = Whole TextRule
 
+-- all of them are the address
 abbrev pub IsAddress : Bytes → Address → Type 0
 IsAddress = Whole AddressRule
 
+-- all of them are the value
 abbrev pub IsItem : Bytes → Item → Type 0
 IsItem = Whole ItemRule
 
+-- all of them are the outcome
 abbrev pub IsOutcome : Bytes → Outcome → Type 0
 IsOutcome = Whole OutcomeRule
 
+-- all of them are the part
 abbrev pub IsPart : Bytes → WriteOp → Type 0
 IsPart = Whole PartRule

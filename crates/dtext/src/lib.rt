@@ -1,4 +1,10 @@
-//! The texts in which data is printed and read: texts in quotes, addresses, values, outcomes and write parts.
+//! The texts in which data is printed and read: texts in quotes, addresses, values that bodies emit, outcomes, and write
+//! parts. It stands on `rdt_types`, whose data it prints; what answers a line prints with it, and what reads answers
+//! reads with it.
+//!
+//! Read first `specs/Printing` (the one printed form of each value), `specs/Spellings` (which bytes spell which value, as
+//! rules) and `specs/Columns` (where bytes stop being a spelling). The code reads with functions over a `cursor`, one a
+//! form, each proved equal to its reader in `specs/Reading`; `laws` ties printing, reading and columns to the rules.
 #![tactic(auto)]
 
 mod cursor;
