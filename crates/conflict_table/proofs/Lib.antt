@@ -1,0 +1,4 @@
+pub mod Keys
+pub mod Marked
+pub mod Items
+pub mod Rows

@@ -1,0 +1,95 @@
+-- The laws of the table, row by row.
+use Rattle.std.proofs.Common.{◌≡◌, ◌<◌, ℤ, pos, negsuc, zero, suc, Bool, true, false, not, ◌||◌, [], ◌∷◌, ◌++◌, FitsSigned, slice_get, is_some, refl, sym, ap, ◌∙◌, append-nil, arith}
+use Rattle.std.specs.Int.{w64}
+use Rattle.std.proofs.lemmas.Grind.{common_steps}
+use Rattle.std.proofs.Math.Bool.{or-true}
+use Rattle.std.proofs.lemmas.Bool.{false≢true, true≢false, or_parts}
+use Rattle.std.specs.FinMap as map
+use Rattle.plain_data.specs.Texts.{Bytes, MapOf, has_text}
+use Rattle.rdt_types.specs.declared.address.Kind.TheVariants as kind
+use Rattle.rdt_types.specs.declared.value.Value.TheVariants as value
+use Rattle.rdt_types.specs.declared.mark.Mark.{Mark}
+use Rattle.rdt_types.specs.declared.delta.Delta.{Delta}
+use Rattle.rdt_types.specs.declared.delta.Delta.TheVariants as delta
+use Rattle.rdt_types.specs.Values.{wrapping_sum, set_in, hash_in, list_in}
+use Rattle.rdt_types.specs.Deltas.{apply, compose}
+use Rattle.rdt_types.specs.Marks.{added, put_by}
+use Rattle.rdt_types.specs.Keyed.{Keyed, mark_after, composed}
+use Rattle.rdt_types.specs.Listed.{Listed}
+use Rattle.rdt_types.specs.Listed as listed
+use Rattle.conflict_table.specs.declared.observation.Obs.{Obs}
+use Rattle.conflict_table.specs.declared.observation.Obs.TheVariants as obs
+use Rattle.conflict_table.specs.declared.answer.Answer.{Answer}
+use Rattle.conflict_table.specs.declared.answer.Answer.TheVariants as answer
+use Rattle.conflict_table.specs.Observing.{observe}
+use Rattle.conflict_table.specs.Clashes.{clash, has_some}
+use Rattle.conflict_table.specs.Laws.{NoClashNoChange, ClashesShowChanges, ShowsChange, HasNumber, CompositionsClashByParts}
+use Rattle.conflict_table.proofs.Keys.{or_none, contains-overlaid, has_some-overlaid}
+use Rattle.conflict_table.proofs.Marked.{differs, get-applied_unmarked, applied_unmarked, changed_at, changed, touches-composed}
+use Rattle.conflict_table.proofs.Items as items
+use Rattle.conflict_table.proofs.Items.{longer, applied_pushes, slice_get-append, has_no_items, clears-composed, takes-composed, acts-composed}
+
+-- what isn't marked, cleared or taken out stays
+pub no_clash_no_change : NoClashNoChange
+no_clash_no_change obs.BoolIs d v kinds within none = absurd (true≢false none)
+no_clash_no_change obs.CounterIs d v kinds within none = absurd (true≢false none)
+no_clash_no_change obs.TextIs d v kinds within none = absurd (true≢false none)
+no_clash_no_change (obs.SetHas x) (delta.Set d) v kinds within none =
+    let each = or_parts _ _ none in ap (λ o. answer.Bool (is_some o)) (get-applied_unmarked added d (set_in v) x each.0 each.1)
+no_clash_no_change obs.SetAll (delta.Set d) v kinds within none =
+    let each = or_parts _ _ none in ap answer.Set (applied_unmarked added d (set_in v) each.0 each.1)
+no_clash_no_change (obs.HashAt f) (delta.Hash d) v kinds within none =
+    let each = or_parts _ _ none in ap answer.Maybe (get-applied_unmarked put_by d (hash_in v) f each.0 each.1)
+no_clash_no_change obs.HashAll (delta.Hash d) v kinds within none =
+    let each = or_parts _ _ none in ap answer.Hash (applied_unmarked put_by d (hash_in v) each.0 each.1)
+no_clash_no_change (obs.ListAt i) (delta.List d) v kinds within none =
+    ap answer.Maybe (ap (λ xs. slice_get xs i) (applied_pushes d (list_in v) none) ∙ slice_get-append (list_in v) d.pushed i within)
+no_clash_no_change obs.ListAll (delta.List d) v kinds within none =
+    let each = or_parts _ _ none in
+    ap answer.List (applied_pushes d (list_in v) each.0 ∙ ap (λ ys. list_in v ++ ys) (has_no_items d.pushed each.1) ∙ append-nil (list_in v))
+no_clash_no_change o d v kinds within none = absurd (cc)
+
+
+-- ---- what a clash changes
+
+-- a number other than another
+other_number : ℤ → ℤ
+other_number (pos zero) = pos 1
+other_number (pos (suc n)) = pos 0
+other_number (negsuc n) = pos 0
+
+is_other_number : (n : ℤ) → n ≡ other_number n → ⊥
+unfolding other_number
+is_other_number (pos zero) e = absurd (cc)
+is_other_number (pos (suc n)) e = absurd (cc)
+is_other_number (negsuc n) e = absurd (cc)
+
+is_other_bool : (b : Bool) → b ≡ not b → ⊥
+is_other_bool b e = differs b b e refl
+
+-- from 0, an addition of a 64-bit number gives that number
+sum_from_0 : (n : ℤ) → FitsSigned w64 n → wrapping_sum (pos 0) n ≡ n
+sum_from_0 n fits = grind (arith, common_steps)
+
+addition_of_0 : (n : ℤ) → FitsSigned w64 n → wrapping_sum (pos 0) n ≡ pos 0 → delta.AddCounter n ≡ delta.AddCounter (pos 0)
+addition_of_0 n fits none = ap delta.AddCounter (sym (sum_from_0 n fits) ∙ none)
+
+-- of each row, a value that shows the change
+pub clashes_show_changes : ClashesShowChanges
+clashes_show_changes obs.BoolIs (delta.PutBool b) kinds number some h = (value.Bool (not b), refl, tt, λ same. is_other_bool b (cc))
+clashes_show_changes obs.CounterIs (delta.PutCounter n) kinds number some h = (value.Counter (other_number n), refl, tt, λ same. is_other_number n (cc))
+clashes_show_changes obs.CounterIs (delta.AddCounter n) kinds number some h = (value.Counter (pos 0), refl, tt, λ same. some (addition_of_0 n number (cc)))
+clashes_show_changes obs.TextIs (delta.PutText x) kinds number some h = (value.Text (0 ∷ x), refl, tt, λ same. longer x (cc))
+clashes_show_changes (obs.SetHas x) (delta.Set d) kinds number some h =
+    let change = changed_at added tt d x h in (value.Set change.0, refl, tt, λ same. differs _ _ change.1 (cc))
+clashes_show_changes obs.SetAll (delta.Set d) kinds number some h =
+    let change = changed added tt d h in (value.Set change.0, refl, tt, λ same. change.1 (cc))
+clashes_show_changes (obs.HashAt f) (delta.Hash d) kinds number some h =
+    let change = changed_at put_by [] d f h in (value.Hash change.0, refl, tt, λ same. differs _ _ change.1 (ap is_some (cc)))
+clashes_show_changes obs.HashAll (delta.Hash d) kinds number some h =
+    let change = changed put_by [] d h in (value.Hash change.0, refl, tt, λ same. change.1 (cc))
+clashes_show_changes (obs.ListAt i) (delta.List d) kinds number some h =
+    let change = items.changed_at i d h in (value.List change.0, refl, change.1, λ same. change.2 (cc))
+clashes_show_changes obs.ListAll (delta.List d) kinds number some h =
+    let change = items.changed d h in (value.List change.0, refl, tt, λ same. change.1 (cc))
+clashes_show_changes o d kinds number some h = absurd (cc)
