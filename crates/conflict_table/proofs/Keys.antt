@@ -1,15 +1,18 @@
 -- Whether a map of texts has a key, and whether it has any.
-use Rattle.std.proofs.Common.{◌≡◌, ℕ, Bool, true, false, not, cond, ◌||◌, List, [], ◌∷◌, length, nat_eq, slice_get, is_some, Option, Some, None, refl, sym, ap, ◌∙◌}
+use Rattle.std.proofs.Common.{◌≡◌, ℕ, Bool, true, false, not, cond, ◌||◌, List, [], ◌∷◌, length, nat_eq, slice_get, is_some, option_map, ◌↔◌, Option, Some, None, refl, sym, ap, ◌∙◌}
 use Rattle.std.proofs.lemmas.Bool.{false≢true, true≢false, not-false, eqb-true, true_from_ne_false, or_left, or_right}
 use Rattle.std.proofs.Math.Bool.{or-true}
 use Rattle.std.proofs.Math.Dec.{eqb-suc-zero}
+use Rattle.std.specs.List as list
 use Rattle.std.specs.Ordering.{eq_by_cmp}
 use Rattle.std.specs.Cmp.{eq_by_cmp_equiv}
-use Rattle.std.specs.Cmp.Lexicographic.{nat_list_cmp_total}
+use Rattle.std.specs.Cmp.Lexicographic.{nat_list_cmp_total, pointwise, texts_ties}
 use Rattle.std.specs.FinMap as map
+use Rattle.std.specs.FinMap.{nat_cmp-IsAntisymmetric, slice_cmp-IsAntisymmetric}
 use Rattle.std.specs.FinMap.Entries.{find}
 use Rattle.plain_data.specs.Texts.{Bytes, MapOf, text_cmp}
 use Rattle.plain_data.specs.Overlays.{overlaid, found_after}
+use Rattle.plain_data.proofs.Entries.{equal}
 use Rattle.plain_data.proofs.Overlays.{get-overlaid}
 use Rattle.conflict_table.specs.Clashes.{has_some}
 
@@ -65,6 +68,38 @@ module _ {V : Type 0} where
       by : (es : List (Bytes × V)) → map.entries m ≡ es → (x : Bytes) × (map.contains_key m x ≡ true)
       by [] is = absurd (true≢false (sym some ∙ sym (first-has_some m) ∙ ap (λ es. is_some (slice_get es 0)) is))
       by (e ∷ es) is = (e.0, ap is_some (map.get-entries m e.0 ∙ ap (find text_cmp e.0) is ∙ ap (λ b. cond b (Some e.1) (find text_cmp e.0 es)) (tied e.0)))
+
+-- the test for no key at all, turned round
+pub not-is_empty : {V : Type 0} (m : MapOf V) (b : Bool) → (b ≡ true) ↔ (m ≡ map.empty) → not b ≡ has_some m
+not-is_empty m true is = sym (has_some-empty m (is.0 refl))
+not-is_empty m false is = sym (true_from_ne_false (has_some m) (λ none. false≢true (is.1 (empty-has_some m none))))
+
+-- a pair at a key
+abbrev pub at_key : {V : Type 0} → Bytes → V → Bytes × V
+at_key key v = (key, v)
+
+pair_by : {V : Type 0} (b : Bool) (key x : Bytes) (v : V) (o : Option V) → (b ≡ true → x ≡ key) → cond b (Some (at_key x v)) (option_map (at_key key) o) ≡ option_map (at_key key) (cond b (Some v) o)
+pair_by true key x v o same = ap (λ k. Some (at_key k v)) (same refl)
+pair_by false key x v o same = refl
+
+same_text : (x key : Bytes) → pointwise nat_eq x key ≡ eq_by_cmp text_cmp key x
+same_text x key = texts_ties x key ∙ (eq_by_cmp_equiv nat_list_cmp_total).symm x key
+
+-- the first pair whose key is equal is the value at the key
+pub find-pair : {V : Type 0} (key : Bytes) (es : List (Bytes × V)) → list.find (λ pair. pointwise nat_eq pair.0 key) es ≡ option_map (at_key key) (find text_cmp key es)
+find-pair key [] = refl
+find-pair key (e ∷ es) =
+    ap (λ rest. cond (pointwise nat_eq e.0 key) (Some e) rest) (find-pair key es)
+    ∙ ap (λ b. cond b (Some e) (option_map (at_key key) (find text_cmp key es))) (same_text e.0 key)
+    ∙ pair_by (eq_by_cmp text_cmp key e.0) key e.0 e.1 (find text_cmp key es) (λ same. sym (slice_cmp-IsAntisymmetric nat_cmp-IsAntisymmetric key e.0 (equal _ same)))
+
+twice_mapped : {V W : Type 0} (f : Bytes × V → W) (key : Bytes) (o : Option V) → option_map f (option_map (at_key key) o) ≡ option_map (λ v. f (key, v)) o
+twice_mapped f key None = refl
+twice_mapped f key (Some v) = refl
+
+-- so what is made of that pair is made of that value
+pub mapped-get : {V W : Type 0} (f : Bytes × V → W) (key : Bytes) (m : MapOf V) → option_map f (list.find (λ pair. pointwise nat_eq pair.0 key) (map.entries m)) ≡ option_map (λ v. f (key, v)) (map.get m key)
+mapped-get f key m = ap (option_map f) (find-pair key (map.entries m) ∙ ap (option_map (at_key key)) (sym (map.get-entries m key))) ∙ twice_mapped f key (map.get m key)
 
 -- marks that each leave something
 module _ {V M : Type 0} (left : M → Option V) (leaves : (mark : M) → is_some (left mark) ≡ true) where

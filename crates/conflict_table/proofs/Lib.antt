@@ -1,4 +1,6 @@
 pub mod Keys
+pub mod Others
 pub mod Marked
 pub mod Items
 pub mod Rows
+pub mod Named

@@ -1,5 +1,5 @@
 -- The laws of the table, row by row.
-use Rattle.std.proofs.Common.{◌≡◌, ◌<◌, ℤ, pos, negsuc, zero, suc, Bool, true, false, not, ◌||◌, [], ◌∷◌, ◌++◌, FitsSigned, slice_get, is_some, refl, sym, ap, ◌∙◌, append-nil, arith}
+use Rattle.std.proofs.Common.{◌≡◌, ◌<◌, ℤ, pos, negsuc, zero, suc, Bool, true, false, not, ◌||◌, [], ◌∷◌, ◌++◌, FitsSigned, slice_get, is_some, Option, refl, sym, ap, ◌∙◌, append-nil, arith}
 use Rattle.std.specs.Int.{w64}
 use Rattle.std.proofs.lemmas.Grind.{common_steps}
 use Rattle.std.proofs.Math.Bool.{or-true}
@@ -93,3 +93,97 @@ clashes_show_changes (obs.ListAt i) (delta.List d) kinds number some h =
 clashes_show_changes obs.ListAll (delta.List d) kinds number some h =
     let change = items.changed d h in (value.List change.0, refl, tt, λ same. change.1 (cc))
 clashes_show_changes o d kinds number some h = absurd (cc)
+
+-- ---- compositions
+
+-- a delta of a bool, a counter or a text
+abbrev IsPlain : Delta → Type 0
+IsPlain (delta.Set d) = ⊥
+IsPlain (delta.Hash d) = ⊥
+IsPlain (delta.List d) = ⊥
+IsPlain _ = Unit {0}
+
+abbrev is_whole : Obs → Bool
+is_whole obs.BoolIs = true
+is_whole obs.CounterIs = true
+is_whole obs.TextIs = true
+is_whole _ = false
+
+-- with such a delta the whole clashes, and nothing else
+plain_clash : (o : Obs) (d : Delta) → IsPlain d → clash o d ≡ is_whole o
+plain_clash obs.BoolIs d plain = refl
+plain_clash obs.CounterIs d plain = refl
+plain_clash obs.TextIs d plain = refl
+plain_clash o (delta.Set d) plain = absurd plain
+plain_clash o (delta.Hash d) plain = absurd plain
+plain_clash o (delta.List d) plain = absurd plain
+plain_clash o d plain = refl
+
+twice : (b : Bool) → b ≡ (b || b)
+twice true = refl
+twice false = refl
+
+plain_clashes : (o : Obs) (d e f : Delta) → IsPlain d → IsPlain e → IsPlain f → clash o f ≡ (clash o d || clash o e)
+plain_clashes o d e f p q r =
+    plain_clash o f r ∙ twice (is_whole o) ∙ sym (ap (λ b. b || clash o e) (plain_clash o d p) ∙ ap (λ b. is_whole o || b) (plain_clash o e q))
+
+-- a row that has no other test
+nothing_else : (a b c : Bool) → a ≡ (b || c) → (a || false) ≡ ((b || false) || (c || false))
+nothing_else a b c is = simp or_none is
+
+module _ {M V : Type 0} (left : M → Option V) (d e : Keyed M) where
+  pub names-composed : (x : Bytes)
+      → ((composed left d e).cleared || map.contains_key (composed left d e).marks x) ≡ ((d.cleared || map.contains_key d.marks x) || (e.cleared || map.contains_key e.marks x))
+  names-composed x = touches-composed left (λ m. map.contains_key m x) (λ under over. contains-overlaid (mark_after left false) (λ mark. refl) under over x) d e
+
+  pub names_some-composed : ((composed left d e).cleared || has_some (composed left d e).marks) ≡ ((d.cleared || has_some d.marks) || (e.cleared || has_some e.marks))
+  names_some-composed = touches-composed left has_some (has_some-overlaid (mark_after left false) (λ mark. refl)) d e
+
+  pub clears_alone-composed : ((composed left d e).cleared || false) ≡ ((d.cleared || false) || (e.cleared || false))
+  clears_alone-composed = touches-composed left (λ m. false) (λ under over. refl) d e
+
+set_clashes : (o : Obs) (d e : Keyed Bool) → clash o (compose (delta.Set d) (delta.Set e)) ≡ (clash o (delta.Set d) || clash o (delta.Set e))
+set_clashes obs.BoolIs d e = refl
+set_clashes obs.CounterIs d e = refl
+set_clashes obs.TextIs d e = refl
+set_clashes (obs.SetHas x) d e = names-composed added d e x
+set_clashes obs.SetAll d e = names_some-composed added d e
+set_clashes (obs.HashAt x) d e = names-composed added d e x
+set_clashes obs.HashAll d e = names_some-composed added d e
+set_clashes (obs.ListAt i) d e = clears_alone-composed added d e
+set_clashes obs.ListAll d e = nothing_else _ _ _ (clears_alone-composed added d e)
+
+hash_clashes : (o : Obs) (d e : Keyed Mark) → clash o (compose (delta.Hash d) (delta.Hash e)) ≡ (clash o (delta.Hash d) || clash o (delta.Hash e))
+hash_clashes obs.BoolIs d e = refl
+hash_clashes obs.CounterIs d e = refl
+hash_clashes obs.TextIs d e = refl
+hash_clashes (obs.SetHas x) d e = names-composed put_by d e x
+hash_clashes obs.SetAll d e = names_some-composed put_by d e
+hash_clashes (obs.HashAt x) d e = names-composed put_by d e x
+hash_clashes obs.HashAll d e = names_some-composed put_by d e
+hash_clashes (obs.ListAt i) d e = clears_alone-composed put_by d e
+hash_clashes obs.ListAll d e = nothing_else _ _ _ (clears_alone-composed put_by d e)
+
+list_clashes : (o : Obs) (d e : Listed) → clash o (compose (delta.List d) (delta.List e)) ≡ (clash o (delta.List d) || clash o (delta.List e))
+list_clashes obs.BoolIs d e = refl
+list_clashes obs.CounterIs d e = refl
+list_clashes obs.TextIs d e = refl
+list_clashes (obs.SetHas x) d e = nothing_else _ _ _ (clears-composed d e)
+list_clashes obs.SetAll d e = nothing_else _ _ _ (clears-composed d e)
+list_clashes (obs.HashAt x) d e = nothing_else _ _ _ (clears-composed d e)
+list_clashes obs.HashAll d e = nothing_else _ _ _ (clears-composed d e)
+list_clashes (obs.ListAt i) d e = takes-composed d e
+list_clashes obs.ListAll d e = acts-composed d e
+
+-- a composition clears, marks, takes out or pushes where one of its parts does
+pub compositions_clash_by_parts : CompositionsClashByParts
+compositions_clash_by_parts o (delta.Set d) (delta.Set e) kinds = set_clashes o d e
+compositions_clash_by_parts o (delta.Hash d) (delta.Hash e) kinds = hash_clashes o d e
+compositions_clash_by_parts o (delta.List d) (delta.List e) kinds = list_clashes o d e
+compositions_clash_by_parts o (delta.PutBool b) (delta.PutBool c) kinds = plain_clashes o (delta.PutBool b) (delta.PutBool c) (delta.PutBool c) tt tt tt
+compositions_clash_by_parts o (delta.PutText x) (delta.PutText y) kinds = plain_clashes o (delta.PutText x) (delta.PutText y) (delta.PutText y) tt tt tt
+compositions_clash_by_parts o (delta.PutCounter m) (delta.PutCounter n) kinds = plain_clashes o (delta.PutCounter m) (delta.PutCounter n) (delta.PutCounter n) tt tt tt
+compositions_clash_by_parts o (delta.PutCounter m) (delta.AddCounter n) kinds = plain_clashes o (delta.PutCounter m) (delta.AddCounter n) (delta.PutCounter (wrapping_sum m n)) tt tt tt
+compositions_clash_by_parts o (delta.AddCounter m) (delta.PutCounter n) kinds = plain_clashes o (delta.AddCounter m) (delta.PutCounter n) (delta.PutCounter n) tt tt tt
+compositions_clash_by_parts o (delta.AddCounter m) (delta.AddCounter n) kinds = plain_clashes o (delta.AddCounter m) (delta.AddCounter n) (delta.AddCounter (wrapping_sum m n)) tt tt tt
+compositions_clash_by_parts o first second kinds = absurd (cc)

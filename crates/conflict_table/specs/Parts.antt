@@ -74,7 +74,7 @@ named obs.SetAll d = option_or (clear_part d) (first_mark d)
 named (obs.HashAt f) d = option_or (clear_part d) (mark_part f d)
 named obs.HashAll d = option_or (clear_part d) (first_mark d)
 named (obs.ListAt i) d = option_or (clear_part d) (first_removed d)
-named obs.ListAll d = option_or (clear_part d) (option_or (first_removed d) (first_pushed d))
+named obs.ListAll d = option_or (option_or (clear_part d) (first_removed d)) (first_pushed d)
 
 -- a part that is lent, as the operation that it shows
 abbrev pub shown : Part → WriteOp

@@ -1,6 +1,7 @@
 //! The part of a delta that is named where it clashes with an observation.
 
-ghost use Rattle.std.specs.Prelude.{◌≡◌, true, Some, IfOk, option_map, option_copied, slice_get};
+ghost use Rattle.std.specs.Prelude.{◌≡◌, true, Some, nat_eq, find, option_map, option_copied};
+ghost use Rattle.std.specs.Cmp.Lexicographic.{pointwise};
 ghost use Rattle.std.specs.FinMap as map;
 ghost use Rattle.rdt_types.specs.Deltas.{kind_changed};
 ghost use Rattle.conflict_table.specs.Observing.{kind_observed};
@@ -15,32 +16,32 @@ use rdt_types::{Delta, Mark};
 
 /// The pair at a key.
 fn pair_at<'a, V>(marks: &'a TextMap<V>, key: &Text) -> Option<&'a (Text, V)>
-    ensures { option_copied result ≡ option_map (λ mark. (key.now, mark)) (map.get marks.now key.now) }
+    ensures { option_copied result ≡ find (λ pair. pointwise nat_eq pair.0 key.now) (map.entries marks.now) }
 {
     marks.as_slice().iter().find(|pair| pair.0 == *key)
 }
 
-/// A mark at an element of a set.
-fn set_part<'a>(pair: &'a (Text, bool)) -> Part<'a>
-    ensures { shown result ≡ parts.set_part pair.now.0 pair.now.1 }
+/// A mark at an element of a set, if there is one.
+fn set_part<'a>(mark: Option<&'a (Text, bool)>) -> Option<Part<'a>>
+    ensures { option_map shown result ≡ option_map (λ e. parts.set_part e.0 e.1) (option_copied mark.entry) }
 {
-    let (element, is_added) = pair;
-    if *is_added {
+    let (element, is_added) = mark?;
+    Some(if *is_added {
         Part::SetAdd(element)
     } else {
         Part::SetRemove(element)
-    }
+    })
 }
 
-/// A mark at a field of a hash.
-fn hash_part<'a>(pair: &'a (Text, Mark)) -> Part<'a>
-    ensures { shown result ≡ parts.hash_part pair.now.0 pair.now.1 }
+/// A mark at a field of a hash, if there is one.
+fn hash_part<'a>(mark: Option<&'a (Text, Mark)>) -> Option<Part<'a>>
+    ensures { option_map shown result ≡ option_map (λ e. parts.hash_part e.0 e.1) (option_copied mark.entry) }
 {
-    let (field, mark) = pair;
-    match mark {
+    let (field, mark) = mark?;
+    Some(match mark {
         Mark::Put(text) => Part::HashPut(field, text),
         Mark::Removed => Part::HashRemove(field),
-    }
+    })
 }
 
 /// The put or addition of a delta that is one.
@@ -73,8 +74,8 @@ fn mark_part<'a>(delta: &'a Delta, key: &Text) -> Option<Part<'a>>
     ensures { option_map shown result ≡ parts.mark_part key.now delta.now }
 {
     match delta {
-        Delta::Set(d) => pair_at(d.marks(), key).map(set_part),
-        Delta::Hash(d) => pair_at(d.marks(), key).map(hash_part),
+        Delta::Set(d) => set_part(pair_at(d.marks(), key)),
+        Delta::Hash(d) => hash_part(pair_at(d.marks(), key)),
         _ => None,
     }
 }
@@ -84,8 +85,8 @@ fn first_mark(delta: &Delta) -> Option<Part<'_>>
     ensures { option_map shown result ≡ parts.first_mark delta.now }
 {
     match delta {
-        Delta::Set(d) => d.marks().as_slice().first().map(set_part),
-        Delta::Hash(d) => d.marks().as_slice().first().map(hash_part),
+        Delta::Set(d) => set_part(d.marks().as_slice().first()),
+        Delta::Hash(d) => hash_part(d.marks().as_slice().first()),
         _ => None,
     }
 }

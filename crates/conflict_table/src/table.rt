@@ -5,7 +5,7 @@ ghost use Rattle.conflict_table.specs.Clashes as table;
 
 use crate::observation::Obs;
 use crate::steps::Steps;
-use plain_data::Text;
+use plain_data::{Text, TextMap};
 use rdt_types::Delta;
 use std::sync::ledger::Ledger;
 
@@ -32,13 +32,20 @@ fn names(delta: &Delta, key: &Text) -> bool
     }
 }
 
+/// Whether a map has a key at all.
+fn has_some<V>(map: &TextMap<V>) -> bool
+    ensures { result ≡ table.has_some map.now }
+{
+    !map.is_empty()
+}
+
 /// Whether it has a mark at all.
 fn names_some(delta: &Delta) -> bool
     ensures { result ≡ table.names_some delta.now }
 {
     match delta {
-        Delta::Set(d) => !d.marks().is_empty(),
-        Delta::Hash(d) => !d.marks().is_empty(),
+        Delta::Set(d) => has_some(d.marks()),
+        Delta::Hash(d) => has_some(d.marks()),
         _ => false,
     }
 }
@@ -48,7 +55,7 @@ fn removes(delta: &Delta) -> bool
     ensures { result ≡ table.removes delta.now }
 {
     match delta {
-        Delta::List(d) => !d.removed().is_empty(),
+        Delta::List(d) => has_some(d.removed()),
         _ => false,
     }
 }
