@@ -10,6 +10,7 @@ use Rattle.plain_data.specs.Texts.{Bytes, SetOfTexts, has_text}
 use Rattle.plain_data.specs.Overlays.{union}
 use Rattle.plain_data.proofs.TextMaps.{empty-length}
 use Rattle.rdt_types.specs.Listed.{Listed, without, applied, composed}
+use Rattle.rdt_types.proofs.Listed.{without-none}
 use Rattle.conflict_table.specs.Clashes.{has_some}
 use Rattle.conflict_table.proofs.Keys.{no_key, empty-has_some, key-has_some, has_some-overlaid, or_none}
 
@@ -39,9 +40,8 @@ without_step : (removed : SetOfTexts) (b : Bool) (x : Bytes) (xs : List Bytes) �
 without_step removed b x xs is = ap (λ b. cond (not b) (x ∷ without removed xs) (without removed xs)) is
 
 -- where nothing is taken out all stay
-without_none : (removed : SetOfTexts) (xs : List Bytes) → removed ≡ map.empty → without removed xs ≡ xs
-without_none removed [] none = refl
-without_none removed (x ∷ xs) none = without_step removed false x xs (no_key removed x none) ∙ ap (λ ys. x ∷ ys) (without_none removed xs none)
+without_nothing : (removed : SetOfTexts) (xs : List Bytes) → removed ≡ map.empty → without removed xs ≡ xs
+without_nothing removed xs none = ap (λ r. without r xs) none ∙ without-none xs
 
 -- of items that are all taken out none stays
 without_all : (removed : SetOfTexts) (n : ℕ) (x : Bytes) → has_text removed x ≡ true → without removed (replicate n x) ≡ []
@@ -58,7 +58,7 @@ pub applied_pushes : (d : Listed) (xs : List Bytes) → (d.cleared || has_some d
 applied_pushes d xs h =
     let none = or_parts d.cleared (has_some d.removed) h in
     ap (λ b. cond b [] (without d.removed xs) ++ d.pushed) none.0
-    ∙ ap (λ ys. ys ++ d.pushed) (without_none d.removed xs (empty-has_some d.removed none.1))
+    ∙ ap (λ ys. ys ++ d.pushed) (without_nothing d.removed xs (empty-has_some d.removed none.1))
 
 -- ---- some list that changes
 
@@ -81,10 +81,11 @@ ChangesAt i d = (xs : List Bytes) × (i < length xs) × (slice_get (applied d xs
 
 -- equal items of which none stays change at their last place, unless the delta pushes the same item there
 all_gone : (i : ℕ) (d : Listed) (x : Bytes) → applied d (replicate (suc i) x) ≡ d.pushed → (slice_get d.pushed i ≡ Some x → ⊥) → ChangesAt i d
-all_gone i d x gone other =
-    (replicate (suc i) x,
-     omega (arith, length-replicate (suc i) x),
-     λ same. other (sym (ap (λ xs. slice_get xs i) gone) ∙ same ∙ slice_get-replicate i x))
+all_gone i d x gone other = (
+  replicate (suc i) x,
+  omega (arith, length-replicate (suc i) x),
+  λ same. other (sym (ap (λ xs. slice_get xs i) gone) ∙ same ∙ slice_get-replicate i x),
+)
 
 cleared_goes : (d : Listed) (xs : List Bytes) → d.cleared ≡ true → applied d xs ≡ d.pushed
 cleared_goes d xs clears = ap (λ b. cond b [] (without d.removed xs) ++ d.pushed) clears
@@ -109,8 +110,8 @@ moved_up : (d : Listed) (n : ℕ) (x y : Bytes) → d.cleared ≡ false → has_
 moved_up d n x y keeps there stays =
     ap (λ b. cond b [] (without d.removed (replicate n x ++ replicate n y)) ++ d.pushed) keeps
     ∙ ap (λ xs. xs ++ d.pushed) (filter-append (λ item. not (has_text d.removed item)) (replicate n x) (replicate n y)
-      ∙ ap (λ xs. xs ++ without d.removed (replicate n y)) (without_all d.removed n x there)
-      ∙ without_others d.removed n y stays)
+    ∙ ap (λ xs. xs ++ without d.removed (replicate n y)) (without_all d.removed n x there)
+    ∙ without_others d.removed n y stays)
 
 -- and so does a text that is taken out: it is followed by other items, or by none
 removed_changes : (i : ℕ) (d : Listed) (x : Bytes) → d.cleared ≡ false → has_text d.removed x ≡ true → ChangesAt i d
@@ -121,16 +122,17 @@ removed_changes i d x keeps there = by (has_text d.removed (0 ∷ x)) refl
     none_stays longer_there (inr other) = all_gone i d (0 ∷ x) (removed_goes false d (suc i) (0 ∷ x) keeps longer_there) other
 
     one_stays : has_text d.removed (0 ∷ x) ≡ false → ChangesAt i d
-    one_stays stays =
-        (replicate (suc i) x ++ replicate (suc i) (0 ∷ x),
-         omega (arith, length-append (replicate (suc i) x) (replicate (suc i) (0 ∷ x)), length-replicate (suc i) x),
-         λ same. longer x (let items : Some (0 ∷ x) ≡ Some x =
-             sym (slice_get-replicate i (0 ∷ x))
-             ∙ sym (slice_get-append (replicate (suc i) (0 ∷ x)) d.pushed i (omega (arith, length-replicate (suc i) (0 ∷ x))))
-             ∙ sym (ap (λ xs. slice_get xs i) (moved_up d (suc i) x (0 ∷ x) keeps there stays))
-             ∙ same
-             ∙ slice_get-append (replicate (suc i) x) (replicate (suc i) (0 ∷ x)) i (omega (arith, length-replicate (suc i) x))
-             ∙ slice_get-replicate i x in cc))
+    one_stays stays = (
+      replicate (suc i) x ++ replicate (suc i) (0 ∷ x),
+      omega (arith, length-append (replicate (suc i) x) (replicate (suc i) (0 ∷ x)), length-replicate (suc i) x),
+      λ same. longer x (let items : Some (0 ∷ x) ≡ Some x =
+          sym (slice_get-replicate i (0 ∷ x))
+          ∙ sym (slice_get-append (replicate (suc i) (0 ∷ x)) d.pushed i (omega (arith, length-replicate (suc i) (0 ∷ x))))
+          ∙ sym (ap (λ xs. slice_get xs i) (moved_up d (suc i) x (0 ∷ x) keeps there stays))
+          ∙ same
+          ∙ slice_get-append (replicate (suc i) x) (replicate (suc i) (0 ∷ x)) i (omega (arith, length-replicate (suc i) x))
+          ∙ slice_get-replicate i x in cc),
+    )
 
     by : (b : Bool) → has_text d.removed (0 ∷ x) ≡ b → ChangesAt i d
     by true longer_there = none_stays longer_there (not_both (slice_get d.pushed i) x)
@@ -188,7 +190,7 @@ still_some false true p q n none = sym (or-true p)
 still_some false false p q n none = none refl
 
 pushed_by : (s : SetOfTexts) (p q : List Bytes) → has_some s ≡ false → has_items (without s p ++ q) ≡ (has_items p || has_items q)
-pushed_by s p q none = ap (λ xs. has_items (xs ++ q)) (without_none s p (empty-has_some s none)) ∙ has_items-append p q
+pushed_by s p q none = ap (λ xs. has_items (xs ++ q)) (without_nothing s p (empty-has_some s none)) ∙ has_items-append p q
 
 -- whether a delta does anything
 abbrev pub acts : Listed → Bool

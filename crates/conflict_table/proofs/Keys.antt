@@ -1,5 +1,5 @@
 -- Whether a map of texts has a key, and whether it has any.
-use Rattle.std.proofs.Common.{◌≡◌, ℕ, Bool, true, false, not, cond, ◌||◌, List, [], ◌∷◌, length, nat_eq, slice_get, is_some, option_map, ◌↔◌, Option, Some, None, refl, sym, ap, ◌∙◌}
+use Rattle.std.proofs.Common.{◌≡◌, ℕ, Bool, true, false, not, cond, T, ◌||◌, List, [], ◌∷◌, length, nat_eq, slice_get, is_some, option_map, ◌↔◌, Option, Some, None, refl, sym, ap, ◌∙◌, subst}
 use Rattle.std.proofs.lemmas.Bool.{false≢true, true≢false, not-false, eqb-true, true_from_ne_false, or_left, or_right}
 use Rattle.std.proofs.Math.Bool.{or-true}
 use Rattle.std.proofs.Math.Dec.{eqb-suc-zero}
@@ -13,7 +13,7 @@ use Rattle.std.specs.FinMap.Entries.{find}
 use Rattle.plain_data.specs.Texts.{Bytes, MapOf, text_cmp}
 use Rattle.plain_data.specs.Overlays.{overlaid, found_after}
 use Rattle.plain_data.proofs.Entries.{equal}
-use Rattle.plain_data.proofs.Overlays.{get-overlaid}
+use Rattle.plain_data.proofs.Overlays.{get-overlaid, len-some}
 use Rattle.conflict_table.specs.Clashes.{has_some}
 
 -- two tests that hold in the same cases are equal
@@ -61,13 +61,9 @@ module _ {V : Type 0} where
   pub first-has_some : (m : MapOf V) → is_some (slice_get (map.entries m) 0) ≡ has_some m
   first-has_some m = first_item (map.entries m) ∙ ap (λ n. not (nat_eq n 0)) (sym (map.len-entries m))
 
-  -- a key of a map with pairs
+  -- and a key
   pub key-has_some : (m : MapOf V) → has_some m ≡ true → (x : Bytes) × (map.contains_key m x ≡ true)
-  key-has_some m some = by (map.entries m) refl
-    where
-      by : (es : List (Bytes × V)) → map.entries m ≡ es → (x : Bytes) × (map.contains_key m x ≡ true)
-      by [] is = absurd (true≢false (sym some ∙ sym (first-has_some m) ∙ ap (λ es. is_some (slice_get es 0)) is))
-      by (e ∷ es) is = (e.0, ap is_some (map.get-entries m e.0 ∙ ap (find text_cmp e.0) is ∙ ap (λ b. cond b (Some e.1) (find text_cmp e.0 es)) (tied e.0)))
+  key-has_some m some = let one = len-some m (subst T (sym some) tt) in (one.0, ap is_some one.2)
 
 -- the test for no key at all, turned round
 pub not-is_empty : {V : Type 0} (m : MapOf V) (b : Bool) → (b ≡ true) ↔ (m ≡ map.empty) → not b ≡ has_some m

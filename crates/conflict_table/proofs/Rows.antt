@@ -49,7 +49,6 @@ no_clash_no_change obs.ListAll (delta.List d) v kinds within none =
     ap answer.List (applied_pushes d (list_in v) each.0 ∙ ap (λ ys. list_in v ++ ys) (has_no_items d.pushed each.1) ∙ append-nil (list_in v))
 no_clash_no_change o d v kinds within none = absurd (cc)
 
-
 -- ---- what a clash changes
 
 -- a number other than another

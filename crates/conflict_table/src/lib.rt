@@ -9,10 +9,10 @@
 
 mod answer;
 mod laws;
+mod lent;
 mod naming;
 mod observation;
 mod observing;
-mod lent;
 mod read;
 mod steps;
 mod table;
@@ -22,10 +22,13 @@ pub use laws::{
     clashes_have_parts, clashes_show_changes, compositions_clash_by_parts, no_clash_no_change,
     parts_clash_alone,
 };
+pub use lent::{Part, copy_part};
 pub use naming::part;
 pub use observation::Obs;
 pub use observing::observe;
-pub use lent::{Part, copy_part};
 pub use read::ReadOp;
 pub use steps::Steps;
 pub use table::clash;
+
+#[cfg(test)]
+mod tests;

@@ -9,8 +9,8 @@ ghost use Rattle.conflict_table.specs.Clashes.{clash};
 ghost use Rattle.conflict_table.specs.Parts as parts;
 ghost use Rattle.conflict_table.specs.Parts.{shown};
 
-use crate::observation::Obs;
 use crate::lent::Part;
+use crate::observation::Obs;
 use plain_data::{Text, TextMap};
 use rdt_types::{Delta, Mark};
 
@@ -137,4 +137,3 @@ pub fn part<'a>(obs: &Obs, delta: &'a Delta) -> Part<'a>
 {
     named(obs, delta).unwrap()
 }
-
