@@ -4,8 +4,8 @@ ghost use Rattle.std.specs.Prelude.{◌≡◌};
 ghost use Rattle.conflict_table.specs.Clashes as table;
 
 use crate::{Answer, Obs, Steps, clash, copy_part, observe, part};
-use plain_data::Text;
-use rdt_types::{Delta, Kind, TextList, Value, WriteOp, apply, compose, default_value, delta_of};
+use plain_data::{Text, TextMap, TextSet};
+use rdt_types::{Delta, TextList, Value, WriteOp, apply, compose, default_value, delta_of};
 use std::alloc::{AllocError, Global};
 use std::marker::Brand;
 use std::mem::size_of;
@@ -35,210 +35,175 @@ fn text(alloc: Global, bytes: &[u8]) -> Result<Text, AllocError> {
     Text::from_slice(alloc, bytes)
 }
 
-#[test]
-fn writes_clash_by_the_table(rt: HostRuntime) -> Result<(), Fail> {
-    let alloc = rt.alloc();
-    let a = text(alloc, b"a")?;
-    let b = text(alloc, b"b")?;
-    let rows = [
-        (Obs::BoolIs, WriteOp::PutBool(true), true),
-        (Obs::CounterIs, WriteOp::PutCounter(1), true),
-        (Obs::CounterIs, WriteOp::AddCounter(0), true),
-        (Obs::TextIs, WriteOp::PutText(a.clone()?), true),
-        (Obs::SetHas(a.clone()?), WriteOp::SetAdd(a.clone()?), true),
-        (
-            Obs::SetHas(a.clone()?),
-            WriteOp::SetRemove(a.clone()?),
-            true,
-        ),
-        (Obs::SetHas(a.clone()?), WriteOp::SetClear, true),
-        (Obs::SetHas(a.clone()?), WriteOp::SetAdd(b.clone()?), false),
-        (
-            Obs::SetHas(a.clone()?),
-            WriteOp::SetRemove(b.clone()?),
-            false,
-        ),
-        (Obs::SetAll, WriteOp::SetRemove(b.clone()?), true),
-        (Obs::SetAll, WriteOp::SetClear, true),
-        (
-            Obs::HashAt(a.clone()?),
-            WriteOp::HashPut(a.clone()?, b.clone()?),
-            true,
-        ),
-        (
-            Obs::HashAt(a.clone()?),
-            WriteOp::HashRemove(a.clone()?),
-            true,
-        ),
-        (Obs::HashAt(a.clone()?), WriteOp::HashClear, true),
-        (
-            Obs::HashAt(a.clone()?),
-            WriteOp::HashPut(b.clone()?, a.clone()?),
-            false,
-        ),
-        (
-            Obs::HashAt(a.clone()?),
-            WriteOp::HashRemove(b.clone()?),
-            false,
-        ),
-        (Obs::HashAll, WriteOp::HashPut(a.clone()?, b.clone()?), true),
-        (Obs::HashAll, WriteOp::HashClear, true),
-        (Obs::ListAt(0), WriteOp::ListPush(a.clone()?), false),
-        (Obs::ListAt(0), WriteOp::ListRemove(a.clone()?), true),
-        (Obs::ListAt(0), WriteOp::ListClear, true),
-        (Obs::ListAll, WriteOp::ListPush(a.clone()?), true),
-        (Obs::ListAll, WriteOp::ListRemove(b), true),
-        (Obs::ListAll, WriteOp::ListClear, true),
-    ];
-    for (obs, op, is_clash) in &rows {
-        let part = named(obs, &delta_of(alloc, op)?)?;
-        match part {
-            Some(part) => assert!(rt; *is_clash && part == *op),
-            None => assert!(rt; !*is_clash),
-        }
-    }
-    Ok(())
-}
-
-#[test]
-fn the_part_is_the_one_that_the_rules_name(rt: HostRuntime) -> Result<(), Fail> {
-    let alloc = rt.alloc();
-    let a = text(alloc, b"a")?;
-    let b = text(alloc, b"b")?;
-    let rows = [
-        (
-            Obs::SetHas(b.clone()?),
-            WriteOp::SetAdd(a.clone()?),
-            WriteOp::SetRemove(b.clone()?),
-            WriteOp::SetRemove(b.clone()?),
-        ),
-        (
-            Obs::SetAll,
-            WriteOp::SetAdd(b.clone()?),
-            WriteOp::SetRemove(a.clone()?),
-            WriteOp::SetRemove(a.clone()?),
-        ),
-        (
-            Obs::SetHas(a.clone()?),
-            WriteOp::SetClear,
-            WriteOp::SetAdd(a.clone()?),
-            WriteOp::SetClear,
-        ),
-        (
-            Obs::HashAt(b.clone()?),
-            WriteOp::HashPut(a.clone()?, a.clone()?),
-            WriteOp::HashPut(b.clone()?, a.clone()?),
-            WriteOp::HashPut(b.clone()?, a.clone()?),
-        ),
-        (
-            Obs::HashAll,
-            WriteOp::HashRemove(b.clone()?),
-            WriteOp::HashPut(a.clone()?, b.clone()?),
-            WriteOp::HashPut(a.clone()?, b.clone()?),
-        ),
-        (
-            Obs::ListAt(0),
-            WriteOp::ListRemove(b.clone()?),
-            WriteOp::ListRemove(a.clone()?),
-            WriteOp::ListRemove(a.clone()?),
-        ),
-        (
-            Obs::ListAll,
-            WriteOp::ListPush(a.clone()?),
-            WriteOp::ListRemove(b.clone()?),
-            WriteOp::ListRemove(b.clone()?),
-        ),
-        (
-            Obs::ListAll,
-            WriteOp::ListPush(b.clone()?),
-            WriteOp::ListPush(a),
-            WriteOp::ListPush(b),
-        ),
-    ];
-    for (obs, first, second, expected) in &rows {
-        let delta = compose(alloc, &delta_of(alloc, first)?, &delta_of(alloc, second)?)?;
-        assert!(rt; named(obs, &delta)? == Some(expected.clone()?));
-    }
-    Ok(())
-}
-
-/// What an observation answers of the value that two operations leave of a default.
-fn answer_after(
+/// The part that is named where the operations, done in turn, clash.
+fn named_of(
     alloc: Global,
     obs: &Obs,
     first: &WriteOp,
     second: &WriteOp,
-) -> Result<Answer, AllocError> {
-    let begun = apply(
-        alloc,
-        &delta_of(alloc, first)?,
-        &default_value(alloc, obs.kind()),
-    )?;
-    observe(
-        alloc,
-        obs,
-        &apply(alloc, &delta_of(alloc, second)?, &begun)?,
-    )
+) -> Result<Option<WriteOp>, AllocError> {
+    let first = delta_of(alloc, first)?;
+    let second = delta_of(alloc, second)?;
+    named(obs, &compose(alloc, &first, &second)?)
+}
+
+/// Whether an operation alone clashes, and is then the part that is named.
+fn clashes_alone(alloc: Global, obs: &Obs, op: &WriteOp) -> Result<bool, AllocError> {
+    match named(obs, &delta_of(alloc, op)?)? {
+        Some(part) => Ok(part == *op),
+        None => Ok(false),
+    }
+}
+
+/// The value that an operation makes of a default.
+fn made(alloc: Global, op: &WriteOp) -> Result<Value, AllocError> {
+    let delta = delta_of(alloc, op)?;
+    apply(alloc, &delta, &default_value(alloc, op.kind()))
 }
 
 #[test]
-fn observations_answer(rt: HostRuntime) -> Result<(), Fail> {
+fn the_whole_clashes_with_every_write(rt: HostRuntime) -> Result<(), Fail> {
     let alloc = rt.alloc();
-    let a = text(alloc, b"a")?;
-    let b = text(alloc, b"b")?;
-    let set = [WriteOp::SetRemove(b.clone()?), WriteOp::SetAdd(a.clone()?)];
-    let hash = [
-        WriteOp::HashRemove(b.clone()?),
-        WriteOp::HashPut(a.clone()?, b.clone()?),
+    let rows = [
+        (Obs::BoolIs, WriteOp::PutBool(true)),
+        (Obs::CounterIs, WriteOp::PutCounter(1)),
+        (Obs::CounterIs, WriteOp::AddCounter(0)),
+        (Obs::TextIs, WriteOp::PutText(text(alloc, b"a")?)),
     ];
-    let list = [WriteOp::ListPush(a.clone()?), WriteOp::ListPush(b.clone()?)];
-    let found = answer_after(alloc, &Obs::SetHas(a.clone()?), &set[0], &set[1])?;
-    assert!(rt; found == Answer::Bool(true));
-    let found = answer_after(alloc, &Obs::SetHas(b.clone()?), &set[0], &set[1])?;
-    assert!(rt; found == Answer::Bool(false));
-    let found = answer_after(alloc, &Obs::HashAt(a.clone()?), &hash[0], &hash[1])?;
-    assert!(rt; found == Answer::Maybe(Some(b.clone()?)));
-    let found = answer_after(alloc, &Obs::HashAt(b.clone()?), &hash[0], &hash[1])?;
-    assert!(rt; found == Answer::Maybe(None));
-    let found = answer_after(alloc, &Obs::ListAt(1), &list[0], &list[1])?;
-    assert!(rt; found == Answer::Maybe(Some(b.clone()?)));
-    let found = answer_after(alloc, &Obs::ListAt(2), &list[0], &list[1])?;
-    assert!(rt; found == Answer::Maybe(None));
+    for (obs, op) in &rows {
+        assert!(rt; clashes_alone(alloc, obs, op)?);
+    }
     Ok(())
 }
 
 #[test]
-fn the_whole_of_a_value_is_observed(rt: HostRuntime) -> Result<(), Fail> {
+fn elements_clash_with_what_names_them(rt: HostRuntime) -> Result<(), Fail> {
     let alloc = rt.alloc();
-    let a = text(alloc, b"a")?;
-    let mut items = TextList::new(alloc);
-    items.push(a.clone()?)?;
-    let set = apply(
+    let has = Obs::SetHas(text(alloc, b"a")?);
+    for (named, is_clash) in [(b"a".as_slice(), true), (b"b".as_slice(), false)] {
+        let add = WriteOp::SetAdd(text(alloc, named)?);
+        let remove = WriteOp::SetRemove(text(alloc, named)?);
+        assert!(rt; clashes_alone(alloc, &has, &add)? == is_clash);
+        assert!(rt; clashes_alone(alloc, &has, &remove)? == is_clash);
+        assert!(rt; clashes_alone(alloc, &Obs::SetAll, &add)?);
+    }
+    assert!(rt; clashes_alone(alloc, &has, &WriteOp::SetClear)?);
+    assert!(rt; clashes_alone(alloc, &Obs::SetAll, &WriteOp::SetClear)?);
+    Ok(())
+}
+
+#[test]
+fn fields_clash_with_what_names_them(rt: HostRuntime) -> Result<(), Fail> {
+    let alloc = rt.alloc();
+    let at = Obs::HashAt(text(alloc, b"f")?);
+    for (named, is_clash) in [(b"f".as_slice(), true), (b"g".as_slice(), false)] {
+        let put = WriteOp::HashPut(text(alloc, named)?, text(alloc, b"v")?);
+        let remove = WriteOp::HashRemove(text(alloc, named)?);
+        assert!(rt; clashes_alone(alloc, &at, &put)? == is_clash);
+        assert!(rt; clashes_alone(alloc, &at, &remove)? == is_clash);
+        assert!(rt; clashes_alone(alloc, &Obs::HashAll, &put)?);
+    }
+    assert!(rt; clashes_alone(alloc, &at, &WriteOp::HashClear)?);
+    assert!(rt; clashes_alone(alloc, &Obs::HashAll, &WriteOp::HashClear)?);
+    Ok(())
+}
+
+#[test]
+fn places_bear_a_push(rt: HostRuntime) -> Result<(), Fail> {
+    let alloc = rt.alloc();
+    let rows = [
+        (WriteOp::ListPush(text(alloc, b"p")?), false),
+        (WriteOp::ListRemove(text(alloc, b"p")?), true),
+        (WriteOp::ListClear, true),
+    ];
+    for (op, is_clash) in &rows {
+        assert!(rt; clashes_alone(alloc, &Obs::ListAt(0), op)? == *is_clash);
+        assert!(rt; clashes_alone(alloc, &Obs::ListAll, op)?);
+    }
+    Ok(())
+}
+
+#[test]
+fn the_first_mark_is_named(rt: HostRuntime) -> Result<(), Fail> {
+    let alloc = rt.alloc();
+    let late = WriteOp::SetAdd(text(alloc, b"b")?);
+    let early = WriteOp::SetRemove(text(alloc, b"a")?);
+    let has = Obs::SetHas(text(alloc, b"b")?);
+    assert!(rt; named_of(alloc, &Obs::SetAll, &late, &early)? == Some(early));
+    let early = WriteOp::SetRemove(text(alloc, b"a")?);
+    assert!(rt; named_of(alloc, &has, &early, &late)? == Some(late));
+    let late = WriteOp::SetAdd(text(alloc, b"b")?);
+    assert!(rt; named_of(alloc, &has, &WriteOp::SetClear, &late)? == Some(WriteOp::SetClear));
+    Ok(())
+}
+
+#[test]
+fn what_is_taken_out_is_named_before_what_is_pushed(rt: HostRuntime) -> Result<(), Fail> {
+    let alloc = rt.alloc();
+    let push = WriteOp::ListPush(text(alloc, b"p")?);
+    let remove = WriteOp::ListRemove(text(alloc, b"q")?);
+    let first = WriteOp::ListRemove(text(alloc, b"a")?);
+    assert!(rt; named_of(alloc, &Obs::ListAt(0), &remove, &first)? == Some(first));
+    assert!(rt; named_of(alloc, &Obs::ListAll, &push, &remove)? == Some(remove));
+    Ok(())
+}
+
+#[test]
+fn elements_and_fields_are_observed(rt: HostRuntime) -> Result<(), Fail> {
+    let alloc = rt.alloc();
+    let set = made(alloc, &WriteOp::SetAdd(text(alloc, b"a")?))?;
+    let hash = made(
         alloc,
-        &delta_of(alloc, &WriteOp::SetAdd(a.clone()?))?,
-        &default_value(alloc, Kind::Set),
+        &WriteOp::HashPut(text(alloc, b"a")?, text(alloc, b"v")?),
     )?;
-    let hash = apply(
-        alloc,
-        &delta_of(alloc, &WriteOp::HashPut(a.clone()?, a.clone()?))?,
-        &default_value(alloc, Kind::Hash),
-    )?;
-    assert!(rt; observe(alloc, &Obs::BoolIs, &Value::Bool(true))? == Answer::Bool(true));
-    assert!(rt; observe(alloc, &Obs::CounterIs, &Value::Counter(5))? == Answer::Counter(5));
-    assert!(rt; observe(alloc, &Obs::TextIs, &Value::Text(a.clone()?))? == Answer::Text(a));
-    assert!(rt;
-        observe(alloc, &Obs::ListAll, &Value::List(items.clone()?))? == Answer::List(items)
-    );
-    match (set, hash) {
-        (Value::Set(set), Value::Hash(hash)) => {
-            assert!(rt;
-                observe(alloc, &Obs::SetAll, &Value::Set(set.clone()?))? == Answer::Set(set)
-            );
-            assert!(rt;
-                observe(alloc, &Obs::HashAll, &Value::Hash(hash.clone()?))? == Answer::Hash(hash)
-            );
-        }
-        _ => assert!(rt; false),
+    for (key, is_there) in [(b"a".as_slice(), true), (b"b".as_slice(), false)] {
+        let element = observe(alloc, &Obs::SetHas(text(alloc, key)?), &set)?;
+        assert!(rt; element == Answer::Bool(is_there));
+        let field = observe(alloc, &Obs::HashAt(text(alloc, key)?), &hash)?;
+        assert!(rt; (field != Answer::Maybe(None)) == is_there);
+    }
+    Ok(())
+}
+
+#[test]
+fn places_are_observed(rt: HostRuntime) -> Result<(), Fail> {
+    let alloc = rt.alloc();
+    let list = made(alloc, &WriteOp::ListPush(text(alloc, b"p")?))?;
+    let first = Answer::Maybe(Some(text(alloc, b"p")?));
+    assert!(rt; observe(alloc, &Obs::ListAt(0), &list)? == first);
+    assert!(rt; observe(alloc, &Obs::ListAt(1), &list)? == Answer::Maybe(None));
+    Ok(())
+}
+
+#[test]
+fn a_whole_value_is_observed(rt: HostRuntime) -> Result<(), Fail> {
+    let alloc = rt.alloc();
+    let rows = [
+        (Obs::BoolIs, Value::Bool(true), Answer::Bool(true)),
+        (Obs::CounterIs, Value::Counter(5), Answer::Counter(5)),
+        (
+            Obs::TextIs,
+            Value::Text(Text::new(alloc)),
+            Answer::Text(Text::new(alloc)),
+        ),
+        (
+            Obs::SetAll,
+            Value::Set(TextSet::new(alloc)),
+            Answer::Set(TextSet::new(alloc)),
+        ),
+        (
+            Obs::HashAll,
+            Value::Hash(TextMap::new(alloc)),
+            Answer::Hash(TextMap::new(alloc)),
+        ),
+        (
+            Obs::ListAll,
+            Value::List(TextList::new(alloc)),
+            Answer::List(TextList::new(alloc)),
+        ),
+    ];
+    for (obs, value, answer) in &rows {
+        assert!(rt; observe(alloc, obs, value)? == *answer);
     }
     Ok(())
 }
@@ -247,10 +212,10 @@ fn the_whole_of_a_value_is_observed(rt: HostRuntime) -> Result<(), Fail> {
 fn an_addition_of_0_clashes_and_changes_nothing(rt: HostRuntime) -> Result<(), Fail> {
     let alloc = rt.alloc();
     let value = Value::Counter(7);
-    let nothing = Delta::AddCounter(0);
     let before = observe(alloc, &Obs::CounterIs, &value)?;
-    assert!(rt; observe(alloc, &Obs::CounterIs, &apply(alloc, &nothing, &value)?)? == before);
-    assert!(rt; named(&Obs::CounterIs, &nothing)? == Some(WriteOp::AddCounter(0)));
+    let after = apply(alloc, &Delta::AddCounter(0), &value)?;
+    assert!(rt; observe(alloc, &Obs::CounterIs, &after)? == before);
+    assert!(rt; clashes_alone(alloc, &Obs::CounterIs, &WriteOp::AddCounter(0))?);
     Ok(())
 }
 
