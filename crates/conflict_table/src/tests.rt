@@ -35,187 +35,292 @@ fn text(alloc: Global, bytes: &[u8]) -> Result<Text, AllocError> {
     Text::from_slice(alloc, bytes)
 }
 
-/// The part that is named where the operations, done in turn, clash.
-fn named_of(
+fn has(alloc: Global, element: &[u8]) -> Result<Obs, AllocError> {
+    Ok(Obs::SetHas(text(alloc, element)?))
+}
+
+fn at(alloc: Global, field: &[u8]) -> Result<Obs, AllocError> {
+    Ok(Obs::HashAt(text(alloc, field)?))
+}
+
+fn add(alloc: Global, element: &[u8]) -> Result<WriteOp, AllocError> {
+    Ok(WriteOp::SetAdd(text(alloc, element)?))
+}
+
+fn remove(alloc: Global, element: &[u8]) -> Result<WriteOp, AllocError> {
+    Ok(WriteOp::SetRemove(text(alloc, element)?))
+}
+
+fn put(alloc: Global, field: &[u8]) -> Result<WriteOp, AllocError> {
+    let field = text(alloc, field)?;
+    Ok(WriteOp::HashPut(field, text(alloc, b"v")?))
+}
+
+fn drop_field(alloc: Global, field: &[u8]) -> Result<WriteOp, AllocError> {
+    Ok(WriteOp::HashRemove(text(alloc, field)?))
+}
+
+fn push(alloc: Global, item: &[u8]) -> Result<WriteOp, AllocError> {
+    Ok(WriteOp::ListPush(text(alloc, item)?))
+}
+
+fn take_out(alloc: Global, item: &[u8]) -> Result<WriteOp, AllocError> {
+    Ok(WriteOp::ListRemove(text(alloc, item)?))
+}
+
+/// Whether an operation clashes, and is then the part that is named.
+fn one_clashes(
     alloc: Global,
-    obs: &Obs,
-    first: &WriteOp,
-    second: &WriteOp,
-) -> Result<Option<WriteOp>, AllocError> {
-    let first = delta_of(alloc, first)?;
-    let second = delta_of(alloc, second)?;
-    named(obs, &compose(alloc, &first, &second)?)
+    obs: Result<Obs, AllocError>,
+    op: Result<WriteOp, AllocError>,
+) -> Result<bool, AllocError> {
+    let op = op?;
+    let named = named(&obs?, &delta_of(alloc, &op)?)?;
+    Ok(named == Some(op))
 }
 
-/// Whether an operation alone clashes, and is then the part that is named.
-fn clashes_alone(alloc: Global, obs: &Obs, op: &WriteOp) -> Result<bool, AllocError> {
-    match named(obs, &delta_of(alloc, op)?)? {
-        Some(part) => Ok(part == *op),
-        None => Ok(false),
-    }
+/// Whether two operations in turn clash, and this part is named.
+fn two_name(
+    alloc: Global,
+    obs: Result<Obs, AllocError>,
+    first: Result<WriteOp, AllocError>,
+    second: Result<WriteOp, AllocError>,
+    part: Result<WriteOp, AllocError>,
+) -> Result<bool, AllocError> {
+    let first = delta_of(alloc, &first?)?;
+    let second = delta_of(alloc, &second?)?;
+    let named = named(&obs?, &compose(alloc, &first, &second)?)?;
+    Ok(named == Some(part?))
 }
 
-/// The value that an operation makes of a default.
-fn made(alloc: Global, op: &WriteOp) -> Result<Value, AllocError> {
-    let delta = delta_of(alloc, op)?;
-    apply(alloc, &delta, &default_value(alloc, op.kind()))
+/// Whether an observation answers this of the value that an operation makes of a default.
+fn answers(
+    alloc: Global,
+    obs: Result<Obs, AllocError>,
+    op: Result<WriteOp, AllocError>,
+    answer: &Answer,
+) -> Result<bool, AllocError> {
+    let op = op?;
+    let value = apply(
+        alloc,
+        &delta_of(alloc, &op)?,
+        &default_value(alloc, op.kind()),
+    )?;
+    Ok(observe(alloc, &obs?, &value)? == *answer)
 }
 
 #[test]
 fn the_whole_clashes_with_every_write(rt: HostRuntime) -> Result<(), Fail> {
     let alloc = rt.alloc();
-    let rows = [
-        (Obs::BoolIs, WriteOp::PutBool(true)),
-        (Obs::CounterIs, WriteOp::PutCounter(1)),
-        (Obs::CounterIs, WriteOp::AddCounter(0)),
-        (Obs::TextIs, WriteOp::PutText(text(alloc, b"a")?)),
-    ];
-    for (obs, op) in &rows {
-        assert!(rt; clashes_alone(alloc, obs, op)?);
-    }
+    let put_text = WriteOp::PutText(Text::new(alloc));
+    assert!(rt; one_clashes(alloc, Ok(Obs::BoolIs), Ok(WriteOp::PutBool(true)))?);
+    assert!(rt; one_clashes(alloc, Ok(Obs::CounterIs), Ok(WriteOp::PutCounter(1)))?);
+    assert!(rt; one_clashes(alloc, Ok(Obs::CounterIs), Ok(WriteOp::AddCounter(0)))?);
+    assert!(rt; one_clashes(alloc, Ok(Obs::TextIs), Ok(put_text))?);
     Ok(())
 }
 
 #[test]
 fn elements_clash_with_what_names_them(rt: HostRuntime) -> Result<(), Fail> {
     let alloc = rt.alloc();
-    let has = Obs::SetHas(text(alloc, b"a")?);
-    for (named, is_clash) in [(b"a".as_slice(), true), (b"b".as_slice(), false)] {
-        let add = WriteOp::SetAdd(text(alloc, named)?);
-        let remove = WriteOp::SetRemove(text(alloc, named)?);
-        assert!(rt; clashes_alone(alloc, &has, &add)? == is_clash);
-        assert!(rt; clashes_alone(alloc, &has, &remove)? == is_clash);
-        assert!(rt; clashes_alone(alloc, &Obs::SetAll, &add)?);
+    for (key, is_clash) in [(b"a".as_slice(), true), (b"b".as_slice(), false)] {
+        assert!(rt; one_clashes(alloc, has(alloc, b"a"), add(alloc, key))? == is_clash);
+        assert!(rt; one_clashes(alloc, has(alloc, b"a"), remove(alloc, key))? == is_clash);
+        assert!(rt; one_clashes(alloc, Ok(Obs::SetAll), add(alloc, key))?);
     }
-    assert!(rt; clashes_alone(alloc, &has, &WriteOp::SetClear)?);
-    assert!(rt; clashes_alone(alloc, &Obs::SetAll, &WriteOp::SetClear)?);
+    assert!(rt; one_clashes(alloc, has(alloc, b"a"), Ok(WriteOp::SetClear))?);
+    assert!(rt; one_clashes(alloc, Ok(Obs::SetAll), Ok(WriteOp::SetClear))?);
     Ok(())
 }
 
 #[test]
 fn fields_clash_with_what_names_them(rt: HostRuntime) -> Result<(), Fail> {
     let alloc = rt.alloc();
-    let at = Obs::HashAt(text(alloc, b"f")?);
-    for (named, is_clash) in [(b"f".as_slice(), true), (b"g".as_slice(), false)] {
-        let put = WriteOp::HashPut(text(alloc, named)?, text(alloc, b"v")?);
-        let remove = WriteOp::HashRemove(text(alloc, named)?);
-        assert!(rt; clashes_alone(alloc, &at, &put)? == is_clash);
-        assert!(rt; clashes_alone(alloc, &at, &remove)? == is_clash);
-        assert!(rt; clashes_alone(alloc, &Obs::HashAll, &put)?);
+    for (key, is_clash) in [(b"f".as_slice(), true), (b"g".as_slice(), false)] {
+        assert!(rt; one_clashes(alloc, at(alloc, b"f"), put(alloc, key))? == is_clash);
+        assert!(rt; one_clashes(alloc, at(alloc, b"f"), drop_field(alloc, key))? == is_clash);
+        assert!(rt; one_clashes(alloc, Ok(Obs::HashAll), put(alloc, key))?);
     }
-    assert!(rt; clashes_alone(alloc, &at, &WriteOp::HashClear)?);
-    assert!(rt; clashes_alone(alloc, &Obs::HashAll, &WriteOp::HashClear)?);
+    assert!(rt; one_clashes(alloc, at(alloc, b"f"), Ok(WriteOp::HashClear))?);
+    assert!(rt; one_clashes(alloc, Ok(Obs::HashAll), Ok(WriteOp::HashClear))?);
     Ok(())
 }
 
 #[test]
-fn places_bear_a_push(rt: HostRuntime) -> Result<(), Fail> {
+fn a_place_clashes_with_no_push(rt: HostRuntime) -> Result<(), Fail> {
     let alloc = rt.alloc();
-    let rows = [
-        (WriteOp::ListPush(text(alloc, b"p")?), false),
-        (WriteOp::ListRemove(text(alloc, b"p")?), true),
-        (WriteOp::ListClear, true),
-    ];
-    for (op, is_clash) in &rows {
-        assert!(rt; clashes_alone(alloc, &Obs::ListAt(0), op)? == *is_clash);
-        assert!(rt; clashes_alone(alloc, &Obs::ListAll, op)?);
+    for (obs, is_clash) in [(Obs::ListAt(0), false), (Obs::ListAll, true)] {
+        assert!(rt; one_clashes(alloc, Ok(obs), push(alloc, b"p"))? == is_clash);
     }
+    assert!(rt; one_clashes(alloc, Ok(Obs::ListAt(0)), take_out(alloc, b"p"))?);
+    assert!(rt; one_clashes(alloc, Ok(Obs::ListAll), take_out(alloc, b"p"))?);
+    assert!(rt; one_clashes(alloc, Ok(Obs::ListAt(0)), Ok(WriteOp::ListClear))?);
+    assert!(rt; one_clashes(alloc, Ok(Obs::ListAll), Ok(WriteOp::ListClear))?);
     Ok(())
 }
 
 #[test]
-fn the_first_mark_is_named(rt: HostRuntime) -> Result<(), Fail> {
+fn the_part_is_the_one_that_the_rules_name(rt: HostRuntime) -> Result<(), Fail> {
     let alloc = rt.alloc();
-    let late = WriteOp::SetAdd(text(alloc, b"b")?);
-    let early = WriteOp::SetRemove(text(alloc, b"a")?);
-    let has = Obs::SetHas(text(alloc, b"b")?);
-    assert!(rt; named_of(alloc, &Obs::SetAll, &late, &early)? == Some(early));
-    let early = WriteOp::SetRemove(text(alloc, b"a")?);
-    assert!(rt; named_of(alloc, &has, &early, &late)? == Some(late));
-    let late = WriteOp::SetAdd(text(alloc, b"b")?);
-    assert!(rt; named_of(alloc, &has, &WriteOp::SetClear, &late)? == Some(WriteOp::SetClear));
+    let (a, b) = (b"a".as_slice(), b"b".as_slice());
+    let clear = Ok(WriteOp::SetClear);
+    assert!(rt;
+        two_name(
+            alloc,
+            Ok(Obs::SetAll),
+            add(alloc, b),
+            remove(alloc, a),
+            remove(alloc, a)
+        )?
+    );
+    assert!(rt;
+        two_name(
+            alloc,
+            has(alloc, b),
+            add(alloc, b),
+            remove(alloc, a),
+            add(alloc, b)
+        )?
+    );
+    assert!(rt;
+        two_name(
+            alloc,
+            has(alloc, a),
+            Ok(WriteOp::SetClear),
+            add(alloc, a),
+            clear
+        )?
+    );
+    assert!(rt;
+        two_name(
+            alloc,
+            Ok(Obs::HashAll),
+            put(alloc, b),
+            put(alloc, a),
+            put(alloc, a)
+        )?
+    );
+    assert!(rt;
+        two_name(
+            alloc,
+            at(alloc, b),
+            put(alloc, b),
+            put(alloc, a),
+            put(alloc, b)
+        )?
+    );
     Ok(())
 }
 
 #[test]
 fn what_is_taken_out_is_named_before_what_is_pushed(rt: HostRuntime) -> Result<(), Fail> {
     let alloc = rt.alloc();
-    let push = WriteOp::ListPush(text(alloc, b"p")?);
-    let remove = WriteOp::ListRemove(text(alloc, b"q")?);
-    let first = WriteOp::ListRemove(text(alloc, b"a")?);
-    assert!(rt; named_of(alloc, &Obs::ListAt(0), &remove, &first)? == Some(first));
-    assert!(rt; named_of(alloc, &Obs::ListAll, &push, &remove)? == Some(remove));
-    Ok(())
-}
-
-#[test]
-fn elements_and_fields_are_observed(rt: HostRuntime) -> Result<(), Fail> {
-    let alloc = rt.alloc();
-    let set = made(alloc, &WriteOp::SetAdd(text(alloc, b"a")?))?;
-    let hash = made(
-        alloc,
-        &WriteOp::HashPut(text(alloc, b"a")?, text(alloc, b"v")?),
-    )?;
-    for (key, is_there) in [(b"a".as_slice(), true), (b"b".as_slice(), false)] {
-        let element = observe(alloc, &Obs::SetHas(text(alloc, key)?), &set)?;
-        assert!(rt; element == Answer::Bool(is_there));
-        let field = observe(alloc, &Obs::HashAt(text(alloc, key)?), &hash)?;
-        assert!(rt; (field != Answer::Maybe(None)) == is_there);
+    let (a, b) = (b"a".as_slice(), b"b".as_slice());
+    for obs in [Obs::ListAt(0), Obs::ListAll] {
+        assert!(rt;
+            two_name(
+                alloc,
+                Ok(obs),
+                take_out(alloc, b),
+                take_out(alloc, a),
+                take_out(alloc, a)
+            )?
+        );
     }
+    assert!(rt;
+        two_name(
+            alloc,
+            Ok(Obs::ListAll),
+            push(alloc, a),
+            take_out(alloc, b),
+            take_out(alloc, b)
+        )?
+    );
+    assert!(rt;
+        two_name(
+            alloc,
+            Ok(Obs::ListAll),
+            push(alloc, b),
+            push(alloc, a),
+            push(alloc, b)
+        )?
+    );
     Ok(())
 }
 
 #[test]
-fn places_are_observed(rt: HostRuntime) -> Result<(), Fail> {
+fn observations_answer(rt: HostRuntime) -> Result<(), Fail> {
     let alloc = rt.alloc();
-    let list = made(alloc, &WriteOp::ListPush(text(alloc, b"p")?))?;
-    let first = Answer::Maybe(Some(text(alloc, b"p")?));
-    assert!(rt; observe(alloc, &Obs::ListAt(0), &list)? == first);
-    assert!(rt; observe(alloc, &Obs::ListAt(1), &list)? == Answer::Maybe(None));
+    let item = Answer::Maybe(Some(text(alloc, b"a")?));
+    assert!(rt;
+        answers(
+            alloc,
+            Ok(Obs::BoolIs),
+            Ok(WriteOp::PutBool(true)),
+            &Answer::Bool(true)
+        )?
+    );
+    assert!(rt;
+        answers(
+            alloc,
+            Ok(Obs::CounterIs),
+            Ok(WriteOp::AddCounter(5)),
+            &Answer::Counter(5)
+        )?
+    );
+    assert!(rt;
+        answers(
+            alloc,
+            has(alloc, b"a"),
+            add(alloc, b"a"),
+            &Answer::Bool(true)
+        )?
+    );
+    assert!(rt;
+        answers(
+            alloc,
+            has(alloc, b"a"),
+            add(alloc, b"b"),
+            &Answer::Bool(false)
+        )?
+    );
+    assert!(rt;
+        answers(
+            alloc,
+            at(alloc, b"f"),
+            put(alloc, b"g"),
+            &Answer::Maybe(None)
+        )?
+    );
+    assert!(rt; answers(alloc, Ok(Obs::ListAt(0)), push(alloc, b"a"), &item)?);
     Ok(())
 }
 
 #[test]
 fn a_whole_value_is_observed(rt: HostRuntime) -> Result<(), Fail> {
     let alloc = rt.alloc();
-    let rows = [
-        (Obs::BoolIs, Value::Bool(true), Answer::Bool(true)),
-        (Obs::CounterIs, Value::Counter(5), Answer::Counter(5)),
-        (
-            Obs::TextIs,
-            Value::Text(Text::new(alloc)),
-            Answer::Text(Text::new(alloc)),
-        ),
-        (
-            Obs::SetAll,
-            Value::Set(TextSet::new(alloc)),
-            Answer::Set(TextSet::new(alloc)),
-        ),
-        (
-            Obs::HashAll,
-            Value::Hash(TextMap::new(alloc)),
-            Answer::Hash(TextMap::new(alloc)),
-        ),
-        (
-            Obs::ListAll,
-            Value::List(TextList::new(alloc)),
-            Answer::List(TextList::new(alloc)),
-        ),
-    ];
-    for (obs, value, answer) in &rows {
-        assert!(rt; observe(alloc, obs, value)? == *answer);
-    }
+    let set = Answer::Set(TextSet::new(alloc));
+    assert!(rt; answers(alloc, Ok(Obs::SetAll), Ok(WriteOp::SetClear), &set)?);
+    let hash = Answer::Hash(TextMap::new(alloc));
+    assert!(rt; answers(alloc, Ok(Obs::HashAll), Ok(WriteOp::HashClear), &hash)?);
+    let list = Answer::List(TextList::new(alloc));
+    assert!(rt; answers(alloc, Ok(Obs::ListAll), Ok(WriteOp::ListClear), &list)?);
+    assert!(rt;
+        answers(
+            alloc,
+            Ok(Obs::ListAt(0)),
+            Ok(WriteOp::ListClear),
+            &Answer::Maybe(None)
+        )?
+    );
     Ok(())
 }
 
 #[test]
-fn an_addition_of_0_clashes_and_changes_nothing(rt: HostRuntime) -> Result<(), Fail> {
+fn an_addition_of_0_changes_nothing(rt: HostRuntime) -> Result<(), Fail> {
     let alloc = rt.alloc();
-    let value = Value::Counter(7);
-    let before = observe(alloc, &Obs::CounterIs, &value)?;
-    let after = apply(alloc, &Delta::AddCounter(0), &value)?;
-    assert!(rt; observe(alloc, &Obs::CounterIs, &after)? == before);
-    assert!(rt; clashes_alone(alloc, &Obs::CounterIs, &WriteOp::AddCounter(0))?);
+    let after = apply(alloc, &Delta::AddCounter(0), &Value::Counter(7))?;
+    assert!(rt; observe(alloc, &Obs::CounterIs, &after)? == Answer::Counter(7));
     Ok(())
 }
 
