@@ -1,4 +1,4 @@
--- The table of clashes: which changes of a value an observation of it doesn't bear.
+-- The table of clashes: which deltas may change what an observation answers.
 use Rattle.std.specs.Prelude.{◌≡◌, pos, Bool, true, false, not, ◌||◌, length, nat_eq, is_some, codes, refl}
 use Rattle.std.proofs.Common.{ap, ◌∙◌}
 use Rattle.std.specs.FinMap as map
@@ -44,8 +44,9 @@ abbrev pub pushes : Delta → Bool
 pushes (delta.List d) = not (nat_eq (length d.pushed) 0)
 pushes _ = false
 
--- The table, of an observation and a delta of one kind. The whole of a bool, a counter or a text bears no change. An
--- element or a field bears what is done at the others, and a place within a list what is pushed behind it.
+-- The table, of an observation and a delta of one kind, with one line a row. The whole of a bool, a counter or a text
+-- clashes with every delta. What is done at other elements or fields is no clash beside one, and what is pushed at the end
+-- is none beside a place within the list.
 abbrev pub clash : Obs → Delta → Bool
 clash obs.BoolIs d = true
 clash obs.CounterIs d = true

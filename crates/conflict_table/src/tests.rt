@@ -4,7 +4,7 @@ ghost use Rattle.std.specs.Prelude.{◌≡◌};
 ghost use Rattle.conflict_table.specs.Clashes as table;
 
 use crate::{Answer, Obs, Steps, clash, copy_part, observe, part};
-use plain_data::{Text, TextMap, TextSet};
+use plain_data::Text;
 use rdt_types::{Delta, TextList, Value, WriteOp, apply, compose, default_value, delta_of};
 use std::alloc::{AllocError, Global};
 use std::marker::Brand;
@@ -31,6 +31,62 @@ fn named(obs: &Obs, delta: &Delta) -> Result<Option<WriteOp>, AllocError> {
     Ok(None)
 }
 
+/// The part that is named where they clash, of what may want memory.
+fn part_of(
+    obs: Result<Obs, AllocError>,
+    delta: Result<Delta, AllocError>,
+) -> Result<Option<WriteOp>, AllocError> {
+    let obs = obs?;
+    named(&obs, &delta?)
+}
+
+/// Whether an operation alone clashes, and is then the part that is named.
+fn alone(
+    alloc: Global,
+    obs: Result<Obs, AllocError>,
+    op: Result<WriteOp, AllocError>,
+) -> Result<bool, AllocError> {
+    let op = op?;
+    let found = part_of(obs, delta_of(alloc, &op))?;
+    Ok(found == Some(op))
+}
+
+/// The delta of an operation that may want memory.
+fn delta(alloc: Global, op: Result<WriteOp, AllocError>) -> Result<Delta, AllocError> {
+    delta_of(alloc, &op?)
+}
+
+/// The delta of two operations in turn.
+fn in_turn(
+    alloc: Global,
+    first: Result<WriteOp, AllocError>,
+    second: Result<WriteOp, AllocError>,
+) -> Result<Delta, AllocError> {
+    let first = delta(alloc, first)?;
+    compose(alloc, &first, &delta(alloc, second)?)
+}
+
+/// Whether a delta clashes and this part is named.
+fn names(
+    obs: Result<Obs, AllocError>,
+    delta: Result<Delta, AllocError>,
+    part: Result<WriteOp, AllocError>,
+) -> Result<bool, AllocError> {
+    let found = part_of(obs, delta)?;
+    Ok(found == Some(part?))
+}
+
+/// What an observation answers of the value that an operation makes of a default.
+fn answer(
+    alloc: Global,
+    obs: Result<Obs, AllocError>,
+    op: Result<WriteOp, AllocError>,
+) -> Result<Answer, AllocError> {
+    let obs = obs?;
+    let value = apply(alloc, &delta(alloc, op)?, &default_value(alloc, obs.kind()))?;
+    observe(alloc, &obs, &value)
+}
+
 fn text(alloc: Global, bytes: &[u8]) -> Result<Text, AllocError> {
     Text::from_slice(alloc, bytes)
 }
@@ -52,8 +108,7 @@ fn remove(alloc: Global, element: &[u8]) -> Result<WriteOp, AllocError> {
 }
 
 fn put(alloc: Global, field: &[u8]) -> Result<WriteOp, AllocError> {
-    let field = text(alloc, field)?;
-    Ok(WriteOp::HashPut(field, text(alloc, b"v")?))
+    Ok(WriteOp::HashPut(text(alloc, field)?, Text::new(alloc)))
 }
 
 fn drop_field(alloc: Global, field: &[u8]) -> Result<WriteOp, AllocError> {
@@ -68,55 +123,14 @@ fn take_out(alloc: Global, item: &[u8]) -> Result<WriteOp, AllocError> {
     Ok(WriteOp::ListRemove(text(alloc, item)?))
 }
 
-/// Whether an operation clashes, and is then the part that is named.
-fn one_clashes(
-    alloc: Global,
-    obs: Result<Obs, AllocError>,
-    op: Result<WriteOp, AllocError>,
-) -> Result<bool, AllocError> {
-    let op = op?;
-    let named = named(&obs?, &delta_of(alloc, &op)?)?;
-    Ok(named == Some(op))
-}
-
-/// Whether two operations in turn clash, and this part is named.
-fn two_name(
-    alloc: Global,
-    obs: Result<Obs, AllocError>,
-    first: Result<WriteOp, AllocError>,
-    second: Result<WriteOp, AllocError>,
-    part: Result<WriteOp, AllocError>,
-) -> Result<bool, AllocError> {
-    let first = delta_of(alloc, &first?)?;
-    let second = delta_of(alloc, &second?)?;
-    let named = named(&obs?, &compose(alloc, &first, &second)?)?;
-    Ok(named == Some(part?))
-}
-
-/// Whether an observation answers this of the value that an operation makes of a default.
-fn answers(
-    alloc: Global,
-    obs: Result<Obs, AllocError>,
-    op: Result<WriteOp, AllocError>,
-    answer: &Answer,
-) -> Result<bool, AllocError> {
-    let op = op?;
-    let value = apply(
-        alloc,
-        &delta_of(alloc, &op)?,
-        &default_value(alloc, op.kind()),
-    )?;
-    Ok(observe(alloc, &obs?, &value)? == *answer)
-}
-
 #[test]
 fn the_whole_clashes_with_every_write(rt: HostRuntime) -> Result<(), Fail> {
     let alloc = rt.alloc();
     let put_text = WriteOp::PutText(Text::new(alloc));
-    assert!(rt; one_clashes(alloc, Ok(Obs::BoolIs), Ok(WriteOp::PutBool(true)))?);
-    assert!(rt; one_clashes(alloc, Ok(Obs::CounterIs), Ok(WriteOp::PutCounter(1)))?);
-    assert!(rt; one_clashes(alloc, Ok(Obs::CounterIs), Ok(WriteOp::AddCounter(0)))?);
-    assert!(rt; one_clashes(alloc, Ok(Obs::TextIs), Ok(put_text))?);
+    assert!(rt; alone(alloc, Ok(Obs::TextIs), Ok(put_text))?);
+    assert!(rt; alone(alloc, Ok(Obs::BoolIs), Ok(WriteOp::PutBool(true)))?);
+    assert!(rt; alone(alloc, Ok(Obs::CounterIs), Ok(WriteOp::PutCounter(1)))?);
+    assert!(rt; alone(alloc, Ok(Obs::CounterIs), Ok(WriteOp::AddCounter(0)))?);
     Ok(())
 }
 
@@ -124,12 +138,12 @@ fn the_whole_clashes_with_every_write(rt: HostRuntime) -> Result<(), Fail> {
 fn elements_clash_with_what_names_them(rt: HostRuntime) -> Result<(), Fail> {
     let alloc = rt.alloc();
     for (key, is_clash) in [(b"a".as_slice(), true), (b"b".as_slice(), false)] {
-        assert!(rt; one_clashes(alloc, has(alloc, b"a"), add(alloc, key))? == is_clash);
-        assert!(rt; one_clashes(alloc, has(alloc, b"a"), remove(alloc, key))? == is_clash);
-        assert!(rt; one_clashes(alloc, Ok(Obs::SetAll), add(alloc, key))?);
+        assert!(rt; alone(alloc, has(alloc, b"a"), add(alloc, key))? == is_clash);
+        assert!(rt; alone(alloc, has(alloc, b"a"), remove(alloc, key))? == is_clash);
+        assert!(rt; alone(alloc, Ok(Obs::SetAll), add(alloc, key))?);
     }
-    assert!(rt; one_clashes(alloc, has(alloc, b"a"), Ok(WriteOp::SetClear))?);
-    assert!(rt; one_clashes(alloc, Ok(Obs::SetAll), Ok(WriteOp::SetClear))?);
+    assert!(rt; alone(alloc, has(alloc, b"a"), Ok(WriteOp::SetClear))?);
+    assert!(rt; alone(alloc, Ok(Obs::SetAll), Ok(WriteOp::SetClear))?);
     Ok(())
 }
 
@@ -137,182 +151,55 @@ fn elements_clash_with_what_names_them(rt: HostRuntime) -> Result<(), Fail> {
 fn fields_clash_with_what_names_them(rt: HostRuntime) -> Result<(), Fail> {
     let alloc = rt.alloc();
     for (key, is_clash) in [(b"f".as_slice(), true), (b"g".as_slice(), false)] {
-        assert!(rt; one_clashes(alloc, at(alloc, b"f"), put(alloc, key))? == is_clash);
-        assert!(rt; one_clashes(alloc, at(alloc, b"f"), drop_field(alloc, key))? == is_clash);
-        assert!(rt; one_clashes(alloc, Ok(Obs::HashAll), put(alloc, key))?);
+        assert!(rt; alone(alloc, at(alloc, b"f"), put(alloc, key))? == is_clash);
+        assert!(rt; alone(alloc, at(alloc, b"f"), drop_field(alloc, key))? == is_clash);
+        assert!(rt; alone(alloc, Ok(Obs::HashAll), put(alloc, key))?);
     }
-    assert!(rt; one_clashes(alloc, at(alloc, b"f"), Ok(WriteOp::HashClear))?);
-    assert!(rt; one_clashes(alloc, Ok(Obs::HashAll), Ok(WriteOp::HashClear))?);
+    assert!(rt; alone(alloc, at(alloc, b"f"), Ok(WriteOp::HashClear))?);
+    assert!(rt; alone(alloc, Ok(Obs::HashAll), Ok(WriteOp::HashClear))?);
     Ok(())
 }
 
 #[test]
 fn a_place_clashes_with_no_push(rt: HostRuntime) -> Result<(), Fail> {
     let alloc = rt.alloc();
-    for (obs, is_clash) in [(Obs::ListAt(0), false), (Obs::ListAll, true)] {
-        assert!(rt; one_clashes(alloc, Ok(obs), push(alloc, b"p"))? == is_clash);
-    }
-    assert!(rt; one_clashes(alloc, Ok(Obs::ListAt(0)), take_out(alloc, b"p"))?);
-    assert!(rt; one_clashes(alloc, Ok(Obs::ListAll), take_out(alloc, b"p"))?);
-    assert!(rt; one_clashes(alloc, Ok(Obs::ListAt(0)), Ok(WriteOp::ListClear))?);
-    assert!(rt; one_clashes(alloc, Ok(Obs::ListAll), Ok(WriteOp::ListClear))?);
+    assert!(rt; !alone(alloc, Ok(Obs::ListAt(0)), push(alloc, b"p"))?);
+    assert!(rt; alone(alloc, Ok(Obs::ListAt(0)), take_out(alloc, b"p"))?);
+    assert!(rt; alone(alloc, Ok(Obs::ListAt(0)), Ok(WriteOp::ListClear))?);
+    assert!(rt; alone(alloc, Ok(Obs::ListAll), push(alloc, b"p"))?);
+    assert!(rt; alone(alloc, Ok(Obs::ListAll), take_out(alloc, b"p"))?);
+    assert!(rt; alone(alloc, Ok(Obs::ListAll), Ok(WriteOp::ListClear))?);
     Ok(())
 }
 
 #[test]
 fn the_part_is_the_one_that_the_rules_name(rt: HostRuntime) -> Result<(), Fail> {
     let alloc = rt.alloc();
-    let (a, b) = (b"a".as_slice(), b"b".as_slice());
-    let clear = Ok(WriteOp::SetClear);
-    assert!(rt;
-        two_name(
-            alloc,
-            Ok(Obs::SetAll),
-            add(alloc, b),
-            remove(alloc, a),
-            remove(alloc, a)
-        )?
-    );
-    assert!(rt;
-        two_name(
-            alloc,
-            has(alloc, b),
-            add(alloc, b),
-            remove(alloc, a),
-            add(alloc, b)
-        )?
-    );
-    assert!(rt;
-        two_name(
-            alloc,
-            has(alloc, a),
-            Ok(WriteOp::SetClear),
-            add(alloc, a),
-            clear
-        )?
-    );
-    assert!(rt;
-        two_name(
-            alloc,
-            Ok(Obs::HashAll),
-            put(alloc, b),
-            put(alloc, a),
-            put(alloc, a)
-        )?
-    );
-    assert!(rt;
-        two_name(
-            alloc,
-            at(alloc, b),
-            put(alloc, b),
-            put(alloc, a),
-            put(alloc, b)
-        )?
-    );
-    Ok(())
-}
-
-#[test]
-fn what_is_taken_out_is_named_before_what_is_pushed(rt: HostRuntime) -> Result<(), Fail> {
-    let alloc = rt.alloc();
-    let (a, b) = (b"a".as_slice(), b"b".as_slice());
-    for obs in [Obs::ListAt(0), Obs::ListAll] {
-        assert!(rt;
-            two_name(
-                alloc,
-                Ok(obs),
-                take_out(alloc, b),
-                take_out(alloc, a),
-                take_out(alloc, a)
-            )?
-        );
-    }
-    assert!(rt;
-        two_name(
-            alloc,
-            Ok(Obs::ListAll),
-            push(alloc, a),
-            take_out(alloc, b),
-            take_out(alloc, b)
-        )?
-    );
-    assert!(rt;
-        two_name(
-            alloc,
-            Ok(Obs::ListAll),
-            push(alloc, b),
-            push(alloc, a),
-            push(alloc, b)
-        )?
-    );
+    let both = in_turn(alloc, add(alloc, b"b"), remove(alloc, b"a"));
+    assert!(rt; names(Ok(Obs::SetAll), both, remove(alloc, b"a"))?);
+    let both = in_turn(alloc, add(alloc, b"b"), remove(alloc, b"a"));
+    assert!(rt; names(has(alloc, b"b"), both, add(alloc, b"b"))?);
+    let both = in_turn(alloc, Ok(WriteOp::HashClear), put(alloc, b"f"));
+    assert!(rt; names(at(alloc, b"f"), both, Ok(WriteOp::HashClear))?);
+    let both = in_turn(alloc, push(alloc, b"p"), take_out(alloc, b"q"));
+    assert!(rt; names(Ok(Obs::ListAll), both, take_out(alloc, b"q"))?);
+    let both = in_turn(alloc, push(alloc, b"q"), push(alloc, b"p"));
+    assert!(rt; names(Ok(Obs::ListAll), both, push(alloc, b"q"))?);
     Ok(())
 }
 
 #[test]
 fn observations_answer(rt: HostRuntime) -> Result<(), Fail> {
     let alloc = rt.alloc();
-    let item = Answer::Maybe(Some(text(alloc, b"a")?));
-    assert!(rt;
-        answers(
-            alloc,
-            Ok(Obs::BoolIs),
-            Ok(WriteOp::PutBool(true)),
-            &Answer::Bool(true)
-        )?
-    );
-    assert!(rt;
-        answers(
-            alloc,
-            Ok(Obs::CounterIs),
-            Ok(WriteOp::AddCounter(5)),
-            &Answer::Counter(5)
-        )?
-    );
-    assert!(rt;
-        answers(
-            alloc,
-            has(alloc, b"a"),
-            add(alloc, b"a"),
-            &Answer::Bool(true)
-        )?
-    );
-    assert!(rt;
-        answers(
-            alloc,
-            has(alloc, b"a"),
-            add(alloc, b"b"),
-            &Answer::Bool(false)
-        )?
-    );
-    assert!(rt;
-        answers(
-            alloc,
-            at(alloc, b"f"),
-            put(alloc, b"g"),
-            &Answer::Maybe(None)
-        )?
-    );
-    assert!(rt; answers(alloc, Ok(Obs::ListAt(0)), push(alloc, b"a"), &item)?);
-    Ok(())
-}
-
-#[test]
-fn a_whole_value_is_observed(rt: HostRuntime) -> Result<(), Fail> {
-    let alloc = rt.alloc();
-    let set = Answer::Set(TextSet::new(alloc));
-    assert!(rt; answers(alloc, Ok(Obs::SetAll), Ok(WriteOp::SetClear), &set)?);
-    let hash = Answer::Hash(TextMap::new(alloc));
-    assert!(rt; answers(alloc, Ok(Obs::HashAll), Ok(WriteOp::HashClear), &hash)?);
-    let list = Answer::List(TextList::new(alloc));
-    assert!(rt; answers(alloc, Ok(Obs::ListAll), Ok(WriteOp::ListClear), &list)?);
-    assert!(rt;
-        answers(
-            alloc,
-            Ok(Obs::ListAt(0)),
-            Ok(WriteOp::ListClear),
-            &Answer::Maybe(None)
-        )?
-    );
+    let put_bool = WriteOp::PutBool(true);
+    assert!(rt; answer(alloc, Ok(Obs::BoolIs), Ok(put_bool))? == Answer::Bool(true));
+    assert!(rt; answer(alloc, has(alloc, b"a"), add(alloc, b"a"))? == Answer::Bool(true));
+    assert!(rt; answer(alloc, has(alloc, b"a"), add(alloc, b"b"))? == Answer::Bool(false));
+    assert!(rt; answer(alloc, at(alloc, b"f"), put(alloc, b"g"))? == Answer::Maybe(None));
+    let put = answer(alloc, at(alloc, b"f"), put(alloc, b"f"))?;
+    assert!(rt; put == Answer::Maybe(Some(Text::new(alloc))));
+    let cleared = answer(alloc, Ok(Obs::ListAll), Ok(WriteOp::ListClear))?;
+    assert!(rt; cleared == Answer::List(TextList::new(alloc)));
     Ok(())
 }
 
