@@ -1,6 +1,6 @@
 -- Deltas of lists: what they leave, what they change, and what two of them do.
-use Rattle.std.proofs.Common.{◌≡◌, ◌<◌, ℕ, zero, suc, ◌+◌, Bool, true, false, not, cond, ◌||◌, List, [], ◌∷◌, ◌++◌, length, replicate, nat_eq, slice_get, is_some, Option, Some, None, refl, sym, ap, ◌∙◌, ◌⊎◌, inl, inr, append-nil, length-append, arith}
-use Rattle.std.proofs.lemmas.Bool.{false≢true, true≢false, not-false, eqb-true, eq-eqb, or_parts, cases_eq}
+use Rattle.std.proofs.Common.{◌≡◌, ◌<◌, ℕ, zero, suc, Bool, true, false, not, cond, ◌||◌, List, [], ◌∷◌, ◌++◌, length, replicate, nat_eq, slice_get, Option, Some, None, refl, sym, ap, ◌∙◌, ◌⊎◌, inl, inr, length-append, arith}
+use Rattle.std.proofs.lemmas.Bool.{true≢false, not-false, eqb-true, or_parts, cases_eq}
 use Rattle.std.proofs.lemmas.List.{length-replicate}
 use Rattle.std.proofs.lemmas.List.Elements.{filter-append}
 use Rattle.std.proofs.Math.Bool.{or-true}
@@ -12,7 +12,7 @@ use Rattle.plain_data.proofs.TextMaps.{empty-length}
 use Rattle.rdt_types.specs.Listed.{Listed, without, applied, composed}
 use Rattle.rdt_types.proofs.Listed.{without-none}
 use Rattle.conflict_table.specs.Clashes.{has_some}
-use Rattle.conflict_table.proofs.Keys.{no_key, empty-has_some, key-has_some, has_some-overlaid, or_none}
+use Rattle.conflict_table.proofs.Keys.{empty-has_some, key-has_some, has_some-overlaid, or_none}
 
 -- whether a list has items
 abbrev pub has_items : List Bytes → Bool

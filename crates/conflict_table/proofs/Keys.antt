@@ -1,6 +1,6 @@
 -- Whether a map of texts has a key, and whether it has any.
-use Rattle.std.proofs.Common.{◌≡◌, ℕ, Bool, true, false, not, cond, T, ◌||◌, List, [], ◌∷◌, length, nat_eq, slice_get, is_some, option_map, ◌↔◌, Option, Some, None, refl, sym, ap, ◌∙◌, subst}
-use Rattle.std.proofs.lemmas.Bool.{false≢true, true≢false, not-false, eqb-true, true_from_ne_false, or_left, or_right}
+use Rattle.std.proofs.Common.{◌≡◌, Bool, true, false, not, cond, T, ◌||◌, List, [], ◌∷◌, length, nat_eq, slice_get, is_some, option_map, ◌↔◌, Option, Some, None, refl, sym, ap, ◌∙◌, subst}
+use Rattle.std.proofs.lemmas.Bool.{false≢true, not-false, eqb-true, true_from_ne_false, or_left, or_right}
 use Rattle.std.proofs.Math.Bool.{or-true}
 use Rattle.std.proofs.Math.Dec.{eqb-suc-zero}
 use Rattle.std.specs.List as list

@@ -4,3 +4,4 @@ pub mod Marked
 pub mod Items
 pub mod Rows
 pub mod Named
+pub mod Resting

@@ -1,11 +1,11 @@
 -- The named part is there exactly where a delta clashes, and clashes alone.
-use Rattle.std.proofs.Common.{◌≡◌, Bool, true, false, not, cond, ◌||◌, ◌∷◌, [], nat_eq, slice_get, option_map, is_some, Option, Some, None, refl, sym, ap, ◌∙◌}
+use Rattle.std.proofs.Common.{◌≡◌, Bool, true, false, cond, ◌||◌, slice_get, option_map, is_some, Option, Some, None, refl, sym, ap, ◌∙◌}
 use Rattle.std.specs.Option.{option_or}
 use Rattle.std.specs.Bool.{then_some}
 use Rattle.std.proofs.lemmas.Bool.{or_left, or_right}
 use Rattle.std.specs.Cmp.Lexicographic.{nat_list_cmp_total}
 use Rattle.std.specs.FinMap as map
-use Rattle.plain_data.specs.Texts.{Bytes, MapOf, text_cmp}
+use Rattle.plain_data.specs.Texts.{Bytes, text_cmp}
 use Rattle.rdt_types.specs.declared.mark.Mark.{Mark}
 use Rattle.rdt_types.specs.declared.mark.Mark.TheVariants as mark
 use Rattle.rdt_types.specs.declared.operation.WriteOp.{WriteOp}
@@ -13,10 +13,9 @@ use Rattle.rdt_types.specs.declared.operation.WriteOp.TheVariants as op
 use Rattle.rdt_types.specs.declared.delta.Delta.{Delta}
 use Rattle.rdt_types.specs.declared.delta.Delta.TheVariants as delta
 use Rattle.rdt_types.specs.Deltas.{delta_of}
-use Rattle.conflict_table.specs.declared.observation.Obs.{Obs}
 use Rattle.conflict_table.specs.declared.observation.Obs.TheVariants as obs
-use Rattle.conflict_table.specs.Clashes.{clash, clears, names, names_some, removes, pushes, has_some}
-use Rattle.conflict_table.specs.Parts.{named, set_part, hash_part, clear_part, mark_part, first_mark, first_removed, first_pushed}
+use Rattle.conflict_table.specs.Clashes.{clears, names, names_some, removes, pushes}
+use Rattle.conflict_table.specs.Parts.{set_part, hash_part, clear_part, mark_part, first_mark, first_removed, first_pushed}
 use Rattle.conflict_table.specs.Laws.{ClashesHaveParts, PartsClashAlone}
 use Rattle.conflict_table.proofs.Keys.{tied, first_item, first-has_some, has_some-key}
 

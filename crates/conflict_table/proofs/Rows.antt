@@ -1,29 +1,24 @@
 -- The laws of the table, row by row.
-use Rattle.std.proofs.Common.{◌≡◌, ◌<◌, ℤ, pos, negsuc, zero, suc, Bool, true, false, not, ◌||◌, [], ◌∷◌, ◌++◌, FitsSigned, slice_get, is_some, Option, refl, sym, ap, ◌∙◌, append-nil, arith}
+use Rattle.std.proofs.Common.{◌≡◌, ℤ, pos, negsuc, zero, suc, Bool, true, false, not, ◌||◌, [], ◌∷◌, ◌++◌, FitsSigned, slice_get, is_some, Option, refl, sym, ap, ◌∙◌, append-nil, arith}
 use Rattle.std.specs.Int.{w64}
 use Rattle.std.proofs.lemmas.Grind.{common_steps}
-use Rattle.std.proofs.Math.Bool.{or-true}
-use Rattle.std.proofs.lemmas.Bool.{false≢true, true≢false, or_parts}
+use Rattle.std.proofs.lemmas.Bool.{true≢false, or_parts}
 use Rattle.std.specs.FinMap as map
-use Rattle.plain_data.specs.Texts.{Bytes, MapOf, has_text}
-use Rattle.rdt_types.specs.declared.address.Kind.TheVariants as kind
+use Rattle.plain_data.specs.Texts.{Bytes}
 use Rattle.rdt_types.specs.declared.value.Value.TheVariants as value
 use Rattle.rdt_types.specs.declared.mark.Mark.{Mark}
 use Rattle.rdt_types.specs.declared.delta.Delta.{Delta}
 use Rattle.rdt_types.specs.declared.delta.Delta.TheVariants as delta
 use Rattle.rdt_types.specs.Values.{wrapping_sum, set_in, hash_in, list_in}
-use Rattle.rdt_types.specs.Deltas.{apply, compose}
+use Rattle.rdt_types.specs.Deltas.{compose}
 use Rattle.rdt_types.specs.Marks.{added, put_by}
 use Rattle.rdt_types.specs.Keyed.{Keyed, mark_after, composed}
 use Rattle.rdt_types.specs.Listed.{Listed}
-use Rattle.rdt_types.specs.Listed as listed
 use Rattle.conflict_table.specs.declared.observation.Obs.{Obs}
 use Rattle.conflict_table.specs.declared.observation.Obs.TheVariants as obs
-use Rattle.conflict_table.specs.declared.answer.Answer.{Answer}
 use Rattle.conflict_table.specs.declared.answer.Answer.TheVariants as answer
-use Rattle.conflict_table.specs.Observing.{observe}
 use Rattle.conflict_table.specs.Clashes.{clash, has_some}
-use Rattle.conflict_table.specs.Laws.{NoClashNoChange, ClashesShowChanges, ShowsChange, HasNumber, CompositionsClashByParts}
+use Rattle.conflict_table.specs.Laws.{NoClashNoChange, ClashesShowChanges, CompositionsClashByParts}
 use Rattle.conflict_table.proofs.Keys.{or_none, contains-overlaid, has_some-overlaid}
 use Rattle.conflict_table.proofs.Marked.{differs, get-applied_unmarked, applied_unmarked, changed_at, changed, touches-composed}
 use Rattle.conflict_table.proofs.Items as items

@@ -1,5 +1,5 @@
 -- What the table of clashes promises, as laws over its definition.
-use Rattle.std.specs.Prelude.{◌≡◌, ◌≢◌, pos, Bool, true, false, ◌||◌, is_some, Some, FitsSigned}
+use Rattle.std.specs.Prelude.{◌≡◌, ◌≢◌, pos, true, false, ◌||◌, List, is_some, Some, FitsSigned}
 use Rattle.std.specs.Int.{w64}
 use Rattle.rdt_types.specs.declared.value.Value.{Value}
 use Rattle.rdt_types.specs.declared.operation.WriteOp.{WriteOp}
@@ -8,6 +8,8 @@ use Rattle.rdt_types.specs.declared.delta.Delta.TheVariants as delta
 use Rattle.rdt_types.specs.Values.{kind_of}
 use Rattle.rdt_types.specs.Deltas.{apply, compose, delta_of, kind_changed}
 use Rattle.conflict_table.specs.declared.observation.Obs.{Obs}
+use Rattle.conflict_table.specs.declared.read.ReadOp.{ReadOp}
+use Rattle.conflict_table.specs.Reads.{replay, answer, is_decided, observed}
 use Rattle.conflict_table.specs.Observing.{kind_observed, observe, IsWithin}
 use Rattle.conflict_table.specs.Clashes.{clash}
 use Rattle.conflict_table.specs.Parts.{named}
@@ -49,3 +51,11 @@ ClashesHaveParts = (o : Obs) (d : Delta) → kind_observed o ≡ kind_changed d 
 -- The named part alone, as the delta of one operation, clashes too.
 abbrev pub PartsClashAlone : Type 0
 PartsClashAlone = (o : Obs) (d : Delta) (w : WriteOp) → named o d ≡ Some w → clash o (delta_of w) ≡ true
+
+-- A read rests on what it observes: of two values of one kind on which that is the same it answers the same, after the
+-- body's own operations. Where these decide it, of every two.
+abbrev pub ReadsRestOnObservations : Type 0
+ReadsRestOnObservations =
+    (r : ReadOp) (own : List WriteOp) (v w : Value) → kind_of v ≡ kind_of w
+    → (is_decided r own ≡ false → observe (observed r own v) v ≡ observe (observed r own v) w)
+    → answer r (replay own v) ≡ answer r (replay own w)

@@ -1,5 +1,5 @@
 -- The part of a delta that is named where it clashes with an observation.
-use Rattle.std.specs.Prelude.{◌≡◌, pos, Bool, true, false, slice_get, Option, Some, None, option_map, codes, refl}
+use Rattle.std.specs.Prelude.{◌≡◌, Bool, true, false, slice_get, Option, Some, None, option_map, codes, refl}
 use Rattle.std.specs.Option.{option_or}
 use Rattle.std.specs.Bool.{then_some}
 use Rattle.std.specs.FinMap as map

@@ -1,6 +1,6 @@
 //! The laws of the table: functions that do nothing, whose contracts are theorems over its definitions.
 
-ghost use Rattle.conflict_table.specs.Laws.{NoClashNoChange, ClashesShowChanges, CompositionsClashByParts, ClashesHaveParts, PartsClashAlone};
+ghost use Rattle.conflict_table.specs.Laws.{NoClashNoChange, ClashesShowChanges, CompositionsClashByParts, ClashesHaveParts, PartsClashAlone, ReadsRestOnObservations};
 
 /// The law that without a clash a delta leaves what was observed as it was.
 pub fn no_clash_no_change()
@@ -25,4 +25,9 @@ pub fn clashes_have_parts()
 /// The law that the named part alone clashes too.
 pub fn parts_clash_alone()
     ensures { PartsClashAlone }
+{}
+
+/// The law that a read rests on what it observes: of two values on which that is the same it answers the same.
+pub fn reads_rest_on_observations()
+    ensures { ReadsRestOnObservations }
 {}

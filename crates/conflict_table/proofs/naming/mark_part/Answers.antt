@@ -1,4 +1,4 @@
-use Rattle.std.proofs.Common.{◌≡◌, sym, ap, ◌∙◌, option_map}
+use Rattle.std.proofs.Common.{sym, ap, ◌∙◌, option_map}
 use Rattle.std.specs.FinMap as map
 use Rattle.conflict_table.specs.Parts as parts
 use Rattle.conflict_table.proofs.Keys.{mapped-get}
