@@ -1,6 +1,10 @@
 //! Observations.
 
+ghost use Rattle.std.specs.Prelude.{◌≡◌};
+ghost use Rattle.conflict_table.specs.Observing.{kind_observed};
+
 use plain_data::{ExactClone, Text};
+use rdt_types::Kind;
 
 /// What a read has seen of the value at an address: its answer rests on this, and on nothing else of the value.
 #[derive(Clone, Debug, Drop, PartialEq, Eq)]
@@ -29,4 +33,20 @@ impl ExactClone for Obs {
     ghost use Rattle.std.proofs.Common.{rules};
 
     ghost exact = { Prim.search rules };
+}
+
+impl Obs {
+    /// The kind of the values that it is made of.
+    pub fn kind(&self) -> Kind
+        ensures { result ≡ kind_observed self.now }
+    {
+        match self {
+            Obs::BoolIs => Kind::Bool,
+            Obs::CounterIs => Kind::Counter,
+            Obs::TextIs => Kind::Text,
+            Obs::SetHas(_) | Obs::SetAll => Kind::Set,
+            Obs::HashAt(_) | Obs::HashAll => Kind::Hash,
+            Obs::ListAt(_) | Obs::ListAll => Kind::List,
+        }
+    }
 }

@@ -1,0 +1,183 @@
+-- The laws of the table, row by row.
+use Rattle.std.proofs.Common.{◌≡◌, ℤ, pos, negsuc, zero, suc, Bool, true, false, not, ◌||◌, [], ◌∷◌, ◌++◌, FitsSigned, slice_get, is_some, Option, refl, sym, ap, ◌∙◌, append-nil, arith}
+use Rattle.std.specs.Int.{w64}
+use Rattle.std.proofs.lemmas.Grind.{common_steps}
+use Rattle.std.proofs.lemmas.Bool.{true≢false, or_parts}
+use Rattle.std.specs.FinMap as map
+use Rattle.plain_data.specs.Texts.{Bytes}
+use Rattle.rdt_types.specs.declared.value.Value.TheVariants as value
+use Rattle.rdt_types.specs.declared.mark.Mark.{Mark}
+use Rattle.rdt_types.specs.declared.delta.Delta.{Delta}
+use Rattle.rdt_types.specs.declared.delta.Delta.TheVariants as delta
+use Rattle.rdt_types.specs.Values.{wrapping_sum, set_in, hash_in, list_in}
+use Rattle.rdt_types.specs.Deltas.{compose}
+use Rattle.rdt_types.specs.Marks.{added, put_by}
+use Rattle.rdt_types.specs.Keyed.{Keyed, mark_after, composed}
+use Rattle.rdt_types.specs.Listed.{Listed}
+use Rattle.conflict_table.specs.declared.observation.Obs.{Obs}
+use Rattle.conflict_table.specs.declared.observation.Obs.TheVariants as obs
+use Rattle.conflict_table.specs.declared.answer.Answer.TheVariants as answer
+use Rattle.conflict_table.specs.Clashes.{clash, has_some}
+use Rattle.conflict_table.specs.Laws.{NoClashNoChange, ClashesShowChanges, CompositionsClashByParts}
+use Rattle.conflict_table.proofs.Keys.{or_none, contains-overlaid, has_some-overlaid}
+use Rattle.conflict_table.proofs.Marked.{differs, get-applied_unmarked, applied_unmarked, changed_at, changed, touches-composed}
+use Rattle.conflict_table.proofs.Items as items
+use Rattle.conflict_table.proofs.Items.{longer, applied_pushes, slice_get-append, has_no_items, clears-composed, takes-composed, acts-composed}
+
+-- what isn't marked, cleared or taken out stays
+pub no_clash_no_change : NoClashNoChange
+no_clash_no_change obs.BoolIs d v kinds within none = absurd (true≢false none)
+no_clash_no_change obs.CounterIs d v kinds within none = absurd (true≢false none)
+no_clash_no_change obs.TextIs d v kinds within none = absurd (true≢false none)
+no_clash_no_change (obs.SetHas x) (delta.Set d) v kinds within none =
+    let each = or_parts _ _ none in ap (λ o. answer.Bool (is_some o)) (get-applied_unmarked added d (set_in v) x each.0 each.1)
+no_clash_no_change obs.SetAll (delta.Set d) v kinds within none =
+    let each = or_parts _ _ none in ap answer.Set (applied_unmarked added d (set_in v) each.0 each.1)
+no_clash_no_change (obs.HashAt f) (delta.Hash d) v kinds within none =
+    let each = or_parts _ _ none in ap answer.Maybe (get-applied_unmarked put_by d (hash_in v) f each.0 each.1)
+no_clash_no_change obs.HashAll (delta.Hash d) v kinds within none =
+    let each = or_parts _ _ none in ap answer.Hash (applied_unmarked put_by d (hash_in v) each.0 each.1)
+no_clash_no_change (obs.ListAt i) (delta.List d) v kinds within none =
+    ap answer.Maybe (ap (λ xs. slice_get xs i) (applied_pushes d (list_in v) none) ∙ slice_get-append (list_in v) d.pushed i within)
+no_clash_no_change obs.ListAll (delta.List d) v kinds within none =
+    let each = or_parts _ _ none in
+    ap answer.List (applied_pushes d (list_in v) each.0 ∙ ap (λ ys. list_in v ++ ys) (has_no_items d.pushed each.1) ∙ append-nil (list_in v))
+no_clash_no_change o d v kinds within none = absurd (cc)
+
+-- ---- what a clash changes
+
+-- a number other than another
+other_number : ℤ → ℤ
+other_number (pos zero) = pos 1
+other_number (pos (suc n)) = pos 0
+other_number (negsuc n) = pos 0
+
+is_other_number : (n : ℤ) → n ≡ other_number n → ⊥
+unfolding other_number
+is_other_number (pos zero) e = absurd (cc)
+is_other_number (pos (suc n)) e = absurd (cc)
+is_other_number (negsuc n) e = absurd (cc)
+
+is_other_bool : (b : Bool) → b ≡ not b → ⊥
+is_other_bool b e = differs b b e refl
+
+-- from 0, an addition of a 64-bit number gives that number
+sum_from_0 : (n : ℤ) → FitsSigned w64 n → wrapping_sum (pos 0) n ≡ n
+sum_from_0 n fits = grind (arith, common_steps)
+
+addition_of_0 : (n : ℤ) → FitsSigned w64 n → wrapping_sum (pos 0) n ≡ pos 0 → delta.AddCounter n ≡ delta.AddCounter (pos 0)
+addition_of_0 n fits none = ap delta.AddCounter (sym (sum_from_0 n fits) ∙ none)
+
+-- of each row, a value that shows the change
+pub clashes_show_changes : ClashesShowChanges
+clashes_show_changes obs.BoolIs (delta.PutBool b) kinds number some h = (value.Bool (not b), refl, tt, λ same. is_other_bool b (cc))
+clashes_show_changes obs.CounterIs (delta.PutCounter n) kinds number some h = (value.Counter (other_number n), refl, tt, λ same. is_other_number n (cc))
+clashes_show_changes obs.CounterIs (delta.AddCounter n) kinds number some h = (value.Counter (pos 0), refl, tt, λ same. some (addition_of_0 n number (cc)))
+clashes_show_changes obs.TextIs (delta.PutText x) kinds number some h = (value.Text (0 ∷ x), refl, tt, λ same. longer x (cc))
+clashes_show_changes (obs.SetHas x) (delta.Set d) kinds number some h =
+    let change = changed_at added tt d x h in (value.Set change.0, refl, tt, λ same. differs _ _ change.1 (cc))
+clashes_show_changes obs.SetAll (delta.Set d) kinds number some h =
+    let change = changed added tt d h in (value.Set change.0, refl, tt, λ same. change.1 (cc))
+clashes_show_changes (obs.HashAt f) (delta.Hash d) kinds number some h =
+    let change = changed_at put_by [] d f h in (value.Hash change.0, refl, tt, λ same. differs _ _ change.1 (ap is_some (cc)))
+clashes_show_changes obs.HashAll (delta.Hash d) kinds number some h =
+    let change = changed put_by [] d h in (value.Hash change.0, refl, tt, λ same. change.1 (cc))
+clashes_show_changes (obs.ListAt i) (delta.List d) kinds number some h =
+    let change = items.changed_at i d h in (value.List change.0, refl, change.1, λ same. change.2 (cc))
+clashes_show_changes obs.ListAll (delta.List d) kinds number some h =
+    let change = items.changed d h in (value.List change.0, refl, tt, λ same. change.1 (cc))
+clashes_show_changes o d kinds number some h = absurd (cc)
+
+-- ---- compositions
+
+-- a delta of a bool, a counter or a text
+abbrev IsPlain : Delta → Type 0
+IsPlain (delta.Set d) = ⊥
+IsPlain (delta.Hash d) = ⊥
+IsPlain (delta.List d) = ⊥
+IsPlain _ = Unit {0}
+
+abbrev is_whole : Obs → Bool
+is_whole obs.BoolIs = true
+is_whole obs.CounterIs = true
+is_whole obs.TextIs = true
+is_whole _ = false
+
+-- with such a delta the whole clashes, and nothing else
+plain_clash : (o : Obs) (d : Delta) → IsPlain d → clash o d ≡ is_whole o
+plain_clash obs.BoolIs d plain = refl
+plain_clash obs.CounterIs d plain = refl
+plain_clash obs.TextIs d plain = refl
+plain_clash o (delta.Set d) plain = absurd plain
+plain_clash o (delta.Hash d) plain = absurd plain
+plain_clash o (delta.List d) plain = absurd plain
+plain_clash o d plain = refl
+
+twice : (b : Bool) → b ≡ (b || b)
+twice true = refl
+twice false = refl
+
+plain_clashes : (o : Obs) (d e f : Delta) → IsPlain d → IsPlain e → IsPlain f → clash o f ≡ (clash o d || clash o e)
+plain_clashes o d e f p q r =
+    plain_clash o f r ∙ twice (is_whole o) ∙ sym (ap (λ b. b || clash o e) (plain_clash o d p) ∙ ap (λ b. is_whole o || b) (plain_clash o e q))
+
+-- a row that has no other test
+nothing_else : (a b c : Bool) → a ≡ (b || c) → (a || false) ≡ ((b || false) || (c || false))
+nothing_else a b c is = simp or_none is
+
+module _ {M V : Type 0} (left : M → Option V) (d e : Keyed M) where
+  pub names-composed : (x : Bytes)
+      → ((composed left d e).cleared || map.contains_key (composed left d e).marks x) ≡ ((d.cleared || map.contains_key d.marks x) || (e.cleared || map.contains_key e.marks x))
+  names-composed x = touches-composed left (λ m. map.contains_key m x) (λ under over. contains-overlaid (mark_after left false) (λ mark. refl) under over x) d e
+
+  pub names_some-composed : ((composed left d e).cleared || has_some (composed left d e).marks) ≡ ((d.cleared || has_some d.marks) || (e.cleared || has_some e.marks))
+  names_some-composed = touches-composed left has_some (has_some-overlaid (mark_after left false) (λ mark. refl)) d e
+
+  pub clears_alone-composed : ((composed left d e).cleared || false) ≡ ((d.cleared || false) || (e.cleared || false))
+  clears_alone-composed = touches-composed left (λ m. false) (λ under over. refl) d e
+
+set_clashes : (o : Obs) (d e : Keyed Bool) → clash o (compose (delta.Set d) (delta.Set e)) ≡ (clash o (delta.Set d) || clash o (delta.Set e))
+set_clashes obs.BoolIs d e = refl
+set_clashes obs.CounterIs d e = refl
+set_clashes obs.TextIs d e = refl
+set_clashes (obs.SetHas x) d e = names-composed added d e x
+set_clashes obs.SetAll d e = names_some-composed added d e
+set_clashes (obs.HashAt x) d e = names-composed added d e x
+set_clashes obs.HashAll d e = names_some-composed added d e
+set_clashes (obs.ListAt i) d e = clears_alone-composed added d e
+set_clashes obs.ListAll d e = nothing_else _ _ _ (clears_alone-composed added d e)
+
+hash_clashes : (o : Obs) (d e : Keyed Mark) → clash o (compose (delta.Hash d) (delta.Hash e)) ≡ (clash o (delta.Hash d) || clash o (delta.Hash e))
+hash_clashes obs.BoolIs d e = refl
+hash_clashes obs.CounterIs d e = refl
+hash_clashes obs.TextIs d e = refl
+hash_clashes (obs.SetHas x) d e = names-composed put_by d e x
+hash_clashes obs.SetAll d e = names_some-composed put_by d e
+hash_clashes (obs.HashAt x) d e = names-composed put_by d e x
+hash_clashes obs.HashAll d e = names_some-composed put_by d e
+hash_clashes (obs.ListAt i) d e = clears_alone-composed put_by d e
+hash_clashes obs.ListAll d e = nothing_else _ _ _ (clears_alone-composed put_by d e)
+
+list_clashes : (o : Obs) (d e : Listed) → clash o (compose (delta.List d) (delta.List e)) ≡ (clash o (delta.List d) || clash o (delta.List e))
+list_clashes obs.BoolIs d e = refl
+list_clashes obs.CounterIs d e = refl
+list_clashes obs.TextIs d e = refl
+list_clashes (obs.SetHas x) d e = nothing_else _ _ _ (clears-composed d e)
+list_clashes obs.SetAll d e = nothing_else _ _ _ (clears-composed d e)
+list_clashes (obs.HashAt x) d e = nothing_else _ _ _ (clears-composed d e)
+list_clashes obs.HashAll d e = nothing_else _ _ _ (clears-composed d e)
+list_clashes (obs.ListAt i) d e = takes-composed d e
+list_clashes obs.ListAll d e = acts-composed d e
+
+-- a composition clears, marks, takes out or pushes where one of its parts does
+pub compositions_clash_by_parts : CompositionsClashByParts
+compositions_clash_by_parts o (delta.Set d) (delta.Set e) kinds = set_clashes o d e
+compositions_clash_by_parts o (delta.Hash d) (delta.Hash e) kinds = hash_clashes o d e
+compositions_clash_by_parts o (delta.List d) (delta.List e) kinds = list_clashes o d e
+compositions_clash_by_parts o (delta.PutBool b) (delta.PutBool c) kinds = plain_clashes o (delta.PutBool b) (delta.PutBool c) (delta.PutBool c) tt tt tt
+compositions_clash_by_parts o (delta.PutText x) (delta.PutText y) kinds = plain_clashes o (delta.PutText x) (delta.PutText y) (delta.PutText y) tt tt tt
+compositions_clash_by_parts o (delta.PutCounter m) (delta.PutCounter n) kinds = plain_clashes o (delta.PutCounter m) (delta.PutCounter n) (delta.PutCounter n) tt tt tt
+compositions_clash_by_parts o (delta.PutCounter m) (delta.AddCounter n) kinds = plain_clashes o (delta.PutCounter m) (delta.AddCounter n) (delta.PutCounter (wrapping_sum m n)) tt tt tt
+compositions_clash_by_parts o (delta.AddCounter m) (delta.PutCounter n) kinds = plain_clashes o (delta.AddCounter m) (delta.PutCounter n) (delta.PutCounter n) tt tt tt
+compositions_clash_by_parts o (delta.AddCounter m) (delta.AddCounter n) kinds = plain_clashes o (delta.AddCounter m) (delta.AddCounter n) (delta.AddCounter (wrapping_sum m n)) tt tt tt
+compositions_clash_by_parts o first second kinds = absurd (cc)

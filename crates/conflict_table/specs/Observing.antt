@@ -1,0 +1,50 @@
+-- Observations: what a read has seen of a value.
+use Rattle.std.specs.Prelude.{◌≡◌, ◌<◌, [], ◌∷◌, length, slice_get, Some, None, codes, refl}
+use Rattle.std.specs.FinMap as map
+use Rattle.plain_data.specs.Texts.{has_text}
+use Rattle.rdt_types.specs.declared.address.Kind.{Kind}
+use Rattle.rdt_types.specs.declared.address.Kind.TheVariants as kind
+use Rattle.rdt_types.specs.declared.value.Value.{Value}
+use Rattle.rdt_types.specs.declared.value.Value.TheVariants as value
+use Rattle.rdt_types.specs.Values.{bool_in, counter_in, text_in, set_in, hash_in, list_in}
+use Rattle.conflict_table.specs.declared.observation.Obs.{Obs}
+use Rattle.conflict_table.specs.declared.observation.Obs.TheVariants as obs
+use Rattle.conflict_table.specs.declared.answer.Answer.{Answer}
+use Rattle.conflict_table.specs.declared.answer.Answer.TheVariants as answer
+
+-- the kind of the values that an observation is made of
+abbrev pub kind_observed : Obs → Kind
+kind_observed obs.BoolIs = kind.Bool
+kind_observed obs.CounterIs = kind.Counter
+kind_observed obs.TextIs = kind.Text
+kind_observed (obs.SetHas x) = kind.Set
+kind_observed obs.SetAll = kind.Set
+kind_observed (obs.HashAt f) = kind.Hash
+kind_observed obs.HashAll = kind.Hash
+kind_observed (obs.ListAt i) = kind.List
+kind_observed obs.ListAll = kind.List
+
+-- What an observation answers of a value: of an element whether it is in the set, of a field the text that stands there,
+-- if any, of a place the item, if any, and else the whole value.
+abbrev pub observe : Obs → Value → Answer
+observe obs.BoolIs v = answer.Bool (bool_in v)
+observe obs.CounterIs v = answer.Counter (counter_in v)
+observe obs.TextIs v = answer.Text (text_in v)
+observe (obs.SetHas x) v = answer.Bool (has_text (set_in v) x)
+observe obs.SetAll v = answer.Set (set_in v)
+observe (obs.HashAt f) v = answer.Maybe (map.get (hash_in v) f)
+observe obs.HashAll v = answer.Hash (hash_in v)
+observe (obs.ListAt i) v = answer.Maybe (slice_get (list_in v) i)
+observe obs.ListAll v = answer.List (list_in v)
+
+-- a place is observed only within the list; all else can be observed of every value of its kind
+abbrev pub IsWithin : Obs → Value → Type 0
+IsWithin (obs.ListAt i) v = i < length (list_in v)
+IsWithin _ v = Unit {0}
+
+-- the first of two items, and nothing behind them
+first-item : observe (obs.ListAt 0) (value.List (codes "p" ∷ codes "q" ∷ [])) ≡ answer.Maybe (Some (codes "p"))
+first-item = refl
+
+no-third-item : observe (obs.ListAt 2) (value.List (codes "p" ∷ codes "q" ∷ [])) ≡ answer.Maybe None
+no-third-item = refl

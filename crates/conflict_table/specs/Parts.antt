@@ -1,0 +1,97 @@
+-- The part of a delta that is named where it clashes with an observation.
+use Rattle.std.specs.Prelude.{◌≡◌, Bool, true, false, slice_get, Option, Some, None, option_map, codes, refl}
+use Rattle.std.specs.Option.{option_or}
+use Rattle.std.specs.Bool.{then_some}
+use Rattle.std.specs.FinMap as map
+use Rattle.plain_data.specs.Texts.{Bytes}
+use Rattle.rdt_types.specs.declared.mark.Mark.{Mark}
+use Rattle.rdt_types.specs.declared.mark.Mark.TheVariants as mark
+use Rattle.rdt_types.specs.declared.operation.WriteOp.{WriteOp}
+use Rattle.rdt_types.specs.declared.operation.WriteOp.TheVariants as op
+use Rattle.rdt_types.specs.declared.delta.Delta.{Delta}
+use Rattle.rdt_types.specs.declared.delta.Delta.TheVariants as delta
+use Rattle.rdt_types.specs.Deltas.{delta_of, compose}
+use Rattle.conflict_table.specs.declared.observation.Obs.{Obs}
+use Rattle.conflict_table.specs.declared.observation.Obs.TheVariants as obs
+use Rattle.conflict_table.specs.declared.lent.Part.{Part}
+use Rattle.conflict_table.specs.declared.lent.Part.TheVariants as part
+
+-- a mark at an element of a set, as the operation that makes it
+abbrev pub set_part : Bytes → Bool → WriteOp
+set_part x true = op.SetAdd x
+set_part x false = op.SetRemove x
+
+-- a mark at a field of a hash
+abbrev pub hash_part : Bytes → Mark → WriteOp
+hash_part f (mark.Put text) = op.HashPut f text
+hash_part f mark.Removed = op.HashRemove f
+
+-- the put or addition of a delta that is one
+abbrev pub whole_part : Delta → Option WriteOp
+whole_part (delta.PutBool b) = Some (op.PutBool b)
+whole_part (delta.PutCounter n) = Some (op.PutCounter n)
+whole_part (delta.AddCounter n) = Some (op.AddCounter n)
+whole_part (delta.PutText text) = Some (op.PutText text)
+whole_part _ = None
+
+-- the clear of a delta that clears
+abbrev pub clear_part : Delta → Option WriteOp
+clear_part (delta.Set d) = then_some d.cleared op.SetClear
+clear_part (delta.Hash d) = then_some d.cleared op.HashClear
+clear_part (delta.List d) = then_some d.cleared op.ListClear
+clear_part _ = None
+
+-- the mark at an element or a field
+abbrev pub mark_part : Bytes → Delta → Option WriteOp
+mark_part x (delta.Set d) = option_map (set_part x) (map.get d.marks x)
+mark_part f (delta.Hash d) = option_map (hash_part f) (map.get d.marks f)
+mark_part _ _ = None
+
+-- the first mark
+abbrev pub first_mark : Delta → Option WriteOp
+first_mark (delta.Set d) = option_map (λ e. set_part e.0 e.1) (slice_get (map.entries d.marks) 0)
+first_mark (delta.Hash d) = option_map (λ e. hash_part e.0 e.1) (slice_get (map.entries d.marks) 0)
+first_mark _ = None
+
+-- the first text that is taken out
+abbrev pub first_removed : Delta → Option WriteOp
+first_removed (delta.List d) = option_map (λ e. op.ListRemove e.0) (slice_get (map.entries d.removed) 0)
+first_removed _ = None
+
+-- the first item that is pushed
+abbrev pub first_pushed : Delta → Option WriteOp
+first_pushed (delta.List d) = option_map (λ item. op.ListPush item) (slice_get d.pushed 0)
+first_pushed _ = None
+
+-- The part of a delta that an observation of its kind clashes with, if there is one: the put or addition; the clear; else
+-- the mark at the observed element or field; the first mark; the first text that is taken out; the first item pushed.
+abbrev pub named : Obs → Delta → Option WriteOp
+named obs.BoolIs d = whole_part d
+named obs.CounterIs d = whole_part d
+named obs.TextIs d = whole_part d
+named (obs.SetHas x) d = option_or (clear_part d) (mark_part x d)
+named obs.SetAll d = option_or (clear_part d) (first_mark d)
+named (obs.HashAt f) d = option_or (clear_part d) (mark_part f d)
+named obs.HashAll d = option_or (clear_part d) (first_mark d)
+named (obs.ListAt i) d = option_or (clear_part d) (first_removed d)
+named obs.ListAll d = option_or (option_or (clear_part d) (first_removed d)) (first_pushed d)
+
+-- a part that is lent, as the operation that it shows
+abbrev pub shown : Part → WriteOp
+shown (part.PutBool b) = op.PutBool b
+shown (part.PutCounter n) = op.PutCounter n
+shown (part.AddCounter n) = op.AddCounter n
+shown (part.PutText text) = op.PutText text.now
+shown (part.SetAdd x) = op.SetAdd x.now
+shown (part.SetRemove x) = op.SetRemove x.now
+shown part.SetClear = op.SetClear
+shown (part.HashPut f text) = op.HashPut f.now text.now
+shown (part.HashRemove f) = op.HashRemove f.now
+shown part.HashClear = op.HashClear
+shown (part.ListPush x) = op.ListPush x.now
+shown (part.ListRemove x) = op.ListRemove x.now
+shown part.ListClear = op.ListClear
+
+-- a clear is named before any mark
+clear-before-marks : named (obs.HashAt (codes "f")) (compose (delta_of op.HashClear) (delta_of (op.HashPut (codes "f") (codes "v")))) ≡ Some op.HashClear
+clear-before-marks = refl
