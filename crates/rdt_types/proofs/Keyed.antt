@@ -1,5 +1,5 @@
 -- Deltas of sets and hashes: their composition is one after the other, and keeps their form.
-use Rattle.std.proofs.Common.{◌≡◌, ℕ, nat_eq, Bool, true, false, not, ◌&&◌, cond, T, Option, Some, None, List, [], refl, sym, ap, ◌∙◌, subst}
+use Rattle.std.proofs.Common.{◌≡◌, nat_eq, Bool, true, false, not, cond, T, Option, Some, None, refl, sym, ap, ◌∙◌, subst}
 use Rattle.std.specs.Option.{unwrap_or, is_some}
 use Rattle.std.specs.List.{list_all}
 use Rattle.std.specs.FinMap as map

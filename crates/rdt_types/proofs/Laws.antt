@@ -1,16 +1,14 @@
 -- The laws of deltas, by kind.
 use Rattle.std.proofs.Common.{◌≡◌, ℤ, true, false, refl, ap, arith}
 use Rattle.std.proofs.lemmas.Grind.{common_steps}
-use Rattle.rdt_types.specs.declared.address.Kind.TheVariants as kind
 use Rattle.rdt_types.specs.declared.value.Value.{Value}
 use Rattle.rdt_types.specs.declared.value.Value.TheVariants as value
 use Rattle.rdt_types.specs.declared.mark.Mark.TheVariants as mark
 use Rattle.rdt_types.specs.declared.operation.WriteOp.TheVariants as op
-use Rattle.rdt_types.specs.declared.delta.Delta.{Delta}
 use Rattle.rdt_types.specs.declared.delta.Delta.TheVariants.{PutBool, PutCounter, AddCounter, PutText, Set, Hash, List}
 use Rattle.rdt_types.specs.Values.{wrapping_sum, counter_in, set_in, hash_in, list_in}
 use Rattle.rdt_types.specs.Marks.{added, put_by}
-use Rattle.rdt_types.specs.Deltas.{kind_changed, apply, compose, DeltasWrite, CompositionsApplyInTurn}
+use Rattle.rdt_types.specs.Deltas.{DeltasWrite, CompositionsApplyInTurn}
 use Rattle.rdt_types.proofs.Keyed as keyed
 use Rattle.rdt_types.proofs.Listed as listed
 

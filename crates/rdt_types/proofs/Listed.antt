@@ -1,12 +1,12 @@
 -- Deltas of lists: their composition is one after the other, and keeps their form.
-use Rattle.std.proofs.Common.{◌≡◌, nat_eq, Bool, true, false, not, ◌&&◌, ◌||◌, cond, T, Option, Some, None, List, [], ◌∷◌, ◌++◌, length, refl, sym, ap, ◌∙◌, subst, append_assoc, append-nil}
+use Rattle.std.proofs.Common.{◌≡◌, nat_eq, Bool, true, false, not, ◌||◌, cond, T, Option, Some, None, List, [], ◌∷◌, ◌++◌, length, refl, sym, ap, ◌∙◌, subst, append_assoc, append-nil}
 use Rattle.std.specs.Option.{is_some}
 use Rattle.std.specs.List.{filter}
 use Rattle.std.specs.Ordering.{eq_by_cmp}
 use Rattle.std.specs.Cmp.Lexicographic.{nat_list_cmp_total}
 use Rattle.std.specs.FinMap as map
 use Rattle.plain_data.specs.Texts.{Bytes, text_cmp, SetOfTexts, with_text, has_text}
-use Rattle.plain_data.specs.Overlays.{overlaid, found_after, union}
+use Rattle.plain_data.specs.Overlays.{found_after, union}
 use Rattle.plain_data.proofs.Overlays.{get-overlaid, len-one, some-len, len-some, nonzero}
 use Rattle.rdt_types.specs.Listed.{Listed, without, pushing, removing, clearing, has_form, applied, composed}
 use Rattle.rdt_types.specs.Values.{others}

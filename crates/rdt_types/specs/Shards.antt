@@ -1,6 +1,5 @@
 -- Which shard holds the value at an address.
 use Rattle.std.specs.Prelude.{◌≡◌, ℕ, ◌+◌, ◌*◌, ◌%◌, ◌^◌, fold, codes, refl}
-use Rattle.plain_data.specs.Texts.{Bytes}
 use Rattle.rdt_types.specs.declared.address.Kind.TheVariants as kind
 use Rattle.rdt_types.specs.declared.address.Address.{Address}
 use Rattle.rdt_types.specs.Printed.{printed_address}

@@ -1,5 +1,5 @@
 -- Values, and the operations that write them.
-use Rattle.std.specs.Prelude.{◌≡◌, ℤ, pos, negsuc, Bool, true, false, not, List, [], ◌∷◌, ◌++◌, refl}
+use Rattle.std.specs.Prelude.{◌≡◌, ℤ, pos, negsuc, Bool, false, not, List, [], ◌∷◌, ◌++◌, refl}
 use Rattle.std.specs.Int.{w64, int_wrapping_add}
 use Rattle.std.specs.List.{filter}
 use Rattle.std.specs.Ordering.{eq_by_cmp}
