@@ -1,10 +1,6 @@
 //! Marks laid over a map of texts, in one pass over both.
 
 ghost use Rattle.std.specs.Prelude.{◌≡◌, ◌++◌, Option, IfOk, OnOk};
-ghost use Rattle.std.specs.FinMap as map;
-ghost use Rattle.std.specs.Map.{keys_of};
-ghost use Rattle.std.specs.List.Sorted.{IsStrictlySortedBy};
-ghost use Rattle.plain_data.specs.Texts.{text_cmp};
 ghost use Rattle.plain_data.specs.Overlays.{overlaid};
 ghost use Rattle.plain_data.specs.Merging.{before, after, pair_at, merged};
 

@@ -1,7 +1,6 @@
 //! Which shard holds the value at an address.
 
 ghost use Rattle.std.specs.Prelude.{◌≡◌, ◌≤◌, fold};
-ghost use Rattle.std.specs.List.{flat_map};
 ghost use Rattle.rdt_types.specs.Printed.{spelled, spelling_of as spelling, printed_text};
 ghost use Rattle.rdt_types.specs.Shards as spec;
 

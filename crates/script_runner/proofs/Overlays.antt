@@ -29,7 +29,7 @@ use Rattle.txn_trees.specs.declared.statement.StmtNode.TheOpen.{StmtNode-F}
 use Rattle.txn_trees.specs.declared.statement.Body.{Body}
 use Rattle.txn_lang.specs.States.{State, known, apply_maybe}
 use Rattle.txn_lang.specs.Running as model
-use Rattle.txn_lang.specs.Running.{Operations, Progress, Step, need, gives, Stepping, at_address, deltas_of, AreOfTheirKinds, ended, Ran, done, exec, expr_layer, stmt_layer, address_of}
+use Rattle.txn_lang.specs.Running.{Operations, Progress, Step, need, gives, Stepping, at_address, deltas_of, AreOfTheirKinds, ended, done, exec, expr_layer, stmt_layer, address_of}
 use Rattle.txn_lang.proofs.Replay.{composed, AllOf, AllOf-at_address, delta_at-deltas, deltas_leave}
 use Rattle.script_runner.specs.declared.running.Work.{Work}
 use Rattle.script_runner.specs.Overlay as over

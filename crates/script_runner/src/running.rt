@@ -1,8 +1,7 @@
 //! Runs a body on the values of a state. What it has written so far lies over them as deltas.
 
-ghost use Rattle.std.specs.Prelude.{◌≡◌, [], ◌∷◌, IfOk, OnOk, Some, map};
-ghost use Rattle.rdt_types.specs.DeltaMaps.{delta_at};
-ghost use Rattle.txn_lang.specs.States.{known, apply_maybe};
+ghost use Rattle.std.specs.Prelude.{◌≡◌, IfOk, OnOk};
+ghost use Rattle.txn_lang.specs.States.{known};
 ghost use Rattle.txn_lang.specs.Running.{exec, address_of, with_seen, expr_layer, key_in};
 ghost use Rattle.txn_lang.specs.Running.Ran.{done};
 ghost use Rattle.conflict_table.specs.Reads as reads;

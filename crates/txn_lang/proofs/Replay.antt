@@ -1,9 +1,7 @@
 -- Deltas that are composed as a run goes on, and the replay of its operations.
 use Rattle.std.proofs.Common.{◌≡◌, Bool, true, false, cond, List, [], ◌∷◌, fold, map, filter, Option, Some, None, refl, sym, ap, ◌∙◌, subst}
 use Rattle.std.specs.List.{AllByRecursion}
-use Rattle.std.specs.BTreeMap.{is_at}
 use Rattle.std.specs.Ordering.{is_eq}
-use Rattle.std.specs.declared.cmp.Ordering.TheVariants.{Equal}
 use Rattle.plain_data.proofs.Entries.{lookup-insert_entry, lookup-alike, equal}
 use Rattle.rdt_types.specs.declared.address.Kind.{Kind}
 use Rattle.rdt_types.specs.declared.address.Address.{Address}
@@ -21,7 +19,7 @@ use Rattle.rdt_types.proofs.Addresses.{address_cmp-equal}
 use Rattle.rdt_types.proofs.Laws.{deltas_write, compositions_apply_in_turn}
 use Rattle.conflict_table.specs.Reads.{replay}
 use Rattle.txn_lang.specs.States.{apply_maybe}
-use Rattle.txn_lang.specs.Running.{Operations, at_address, deltas_of, AreOfTheirKinds, DeltasLeaveWhatOperationsLeave}
+use Rattle.txn_lang.specs.Running.{Operations, at_address, AreOfTheirKinds, DeltasLeaveWhatOperationsLeave}
 
 -- one more operation, after a delta that may be there
 abbrev pub composed_with : Option Delta → WriteOp → Option Delta

@@ -2,7 +2,7 @@
 --
 -- The definition replays the body's own operations on plain values. It speaks of the statements that are read so far:
 -- `emit`, and the writes and reads of counters whose keys are literal texts.
-use Rattle.std.specs.Prelude.{◌≡◌, ℕ, ℤ, pos, Bool, true, if◌then◌else◌, List, [], ◌∷◌, ◌++◌, fold, filter, map, Option, Some, None}
+use Rattle.std.specs.Prelude.{◌≡◌, ℕ, pos, if◌then◌else◌, List, [], ◌∷◌, ◌++◌, fold, filter, map, Option, Some, None}
 use Rattle.std.specs.List.{list_any, AllByRecursion}
 use Rattle.std.specs.Ordering.{is_eq}
 use Rattle.rdt_types.specs.declared.address.Kind.{Kind}
@@ -36,7 +36,7 @@ use Rattle.txn_trees.specs.declared.statement.Body.{Body}
 use Rattle.txn_lang.specs.declared.run.Run.{Run}
 use Rattle.txn_lang.specs.declared.run.Seen.{Seen}
 use Rattle.txn_lang.specs.contracts.run.SeenPartialEq.TheImpl as seen_eq
-use Rattle.txn_lang.specs.States.{PartialState, apply_maybe, after}
+use Rattle.txn_lang.specs.States.{PartialState, after}
 
 -- ---- a run as far as it has come
 
