@@ -19,22 +19,69 @@ fn address(alloc: Global, kind: Kind, key: &[u8]) -> Result<Address, AllocError>
     })
 }
 
+fn add(alloc: Global, element: &[u8]) -> Result<WriteOp, AllocError> {
+    Ok(WriteOp::SetAdd(text(alloc, element)?))
+}
+
+fn remove(alloc: Global, element: &[u8]) -> Result<WriteOp, AllocError> {
+    Ok(WriteOp::SetRemove(text(alloc, element)?))
+}
+
+fn put(alloc: Global, field: &[u8]) -> Result<WriteOp, AllocError> {
+    Ok(WriteOp::HashPut(text(alloc, field)?, Text::new(alloc)))
+}
+
+fn drop_field(alloc: Global, field: &[u8]) -> Result<WriteOp, AllocError> {
+    Ok(WriteOp::HashRemove(text(alloc, field)?))
+}
+
+fn push(alloc: Global, item: &[u8]) -> Result<WriteOp, AllocError> {
+    Ok(WriteOp::ListPush(text(alloc, item)?))
+}
+
+fn take_out(alloc: Global, item: &[u8]) -> Result<WriteOp, AllocError> {
+    Ok(WriteOp::ListRemove(text(alloc, item)?))
+}
+
+/// A set's delta that takes an element out.
+fn removed(alloc: Global, element: &[u8]) -> Result<Delta, AllocError> {
+    let element = text(alloc, element)?;
+    Ok(Delta::Set(KeyedDelta::marking(alloc, &element, false)?))
+}
+
+/// A list's delta that takes a text out.
+fn taken_out(alloc: Global, item: &[u8]) -> Result<Delta, AllocError> {
+    let item = text(alloc, item)?;
+    Ok(Delta::List(ListDelta::removing(alloc, &item)?))
+}
+
+/// The delta of two operations, of what may want memory.
+fn composed(
+    alloc: Global,
+    first: Result<WriteOp, AllocError>,
+    second: Result<WriteOp, AllocError>,
+) -> Result<Delta, AllocError> {
+    let first = delta_of(alloc, &first?)?;
+    let second = delta_of(alloc, &second?)?;
+    compose(alloc, &first, &second)
+}
+
 #[test]
-fn two_operations_are_one_delta(rt: HostRuntime) -> Result<(), Fail> {
+fn sets_and_hashes_compose(rt: HostRuntime) -> Result<(), Fail> {
     let alloc = rt.alloc();
-    let a = text(alloc, b"a")?;
-    let f = text(alloc, b"f")?;
+    let set = composed(alloc, add(alloc, b"a"), remove(alloc, b"a"))?;
+    assert!(rt; set == removed(alloc, b"a")?);
+    let cleared = composed(alloc, Ok(WriteOp::SetClear), remove(alloc, b"a"))?;
+    assert!(rt; cleared == Delta::Set(KeyedDelta::clearing(alloc)));
+    let hash = composed(alloc, put(alloc, b"f"), Ok(WriteOp::HashClear))?;
+    assert!(rt; hash == Delta::Hash(KeyedDelta::clearing(alloc)));
+    Ok(())
+}
+
+#[test]
+fn counters_and_lists_compose(rt: HostRuntime) -> Result<(), Fail> {
+    let alloc = rt.alloc();
     let rows = [
-        (
-            WriteOp::SetAdd(a.clone()?),
-            WriteOp::SetRemove(a.clone()?),
-            Delta::Set(KeyedDelta::marking(alloc, &a, false)?),
-        ),
-        (
-            WriteOp::SetClear,
-            WriteOp::SetRemove(a.clone()?),
-            Delta::Set(KeyedDelta::clearing(alloc)),
-        ),
         (
             WriteOp::AddCounter(3),
             WriteOp::AddCounter(-3),
@@ -45,22 +92,12 @@ fn two_operations_are_one_delta(rt: HostRuntime) -> Result<(), Fail> {
             WriteOp::AddCounter(1),
             Delta::PutCounter(i64::MIN),
         ),
-        (
-            WriteOp::ListPush(a.clone()?),
-            WriteOp::ListRemove(a.clone()?),
-            Delta::List(ListDelta::removing(alloc, &a)?),
-        ),
-        (
-            WriteOp::HashPut(f, text(alloc, b"v")?),
-            WriteOp::HashClear,
-            Delta::Hash(KeyedDelta::clearing(alloc)),
-        ),
     ];
-    for (first, second, whole) in &rows {
-        let found = compose(alloc, &delta_of(alloc, first)?, &delta_of(alloc, second)?)?;
-        assert!(rt; found == *whole);
-        assert!(rt; found.kind() == first.kind());
+    for (first, second, whole) in rows {
+        assert!(rt; composed(alloc, Ok(first), Ok(second))? == whole);
     }
+    let list = composed(alloc, push(alloc, b"a"), take_out(alloc, b"a"))?;
+    assert!(rt; list == taken_out(alloc, b"a")?);
     Ok(())
 }
 
@@ -68,59 +105,86 @@ fn two_operations_are_one_delta(rt: HostRuntime) -> Result<(), Fail> {
 fn deltas_tell_what_they_do(rt: HostRuntime) -> Result<(), Fail> {
     let alloc = rt.alloc();
     let a = text(alloc, b"a")?;
-    let put = KeyedDelta::marking(alloc, &a, Mark::Put(text(alloc, b"b")?))?;
+    let put = KeyedDelta::marking(alloc, &a, Mark::Put(Text::new(alloc)))?;
     assert!(rt; !put.cleared());
     assert_eq!(rt; put.marks().len(), 1);
     assert!(rt; put.marks().contains(&a));
-    let pushed = ListDelta::pushing(alloc, &a)?.composed(alloc, &ListDelta::clearing(alloc))?;
-    assert!(rt; pushed.cleared());
+    let pushed = ListDelta::pushing(alloc, &a)?;
+    assert!(rt; !pushed.cleared());
     assert!(rt; pushed.removed().is_empty());
-    assert!(rt; pushed.pushed().is_empty());
+    assert_eq!(rt; pushed.pushed().len(), 1);
     Ok(())
 }
 
-/// Operations of a kind on small values.
-fn operations(alloc: Global, kind: Kind) -> Result<[WriteOp; 4], AllocError> {
-    let a = text(alloc, b"a")?;
-    let b = text(alloc, b"b")?;
-    Ok(match kind {
-        Kind::Bool => [
-            WriteOp::PutBool(true),
-            WriteOp::PutBool(false),
-            WriteOp::PutBool(true),
-            WriteOp::PutBool(false),
-        ],
-        Kind::Counter => [
-            WriteOp::PutCounter(i64::MAX),
-            WriteOp::AddCounter(1),
-            WriteOp::AddCounter(-3),
-            WriteOp::AddCounter(3),
-        ],
-        Kind::Text => [
-            WriteOp::PutText(a),
-            WriteOp::PutText(b),
-            WriteOp::PutText(text(alloc, b"")?),
-            WriteOp::PutText(text(alloc, b"ab")?),
-        ],
-        Kind::Set => [
-            WriteOp::SetAdd(a.clone()?),
-            WriteOp::SetRemove(a),
-            WriteOp::SetAdd(b),
-            WriteOp::SetClear,
-        ],
-        Kind::Hash => [
-            WriteOp::HashPut(a.clone()?, b.clone()?),
-            WriteOp::HashRemove(a),
-            WriteOp::HashPut(b, text(alloc, b"c")?),
-            WriteOp::HashClear,
-        ],
-        Kind::List => [
-            WriteOp::ListPush(a.clone()?),
-            WriteOp::ListRemove(a),
-            WriteOp::ListPush(b),
-            WriteOp::ListClear,
-        ],
-    })
+fn set_operation(alloc: Global, number: u8) -> Result<WriteOp, AllocError> {
+    match number {
+        0 => add(alloc, b"a"),
+        1 => remove(alloc, b"a"),
+        2 => add(alloc, b"b"),
+        _ => Ok(WriteOp::SetClear),
+    }
+}
+
+fn hash_operation(alloc: Global, number: u8) -> Result<WriteOp, AllocError> {
+    match number {
+        0 => put(alloc, b"a"),
+        1 => drop_field(alloc, b"a"),
+        2 => put(alloc, b"b"),
+        _ => Ok(WriteOp::HashClear),
+    }
+}
+
+fn list_operation(alloc: Global, number: u8) -> Result<WriteOp, AllocError> {
+    match number {
+        0 => push(alloc, b"a"),
+        1 => take_out(alloc, b"a"),
+        2 => push(alloc, b"b"),
+        _ => Ok(WriteOp::ListClear),
+    }
+}
+
+fn counter_operation(number: u8) -> WriteOp {
+    match number {
+        0 => WriteOp::PutCounter(i64::MAX),
+        1 => WriteOp::AddCounter(1),
+        2 => WriteOp::AddCounter(-3),
+        _ => WriteOp::AddCounter(3),
+    }
+}
+
+/// An operation of a kind on small values, by its number, 0 to 3.
+fn operation(alloc: Global, kind: Kind, number: u8) -> Result<WriteOp, AllocError> {
+    match kind {
+        Kind::Bool => Ok(WriteOp::PutBool(number % 2 == 0)),
+        Kind::Counter => Ok(counter_operation(number)),
+        Kind::Text => Ok(WriteOp::PutText(text(alloc, [number].as_slice())?)),
+        Kind::Set => set_operation(alloc, number),
+        Kind::Hash => hash_operation(alloc, number),
+        Kind::List => list_operation(alloc, number),
+    }
+}
+
+/// What an operation writes.
+fn written(
+    alloc: Global,
+    value: &Value,
+    op: Result<WriteOp, AllocError>,
+) -> Result<Value, AllocError> {
+    let delta = delta_of(alloc, &op?)?;
+    apply(alloc, &delta, value)
+}
+
+/// Whether two operations at once write what they write in turn.
+fn agree(alloc: Global, value: &Value, first: u8, second: u8) -> Result<bool, AllocError> {
+    let kind = value.kind();
+    let half = written(alloc, value, operation(alloc, kind, first))?;
+    let in_turn = written(alloc, &half, operation(alloc, kind, second))?;
+    let whole = composed(
+        alloc,
+        operation(alloc, kind, first),
+        operation(alloc, kind, second),
+    )?;
+    Ok(apply(alloc, &whole, value)? == in_turn)
 }
 
 #[test]
@@ -135,36 +199,27 @@ fn every_pair_of_operations_is_done_in_turn(rt: HostRuntime) -> Result<(), Fail>
         Kind::List,
     ];
     for kind in kinds {
-        let ops = operations(alloc, kind)?;
         let mut value = default_value(alloc, kind);
-        for first in &ops {
-            let one = delta_of(alloc, first)?;
-            for second in &ops {
-                let two = delta_of(alloc, second)?;
-                let in_turn = apply(alloc, &two, &apply(alloc, &one, &value)?)?;
-                let at_once = apply(alloc, &compose(alloc, &one, &two)?, &value)?;
-                assert!(rt; in_turn == at_once);
-                assert!(rt; at_once.kind() == kind);
+        for first in 0..4u8 {
+            for second in 0..4u8 {
+                assert!(rt; agree(alloc, &value, first, second)?);
             }
-            value = apply(alloc, &one, &value)?;
+            value = written(alloc, &value, operation(alloc, kind, first))?;
         }
     }
     Ok(())
 }
 
 #[test]
-fn operations_write_values(rt: HostRuntime) -> Result<(), Fail> {
+fn every_equal_item_is_taken_out(rt: HostRuntime) -> Result<(), Fail> {
     let alloc = rt.alloc();
     let mut value = default_value(alloc, Kind::List);
     for item in [b"a".as_slice(), b"b".as_slice(), b"a".as_slice()] {
-        let push = WriteOp::ListPush(text(alloc, item)?);
-        value = apply(alloc, &delta_of(alloc, &push)?, &value)?;
+        value = written(alloc, &value, push(alloc, item))?;
     }
-    let remove = WriteOp::ListRemove(text(alloc, b"a")?);
-    value = apply(alloc, &delta_of(alloc, &remove)?, &value)?;
-    let mut items = TextList::new(alloc);
-    items.push(text(alloc, b"b")?)?;
-    assert!(rt; value == Value::List(items));
+    let left = written(alloc, &value, take_out(alloc, b"a"))?;
+    let b_alone = written(alloc, &default_value(alloc, Kind::List), push(alloc, b"b"))?;
+    assert!(rt; left == b_alone);
     Ok(())
 }
 
