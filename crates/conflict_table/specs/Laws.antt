@@ -21,10 +21,10 @@ NoClashNoChange =
     → clash o d ≡ false
     → observe o (apply d v) ≡ observe o v
 
--- the number of an addition has 64 bits, as every number that is met
-abbrev pub HasNumber : Delta → Type 0
-HasNumber (delta.AddCounter n) = FitsSigned w64 n
-HasNumber _ = Unit {0}
+-- the number of an addition has 64 bits, as every number that a program meets
+abbrev pub FitsIn64Bits : Delta → Type 0
+FitsIn64Bits (delta.AddCounter n) = FitsSigned w64 n
+FitsIn64Bits _ = Unit {0}
 
 -- some value of the kind on which the observation can be made shows the change
 abbrev pub ShowsChange : Obs → Delta → Type 0
@@ -34,7 +34,7 @@ ShowsChange o d =
 -- With a clash, some value shows a change, unless the delta is an addition of 0.
 abbrev pub ClashesShowChanges : Type 0
 ClashesShowChanges =
-    (o : Obs) (d : Delta) → kind_observed o ≡ kind_changed d → HasNumber d → d ≢ delta.AddCounter (pos 0)
+    (o : Obs) (d : Delta) → kind_observed o ≡ kind_changed d → FitsIn64Bits d → d ≢ delta.AddCounter (pos 0)
     → clash o d ≡ true
     → ShowsChange o d
 
