@@ -7,6 +7,7 @@
 
 mod boxed;
 mod copies;
+mod or_no_memory;
 mod ordered_map;
 mod overlay;
 mod sequence;
@@ -14,6 +15,7 @@ mod text_map;
 
 pub use boxed::Boxed;
 pub use copies::ExactClone;
+pub use or_no_memory::OrNoMemory;
 pub use ordered_map::OrderedMap;
 pub use overlay::Marking;
 pub use sequence::{Sequence, Text};
