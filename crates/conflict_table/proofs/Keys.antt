@@ -65,11 +65,6 @@ module _ {V : Type 0} where
   pub key-has_some : (m : MapOf V) → has_some m ≡ true → (x : Bytes) × (map.contains_key m x ≡ true)
   key-has_some m some = let one = len-some m (subst T (sym some) tt) in (one.0, ap is_some one.2)
 
--- the test for no key at all, turned round
-pub not-is_empty : {V : Type 0} (m : MapOf V) (b : Bool) → (b ≡ true) ↔ (m ≡ map.empty) → not b ≡ has_some m
-not-is_empty m true is = sym (has_some-empty m (is.0 refl))
-not-is_empty m false is = sym (true_from_ne_false (has_some m) (λ none. false≢true (is.1 (empty-has_some m none))))
-
 -- a pair at a key
 abbrev pub at_key : {V : Type 0} → Bytes → V → Bytes × V
 at_key key v = (key, v)

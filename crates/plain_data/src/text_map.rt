@@ -1,6 +1,6 @@
 //! Maps and sets of texts.
 
-ghost use Rattle.std.specs.Prelude.{◌≡◌, ◌↔◌, option_map, IsTrue, IfSome, IfNone, OnOk, OnErr};
+ghost use Rattle.std.specs.Prelude.{◌≡◌, ◌==◌, option_map, IfSome, IfNone, OnOk, OnErr};
 ghost use Rattle.std.specs.Option.{option_copied};
 ghost use Rattle.std.specs.Bool.{MatchBool};
 ghost use Rattle.std.specs.FinMap as map;
@@ -84,9 +84,9 @@ impl<V> TextMap<V> {
 
     /// Whether there is no key.
     pub fn is_empty(&self) -> bool
-        ensures { IsTrue result ↔ (self.now ≡ map.empty) }
+        ensures { result ≡ (map.len self.now == 0) }
     {
-        self.entries.is_empty()
+        self.len() == 0
     }
 
     /// The value at a key, found by halving.
