@@ -65,37 +65,10 @@ module _ {V : Type 0} where
   pub key-has_some : (m : MapOf V) → has_some m ≡ true → (x : Bytes) × (map.contains_key m x ≡ true)
   key-has_some m some = let one = len-some m (subst T (sym some) tt) in (one.0, ap is_some one.2)
 
--- the test for no key at all, turned round
-pub not-is_empty : {V : Type 0} (m : MapOf V) (b : Bool) → (b ≡ true) ↔ (m ≡ map.empty) → not b ≡ has_some m
-not-is_empty m true is = sym (has_some-empty m (is.0 refl))
-not-is_empty m false is = sym (true_from_ne_false (has_some m) (λ none. false≢true (is.1 (empty-has_some m none))))
-
--- a pair at a key
-abbrev pub at_key : {V : Type 0} → Bytes → V → Bytes × V
-at_key key v = (key, v)
-
-pair_by : {V : Type 0} (b : Bool) (key x : Bytes) (v : V) (o : Option V) → (b ≡ true → x ≡ key) → cond b (Some (at_key x v)) (option_map (at_key key) o) ≡ option_map (at_key key) (cond b (Some v) o)
-pair_by true key x v o same = ap (λ k. Some (at_key k v)) (same refl)
-pair_by false key x v o same = refl
-
-same_text : (x key : Bytes) → pointwise nat_eq x key ≡ eq_by_cmp text_cmp key x
-same_text x key = texts_ties x key ∙ (eq_by_cmp_equiv nat_list_cmp_total).symm x key
-
--- the first pair whose key is equal is the value at the key
-pub find-pair : {V : Type 0} (key : Bytes) (es : List (Bytes × V)) → list.find (λ pair. pointwise nat_eq pair.0 key) es ≡ option_map (at_key key) (find text_cmp key es)
-find-pair key [] = refl
-find-pair key (e ∷ es) =
-    ap (λ rest. cond (pointwise nat_eq e.0 key) (Some e) rest) (find-pair key es)
-    ∙ ap (λ b. cond b (Some e) (option_map (at_key key) (find text_cmp key es))) (same_text e.0 key)
-    ∙ pair_by (eq_by_cmp text_cmp key e.0) key e.0 e.1 (find text_cmp key es) (λ same. sym (slice_cmp-IsAntisymmetric nat_cmp-IsAntisymmetric key e.0 (equal _ same)))
-
-twice_mapped : {V W : Type 0} (f : Bytes × V → W) (key : Bytes) (o : Option V) → option_map f (option_map (at_key key) o) ≡ option_map (λ v. f (key, v)) o
+-- what is made of the pair at a key is made of its value
+pub twice_mapped : {V W : Type 0} (f : Bytes × V → W) (key : Bytes) (o : Option V) → option_map f (option_map (λ v. (key, v)) o) ≡ option_map (λ v. f (key, v)) o
 twice_mapped f key None = refl
 twice_mapped f key (Some v) = refl
-
--- so what is made of that pair is made of that value
-pub mapped-get : {V W : Type 0} (f : Bytes × V → W) (key : Bytes) (m : MapOf V) → option_map f (list.find (λ pair. pointwise nat_eq pair.0 key) (map.entries m)) ≡ option_map (λ v. f (key, v)) (map.get m key)
-mapped-get f key m = ap (option_map f) (find-pair key (map.entries m) ∙ ap (option_map (at_key key)) (sym (map.get-entries m key))) ∙ twice_mapped f key (map.get m key)
 
 -- marks that each leave something
 module _ {V M : Type 0} (left : M → Option V) (leaves : (mark : M) → is_some (left mark) ≡ true) where

@@ -5,3 +5,4 @@ pub mod Items
 pub mod Rows
 pub mod Named
 pub mod Resting
+pub mod Composing

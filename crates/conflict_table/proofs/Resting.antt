@@ -7,16 +7,21 @@ use Rattle.std.specs.FinMap as map
 use Rattle.std.proofs.lemmas.Bool.{true≢false, false≢true, or_parts, ltb-true}
 use Rattle.std.proofs.lemmas.Option.{slice_get_within, slice_get-get_or}
 use Rattle.plain_data.specs.Texts.{Bytes, SetOfTexts, text_cmp, has_text, with_text, without_text}
+use Rattle.rdt_types.specs.declared.address.Kind.{Kind}
+use Rattle.rdt_types.specs.declared.address.Kind.TheVariants as kind
 use Rattle.rdt_types.specs.declared.value.Value.{Value}
 use Rattle.rdt_types.specs.declared.value.Value.TheVariants as value
 use Rattle.rdt_types.specs.declared.operation.WriteOp.{WriteOp}
 use Rattle.rdt_types.specs.declared.operation.WriteOp.TheVariants as op
 use Rattle.rdt_types.specs.declared.outcome.Item.TheVariants as item
 use Rattle.rdt_types.specs.Values.{write, others, wrapping_sum, kind_of, counter_in, set_in, hash_in, list_in}
+use Rattle.conflict_table.specs.declared.observation.Obs.{Obs}
 use Rattle.conflict_table.specs.declared.observation.Obs.TheVariants as obs
+use Rattle.conflict_table.specs.declared.read.ReadOp.{ReadOp}
 use Rattle.conflict_table.specs.declared.read.ReadOp.TheVariants as read
 use Rattle.conflict_table.specs.Observing.{observe}
-use Rattle.conflict_table.specs.Reads.{replay, is_put, is_clear, names, is_list_remove, item_at, whole, observed, place_observed}
+use Rattle.std.proofs.lemmas.Bool.Decides.{nat_tests}
+use Rattle.conflict_table.specs.Reads.{replay, answer, is_put, is_clear, names, is_list_remove, item_at, whole, is_decided, whole_observed, observed, place_observed}
 use Rattle.conflict_table.specs.Laws.{ReadsRestOnObservations}
 use Rattle.conflict_table.proofs.Keys.{either}
 use Rattle.conflict_table.proofs.Items.{slice_get-append}
@@ -50,7 +55,7 @@ puts_whole (op.PutCounter n) v w h = (refl, refl)
 puts_whole (op.PutText t) v w h = (refl, refl)
 puts_whole o v w h = absurd (false≢true h)
 
-same_whole : (v w : Value) → kind_of v ≡ kind_of w → observe (observed read.Get [] v) v ≡ observe (observed read.Get [] v) w → Whole v w
+same_whole : (v w : Value) → kind_of v ≡ kind_of w → observe (whole_observed v) v ≡ observe (whole_observed v) w → Whole v w
 same_whole (value.Bool b) (value.Bool c) kinds same = (ap item.Bool (cc), refl)
 same_whole (value.Counter m) (value.Counter n) kinds same = (ap item.Int (cc), cc)
 same_whole (value.Text x) (value.Text y) kinds same = (ap item.Text (cc), refl)
@@ -197,26 +202,66 @@ get_rests : (own : List WriteOp) (v w : Value) (b : Bool) → list_any is_put ow
 get_rests own v w true puts r = decided Whole keeps_whole is_put puts_whole own v w puts
 get_rests own v w false keeps r = replayed Whole keeps_whole own v w (r refl)
 
-place_rests : (i : ℕ) (own : List WriteOp) (v w : Value) (b : Bool) → list_any is_clear own ≡ b → (b ≡ false → observe (place_observed (pos i) own (list_in v)) v ≡ observe (place_observed (pos i) own (list_in v)) w)
+place_rests : (i : ℕ) (own : List WriteOp) (v w : Value) (b : Bool) → list_any is_clear own ≡ b → (b ≡ false → observe (place_observed (pos i) (list_any is_list_remove own) (list_in v)) v ≡ observe (place_observed (pos i) (list_any is_list_remove own) (list_in v)) w)
     → item_at (pos i) (list_in (replay own v)) ≡ item_at (pos i) (list_in (replay own w))
 place_rests i own v w true clears same = ap (item_at (pos i)) (decided Items keeps_items is_clear (clears_all Items (λ v. refl)) own v w clears)
 place_rests i own v w false keeps same = of_place i own v w (list_any is_list_remove own) (nat_lt i (length (list_in v))) refl refl (same refl)
 
 -- each read, by what the two values have in common
-pub reads_rest_on_observations : ReadsRestOnObservations
-reads_rest_on_observations read.Get own v w kinds same =
+answers_rest : (r : ReadOp) (own : List WriteOp) (v w : Value) → kind_of v ≡ kind_of w → (is_decided r own ≡ false → observe (observed r own v) v ≡ observe (observed r own v) w)
+    → answer r (replay own v) ≡ answer r (replay own w)
+answers_rest read.Get own v w kinds same =
     (get_rests own v w (list_any is_put own) refl (λ none. same_whole v w kinds (same none))).0
-reads_rest_on_observations (read.SetHas x) own v w kinds same =
+answers_rest (read.SetHas x) own v w kinds same =
     ap item.Bool (by_name (Element x) (keeps_element x) (λ v. refl) (names x) (names_element x) own v w _ refl (λ none. let is = same none in cc))
-reads_rest_on_observations read.SetAll own v w kinds same =
+answers_rest read.SetAll own v w kinds same =
     ap (λ s. item.Texts (map.keys s)) (by_clear Set keeps_set (λ v. refl) own v w _ refl (λ none. let is = same none in cc))
-reads_rest_on_observations (read.HashHas f) own v w kinds same =
+answers_rest (read.HashHas f) own v w kinds same =
     ap (λ o. item.Bool (is_some o)) (by_name (Field f) (keeps_field f) (λ v. refl) (names f) (names_field f) own v w _ refl (λ none. let is = same none in cc))
-reads_rest_on_observations (read.HashGet f) own v w kinds same =
+answers_rest (read.HashGet f) own v w kinds same =
     ap (λ o. item.Text (unwrap_or o [])) (by_name (Field f) (keeps_field f) (λ v. refl) (names f) (names_field f) own v w _ refl (λ none. let is = same none in cc))
-reads_rest_on_observations read.HashFields own v w kinds same =
+answers_rest read.HashFields own v w kinds same =
     ap (λ m. item.Texts (map.keys m)) (by_clear Hash keeps_hash (λ v. refl) own v w _ refl (λ none. let is = same none in cc))
-reads_rest_on_observations (read.ListAt (pos i)) own v w kinds same = ap item.Text (place_rests i own v w (list_any is_clear own) refl same)
-reads_rest_on_observations (read.ListAt (negsuc i)) own v w kinds same = refl
-reads_rest_on_observations read.ListAll own v w kinds same =
+answers_rest (read.ListAt (pos i)) own v w kinds same = ap item.Text (place_rests i own v w (list_any is_clear own) refl same)
+answers_rest (read.ListAt (negsuc i)) own v w kinds same = refl
+answers_rest read.ListAll own v w kinds same =
     ap item.Texts (by_clear Items keeps_items (λ v. refl) own v w _ refl (λ none. let is = same none in cc))
+
+-- ---- what is observed
+
+-- the whole is observed by the kind alone
+whole_of : Kind → Obs
+whole_of kind.Bool = obs.BoolIs
+whole_of kind.Text = obs.TextIs
+whole_of _ = obs.CounterIs
+
+whole_is : (v : Value) → whole_observed v ≡ whole_of (kind_of v)
+unfolding whole_of
+whole_is (value.Bool b) = refl
+whole_is (value.Counter n) = refl
+whole_is (value.Text t) = refl
+whole_is (value.Set s) = refl
+whole_is (value.Hash m) = refl
+whole_is (value.List xs) = refl
+
+-- a place is within both lists or in none, and else the lists are the same
+same_place : (i : ℕ) (v w : Value) (a b : Bool) → nat_lt i (length (list_in v)) ≡ b
+    → observe (cond (not a && b) (obs.ListAt i) obs.ListAll) v ≡ observe (cond (not a && b) (obs.ListAt i) obs.ListAll) w
+    → cond (not a && b) (obs.ListAt i) obs.ListAll ≡ cond (not a && nat_lt i (length (list_in w))) (obs.ListAt i) obs.ListAll
+same_place i v w true b within same = refl
+same_place i v w false true within same =
+    let there : i < length (list_in w) = slice_get_within (list_in w) i _ (sym (cc) ∙ slice_get-get_or (list_in v) i [] (ltb-true i (length (list_in v)) within)) in
+    let is : nat_lt i (length (list_in w)) ≡ true = grind (arith, nat_tests) in
+    sym (ap (λ b. cond b (obs.ListAt i) obs.ListAll) is)
+same_place i v w false false past same =
+    let lists : list_in v ≡ list_in w = cc in
+    sym (ap (λ b. cond b (obs.ListAt i) obs.ListAll) (ap (λ xs. nat_lt i (length xs)) (sym lists) ∙ past))
+
+observes_same : (r : ReadOp) (own : List WriteOp) (v w : Value) → kind_of v ≡ kind_of w → observe (observed r own v) v ≡ observe (observed r own v) w → observed r own v ≡ observed r own w
+observes_same read.Get own v w kinds same = whole_is v ∙ ap whole_of kinds ∙ sym (whole_is w)
+observes_same (read.ListAt (pos i)) own v w kinds same = same_place i v w (list_any is_list_remove own) (nat_lt i (length (list_in v))) refl same
+observes_same r own v w kinds same = refl
+
+-- the answer, and what is observed
+pub reads_rest_on_observations : ReadsRestOnObservations
+reads_rest_on_observations r own v w kinds same = (answers_rest r own v w kinds same, λ none. observes_same r own v w kinds (same none))

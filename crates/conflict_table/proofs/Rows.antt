@@ -19,6 +19,7 @@ use Rattle.conflict_table.specs.declared.observation.Obs.TheVariants as obs
 use Rattle.conflict_table.specs.declared.answer.Answer.TheVariants as answer
 use Rattle.conflict_table.specs.Clashes.{clash, has_some}
 use Rattle.conflict_table.specs.Laws.{NoClashNoChange, ClashesShowChanges, CompositionsClashByParts}
+use Rattle.rdt_types.proofs.OneKind.{OfOneKind, of_one_kind, bools, puts, put_then_add, add_then_put, adds, texts, sets, hashes, lists}
 use Rattle.conflict_table.proofs.Keys.{or_none, contains-overlaid, has_some-overlaid}
 use Rattle.conflict_table.proofs.Marked.{differs, get-applied_unmarked, applied_unmarked, changed_at, changed, touches-composed}
 use Rattle.conflict_table.proofs.Items as items
@@ -170,14 +171,16 @@ list_clashes (obs.ListAt i) d e = takes-composed d e
 list_clashes obs.ListAll d e = acts-composed d e
 
 -- a composition clears, marks, takes out or pushes where one of its parts does
+by_parts : (o : Obs) (first second : Delta) → OfOneKind first second → clash o (compose first second) ≡ (clash o first || clash o second)
+by_parts o first second (bools b c) = plain_clashes o (delta.PutBool b) (delta.PutBool c) (delta.PutBool c) tt tt tt
+by_parts o first second (puts m n) = plain_clashes o (delta.PutCounter m) (delta.PutCounter n) (delta.PutCounter n) tt tt tt
+by_parts o first second (put_then_add m n) = plain_clashes o (delta.PutCounter m) (delta.AddCounter n) (delta.PutCounter (wrapping_sum m n)) tt tt tt
+by_parts o first second (add_then_put m n) = plain_clashes o (delta.AddCounter m) (delta.PutCounter n) (delta.PutCounter n) tt tt tt
+by_parts o first second (adds m n) = plain_clashes o (delta.AddCounter m) (delta.AddCounter n) (delta.AddCounter (wrapping_sum m n)) tt tt tt
+by_parts o first second (texts x y) = plain_clashes o (delta.PutText x) (delta.PutText y) (delta.PutText y) tt tt tt
+by_parts o first second (sets d e) = set_clashes o d e
+by_parts o first second (hashes d e) = hash_clashes o d e
+by_parts o first second (lists d e) = list_clashes o d e
+
 pub compositions_clash_by_parts : CompositionsClashByParts
-compositions_clash_by_parts o (delta.Set d) (delta.Set e) kinds = set_clashes o d e
-compositions_clash_by_parts o (delta.Hash d) (delta.Hash e) kinds = hash_clashes o d e
-compositions_clash_by_parts o (delta.List d) (delta.List e) kinds = list_clashes o d e
-compositions_clash_by_parts o (delta.PutBool b) (delta.PutBool c) kinds = plain_clashes o (delta.PutBool b) (delta.PutBool c) (delta.PutBool c) tt tt tt
-compositions_clash_by_parts o (delta.PutText x) (delta.PutText y) kinds = plain_clashes o (delta.PutText x) (delta.PutText y) (delta.PutText y) tt tt tt
-compositions_clash_by_parts o (delta.PutCounter m) (delta.PutCounter n) kinds = plain_clashes o (delta.PutCounter m) (delta.PutCounter n) (delta.PutCounter n) tt tt tt
-compositions_clash_by_parts o (delta.PutCounter m) (delta.AddCounter n) kinds = plain_clashes o (delta.PutCounter m) (delta.AddCounter n) (delta.PutCounter (wrapping_sum m n)) tt tt tt
-compositions_clash_by_parts o (delta.AddCounter m) (delta.PutCounter n) kinds = plain_clashes o (delta.AddCounter m) (delta.PutCounter n) (delta.PutCounter n) tt tt tt
-compositions_clash_by_parts o (delta.AddCounter m) (delta.AddCounter n) kinds = plain_clashes o (delta.AddCounter m) (delta.AddCounter n) (delta.AddCounter (wrapping_sum m n)) tt tt tt
-compositions_clash_by_parts o first second kinds = absurd (cc)
+compositions_clash_by_parts o first second kinds = by_parts o first second (of_one_kind first second kinds)

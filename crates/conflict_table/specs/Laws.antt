@@ -1,11 +1,13 @@
 -- What the table of clashes promises, as laws over its definition.
 use Rattle.std.specs.Prelude.{◌≡◌, ◌≢◌, pos, true, false, ◌||◌, List, is_some, Some, FitsSigned}
 use Rattle.std.specs.Int.{w64}
+use Rattle.std.specs.List.{AllByRecursion}
+use Rattle.rdt_types.specs.declared.address.Kind.{Kind}
 use Rattle.rdt_types.specs.declared.value.Value.{Value}
 use Rattle.rdt_types.specs.declared.operation.WriteOp.{WriteOp}
 use Rattle.rdt_types.specs.declared.delta.Delta.{Delta}
 use Rattle.rdt_types.specs.declared.delta.Delta.TheVariants as delta
-use Rattle.rdt_types.specs.Values.{kind_of}
+use Rattle.rdt_types.specs.Values.{kind_of, kind_written}
 use Rattle.rdt_types.specs.Deltas.{apply, compose, delta_of, kind_changed}
 use Rattle.conflict_table.specs.declared.observation.Obs.{Obs}
 use Rattle.conflict_table.specs.declared.read.ReadOp.{ReadOp}
@@ -13,6 +15,7 @@ use Rattle.conflict_table.specs.Reads.{replay, answer, is_decided, observed}
 use Rattle.conflict_table.specs.Observing.{kind_observed, observe, IsWithin}
 use Rattle.conflict_table.specs.Clashes.{clash}
 use Rattle.conflict_table.specs.Parts.{named}
+use Rattle.conflict_table.specs.Composed.{composed_of, left_by, is_decided_by, observed_by}
 
 -- Without a clash a delta leaves what was observed as it was.
 abbrev pub NoClashNoChange : Type 0
@@ -53,9 +56,18 @@ abbrev pub PartsClashAlone : Type 0
 PartsClashAlone = (o : Obs) (d : Delta) (w : WriteOp) → named o d ≡ Some w → clash o (delta_of w) ≡ true
 
 -- A read rests on what it observes: of two values of one kind on which that is the same it answers the same, after the
--- body's own operations. Where these decide it, of every two.
+-- body's own operations, and observes the same. Where these decide it, it answers the same of every two.
 abbrev pub ReadsRestOnObservations : Type 0
 ReadsRestOnObservations =
     (r : ReadOp) (own : List WriteOp) (v w : Value) → kind_of v ≡ kind_of w
     → (is_decided r own ≡ false → observe (observed r own v) v ≡ observe (observed r own v) w)
-    → answer r (replay own v) ≡ answer r (replay own w)
+    → (answer r (replay own v) ≡ answer r (replay own w)) × (is_decided r own ≡ false → observed r own v ≡ observed r own w)
+
+-- Own operations of one kind may be kept as the one delta that they compose to: it decides a read exactly where they do,
+-- where they don't the read observes the same, and it leaves the same value.
+abbrev pub ReadsGoByCompositions : Type 0
+ReadsGoByCompositions =
+    (r : ReadOp) (k : Kind) (own : List WriteOp) (v : Value) → AllByRecursion (λ o. kind_written o ≡ k) own
+    → (is_decided_by r (composed_of own) ≡ is_decided r own)
+    × (is_decided r own ≡ false → observed_by r (composed_of own) v ≡ observed r own v)
+    × (left_by (composed_of own) v ≡ replay own v)

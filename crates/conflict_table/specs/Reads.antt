@@ -96,20 +96,24 @@ whole_observed _ = obs.CounterIs
 
 -- A place of a list that is observed: the place alone where no own operation takes items out and the place is within the
 -- value, and else the whole list, since its length counts.
-abbrev pub place_observed : ℤ → List WriteOp → List Bytes → Obs
-place_observed (pos i) own items = if not (list_any is_list_remove own) && nat_lt i (length items) then obs.ListAt i else obs.ListAll
-place_observed (negsuc i) own items = obs.ListAll
+abbrev pub place_observed : ℤ → Bool → List Bytes → Obs
+place_observed (pos i) takes_out items = if not takes_out && nat_lt i (length items) then obs.ListAt i else obs.ListAll
+place_observed (negsuc i) takes_out items = obs.ListAll
 
--- what a read that they don't decide observes of the value
+-- what a read observes of the value, where own operations take items out of a list or don't
+abbrev pub observed_where : ReadOp → Bool → Value → Obs
+observed_where read.Get takes_out v = whole_observed v
+observed_where (read.SetHas x) takes_out v = obs.SetHas x
+observed_where read.SetAll takes_out v = obs.SetAll
+observed_where (read.HashHas f) takes_out v = obs.HashAt f
+observed_where (read.HashGet f) takes_out v = obs.HashAt f
+observed_where read.HashFields takes_out v = obs.HashAll
+observed_where (read.ListAt i) takes_out v = place_observed i takes_out (list_in v)
+observed_where read.ListAll takes_out v = obs.ListAll
+
+-- what a read that own operations don't decide observes of the value
 abbrev pub observed : ReadOp → List WriteOp → Value → Obs
-observed read.Get own v = whole_observed v
-observed (read.SetHas x) own v = obs.SetHas x
-observed read.SetAll own v = obs.SetAll
-observed (read.HashHas f) own v = obs.HashAt f
-observed (read.HashGet f) own v = obs.HashAt f
-observed read.HashFields own v = obs.HashAll
-observed (read.ListAt i) own v = place_observed i own (list_in v)
-observed read.ListAll own v = obs.ListAll
+observed r own v = observed_where r (list_any is_list_remove own) v
 
 -- a put decides a `get`, and an addition doesn't
 put-decides : is_decided read.Get (op.AddCounter (pos 1) ∷ op.PutCounter (pos 2) ∷ []) ≡ true

@@ -1,6 +1,6 @@
 //! The laws of the table: functions that do nothing, whose contracts are theorems over its definitions.
 
-ghost use Rattle.conflict_table.specs.Laws.{NoClashNoChange, ClashesShowChanges, CompositionsClashByParts, ClashesHaveParts, PartsClashAlone, ReadsRestOnObservations};
+ghost use Rattle.conflict_table.specs.Laws.{NoClashNoChange, ClashesShowChanges, CompositionsClashByParts, ClashesHaveParts, PartsClashAlone, ReadsRestOnObservations, ReadsGoByCompositions};
 
 /// The law that without a clash a delta leaves what was observed as it was.
 pub fn no_clash_no_change()
@@ -27,7 +27,14 @@ pub fn parts_clash_alone()
     ensures { PartsClashAlone }
 {}
 
-/// The law that a read rests on what it observes: of two values on which that is the same it answers the same.
+/// The law that a read rests on what it observes: of two values on which that is the same it answers and observes the
+/// same.
 pub fn reads_rest_on_observations()
     ensures { ReadsRestOnObservations }
+{}
+
+/// The law that own operations may be kept as the one delta that they compose to: it decides the same reads, the others
+/// observe the same, and it leaves the same value.
+pub fn reads_go_by_compositions()
+    ensures { ReadsGoByCompositions }
 {}

@@ -20,7 +20,7 @@ mod table;
 pub use answer::Answer;
 pub use laws::{
     clashes_have_parts, clashes_show_changes, compositions_clash_by_parts, no_clash_no_change,
-    parts_clash_alone, reads_rest_on_observations,
+    parts_clash_alone, reads_go_by_compositions, reads_rest_on_observations,
 };
 pub use lent::{Part, copy_part};
 pub use naming::part;

@@ -1,8 +1,6 @@
 //! The part of a delta that is named where it clashes with an observation.
 
-ghost use Rattle.std.specs.Prelude.{◌≡◌, true, Some, nat_eq, find, option_map, option_copied};
-ghost use Rattle.std.specs.Cmp.Lexicographic.{pointwise};
-ghost use Rattle.std.specs.FinMap as map;
+ghost use Rattle.std.specs.Prelude.{◌≡◌, true, Some, option_map, option_copied};
 ghost use Rattle.rdt_types.specs.Deltas.{kind_changed};
 ghost use Rattle.conflict_table.specs.Observing.{kind_observed};
 ghost use Rattle.conflict_table.specs.Clashes.{clash};
@@ -11,15 +9,8 @@ ghost use Rattle.conflict_table.specs.Parts.{shown};
 
 use crate::lent::Part;
 use crate::observation::Obs;
-use plain_data::{Text, TextMap};
+use plain_data::Text;
 use rdt_types::{Delta, Mark};
-
-/// The pair at a key.
-fn pair_at<'a, V>(marks: &'a TextMap<V>, key: &Text) -> Option<&'a (Text, V)>
-    ensures { option_copied result ≡ find (λ pair. pointwise nat_eq pair.0 key.now) (map.entries marks.now) }
-{
-    marks.as_slice().iter().find(|pair| pair.0 == *key)
-}
 
 /// A mark at an element of a set, if there is one.
 fn set_part<'a>(mark: Option<&'a (Text, bool)>) -> Option<Part<'a>>
@@ -74,8 +65,8 @@ fn mark_part<'a>(delta: &'a Delta, key: &Text) -> Option<Part<'a>>
     ensures { option_map shown result ≡ parts.mark_part key.now delta.now }
 {
     match delta {
-        Delta::Set(d) => set_part(pair_at(d.marks(), key)),
-        Delta::Hash(d) => hash_part(pair_at(d.marks(), key)),
+        Delta::Set(d) => set_part(d.marks().get_pair(key)),
+        Delta::Hash(d) => hash_part(d.marks().get_pair(key)),
         _ => None,
     }
 }

@@ -4,7 +4,7 @@ use Rattle.std.proofs.Math.Seq.{drop-cons}
 use Rattle.std.specs.Ordering.{match_ordering}
 use Rattle.std.specs.declared.cmp.Ordering.TheVariants.{Less, Equal, Greater}
 use Rattle.plain_data.specs.Texts.{Bytes, text_cmp}
-use Rattle.plain_data.specs.Merging.{before, after, pair_at, merged}
+use Rattle.plain_data.specs.code.Merging.{before, after, pair_at, merged}
 
 module _ {V : Type 0} (key : Bytes) where
   -- nothing is below or above a key where nothing is

@@ -7,17 +7,13 @@ use Rattle.std.specs.Ordering.{is_lt, is_eq, eq_by_cmp, ordering_reverse}
 use Rattle.std.specs.declared.cmp.Ordering.{Ordering}
 use Rattle.std.specs.declared.cmp.Ordering.TheVariants.{Less, Equal, Greater}
 use Rattle.std.specs.FinMap as map
-use Rattle.std.specs.FinMap.{nat_cmp-IsAntisymmetric, slice_cmp-IsAntisymmetric}
 use Rattle.std.specs.FinMap.Entries.{find, put, where_key, is_sorted, below_all, by_order, is_sorted-put, is_sorted-where_key, find-where_key, same_entries}
 use Rattle.std.specs.Cmp.Lexicographic.{nat_list_cmp_total}
 use Rattle.plain_data.specs.Texts.{Bytes, MapOf, text_cmp}
 use Rattle.plain_data.specs.Overlays.{with_at, marked_by, overlaid, found_after}
-use Rattle.plain_data.specs.Merging.{before, after, pair_at, merged}
-use Rattle.plain_data.proofs.TextMaps.{both, halves, less, empty-from_sorted}
+use Rattle.plain_data.specs.code.Merging.{before, after, pair_at, merged}
+use Rattle.plain_data.proofs.TextMaps.{both, halves, less, same, empty-from_sorted}
 use Rattle.plain_data.proofs.Merging.{before_below, after_below, before_at, after_at, before_above, after_above}
-
-same : (x y : Bytes) → text_cmp x y ≡ Equal → x ≡ y
-same = slice_cmp-IsAntisymmetric nat_cmp-IsAntisymmetric
 
 -- a greater key is above what a lesser one is above
 greater-through : (key next x : Bytes) → text_cmp key next ≡ Less → text_cmp key x ≡ Greater → text_cmp next x ≡ Greater
@@ -224,7 +220,8 @@ overlaid-one left m key mark = ap (marked_by left m) (entries-one key mark)
 
 -- ---- what holds of all values of a map
 
-Some_is : {V : Type 0} (x y : V) → Some x ≡ Some y → x ≡ y
+-- equal answers have equal values
+pub Some_is : {V : Type 0} (x y : V) → Some x ≡ Some y → x ≡ y
 Some_is x y e = ap (λ o. unwrap_or o x) e
 
 module _ {V : Type 0} (p : V → Bool) where

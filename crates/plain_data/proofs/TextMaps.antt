@@ -1,7 +1,9 @@
 -- Lists of pairs whose keys rise, as the finite maps of std see them.
-use Rattle.std.proofs.Common.{◌≡◌, Some, Bool, true, false, cond, T, ◌&&◌, List, [], ◌∷◌, length, ◌↔◌, refl, sym, ap, ◌∙◌, subst}
+use Rattle.std.proofs.Common.{◌≡◌, ℕ, zero, suc, ◌+◌, ◌<◌, get_or, Option, Some, None, IfSome, option_map, Bor, Bool, true, false, cond, T, ◌&&◌, List, [], ◌∷◌, length, ◌↔◌, refl, sym, ap, ◌∙◌, subst, arith}
 use Rattle.std.specs.Cmp.{IsTotalOrder}
-use Rattle.std.specs.List.{AllByRecursion}
+use Rattle.std.specs.List.{AllByRecursion, IsAllAdjacentAnswer}
+use Rattle.std.specs.Bool.{MatchBool}
+use Rattle.std.proofs.lemmas.Map.Keys.{sorted_from_all_adjacent, Less-from_sorted}
 use Rattle.std.specs.List.Sorted.{IsStrictlySortedBy}
 use Rattle.std.specs.Map.{lookup, keys_of}
 use Rattle.std.specs.BTreeMap.{insert_entry, is_at}
@@ -10,6 +12,10 @@ use Rattle.std.specs.declared.cmp.Ordering.{Ordering}
 use Rattle.std.specs.declared.cmp.Ordering.TheVariants.{Less, Equal, Greater}
 use Rattle.std.specs.FinMap as map
 use Rattle.std.specs.FinMap.Entries.{find, put, is_sorted, below_all, by_order}
+use Rattle.std.specs.FinMap.{nat_cmp-IsAntisymmetric, slice_cmp-IsAntisymmetric}
+use Rattle.std.specs.Option.{option_copied}
+use Rattle.std.proofs.lemmas.Bool.{false≢true}
+use Rattle.plain_data.specs.Texts.{Bytes, text_cmp}
 
 -- two that hold
 pub both : (a b : Bool) → T a → T b → T (a && b)
@@ -87,3 +93,44 @@ module _ {K V : Type 0} (R : K → K → Ordering) where
       ∙ insert_entry-is-put R k v es
       ∙ ap (put R k v) (sym (map.entries-from_sorted R es before))
       ∙ sym (map.entries-insert o _ k v))
+
+-- ---- whether keys rise
+
+is_less : (r : Ordering) → is_lt r ≡ true → r ≡ Less
+is_less r h = less r (subst T (sym h) tt)
+
+module _ {V : Type 0} (R : Bytes → Bytes → Ordering) (o : IsTotalOrder R) where
+  get_or-keys : (es : List (Bytes × V)) (k : ℕ) (d : Bytes × V) → get_or (keys_of es) k d.0 ≡ (get_or es k d).0
+  get_or-keys [] k d = refl
+  get_or-keys (e ∷ es) zero d = refl
+  get_or-keys (e ∷ es) (suc k) d = get_or-keys es k d
+
+  length-keys : (es : List (Bytes × V)) → length (keys_of es) ≡ length es
+  length-keys [] = refl
+  length-keys (e ∷ es) = ap suc (length-keys es)
+
+  next-keys : (es : List (Bytes × V)) (k : ℕ) (d : Bytes × V) → R (get_or (keys_of es) k d.0) (get_or (keys_of es) (k + 1) d.0) ≡ R (get_or es k d).0 (get_or es (k + 1) d).0
+  next-keys es k d i = R (get_or-keys es k d i) (get_or-keys es (k + 1) d i)
+
+  -- keys rise exactly where each is below the next
+  pub rising-from_adjacent : (es : List (Bytes × V)) (b : Bool) → IsAllAdjacentAnswer (λ x y t. t ≡ is_lt (R x.0 y.0)) es b
+      → MatchBool b (IsStrictlySortedBy R (keys_of es)) (IsStrictlySortedBy R (keys_of es) → ⊥)
+  rising-from_adjacent [] true adjacent = rising-from_sorted {V = V} R [] tt
+  rising-from_adjacent (e ∷ es) true adjacent =
+      sorted_from_all_adjacent o (keys_of (e ∷ es)) e.0
+      (λ k within. next-keys (e ∷ es) k e ∙ is_less _ (sym (adjacent k e (subst (λ n. k + 1 < n) (length-keys (e ∷ es)) within))))
+  rising-from_adjacent [] false adjacent = λ rising. omega (arith, adjacent.1)
+  rising-from_adjacent (e ∷ es) false adjacent = λ rising.
+      let k = adjacent.0 in
+      let below = Less-from_sorted R (keys_of (e ∷ es)) k (k + 1) e.0 rising (omega arith) (subst (λ n. k + 1 < n) (sym (length-keys (e ∷ es))) adjacent.1) in
+      false≢true (adjacent.2 e ∙ ap is_lt (sym (next-keys (e ∷ es) k e) ∙ below))
+
+-- texts that compare equal are one
+pub same : (x y : Bytes) → text_cmp x y ≡ Equal → x ≡ y
+same = slice_cmp-IsAntisymmetric nat_cmp-IsAntisymmetric
+
+-- a pair whose key compares equal to a text is the text and the value there
+pub pair_is : {V : Type 0} (r : Option (Bor (Bytes × V))) (key : Bytes) (o : Option V) → option_map (λ e. e.1) (option_copied r) ≡ o
+    → IfSome r (λ pair. text_cmp key pair.now.0 ≡ Equal) → option_copied r ≡ option_map (λ v. (key, v)) o
+pair_is None key o is equal = ap (option_map (λ v. (key, v))) is
+pair_is (Some pair) key o is equal = ap (λ k. Some (k, pair.now.1)) (sym (same key pair.now.0 equal)) ∙ ap (option_map (λ v. (key, v))) is

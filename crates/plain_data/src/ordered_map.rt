@@ -1,6 +1,6 @@
 //! A map with its keys in order, in one block of memory.
 
-ghost use Rattle.std.specs.Prelude.{◌≡◌, ◌↔◌, ◌<◌, ◌≤◌, ℕ, [], length, slice_get, false, Some, IsTrue, IfOk, OnOk, OnErr};
+ghost use Rattle.std.specs.Prelude.{◌≡◌, ◌↔◌, ◌<◌, ◌≤◌, ℕ, [], length, slice_get, false, Some, option_map, IsTrue, IfSome, IfOk, OnOk, OnErr};
 ghost use Rattle.std.specs.Option.{option_copied};
 ghost use Rattle.std.specs.Bool.{OnTrue, OnFalse};
 ghost use Rattle.std.specs.BTreeMap.{insert_entry, is_at};
@@ -51,18 +51,30 @@ fn entry_at<K: Ord, V>(entries: &[(K, V)], place: usize) -> Option<&(K, V)>
     entries.get(place)
 }
 
+/// The pair at a key.
+fn pair_at<'a, K: Ord, V>(entries: &'a [(K, V)], key: &K) -> Option<&'a (K, V)>
+    requires { IsStrictlySortedBy K.cmp (keys_of entries.now) }
+    ensures value { option_map (λ pair. pair.1) (option_copied result) ≡ lookup (is_at (K.cmp key.now)) entries.now }
+    ensures key { IfSome result (λ pair. K.cmp key.now pair.now.0 ≡ Ordering.Equal) }
+{
+    let place = place_of(entries, key);
+    match entry_at(entries, place) {
+        None => None,
+        Some(pair) => match key.cmp(&pair.0) {
+            Ordering::Equal => Some(pair),
+            _ => None,
+        },
+    }
+}
+
 /// The value at a key.
 fn value_at<'a, K: Ord, V>(entries: &'a [(K, V)], key: &K) -> Option<&'a V>
     requires { IsStrictlySortedBy K.cmp (keys_of entries.now) }
     ensures { option_copied result ≡ lookup (is_at (K.cmp key.now)) entries.now }
 {
-    let place = place_of(entries, key);
-    match entry_at(entries, place) {
+    match pair_at(entries, key) {
         None => None,
-        Some(entry) => match key.cmp(&entry.0) {
-            Ordering::Equal => Some(&entry.1),
-            _ => None,
-        },
+        Some(pair) => Some(&pair.1),
     }
 }
 
@@ -152,6 +164,14 @@ impl<K: Ord, V> OrderedMap<K, V> {
         ensures { option_copied result ≡ lookup (is_at (K.cmp key.now)) self.now }
     {
         value_at(self.entries.as_slice(), key)
+    }
+
+    /// The pair at a key, found by halving.
+    pub fn get_pair(&self, key: &K) -> Option<&(K, V)>
+        ensures value { option_map (λ pair. pair.1) (option_copied result) ≡ lookup (is_at (K.cmp key.now)) self.now }
+        ensures key { IfSome result (λ pair. K.cmp key.now pair.now.0 ≡ Ordering.Equal) }
+    {
+        pair_at(self.entries.as_slice(), key)
     }
 }
 

@@ -2,10 +2,10 @@
 
 ghost use Rattle.std.specs.Prelude.{◌≡◌, ◌++◌, Option, IfOk, OnOk};
 ghost use Rattle.plain_data.specs.Overlays.{overlaid};
-ghost use Rattle.plain_data.specs.Merging.{before, after, pair_at, merged};
+ghost use Rattle.plain_data.specs.code.Merging.{before, after, pair_at, merged};
 
 use crate::copies::ExactClone;
-use crate::sequence::Text;
+use crate::sequence::{Sequence, Text};
 use crate::text_map::TextMap;
 use std::alloc::{AllocError, Global};
 use std::cmp::Ordering;
@@ -45,7 +45,7 @@ fn copy_before<'a, V: ExactClone + Drop>(
 }
 
 /// Adds the pair of a key, where there is a value for it.
-#[tactic(auto, unfolding(crate::specs::Merging::pair_at))]
+#[tactic(auto, unfolding(crate::specs::code::Merging::pair_at))]
 fn add_pair<V: Drop>(
     pairs: &mut Vec<(Text, V)>,
     key: &Text,
@@ -59,21 +59,8 @@ fn add_pair<V: Drop>(
     Ok(())
 }
 
-/// Copies pairs.
-fn copy_all<V: ExactClone + Drop>(
-    pairs: &mut Vec<(Text, V)>,
-    more: &[(Text, V)],
-) -> Result<(), AllocError>
-    ensures { OnOk result (pairs.new.items ≡ pairs.old.items ++ more.now) }
-{
-    for pair in more {
-        pairs.push(pair.clone()?)?;
-    }
-    Ok(())
-}
-
 /// The pairs under marks, after each of these.
-#[tactic(auto, unfolding(crate::specs::Merging::merged))]
+#[tactic(auto, unfolding(crate::specs::code::Merging::merged))]
 fn merge<M, V: ExactClone + Drop, L: Marking<M, V>>(
     alloc: Global,
     marking: &L,
@@ -88,8 +75,9 @@ fn merge<M, V: ExactClone + Drop, L: Marking<M, V>>(
         rest = copy_before(&mut pairs, rest, key)?;
         add_pair(&mut pairs, key, marking.left(mark)?)?;
     }
-    copy_all(&mut pairs, rest)?;
-    Ok(pairs)
+    let mut all = Sequence::from_vec(pairs);
+    all.extend_cloned(rest)?;
+    Ok(all.into_vec())
 }
 
 impl<V: ExactClone + Drop> TextMap<V> {

@@ -187,6 +187,32 @@ impl<T: Drop> Sequence<T> {
     }
 }
 
+/// Adds clones of items. For want of memory some of them may be there.
+fn push_clones<T: ExactClone + Drop>(items: &mut Vec<T>, more: &[T]) -> Result<(), AllocError>
+    ensures ok { OnOk result (items.new.items ≡ items.old.items ++ more.now) }
+    ensures begun { take (length items.old.items) items.new.items ≡ items.old.items }
+{
+    for item in more {
+        items.push(item.clone()?)?;
+    }
+    Ok(())
+}
+
+impl<T: ExactClone + Drop> Sequence<T> {
+    /// Adds clones of the items of a slice at the end.
+    pub fn extend_cloned(&mut self, more: &[T]) -> Result<(), AllocError>
+        ensures ok { OnOk result (self.new ≡ self.old ++ more.now) }
+        ensures err { OnErr result (self.new ≡ self.old) }
+    {
+        let count = self.items.len();
+        let added = push_clones(&mut self.items, more);
+        if added.is_err() {
+            self.items.truncate(count);
+        }
+        added
+    }
+}
+
 impl<T: Copy> Sequence<T> {
     /// A copy of a slice.
     pub fn from_slice(alloc: Global, items: &[T]) -> Result<Sequence<T>, AllocError>

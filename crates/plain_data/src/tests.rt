@@ -1,7 +1,7 @@
 //! Each call once, with ample memory.
 
 use crate::{Boxed, Marking, OrderedMap, Sequence, Text, TextMap, TextSet};
-use std::alloc::AllocError;
+use std::alloc::{AllocError, Global};
 use std::test::Fail;
 
 #[test]
@@ -103,5 +103,31 @@ fn maps_give_their_vectors_back(rt: HostRuntime) -> Result<(), Fail> {
     map.insert(1u8, 2u8)?;
     let same = OrderedMap::from_vec(map.into_vec());
     assert_eq!(rt; same.get(&1).copied(), Some(2));
+    assert_eq!(rt; same.get_pair(&1).copied(), Some((1, 2)));
+    Ok(())
+}
+
+/// A vector of two pairs.
+fn pairs(alloc: Global, first: &[u8], second: &[u8]) -> Result<Vec<(Text, u8)>, AllocError> {
+    let mut pairs = Vec::new(alloc);
+    pairs.push((Text::from_slice(alloc, first)?, 1u8))?;
+    pairs.push((Text::from_slice(alloc, second)?, 2))?;
+    Ok(pairs)
+}
+
+#[test]
+fn keys_of_a_map_rise(rt: HostRuntime) -> Result<(), Fail> {
+    let alloc = rt.alloc();
+    assert!(rt; TextMap::try_from_vec(pairs(alloc, b"b", b"a")?).is_none());
+    assert!(rt; TextMap::try_from_vec(pairs(alloc, b"a", b"a")?).is_none());
+    let b = Text::from_slice(alloc, b"b")?;
+    match TextMap::try_from_vec(pairs(alloc, b"a", b"b")?) {
+        Some(map) => assert_eq!(rt; map.get_pair(&b).map(|pair| pair.1), Some(2u8)),
+        None => assert!(rt; false),
+    }
+    let mut all = Sequence::from_vec(pairs(alloc, b"a", b"b")?);
+    let more = pairs(alloc, b"c", b"d")?;
+    all.extend_cloned(more.as_slice())?;
+    assert_eq!(rt; all.len(), 4);
     Ok(())
 }

@@ -1,7 +1,8 @@
 //! Maps and sets of texts.
 
-ghost use Rattle.std.specs.Prelude.{◌≡◌, ◌↔◌, IsTrue, OnOk, OnErr};
+ghost use Rattle.std.specs.Prelude.{◌≡◌, ◌==◌, option_map, IfSome, IfNone, OnOk, OnErr};
 ghost use Rattle.std.specs.Option.{option_copied};
+ghost use Rattle.std.specs.Bool.{MatchBool};
 ghost use Rattle.std.specs.FinMap as map;
 ghost use Rattle.std.specs.Map.{keys_of};
 ghost use Rattle.std.specs.List.Sorted.{IsStrictlySortedBy};
@@ -83,9 +84,9 @@ impl<V> TextMap<V> {
 
     /// Whether there is no key.
     pub fn is_empty(&self) -> bool
-        ensures { IsTrue result ↔ (self.now ≡ map.empty) }
+        ensures { result ≡ (map.len self.now == 0) }
     {
-        self.entries.is_empty()
+        self.len() == 0
     }
 
     /// The value at a key, found by halving.
@@ -93,6 +94,13 @@ impl<V> TextMap<V> {
         ensures { option_copied result ≡ map.get self.now key.now }
     {
         self.entries.get(key)
+    }
+
+    /// The pair at a key, found by halving.
+    pub fn get_pair(&self, key: &Text) -> Option<&(Text, V)>
+        ensures { option_copied result ≡ option_map (λ value. (key.now, value)) (map.get self.now key.now) }
+    {
+        self.entries.get_pair(key)
     }
 
     /// Whether a key is there.
@@ -103,7 +111,26 @@ impl<V> TextMap<V> {
     }
 }
 
+/// Whether keys rise.
+fn rises<V>(entries: &[(Text, V)]) -> bool
+    ensures { MatchBool result (IsStrictlySortedBy text_cmp (keys_of entries.now)) (IsStrictlySortedBy text_cmp (keys_of entries.now) → ⊥) }
+{
+    entries.is_sorted_by(|a, b| a.0.cmp(&b.0).is_lt())
+}
+
 impl<V: Drop> TextMap<V> {
+    /// The pairs of a `Vec`, in its own memory, or `None` where their keys don't rise strictly.
+    pub fn try_from_vec(entries: Vec<(Text, V)>) -> Option<TextMap<V>>
+        ensures some { IfSome result (λ m. map.entries m ≡ entries.items) }
+        ensures none { IfNone result (IsStrictlySortedBy text_cmp (keys_of entries.items) → ⊥) }
+    {
+        if rises(entries.as_slice()) {
+            Some(TextMap::from_vec(entries))
+        } else {
+            None
+        }
+    }
+
     /// Puts a value at a key, in the place of the one that was there. For want of memory the pair is dropped.
     pub fn insert(&mut self, key: Text, value: V) -> Result<(), AllocError>
         ensures ok { OnOk result (self.new ≡ map.insert self.old key value) }

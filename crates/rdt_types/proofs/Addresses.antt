@@ -1,53 +1,21 @@
 -- The order of addresses tells them apart.
-use Rattle.std.proofs.Common.{◌≡◌, refl}
+use Rattle.std.proofs.Common.{◌≡◌, refl, ap, ◌∙◌}
+use denote.Enum.Bare.{same_true}
+use Rattle.rdt_types.specs.contracts.address.KindOrd.TheImpl.Laws as laws
+use Rattle.rdt_types.specs.contracts.address.Kind.{the_type}
 use Rattle.std.specs.FinMap.{nat_cmp-IsAntisymmetric, slice_cmp-IsAntisymmetric}
 use Rattle.std.specs.Cmp.Lexicographic.{slice_cmp}
-use Rattle.std.specs.Ordering.{nat_cmp, ordering_then}
+use Rattle.std.specs.Ordering.{nat_cmp, is_eq, ordering_then}
 use Rattle.std.specs.declared.cmp.Ordering.{Ordering}
 use Rattle.std.specs.declared.cmp.Ordering.TheVariants.{Less, Equal, Greater}
 use Rattle.rdt_types.specs.declared.address.Kind.{Kind}
-use Rattle.rdt_types.specs.declared.address.Kind.TheVariants as kind
 use Rattle.rdt_types.specs.declared.address.Address.{Address}
 use Rattle.rdt_types.specs.contracts.address.KindOrd.TheImpl as kinds
 use Rattle.rdt_types.specs.Addresses.{address_cmp}
 
+-- kinds that compare equal are one
 same_kind : (j k : Kind) → kinds.ghosts.cmp j k ≡ Equal → j ≡ k
-same_kind kind.Bool kind.Bool e = refl
-same_kind kind.Bool kind.Counter e = absurd (cc)
-same_kind kind.Bool kind.Text e = absurd (cc)
-same_kind kind.Bool kind.Set e = absurd (cc)
-same_kind kind.Bool kind.Hash e = absurd (cc)
-same_kind kind.Bool kind.List e = absurd (cc)
-same_kind kind.Counter kind.Bool e = absurd (cc)
-same_kind kind.Counter kind.Counter e = refl
-same_kind kind.Counter kind.Text e = absurd (cc)
-same_kind kind.Counter kind.Set e = absurd (cc)
-same_kind kind.Counter kind.Hash e = absurd (cc)
-same_kind kind.Counter kind.List e = absurd (cc)
-same_kind kind.Text kind.Bool e = absurd (cc)
-same_kind kind.Text kind.Counter e = absurd (cc)
-same_kind kind.Text kind.Text e = refl
-same_kind kind.Text kind.Set e = absurd (cc)
-same_kind kind.Text kind.Hash e = absurd (cc)
-same_kind kind.Text kind.List e = absurd (cc)
-same_kind kind.Set kind.Bool e = absurd (cc)
-same_kind kind.Set kind.Counter e = absurd (cc)
-same_kind kind.Set kind.Text e = absurd (cc)
-same_kind kind.Set kind.Set e = refl
-same_kind kind.Set kind.Hash e = absurd (cc)
-same_kind kind.Set kind.List e = absurd (cc)
-same_kind kind.Hash kind.Bool e = absurd (cc)
-same_kind kind.Hash kind.Counter e = absurd (cc)
-same_kind kind.Hash kind.Text e = absurd (cc)
-same_kind kind.Hash kind.Set e = absurd (cc)
-same_kind kind.Hash kind.Hash e = refl
-same_kind kind.Hash kind.List e = absurd (cc)
-same_kind kind.List kind.Bool e = absurd (cc)
-same_kind kind.List kind.Counter e = absurd (cc)
-same_kind kind.List kind.Text e = absurd (cc)
-same_kind kind.List kind.Set e = absurd (cc)
-same_kind kind.List kind.Hash e = absurd (cc)
-same_kind kind.List kind.List e = refl
+same_kind j k e = same_true the_type tt j k (laws.matches_eq-law j k ∙ ap is_eq e)
 
 both_equal : (r s : Ordering) → ordering_then r s ≡ Equal → (r ≡ Equal) × (s ≡ Equal)
 both_equal Equal s e = (refl, e)

@@ -1,11 +1,11 @@
 -- Deltas of sets and hashes: their composition is one after the other, and keeps their form.
 use Rattle.std.proofs.Common.{◌≡◌, nat_eq, Bool, true, false, not, cond, T, Option, Some, None, refl, sym, ap, ◌∙◌, subst}
-use Rattle.std.specs.Option.{unwrap_or, is_some}
+use Rattle.std.specs.Option.{is_some}
 use Rattle.std.specs.List.{list_all}
 use Rattle.std.specs.FinMap as map
 use Rattle.plain_data.specs.Texts.{Bytes, text_cmp, MapOf}
 use Rattle.plain_data.specs.Overlays.{overlaid, with_at, found_after}
-use Rattle.plain_data.proofs.Overlays.{same_map, get-overlaid, entries-empty, len-one, overlaid-none, overlaid-one, get-all, all-get, some-len, len-some}
+use Rattle.plain_data.proofs.Overlays.{same_map, get-overlaid, entries-empty, len-one, overlaid-none, overlaid-one, get-all, all-get, some-len, len-some, Some_is}
 use Rattle.rdt_types.specs.Keyed.{Keyed, marking, clearing, has_form, applied, mark_after, composed}
 
 module _ {M V : Type 0} (left : M → Option V) where
@@ -60,9 +60,6 @@ module _ {M V : Type 0} (left : M → Option V) where
 
   abbrev leaving : M → Bool
   leaving mark = is_some (left mark)
-
-  Some_is : {A : Type 0} (x y : A) → Some x ≡ Some y → x ≡ y
-  Some_is x y e = ap (λ o. unwrap_or o x) e
 
   kept : (mark other : M) (b : Bool) → is_some (left mark) ≡ b → cond (not b) None (Some mark) ≡ Some other → T (is_some (left other))
   kept mark other true e is = subst (λ x. T (is_some (left x))) (Some_is mark other is) (subst T (sym e) tt)

@@ -5,10 +5,11 @@ use Rattle.rdt_types.specs.declared.value.Value.{Value}
 use Rattle.rdt_types.specs.declared.value.Value.TheVariants as value
 use Rattle.rdt_types.specs.declared.mark.Mark.TheVariants as mark
 use Rattle.rdt_types.specs.declared.operation.WriteOp.TheVariants as op
-use Rattle.rdt_types.specs.declared.delta.Delta.TheVariants.{PutBool, PutCounter, AddCounter, PutText, Set, Hash, List}
+use Rattle.rdt_types.specs.declared.delta.Delta.{Delta}
 use Rattle.rdt_types.specs.Values.{wrapping_sum, counter_in, set_in, hash_in, list_in}
 use Rattle.rdt_types.specs.Marks.{added, put_by}
-use Rattle.rdt_types.specs.Deltas.{DeltasWrite, CompositionsApplyInTurn}
+use Rattle.rdt_types.specs.Deltas.{apply, compose, DeltasWrite, CompositionsApplyInTurn}
+use Rattle.rdt_types.proofs.OneKind.{OfOneKind, of_one_kind, bools, puts, put_then_add, add_then_put, adds, texts, sets, hashes, lists}
 use Rattle.rdt_types.proofs.Keyed as keyed
 use Rattle.rdt_types.proofs.Listed as listed
 
@@ -32,36 +33,17 @@ deltas_write op.ListClear v = refl
 adds_in_turn : (m n : ℤ) (v : Value) → wrapping_sum (counter_in v) (wrapping_sum m n) ≡ wrapping_sum (wrapping_sum (counter_in v) m) n
 adds_in_turn m n v = grind (arith, common_steps)
 
--- a put forgets what was before; an addition, a set's, a hash's and a list's delta go by the first, which is of its kind
+-- kind by kind: a put forgets what was before it, and an addition goes into it
+in_turn : (first second : Delta) (v : Value) → OfOneKind first second → apply (compose first second) v ≡ apply second (apply first v)
+in_turn first second v (bools b c) = refl
+in_turn first second v (puts m n) = refl
+in_turn first second v (put_then_add m n) = refl
+in_turn first second v (add_then_put m n) = refl
+in_turn first second v (adds m n) = ap value.Counter (adds_in_turn m n v)
+in_turn first second v (texts x y) = refl
+in_turn first second v (sets d e) = ap value.Set (keyed.applied-composed added d e (set_in v))
+in_turn first second v (hashes d e) = ap value.Hash (keyed.applied-composed put_by d e (hash_in v))
+in_turn first second v (lists d e) = ap value.List (listed.applied-composed d e (list_in v))
+
 pub compositions_apply_in_turn : CompositionsApplyInTurn
-compositions_apply_in_turn first (PutBool b) v same = refl
-compositions_apply_in_turn first (PutCounter n) v same = refl
-compositions_apply_in_turn first (PutText t) v same = refl
-compositions_apply_in_turn (PutBool b) (AddCounter n) v same = absurd (cc)
-compositions_apply_in_turn (PutCounter m) (AddCounter n) v same = refl
-compositions_apply_in_turn (AddCounter m) (AddCounter n) v same = ap value.Counter (adds_in_turn m n v)
-compositions_apply_in_turn (PutText t) (AddCounter n) v same = absurd (cc)
-compositions_apply_in_turn (Set d) (AddCounter n) v same = absurd (cc)
-compositions_apply_in_turn (Hash d) (AddCounter n) v same = absurd (cc)
-compositions_apply_in_turn (List d) (AddCounter n) v same = absurd (cc)
-compositions_apply_in_turn (PutBool b) (Set e) v same = absurd (cc)
-compositions_apply_in_turn (PutCounter m) (Set e) v same = absurd (cc)
-compositions_apply_in_turn (AddCounter m) (Set e) v same = absurd (cc)
-compositions_apply_in_turn (PutText t) (Set e) v same = absurd (cc)
-compositions_apply_in_turn (Set d) (Set e) v same = ap value.Set (keyed.applied-composed added d e (set_in v))
-compositions_apply_in_turn (Hash d) (Set e) v same = absurd (cc)
-compositions_apply_in_turn (List d) (Set e) v same = absurd (cc)
-compositions_apply_in_turn (PutBool b) (Hash e) v same = absurd (cc)
-compositions_apply_in_turn (PutCounter m) (Hash e) v same = absurd (cc)
-compositions_apply_in_turn (AddCounter m) (Hash e) v same = absurd (cc)
-compositions_apply_in_turn (PutText t) (Hash e) v same = absurd (cc)
-compositions_apply_in_turn (Set d) (Hash e) v same = absurd (cc)
-compositions_apply_in_turn (Hash d) (Hash e) v same = ap value.Hash (keyed.applied-composed put_by d e (hash_in v))
-compositions_apply_in_turn (List d) (Hash e) v same = absurd (cc)
-compositions_apply_in_turn (PutBool b) (List e) v same = absurd (cc)
-compositions_apply_in_turn (PutCounter m) (List e) v same = absurd (cc)
-compositions_apply_in_turn (AddCounter m) (List e) v same = absurd (cc)
-compositions_apply_in_turn (PutText t) (List e) v same = absurd (cc)
-compositions_apply_in_turn (Set d) (List e) v same = absurd (cc)
-compositions_apply_in_turn (Hash d) (List e) v same = absurd (cc)
-compositions_apply_in_turn (List d) (List e) v same = ap value.List (listed.applied-composed d e (list_in v))
+compositions_apply_in_turn first second v same = in_turn first second v (of_one_kind first second same)

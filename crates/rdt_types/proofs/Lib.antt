@@ -1,5 +1,5 @@
+pub mod OneKind
 pub mod Laws
 pub mod Addresses
 pub mod Keyed
 pub mod Listed
-pub mod Shards

@@ -1,9 +1,10 @@
 -- Deltas of sets and hashes: whether all is cleared, and marks at some elements or fields.
-use Rattle.std.specs.Prelude.{Bool, true, false, not, ◌&&◌, if◌then◌else◌, Option, Some, None, is_some, nat_eq, refl}
+use Rattle.std.specs.Prelude.{Bool, true, false, not, ◌&&◌, if◌then◌else◌, Option, Some, None, is_some, nat_eq, ◌≡◌, refl}
+use Rattle.std.proofs.Common.{ap}
 use Rattle.std.specs.List.{list_all}
 use Rattle.std.specs.FinMap as map
 use Rattle.std.specs.Coded.{Coded, code_by, coded×, coded_bool, coded_list, coded_ℕ}
-use Rattle.plain_data.specs.Texts.{Bytes, MapOf}
+use Rattle.plain_data.specs.Texts.{Bytes, MapOf, text_cmp}
 use Rattle.plain_data.specs.Overlays.{overlaid}
 
 -- whether what was there is cleared, and then what is done at some keys
@@ -16,6 +17,10 @@ abbrev pub keyed_code : {M : Type 0} → Coded M → Coded (Keyed M)
 keyed_code {M} marks = code_by (Bool × MapOf M) (coded× coded_bool (map.code (coded_list coded_ℕ) marks)) (λ d. (d.cleared, d.marks)) (λ p. record { cleared = p.0; marks = p.1 }) (λ _. refl)
 
 module _ {M : Type 0} where
+  -- the two parts
+  abbrev pub of_parts : Bool → MapOf M → Keyed M
+  of_parts cleared marks = record { cleared = cleared; marks = marks }
+
   -- one mark at a key
   abbrev pub marking : Bytes → M → Keyed M
   marking key mark = record { cleared = false; marks = map.insert map.empty key mark }
@@ -43,3 +48,7 @@ module _ {M V : Type 0} (left : M → Option V) where
   -- the second in their place.
   abbrev pub composed : Keyed M → Keyed M → Keyed M
   composed d e = if e.cleared then e else (record { cleared = d.cleared; marks = overlaid (mark_after d.cleared) d.marks e.marks })
+
+-- to clear nothing and to mark nothing is no delta
+nothing-done : {M V : Type 0} (left : M → Option V) → has_form left (of_parts false map.empty) ≡ false
+nothing-done {M} left = ap (λ n. not (nat_eq n 0)) (map.len-empty text_cmp M)

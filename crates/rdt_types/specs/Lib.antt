@@ -7,3 +7,4 @@ pub mod Deltas
 pub mod DeltaMaps
 pub mod Printed
 pub mod Shards
+pub mod Limits

@@ -19,6 +19,10 @@ listed_code =
     code_by (Bool × (SetOfTexts × List Bytes)) (coded× coded_bool (coded× (map.code (coded_list coded_ℕ) coded_unit) (coded_list (coded_list coded_ℕ))))
     (λ d. (d.cleared, (d.removed, d.pushed))) (λ p. record { cleared = p.0; removed = p.1.0; pushed = p.1.1 }) (λ _. refl)
 
+-- the three parts
+abbrev pub of_parts : Bool → SetOfTexts → List Bytes → Listed
+of_parts cleared removed pushed = record { cleared = cleared; removed = removed; pushed = pushed }
+
 -- the items without those that are equal to a text of some
 abbrev pub without : SetOfTexts → List Bytes → List Bytes
 without removed items = filter (λ item. not (has_text removed item)) items

@@ -1,6 +1,7 @@
 //! Deltas of sets and hashes.
 
-ghost use Rattle.std.specs.Prelude.{◌≡◌, T, IfOk};
+ghost use Rattle.std.specs.Prelude.{◌≡◌, T, is_some, IfSome, IfOk};
+ghost use Rattle.std.specs.List.{list_all};
 ghost use Rattle.rdt_types.specs.Keyed as spec;
 ghost use Rattle.rdt_types.specs.Keyed.{has_form};
 
@@ -68,7 +69,42 @@ impl<M: Leaves> Marking<M, M> for Following {
     }
 }
 
+/// Whether each mark leaves something.
+fn all_leave<M: Leaves>(marks: &[(Text, M)]) -> bool
+    ensures { result ≡ list_all (λ mark. is_some (M.left mark.1)) marks.now }
+{
+    for (_, mark) in marks {
+        if !mark.leaves() {
+            return false;
+        }
+    }
+    true
+}
+
+/// Whether parts have the form of a delta.
+fn have_form<M: Leaves>(cleared: bool, marks: &TextMap<M>) -> bool
+    ensures { result ≡ has_form M.left (spec.of_parts cleared marks.now) }
+{
+    if cleared {
+        all_leave(marks.as_slice())
+    } else {
+        !marks.is_empty()
+    }
+}
+
 impl<M: Leaves> KeyedDelta<M> {
+    /// The delta of these parts, or `None` where they don't have the form of one. It takes no memory.
+    pub fn from_parts(cleared: bool, marks: TextMap<M>) -> Option<KeyedDelta<M>>
+        ensures form { is_some result ≡ has_form M.left (spec.of_parts cleared marks) }
+        ensures parts { IfSome result (λ d. d ≡ spec.of_parts cleared marks) }
+    {
+        if have_form(cleared, &marks) {
+            Some(KeyedDelta { cleared, marks })
+        } else {
+            None
+        }
+    }
+
     /// One mark at a key.
     pub fn marking(alloc: Global, key: &Text, mark: M) -> Result<KeyedDelta<M>, AllocError>
         ensures { IfOk result (λ d. d ≡ spec.marking key.now mark) }

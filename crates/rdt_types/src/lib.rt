@@ -10,6 +10,7 @@ mod address;
 mod delta;
 mod delta_map;
 mod keyed_delta;
+mod limits;
 mod list_delta;
 mod mark;
 mod operation;
@@ -23,6 +24,10 @@ pub use address::{Address, Kind};
 pub use delta::{Delta, apply, compose, compositions_apply_in_turn, delta_of, deltas_write};
 pub use delta_map::{DeltaMap, add_delta};
 pub use keyed_delta::{HashDelta, KeyedDelta, SetDelta};
+pub use limits::{
+    LARGEST_TEXTS, LEAST_COMMITS, LEAST_SHARDS, LEAST_WINDOW, LONGEST_TEXT, MOST_COMMITS,
+    MOST_SHARDS, MOST_WINDOW, STANDARD_COMMITS, STANDARD_SHARDS, STANDARD_WINDOW,
+};
 pub use list_delta::ListDelta;
 pub use mark::{Leaves, Mark};
 pub use operation::WriteOp;

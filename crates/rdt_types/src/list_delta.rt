@@ -1,6 +1,6 @@
 //! Deltas of lists.
 
-ghost use Rattle.std.specs.Prelude.{◌≡◌, ◌++◌, if◌then◌else◌, T, Some, IfOk, OnOk};
+ghost use Rattle.std.specs.Prelude.{◌≡◌, if◌then◌else◌, T, Some, is_some, IfSome, IfOk};
 ghost use Rattle.std.specs.FinMap as map;
 ghost use Rattle.plain_data.specs.Overlays.{union};
 ghost use Rattle.rdt_types.specs.Listed as spec;
@@ -75,14 +75,15 @@ fn removed_by_both(
     first.overlaid(alloc, &Naming, second)
 }
 
-/// Adds copies of items at the end.
-fn push_all(items: &mut TextList, more: &TextList) -> Result<(), AllocError>
-    ensures { OnOk result (items.new ≡ items.old ++ more.now) }
+/// Whether parts have the form of a delta.
+fn have_form(cleared: bool, removed: &TextSet, pushed: &TextList) -> bool
+    ensures { result ≡ has_form (spec.of_parts cleared removed.now pushed.now) }
 {
-    for item in more.as_slice() {
-        items.push(item.clone()?)?;
+    if cleared {
+        removed.is_empty()
+    } else {
+        !removed.is_empty() || !pushed.is_empty()
     }
-    Ok(())
 }
 
 impl ListDelta {
@@ -123,6 +124,22 @@ impl ListDelta {
         }
     }
 
+    /// The delta of these parts, or `None` where they don't have the form of one. It takes no memory.
+    pub fn from_parts(cleared: bool, removed: TextSet, pushed: TextList) -> Option<ListDelta>
+        ensures form { is_some result ≡ has_form (spec.of_parts cleared removed pushed) }
+        ensures parts { IfSome result (λ d. d ≡ spec.of_parts cleared removed pushed) }
+    {
+        if have_form(cleared, &removed, &pushed) {
+            Some(ListDelta {
+                cleared,
+                removed,
+                pushed,
+            })
+        } else {
+            None
+        }
+    }
+
     /// The list after the delta.
     pub fn applied(&self, alloc: Global, items: &TextList) -> Result<TextList, AllocError>
         ensures { IfOk result (λ list. list ≡ spec.applied self.now items.now) }
@@ -132,7 +149,7 @@ impl ListDelta {
         } else {
             without(alloc, &self.removed, items)?
         };
-        push_all(&mut list, &self.pushed)?;
+        list.extend_cloned(self.pushed.as_slice())?;
         Ok(list)
     }
 
@@ -145,7 +162,7 @@ impl ListDelta {
         }
         let removed = removed_by_both(alloc, self.cleared, &self.removed, &second.removed)?;
         let mut pushed = without(alloc, &second.removed, &self.pushed)?;
-        push_all(&mut pushed, &second.pushed)?;
+        pushed.extend_cloned(second.pushed.as_slice())?;
         Ok(ListDelta {
             cleared: self.cleared,
             removed,

@@ -5,6 +5,7 @@ ghost use Rattle.rdt_types.specs.Printed.{spelled, spelling_of as spelling, prin
 ghost use Rattle.rdt_types.specs.Shards as spec;
 
 use crate::address::Address;
+use crate::limits::{LEAST_SHARDS, MOST_SHARDS};
 use crate::printed::{Spelling, spelling_of};
 
 /// One byte more, in 32 bits.
@@ -46,10 +47,10 @@ fn hashed_text(hash: u32, text: &[u8]) -> u32
     hashed(hash, b'"')
 }
 
-/// The shard of an address among as many as there are, from 1 to 16: begun with 0, each byte of the printed address makes
+/// The shard of an address among as many as there are: begun with 0, each byte of the printed address makes
 /// 31 times what was there and itself, in 32 bits, and the rest of that by the number of shards is the answer.
 pub fn shard_of(address: &Address, shards: u8) -> u8
-    requires { (1 ≤ shards) × (shards ≤ 16) }
+    requires { (LEAST_SHARDS ≤ shards) × (shards ≤ MOST_SHARDS) }
     ensures { result ≡ spec.shard_of address.now shards }
 {
     let begun = hashed_all(0, address.kind.word());

@@ -1,10 +1,11 @@
 //! Each call once, with ample memory: tables of compositions and shards, and every pair of operations of a kind.
 
 use crate::{
-    Address, Delta, DeltaMap, KeyedDelta, Kind, ListDelta, Mark, Settings, Spelling, TextList,
-    Value, WriteOp, add_delta, apply, compose, default_value, delta_of, shard_of, spelling_of,
+    Address, Delta, DeltaMap, KeyedDelta, Kind, ListDelta, Mark, STANDARD_COMMITS, Settings,
+    Spelling, TextList, Value, WriteOp, add_delta, apply, compose, default_value, delta_of,
+    shard_of, spelling_of,
 };
-use plain_data::Text;
+use plain_data::{Text, TextMap, TextSet};
 use std::alloc::{AllocError, Global};
 use std::test::Fail;
 
@@ -113,6 +114,59 @@ fn deltas_tell_what_they_do(rt: HostRuntime) -> Result<(), Fail> {
     assert!(rt; !pushed.cleared());
     assert!(rt; pushed.removed().is_empty());
     assert_eq!(rt; pushed.pushed().len(), 1);
+    Ok(())
+}
+
+/// Whether parts make a set's delta, with a mark at `a` where one is named.
+fn makes_set(alloc: Global, cleared: bool, mark: Option<bool>) -> Result<bool, AllocError> {
+    let mut marks = TextMap::new(alloc);
+    if let Some(is_added) = mark {
+        marks.insert(text(alloc, b"a")?, is_added)?;
+    }
+    Ok(KeyedDelta::from_parts(cleared, marks).is_some())
+}
+
+/// Whether parts make a list's delta, each of `a` where it isn't empty.
+fn makes_list(
+    alloc: Global,
+    cleared: bool,
+    removes: bool,
+    pushes: bool,
+) -> Result<bool, AllocError> {
+    let mut removed = TextSet::new(alloc);
+    if removes {
+        removed.insert(text(alloc, b"a")?, ())?;
+    }
+    let mut pushed = TextList::new(alloc);
+    if pushes {
+        pushed.push(text(alloc, b"a")?)?;
+    }
+    Ok(ListDelta::from_parts(cleared, removed, pushed).is_some())
+}
+
+#[test]
+fn parts_make_deltas_by_their_form(rt: HostRuntime) -> Result<(), Fail> {
+    let alloc = rt.alloc();
+    let sets = [
+        (false, None, false),
+        (false, Some(false), true),
+        (true, None, true),
+        (true, Some(true), true),
+        (true, Some(false), false),
+    ];
+    for (cleared, mark, is_delta) in sets {
+        assert_eq!(rt; makes_set(alloc, cleared, mark)?, is_delta);
+    }
+    let lists = [
+        (false, false, false, false),
+        (false, true, false, true),
+        (false, false, true, true),
+        (true, false, true, true),
+        (true, true, true, false),
+    ];
+    for (cleared, removes, pushes, is_delta) in lists {
+        assert_eq!(rt; makes_list(alloc, cleared, removes, pushes)?, is_delta);
+    }
     Ok(())
 }
 
@@ -261,6 +315,6 @@ fn deltas_stand_by_address(rt: HostRuntime) -> Result<(), Fail> {
         Some(delta) => assert!(rt; *delta == Delta::AddCounter(4)),
         None => assert!(rt; false),
     }
-    assert_eq!(rt; Settings::standard().limit, 100_000);
+    assert_eq!(rt; Settings::standard().limit, STANDARD_COMMITS);
     Ok(())
 }

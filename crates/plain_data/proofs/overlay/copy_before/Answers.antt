@@ -1,5 +1,5 @@
 use Rattle.std.proofs.Common.{sym, ap, ◌∙◌, rules}
-use Rattle.plain_data.specs.Merging.{before, after}
+use Rattle.plain_data.specs.code.Merging.{before, after}
 use Rattle.plain_data.proofs.Merging.{before_none, after_none, before_below, before_at, after_above, all_copied, one_copied}
 use Rattle.plain_data.proofs.TextMaps.{empty-length}
 use Rattle.plain_data.proofs.overlay.copy_before.Goals as goal

@@ -1,5 +1,5 @@
 use Rattle.std.proofs.Common.{◌≡◌, ◌++◌, length}
-use Rattle.plain_data.specs.Merging.{before, after}
+use Rattle.plain_data.specs.code.Merging.{before, after}
 use Rattle.plain_data.proofs.overlay.copy_before.Given as goal
 
 -- what is copied and what is below the key in the rest is what was there and what is below it in all

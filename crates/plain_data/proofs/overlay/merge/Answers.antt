@@ -1,6 +1,6 @@
-use Rattle.std.proofs.Common.{◌+◌, ◌++◌, drop, sym, ap, arith}
+use Rattle.std.proofs.Common.{◌+◌, ◌++◌, drop, sym, ap, ◌∙◌, arith}
 use Rattle.std.proofs.Math.ListN.{drop_of_length-le}
-use Rattle.plain_data.specs.Merging.{merged}
+use Rattle.plain_data.specs.code.Merging.{merged}
 use Rattle.plain_data.proofs.Merging.{one_merged, rest_merged, drop-item}
 use Rattle.plain_data.proofs.overlay.merge.Goals as goal
 
@@ -17,5 +17,6 @@ loop-key-preserved g c =
 
 pub returns : goal.returns
 returns g c =
-    rest_merged (g.L.Marking.left c.args.marking.now) c.loop-key.pairs.items c.copy_all.new.pairs.items c.loop-key.rest.now (drop c.loop-key.key-index c.args.over.now) _
-    (drop_of_length-le c.args.over.now (omega (arith, c.loop-key-test.false))) c.in_ok-copy_all.ensures c.loop-key.invariant
+    rest_merged (g.L.Marking.left c.args.marking.now) c.loop-key.pairs.items c.into_vec.result.items c.loop-key.rest.now (drop c.loop-key.key-index c.args.over.now) _
+    (drop_of_length-le c.args.over.now (omega (arith, c.loop-key-test.false)))
+    (c.into_vec.ensures ∙ c.in_ok-extend_cloned.ensures.ok ∙ ap (λ xs. xs ++ c.loop-key.rest.now) c.from_vec-all.ensures) c.loop-key.invariant

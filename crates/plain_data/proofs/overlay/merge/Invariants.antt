@@ -1,5 +1,5 @@
 use Rattle.std.proofs.Common.{◌≡◌, ◌++◌, drop}
-use Rattle.plain_data.specs.Merging.{merged}
+use Rattle.plain_data.specs.code.Merging.{merged}
 use Rattle.plain_data.proofs.overlay.merge.Given as goal
 
 -- what is copied, and the rest with the marks that are left, are the whole

@@ -1,4 +1,4 @@
--- How an overlay is made in one pass over both lists of pairs.
+-- The pass of the code over both lists of pairs. `merged-is-overlaid` of proofs/Overlays ties it to the rule, `overlaid` of specs/Overlays.
 use Rattle.std.specs.Prelude.{List, [], ◌∷◌, ◌++◌, Option, Some, None}
 use Rattle.std.specs.Ordering.{match_ordering}
 use Rattle.plain_data.specs.Texts.{Bytes, text_cmp}
