@@ -1,8 +1,12 @@
 -- A reader fits its rule where its parts do: one lemma for each way to put readers together.
-use Rattle.std.proofs.Common.{◌≡◌, Bool, true, false, not, List, [], ◌∷◌, ◌++◌, Option, Some, None, Ok, Err, refl, ap, sym, ◌∙◌, subst, cond, inl, inr}
+use Rattle.std.proofs.Common.{◌≡◌, Bool, true, false, not, List, [], ◌∷◌, ◌++◌, length, take, drop, Option, Some, None, Ok, Err, refl, ap, sym, ◌∙◌, subst, cond, inl, inr}
 use Rattle.std.proofs.lemmas.List.Elements.{All-nil, All-append, All-cons}
-use Rattle.predictive_parsing.specs.Reading.{Reader, next, is_made, begins, and_then, pure, one, on_made, either, optional}
-use Rattle.predictive_parsing.specs.Rules.{Rule, One, Then, Pure, Or, Optional}
+use Rattle.std.specs.List.{prefix_len, AllPass}
+use Rattle.std.proofs.lemmas.List.{take-append-drop}
+use Rattle.std.proofs.Math.Seq.{take-append_seam, drop-append_seam}
+use Rattle.predictive_parsing.specs.Reading.{Reader, next, is_made, begins, ahead, and_then, pure, one, on_made, either, optional, guided, run}
+use Rattle.predictive_parsing.specs.Rules.{Rule, One, Then, Pure, Or, Optional, Of, Word, SpelledBy, Run}
+use Rattle.predictive_parsing.proofs.Prefixes.{prefix_len-front, prefix-passes, prefix-stops}
 use Rattle.predictive_parsing.specs.Fits.{Fits, Taken, Stuck, Completes, any, unless}
 use Rattle.predictive_parsing.proofs.Basic.{next_kept, assoc, cut_twice, ok_pair, err_same, both, not_true, bind_ok, bind_err, taken_as, stuck_as, completes_as}
 
@@ -252,3 +256,87 @@ module _ {I : Type 0} (Possible : I → Type 0) where
         (narrowed (unless starts follows) (λ h e. refl) (pure_fits None))
         (λ ts us a r. begins ts r.middle r.value r.first)
         (λ ts us a r e. ap (λ xs. starts (next xs)) r.here ∙ not_true (starts (next us)) (both (follows (next us)) (not (starts (next us))) e).1)
+
+  -- ---- another rule that derives the same
+
+  module _ {A : Type 0} {p : Reader I A} {P Q : Rule I A} {follows : Option I → Bool} where
+    -- the same reader fits it
+    pub fits_as : ((ts us : List I) (a : A) → P ts a us → Q ts a us) → ((ts us : List I) (a : A) → Q ts a us → P ts a us) → Fits Possible p P follows → Fits Possible p Q follows
+    fits_as to from fp = record {
+      takes = λ ts us a e. taken_as p p P Q to ts us a (λ vs h. refl) (fp.takes ts us a e);
+      reads = λ ts us a r h. fp.reads ts us a (from ts us a r) h;
+      refuses = λ ts us e. stuck_as p p P Q to Possible ts us (λ vs h. refl) (fp.refuses ts us e);
+      some = completes_as p p P Q to Possible [] fp.some;
+    }
+
+  -- a word that is read for a value is the items of that value
+  pub spelled_to : {A : Type 0} (f : A → List I) (ts us : List I) (c : A) → (a : A) × Of (λ _. a) (Word (f a)) ts c us → SpelledBy f ts c us
+  spelled_to f ts us c r =
+      let o = r.1 in
+      o.first ∙ ap (λ xs. f r.0 ++ xs) o.second.here ∙ ap (λ x. f x ++ us) (sym o.second.is)
+
+  -- and the items of a value are its word
+  pub spelled_from : {A : Type 0} (f : A → List I) (ts us : List I) (c : A) → SpelledBy f ts c us → (a : A) × Of (λ _. a) (Word (f a)) ts c us
+  spelled_from f ts us c r = (c, record { value = tt; middle = us; first = r; second = record { is = refl; here = refl } })
+
+  -- ---- what the item ahead tells
+
+  module _ {A B : Type 0} (guess : Option I → A) (q : A → Reader I B) (Q : A → Rule I B) (follows : Option I → Bool) (fq : (a : A) → Fits Possible (q a) (Q a) follows)
+      (right : (a : A) (ts us : List I) (b : B) → Q a ts b us → follows (next us) ≡ true → guess (next ts) ≡ a) (example : A) where
+    -- one of the forms
+    abbrev SomeOf : Rule I B
+    SomeOf ts b us = (a : A) × Q a ts b us
+
+    -- the same form is told wherever the same item is ahead
+    told : (ts vs : List I) → next vs ≡ next ts → q (guess (next ts)) vs ≡ guided guess q vs
+    told ts vs h = ap (λ o. q (guess o) vs) (sym h)
+
+    -- What is ahead tells which form it is, wherever one is derived.
+    pub guided_fits : Fits Possible (guided guess q) SomeOf follows
+    guided_fits = record {
+      takes = λ ts us b e. taken_as (q (guess (next ts))) (guided guess q) (Q (guess (next ts))) SomeOf (λ xs ys c r. (guess (next ts), r)) ts us b (told ts) ((fq (guess (next ts))).takes ts us b e);
+      reads = λ ts us b r h. ap (λ a. q a ts) (right r.0 ts us b r.1 h) ∙ (fq r.0).reads ts us b r.1 h;
+      refuses = λ ts us e. stuck_as (q (guess (next ts))) (guided guess q) (Q (guess (next ts))) SomeOf (λ xs ys c r. (guess (next ts), r)) Possible ts us (told ts) ((fq (guess (next ts))).refuses ts us e);
+      some = completes_as (q example) (q example) (Q example) SomeOf (λ xs ys c r. (example, r)) Possible [] (fq example).some;
+    }
+
+  -- ---- as many items as pass a test
+
+  module _ (passes : I → Bool) where
+    -- what is read is a front that passes, with nothing that does behind it
+    run_front : (ts us front : List I) → run passes ts ≡ Ok (front, us) → (ts ≡ front ++ us) × AllPass passes front × (ahead passes (next us) ≡ false)
+    unfolding run
+    run_front ts us front e =
+        let k = ok_pair (take (prefix_len passes ts) ts) front (drop (prefix_len passes ts) ts) us e in
+        (sym (take-append-drop (prefix_len passes ts) ts) ∙ ap (λ xs. xs ++ drop (prefix_len passes ts) ts) k.0 ∙ ap (λ xs. front ++ xs) k.1, subst (λ xs. AllPass passes xs) k.0 (prefix-passes passes ts), ap (λ xs. ahead passes (next xs)) (sym k.1) ∙ prefix-stops passes ts)
+
+    -- such a front is read
+    run_reads : (front us : List I) → AllPass passes front → ahead passes (next us) ≡ false → run passes (front ++ us) ≡ Ok (front, us)
+    unfolding run
+    run_reads front us all e =
+        ap (λ n. Ok (take n (front ++ us), drop n (front ++ us))) (prefix_len-front passes front us all e)
+        ∙ ap (λ xs. Ok (xs, drop (length front) (front ++ us))) (take-append_seam front us) ∙ ap (λ xs. Ok (front, xs)) (drop-append_seam front us)
+
+    run_takes : (ts us front : List I) → run passes ts ≡ Ok (front, us) → Taken (run passes) (Run passes) ts front us
+    run_takes ts us front e =
+        let k = run_front ts us front e in
+        record {
+          front = front;
+          cut = k.0;
+          derives = λ vs. record { cut = refl; pass = k.1 };
+          again = λ vs h. run_reads front vs k.1 (ap (ahead passes) h ∙ k.2);
+        }
+
+    -- a run is never refused
+    run_reads_all : (ts us : List I) → run passes ts ≡ Err us → ⊥
+    unfolding run
+    run_reads_all ts us e = cc
+
+    -- As many as there are: what follows doesn't pass.
+    pub run_fits : Fits Possible (run passes) (Run passes) (unless (ahead passes) any)
+    run_fits = record {
+      takes = run_takes;
+      reads = λ ts us front r h. ap (run passes) r.cut ∙ run_reads front us r.pass (not_true (ahead passes (next us)) h);
+      refuses = λ ts us e. absurd (run_reads_all ts us e);
+      some = record { rest = []; value = []; possible = All-nil Possible; derives = λ vs. record { cut = refl; pass = All-nil (λ x. passes x ≡ true) } };
+    }

@@ -1,5 +1,9 @@
 pub mod Basic
 pub mod Combined
 pub mod Lists
+pub mod Words
 pub mod Wholes
+pub mod Columns
+pub mod Cursors
+pub mod Prefixes
 pub mod Loops

@@ -3,3 +3,7 @@ pub mod Reading
 pub mod Fits
 pub mod Stops
 pub mod Examples
+pub mod Columns
+pub mod Bytes
+pub mod Reads
+pub mod Digits

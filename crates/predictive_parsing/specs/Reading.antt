@@ -1,6 +1,7 @@
 -- Readers: functions that read the front of a list of items and look one item ahead. They are written as rules are, and
 -- each choice names the items with which its first part begins.
-use Rattle.std.specs.Prelude.{ℕ, zero, suc, Bool, true, false, if◌then◌else◌, List, [], ◌∷◌, length, Option, Some, None, Result, Ok, Err}
+use Rattle.std.specs.Prelude.{ℕ, zero, suc, Bool, true, false, if◌then◌else◌, List, [], ◌∷◌, length, take, drop, Option, Some, None, Result, Ok, Err}
+use Rattle.std.specs.List.{prefix_len}
 
 -- a value and the items behind it, or the items from the first one on that does not fit
 abbrev pub Outcome : Type 0 → Type 0 → Type 0
@@ -38,6 +39,11 @@ abbrev pub begins : {I A : Type 0} → (I → Option A) → Option I → Bool
 begins f None = false
 begins f (Some item) = is_made (f item)
 
+-- whether an item is ahead that passes the test
+abbrev pub ahead : {I : Type 0} → (I → Bool) → Option I → Bool
+ahead test None = false
+ahead test (Some item) = test item
+
 abbrev pub on_made : {I A : Type 0} → I → Option A → List I → Outcome I A
 on_made item (Some a) ts = Ok (a, ts)
 on_made item None ts = Err (item ∷ ts)
@@ -73,6 +79,20 @@ list p starts q = do
 -- one where it begins
 unfoldable pub optional : {I A : Type 0} → (Option I → Bool) → Reader I A → Reader I (Option A)
 optional starts p = either starts (do a ← p; pure (Some a)) (pure None)
+
+-- what is read, seen as another value
+abbrev pub of : {I A B : Type 0} → (A → B) → Reader I A → Reader I B
+of f p = do
+  a ← p
+  pure (f a)
+
+-- what is ahead tells what is to be read
+abbrev pub guided : {I A B : Type 0} → (Option I → A) → (A → Reader I B) → Reader I B
+guided guess q = λ ts. q (guess (next ts)) ts
+
+-- the items at the front that pass a test, as many as there are
+unfoldable pub run : {I : Type 0} → (I → Bool) → Reader I (List I)
+run passes ts = Ok (take (prefix_len passes ts) ts, drop (prefix_len passes ts) ts)
 
 abbrev pub whole_of : {I A : Type 0} → Outcome I A → Result A (List I)
 whole_of (Ok (a, [])) = Ok a

@@ -1,6 +1,7 @@
 -- What stands at the front of a list of items, as relations: nothing here chooses, looks ahead or counts. A rule is
 -- written in the notation of `do`, in the order of the grammar.
-use Rattle.std.specs.Prelude.{◌≡◌, ◌⊎◌, List, [], ◌∷◌, Option, Some, None}
+use Rattle.std.specs.Prelude.{◌≡◌, ◌⊎◌, Bool, List, [], ◌∷◌, ◌++◌, Option, Some, None}
+use Rattle.std.specs.List.{AllPass}
 
 -- A rule: `P ts a us` says that the items ts are those of the value a, and then us.
 abbrev pub Rule : Type 0 → Type 0 → Type 1
@@ -47,6 +48,31 @@ ListOf P Q = do
 -- one or none
 abbrev pub Optional : {I A : Type 0} → Rule I A → Rule I (Option A)
 Optional P = Or (do a ← P; Pure (Some a)) (Pure None)
+
+-- these items
+abbrev pub Word : {I : Type 0} → List I → Rule I (Unit {0})
+Word word ts _ us = ts ≡ word ++ us
+
+-- the items that f gives for the value
+abbrev pub SpelledBy : {I A : Type 0} → (A → List I) → Rule I A
+SpelledBy f ts a us = ts ≡ f a ++ us
+
+-- what the rule derives, seen as another value
+abbrev pub Of : {I A B : Type 0} → (A → B) → Rule I A → Rule I B
+Of f P = do
+  a ← P
+  Pure (f a)
+
+-- some items, and then what the rule derives
+abbrev pub Behind : {I A : Type 0} → List I → Rule I A → Rule I A
+Behind word P = do
+  _ ← Word word
+  P
+
+-- any number of items that pass a test
+pub record Run {I : Type 0} (passes : I → Bool) (ts run us : List I) : Type 0 where
+  pub cut : ts ≡ run ++ us
+  pub pass : AllPass passes run
 
 -- all the items are those of the value
 abbrev pub Whole : {I A : Type 0} → Rule I A → List I → A → Type 0

@@ -1,0 +1,82 @@
+-- One item, taken or refused.
+use Rattle.std.proofs.Common.{◌≡◌, ◌<◌, ◌≤◌, ◌+◌, ℕ, List, [], ◌∷◌, take, drop, get_or, length, Bool, false, Option, Some, None, Ok, Err, refl, ap, sym, ◌∙◌, arith}
+use Rattle.std.specs.List.{prefix_len}
+use Rattle.std.proofs.lemmas.List.{drop_more, drop_all}
+use Rattle.plain_data.specs.Texts.{Bytes}
+use Rattle.predictive_parsing.specs.Reading.{Outcome, next, is_made, begins, ahead, run, one, on_made, and_then}
+use Rattle.predictive_parsing.specs.Bytes.{byte, word}
+use Rattle.predictive_parsing.specs.Reads.{made_of}
+
+module _ {I A : Type 0} (f : I → Option A) where
+  -- an item of which f makes a value is taken
+  pub made_taken : (item : I) (us ts : List I) (a : A) → ts ≡ item ∷ us → f item ≡ Some a → one f ts ≡ Ok (a, us)
+  unfolding one
+  made_taken item us ts a e h = ap (one f) e ∙ ap (λ o. on_made item o us) h
+
+  -- one of which it makes nothing is refused
+  pub none_made : (item : I) (us ts : List I) → ts ≡ item ∷ us → f item ≡ None → one f ts ≡ Err ts
+  unfolding one
+  none_made item us ts e h = ap (one f) e ∙ ap (λ o. on_made item o us) h ∙ ap (λ xs. Err xs) (sym e)
+
+  -- and so is the end
+  pub none_left : (ts : List I) → length ts ≡ 0 → one f ts ≡ Err ts
+  unfolding one
+  none_left [] e = refl
+  none_left (item ∷ ts) e = absurd (omega arith)
+
+  -- the same by what is made of the item ahead
+  pub taken : (ts : List I) (a : A) → made_of f ts ≡ Some a → one f ts ≡ Ok (a, drop 1 ts)
+  unfolding one
+  taken [] a e = absurd (cc)
+  taken (item ∷ ts) a e = ap (λ o. on_made item o ts) e
+
+  pub refused : (ts : List I) → made_of f ts ≡ None → one f ts ≡ Err ts
+  unfolding one
+  refused [] e = refl
+  refused (item ∷ ts) e = ap (λ o. on_made item o ts) e
+
+  none_refused : (item : I) (o : Option A) (ts : List I) → is_made o ≡ false → on_made item o ts ≡ Err (item ∷ ts)
+  none_refused item None ts e = refl
+  none_refused item (Some a) ts e = absurd (cc)
+
+  -- the same by a test of the item ahead
+  pub test_refused : (ts : List I) → begins f (next ts) ≡ false → one f ts ≡ Err ts
+  unfolding one
+  test_refused [] e = refl
+  test_refused (item ∷ ts) e = none_refused item (f item) ts e
+
+  -- an item of which something is made is there
+  pub made_shorter : (ts : List I) (a : A) → made_of f ts ≡ Some a → length (drop 1 ts) < length ts
+  made_shorter [] a e = absurd (cc)
+  made_shorter (item ∷ ts) a e = omega arith
+
+-- what a test says of the item ahead
+pub ahead_is : {I : Type 0} (passes : I → Bool) (item : I) (ts : List I) → next ts ≡ Some item → passes item ≡ ahead passes (next ts)
+ahead_is passes item ts e = ap (ahead passes) (sym e)
+
+-- the items at the front that pass, and the others
+pub run_is : {I : Type 0} (passes : I → Bool) (ts front us : List I) (n : ℕ) → n ≡ prefix_len passes ts → front ≡ take n ts → us ≡ drop n ts → run passes ts ≡ Ok (front, us)
+unfolding run
+run_is passes ts front us n e f b =
+    ap (λ m. Ok (take m ts, drop m ts)) (sym e) ∙ ap (λ xs. Ok (xs, drop n ts)) (sym f) ∙ ap (λ xs. Ok (front, xs)) (sym b)
+
+-- ---- the loop over a word's bytes
+
+module _ (w ts : Bytes) (i : ℕ) where
+  -- the word from a place on is the byte there and those behind it
+  word_cut : i < length w → word (drop i w) ts ≡ and_then (byte (get_or w i 0) ts) (λ _. word (drop (i + 1) w))
+  unfolding word
+  word_cut l = ap (λ xs. word xs ts) (drop_more w i 0 l)
+
+  -- one byte more is taken
+  pub word_more : (us : Bytes) → i < length w → byte (get_or w i 0) ts ≡ Ok (tt, us) → word (drop i w) ts ≡ word (drop (i + 1) w) us
+  word_more us l e = word_cut l ∙ ap (λ o. and_then o (λ _. word (drop (i + 1) w))) e
+
+  -- the first byte that doesn't fit is refused
+  pub word_refused : (us : Bytes) (whole : Outcome ℕ (Unit {0})) → word (drop i w) ts ≡ whole → i < length w → byte (get_or w i 0) ts ≡ Err us → whole ≡ Err us
+  word_refused us whole so_far l e = sym so_far ∙ word_cut l ∙ ap (λ o. and_then o (λ _. word (drop (i + 1) w))) e
+
+  -- no byte is left
+  pub word_done : length w ≤ i → word (drop i w) ts ≡ Ok (tt, ts)
+  unfolding word
+  word_done l = ap (λ xs. word xs ts) (drop_all i w l)
