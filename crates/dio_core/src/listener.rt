@@ -1,8 +1,9 @@
 //! Where links come in, and are given back when they are done.
 
 ghost use Rattle.std.specs.Prelude.{◌≡◌, ℕ, List, Option, None, OnOk, OnErr};
-ghost use Rattle.dio_core.specs.Counts.{one_more, Grows, Rose};
-ghost use Rattle.dio_core.specs.Listeners.{Accepts, IsFailed, with_last};
+ghost use Rattle.dio_core.specs.Counts.{one_more, IsCounted};
+ghost use Rattle.dio_core.specs.Links.{incoming, outgoing};
+ghost use Rattle.dio_core.specs.Listeners.{Accepts, accept_failed, with_last};
 
 use crate::count::Count;
 use crate::memory::MemLink;
@@ -17,8 +18,15 @@ pub trait End: Source + Sink {
     fn end(&mut self)
         ensures left { Self.left self.new ≡ Self.left self.old }
         ensures taken { Self.taken self.new ≡ Self.taken self.old }
+        ensures passed { Self.passed self.new ≡ Self.passed self.old }
         ensures read_faults { Self.read_faults self.new ≡ Self.read_faults self.old }
         ensures write_faults { Self.write_faults self.new ≡ Self.write_faults self.old };
+
+    // The link is one object: what no read changes is what it tells as a sink, and what no write changes is what it
+    // tells as a source.
+    ghost written_is: { (x : Self) → Self.written x ≡ outgoing (Self.taken x) (Self.passed x) (Self.write_faults x) };
+
+    ghost unread_is: { (x : Self) → Self.unread x ≡ incoming (Self.left x) (Self.read_faults x) };
 }
 
 /// What an accept gave.
@@ -49,8 +57,7 @@ pub trait Listener {
     fn accept(&mut self) -> Accepted<Self::Link>
         ensures accepts { Accepts result (links self.old) (links self.new) }
         ensures same { given_back self.new ≡ given_back self.old }
-        ensures count { Grows (accept_faults self.old) (accept_faults self.new) }
-        ensures fault { IsFailed result → Rose (accept_faults self.old) (accept_faults self.new) };
+        ensures counted { IsCounted (accept_failed result) (accept_faults self.old) (accept_faults self.new) };
 
     /// Gives a link back that is done with. For want of memory the link is gone.
     fn give_back(&mut self, link: Self::Link, status: u8) -> Result<(), AllocError>
@@ -99,7 +106,7 @@ impl Listener for NoListener {
     ghost accept_faults = { λ l. l };
 
     fn accept(&mut self) -> Accepted<MemLink>
-        ensures fails { IsFailed result }
+        ensures fails { result ≡ Accepted.Failed }
         ensures counted { self.new ≡ one_more self.old }
     {
         self.faults.add_one();

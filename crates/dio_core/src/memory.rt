@@ -1,10 +1,12 @@
 //! A source, a sink and a link in memory, which tell what they hold. They give and take pieces of a named size, and
 //! fail at named calls.
 
-ghost use Rattle.std.specs.Prelude.{◌≡◌, [], ◌<◌, ◌≤◌, drop, length, vec_len, IfOk, Some, false};
-ghost use Rattle.dio_core.specs.Counts.{one_more, Grows, Rose};
-ghost use Rattle.dio_core.specs.Sources.{Gives};
-ghost use Rattle.dio_core.specs.Sinks.{Takes};
+ghost use Rattle.std.specs.Prelude.{◌≡◌, [], ◌<◌, ◌≤◌, drop, length, vec_len, IfOk, Some, not};
+ghost use Rattle.std.specs.Bool.{OnTrue};
+ghost use Rattle.dio_core.specs.Counts.{one_more, IsCounted};
+ghost use Rattle.dio_core.specs.Sources.{Gives, read_failed};
+ghost use Rattle.dio_core.specs.Sinks.{Takes, write_failed, PassesOn, IsPassedOn};
+ghost use Rattle.dio_core.specs.Links.{no_sink, no_source, outgoing, incoming};
 ghost use Rattle.dio_core.specs.Memory.{plan_of, fails_next, faulted, after_next, Supplies, Stores, Flushes};
 
 use crate::count::Count;
@@ -118,11 +120,12 @@ impl Source for MemSource {
 
     ghost read_faults = { λ s. s.plan.faults };
 
+    ghost written = { λ _. no_sink };
+
     fn read(&mut self, buf: &mut [u8]) -> Got
         requires { 0 < length buf.old }
         ensures gives { Gives result buf.new (Some self.old.left) (Some self.new.left) }
-        ensures count { Grows self.old.plan.faults self.new.plan.faults }
-        ensures fault { result ≡ Got.Failed → Rose self.old.plan.faults self.new.plan.faults }
+        ensures counted { IsCounted (read_failed result) self.old.plan.faults self.new.plan.faults }
         ensures exact { Supplies result buf.old buf.new self.old self.new }
     {
         if self.plan.begin_call() {
@@ -143,23 +146,24 @@ impl Source for MemSource {
     }
 }
 
-/// A sink of bytes in memory.
+/// A sink of bytes in memory. It holds back what it has taken until a flush passes it on.
 #[derive(Drop)]
 pub struct MemSink {
     taken: Vec<u8>,
+    passed: usize,
     piece: usize,
     plan: FaultPlan,
 }
 
 impl Model for MemSink {
-    ghost use Rattle.std.specs.Prelude.{◌<◌};
+    ghost use Rattle.std.specs.Prelude.{◌<◌, ◌≤◌, length, take};
     ghost use Rattle.dio_core.specs.Memory.{Intake};
 
     ghost Value = { Intake };
 
-    ghost view = { λ s. record { taken = s.taken.items; piece = s.piece; plan = s.plan } };
+    ghost view = { λ s. record { taken = s.taken.items; passed = take s.passed s.taken.items; piece = s.piece; plan = s.plan } };
 
-    ghost invariant = { λ s. 0 < s.piece };
+    ghost invariant = { λ s. (s.passed ≤ length s.taken.items) × (0 < s.piece) };
 }
 
 impl MemSink {
@@ -169,11 +173,13 @@ impl MemSink {
     pub fn new(alloc: Global, piece: usize, fails: &[u64]) -> Result<MemSink, AllocError>
         requires { 0 < piece }
         ensures taken { IfOk result (λ sink. sink.taken ≡ []) }
+        ensures passed { IfOk result (λ sink. sink.passed ≡ []) }
         ensures piece { IfOk result (λ sink. sink.piece ≡ piece) }
         ensures plan { IfOk result (λ sink. sink.plan ≡ plan_of fails.now) }
     {
         Ok(MemSink {
             taken: Vec::new(alloc),
+            passed: 0,
             piece,
             plan: FaultPlan::new(alloc, fails)?,
         })
@@ -185,18 +191,29 @@ impl MemSink {
     {
         self.taken.as_slice()
     }
+
+    /// The bytes that flushes have passed on so far.
+    pub fn passed(&self) -> &[u8]
+        ensures { result.now ≡ self.now.passed }
+    {
+        &self.taken[..self.passed]
+    }
 }
 
 impl Sink for MemSink {
     ghost taken = { λ s. Some s.taken };
 
+    ghost passed = { λ s. Some s.passed };
+
     ghost write_faults = { λ s. s.plan.faults };
+
+    ghost unread = { λ _. no_source };
 
     fn write(&mut self, bytes: &[u8]) -> Took
         requires { 0 < length bytes.now }
         ensures takes { Takes result bytes.now (Some self.old.taken) (Some self.new.taken) }
-        ensures count { Grows self.old.plan.faults self.new.plan.faults }
-        ensures fault { result ≡ Took.Failed → Rose self.old.plan.faults self.new.plan.faults }
+        ensures passes { PassesOn (Some self.new.taken) (Some self.old.passed) (Some self.new.passed) }
+        ensures counted { IsCounted (write_failed result) self.old.plan.faults self.new.plan.faults }
         ensures exact { Stores result bytes.now self.old self.new }
     {
         if self.plan.begin_call() {
@@ -211,12 +228,17 @@ impl Sink for MemSink {
     }
 
     fn flush(&mut self) -> bool
+        ensures flushed { OnTrue result (IsPassedOn (Some self.new.taken) (Some self.new.passed)) }
         ensures same { Some self.new.taken ≡ Some self.old.taken }
-        ensures count { Grows self.old.plan.faults self.new.plan.faults }
-        ensures fault { result ≡ false → Rose self.old.plan.faults self.new.plan.faults }
+        ensures passes { PassesOn (Some self.new.taken) (Some self.old.passed) (Some self.new.passed) }
+        ensures counted { IsCounted (not result) self.old.plan.faults self.new.plan.faults }
         ensures exact { Flushes result self.old self.new }
     {
-        !self.plan.begin_call()
+        if self.plan.begin_call() {
+            return false;
+        }
+        self.passed = self.taken.len();
+        true
     }
 
     fn write_faults(&self) -> u64 {
@@ -238,11 +260,12 @@ impl Source for MemLink {
 
     ghost read_faults = { λ l. l.source.plan.faults };
 
+    ghost written = { λ l. outgoing (Some l.sink.taken) (Some l.sink.passed) l.sink.plan.faults };
+
     fn read(&mut self, buf: &mut [u8]) -> Got
         requires { 0 < length buf.old }
         ensures gives { Gives result buf.new (Some self.old.source.left) (Some self.new.source.left) }
-        ensures count { Grows self.old.source.plan.faults self.new.source.plan.faults }
-        ensures fault { result ≡ Got.Failed → Rose self.old.source.plan.faults self.new.source.plan.faults }
+        ensures counted { IsCounted (read_failed result) self.old.source.plan.faults self.new.source.plan.faults }
         ensures exact { Supplies result buf.old buf.new self.old.source self.new.source }
         ensures sink { self.new.sink ≡ self.old.sink }
     {
@@ -257,13 +280,17 @@ impl Source for MemLink {
 impl Sink for MemLink {
     ghost taken = { λ l. Some l.sink.taken };
 
+    ghost passed = { λ l. Some l.sink.passed };
+
     ghost write_faults = { λ l. l.sink.plan.faults };
+
+    ghost unread = { λ l. incoming (Some l.source.left) l.source.plan.faults };
 
     fn write(&mut self, bytes: &[u8]) -> Took
         requires { 0 < length bytes.now }
         ensures takes { Takes result bytes.now (Some self.old.sink.taken) (Some self.new.sink.taken) }
-        ensures count { Grows self.old.sink.plan.faults self.new.sink.plan.faults }
-        ensures fault { result ≡ Took.Failed → Rose self.old.sink.plan.faults self.new.sink.plan.faults }
+        ensures passes { PassesOn (Some self.new.sink.taken) (Some self.old.sink.passed) (Some self.new.sink.passed) }
+        ensures counted { IsCounted (write_failed result) self.old.sink.plan.faults self.new.sink.plan.faults }
         ensures exact { Stores result bytes.now self.old.sink self.new.sink }
         ensures source { self.new.source ≡ self.old.source }
     {
@@ -271,9 +298,10 @@ impl Sink for MemLink {
     }
 
     fn flush(&mut self) -> bool
+        ensures flushed { OnTrue result (IsPassedOn (Some self.new.sink.taken) (Some self.new.sink.passed)) }
         ensures same { Some self.new.sink.taken ≡ Some self.old.sink.taken }
-        ensures count { Grows self.old.sink.plan.faults self.new.sink.plan.faults }
-        ensures fault { result ≡ false → Rose self.old.sink.plan.faults self.new.sink.plan.faults }
+        ensures passes { PassesOn (Some self.new.sink.taken) (Some self.old.sink.passed) (Some self.new.sink.passed) }
+        ensures counted { IsCounted (not result) self.old.sink.plan.faults self.new.sink.plan.faults }
         ensures exact { Flushes result self.old.sink self.new.sink }
         ensures source { self.new.source ≡ self.old.source }
     {
@@ -286,6 +314,12 @@ impl Sink for MemLink {
 }
 
 impl End for MemLink {
+    ghost use Rattle.std.proofs.Common.{refl};
+
+    ghost written_is = { λ x. refl };
+
+    ghost unread_is = { λ x. refl };
+
     fn end(&mut self)
         ensures { self.new ≡ self.old }
     {}

@@ -1,31 +1,53 @@
-//! The streams of the process, or any reader and writer of std. They tell nothing of content, and count each error.
+//! The streams of the process, or any reader and writer of std. They tell what these tell, and count each error.
+//!
+//! The process's own streams tell nothing, so of a program's own run the contracts say only what they say of streams
+//! that don't tell. Over a reader and a writer that tell their bytes these contracts are those of any source and sink.
 
-ghost use Rattle.std.specs.Prelude.{◌≡◌, None, IfOk};
+ghost use Rattle.std.specs.Prelude.{◌≡◌, IfOk};
+ghost use Rattle.dio_core.specs.Links.{no_sink, no_source, incoming, outgoing};
 
 use crate::count::Count;
 use crate::sink::{Sink, Took};
 use crate::source::{Got, Source};
 use std::alloc::{AllocError, Global};
 use std::io::{BufReader, Read, Write};
+use std::marker::Model;
+use std::snapshot::Snapshot;
 
 /// How many bytes a [`StdSource`] asks of its reader at once.
 const READ_AHEAD: usize = 8192;
 
 /// A source over a reader, which reads ahead.
 #[derive(Drop)]
-pub struct StdSource<R> {
+pub struct StdSource<R: Read> {
     reader: BufReader<R>,
+    first: Snapshot<R>,
     faults: Count,
+}
+
+impl<R: Read> Model for StdSource<R> {
+    ghost use Rattle.std.specs.Prelude.{◌≡◌, is_some, true};
+    ghost use Rattle.std.specs.Io.Buffered.{reader_remaining};
+    ghost use Rattle.dio_core.specs.Links.{Incoming, incoming};
+    ghost use Rattle.dio_core.specs.Streams.{told_since};
+
+    ghost Value = { Incoming };
+
+    ghost view = { λ s. incoming (told_since (R.remaining s.first.value) (reader_remaining R.remaining s.reader)) s.faults };
+
+    ghost invariant = { λ s. is_some (R.remaining s.first.value) ≡ true → is_some (reader_remaining R.remaining s.reader) ≡ true };
 }
 
 impl<R: Read + Drop> StdSource<R> {
     /// A source over this reader. For want of memory for what is read ahead the reader is dropped.
     pub fn new(alloc: Global, reader: R) -> Result<StdSource<R>, AllocError>
-        ensures { IfOk result (λ source. ⟦<StdSource<R> as Source>⟧.read_faults source ≡ 0) }
+        ensures { IfOk result (λ source. source ≡ incoming (R.remaining reader) 0) }
     {
+        let first = Snapshot::of(&reader);
         match BufReader::with_capacity(alloc, READ_AHEAD, reader) {
             Ok(reader) => Ok(StdSource {
                 reader,
+                first,
                 faults: Count::new(),
             }),
             Err(_) => Err(AllocError),
@@ -34,9 +56,11 @@ impl<R: Read + Drop> StdSource<R> {
 }
 
 impl<R: Read + Drop> Source for StdSource<R> {
-    ghost left = { λ _. None };
+    ghost left = { λ s. s.left };
 
     ghost read_faults = { λ s. s.faults };
+
+    ghost written = { λ _. no_sink };
 
     fn read(&mut self, buf: &mut [u8]) -> Got {
         match self.reader.read(buf) {
@@ -54,19 +78,35 @@ impl<R: Read + Drop> Source for StdSource<R> {
     }
 }
 
-/// A sink over a writer, which holds nothing back.
+/// A sink over a writer, which holds nothing back itself. What the writer passes on isn't told.
 #[derive(Drop)]
-pub struct StdSink<W> {
+pub struct StdSink<W: Write> {
     writer: W,
+    first: Snapshot<W>,
     faults: Count,
 }
 
+impl<W: Write> Model for StdSink<W> {
+    ghost use Rattle.std.specs.Prelude.{◌≡◌, None, is_some, true};
+    ghost use Rattle.dio_core.specs.Links.{Outgoing, outgoing};
+    ghost use Rattle.dio_core.specs.Streams.{told_since};
+
+    ghost Value = { Outgoing };
+
+    ghost view = { λ s. outgoing (told_since (W.contents s.first.value) (W.contents s.writer)) None s.faults };
+
+    ghost invariant = { λ s. is_some (W.contents s.first.value) ≡ true → is_some (W.contents s.writer) ≡ true };
+}
+
 impl<W: Write + Drop> StdSink<W> {
+    ghost use Rattle.std.specs.Prelude.{◌≡◌, None};
+
     /// A sink over this writer.
     pub fn new(writer: W) -> StdSink<W>
-        ensures { ⟦<StdSink<W> as Sink>⟧.write_faults result ≡ 0 }
+        ensures { result ≡ outgoing (W.contents writer) None 0 }
     {
         StdSink {
+            first: Snapshot::of(&writer),
             writer,
             faults: Count::new(),
         }
@@ -74,9 +114,13 @@ impl<W: Write + Drop> StdSink<W> {
 }
 
 impl<W: Write + Drop> Sink for StdSink<W> {
-    ghost taken = { λ _. None };
+    ghost taken = { λ s. s.taken };
+
+    ghost passed = { λ s. s.passed };
 
     ghost write_faults = { λ s. s.faults };
+
+    ghost unread = { λ _. no_source };
 
     fn write(&mut self, bytes: &[u8]) -> Took {
         match self.writer.write(bytes) {

@@ -1,13 +1,14 @@
 //! Where bytes come from. Contracts see the bytes that a source has left, where it tells them.
 
 ghost use Rattle.std.specs.Prelude.{◌≡◌, ℕ, ◌<◌, List, Option, length};
-ghost use Rattle.dio_core.specs.Counts.{Grows, Rose};
-ghost use Rattle.dio_core.specs.Sources.{Gives};
+ghost use Rattle.dio_core.specs.Counts.{IsCounted};
+ghost use Rattle.dio_core.specs.Sources.{Gives, read_failed};
+ghost use Rattle.dio_core.specs.Links.{Outgoing};
 
 /// What a read gave.
 #[derive(Clone, Copy, Debug, PartialEq, Eq)]
 pub enum Got {
-    /// So many bytes, at least one, at the front of the buffer.
+    /// So many bytes, at least one, at the beginning of the buffer.
     Bytes(usize),
     /// Nothing, since nothing is left.
     End,
@@ -15,7 +16,7 @@ pub enum Got {
     Failed,
 }
 
-/// A stream of bytes that is read from its front.
+/// A stream of bytes that are read in their order.
 pub trait Source {
     /// The bytes left, or None where the source doesn't tell.
     ghost left: { Self → Option (List ℕ) };
@@ -23,12 +24,15 @@ pub trait Source {
     /// How many reads have failed, up to the last value of a u64.
     ghost read_faults: { Self → ℕ };
 
-    /// Reads some of the bytes left into the front of `buf`.
+    /// What the object tells as a sink, where it is one too. No read changes it.
+    ghost written: { Self → Outgoing };
+
+    /// Reads the next of the bytes left into the beginning of `buf`.
     fn read(&mut self, buf: &mut [u8]) -> Got
         requires { 0 < length buf.old }
         ensures gives { Gives result buf.new (left self.old) (left self.new) }
-        ensures count { Grows (read_faults self.old) (read_faults self.new) }
-        ensures fault { result ≡ Got.Failed → Rose (read_faults self.old) (read_faults self.new) };
+        ensures written { written self.new ≡ written self.old }
+        ensures counted { IsCounted (read_failed result) (read_faults self.old) (read_faults self.new) };
 
     /// How many reads have failed.
     fn read_faults(&self) -> u64
