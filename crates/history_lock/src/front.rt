@@ -1,6 +1,6 @@
 //! Tokens.
-ghost use Rattle.std.specs.Prelude.{◌≡◌};
-ghost use Rattle.history_lock.specs.Entries.{IsLawful};
+ghost use Rattle.std.specs.Prelude.{◌≡◌, length};
+ghost use Rattle.plain_data.specs.Histories.{IsLawful};
 
 use crate::naming::Naming;
 use crate::stands::Stands;
@@ -10,12 +10,13 @@ use std::marker::{Model, PhantomData};
 
 /// A token of the lock of the name N: what its holder knows of the lock, whatever others do.
 ///
-/// Contracts see it as a `Known`. Beside two numbers it takes no bytes.
+/// Contracts see it as a `Known`. Beside three numbers it takes no bytes.
 #[derive(Drop)]
 pub struct Front<T: Stands, N: Naming> {
     pub(crate) seat: Seat<T, View<T::Entry>>,
     pub(crate) count: u64,
     pub(crate) draws: u64,
+    pub(crate) entries: u64,
     pub(crate) lock: PhantomData<N>,
 }
 
@@ -28,10 +29,17 @@ impl<T: Stands, N: Naming> Model for Front<T, N> {
 
     ghost view = { λ f. f.seat.me.0.known };
 
-    ghost invariant = { λ f. IsFront T.may_follow N.lock f.seat f.count f.draws };
+    ghost invariant = { λ f. IsFront T.may_follow N.lock f.seat f.count f.draws f.entries };
 }
 
 impl<T: Stands, N: Naming> Front<T, N> {
+    /// How long the prefix seen is.
+    pub fn entries(&self) -> u64
+        ensures { result ≡ length self.now.seen }
+    {
+        self.entries
+    }
+
     /// The count known.
     pub fn count(&self) -> u64
         ensures count { result ≡ self.now.count }

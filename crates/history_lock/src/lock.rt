@@ -1,13 +1,13 @@
 //! The lock, and the calls that wait for nobody.
 ghost use Rattle.std.specs.Prelude.{◌≡◌, ◌<◌, ◌≤◌, length, None, MatchOption};
 ghost use mathlib.Core.List.{IsPrefix};
-ghost use Rattle.history_lock.specs.Entries.{IsLawful};
-ghost use Rattle.history_lock.specs.Tokens.{HaveDifferentNumbers, HoldsOwn, IsDrawn, OneBeginsOther, copy_of, looked, met};
+ghost use Rattle.plain_data.specs.Histories.{IsLawful};
+ghost use Rattle.history_lock.specs.Tokens.{HaveDifferentNumbers, HoldsOwn, IsDrawn, IsLater, OneBeginsOther, copy_of, looked, met};
 ghost use Rattle.history_lock.specs.Authors.{IfAuthor, IfSpent};
 
 use crate::author::{Author, Drawn};
 use crate::front::Front;
-use crate::held::Held;
+use crate::held::Place;
 use crate::limits::MOST_DRAWS;
 use crate::naming::Naming;
 use crate::rule::{Compare, DRAWS, Draw, Duplicate, LENGTH, Law, Look, Meet, Opening};
@@ -22,8 +22,7 @@ use std::sync::Mutex;
 #[derive(Drop)]
 pub struct HistoryLock<T: Stands, N: Naming> {
     pub(crate) table: Table<T, View<T::Entry>, Opening<T>, Law, Global>,
-    // None while a guard lends what lies there.
-    pub(crate) held: Mutex<Option<Held<T, N>>>,
+    pub(crate) held: Mutex<Place<T, N>>,
     pub(crate) first: u32,
     pub(crate) name: PhantomData<N>,
 }
@@ -55,10 +54,13 @@ impl<T: Stands + Drop, N: Naming> HistoryLock<T, N> {
         ensures length { result ≡ length front.new.seen }
         ensures never_back { IsPrefix front.old.seen front.new.seen }
         ensures looked { front.new ≡ looked front.old front.new.seen }
+        ensures later { IsLater T.names front.old front.new }
         ensures own_entries { HoldsOwn T.names front.old front.new.seen }
         ensures lawful { IsLawful T.may_follow N.lock.base front.new.seen }
     {
-        self.table.shared.load::<Look>(&mut front.seat, LENGTH)
+        let found = self.table.shared.load::<Look>(&mut front.seat, LENGTH);
+        front.entries = found;
+        found
     }
 
     /// A second token of the same prefix, count and draws, without author.
@@ -71,6 +73,7 @@ impl<T: Stands + Drop, N: Naming> HistoryLock<T, N> {
             seat,
             count: front.count,
             draws: front.draws,
+            entries: front.entries,
             lock: PhantomData,
         }
     }
@@ -78,6 +81,7 @@ impl<T: Stands + Drop, N: Naming> HistoryLock<T, N> {
     /// Mine takes in the other: it becomes the longer of the two, which the shorter begins, and keeps its own author and looks.
     pub fn meet(&self, mine: &mut Front<T, N>, other: Front<T, N>)
         ensures met { mine.new ≡ met mine.old other }
+        ensures later { IsLater T.names mine.old mine.new }
         ensures one_list { OneBeginsOther mine.old.seen other.seen }
         ensures begins_mine { IsPrefix mine.old.seen mine.new.seen }
         ensures begins_other { IsPrefix other.seen mine.new.seen }
@@ -91,12 +95,14 @@ impl<T: Stands + Drop, N: Naming> HistoryLock<T, N> {
             seat,
             count,
             draws,
+            entries,
             lock: _,
         } = other;
         self.table.shared.join_seat::<Meet>(&mut mine.seat, seat);
         self.table.shared.load::<Compare>(&mut mine.seat, LENGTH);
         mine.count = mine.count.max(count);
         mine.draws = mine.draws.max(draws);
+        mine.entries = mine.entries.max(entries);
     }
 
     // One try to draw the number that follows the draws known. Where others were quicker, the token learns how many they drew.

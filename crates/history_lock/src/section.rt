@@ -1,11 +1,12 @@
 //! The calls under the lock, which may wait: `enter`, `leave` and `close`.
 ghost use Rattle.std.specs.Prelude.{◌≡◌, ◌+◌, ◌<◌, ◌≤◌, ◌^◌, length, take, true, IfSome, MatchBool};
 ghost use mathlib.Core.List.{IsPrefix};
-ghost use Rattle.history_lock.specs.Entries.{AddsOwn, IsLawful};
+ghost use Rattle.plain_data.specs.Histories.{IsLawful};
+ghost use Rattle.history_lock.specs.Entries.{AddsOwn};
 ghost use Rattle.history_lock.specs.Tokens.{HoldsOwn, IsCurrent, IsLater};
 
 use crate::front::Front;
-use crate::held::{Held, HistoryGuard};
+use crate::held::HistoryGuard;
 use crate::lock::HistoryLock;
 use crate::naming::Naming;
 use crate::rule::{Append, COUNT, Count, LENGTH, Raise};
@@ -15,7 +16,8 @@ use std::sync::Wait;
 impl<T: Stands + Drop, N: Naming> HistoryLock<T, N> {
     /// Waits for the lock, and until the length and the count that the token finds are those of the value. The token becomes the value's list and count.
     pub fn enter<'a, R: Wait>(&'a self, rt: &R, front: &mut Front<T, N>) -> HistoryGuard<'a, T, N>
-        ensures value { IsCurrent front.new (T.list result.value.value) (T.tally result.value.value) }
+        ensures value { IsCurrent front.new (T.list result.value.value) (T.count result.value.value) }
+        ensures origin { T.origin result.value.value ≡ N.lock.origin }
         ensures entered { IsCurrent front.new result.entered.seen result.entered.count }
         ensures later { IsLater T.names front.old front.new }
         ensures looks { front.old.looks < front.new.looks }
@@ -37,31 +39,18 @@ impl<T: Stands + Drop, N: Naming> HistoryLock<T, N> {
         // Only entries that name the token's author were added, and the count isn't below what it was.
         requires adds_own { AddsOwn T.names front.old.author guard.entered.seen (T.list guard.value.value) }
         requires lawful { IsLawful T.may_follow N.lock.base (T.list guard.value.value) }
-        requires count { guard.entered.count ≤ T.tally guard.value.value }
+        requires count { guard.entered.count ≤ T.count guard.value.value }
+        requires origin { T.origin guard.value.value ≡ N.lock.origin }
 
-        ensures left { front.new ≡ record front.old { seen = T.list guard.entry.value.value; count = T.tally guard.entry.value.value } }
+        ensures left { front.new ≡ record front.old { seen = T.list guard.entry.value.value; count = T.count guard.entry.value.value } }
     {
-        let HistoryGuard {
-            mut place,
-            value,
-            mut entered,
-            entries,
-        } = guard;
-        self.append_all(rt, front, &value, entries);
-        self.raise_count(front, value.count());
+        let mut guard = guard;
+        let from = front.entries();
+        self.append_all(rt, front, &guard.value, from);
+        self.raise_count(front, guard.value.count());
         let copy = self.split(front);
-        self.meet(&mut entered, copy);
-        *place = Some(Held { value, entered });
-    }
-
-    /// Ends the lock, and gives the value back.
-    pub fn close<R: Wait>(self, rt: &R, mut front: Front<T, N>) -> T
-        ensures seen { IsPrefix front.seen (T.list result) }
-        ensures count { front.count ≤ T.tally result }
-        ensures own_entries { HoldsOwn T.names front (T.list result) }
-        ensures lawful { IsLawful T.may_follow N.lock.base (T.list result) }
-    {
-        self.enter(rt, &mut front).into_value()
+        self.meet(&mut guard.entered, copy);
+        guard.put_back();
     }
 
     // Waits for the lock, and lends the value where the words are as the value says.
@@ -70,37 +59,36 @@ impl<T: Stands + Drop, N: Naming> HistoryLock<T, N> {
         rt: &R,
         front: &mut Front<T, N>,
     ) -> Option<HistoryGuard<'a, T, N>>
-        ensures value { IfSome result (λ guard. IsCurrent front.new (T.list guard.value.value) (T.tally guard.value.value)) }
+        ensures value { IfSome result (λ guard. IsCurrent front.new (T.list guard.value.value) (T.count guard.value.value)) }
+        ensures origin { IfSome result (λ guard. T.origin guard.value.value ≡ N.lock.origin) }
         ensures entered { IfSome result (λ guard. IsCurrent front.new guard.entered.seen guard.entered.count) }
         ensures later { IsLater T.names front.old front.new }
         ensures looks { IfSome result (λ guard. front.old.looks < front.new.looks) }
         ensures lawful { IfSome result (λ guard. IsLawful T.may_follow N.lock.base front.new.seen) }
     {
-        let mut place = self.held.lock(rt);
-        let held = place.take()?;
-        let (held, fits) = self.catch_up(front, held);
-        if fits {
-            return Some(HistoryGuard::lend(place, held));
+        let mut guard = HistoryGuard::take(self.held.lock(rt))?;
+        if self.catch_up(front, &mut guard) {
+            return Some(guard);
         }
-        *place = Some(held);
+        guard.put_back();
         None
     }
 
     // The token learns what the lock's own token knows, and loads both words. Says whether they are the value's length and count.
-    fn catch_up(&self, front: &mut Front<T, N>, held: Held<T, N>) -> (Held<T, N>, bool)
-        ensures held { IsCurrent result.0 held.seen held.count }
-        ensures fits { result.1 ≡ true → IsCurrent front.new held.seen held.count }
+    fn catch_up(&self, front: &mut Front<T, N>, guard: &mut HistoryGuard<'_, T, N>) -> bool
+        requires current { IsCurrent guard.old.entered (T.list guard.old.value.value) (T.count guard.old.value.value) }
+        ensures value { guard.new.value.value ≡ guard.old.value.value }
+        ensures entered { guard.new.entered ≡ guard.old.entered }
+        ensures fits { result ≡ true → IsCurrent front.new (T.list guard.new.value.value) (T.count guard.new.value.value) }
         ensures later { IsLater T.names front.old front.new }
         ensures looks { front.old.looks < front.new.looks }
         ensures lawful { IsLawful T.may_follow N.lock.base front.new.seen }
     {
-        let Held { value, mut entered } = held;
-        let copy = self.split(&mut entered);
+        let copy = self.split(&mut guard.entered);
         self.meet(front, copy);
         let length = self.length(front);
         let count = self.learn_count(front);
-        let fits = length == value.entries() && count == value.count();
-        (Held { value, entered }, fits)
+        length == guard.value.entries() && count == guard.value.count()
     }
 
     // A load of the count.
@@ -155,6 +143,8 @@ impl<T: Stands + Drop, N: Naming> HistoryLock<T, N> {
             .table
             .shared
             .compare_exchange_with::<Append>(&mut front.seat, LENGTH, at, at + 1, value);
-        found == at
+        let added = found == at;
+        front.entries = if added { at + 1 } else { at };
+        added
     }
 }

@@ -12,7 +12,10 @@ pub trait Stands {
     ghost list: { Self → List Self.Entry };
 
     // The count that the value stands for.
-    ghost tally: { Self → ℕ };
+    ghost count: { Self → ℕ };
+
+    // A number that the value keeps for good, as a count of something when the lock was made.
+    ghost origin: { Self → ℕ };
 
     // The number of the author whom an entry names.
     ghost names: { Self.Entry → ℕ };
@@ -26,5 +29,5 @@ pub trait Stands {
 
     /// The count.
     fn count(&self) -> u64
-        ensures { result ≡ tally self.now };
+        ensures { result ≡ count self.now };
 }

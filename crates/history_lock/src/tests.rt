@@ -28,7 +28,9 @@ impl Stands for Roll {
 
     ghost list = { λ r. r.marks.items };
 
-    ghost tally = { λ r. r.count };
+    ghost count = { λ r. r.count };
+
+    ghost origin = { λ _. 0 };
 
     ghost names = { λ mark. mark.author };
 
@@ -141,7 +143,7 @@ fn two_authors<N: Naming, R: Wait + Abort>(rt: &R, opened: Opened<Roll>) -> Resu
     assert_eq!(rt; lock.length(&mut one.front), 1);
     let mut late = lock.split(&mut zero.front);
     lock.meet(&mut late, early);
-    assert_eq!(rt; lock.length(&mut late), 1);
+    assert_eq!(rt; (late.entries(), lock.length(&mut late)), (1, 1));
 
     raise(rt, &lock, &mut one);
     assert_eq!(rt; zero.front.count(), 0);

@@ -4,6 +4,7 @@ use Rattle.history_lock.specs.Entries.{AddsOwn}
 use Rattle.history_lock.proofs.Moves.{appends}
 use Rattle.history_lock.proofs.Later.{IsFront-appends}
 use Rattle.history_lock.proofs.lock.HistoryLock.try_append.Goals as goal
+use Rattle.history_lock.proofs.lock.HistoryLock.try_append.Goals.{then-added, else-added}
 
 pub compare_exchange_with-found-requires : goal.compare_exchange_with-found-requires
 compare_exchange_with-found-requires g c =
@@ -21,4 +22,10 @@ compare_exchange_with-found-requires g c =
 pub invariant_of-front : goal.invariant_of-front
 invariant_of-front g c =
     let step = c.compare_exchange_with-found in
-    IsFront-appends g.T.Stands.may_follow g.N.Naming.lock c.front.inside.seat step.new.seat c.front.inside.count c.front.inside.draws c.args.at step.result (g.T.Stands.list c.args.value.now) c.front.invariant step.ensures.0 c.requires.lawful step.ensures.2
+    let list = g.T.Stands.list c.args.value.now in
+    let place : c.args.at ≡ c.front.inside.entries = c.requires.place ∙ ap (λ (k : Known g.row.T-Entry.Denot). length k.seen) (sym c.front.view_is) ∙ c.front.invariant.entries in
+    let keeps = IsFront-appends g.T.Stands.may_follow g.N.Naming.lock c.front.inside.seat step.new.seat c.front.inside.count c.front.inside.draws c.front.inside.entries c.if-added.front c.args.at step.result list c.front.invariant step.ensures.0 c.requires.lawful c.requires.next.0 in
+    elim c.if-added.branch [
+      | then-added w ↦ keeps (λ _. w.front-is) (λ miss. absurd (miss w.if-added.true)) step.ensures.2
+      | else-added w ↦ keeps (λ hit. absurd (w.if-added.false hit)) (λ _. w.front-is ∙ place) step.ensures.2
+    ]
