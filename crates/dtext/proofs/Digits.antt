@@ -9,8 +9,8 @@ use Rattle.std.proofs.lemmas.Str.{digit_value_digit}
 use Rattle.std.proofs.lemmas.Str.Parse.{digit_from_value}
 use Rattle.predictive_parsing.proofs.Basic.{both}
 use Rattle.plain_data.specs.Texts.{Bytes}
-use Rattle.dtext.specs.Spellings.{is_digit}
-use Rattle.dtext.specs.Reading.{with_digit}
+use Rattle.dtext.specs.Characters.{is_digit}
+use Rattle.dtext.specs.code.Reading.{with_digit}
 
 -- a digit's value, and what is a digit
 pub digit_worth : (b : ℕ) → is_digit b ≡ true → digit_value b + 48 ≡ b

@@ -1,15 +1,14 @@
 -- The readers of values, addresses and outcomes read what their rules derive.
-use Rattle.std.proofs.Common.{◌≡◌, ◌<◌, ℕ, Bool, true, false, not, List, [], ◌∷◌, ◌++◌, length, Option, Some, None, Ok, Err, refl, ap, sym, ◌∙◌, arith, inl, inr, codes}
+use Rattle.std.proofs.Common.{◌≡◌, ℕ, Bool, true, false, not, List, [], Option, Some, None, refl, ap, ◌∙◌, arith, inl, inr, codes}
 use Rattle.std.proofs.lemmas.Bool.Decides.{nat_tests}
-use Rattle.predictive_parsing.specs.Reading.{Reader, next, pure, either, list, many}
-use Rattle.predictive_parsing.specs.Reading as reading
-use Rattle.predictive_parsing.specs.Rules.{Rule, Then, Pure, Or, Many, ListOf}
+use Rattle.predictive_parsing.specs.Reading.{next, pure, either, of}
+use Rattle.predictive_parsing.specs.Rules.{Rule, Then, Pure, Or, Many, ListOf, Word, SpelledBy, Of, Behind}
 use Rattle.predictive_parsing.specs.Fits.{Fits, any, unless}
+use Rattle.predictive_parsing.specs.Bytes.{IsByte, Byte, sees, word}
 use Rattle.predictive_parsing.proofs.Basic.{both, not_true}
-use Rattle.predictive_parsing.proofs.Combined.{pure_fits, onwards, followed, either_fits, seen, narrowed}
-use Rattle.predictive_parsing.proofs.Lists.{many_fits, list_fits, shrinks}
-use Rattle.predictive_parsing.proofs.Loops.{with_front}
-use Rattle.predictive_parsing.proofs.Loops as loops
+use Rattle.predictive_parsing.proofs.Combined.{fits_as, guided_fits, spelled_to, spelled_from, pure_fits, onwards, followed, either_fits, seen, narrowed}
+use Rattle.predictive_parsing.proofs.Lists.{many_fits, list_fits}
+use Rattle.predictive_parsing.proofs.Words.{are_bytes, byte_fits, byte_next, byte_begins, behind_fits, named_fits}
 use Rattle.plain_data.specs.Texts.{Bytes}
 use Rattle.rdt_types.specs.declared.address.Kind.{Kind}
 use Rattle.rdt_types.specs.declared.address.Kind.TheVariants as kinds
@@ -19,33 +18,11 @@ use Rattle.rdt_types.specs.declared.outcome.Outcome.{Outcome}
 use Rattle.rdt_types.specs.declared.outcome.Outcome.TheVariants as outcomes
 use Rattle.rdt_types.specs.Printed.{word_of}
 use Rattle.dtext.specs.Printing.{printed_bool}
-use Rattle.dtext.specs.Columns.{IsByte}
-use Rattle.dtext.specs.Spellings.{Byte, Word, SpelledBy, Of, Behind, TextRule, NumberRule, BoolRule, AfterComma, first_and, Separated, TextsRule, AddressRule, ItemRule, AfterSpace, OutcomeRule}
-use Rattle.dtext.specs.Reading.{sees, word, of, behind, text, number, begins_number, bool, after_comma, more_texts, some_texts, texts, kind_ahead, kind, address, item, after_space, emitted, ran, failed, outcome}
-use Rattle.dtext.proofs.Words.{fits_as, byte_fits, byte_taken, are_bytes, word_fits, guided_fits}
-use Rattle.dtext.proofs.TextFits.{byte_begins, text_fits}
-use Rattle.dtext.proofs.NumberFits.{no_digit, number_fits, number_begins}
-
--- ---- words
-
--- what stands behind a word
-pub behind_fits : {A : Type 0} {p : Reader ℕ A} {P : Rule ℕ A} {follows : Option ℕ → Bool} (w : Bytes) → are_bytes w ≡ true → Fits IsByte p P follows → Fits IsByte (behind w p) (Behind w P) follows
-behind_fits w h fp = onwards IsByte (word_fits w h) (λ _. fp)
-
--- a word that stands for a value
-pub named_fits : {A : Type 0} (w : Bytes) (a : A) → are_bytes w ≡ true → Fits IsByte (of (λ _. a) (word w)) (Of (λ _. a) (Word w)) any
-named_fits w a h = seen IsByte (λ _. a) (word_fits w h)
-
-module _ {A : Type 0} (f : A → Bytes) where
-  -- a word that is read for a value is the bytes of that value
-  spelled_to : (ts us : Bytes) (c : A) → (a : A) × Of (λ _. a) (Word (f a)) ts c us → SpelledBy f ts c us
-  spelled_to ts us c r =
-      let o = r.1 in
-      o.first ∙ ap (λ xs. f r.0 ++ xs) o.second.here ∙ ap (λ x. f x ++ us) (sym o.second.is)
-
-  -- and the bytes of a value are its word
-  spelled_from : (ts us : Bytes) (c : A) → SpelledBy f ts c us → (a : A) × Of (λ _. a) (Word (f a)) ts c us
-  spelled_from ts us c r = (c, record { value = tt; middle = us; first = r; second = record { is = refl; here = refl } })
+use Rattle.dtext.specs.Follows.{no_digit, no_more}
+use Rattle.dtext.specs.Spellings.{TextRule, NumberRule, BoolRule, AfterComma, first_and, Separated, TextsRule, AddressRule, ItemRule, AfterSpace, OutcomeRule}
+use Rattle.dtext.specs.code.Reading.{text, number, begins_number, bool, after_comma, some_texts, texts, kind_ahead, kind, address, item, after_space, emitted, ran, failed, outcome}
+use Rattle.dtext.proofs.TextFits.{text_fits, text_next}
+use Rattle.dtext.proofs.NumberFits.{number_fits, number_begins}
 
 -- ---- truth values and kinds
 
@@ -62,8 +39,8 @@ bool_told false c ts us r = ap (λ xs. sees 116 (next xs)) r.first
 -- truth values, by their words
 pub bool_fits : Fits IsByte bool BoolRule any
 unfolding bool
-bool_fits = fits_as (spelled_to printed_bool) (spelled_from printed_bool)
-    (guided_fits (sees 116) (λ b. of (λ _. b) (word (printed_bool b))) (λ b. Of (λ _. b) (Word (printed_bool b))) any
+bool_fits = fits_as IsByte (spelled_to IsByte printed_bool) (spelled_from IsByte printed_bool)
+    (guided_fits IsByte (sees 116) (λ b. of (λ _. b) (word (printed_bool b))) (λ b. Of (λ _. b) (Word (printed_bool b))) any
     (λ b. named_fits (printed_bool b) b (bool_bytes b)) (λ b ts us c r h. bool_told b c ts us r) true)
 
 -- each word is bytes
@@ -87,8 +64,8 @@ kind_told kinds.List c ts us r = ap (λ xs. kind_ahead (next xs)) r.first
 -- kinds, by their words
 pub kind_fits : Fits IsByte kind (SpelledBy word_of) any
 unfolding kind
-kind_fits = fits_as (spelled_to word_of) (spelled_from word_of)
-    (guided_fits kind_ahead (λ k. of (λ _. k) (word (word_of k))) (λ k. Of (λ _. k) (Word (word_of k))) any
+kind_fits = fits_as IsByte (spelled_to IsByte word_of) (spelled_from IsByte word_of)
+    (guided_fits IsByte kind_ahead (λ k. of (λ _. k) (word (word_of k))) (λ k. Of (λ _. k) (Word (word_of k))) any
     (λ k. named_fits (word_of k) k (kind_bytes k)) (λ k ts us c r h. kind_told k c ts us r) kinds.Bool)
 
 -- a kind, and a key in parentheses
@@ -98,14 +75,6 @@ address_fits = onwards IsByte kind_fits (λ k. onwards IsByte (byte_fits 40 (ome
     seen IsByte (λ _. record { kind = k; key = key }) (byte_fits 41 (omega arith)))))
 
 -- ---- the byte with which a form begins
-
--- a byte is ahead where its rule takes it
-byte_next : (b : ℕ) (ts us : Bytes) (a : Unit {0}) → Byte b ts a us → next ts ≡ Some b
-byte_next b ts us a r = ap next (byte_taken b ts us a r)
-
--- a text begins with a quote
-pub text_next : (ts us a : Bytes) → TextRule ts a us → next ts ≡ Some 34
-text_next ts us a r = byte_next 34 ts r.middle r.value r.first
 
 -- texts begin with a bracket
 pub texts_next : (ts us : Bytes) (a : List Bytes) → TextsRule ts a us → next ts ≡ Some 91
@@ -210,12 +179,8 @@ space_no_digit : (h : Option ℕ) → sees 32 h ≡ true → no_digit h ≡ true
 space_no_digit None e = absurd (cc)
 space_no_digit (Some b) e = let k : b ≡ 32 = grind (arith, nat_tests, e) in ap (λ x. no_digit (Some x)) k
 
--- neither a digit nor one more value follows
-abbrev pub ended : Option ℕ → Bool
-ended = unless (sees 32) no_digit
-
 -- any number of values behind spaces
-emitted_fits : Fits IsByte emitted (Many AfterSpace) ended
+emitted_fits : Fits IsByte emitted (Many AfterSpace) no_more
 unfolding emitted
 emitted_fits = many_fits IsByte (sees 32) after_space AfterSpace no_digit after_space_fits after_space_begins refl space_no_digit
 
@@ -224,7 +189,7 @@ abbrev Ran : Rule ℕ Outcome
 Ran = Behind (codes "ok") (Of outcomes.Ok (Many AfterSpace))
 
 -- it is read as its rule says
-ran_fits : Fits IsByte ran Ran ended
+ran_fits : Fits IsByte ran Ran no_more
 unfolding ran
 ran_fits = behind_fits (codes "ok") refl (seen IsByte outcomes.Ok emitted_fits)
 
@@ -268,50 +233,8 @@ no_run_apart ts us a (inl r) = ap (λ xs. sees 111 (next xs)) r.first
 no_run_apart ts us a (inr r) = spent_or_big_apart (sees 111) refl refl ts us a r
 
 -- outcomes of any form
-pub outcome_fits : Fits IsByte outcome OutcomeRule ended
+pub outcome_fits : Fits IsByte outcome OutcomeRule no_more
 unfolding outcome
-outcome_fits = either_fits IsByte (sees 111) ran _ Ran (Or Failed (Or Spent Big)) ended ran_fits (narrowed IsByte ended (λ h e. refl) no_run_fits)
+outcome_fits = either_fits IsByte (sees 111) ran _ Ran (Or Failed (Or Spent Big)) no_more ran_fits (narrowed IsByte no_more (λ h e. refl) no_run_fits)
     (λ ts us a r. ap (λ xs. sees 111 (next xs)) r.first)
     (λ ts us a r e. no_run_apart ts us a r)
-
--- ---- the loops that read texts and values
-
--- a text behind a comma takes a byte at least
-pub after_comma_shrinks : (ts us a : Bytes) → after_comma ts ≡ Ok (a, us) → length us < length ts
-after_comma_shrinks = shrinks IsByte (sees 44) after_comma AfterComma any after_comma_fits after_comma_begins refl
-
-module _ (found : List Bytes) (ts : Bytes) (all : reading.Outcome ℕ (List Bytes)) (so_far : with_front found (more_texts ts) ≡ all) where
-  -- a turn finds one text more
-  pub more_texts_turn : (us a : Bytes) → sees 44 (next ts) ≡ true → after_comma ts ≡ Ok (a, us) → with_front (found ++ a ∷ []) (more_texts us) ≡ all
-  unfolding more_texts
-  more_texts_turn us a s e = loops.turn (sees 44) after_comma refl after_comma_shrinks found ts all so_far us a s e
-
-  -- the loop ends where a text behind a comma is refused
-  pub more_texts_refused : (us : Bytes) → sees 44 (next ts) ≡ true → after_comma ts ≡ Err us → all ≡ Err us
-  unfolding more_texts
-  more_texts_refused us s e = loops.refused (sees 44) after_comma refl after_comma_shrinks found ts all so_far us s e
-
-  -- and where no comma is ahead
-  pub more_texts_ended : sees 44 (next ts) ≡ false → all ≡ Ok (found, ts)
-  unfolding more_texts
-  more_texts_ended s = loops.ended (sees 44) after_comma refl after_comma_shrinks found ts all so_far s
-
--- a value behind a space takes a byte at least
-pub after_space_shrinks : (ts us : Bytes) (a : Item) → after_space ts ≡ Ok (a, us) → length us < length ts
-after_space_shrinks = shrinks IsByte (sees 32) after_space AfterSpace no_digit after_space_fits after_space_begins refl
-
-module _ (found : List Item) (ts : Bytes) (all : reading.Outcome ℕ (List Item)) (so_far : with_front found (emitted ts) ≡ all) where
-  -- a turn finds one value more
-  pub emitted_turn : (us : Bytes) (a : Item) → sees 32 (next ts) ≡ true → after_space ts ≡ Ok (a, us) → with_front (found ++ a ∷ []) (emitted us) ≡ all
-  unfolding emitted
-  emitted_turn us a s e = loops.turn (sees 32) after_space refl after_space_shrinks found ts all so_far us a s e
-
-  -- the loop ends where a value behind a space is refused
-  pub emitted_refused : (us : Bytes) → sees 32 (next ts) ≡ true → after_space ts ≡ Err us → all ≡ Err us
-  unfolding emitted
-  emitted_refused us s e = loops.refused (sees 32) after_space refl after_space_shrinks found ts all so_far us s e
-
-  -- and where no space is ahead
-  pub emitted_ended : sees 32 (next ts) ≡ false → all ≡ Ok (found, ts)
-  unfolding emitted
-  emitted_ended s = loops.ended (sees 32) after_space refl after_space_shrinks found ts all so_far s

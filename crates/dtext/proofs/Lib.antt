@@ -1,5 +1,3 @@
-pub mod Cursors
-pub mod Words
 pub mod TextFits
 pub mod Digits
 pub mod NumberFits

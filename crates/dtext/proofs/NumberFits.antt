@@ -1,26 +1,25 @@
 -- The reader of numbers reads what their rule derives.
-use Rattle.std.proofs.Common.{◌≡◌, ◌<◌, ◌≤◌, ◌+◌, ◌-◌, ◌*◌, ◌^◌, ℕ, zero, suc, ℤ, pos, negsuc, neg_ℤ, Bool, true, false, ◌&&◌, ◌||◌, ◌⊎◌, [], ◌∷◌, ◌++◌, Option, Some, None, Ok, Err, refl, ap, sym, ◌∙◌, subst, arith, cond, inl, inr, nat_eq, nat_le}
+use Rattle.std.proofs.Common.{◌≡◌, ◌<◌, ◌≤◌, ◌+◌, ◌-◌, ◌*◌, ◌^◌, ℕ, zero, suc, ℤ, pos, negsuc, neg_ℤ, Bool, true, false, ◌&&◌, ◌||◌, ◌⊎◌, [], ◌∷◌, ◌++◌, drop, Option, Some, None, Ok, Err, refl, ap, sym, ◌∙◌, subst, arith, cond, inl, inr, nat_eq, nat_le}
 use Rattle.std.proofs.lemmas.Bool.Decides.{nat_tests}
 use Rattle.std.proofs.lemmas.List.Elements.{All-nil}
 use Rattle.std.specs.Fmt.{decimal}
 use Rattle.std.specs.Char.{digit_value}
 use Rattle.std.specs.Str.Parse.{AllDigits, digits_value_after}
-use Rattle.predictive_parsing.specs.Reading.{next, one}
-use Rattle.predictive_parsing.specs.Rules.{Rule, One, Then, Pure, Or}
-use Rattle.predictive_parsing.specs.Fits.{Fits, Taken, any, unless}
+use Rattle.predictive_parsing.specs.Reading.{next, ahead, of, one}
+use Rattle.predictive_parsing.specs.Rules.{Rule, One, Then, Pure, Or, Of}
+use Rattle.predictive_parsing.specs.Fits.{Fits, Taken, any}
 use Rattle.predictive_parsing.proofs.Basic.{bool_cases, both, not_true, ok_pair}
-use Rattle.predictive_parsing.proofs.Combined.{one_fits, onwards, either_fits, seen, narrowed}
+use Rattle.predictive_parsing.specs.Reads.{made_of}
+use Rattle.predictive_parsing.specs.Bytes.{IsByte, Byte, sees}
+use Rattle.predictive_parsing.proofs.Words.{byte_fits, byte_taken, byte_begins}
+use Rattle.predictive_parsing.proofs.Combined.{fits_as, one_fits, onwards, either_fits, seen, narrowed}
 use Rattle.plain_data.specs.Texts.{Bytes}
-use Rattle.dtext.specs.Columns.{IsByte}
-use Rattle.dtext.specs.Spellings.{Byte, is_digit, NumberRule, Of}
-use Rattle.dtext.specs.Reading.{ahead, sees, leading, with_digit, digits, positive, zero_read, natural, negative, number, begins_number, of}
-use Rattle.dtext.proofs.Words.{fits_as, byte_fits, byte_taken}
-use Rattle.dtext.proofs.TextFits.{byte_begins}
+use Rattle.dtext.specs.declared.number.TheConstants.{MOST, LEAST}
+use Rattle.dtext.specs.Characters.{is_digit}
+use Rattle.dtext.specs.Follows.{no_digit}
+use Rattle.dtext.specs.Spellings.{NaturalRule, PositiveRule, NumberRule}
+use Rattle.dtext.specs.code.Reading.{leading, with_digit, more, digits, positive, zero_read, natural, negative, number, begins_number}
 use Rattle.dtext.proofs.Digits.{digit_worth, digit_below, digit_of, with_digit_worth, digits_value_after-ge, decimal-value_after, decimal_parts, decimal_zero, decimal_leading}
-
--- no digit follows
-abbrev pub no_digit : Option ℕ → Bool
-no_digit = unless (ahead is_digit) any
 
 -- ---- digits behind others
 
@@ -171,17 +170,6 @@ leading_made b d l =
     let v : b - 48 ≡ digit_value b = omega arith in
     ap (λ c. cond c (Some (b - 48)) None) t ∙ ap (λ m. Some m) v
 
--- the decimal form of a number from 1 to the limit
-record PositiveRule (limit : ℕ) (ts : Bytes) (n : ℕ) (us : Bytes) : Type 0 where
-  spelled : ts ≡ decimal n ++ us
-  some : 0 < n
-  within : n ≤ limit
-
--- the decimal form of a number from 0 to the limit
-record NaturalRule (limit : ℕ) (ts : Bytes) (n : ℕ) (us : Bytes) : Type 0 where
-  spelled : ts ≡ decimal n ++ us
-  within : n ≤ limit
-
 -- the digit 0, alone
 abbrev ZeroRule : Rule ℕ ℕ
 ZeroRule = Then (Byte 48) (λ _. Pure 0)
@@ -220,9 +208,9 @@ module _ (limit : ℕ) (large : 9 ≤ limit) (small : limit < 2 ^ 64) where
   leading_fits = one_fits IsByte leading 49 1 refl (omega arith)
 
   -- numbers above 0
-  positive_fits : Fits IsByte (positive limit) (PositiveRule limit) no_digit
+  pub positive_fits : Fits IsByte (positive limit) (PositiveRule limit) no_digit
   unfolding positive
-  positive_fits = fits_as positive_to positive_from (onwards IsByte leading_fits (digits_fits limit))
+  positive_fits = fits_as IsByte positive_to positive_from (onwards IsByte leading_fits (digits_fits limit))
 
   -- 0 alone and numbers above 0 are the numbers without a sign
   natural_to : (ts us : Bytes) (n : ℕ) → Or ZeroRule (PositiveRule limit) ts n us → NaturalRule limit ts n us
@@ -247,38 +235,30 @@ module _ (limit : ℕ) (large : 9 ≤ limit) (small : limit < 2 ^ 64) where
       ap (λ xs. sees 48 (next xs)) (r.spelled ∙ ap (λ xs. xs ++ us) x.whole) ∙ grind (arith, nat_tests, l)
 
   -- numbers without a sign
-  natural_fits : Fits IsByte (natural limit) (NaturalRule limit) no_digit
+  pub natural_fits : Fits IsByte (natural limit) (NaturalRule limit) no_digit
   unfolding natural
-  natural_fits = fits_as natural_to natural_from (either_fits IsByte (sees 48) zero_read (positive limit) ZeroRule (PositiveRule limit) no_digit
+  natural_fits = fits_as IsByte natural_to natural_from (either_fits IsByte (sees 48) zero_read (positive limit) ZeroRule (PositiveRule limit) no_digit
       (narrowed IsByte no_digit (λ h e. refl) (seen IsByte (λ _. 0) (byte_fits 48 (omega arith)))) positive_fits
       (λ ts us n r. byte_begins 48 ts r.middle r.value r.first)
       (λ ts us n r h. positive_no_zero ts us n r))
 
 -- ---- numbers with a sign
 
--- the largest number, and how far the least is below 0
-abbrev most : ℕ
-most = 2 ^ 63 - 1
-
--- how far the least number is below 0
-abbrev least : ℕ
-least = 2 ^ 63
-
 -- `-` and a number above 0
 abbrev NegativeRule : Rule ℕ ℤ
-NegativeRule = Then (Byte 45) (λ _. Of (λ n. neg_ℤ (pos n)) (PositiveRule least))
+NegativeRule = Then (Byte 45) (λ _. Of (λ n. neg_ℤ (pos n)) (PositiveRule LEAST))
 
 -- negative numbers
 negative_fits : Fits IsByte negative NegativeRule no_digit
 unfolding negative
-negative_fits = onwards IsByte (byte_fits 45 (omega arith)) (λ _. seen IsByte (λ n. neg_ℤ (pos n)) (positive_fits least (omega arith) (omega arith)))
+negative_fits = onwards IsByte (byte_fits 45 (omega arith)) (λ _. seen IsByte (λ n. neg_ℤ (pos n)) (positive_fits LEAST (omega arith) (omega arith)))
 
 -- a number without a sign
 abbrev NotNegative : Rule ℕ ℤ
-NotNegative = Of pos (NaturalRule most)
+NotNegative = Of pos (NaturalRule MOST)
 
 -- they are the decimal form of the negative number
-negative_is : (ts us : Bytes) (m : ℕ) (n : ℤ) → ts ≡ 45 ∷ (decimal m ++ us) → 0 < m → m ≤ least → n ≡ neg_ℤ (pos m) → NumberRule ts n us
+negative_is : (ts us : Bytes) (m : ℕ) (n : ℤ) → ts ≡ 45 ∷ (decimal m ++ us) → 0 < m → m ≤ LEAST → n ≡ neg_ℤ (pos m) → NumberRule ts n us
 negative_is ts us zero n e some l is = absurd (omega arith)
 negative_is ts us (suc m) n e some l is = subst (λ z. NumberRule ts z us) (sym is) (record { spelled = e; fits = omega arith })
 
@@ -327,7 +307,7 @@ not_negative_begins ts us n r =
 -- numbers of 64 bits
 pub number_fits : Fits IsByte number NumberRule no_digit
 unfolding number
-number_fits = fits_as number_to number_from (either_fits IsByte (sees 45) negative (of pos (natural most)) NegativeRule NotNegative no_digit negative_fits (seen IsByte pos (natural_fits most (omega arith) (omega arith)))
+number_fits = fits_as IsByte number_to number_from (either_fits IsByte (sees 45) negative (of pos (natural MOST)) NegativeRule NotNegative no_digit negative_fits (seen IsByte pos (natural_fits MOST (omega arith) (omega arith)))
     (λ ts us n r. byte_begins 45 ts r.middle r.value r.first)
     (λ ts us n r h. not_negative_begins ts us n r))
 
@@ -346,3 +326,33 @@ number_begins ts us (pos n) r =
     let x = digit_first ts us n r.spelled (omega (arith, r.fits)) in
     ap (λ xs. begins_number (next xs)) x.2 ∙ is_digit_by x.0 x.3 x.4
 number_begins ts us (negsuc n) r = ap (λ xs. begins_number (next xs)) r.spelled
+
+-- ---- the loop over digits
+
+-- a digit more is there where something is made of the byte
+more_some : (limit value b m : ℕ) (t : Bool) → is_digit b && nat_le (with_digit value b) limit ≡ t → cond t (Some (with_digit value b)) None ≡ Some m → (t ≡ true) × (m ≡ with_digit value b)
+more_some limit value b m true e h = (refl, cc)
+more_some limit value b m false e h = absurd (cc)
+
+-- and none where nothing is
+more_none : (limit value b : ℕ) (t : Bool) → is_digit b && nat_le (with_digit value b) limit ≡ t → ◌≡◌ {A = Option ℕ} (cond t (Some (with_digit value b)) None) None → t ≡ false
+more_none limit value b true e h = absurd (cc)
+more_none limit value b false e h = refl
+
+-- one digit more is taken
+pub digits_more : (limit value : ℕ) (ts : Bytes) (m : ℕ) → made_of (more limit value) ts ≡ Some m → digits limit value ts ≡ digits limit m (drop 1 ts)
+unfolding digits
+digits_more limit value [] m e = absurd (cc)
+digits_more limit value (b ∷ ts) m e =
+    let k = more_some limit value b m (is_digit b && nat_le (with_digit value b) limit) refl e in
+    ap (λ t. cond t (digits limit (with_digit value b) ts) (Ok (value, b ∷ ts))) k.0 ∙ ap (λ v. digits limit v ts) (sym k.1)
+
+-- none is
+pub digits_done : (limit value : ℕ) (ts : Bytes) → made_of (more limit value) ts ≡ None → digits limit value ts ≡ Ok (value, ts)
+unfolding digits
+digits_done limit value [] e = refl
+digits_done limit value (b ∷ ts) e = ap (λ t. cond t (digits limit (with_digit value b) ts) (Ok (value, b ∷ ts))) (more_none limit value b (is_digit b && nat_le (with_digit value b) limit) refl e)
+
+-- a leading digit is at most 9
+pub leading_small : (b a : ℕ) → leading b ≡ Some a → a ≤ 9
+leading_small b a e = let k = leading_is b a e in omega (arith, digit_below b k.0, k.1)

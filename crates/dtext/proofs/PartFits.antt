@@ -1,21 +1,24 @@
 -- The reader of write parts reads what the rule derives. The reader's rule is the table of forms with equal fronts put
 -- together; both derive the same.
 use Rattle.std.proofs.Common.{◌≡◌, ℕ, Bool, true, false, not, ◌++◌, Option, Some, None, refl, ap, ◌∙◌, arith, inl, inr, codes}
-use Rattle.predictive_parsing.specs.Reading.{next, either}
-use Rattle.predictive_parsing.specs.Rules.{Rule, Then, Pure, Or, Optional}
+use Rattle.predictive_parsing.specs.Reading.{Reader, next, either, of}
+use Rattle.predictive_parsing.specs.Rules.{Rule, Then, Pure, Or, Optional, Word, Of, Behind}
 use Rattle.predictive_parsing.specs.Fits.{Fits, any, unless}
+use Rattle.predictive_parsing.specs.Bytes.{IsByte, Byte, sees, behind}
 use Rattle.predictive_parsing.proofs.Basic.{both}
-use Rattle.predictive_parsing.proofs.Combined.{onwards, either_fits, seen, narrowed, optional_fits}
+use Rattle.predictive_parsing.proofs.Combined.{fits_as, onwards, either_fits, seen, narrowed, optional_fits}
+use Rattle.predictive_parsing.proofs.Words.{byte_fits, byte_begins, behind_fits, named_fits}
 use Rattle.plain_data.specs.Texts.{Bytes}
+use Rattle.rdt_types.specs.declared.address.Kind.{Kind}
+use Rattle.rdt_types.specs.declared.address.Kind.TheVariants as kinds
 use Rattle.rdt_types.specs.declared.operation.WriteOp.{WriteOp}
 use Rattle.rdt_types.specs.declared.operation.WriteOp.TheVariants as op
-use Rattle.dtext.specs.Columns.{IsByte}
-use Rattle.dtext.specs.Spellings.{Byte, Word, Of, Behind, TextRule, NumberRule, BoolRule, FieldRule, PartRule}
-use Rattle.dtext.specs.Reading.{sees, word, of, number, begins_number, bool, text_behind, put_of, text_or_field, put_value, put_or_push, addition, removal, part}
-use Rattle.dtext.proofs.Words.{fits_as, byte_fits}
-use Rattle.dtext.proofs.TextFits.{byte_begins, text_fits}
-use Rattle.dtext.proofs.NumberFits.{no_digit, number_fits, number_begins}
-use Rattle.dtext.proofs.FormFits.{behind_fits, named_fits, bool_fits, bool_apart, text_next, ended}
+use Rattle.dtext.specs.Follows.{no_digit, no_more}
+use Rattle.dtext.specs.Spellings.{TextRule, NumberRule, BoolRule, FieldRule, RemoveOrClear, PartRule, PartOf}
+use Rattle.dtext.specs.code.Reading.{text, number, begins_number, bool, text_behind, put_of, text_or_field, put_value, put_or_push, addition, removed, cleared, removal, clearing, remove_or_clear, part, bool_part, counter_part, text_part, set_part, field, hash_part, list_part, part_of}
+use Rattle.dtext.proofs.TextFits.{text_fits, text_next}
+use Rattle.dtext.proofs.NumberFits.{number_fits, number_begins}
+use Rattle.dtext.proofs.FormFits.{bool_fits, bool_apart}
 
 -- ---- what is put
 
@@ -66,18 +69,18 @@ abbrev PutValue : Rule ℕ WriteOp
 PutValue = Or (Of op.PutCounter NumberRule) TextOrBool
 
 -- where a part ends no text follows
-ended_is_alone : (h : Option ℕ) → ended h ≡ true → alone h ≡ true
-ended_is_alone h e = (both (no_digit h) (not (sees 32 h)) e).1
+no_more_is_alone : (h : Option ℕ) → no_more h ≡ true → alone h ≡ true
+no_more_is_alone h e = (both (no_digit h) (not (sees 32 h)) e).1
 
 -- nor does a digit
-ended_no_digit : (h : Option ℕ) → ended h ≡ true → no_digit h ≡ true
-ended_no_digit h e = (both (no_digit h) (not (sees 32 h)) e).0
+no_more_no_digit : (h : Option ℕ) → no_more h ≡ true → no_digit h ≡ true
+no_more_no_digit h e = (both (no_digit h) (not (sees 32 h)) e).0
 
 -- what is put tells its kind by its first byte
-put_value_fits : Fits IsByte put_value PutValue ended
+put_value_fits : Fits IsByte put_value PutValue no_more
 unfolding put_value
-put_value_fits = either_fits IsByte begins_number (of op.PutCounter number) _ (Of op.PutCounter NumberRule) TextOrBool ended
-    (narrowed IsByte ended ended_no_digit (seen IsByte op.PutCounter number_fits)) (narrowed IsByte ended ended_is_alone text_or_bool_fits)
+put_value_fits = either_fits IsByte begins_number (of op.PutCounter number) _ (Of op.PutCounter NumberRule) TextOrBool no_more
+    (narrowed IsByte no_more no_more_no_digit (seen IsByte op.PutCounter number_fits)) (narrowed IsByte no_more no_more_is_alone text_or_bool_fits)
     (λ ts us a r. number_begins ts r.middle r.value r.first)
     (λ ts us a r e. text_or_bool_apart ts us a r)
 
@@ -96,9 +99,9 @@ abbrev PutOrPush : Rule ℕ WriteOp
 PutOrPush = Behind (codes "pu") (Or Put Push)
 
 -- the byte behind the front tells them apart
-put_or_push_fits : Fits IsByte put_or_push PutOrPush ended
+put_or_push_fits : Fits IsByte put_or_push PutOrPush no_more
 unfolding put_or_push
-put_or_push_fits = behind_fits (codes "pu") refl (either_fits IsByte (sees 116) _ _ Put Push ended (behind_fits (codes "t ") refl put_value_fits) (narrowed IsByte ended (λ h e. refl) (behind_fits (codes "sh ") refl (seen IsByte op.ListPush text_fits)))
+put_or_push_fits = behind_fits (codes "pu") refl (either_fits IsByte (sees 116) _ _ Put Push no_more (behind_fits (codes "t ") refl put_value_fits) (narrowed IsByte no_more (λ h e. refl) (behind_fits (codes "sh ") refl (seen IsByte op.ListPush text_fits)))
     (λ ts us a r. ap (λ xs. sees 116 (next xs)) r.first)
     (λ ts us a r e. ap (λ xs. sees 116 (next xs)) r.first))
 
@@ -113,48 +116,54 @@ addition_fits = behind_fits (codes "add ") refl (either_fits IsByte begins_numbe
     (λ ts us a r. number_begins ts r.middle r.value r.first)
     (λ ts us a r e. ap begins_number (text_next ts r.middle r.value r.first)))
 
--- an element taken out
-abbrev Removal : Rule ℕ WriteOp
-Removal = Behind (codes "remove ") (Of op.SetRemove TextRule)
+-- a removal of a kind
+abbrev Removal : Kind → Rule ℕ WriteOp
+Removal kind = Behind (codes "remove ") (Of (removed kind) TextRule)
 
 -- it is read as its rule says
-removal_fits : Fits IsByte removal Removal any
+removal_fits : (kind : Kind) → Fits IsByte (removal kind) (Removal kind) any
 unfolding removal
-removal_fits = behind_fits (codes "remove ") refl (seen IsByte op.SetRemove text_fits)
+removal_fits kind = behind_fits (codes "remove ") refl (seen IsByte (removed kind) text_fits)
 
 -- the word alone
-abbrev Clearing : Rule ℕ WriteOp
-Clearing = Of (λ _. op.SetClear) (Word (codes "clear"))
+abbrev Clearing : Kind → Rule ℕ WriteOp
+Clearing kind = Of (λ _. cleared kind) (Word (codes "clear"))
 
 -- it is read as its rule says
-clearing_fits : Fits IsByte (of (λ _. op.SetClear) (word (codes "clear"))) Clearing any
-clearing_fits = named_fits (codes "clear") op.SetClear refl
+clearing_fits : (kind : Kind) → Fits IsByte (clearing kind) (Clearing kind) any
+unfolding clearing
+clearing_fits kind = named_fits (codes "clear") (cleared kind) refl
 
 -- the first byte tells these two apart
-removal_or_clearing_fits : Fits IsByte (either (sees 114) removal (of (λ _. op.SetClear) (word (codes "clear")))) (Or Removal Clearing) any
-removal_or_clearing_fits = either_fits IsByte (sees 114) removal _ Removal Clearing any removal_fits clearing_fits
+remove_or_clear_fits : (kind : Kind) → Fits IsByte (remove_or_clear kind) (RemoveOrClear (removed kind) (cleared kind)) any
+unfolding remove_or_clear
+remove_or_clear_fits kind = either_fits IsByte (sees 114) (removal kind) (clearing kind) (Removal kind) (Clearing kind) any (removal_fits kind) (clearing_fits kind)
     (λ ts us a r. ap (λ xs. sees 114 (next xs)) r.first)
     (λ ts us a r e. ap (λ xs. sees 114 (next xs)) r.first)
 
 -- neither begins as another part does
-removal_or_clearing_apart : (test : Option ℕ → Bool) → test (Some 114) ≡ false → test (Some 99) ≡ false → (ts us : Bytes) (a : WriteOp) → Or Removal Clearing ts a us → test (next ts) ≡ false
-removal_or_clearing_apart test m c ts us a (inl r) = ap (λ xs. test (next xs)) r.first ∙ m
-removal_or_clearing_apart test m c ts us a (inr r) = ap (λ xs. test (next xs)) r.first ∙ c
+remove_or_clear_apart : (removed : Bytes → WriteOp) (cleared : WriteOp) (test : Option ℕ → Bool) → test (Some 114) ≡ false → test (Some 99) ≡ false → (ts us : Bytes) (a : WriteOp) → RemoveOrClear removed cleared ts a us → test (next ts) ≡ false
+remove_or_clear_apart removed cleared test m c ts us a (inl r) = ap (λ xs. test (next xs)) r.first ∙ m
+remove_or_clear_apart removed cleared test m c ts us a (inr r) = ap (λ xs. test (next xs)) r.first ∙ c
+
+-- what sets have, where no kind is known
+abbrev SetRemoveOrClear : Rule ℕ WriteOp
+SetRemoveOrClear = RemoveOrClear op.SetRemove op.SetClear
 
 -- a part that is neither put nor push
 abbrev NoPut : Rule ℕ WriteOp
-NoPut = Or Addition (Or Removal Clearing)
+NoPut = Or Addition SetRemoveOrClear
 
 -- the first byte tells additions from these
-no_put_fits : Fits IsByte (either (sees 97) addition (either (sees 114) removal (of (λ _. op.SetClear) (word (codes "clear"))))) NoPut no_digit
-no_put_fits = either_fits IsByte (sees 97) addition _ Addition (Or Removal Clearing) no_digit addition_fits (narrowed IsByte no_digit (λ h e. refl) removal_or_clearing_fits)
+no_put_fits : Fits IsByte (either (sees 97) addition (remove_or_clear kinds.Set)) NoPut no_digit
+no_put_fits = either_fits IsByte (sees 97) addition _ Addition SetRemoveOrClear no_digit addition_fits (narrowed IsByte no_digit (λ h e. refl) (remove_or_clear_fits kinds.Set))
     (λ ts us a r. ap (λ xs. sees 97 (next xs)) r.first)
-    (λ ts us a r e. removal_or_clearing_apart (sees 97) refl refl ts us a r)
+    (λ ts us a r e. remove_or_clear_apart op.SetRemove op.SetClear (sees 97) refl refl ts us a r)
 
 -- none of these begins with `p`
 no_put_apart : (ts us : Bytes) (a : WriteOp) → NoPut ts a us → sees 112 (next ts) ≡ false
 no_put_apart ts us a (inl r) = ap (λ xs. sees 112 (next xs)) r.first
-no_put_apart ts us a (inr r) = removal_or_clearing_apart (sees 112) refl refl ts us a r
+no_put_apart ts us a (inr r) = remove_or_clear_apart op.SetRemove op.SetClear (sees 112) refl refl ts us a r
 
 -- ---- the table
 
@@ -163,9 +172,9 @@ abbrev Factored : Rule ℕ WriteOp
 Factored = Or PutOrPush NoPut
 
 -- parts are read as this rule says
-factored_fits : Fits IsByte part Factored ended
+factored_fits : Fits IsByte part Factored no_more
 unfolding part
-factored_fits = either_fits IsByte (sees 112) put_or_push _ PutOrPush NoPut ended put_or_push_fits (narrowed IsByte ended ended_no_digit no_put_fits)
+factored_fits = either_fits IsByte (sees 112) put_or_push _ PutOrPush NoPut no_more put_or_push_fits (narrowed IsByte no_more no_more_no_digit no_put_fits)
     (λ ts us a r. ap (λ xs. sees 112 (next xs)) r.first)
     (λ ts us a r e. no_put_apart ts us a r)
 
@@ -204,7 +213,7 @@ put_to ts ms us a e (inr (inr b)) = inl (record { value = tt; middle = ms; first
 -- the two words have their rows
 put_or_push_to : (ts ms us : Bytes) (a : WriteOp) → ts ≡ codes "pu" ++ ms → Or Put Push ms a us → PartRule ts a us
 put_or_push_to ts ms us a e (inl r) = put_to ts r.middle us a (e ∙ ap (λ xs. codes "pu" ++ xs) r.first) r.second
-put_or_push_to ts ms us a e (inr r) = inr (inr (inr (inr (inr (inr (inr (inl (record { value = tt; middle = r.middle; first = e ∙ ap (λ xs. codes "pu" ++ xs) r.first; second = r.second }))))))))
+put_or_push_to ts ms us a e (inr r) = inr (inr (inr (inr (inr (inr (inl (record { value = tt; middle = r.middle; first = e ∙ ap (λ xs. codes "pu" ++ xs) r.first; second = r.second })))))))
 
 -- both additions have theirs
 addition_to : (ts ms us : Bytes) (a : WriteOp) → ts ≡ codes "add " ++ ms → Or (Of op.AddCounter NumberRule) (Of op.SetAdd TextRule) ms a us → PartRule ts a us
@@ -215,8 +224,7 @@ addition_to ts ms us a e (inr r) = inr (inr (inr (inr (inr (inl (record { value 
 part_to : (ts us : Bytes) (a : WriteOp) → Factored ts a us → PartRule ts a us
 part_to ts us a (inl r) = put_or_push_to ts r.middle us a r.first r.second
 part_to ts us a (inr (inl r)) = addition_to ts r.middle us a r.first r.second
-part_to ts us a (inr (inr (inl r))) = inr (inr (inr (inr (inr (inr (inl r))))))
-part_to ts us a (inr (inr (inr r))) = inr (inr (inr (inr (inr (inr (inr (inr r)))))))
+part_to ts us a (inr (inr r)) = inr (inr (inr (inr (inr (inr (inr r))))))
 
 -- ---- and back
 
@@ -262,10 +270,63 @@ part_from ts us a (inr (inr (inl r))) = put_from ts r.middle us a r.first (inr (
 part_from ts us a (inr (inr (inr (inl r)))) = put_from ts r.middle us a r.first (inr (inl (field_from r.middle us a r.second)))
 part_from ts us a (inr (inr (inr (inr (inl r))))) = addition_from ts r.middle us a r.first (inl r.second)
 part_from ts us a (inr (inr (inr (inr (inr (inl r)))))) = addition_from ts r.middle us a r.first (inr r.second)
-part_from ts us a (inr (inr (inr (inr (inr (inr (inl r))))))) = inr (inr (inl r))
-part_from ts us a (inr (inr (inr (inr (inr (inr (inr (inl r)))))))) = push_from ts r.middle us a r.first r.second
-part_from ts us a (inr (inr (inr (inr (inr (inr (inr (inr r)))))))) = inr (inr (inr r))
+part_from ts us a (inr (inr (inr (inr (inr (inr (inl r))))))) = push_from ts r.middle us a r.first r.second
+part_from ts us a (inr (inr (inr (inr (inr (inr (inr r))))))) = inr (inr r)
 
 -- parts are read as the table says
-pub part_fits : Fits IsByte part PartRule ended
-part_fits = fits_as part_to part_from factored_fits
+pub part_fits : Fits IsByte part PartRule no_more
+part_fits = fits_as IsByte part_to part_from factored_fits
+
+-- ---- beside an address
+
+-- a number that is put or added
+counter_part_fits : Fits IsByte counter_part (PartOf kinds.Counter) no_digit
+unfolding counter_part
+counter_part_fits = either_fits IsByte (sees 112) _ _ (Behind (codes "put ") (Of op.PutCounter NumberRule)) (Behind (codes "add ") (Of op.AddCounter NumberRule)) no_digit
+    (behind_fits (codes "put ") refl (seen IsByte op.PutCounter number_fits)) (behind_fits (codes "add ") refl (seen IsByte op.AddCounter number_fits))
+    (λ ts us a r. ap (λ xs. sees 112 (next xs)) r.first)
+    (λ ts us a r e. ap (λ xs. sees 112 (next xs)) r.first)
+
+-- what a collection alone has, or what all have: a byte tells them apart
+module _ (kind : Kind) (mark : ℕ) (own : Reader ℕ WriteOp) (Own : Rule ℕ WriteOp) (own_fits : Fits IsByte own Own any)
+    (begins : (ts us : Bytes) (a : WriteOp) → Own ts a us → sees mark (next ts) ≡ true) (no_removal : sees mark (Some 114) ≡ false) (no_clear : sees mark (Some 99) ≡ false) where
+  collection_fits : Fits IsByte (either (sees mark) own (remove_or_clear kind)) (Or Own (RemoveOrClear (removed kind) (cleared kind))) any
+  collection_fits = either_fits IsByte (sees mark) own (remove_or_clear kind) Own (RemoveOrClear (removed kind) (cleared kind)) any own_fits (remove_or_clear_fits kind)
+      begins (λ ts us a r e. remove_or_clear_apart (removed kind) (cleared kind) (sees mark) no_removal no_clear ts us a r)
+
+-- sets
+set_part_fits : Fits IsByte set_part (PartOf kinds.Set) any
+unfolding set_part
+set_part_fits = collection_fits kinds.Set 97 (behind (codes "add ") (of op.SetAdd text)) (Behind (codes "add ") (Of op.SetAdd TextRule)) (behind_fits (codes "add ") refl (seen IsByte op.SetAdd text_fits))
+    (λ ts us a r. ap (λ xs. sees 97 (next xs)) r.first) refl refl
+
+-- a field and a text
+field_fits : Fits IsByte field FieldRule any
+unfolding field
+field_fits = onwards IsByte text_fits (λ first. onwards IsByte (byte_fits 32 (omega arith)) (λ _. seen IsByte (op.HashPut first) text_fits))
+
+-- hashes
+hash_part_fits : Fits IsByte hash_part (PartOf kinds.Hash) any
+unfolding hash_part
+hash_part_fits = collection_fits kinds.Hash 112 (behind (codes "put ") field) (Behind (codes "put ") FieldRule) (behind_fits (codes "put ") refl field_fits)
+    (λ ts us a r. ap (λ xs. sees 112 (next xs)) r.first) refl refl
+
+-- lists
+list_part_fits : Fits IsByte list_part (PartOf kinds.List) any
+unfolding list_part
+list_part_fits = collection_fits kinds.List 112 (behind (codes "push ") (of op.ListPush text)) (Behind (codes "push ") (Of op.ListPush TextRule)) (behind_fits (codes "push ") refl (seen IsByte op.ListPush text_fits))
+    (λ ts us a r. ap (λ xs. sees 112 (next xs)) r.first) refl refl
+
+-- all that anything may follow may be followed by no digit
+wide : {p : Reader ℕ WriteOp} {P : Rule ℕ WriteOp} → Fits IsByte p P any → Fits IsByte p P no_digit
+wide fp = narrowed IsByte no_digit (λ h e. refl) fp
+
+-- the kind decides
+pub part_of_fits : (kind : Kind) → Fits IsByte (part_of kind) (PartOf kind) no_digit
+unfolding bool_part text_part
+part_of_fits kinds.Bool = wide (behind_fits (codes "put ") refl (seen IsByte op.PutBool bool_fits))
+part_of_fits kinds.Counter = counter_part_fits
+part_of_fits kinds.Text = wide (behind_fits (codes "put ") refl (seen IsByte op.PutText text_fits))
+part_of_fits kinds.Set = wide set_part_fits
+part_of_fits kinds.Hash = wide hash_part_fits
+part_of_fits kinds.List = wide list_part_fits

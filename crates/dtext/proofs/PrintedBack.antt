@@ -4,7 +4,8 @@ use Rattle.std.proofs.lemmas.Bool.Decides.{nat_tests}
 use Rattle.std.specs.List.{flat_map, All}
 use Rattle.std.proofs.lemmas.List.Elements.{All-head, All-tail}
 use Rattle.std.specs.Fmt.{signed_decimal}
-use Rattle.predictive_parsing.specs.Rules.{Rule, Many, none, more}
+use Rattle.predictive_parsing.specs.Rules.{Rule, Many, none, more, Of, Behind}
+use Rattle.predictive_parsing.proofs.Words.{byte_made}
 use Rattle.plain_data.specs.Texts.{Bytes}
 use Rattle.rdt_types.specs.declared.address.Address.{Address}
 use Rattle.rdt_types.specs.declared.outcome.Item.{Item}
@@ -14,12 +15,13 @@ use Rattle.rdt_types.specs.declared.outcome.Outcome.TheVariants as outcomes
 use Rattle.rdt_types.specs.declared.operation.WriteOp.{WriteOp}
 use Rattle.rdt_types.specs.declared.operation.WriteOp.TheVariants as op
 use Rattle.rdt_types.specs.declared.printed.Spelling.TheVariants as spelling
+use Rattle.rdt_types.specs.Values.{kind_written}
 use Rattle.rdt_types.specs.Printed.{word_of, hex_digit, spelling_of, spelled, printed_text, printed_address}
 use Rattle.dtext.specs.Printing.{printed_bool, separated, printed_texts, printed_item, printed_outcome, printed_part}
 use Rattle.dtext.specs.Printing as print
-use Rattle.dtext.specs.Spellings.{Of, Behind, is_plain, plain, short, is_digit, hex_value, hex_byte, Piece, TextRule, Fits64, NumberRule, BoolRule, AfterComma, Separated, TextsRule, AddressRule, ItemRule, AfterSpace, OutcomeRule, FieldRule, PartRule}
+use Rattle.dtext.specs.Characters.{is_digit}
+use Rattle.dtext.specs.Spellings.{is_plain, plain, short, hex_value, hex_byte, Piece, TextRule, Fits64, NumberRule, BoolRule, AfterComma, Separated, TextsRule, AddressRule, ItemRule, AfterSpace, OutcomeRule, FieldRule, RemoveOrClear, PartRule, PartOf}
 use Rattle.dtext.specs.ReadBack.{FitsItem, FitsOutcome, FitsPart, read_alone}
-use Rattle.dtext.proofs.Words.{byte_made}
 
 -- ---- one byte of a text
 
@@ -225,13 +227,17 @@ outcome_made outcomes.Big us h = inr (inr (inr (record { value = tt; middle = us
 behind_word : {A : Type 0} (w : Bytes) (P : Rule ℕ A) (ts us : Bytes) (a : A) → P ts a us → Behind w P (w ++ ts) a us
 behind_word w P ts us a r = record { value = tt; middle = ts; first = refl; second = r }
 
--- a removal is a set's
-removal_made : (x us : Bytes) → PartRule (codes "remove " ++ (printed_text x ++ us)) (op.SetRemove x) us
-removal_made x us = inr (inr (inr (inr (inr (inr (inl (behind_word (codes "remove ") (Of op.SetRemove TextRule) (printed_text x ++ us) us (op.SetRemove x) (text_of op.SetRemove x us))))))))
+-- a removal
+removal_made : (removed : Bytes → WriteOp) (cleared : WriteOp) (x us : Bytes) → RemoveOrClear removed cleared (codes "remove " ++ (printed_text x ++ us)) (removed x) us
+removal_made removed cleared x us = inl (behind_word (codes "remove ") (Of removed TextRule) (printed_text x ++ us) us (removed x) (text_of removed x us))
 
--- a clear is a set's
-clearing_made : (us : Bytes) → PartRule (codes "clear" ++ us) op.SetClear us
-clearing_made us = inr (inr (inr (inr (inr (inr (inr (inr (record { value = tt; middle = us; first = refl; second = record { is = refl; here = refl } }))))))))
+-- a clear
+clearing_made : (removed : Bytes → WriteOp) (cleared : WriteOp) (us : Bytes) → RemoveOrClear removed cleared (codes "clear" ++ us) cleared us
+clearing_made removed cleared us = inr (record { value = tt; middle = us; first = refl; second = record { is = refl; here = refl } })
+
+-- what all collections have is a set's where no kind is known
+shared_made : (ts us : Bytes) (a : WriteOp) → RemoveOrClear op.SetRemove op.SetClear ts a us → PartRule ts a us
+shared_made ts us a r = inr (inr (inr (inr (inr (inr (inr r))))))
 
 -- a field and a text
 field_made : (f t us : Bytes) → FieldRule ((printed_text f ++ 32 ∷ printed_text t) ++ us) (op.HashPut f t) us
@@ -249,11 +255,27 @@ part_made (op.PutCounter n) us h = inr (inl (behind_word (codes "put ") _ _ us _
 part_made (op.AddCounter n) us h = inr (inr (inr (inr (inl (behind_word (codes "add ") _ _ us _ (number_of op.AddCounter n us h))))))
 part_made (op.PutText t) us h = inr (inr (inl (behind_word (codes "put ") _ _ us _ (text_of op.PutText t us))))
 part_made (op.SetAdd x) us h = inr (inr (inr (inr (inr (inl (behind_word (codes "add ") _ _ us _ (text_of op.SetAdd x us)))))))
-part_made (op.SetRemove x) us h = removal_made x us
-part_made op.SetClear us h = clearing_made us
+part_made (op.SetRemove x) us h = shared_made _ us _ (removal_made op.SetRemove op.SetClear x us)
+part_made op.SetClear us h = shared_made _ us _ (clearing_made op.SetRemove op.SetClear us)
 part_made (op.HashPut f t) us h = inr (inr (inr (inl (behind_word (codes "put ") _ _ us _ (field_made f t us)))))
-part_made (op.HashRemove f) us h = removal_made f us
-part_made op.HashClear us h = clearing_made us
-part_made (op.ListPush x) us h = inr (inr (inr (inr (inr (inr (inr (inl (behind_word (codes "push ") _ _ us _ (text_of op.ListPush x us)))))))))
-part_made (op.ListRemove x) us h = removal_made x us
-part_made op.ListClear us h = clearing_made us
+part_made (op.HashRemove f) us h = shared_made _ us _ (removal_made op.SetRemove op.SetClear f us)
+part_made op.HashClear us h = shared_made _ us _ (clearing_made op.SetRemove op.SetClear us)
+part_made (op.ListPush x) us h = inr (inr (inr (inr (inr (inr (inl (behind_word (codes "push ") _ _ us _ (text_of op.ListPush x us))))))))
+part_made (op.ListRemove x) us h = shared_made _ us _ (removal_made op.SetRemove op.SetClear x us)
+part_made op.ListClear us h = shared_made _ us _ (clearing_made op.SetRemove op.SetClear us)
+
+-- a part of any form, beside an address of its kind
+pub part_of_made : (o : WriteOp) (us : Bytes) → FitsPart o → PartOf (kind_written o) (printed_part o ++ us) o us
+part_of_made (op.PutBool b) us h = behind_word (codes "put ") _ _ us _ (bool_of op.PutBool b us)
+part_of_made (op.PutCounter n) us h = inl (behind_word (codes "put ") _ _ us _ (number_of op.PutCounter n us h))
+part_of_made (op.AddCounter n) us h = inr (behind_word (codes "add ") _ _ us _ (number_of op.AddCounter n us h))
+part_of_made (op.PutText t) us h = behind_word (codes "put ") _ _ us _ (text_of op.PutText t us)
+part_of_made (op.SetAdd x) us h = inl (behind_word (codes "add ") _ _ us _ (text_of op.SetAdd x us))
+part_of_made (op.SetRemove x) us h = inr (removal_made op.SetRemove op.SetClear x us)
+part_of_made op.SetClear us h = inr (clearing_made op.SetRemove op.SetClear us)
+part_of_made (op.HashPut f t) us h = inl (behind_word (codes "put ") _ _ us _ (field_made f t us))
+part_of_made (op.HashRemove f) us h = inr (removal_made op.HashRemove op.HashClear f us)
+part_of_made op.HashClear us h = inr (clearing_made op.HashRemove op.HashClear us)
+part_of_made (op.ListPush x) us h = inl (behind_word (codes "push ") _ _ us _ (text_of op.ListPush x us))
+part_of_made (op.ListRemove x) us h = inr (removal_made op.ListRemove op.ListClear x us)
+part_of_made op.ListClear us h = inr (clearing_made op.ListRemove op.ListClear us)

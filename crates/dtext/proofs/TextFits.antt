@@ -1,22 +1,18 @@
 -- The reader of texts reads what the rule derives.
-use Rattle.std.proofs.Common.{◌≡◌, ◌<◌, ℕ, Bool, true, false, not, ◌&&◌, [], ◌∷◌, ◌++◌, length, Some, None, Ok, Err, refl, ap, ◌∙◌, inl, inr, arith, cond, nat_eq, nat_le}
+use Rattle.std.proofs.Common.{◌≡◌, ◌↔◌, ◌<◌, ◌≤◌, ◌-◌, ℕ, Bool, true, false, not, ◌&&◌, Some, None, Ok, refl, ap, ◌∙◌, inl, inr, arith, cond, nat_eq, nat_le}
 use Rattle.std.proofs.lemmas.Bool.Decides.{nat_tests}
-use Rattle.predictive_parsing.specs.Reading.{Outcome, next, one}
+use Rattle.predictive_parsing.specs.Reading.{next, one}
 use Rattle.predictive_parsing.specs.Rules.{One, Then, Pure, Many}
 use Rattle.predictive_parsing.specs.Fits.{Fits, any, unless}
-use Rattle.predictive_parsing.proofs.Basic.{bool_cases, both, not_true}
+use Rattle.predictive_parsing.specs.Bytes.{IsByte, Byte, sees}
+use Rattle.predictive_parsing.proofs.Basic.{bool_cases, both, not_true, sound}
 use Rattle.predictive_parsing.proofs.Combined.{one_fits, followed, either_fits, seen, onwards}
-use Rattle.predictive_parsing.proofs.Lists.{many_fits, shrinks}
-use Rattle.predictive_parsing.proofs.Loops.{with_front, no_front, turn, refused, ended}
+use Rattle.predictive_parsing.proofs.Lists.{many_fits}
+use Rattle.predictive_parsing.proofs.Words.{byte_fits, byte_taken, byte_begins, byte_next}
 use Rattle.plain_data.specs.Texts.{Bytes}
-use Rattle.dtext.specs.Columns.{IsByte}
-use Rattle.dtext.specs.Spellings.{Byte, is_plain, plain, short, hex_value, hex_byte, Hexadecimal, Escape, Piece, TextRule}
-use Rattle.dtext.specs.Reading.{sees, inside, hexadecimal, escape, piece, pieces, text}
-use Rattle.dtext.proofs.Words.{byte_fits, byte_taken, same_byte}
-
--- a byte's rule takes the byte that is ahead
-pub byte_begins : (b : ℕ) (ts us : Bytes) (a : Unit {0}) → Byte b ts a us → sees b (next ts) ≡ true
-byte_begins b ts us a r = ap (λ xs. sees b (next xs)) (byte_taken b ts us a r) ∙ same_byte b
+use Rattle.dtext.specs.Characters.{is_digit}
+use Rattle.dtext.specs.Spellings.{is_plain, plain, short, hex_value, hex_byte, Hexadecimal, Escape, Piece, TextRule}
+use Rattle.dtext.specs.code.Reading.{inside, hexadecimal, escape, piece, pieces, text}
 
 -- one hexadecimal digit
 digit_fits : Fits IsByte (one hex_value) (One hex_value) any
@@ -102,28 +98,19 @@ text_fits = onwards IsByte (byte_fits 34 (omega arith)) (λ _. followed IsByte p
 pub text_begins : (ts us a : Bytes) → TextRule ts a us → sees 34 (next ts) ≡ true
 text_begins ts us a r = byte_begins 34 ts r.middle r.value r.first
 
--- ---- the loop that reads the bytes
+-- a text is read where its rule derives it, and nothing else is
+pub text_is_rule : (ts us a : Bytes) → (text ts ≡ Ok (a, us)) ↔ TextRule ts a us
+text_is_rule ts us a = (λ e. sound text TextRule ts us a (text_fits.takes ts us a e), λ r. text_fits.reads ts us a r refl)
 
--- a piece takes a byte at least
-pub piece_shrinks : (ts us : Bytes) (a : ℕ) → piece ts ≡ Ok (a, us) → length us < length ts
-piece_shrinks = shrinks IsByte inside piece Piece any piece_fits piece_begins refl
+-- a text begins with a quote
+pub text_next : (ts us a : Bytes) → TextRule ts a us → next ts ≡ Some 34
+text_next ts us a r = byte_next 34 ts r.middle r.value r.first
 
-module _ (found ts : Bytes) (all : Outcome ℕ Bytes) (so_far : with_front found (pieces ts) ≡ all) where
-  -- a turn finds one byte more
-  pub pieces_turn : (us : Bytes) (a : ℕ) → inside (next ts) ≡ true → piece ts ≡ Ok (a, us) → with_front (found ++ a ∷ []) (pieces us) ≡ all
-  unfolding pieces
-  pieces_turn us a s e = turn inside piece refl piece_shrinks found ts all so_far us a s e
-
-  -- the loop ends where a piece is refused
-  pub pieces_refused : (us : Bytes) → inside (next ts) ≡ true → piece ts ≡ Err us → all ≡ Err us
-  unfolding pieces
-  pieces_refused us s e = refused inside piece refl piece_shrinks found ts all so_far us s e
-
-  -- and where a quote or no byte is ahead
-  pub pieces_ended : inside (next ts) ≡ false → all ≡ Ok (found, ts)
-  unfolding pieces
-  pieces_ended s = ended inside piece refl piece_shrinks found ts all so_far s
-
--- as it begins nothing is found
-pub pieces_begin : (ts : Bytes) → with_front [] (pieces ts) ≡ pieces ts
-pieces_begin ts = no_front (pieces ts)
+-- a hexadecimal digit is below 16
+pub hex_small : (b a : ℕ) → hex_value b ≡ Some a → a < 16
+hex_small b a e = by_digit (is_digit b) (nat_le 97 b && nat_le b 102) refl refl e
+  where
+    by_digit : (d l : Bool) → is_digit b ≡ d → nat_le 97 b && nat_le b 102 ≡ l → cond d (Some (b - 48)) (cond l (Some (b - 87)) None) ≡ Some a → a < 16
+    by_digit true l d h e = let k : b - 48 ≡ a = cc in let m : b ≤ 57 = grind (arith, nat_tests, d) in omega arith
+    by_digit false true d h e = let k : b - 87 ≡ a = cc in let m : b ≤ 102 = grind (arith, nat_tests, h) in omega arith
+    by_digit false false d h e = absurd (cc)

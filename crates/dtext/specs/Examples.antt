@@ -3,7 +3,8 @@ use Rattle.std.specs.Prelude.{◌≡◌, [], codes, negsuc, Ok, Err, refl}
 use Rattle.predictive_parsing.specs.Reading.{one, turns, many, optional, whole}
 use Rattle.rdt_types.specs.declared.outcome.Item.TheVariants as items
 use Rattle.rdt_types.specs.declared.operation.WriteOp.TheVariants as op
-use Rattle.dtext.specs.Reading.{byte, word, piece, pieces, text, digits, positive, natural, negative, number, item, part, put_or_push, put_value, text_or_field, text_behind}
+use Rattle.predictive_parsing.specs.Bytes.{byte, word}
+use Rattle.dtext.specs.code.Reading.{piece, pieces, text, digits, positive, natural, negative, number, item, part, put_or_push, put_value, text_or_field, text_behind, remove_or_clear, removal, hash_part}
 
 -- a text that doesn't end
 open_text : whole text (codes "\"a") ≡ Err []
@@ -24,3 +25,8 @@ minus_five = refl
 field_put : whole part (codes "put \"f\" \"v\"") ≡ Ok (op.HashPut (codes "f") (codes "v"))
 unfolding whole part put_or_push put_value text_or_field text_behind optional word text pieces piece byte many turns one
 field_put = refl
+
+-- a removal beside a hash
+field_removed : whole hash_part (codes "remove \"f\"") ≡ Ok (op.HashRemove (codes "f"))
+unfolding whole hash_part remove_or_clear removal word text pieces piece byte many turns one
+field_removed = refl

@@ -1,7 +1,9 @@
+pub mod Characters
 pub mod Printing
 pub mod Spellings
-pub mod Reading
-pub mod Columns
-pub mod Reads
+pub mod Limits
+pub mod Answers
+pub mod Follows
 pub mod ReadBack
+pub mod code
 pub mod Examples

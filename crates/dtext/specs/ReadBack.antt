@@ -10,7 +10,9 @@ use Rattle.rdt_types.specs.declared.operation.WriteOp.{WriteOp}
 use Rattle.rdt_types.specs.declared.operation.WriteOp.TheVariants as op
 use Rattle.rdt_types.specs.Printed.{printed_text, printed_address}
 use Rattle.dtext.specs.Printing.{printed_item, printed_outcome, printed_part}
-use Rattle.dtext.specs.Spellings.{Fits64, IsText, IsAddress, IsItem, IsOutcome, IsPart}
+use Rattle.dtext.specs.Spellings.{Fits64, IsText, IsAddress, IsItem, IsOutcome, IsPart, PartOf}
+use Rattle.predictive_parsing.specs.Rules.{Whole}
+use Rattle.rdt_types.specs.Values.{kind_written}
 
 -- the numbers in it are of 64 bits, as those of every value that a program holds
 abbrev pub FitsItem : Item → Type 0
@@ -55,3 +57,7 @@ OutcomesReadBack = (outcome : Outcome) → FitsOutcome outcome → IsOutcome (pr
 -- parts, as they are read alone
 abbrev pub PartsReadBack : Type 0
 PartsReadBack = (part : WriteOp) → FitsPart part → IsPart (printed_part part) (read_alone part)
+
+-- parts, as they are read beside an address of their kind
+abbrev pub PartsOfKindsReadBack : Type 0
+PartsOfKindsReadBack = (part : WriteOp) → FitsPart part → Whole (PartOf (kind_written part)) (printed_part part) part

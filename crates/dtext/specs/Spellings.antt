@@ -3,10 +3,13 @@
 --
 -- Marks stand by their bytes: 32 is the space, 34 `"`, 40 `(`, 41 `)`, 44 `,`, 45 `-`, 91 `[`, 92 `\`, 93 `]`, 110 `n`,
 -- and 120 `x`.
-use Rattle.std.specs.Prelude.{◌≡◌, ℕ, ◌+◌, ◌-◌, ◌*◌, ◌^◌, ◌<◌, Bool, not, ◌&&◌, ◌||◌, nat_eq, nat_le, if◌then◌else◌, List, [], ◌∷◌, ◌++◌, ℤ, pos, negsuc, codes, Option, Some, None}
-use Rattle.std.specs.Fmt.{signed_decimal}
+use Rattle.std.specs.Prelude.{◌≡◌, ℕ, ◌+◌, ◌-◌, ◌*◌, ◌^◌, ◌<◌, ◌≤◌, Bool, not, ◌&&◌, ◌||◌, nat_eq, nat_le, if◌then◌else◌, List, [], ◌∷◌, ◌++◌, ℤ, pos, negsuc, codes, Option, Some, None}
+use Rattle.std.specs.Fmt.{decimal, signed_decimal}
 use Rattle.plain_data.specs.Texts.{Bytes}
-use Rattle.predictive_parsing.specs.Rules.{Rule, One, Pure, Or, Many, ListOf, Whole, ◌>>=◌}
+use Rattle.predictive_parsing.specs.Rules.{Rule, One, Pure, Or, Many, ListOf, Word, SpelledBy, Of, Behind, Whole, ◌>>=◌}
+use Rattle.predictive_parsing.specs.Bytes.{Byte}
+use Rattle.rdt_types.specs.declared.address.Kind.{Kind}
+use Rattle.rdt_types.specs.declared.address.Kind.TheVariants as kinds
 use Rattle.rdt_types.specs.declared.address.Address.{Address}
 use Rattle.rdt_types.specs.declared.outcome.Item.{Item}
 use Rattle.rdt_types.specs.declared.outcome.Item.TheVariants as item
@@ -15,43 +18,15 @@ use Rattle.rdt_types.specs.declared.outcome.Outcome.TheVariants as outcome
 use Rattle.rdt_types.specs.declared.operation.WriteOp.{WriteOp}
 use Rattle.rdt_types.specs.declared.operation.WriteOp.TheVariants as op
 use Rattle.rdt_types.specs.Printed.{word_of}
+use Rattle.dtext.specs.declared.text.TheConstants.{DELETE}
+use Rattle.dtext.specs.Characters.{is_digit}
 use Rattle.dtext.specs.Printing.{printed_bool}
-
--- ---- bytes and words
-
--- this byte
-abbrev pub exactly : ℕ → ℕ → Option (Unit {0})
-exactly wanted byte = if nat_eq byte wanted then Some tt else None
-
--- this byte
-abbrev pub Byte : ℕ → Rule ℕ (Unit {0})
-Byte wanted = One (exactly wanted)
-
--- these bytes
-abbrev pub Word : Bytes → Rule ℕ (Unit {0})
-Word word bytes _ rest = bytes ≡ word ++ rest
-
--- the bytes that f gives for the value
-abbrev pub SpelledBy : {A : Type 0} → (A → Bytes) → Rule ℕ A
-SpelledBy f bytes a rest = bytes ≡ f a ++ rest
-
--- what the rule derives, seen as another value
-abbrev pub Of : {A B : Type 0} → (A → B) → Rule ℕ A → Rule ℕ B
-Of f P = do
-  a ← P
-  Pure (f a)
-
--- a word, and then what the rule derives
-abbrev pub Behind : {A : Type 0} → Bytes → Rule ℕ A → Rule ℕ A
-Behind word P = do
-  _ ← Word word
-  P
 
 -- ---- texts
 
 -- What stands for itself between quotes: all bytes but those below 32, 127, `"` and `\`.
 abbrev pub is_plain : ℕ → Bool
-is_plain byte = nat_le 32 byte && not (nat_eq byte 127) && not (nat_eq byte 34) && not (nat_eq byte 92)
+is_plain byte = nat_le 32 byte && not (nat_eq byte DELETE) && not (nat_eq byte 34) && not (nat_eq byte 92)
 
 -- a byte that stands for itself
 abbrev pub plain : ℕ → Option ℕ
@@ -60,10 +35,6 @@ plain byte = if is_plain byte then Some byte else None
 -- the byte that one byte behind a backslash stands for: `"`, `\` or, for `n`, a newline
 abbrev pub short : ℕ → Option ℕ
 short byte = if nat_eq byte 34 || nat_eq byte 92 then Some byte else (if nat_eq byte 110 then Some 10 else None)
-
--- `0` to `9`
-abbrev pub is_digit : ℕ → Bool
-is_digit byte = nat_le 48 byte && nat_le byte 57
 
 -- the value of a hexadecimal digit, `0` to `9` or `a` to `f`
 abbrev pub hex_value : ℕ → Option ℕ
@@ -100,6 +71,17 @@ TextRule = do
   Pure text
 
 -- ---- numbers and truth values
+
+-- The decimal form of a number from 0 to a limit: no sign, and no zero in front of other digits.
+pub record NaturalRule (limit : ℕ) (bytes : Bytes) (n : ℕ) (rest : Bytes) : Type 0 where
+  pub spelled : bytes ≡ decimal n ++ rest
+  pub within : n ≤ limit
+
+-- the same of a number from 1 to a limit
+pub record PositiveRule (limit : ℕ) (bytes : Bytes) (n : ℕ) (rest : Bytes) : Type 0 where
+  pub spelled : bytes ≡ decimal n ++ rest
+  pub some : 0 < n
+  pub within : n ≤ limit
 
 -- what 64 bits hold
 abbrev pub Fits64 : ℤ → Type 0
@@ -176,6 +158,19 @@ FieldRule = do
   text ← TextRule
   Pure (op.HashPut field text)
 
+-- a removal or a clear
+abbrev pub RemoveOrClear : (Bytes → WriteOp) → WriteOp → Rule ℕ WriteOp
+RemoveOrClear removed cleared = Or (Behind (codes "remove ") (Of removed TextRule)) (Of (λ _. cleared) (Word (codes "clear")))
+
+-- one write beside an address, whose kind decides: a row a kind
+abbrev pub PartOf : Kind → Rule ℕ WriteOp
+PartOf kinds.Bool = Behind (codes "put ") (Of op.PutBool BoolRule)
+PartOf kinds.Counter = Or (Behind (codes "put ") (Of op.PutCounter NumberRule)) (Behind (codes "add ") (Of op.AddCounter NumberRule))
+PartOf kinds.Text = Behind (codes "put ") (Of op.PutText TextRule)
+PartOf kinds.Set = Or (Behind (codes "add ") (Of op.SetAdd TextRule)) (RemoveOrClear op.SetRemove op.SetClear)
+PartOf kinds.Hash = Or (Behind (codes "put ") FieldRule) (RemoveOrClear op.HashRemove op.HashClear)
+PartOf kinds.List = Or (Behind (codes "push ") (Of op.ListPush TextRule)) (RemoveOrClear op.ListRemove op.ListClear)
+
 -- One write without its kind: the form decides, and what sets, hashes and lists share is a set's.
 abbrev pub PartRule : Rule ℕ WriteOp
 PartRule =
@@ -185,9 +180,8 @@ PartRule =
     (Or (Behind (codes "put ") FieldRule)
     (Or (Behind (codes "add ") (Of op.AddCounter NumberRule))
     (Or (Behind (codes "add ") (Of op.SetAdd TextRule))
-    (Or (Behind (codes "remove ") (Of op.SetRemove TextRule))
     (Or (Behind (codes "push ") (Of op.ListPush TextRule))
-    (Of (λ _. op.SetClear) (Word (codes "clear"))))))))))
+    (RemoveOrClear op.SetRemove op.SetClear)))))))
 
 -- ---- spellings, all of the bytes
 

@@ -21,22 +21,3 @@ impl From<AllocError> for TextError {
         TextError::NoMemory
     }
 }
-
-/// Why the readers of single forms stop.
-#[derive(Clone, Copy, Debug, PartialEq, Eq)]
-pub(crate) enum Stop {
-    /// The byte ahead doesn't fit, or there is none.
-    Refused,
-    NoMemory,
-}
-
-impl From<AllocError> for Stop {
-    ghost use Rattle.std.specs.Prelude.{◌≡◌};
-    ghost use Rattle.dtext.specs.declared.error.Stop.TheVariants.{NoMemory};
-
-    ghost from_gives = { λ _ e. e ≡ NoMemory };
-
-    fn from(_: AllocError) -> Stop {
-        Stop::NoMemory
-    }
-}

@@ -1,93 +1,100 @@
 //! Values that a body emits, and how bodies end.
 
 ghost use Rattle.std.specs.Prelude.{◌≡◌};
-ghost use Rattle.dtext.specs.Reading as spec;
-ghost use Rattle.dtext.specs.Reads.{Reads};
+ghost use Rattle.predictive_parsing.specs.Reads.{Reads};
+ghost use Rattle.dtext.specs.code.Reading as spec;
 
-use crate::cursor::Cursor;
-use crate::error::Stop;
 use crate::number::{begins_number, number};
-use crate::text::text;
+use crate::text::next_text;
 use crate::value::{texts, truth};
-use rdt_types::{Item, ItemList, Outcome};
+use plain_data::OrNoMemory;
+use predictive_parsing::{Cursor, Reading, Refused, read_many};
+use rdt_types::{Item, Outcome};
 use std::alloc::Global;
 
-/// A value of any type: which one, the byte ahead tells.
-#[tactic(auto, unfolding(crate::specs::Reading::item))]
-pub(crate) fn item(alloc: Global, cursor: &mut Cursor) -> Result<Item, Stop>
+/// Reads the value that is next: of which type it is, the byte ahead tells.
+#[tactic(auto, unfolding(crate::specs::code::Reading::item))]
+pub fn next_item(alloc: Global, cursor: &mut Cursor<u8>) -> Result<Item, OrNoMemory<Refused>>
     ensures { Reads (spec.item cursor.old) result cursor.new }
 {
     if begins_number(cursor) {
         Ok(Item::Int(number(cursor)?))
-    } else if cursor.sees(b'"') {
-        Ok(Item::Text(text(alloc, cursor)?))
-    } else if cursor.sees(b'[') {
+    } else if cursor.sees_byte(b'"') {
+        Ok(Item::Text(next_text(alloc, cursor)?))
+    } else if cursor.sees_byte(b'[') {
         Ok(Item::Texts(texts(alloc, cursor)?))
     } else {
         Ok(Item::Bool(truth(cursor)?))
     }
 }
 
-#[tactic(auto, unfolding(crate::specs::Reading::after_space))]
-fn after_space(alloc: Global, cursor: &mut Cursor) -> Result<Item, Stop>
+#[tactic(auto, unfolding(crate::specs::code::Reading::after_space))]
+fn after_space(alloc: Global, cursor: &mut Cursor<u8>) -> Result<Item, OrNoMemory<Refused>>
     ensures { Reads (spec.after_space cursor.old) result cursor.new }
 {
     cursor.byte(b' ')?;
-    item(alloc, cursor)
+    next_item(alloc, cursor)
 }
 
-/// As many values behind spaces as there are.
-fn emitted(alloc: Global, cursor: &mut Cursor) -> Result<ItemList, Stop>
-    ensures { Reads (spec.emitted cursor.old) result cursor.new }
-{
-    let mut found = ItemList::new(alloc);
-    while cursor.sees(b' ') {
-        let item = after_space(alloc, cursor)?;
-        found.push(item)?;
+/// Values behind spaces.
+struct Emitted;
+
+impl Reading<u8, Item> for Emitted {
+    ghost use Rattle.predictive_parsing.specs.Bytes.{sees};
+
+    ghost starts = { λ _. sees 32 };
+
+    ghost reader = { λ _. spec.after_space };
+
+    fn begins(&self, cursor: &Cursor<u8>) -> bool {
+        cursor.sees_byte(b' ')
     }
-    Ok(found)
+
+    fn read(&self, alloc: Global, cursor: &mut Cursor<u8>) -> Result<Item, OrNoMemory<Refused>> {
+        after_space(alloc, cursor)
+    }
 }
 
-#[tactic(auto, unfolding(crate::specs::Reading::ran))]
-fn ran(alloc: Global, cursor: &mut Cursor) -> Result<Outcome, Stop>
+#[tactic(auto, unfolding(crate::specs::code::Reading::ran, crate::specs::code::Reading::emitted))]
+fn ran(alloc: Global, cursor: &mut Cursor<u8>) -> Result<Outcome, OrNoMemory<Refused>>
     ensures { Reads (spec.ran cursor.old) result cursor.new }
 {
     cursor.word(b"ok")?;
-    Ok(Outcome::Ok(emitted(alloc, cursor)?))
+    Ok(Outcome::Ok(read_many(alloc, &Emitted, cursor)?))
 }
 
-#[tactic(auto, unfolding(crate::specs::Reading::failed))]
-fn failed(alloc: Global, cursor: &mut Cursor) -> Result<Outcome, Stop>
+#[tactic(auto, unfolding(crate::specs::code::Reading::failed))]
+fn failed(alloc: Global, cursor: &mut Cursor<u8>) -> Result<Outcome, OrNoMemory<Refused>>
     ensures { Reads (spec.failed cursor.old) result cursor.new }
 {
     cursor.word(b"fail ")?;
-    Ok(Outcome::Fail(text(alloc, cursor)?))
+    Ok(Outcome::Fail(next_text(alloc, cursor)?))
 }
 
-fn spent(cursor: &mut Cursor) -> Result<Outcome, Stop>
+fn spent(cursor: &mut Cursor<u8>) -> Result<Outcome, OrNoMemory<Refused>>
     ensures { Reads (spec.spent cursor.old) result cursor.new }
 {
     cursor.word(b"spent")?;
     Ok(Outcome::Spent)
 }
 
-fn big(cursor: &mut Cursor) -> Result<Outcome, Stop>
+fn big(cursor: &mut Cursor<u8>) -> Result<Outcome, OrNoMemory<Refused>>
     ensures { Reads (spec.big cursor.old) result cursor.new }
 {
     cursor.word(b"big")?;
     Ok(Outcome::Big)
 }
 
-/// How a body ended: the byte ahead tells.
-#[tactic(auto, unfolding(crate::specs::Reading::outcome))]
-pub(crate) fn outcome(alloc: Global, cursor: &mut Cursor) -> Result<Outcome, Stop>
+/// Reads the outcome that is next: how a body ended, the byte ahead tells.
+#[tactic(auto, unfolding(crate::specs::code::Reading::outcome))]
+pub fn next_outcome(alloc: Global, cursor: &mut Cursor<u8>) -> Result<Outcome, OrNoMemory<Refused>>
     ensures { Reads (spec.outcome cursor.old) result cursor.new }
 {
-    if cursor.sees(b'o') {
+    if cursor.sees_byte(b'o') {
         ran(alloc, cursor)
-    } else if cursor.sees(b'f') {
+    } else if cursor.sees_byte(b'f') {
         failed(alloc, cursor)
-    } else if cursor.sees(b's') {
+    } else if cursor.sees_byte(b's') {
         spent(cursor)
     } else {
         big(cursor)

@@ -1,25 +1,19 @@
 //! Numbers of 64 bits.
 
 ghost use Rattle.std.specs.Prelude.{◌≡◌, ◌≤◌, ◌^◌, ◌-◌, IfOk, IfSome, Ok, neg_ℤ, pos};
-ghost use Rattle.predictive_parsing.specs.Reading.{next, one};
-ghost use Rattle.dtext.specs.Reading as spec;
-ghost use Rattle.dtext.specs.Reads.{Reads, made_of};
-ghost use Rattle.dtext.specs.Spellings as rule;
+ghost use Rattle.predictive_parsing.specs.Reading.{next, of, one};
+ghost use Rattle.predictive_parsing.specs.Reads.{Reads, made_of};
+ghost use Rattle.dtext.specs.code.Reading as spec;
 
-use crate::cursor::Cursor;
-use crate::error::Stop;
+use crate::character::is_digit;
+use plain_data::OrNoMemory;
+use predictive_parsing::{Cursor, Refused};
 
 /// The largest number.
-const MOST: u64 = 9223372036854775807;
+pub const MOST: u64 = 9223372036854775807;
 
 /// How far the least number is below 0.
-const LEAST: u64 = 9223372036854775808;
-
-fn is_digit(byte: u8) -> bool
-    ensures { result ≡ rule.is_digit byte }
-{
-    b'0' <= byte && byte <= b'9'
-}
+pub const LEAST: u64 = 9223372036854775808;
 
 /// The value of a digit of 1 to 9.
 fn leading(byte: u8) -> Option<u64>
@@ -31,13 +25,6 @@ fn leading(byte: u8) -> Option<u64>
     } else {
         None
     }
-}
-
-fn leading_ahead(cursor: &Cursor) -> Option<u64>
-    ensures value { result ≡ made_of spec.leading cursor.now }
-    ensures below { IfSome result (λ value. value ≤ 9) }
-{
-    leading(cursor.peek()?)
 }
 
 /// The value with one digit more, where it keeps within the limit.
@@ -56,15 +43,15 @@ fn with_digit(limit: u64, value: u64, byte: u8) -> Option<u64>
     }
 }
 
-fn more_ahead(cursor: &Cursor, limit: u64, value: u64) -> Option<u64>
+fn more_ahead(cursor: &Cursor<u8>, limit: u64, value: u64) -> Option<u64>
     ensures value { result ≡ made_of (spec.more limit value) cursor.now }
     ensures within { IfSome result (λ more. more ≤ limit) }
 {
-    with_digit(limit, value, cursor.peek()?)
+    with_digit(limit, value, *cursor.peek()?)
 }
 
 /// As many digits as keep the number within the limit, behind its first.
-fn digits(cursor: &mut Cursor, limit: u64, first: u64) -> u64
+fn digits(cursor: &mut Cursor<u8>, limit: u64, first: u64) -> u64
     requires { first ≤ limit }
     ensures read { spec.digits limit first cursor.old ≡ Ok (result, cursor.new) }
     ensures within { result ≤ limit }
@@ -77,18 +64,16 @@ fn digits(cursor: &mut Cursor, limit: u64, first: u64) -> u64
     value
 }
 
-#[tactic(auto, using(crate::proofs::Cursors::taken, crate::proofs::Cursors::refused))]
-fn leading_digit(cursor: &mut Cursor) -> Result<u64, Stop>
+fn leading_digit(cursor: &mut Cursor<u8>) -> Result<u64, OrNoMemory<Refused>>
     ensures read { Reads (one spec.leading cursor.old) result cursor.new }
     ensures below { IfOk result (λ value. value ≤ 9) }
 {
-    let ahead = leading_ahead(cursor);
-    cursor.take(ahead)
+    cursor.take(|byte| leading(*byte))
 }
 
-/// A number from 1 to the limit.
-#[tactic(auto, unfolding(crate::specs::Reading::positive))]
-fn positive(cursor: &mut Cursor, limit: u64) -> Result<u64, Stop>
+/// Reads the number from 1 to the limit that is next. One with a digit more than the limit allows is read without it.
+#[tactic(auto, unfolding(crate::specs::code::Reading::positive))]
+pub fn next_positive(cursor: &mut Cursor<u8>, limit: u64) -> Result<u64, OrNoMemory<Refused>>
     requires { 9 ≤ limit }
     ensures read { Reads (spec.positive limit cursor.old) result cursor.new }
     ensures within { IfOk result (λ n. n ≤ limit) }
@@ -97,51 +82,51 @@ fn positive(cursor: &mut Cursor, limit: u64) -> Result<u64, Stop>
     Ok(digits(cursor, limit, first))
 }
 
-/// A number from 0 to the limit.
-#[tactic(auto, unfolding(crate::specs::Reading::natural))]
-fn natural(cursor: &mut Cursor, limit: u64) -> Result<u64, Stop>
+/// Reads the number from 0 to the limit that is next. One with a digit more than the limit allows is read without it.
+#[tactic(auto, unfolding(crate::specs::code::Reading::natural))]
+pub fn next_natural(cursor: &mut Cursor<u8>, limit: u64) -> Result<u64, OrNoMemory<Refused>>
     requires { 9 ≤ limit }
     ensures read { Reads (spec.natural limit cursor.old) result cursor.new }
     ensures within { IfOk result (λ n. n ≤ limit) }
 {
-    if cursor.sees(b'0') {
+    if cursor.sees_byte(b'0') {
         cursor.byte(b'0')?;
         Ok(0)
     } else {
-        positive(cursor, limit)
+        next_positive(cursor, limit)
     }
 }
 
 /// So much below 0.
 fn below_zero(n: u64) -> i64
-    requires { n ≤ 2 ^ 63 }
+    requires { n ≤ LEAST }
     ensures { result ≡ neg_ℤ (pos n) }
 {
     if n == 0 { 0 } else { -1 - (n - 1) as i64 }
 }
 
-#[tactic(auto, unfolding(crate::specs::Reading::negative))]
-fn negative(cursor: &mut Cursor) -> Result<i64, Stop>
+#[tactic(auto, unfolding(crate::specs::code::Reading::negative))]
+fn negative(cursor: &mut Cursor<u8>) -> Result<i64, OrNoMemory<Refused>>
     ensures { Reads (spec.negative cursor.old) result cursor.new }
 {
     cursor.byte(b'-')?;
-    let n = positive(cursor, LEAST)?;
+    let n = next_positive(cursor, LEAST)?;
     Ok(below_zero(n))
 }
 
-fn not_negative(cursor: &mut Cursor) -> Result<i64, Stop>
-    ensures { Reads (spec.of pos (spec.natural (2 ^ 63 - 1)) cursor.old) result cursor.new }
+fn not_negative(cursor: &mut Cursor<u8>) -> Result<i64, OrNoMemory<Refused>>
+    ensures { Reads (of pos (spec.natural MOST) cursor.old) result cursor.new }
 {
-    let n = natural(cursor, MOST)?;
+    let n = next_natural(cursor, MOST)?;
     Ok(n as i64)
 }
 
 /// A number, in its one form.
-#[tactic(auto, unfolding(crate::specs::Reading::number))]
-pub(crate) fn number(cursor: &mut Cursor) -> Result<i64, Stop>
+#[tactic(auto, unfolding(crate::specs::code::Reading::number))]
+pub(crate) fn number(cursor: &mut Cursor<u8>) -> Result<i64, OrNoMemory<Refused>>
     ensures { Reads (spec.number cursor.old) result cursor.new }
 {
-    if cursor.sees(b'-') {
+    if cursor.sees_byte(b'-') {
         negative(cursor)
     } else {
         not_negative(cursor)
@@ -149,11 +134,8 @@ pub(crate) fn number(cursor: &mut Cursor) -> Result<i64, Stop>
 }
 
 /// Whether a number begins here.
-pub(crate) fn begins_number(cursor: &Cursor) -> bool
+pub(crate) fn begins_number(cursor: &Cursor<u8>) -> bool
     ensures { result ≡ spec.begins_number (next cursor.now) }
 {
-    match cursor.peek() {
-        Some(byte) => is_digit(byte) || byte == b'-',
-        None => false,
-    }
+    cursor.sees(|byte| is_digit(*byte) || *byte == b'-')
 }

@@ -1,33 +1,33 @@
 //! Write parts.
 
 ghost use Rattle.std.specs.Prelude.{◌≡◌};
+ghost use Rattle.predictive_parsing.specs.Bytes.{sees};
 ghost use Rattle.predictive_parsing.specs.Reading.{optional};
-ghost use Rattle.dtext.specs.Reading as spec;
-ghost use Rattle.dtext.specs.Reads.{Reads};
+ghost use Rattle.predictive_parsing.specs.Reads.{Reads};
+ghost use Rattle.dtext.specs.code.Reading as spec;
 
-use crate::cursor::Cursor;
-use crate::error::Stop;
 use crate::number::{begins_number, number};
-use crate::text::text;
+use crate::text::next_text;
 use crate::value::truth;
-use plain_data::Text;
-use rdt_types::WriteOp;
+use plain_data::{OrNoMemory, Text};
+use predictive_parsing::{Cursor, Refused};
+use rdt_types::{Kind, WriteOp};
 use std::alloc::Global;
 
-#[tactic(auto, unfolding(crate::specs::Reading::text_behind))]
-fn text_behind(alloc: Global, cursor: &mut Cursor) -> Result<Text, Stop>
+#[tactic(auto, unfolding(crate::specs::code::Reading::text_behind))]
+fn text_behind(alloc: Global, cursor: &mut Cursor<u8>) -> Result<Text, OrNoMemory<Refused>>
     ensures { Reads (spec.text_behind cursor.old) result cursor.new }
 {
     cursor.byte(b' ')?;
-    text(alloc, cursor)
+    next_text(alloc, cursor)
 }
 
 /// A second text, where one is there.
 #[tactic(auto, unfolding(predictive_parsing::specs::Reading::optional))]
-fn second_text(alloc: Global, cursor: &mut Cursor) -> Result<Option<Text>, Stop>
-    ensures { Reads (optional (spec.sees 32) spec.text_behind cursor.old) result cursor.new }
+fn second_text(alloc: Global, cursor: &mut Cursor<u8>) -> Result<Option<Text>, OrNoMemory<Refused>>
+    ensures { Reads (optional (sees 32) spec.text_behind cursor.old) result cursor.new }
 {
-    if cursor.sees(b' ') {
+    if cursor.sees_byte(b' ') {
         Ok(Some(text_behind(alloc, cursor)?))
     } else {
         Ok(None)
@@ -44,101 +44,142 @@ fn put_of(first: Text, second: Option<Text>) -> WriteOp
     }
 }
 
-#[tactic(auto, unfolding(crate::specs::Reading::text_or_field))]
-fn text_or_field(alloc: Global, cursor: &mut Cursor) -> Result<WriteOp, Stop>
+#[tactic(auto, unfolding(crate::specs::code::Reading::text_or_field))]
+fn text_or_field(alloc: Global, cursor: &mut Cursor<u8>) -> Result<WriteOp, OrNoMemory<Refused>>
     ensures { Reads (spec.text_or_field cursor.old) result cursor.new }
 {
-    let first = text(alloc, cursor)?;
+    let first = next_text(alloc, cursor)?;
     let second = second_text(alloc, cursor)?;
     Ok(put_of(first, second))
 }
 
 /// What is put, which tells the kind.
-#[tactic(auto, unfolding(crate::specs::Reading::put_value))]
-fn put_value(alloc: Global, cursor: &mut Cursor) -> Result<WriteOp, Stop>
+#[tactic(auto, unfolding(crate::specs::code::Reading::put_value))]
+fn put_value(alloc: Global, cursor: &mut Cursor<u8>) -> Result<WriteOp, OrNoMemory<Refused>>
     ensures { Reads (spec.put_value cursor.old) result cursor.new }
 {
     if begins_number(cursor) {
         Ok(WriteOp::PutCounter(number(cursor)?))
-    } else if cursor.sees(b'"') {
+    } else if cursor.sees_byte(b'"') {
         text_or_field(alloc, cursor)
     } else {
         Ok(WriteOp::PutBool(truth(cursor)?))
     }
 }
 
-fn put(alloc: Global, cursor: &mut Cursor) -> Result<WriteOp, Stop>
+fn put(alloc: Global, cursor: &mut Cursor<u8>) -> Result<WriteOp, OrNoMemory<Refused>>
     ensures { Reads (spec.put cursor.old) result cursor.new }
 {
     cursor.word(b"t ")?;
     put_value(alloc, cursor)
 }
 
-fn push(alloc: Global, cursor: &mut Cursor) -> Result<WriteOp, Stop>
+fn push(alloc: Global, cursor: &mut Cursor<u8>) -> Result<WriteOp, OrNoMemory<Refused>>
     ensures { Reads (spec.push cursor.old) result cursor.new }
 {
     cursor.word(b"sh ")?;
-    Ok(WriteOp::ListPush(text(alloc, cursor)?))
+    Ok(WriteOp::ListPush(next_text(alloc, cursor)?))
 }
 
 /// `put` or `push`, which begin alike.
-#[tactic(auto, unfolding(crate::specs::Reading::put_or_push))]
-fn put_or_push(alloc: Global, cursor: &mut Cursor) -> Result<WriteOp, Stop>
+#[tactic(auto, unfolding(crate::specs::code::Reading::put_or_push))]
+fn put_or_push(alloc: Global, cursor: &mut Cursor<u8>) -> Result<WriteOp, OrNoMemory<Refused>>
     ensures { Reads (spec.put_or_push cursor.old) result cursor.new }
 {
     cursor.word(b"pu")?;
-    if cursor.sees(b't') {
+    if cursor.sees_byte(b't') {
         put(alloc, cursor)
     } else {
         push(alloc, cursor)
     }
 }
 
-fn added(alloc: Global, cursor: &mut Cursor) -> Result<WriteOp, Stop>
+fn added(alloc: Global, cursor: &mut Cursor<u8>) -> Result<WriteOp, OrNoMemory<Refused>>
     ensures { Reads (spec.added cursor.old) result cursor.new }
 {
     if begins_number(cursor) {
         Ok(WriteOp::AddCounter(number(cursor)?))
     } else {
-        Ok(WriteOp::SetAdd(text(alloc, cursor)?))
+        Ok(WriteOp::SetAdd(next_text(alloc, cursor)?))
     }
 }
 
-#[tactic(auto, unfolding(crate::specs::Reading::addition))]
-fn addition(alloc: Global, cursor: &mut Cursor) -> Result<WriteOp, Stop>
+#[tactic(auto, unfolding(crate::specs::code::Reading::addition))]
+fn addition(alloc: Global, cursor: &mut Cursor<u8>) -> Result<WriteOp, OrNoMemory<Refused>>
     ensures { Reads (spec.addition cursor.old) result cursor.new }
 {
     cursor.word(b"add ")?;
     added(alloc, cursor)
 }
 
-#[tactic(auto, unfolding(crate::specs::Reading::removal))]
-fn removal(alloc: Global, cursor: &mut Cursor) -> Result<WriteOp, Stop>
-    ensures { Reads (spec.removal cursor.old) result cursor.new }
+/// What a removal is of a kind.
+fn removed(kind: Kind, text: Text) -> WriteOp
+    ensures { result ≡ spec.removed kind text }
 {
-    cursor.word(b"remove ")?;
-    Ok(WriteOp::SetRemove(text(alloc, cursor)?))
+    match kind {
+        Kind::Hash => WriteOp::HashRemove(text),
+        Kind::List => WriteOp::ListRemove(text),
+        _ => WriteOp::SetRemove(text),
+    }
 }
 
-fn clearing(cursor: &mut Cursor) -> Result<WriteOp, Stop>
-    ensures { Reads (spec.clearing cursor.old) result cursor.new }
+/// What a clear is of a kind.
+fn cleared(kind: Kind) -> WriteOp
+    ensures { result ≡ spec.cleared kind }
+{
+    match kind {
+        Kind::Hash => WriteOp::HashClear,
+        Kind::List => WriteOp::ListClear,
+        _ => WriteOp::SetClear,
+    }
+}
+
+#[tactic(auto, unfolding(crate::specs::code::Reading::removal))]
+fn removal(
+    alloc: Global,
+    kind: Kind,
+    cursor: &mut Cursor<u8>,
+) -> Result<WriteOp, OrNoMemory<Refused>>
+    ensures { Reads (spec.removal kind cursor.old) result cursor.new }
+{
+    cursor.word(b"remove ")?;
+    Ok(removed(kind, next_text(alloc, cursor)?))
+}
+
+#[tactic(auto, unfolding(crate::specs::code::Reading::clearing))]
+fn clearing(kind: Kind, cursor: &mut Cursor<u8>) -> Result<WriteOp, OrNoMemory<Refused>>
+    ensures { Reads (spec.clearing kind cursor.old) result cursor.new }
 {
     cursor.word(b"clear")?;
-    Ok(WriteOp::SetClear)
+    Ok(cleared(kind))
+}
+
+/// What all collections have.
+#[tactic(auto, unfolding(crate::specs::code::Reading::remove_or_clear))]
+pub(crate) fn remove_or_clear(
+    alloc: Global,
+    kind: Kind,
+    cursor: &mut Cursor<u8>,
+) -> Result<WriteOp, OrNoMemory<Refused>>
+    ensures { Reads (spec.remove_or_clear kind cursor.old) result cursor.new }
+{
+    if cursor.sees_byte(b'r') {
+        removal(alloc, kind, cursor)
+    } else {
+        clearing(kind, cursor)
+    }
 }
 
 /// One write without its kind, which the form decides.
-#[tactic(auto, unfolding(crate::specs::Reading::part))]
-pub(crate) fn part(alloc: Global, cursor: &mut Cursor) -> Result<WriteOp, Stop>
+#[tactic(auto, unfolding(crate::specs::code::Reading::part))]
+pub(crate) fn part(alloc: Global, cursor: &mut Cursor<u8>) -> Result<WriteOp, OrNoMemory<Refused>>
     ensures { Reads (spec.part cursor.old) result cursor.new }
 {
-    if cursor.sees(b'p') {
+    if cursor.sees_byte(b'p') {
         put_or_push(alloc, cursor)
-    } else if cursor.sees(b'a') {
+    } else if cursor.sees_byte(b'a') {
         addition(alloc, cursor)
-    } else if cursor.sees(b'r') {
-        removal(alloc, cursor)
     } else {
-        clearing(cursor)
+        remove_or_clear(alloc, Kind::Set, cursor)
     }
 }

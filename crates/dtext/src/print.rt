@@ -1,7 +1,7 @@
 //! Printing: the one printed form of each value.
 
 ghost use Rattle.std.specs.Prelude.{◌≡◌, ◌++◌, IfOk, OnOk};
-ghost use Rattle.std.specs.Fmt.{signed_decimal};
+ghost use Rattle.std.specs.Fmt.{decimal, signed_decimal};
 ghost use Rattle.std.specs.List.{flat_map};
 ghost use Rattle.dtext.specs.Printing as spec;
 ghost use Rattle.rdt_types.specs.Printed as printed;
@@ -33,7 +33,8 @@ fn push_bytes(out: &mut Text, bytes: &[u8]) -> Result<(), AllocError>
     Ok(())
 }
 
-fn push_text(out: &mut Text, text: &Text) -> Result<(), AllocError>
+/// Adds a text in quotes. Where memory runs out, `out` is of no further use, as after each call below.
+pub fn push_text(out: &mut Text, text: &Text) -> Result<(), AllocError>
     ensures { OnOk result (out.new ≡ out.old ++ printed.printed_text text.now) }
 {
     out.push(b'"')?;
@@ -46,6 +47,24 @@ fn push_number(alloc: Global, out: &mut Text, number: i64) -> Result<(), AllocEr
 {
     let digits = number.to_string(alloc)?;
     out.extend_from_slice(digits.as_bytes())
+}
+
+/// Adds a number without a sign.
+pub fn push_natural(alloc: Global, out: &mut Text, number: u64) -> Result<(), AllocError>
+    ensures { OnOk result (out.new ≡ out.old ++ decimal number) }
+{
+    let digits = number.to_string(alloc)?;
+    out.extend_from_slice(digits.as_bytes())
+}
+
+/// Adds an address: the word of its kind, and its key in parentheses.
+pub fn push_address(out: &mut Text, address: &Address) -> Result<(), AllocError>
+    ensures { OnOk result (out.new ≡ out.old ++ printed.printed_address address.now) }
+{
+    out.extend_from_slice(address.kind.word())?;
+    out.push(b'(')?;
+    push_text(out, &address.key)?;
+    out.push(b')')
 }
 
 /// Adds texts, each behind a comma.
@@ -131,7 +150,8 @@ fn push_field(out: &mut Text, field: &Text, text: &Text) -> Result<(), AllocErro
     push_text(out, text)
 }
 
-fn push_part(alloc: Global, out: &mut Text, part: &WriteOp) -> Result<(), AllocError>
+/// Adds one write, without its kind.
+pub fn push_part(alloc: Global, out: &mut Text, part: &WriteOp) -> Result<(), AllocError>
     ensures { OnOk result (out.new ≡ out.old ++ spec.printed_part part.now) }
 {
     match part {
@@ -151,6 +171,21 @@ fn push_part(alloc: Global, out: &mut Text, part: &WriteOp) -> Result<(), AllocE
     }
 }
 
+/// Adds how a body ended.
+pub fn push_outcome(alloc: Global, out: &mut Text, outcome: &Outcome) -> Result<(), AllocError>
+    ensures { OnOk result (out.new ≡ out.old ++ spec.printed_outcome outcome.now) }
+{
+    match outcome {
+        Outcome::Ok(items) => {
+            out.extend_from_slice(b"ok")?;
+            push_items(alloc, out, items.as_slice())
+        }
+        Outcome::Fail(reason) => push_named(out, b"fail ", reason),
+        Outcome::Spent => out.extend_from_slice(b"spent"),
+        Outcome::Big => out.extend_from_slice(b"big"),
+    }
+}
+
 /// Prints a text in quotes.
 pub fn print_text(alloc: Global, text: &Text) -> Result<Text, AllocError>
     ensures { IfOk result (λ out. out ≡ printed.printed_text text.now) }
@@ -164,10 +199,8 @@ pub fn print_text(alloc: Global, text: &Text) -> Result<Text, AllocError>
 pub fn print_address(alloc: Global, address: &Address) -> Result<Text, AllocError>
     ensures { IfOk result (λ out. out ≡ printed.printed_address address.now) }
 {
-    let mut out = Text::from_slice(alloc, address.kind.word())?;
-    out.push(b'(')?;
-    push_text(&mut out, &address.key)?;
-    out.push(b')')?;
+    let mut out = Text::new(alloc);
+    push_address(&mut out, address)?;
     Ok(out)
 }
 
@@ -184,20 +217,9 @@ pub fn print_item(alloc: Global, item: &Item) -> Result<Text, AllocError>
 pub fn print_outcome(alloc: Global, outcome: &Outcome) -> Result<Text, AllocError>
     ensures { IfOk result (λ out. out ≡ spec.printed_outcome outcome.now) }
 {
-    match outcome {
-        Outcome::Ok(items) => {
-            let mut out = Text::from_slice(alloc, b"ok")?;
-            push_items(alloc, &mut out, items.as_slice())?;
-            Ok(out)
-        }
-        Outcome::Fail(reason) => {
-            let mut out = Text::from_slice(alloc, b"fail ")?;
-            push_text(&mut out, reason)?;
-            Ok(out)
-        }
-        Outcome::Spent => Text::from_slice(alloc, b"spent"),
-        Outcome::Big => Text::from_slice(alloc, b"big"),
-    }
+    let mut out = Text::new(alloc);
+    push_outcome(alloc, &mut out, outcome)?;
+    Ok(out)
 }
 
 /// Prints one write, without its kind.

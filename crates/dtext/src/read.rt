@@ -13,18 +13,19 @@ ghost use Rattle.rdt_types.specs.declared.outcome.Item.{Item};
 ghost use Rattle.rdt_types.specs.declared.outcome.Outcome.{Outcome};
 ghost use Rattle.rdt_types.specs.declared.operation.WriteOp.{WriteOp};
 ghost use Rattle.dtext.specs.declared.error.TextError.TheVariants.{At, NoMemory};
-ghost use Rattle.dtext.specs.Columns.{IsColumn};
-ghost use Rattle.dtext.specs.Reading as spec;
-ghost use Rattle.dtext.specs.Reads.{Reads, answer};
+ghost use Rattle.predictive_parsing.specs.Bytes.{IsByte};
+ghost use Rattle.predictive_parsing.specs.Columns.{IsColumn};
+ghost use Rattle.predictive_parsing.specs.Reads.{Reads};
+ghost use Rattle.dtext.specs.Answers.{answer};
 ghost use Rattle.dtext.specs.Spellings.{TextRule, IsText, AddressRule, IsAddress, ItemRule, IsItem, OutcomeRule, IsOutcome, PartRule, IsPart};
 
-use crate::cursor::Cursor;
-use crate::error::{Stop, TextError};
-use crate::item::{item, outcome};
+use crate::error::TextError;
+use crate::item::{next_item, next_outcome};
 use crate::part::part;
-use crate::text::text;
-use crate::value::address;
-use plain_data::Text;
+use crate::text::next_text;
+use crate::value::next_address;
+use plain_data::{OrNoMemory, Text};
+use predictive_parsing::{Cursor, Refused};
 use rdt_types::{Address, Item, Outcome, WriteOp};
 use std::alloc::Global;
 
@@ -36,8 +37,13 @@ fn column_of(length: usize, left: usize) -> u32
     (length.saturating_sub(left) + 1) as u32
 }
 
-/// What was read of so many bytes, where none is left behind it, and else the column of the first that is left.
-fn finish<A: Drop>(found: Result<A, Stop>, cursor: &Cursor, length: usize) -> Result<A, TextError>
+/// What was read of so many bytes, where none is left behind it, and else the column of the first that is left: the end
+/// of each call that reads the whole of some bytes.
+pub fn finish<A: Drop>(
+    found: Result<A, OrNoMemory<Refused>>,
+    cursor: &Cursor<u8>,
+    length: usize,
+) -> Result<A, TextError>
     requires { length < 2 ^ 32 - 1 }
     ensures { (outcome : reading.Outcome ℕ A) → Reads outcome found cursor.now → result ≢ Err NoMemory → result ≡ answer (whole_of outcome) length }
 {
@@ -49,8 +55,8 @@ fn finish<A: Drop>(found: Result<A, Stop>, cursor: &Cursor, length: usize) -> Re
                 Err(TextError::At(column_of(length, cursor.len())))
             }
         }
-        Err(Stop::Refused) => Err(TextError::At(column_of(length, cursor.len()))),
-        Err(Stop::NoMemory) => Err(TextError::NoMemory),
+        Err(OrNoMemory::Cause(Refused)) => Err(TextError::At(column_of(length, cursor.len()))),
+        Err(OrNoMemory::NoMemory) => Err(TextError::NoMemory),
     }
 }
 
@@ -59,10 +65,10 @@ pub fn read_text(alloc: Global, bytes: &[u8]) -> Result<Text, TextError>
     requires { length bytes.now < 2 ^ 32 - 1 }
     ensures read { IfOk result (λ text. IsText bytes.now text) }
     ensures spellings { (text : Bytes) → IsText bytes.now text → result ≢ Err NoMemory → result ≡ Ok text }
-    ensures refused { (column : ℕ) → result ≡ Err (At column) → IsColumn TextRule bytes.now column }
+    ensures refused { (column : ℕ) → result ≡ Err (At column) → IsColumn IsByte TextRule bytes.now column }
 {
     let mut cursor = Cursor::new(bytes);
-    let found = text(alloc, &mut cursor);
+    let found = next_text(alloc, &mut cursor);
     finish(found, &cursor, bytes.len())
 }
 
@@ -71,10 +77,10 @@ pub fn read_address(alloc: Global, bytes: &[u8]) -> Result<Address, TextError>
     requires { length bytes.now < 2 ^ 32 - 1 }
     ensures read { IfOk result (λ address. IsAddress bytes.now address) }
     ensures spellings { (address : Address) → IsAddress bytes.now address → result ≢ Err NoMemory → result ≡ Ok address }
-    ensures refused { (column : ℕ) → result ≡ Err (At column) → IsColumn AddressRule bytes.now column }
+    ensures refused { (column : ℕ) → result ≡ Err (At column) → IsColumn IsByte AddressRule bytes.now column }
 {
     let mut cursor = Cursor::new(bytes);
-    let found = address(alloc, &mut cursor);
+    let found = next_address(alloc, &mut cursor);
     finish(found, &cursor, bytes.len())
 }
 
@@ -83,10 +89,10 @@ pub fn read_item(alloc: Global, bytes: &[u8]) -> Result<Item, TextError>
     requires { length bytes.now < 2 ^ 32 - 1 }
     ensures read { IfOk result (λ item. IsItem bytes.now item) }
     ensures spellings { (item : Item) → IsItem bytes.now item → result ≢ Err NoMemory → result ≡ Ok item }
-    ensures refused { (column : ℕ) → result ≡ Err (At column) → IsColumn ItemRule bytes.now column }
+    ensures refused { (column : ℕ) → result ≡ Err (At column) → IsColumn IsByte ItemRule bytes.now column }
 {
     let mut cursor = Cursor::new(bytes);
-    let found = item(alloc, &mut cursor);
+    let found = next_item(alloc, &mut cursor);
     finish(found, &cursor, bytes.len())
 }
 
@@ -95,10 +101,10 @@ pub fn read_outcome(alloc: Global, bytes: &[u8]) -> Result<Outcome, TextError>
     requires { length bytes.now < 2 ^ 32 - 1 }
     ensures read { IfOk result (λ outcome. IsOutcome bytes.now outcome) }
     ensures spellings { (outcome : Outcome) → IsOutcome bytes.now outcome → result ≢ Err NoMemory → result ≡ Ok outcome }
-    ensures refused { (column : ℕ) → result ≡ Err (At column) → IsColumn OutcomeRule bytes.now column }
+    ensures refused { (column : ℕ) → result ≡ Err (At column) → IsColumn IsByte OutcomeRule bytes.now column }
 {
     let mut cursor = Cursor::new(bytes);
-    let found = outcome(alloc, &mut cursor);
+    let found = next_outcome(alloc, &mut cursor);
     finish(found, &cursor, bytes.len())
 }
 
@@ -107,7 +113,7 @@ pub fn read_part(alloc: Global, bytes: &[u8]) -> Result<WriteOp, TextError>
     requires { length bytes.now < 2 ^ 32 - 1 }
     ensures read { IfOk result (λ part. IsPart bytes.now part) }
     ensures spellings { (part : WriteOp) → IsPart bytes.now part → result ≢ Err NoMemory → result ≡ Ok part }
-    ensures refused { (column : ℕ) → result ≡ Err (At column) → IsColumn PartRule bytes.now column }
+    ensures refused { (column : ℕ) → result ≡ Err (At column) → IsColumn IsByte PartRule bytes.now column }
 {
     let mut cursor = Cursor::new(bytes);
     let found = part(alloc, &mut cursor);

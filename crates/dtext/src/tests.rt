@@ -1,10 +1,12 @@
 //! Each call once and more, with ample memory: what is printed, what reads back, and where wrong bytes are refused.
 
 use crate::{
-    TextError, print_address, print_item, print_outcome, print_part, print_text, read_address,
-    read_item, read_outcome, read_part, read_text,
+    TextError, is_blank, is_digit, is_letter, is_word, next_natural, next_part, next_positive,
+    print_address, print_item, print_outcome, print_part, print_text, read_address, read_item,
+    read_outcome, read_part, read_text,
 };
 use plain_data::Text;
+use predictive_parsing::Cursor;
 use rdt_types::{Kind, WriteOp};
 use std::alloc::{AllocError, Global};
 use std::test::Fail;
@@ -338,4 +340,91 @@ fn parts_that_sets_share(rt: HostRuntime) -> Result<(), Fail> {
     let cleared = print_part(alloc, &WriteOp::ListClear)?;
     assert!(rt; cleared.as_slice() == b"clear".as_slice());
     Ok(())
+}
+
+/// What a number is read as, and how many bytes it leaves.
+fn natural_read(bytes: &[u8], limit: u64) -> Option<(u64, usize)> {
+    if limit < 9 {
+        return None;
+    }
+    let mut cursor = Cursor::new(bytes);
+    let number = next_natural(&mut cursor, limit).ok()?;
+    Some((number, cursor.len()))
+}
+
+#[test]
+fn numbers_without_a_sign(rt: HostRuntime) {
+    let rows: [(&[u8], u64, Option<(u64, usize)>); 6] = [
+        (b"0", 16, Some((0, 0))),
+        (b"16 x", 16, Some((16, 2))),
+        (b"17", 16, Some((1, 1))),
+        (b"00", 16, Some((0, 1))),
+        (b"18446744073709551615", u64::MAX, Some((u64::MAX, 0))),
+        (
+            b"18446744073709551616",
+            u64::MAX,
+            Some((1844674407370955161, 1)),
+        ),
+    ];
+    for (bytes, limit, read) in rows {
+        assert!(rt; natural_read(bytes, limit) == read);
+    }
+    assert!(rt; next_positive(&mut Cursor::new(b"0".as_slice()), 16).is_err());
+}
+
+/// What is read beside an address of a kind, printed.
+fn read_beside(alloc: Global, kind: Kind, bytes: &[u8]) -> Option<Text> {
+    let mut cursor = Cursor::new(bytes);
+    let part = next_part(alloc, kind, &mut cursor).ok()?;
+    if cursor.len() == 0 && part.kind() == kind {
+        print_part(alloc, &part).ok()
+    } else {
+        None
+    }
+}
+
+/// Parts beside addresses of each kind.
+const BESIDE: [(Kind, &[u8]); 13] = [
+    (Kind::Bool, b"put true"),
+    (Kind::Counter, b"put 1"),
+    (Kind::Counter, b"add -1"),
+    (Kind::Text, b"put \"a\""),
+    (Kind::Set, b"add \"x\""),
+    (Kind::Set, b"remove \"x\""),
+    (Kind::Set, b"clear"),
+    (Kind::Hash, b"put \"f\" \"v\""),
+    (Kind::Hash, b"remove \"f\""),
+    (Kind::Hash, b"clear"),
+    (Kind::List, b"push \"x\""),
+    (Kind::List, b"remove \"x\""),
+    (Kind::List, b"clear"),
+];
+
+#[test]
+fn parts_beside_addresses(rt: HostRuntime) {
+    for (kind, bytes) in BESIDE {
+        let printed = read_beside(rt.alloc(), kind, bytes);
+        assert!(rt; printed.is_some_and(|printed| printed.as_slice() == bytes));
+    }
+}
+
+#[test]
+fn parts_of_another_kind_are_refused(rt: HostRuntime) {
+    let rows: [(Kind, &[u8]); 4] = [
+        (Kind::Bool, b"put 1"),
+        (Kind::Text, b"clear"),
+        (Kind::Hash, b"put \"f\""),
+        (Kind::List, b"add \"x\""),
+    ];
+    for (kind, bytes) in rows {
+        assert!(rt; read_beside(rt.alloc(), kind, bytes).is_none());
+    }
+}
+
+#[test]
+fn classes_of_bytes(rt: HostRuntime) {
+    assert!(rt; is_letter(b'a') && !is_letter(b'A'));
+    assert!(rt; is_digit(b'9') && !is_digit(b'a'));
+    assert!(rt; is_word(b'_') && !is_word(b'-'));
+    assert!(rt; is_blank(b'\t') && is_blank(b'\r') && !is_blank(b'\n'));
 }

@@ -1,18 +1,17 @@
 //! Texts in quotes.
 
 ghost use Rattle.std.specs.Prelude.{◌≡◌, ◌<◌, IfSome, IfOk};
-ghost use Rattle.predictive_parsing.specs.Reading.{next, one};
-ghost use Rattle.dtext.specs.Reading as spec;
-ghost use Rattle.dtext.specs.Reads.{Reads, made_of};
+ghost use Rattle.predictive_parsing.specs.Reading.{one};
+ghost use Rattle.predictive_parsing.specs.Reads.{Reads};
+ghost use Rattle.dtext.specs.code.Reading as spec;
 ghost use Rattle.dtext.specs.Spellings as rule;
 
-use crate::cursor::Cursor;
-use crate::error::Stop;
-use plain_data::Text;
+use plain_data::{OrNoMemory, Text};
+use predictive_parsing::{Cursor, Reading, Refused, read_many};
 use std::alloc::Global;
 
 /// The last control byte, which stands apart from those below the space.
-const DELETE: u8 = 127;
+pub const DELETE: u8 = 127;
 
 /// What stands for itself between quotes.
 fn plain(byte: u8) -> Option<u8>
@@ -52,37 +51,16 @@ fn hex_value(byte: u8) -> Option<u8>
     }
 }
 
-fn plain_ahead(cursor: &Cursor) -> Option<u8>
-    ensures { result ≡ made_of rule.plain cursor.now }
-{
-    plain(cursor.peek()?)
-}
-
-fn short_ahead(cursor: &Cursor) -> Option<u8>
-    ensures { result ≡ made_of rule.short cursor.now }
-{
-    short(cursor.peek()?)
-}
-
-fn hex_ahead(cursor: &Cursor) -> Option<u8>
-    ensures value { result ≡ made_of rule.hex_value cursor.now }
-    ensures below { IfSome result (λ value. value < 16) }
-{
-    hex_value(cursor.peek()?)
-}
-
-#[tactic(auto, using(crate::proofs::Cursors::taken, crate::proofs::Cursors::refused))]
-fn hex_digit(cursor: &mut Cursor) -> Result<u8, Stop>
+fn hex_digit(cursor: &mut Cursor<u8>) -> Result<u8, OrNoMemory<Refused>>
     ensures read { Reads (one rule.hex_value cursor.old) result cursor.new }
     ensures below { IfOk result (λ value. value < 16) }
 {
-    let ahead = hex_ahead(cursor);
-    cursor.take(ahead)
+    cursor.take(|byte| hex_value(*byte))
 }
 
 /// `x` and two digits.
-#[tactic(auto, unfolding(crate::specs::Reading::hexadecimal))]
-fn hexadecimal(cursor: &mut Cursor) -> Result<u8, Stop>
+#[tactic(auto, unfolding(crate::specs::code::Reading::hexadecimal))]
+fn hexadecimal(cursor: &mut Cursor<u8>) -> Result<u8, OrNoMemory<Refused>>
     ensures { Reads (spec.hexadecimal cursor.old) result cursor.new }
 {
     cursor.byte(b'x')?;
@@ -92,76 +70,67 @@ fn hexadecimal(cursor: &mut Cursor) -> Result<u8, Stop>
 }
 
 /// One byte behind a backslash.
-#[tactic(auto, using(crate::proofs::Cursors::taken, crate::proofs::Cursors::refused))]
-fn short_escape(cursor: &mut Cursor) -> Result<u8, Stop>
+fn short_escape(cursor: &mut Cursor<u8>) -> Result<u8, OrNoMemory<Refused>>
     ensures { Reads (one rule.short cursor.old) result cursor.new }
 {
-    let ahead = short_ahead(cursor);
-    cursor.take(ahead)
+    cursor.take(|byte| short(*byte))
 }
 
 /// A backslash, and what it makes of the bytes behind it.
-#[tactic(auto, unfolding(crate::specs::Reading::escape))]
-fn escape(cursor: &mut Cursor) -> Result<u8, Stop>
+#[tactic(auto, unfolding(crate::specs::code::Reading::escape))]
+fn escape(cursor: &mut Cursor<u8>) -> Result<u8, OrNoMemory<Refused>>
     ensures { Reads (spec.escape cursor.old) result cursor.new }
 {
     cursor.byte(b'\\')?;
-    if cursor.sees(b'x') {
+    if cursor.sees_byte(b'x') {
         hexadecimal(cursor)
     } else {
         short_escape(cursor)
     }
 }
 
-#[tactic(auto, using(crate::proofs::Cursors::taken, crate::proofs::Cursors::refused))]
-fn plain_byte(cursor: &mut Cursor) -> Result<u8, Stop>
+fn plain_byte(cursor: &mut Cursor<u8>) -> Result<u8, OrNoMemory<Refused>>
     ensures { Reads (one rule.plain cursor.old) result cursor.new }
 {
-    let ahead = plain_ahead(cursor);
-    cursor.take(ahead)
+    cursor.take(|byte| plain(*byte))
 }
 
 /// One byte of a text.
-#[tactic(auto, unfolding(crate::specs::Reading::piece))]
-fn piece(cursor: &mut Cursor) -> Result<u8, Stop>
+#[tactic(auto, unfolding(crate::specs::code::Reading::piece))]
+fn piece(cursor: &mut Cursor<u8>) -> Result<u8, OrNoMemory<Refused>>
     ensures { Reads (spec.piece cursor.old) result cursor.new }
 {
-    if cursor.sees(b'\\') {
+    if cursor.sees_byte(b'\\') {
         escape(cursor)
     } else {
         plain_byte(cursor)
     }
 }
 
-/// Whether the text goes on, by a byte that is no quote.
-fn goes_on(cursor: &Cursor) -> bool
-    ensures { result ≡ spec.inside (next cursor.now) }
-{
-    match cursor.peek() {
-        Some(byte) => byte != b'"',
-        None => false,
+/// The bytes of a text, which go on up to a quote.
+struct Pieces;
+
+impl Reading<u8, u8> for Pieces {
+    ghost starts = { λ _. spec.inside };
+
+    ghost reader = { λ _. spec.piece };
+
+    fn begins(&self, cursor: &Cursor<u8>) -> bool {
+        cursor.sees(|byte| *byte != b'"')
+    }
+
+    fn read(&self, _alloc: Global, cursor: &mut Cursor<u8>) -> Result<u8, OrNoMemory<Refused>> {
+        piece(cursor)
     }
 }
 
-/// All bytes of a text, up to its closing quote.
-fn pieces(alloc: Global, cursor: &mut Cursor) -> Result<Text, Stop>
-    ensures { Reads (spec.pieces cursor.old) result cursor.new }
-{
-    let mut found = Text::new(alloc);
-    while goes_on(cursor) {
-        let byte = piece(cursor)?;
-        found.push(byte)?;
-    }
-    Ok(found)
-}
-
-/// A text in quotes.
-#[tactic(auto, unfolding(crate::specs::Reading::text))]
-pub(crate) fn text(alloc: Global, cursor: &mut Cursor) -> Result<Text, Stop>
+/// Reads the text in quotes that is next.
+#[tactic(auto, unfolding(crate::specs::code::Reading::text, crate::specs::code::Reading::pieces))]
+pub fn next_text(alloc: Global, cursor: &mut Cursor<u8>) -> Result<Text, OrNoMemory<Refused>>
     ensures { Reads (spec.text cursor.old) result cursor.new }
 {
     cursor.byte(b'"')?;
-    let found = pieces(alloc, cursor)?;
+    let found = read_many(alloc, &Pieces, cursor)?;
     cursor.byte(b'"')?;
     Ok(found)
 }

@@ -3,13 +3,12 @@
 ghost use Rattle.std.specs.Prelude.{◌≡◌};
 ghost use Rattle.predictive_parsing.specs.Reading.{next};
 ghost use Rattle.dtext.specs.Printing.{printed_bool};
-ghost use Rattle.dtext.specs.Reading as spec;
-ghost use Rattle.dtext.specs.Reads.{Reads};
+ghost use Rattle.predictive_parsing.specs.Reads.{Reads};
+ghost use Rattle.dtext.specs.code.Reading as spec;
 
-use crate::cursor::Cursor;
-use crate::error::Stop;
-use crate::text::text;
-use plain_data::Text;
+use crate::text::next_text;
+use plain_data::{OrNoMemory, Text};
+use predictive_parsing::{Cursor, Reading, Refused, read_many};
 use rdt_types::{Address, Kind, TextList};
 use std::alloc::Global;
 
@@ -25,11 +24,11 @@ pub(crate) fn bool_word(value: bool) -> &'static [u8]
 }
 
 /// A truth value: which one, the byte ahead tells.
-#[tactic(auto, unfolding(crate::specs::Reading::bool))]
-pub(crate) fn truth(cursor: &mut Cursor) -> Result<bool, Stop>
+#[tactic(auto, unfolding(crate::specs::code::Reading::bool))]
+pub(crate) fn truth(cursor: &mut Cursor<u8>) -> Result<bool, OrNoMemory<Refused>>
     ensures { Reads (spec.bool cursor.old) result cursor.new }
 {
-    let value = cursor.sees(b't');
+    let value = cursor.sees_byte(b't');
     cursor.word(bool_word(value))?;
     Ok(value)
 }
@@ -48,18 +47,18 @@ fn kind_by(byte: u8) -> Kind
     }
 }
 
-fn kind_ahead(cursor: &Cursor) -> Kind
+fn kind_ahead(cursor: &Cursor<u8>) -> Kind
     ensures { result ≡ spec.kind_ahead (next cursor.now) }
 {
     match cursor.peek() {
-        Some(byte) => kind_by(byte),
+        Some(byte) => kind_by(*byte),
         None => Kind::List,
     }
 }
 
 /// The word of a kind.
-#[tactic(auto, unfolding(crate::specs::Reading::kind))]
-fn kind(cursor: &mut Cursor) -> Result<Kind, Stop>
+#[tactic(auto, unfolding(crate::specs::code::Reading::kind))]
+fn kind(cursor: &mut Cursor<u8>) -> Result<Kind, OrNoMemory<Refused>>
     ensures { Reads (spec.kind cursor.old) result cursor.new }
 {
     let kind = kind_ahead(cursor);
@@ -67,54 +66,61 @@ fn kind(cursor: &mut Cursor) -> Result<Kind, Stop>
     Ok(kind)
 }
 
-/// A kind, and a key in parentheses.
-#[tactic(auto, unfolding(crate::specs::Reading::address))]
-pub(crate) fn address(alloc: Global, cursor: &mut Cursor) -> Result<Address, Stop>
+/// Reads the address that is next: a kind, and a key in parentheses.
+#[tactic(auto, unfolding(crate::specs::code::Reading::address))]
+pub fn next_address(alloc: Global, cursor: &mut Cursor<u8>) -> Result<Address, OrNoMemory<Refused>>
     ensures { Reads (spec.address cursor.old) result cursor.new }
 {
     let kind = kind(cursor)?;
     cursor.byte(b'(')?;
-    let key = text(alloc, cursor)?;
+    let key = next_text(alloc, cursor)?;
     cursor.byte(b')')?;
     Ok(Address { kind, key })
 }
 
-#[tactic(auto, unfolding(crate::specs::Reading::after_comma))]
-fn after_comma(alloc: Global, cursor: &mut Cursor) -> Result<Text, Stop>
+#[tactic(auto, unfolding(crate::specs::code::Reading::after_comma))]
+fn after_comma(alloc: Global, cursor: &mut Cursor<u8>) -> Result<Text, OrNoMemory<Refused>>
     ensures { Reads (spec.after_comma cursor.old) result cursor.new }
 {
     cursor.byte(b',')?;
-    text(alloc, cursor)
+    next_text(alloc, cursor)
 }
 
-/// As many texts behind commas as there are.
-fn more_texts(alloc: Global, cursor: &mut Cursor) -> Result<TextList, Stop>
-    ensures { Reads (spec.more_texts cursor.old) result cursor.new }
-{
-    let mut found = TextList::new(alloc);
-    while cursor.sees(b',') {
-        let text = after_comma(alloc, cursor)?;
-        found.push(text)?;
+/// Texts behind commas.
+struct MoreTexts;
+
+impl Reading<u8, Text> for MoreTexts {
+    ghost use Rattle.predictive_parsing.specs.Bytes.{sees};
+
+    ghost starts = { λ _. sees 44 };
+
+    ghost reader = { λ _. spec.after_comma };
+
+    fn begins(&self, cursor: &Cursor<u8>) -> bool {
+        cursor.sees_byte(b',')
     }
-    Ok(found)
+
+    fn read(&self, alloc: Global, cursor: &mut Cursor<u8>) -> Result<Text, OrNoMemory<Refused>> {
+        after_comma(alloc, cursor)
+    }
 }
 
 /// One text and as many others as there are.
-#[tactic(auto, unfolding(crate::specs::Reading::some_texts, crate::specs::Reading::more_texts, predictive_parsing::specs::Reading::list))]
-fn some_texts(alloc: Global, cursor: &mut Cursor) -> Result<TextList, Stop>
+#[tactic(auto, unfolding(crate::specs::code::Reading::some_texts, crate::specs::code::Reading::more_texts, predictive_parsing::specs::Reading::list))]
+fn some_texts(alloc: Global, cursor: &mut Cursor<u8>) -> Result<TextList, OrNoMemory<Refused>>
     ensures { Reads (spec.some_texts cursor.old) result cursor.new }
 {
-    let first = text(alloc, cursor)?;
-    let mut found = more_texts(alloc, cursor)?;
+    let first = next_text(alloc, cursor)?;
+    let mut found = read_many(alloc, &MoreTexts, cursor)?;
     found.insert(0, first)?;
     Ok(found)
 }
 
 /// Some texts, or none.
-fn elements(alloc: Global, cursor: &mut Cursor) -> Result<TextList, Stop>
+fn elements(alloc: Global, cursor: &mut Cursor<u8>) -> Result<TextList, OrNoMemory<Refused>>
     ensures { Reads (spec.elements cursor.old) result cursor.new }
 {
-    if cursor.sees(b'"') {
+    if cursor.sees_byte(b'"') {
         some_texts(alloc, cursor)
     } else {
         Ok(TextList::new(alloc))
@@ -122,8 +128,8 @@ fn elements(alloc: Global, cursor: &mut Cursor) -> Result<TextList, Stop>
 }
 
 /// Texts in brackets.
-#[tactic(auto, unfolding(crate::specs::Reading::texts))]
-pub(crate) fn texts(alloc: Global, cursor: &mut Cursor) -> Result<TextList, Stop>
+#[tactic(auto, unfolding(crate::specs::code::Reading::texts))]
+pub(crate) fn texts(alloc: Global, cursor: &mut Cursor<u8>) -> Result<TextList, OrNoMemory<Refused>>
     ensures { Reads (spec.texts cursor.old) result cursor.new }
 {
     cursor.byte(b'[')?;

@@ -1,11 +1,14 @@
 -- One item, taken or refused.
-use Rattle.std.proofs.Common.{◌≡◌, ◌<◌, ◌≤◌, ◌+◌, ℕ, List, [], ◌∷◌, take, drop, get_or, length, Bool, false, Option, Some, None, Ok, Err, refl, ap, sym, ◌∙◌, arith}
+use Rattle.std.proofs.Common.{◌≡◌, ◌<◌, ◌≤◌, ◌+◌, ℕ, List, [], ◌∷◌, take, drop, get_or, length, Bool, false, Option, Some, None, Result, Ok, Err, IfOk, refl, ap, sym, ◌∙◌, arith}
 use Rattle.std.specs.List.{prefix_len}
 use Rattle.std.proofs.lemmas.List.{drop_more, drop_all}
 use Rattle.plain_data.specs.Texts.{Bytes}
 use Rattle.predictive_parsing.specs.Reading.{Outcome, next, is_made, begins, ahead, run, one, on_made, and_then}
 use Rattle.predictive_parsing.specs.Bytes.{byte, word}
-use Rattle.predictive_parsing.specs.Reads.{made_of}
+use Rattle.predictive_parsing.specs.Reads.{Reads, made_of}
+use Rattle.plain_data.specs.declared.or_no_memory.OrNoMemory.{OrNoMemory}
+use Rattle.predictive_parsing.specs.declared.refused.Refused.{Refused}
+use Rattle.predictive_parsing.proofs.Basic.{ok_pair}
 
 module _ {I A : Type 0} (f : I → Option A) where
   -- an item of which f makes a value is taken
@@ -23,6 +26,16 @@ module _ {I A : Type 0} (f : I → Option A) where
   unfolding one
   none_left [] e = refl
   none_left (item ∷ ts) e = absurd (omega arith)
+
+  -- what is read was made of an item
+  pub one_takes_made : (ts us : List I) (a : A) → one f ts ≡ Ok (a, us) → (item : I) × (f item ≡ Some a)
+  unfolding one
+  one_takes_made [] us a e = absurd (cc)
+  one_takes_made (item ∷ ts) us a e = (item, by_made item (f item) ts us a e)
+    where
+      by_made : (item : I) (o : Option A) (ts us : List I) (a : A) → on_made item o ts ≡ Ok (a, us) → o ≡ Some a
+      by_made item (Some b) ts us a h = let k = ok_pair b a ts us h in ap (λ x. Some x) k.0
+      by_made item None ts us a h = absurd (cc)
 
   -- the same by what is made of the item ahead
   pub taken : (ts : List I) (a : A) → made_of f ts ≡ Some a → one f ts ≡ Ok (a, drop 1 ts)
@@ -49,6 +62,11 @@ module _ {I A : Type 0} (f : I → Option A) where
   pub made_shorter : (ts : List I) (a : A) → made_of f ts ≡ Some a → length (drop 1 ts) < length ts
   made_shorter [] a e = absurd (cc)
   made_shorter (item ∷ ts) a e = omega arith
+
+-- what holds of all that f makes holds of what is read by it
+pub made_as : {I A : Type 0} (f : I → Option A) (Q : A → Type 0) → ((item : I) (a : A) → f item ≡ Some a → Q a) → (ts us : List I) (r : Result A (OrNoMemory Refused)) → Reads (one f ts) r us → IfOk r Q
+made_as f Q all ts us (Ok a) e = let x = one_takes_made f ts us a e in all x.0 a x.1
+made_as f Q all ts us (Err stop) e = tt
 
 -- what a test says of the item ahead
 pub ahead_is : {I : Type 0} (passes : I → Bool) (item : I) (ts : List I) → next ts ≡ Some item → passes item ≡ ahead passes (next ts)

@@ -1,7 +1,8 @@
 use Rattle.std.proofs.Common.{◌<◌, length, sym, subst, ◌∙◌, ap}
-use Rattle.dtext.specs.Reading.{more}
-use Rattle.dtext.specs.Reading as spec
-use Rattle.dtext.proofs.Cursors.{digits_more, digits_done, made_shorter}
+use Rattle.dtext.specs.code.Reading.{more}
+use Rattle.dtext.specs.code.Reading as spec
+use Rattle.predictive_parsing.proofs.Cursors.{made_shorter}
+use Rattle.dtext.proofs.NumberFits.{digits_more, digits_done}
 use Rattle.dtext.proofs.number.digits.Goals as goal
 
 pub loop-more-smaller : goal.loop-more-smaller

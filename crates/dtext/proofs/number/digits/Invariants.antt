@@ -1,5 +1,5 @@
 use Rattle.std.proofs.Common.{◌≡◌, ◌≤◌, length}
-use Rattle.dtext.specs.Reading as spec
+use Rattle.dtext.specs.code.Reading as spec
 use Rattle.dtext.proofs.number.digits.Given as goal
 
 -- the digits that are still to come

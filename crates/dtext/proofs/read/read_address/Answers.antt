@@ -1,6 +1,6 @@
 use Rattle.std.proofs.Common.{refl}
 use Rattle.predictive_parsing.specs.Fits.{any}
-use Rattle.dtext.specs.Reading as spec
+use Rattle.dtext.specs.code.Reading as spec
 use Rattle.dtext.specs.Spellings.{AddressRule}
 use Rattle.dtext.proofs.FormFits.{address_fits}
 use Rattle.dtext.proofs.Wholes.{promised}
@@ -8,5 +8,5 @@ use Rattle.dtext.proofs.read.read_address.Goals as goal
 
 pub returns : goal.returns
 returns c =
-    let k = promised spec.address AddressRule any address_fits refl c.args.bytes.now c.new-cursor.result c.finish.result c.new-cursor.ensures (λ n. c.finish.ensures (spec.address c.new-cursor.result) c.address-found.ensures n) in
+    let k = promised spec.address AddressRule any address_fits refl c.args.bytes.now c.new-cursor.result c.finish.result c.new-cursor.ensures (λ n. c.finish.ensures (spec.address c.new-cursor.result) c.next_address-found.ensures n) in
     record { read = k.read; spellings = k.spellings; refused = k.refused }

@@ -1,9 +1,11 @@
--- The readers of spellings: functions that look one byte ahead, form by form as the rules have them.
+-- The readers of spellings, as functions: they look one byte ahead, form by form as the rules have them, and the code is
+-- proved equal to them. Judge by the rules of specs/Spellings: the law `readers_are_rules` ties each reader to its rule.
 -- Marks stand by their bytes, as in the rules; of the first letters of words 97 is `a`, 98 `b`, 99 `c`, 102 `f`,
 -- 104 `h`, 111 `o`, 112 `p`, 114 `r`, 115 `s`, and 116 `t`.
-use Rattle.std.specs.Prelude.{ℕ, ◌+◌, ◌-◌, ◌*◌, ◌^◌, Bool, false, not, ◌&&◌, ◌||◌, nat_eq, nat_le, if◌then◌else◌, List, [], ◌∷◌, ℤ, pos, neg_ℤ, codes, Option, Some, None, Ok}
+use Rattle.std.specs.Prelude.{ℕ, ◌+◌, ◌-◌, ◌*◌, Bool, not, ◌&&◌, ◌||◌, nat_eq, nat_le, if◌then◌else◌, List, [], ◌∷◌, ℤ, pos, neg_ℤ, codes, Option, Some, None, Ok}
 use Rattle.plain_data.specs.Texts.{Bytes}
-use Rattle.predictive_parsing.specs.Reading.{Reader, ◌>>=◌, pure, next, one, either, many, list, optional}
+use Rattle.predictive_parsing.specs.Reading.{Reader, ◌>>=◌, pure, ahead, one, either, many, list, optional, of, guided}
+use Rattle.predictive_parsing.specs.Bytes.{byte, sees, word, behind}
 use Rattle.rdt_types.specs.declared.address.Kind.{Kind}
 use Rattle.rdt_types.specs.declared.address.Kind.TheVariants as kinds
 use Rattle.rdt_types.specs.declared.address.Address.{Address}
@@ -14,48 +16,10 @@ use Rattle.rdt_types.specs.declared.outcome.Outcome.TheVariants as outcomes
 use Rattle.rdt_types.specs.declared.operation.WriteOp.{WriteOp}
 use Rattle.rdt_types.specs.declared.operation.WriteOp.TheVariants as op
 use Rattle.rdt_types.specs.Printed.{word_of}
+use Rattle.dtext.specs.declared.number.TheConstants.{MOST, LEAST}
+use Rattle.dtext.specs.Characters.{is_digit}
 use Rattle.dtext.specs.Printing.{printed_bool}
-use Rattle.dtext.specs.Spellings.{exactly, plain, short, is_digit, hex_value, hex_byte, first_and}
-
--- ---- what is ahead
-
--- whether a byte is ahead that passes the test
-abbrev pub ahead : (ℕ → Bool) → Option ℕ → Bool
-ahead test None = false
-ahead test (Some byte) = test byte
-
--- whether this byte is ahead
-abbrev pub sees : ℕ → Option ℕ → Bool
-sees wanted = ahead (λ byte. nat_eq byte wanted)
-
--- what is ahead tells what is to be read
-abbrev pub guided : {A B : Type 0} → (Option ℕ → A) → (A → Reader ℕ B) → Reader ℕ B
-guided guess q = λ bytes. q (guess (next bytes)) bytes
-
--- ---- bytes and words
-
--- this byte
-unfoldable pub byte : ℕ → Reader ℕ (Unit {0})
-byte wanted = one (exactly wanted)
-
--- these bytes
-unfoldable pub word : Bytes → Reader ℕ (Unit {0})
-word [] = pure tt
-word (first ∷ rest) = do
-  _ ← byte first
-  word rest
-
--- what is read, seen as another value
-abbrev pub of : {A B : Type 0} → (A → B) → Reader ℕ A → Reader ℕ B
-of f p = do
-  a ← p
-  pure (f a)
-
--- a word, and then what the reader reads
-abbrev pub behind : {A : Type 0} → Bytes → Reader ℕ A → Reader ℕ A
-behind front p = do
-  _ ← word front
-  p
+use Rattle.dtext.specs.Spellings.{plain, short, hex_value, hex_byte, first_and}
 
 -- ---- texts
 
@@ -134,12 +98,12 @@ natural limit = either (sees 48) zero_read (positive limit)
 unfoldable pub negative : Reader ℕ ℤ
 negative = do
   _ ← byte 45
-  n ← positive (2 ^ 63)
+  n ← positive LEAST
   pure (neg_ℤ (pos n))
 
 -- a number of 64 bits
 unfoldable pub number : Reader ℕ ℤ
-number = either (sees 45) negative (of pos (natural (2 ^ 63 - 1)))
+number = either (sees 45) negative (of pos (natural MOST))
 
 -- whether a number begins with what is ahead
 abbrev pub begins_number : Option ℕ → Bool
@@ -283,14 +247,72 @@ added = either begins_number (of op.AddCounter number) (of op.SetAdd text)
 unfoldable pub addition : Reader ℕ WriteOp
 addition = behind (codes "add ") added
 
+-- what a removal is of a kind: of those that have none, it isn't asked for
+abbrev pub removed : Kind → Bytes → WriteOp
+removed kinds.Hash = op.HashRemove
+removed kinds.List = op.ListRemove
+removed other = op.SetRemove
+
+-- what a clear is of a kind: of those that have none, it isn't asked for
+abbrev pub cleared : Kind → WriteOp
+cleared kinds.Hash = op.HashClear
+cleared kinds.List = op.ListClear
+cleared other = op.SetClear
+
 -- `remove` and a text
-unfoldable pub removal : Reader ℕ WriteOp
-removal = behind (codes "remove ") (of op.SetRemove text)
+unfoldable pub removal : Kind → Reader ℕ WriteOp
+removal kind = behind (codes "remove ") (of (removed kind) text)
 
 -- the word alone
-abbrev pub clearing : Reader ℕ WriteOp
-clearing = of (λ _. op.SetClear) (word (codes "clear"))
+unfoldable pub clearing : Kind → Reader ℕ WriteOp
+clearing kind = of (λ _. cleared kind) (word (codes "clear"))
 
--- one write: the byte ahead tells its word
+-- the one or the other
+unfoldable pub remove_or_clear : Kind → Reader ℕ WriteOp
+remove_or_clear kind = either (sees 114) (removal kind) (clearing kind)
+
+-- one write alone: the byte ahead tells its word
 unfoldable pub part : Reader ℕ WriteOp
-part = either (sees 112) put_or_push (either (sees 97) addition (either (sees 114) removal clearing))
+part = either (sees 112) put_or_push (either (sees 97) addition (remove_or_clear kinds.Set))
+
+-- ---- one write beside an address
+
+-- the word and a truth value
+unfoldable pub bool_part : Reader ℕ WriteOp
+bool_part = behind (codes "put ") (of op.PutBool bool)
+
+-- `put` or `add`, and a number
+unfoldable pub counter_part : Reader ℕ WriteOp
+counter_part = either (sees 112) (behind (codes "put ") (of op.PutCounter number)) (behind (codes "add ") (of op.AddCounter number))
+
+-- the word and a text
+unfoldable pub text_part : Reader ℕ WriteOp
+text_part = behind (codes "put ") (of op.PutText text)
+
+-- a text that is added, or what all collections have
+unfoldable pub set_part : Reader ℕ WriteOp
+set_part = either (sees 97) (behind (codes "add ") (of op.SetAdd text)) (remove_or_clear kinds.Set)
+
+-- a field and a text
+unfoldable pub field : Reader ℕ WriteOp
+field = do
+  first ← text
+  _ ← byte 32
+  of (op.HashPut first) text
+
+-- a field that is put, or what all collections have
+unfoldable pub hash_part : Reader ℕ WriteOp
+hash_part = either (sees 112) (behind (codes "put ") field) (remove_or_clear kinds.Hash)
+
+-- a text that is pushed, or what all collections have
+unfoldable pub list_part : Reader ℕ WriteOp
+list_part = either (sees 112) (behind (codes "push ") (of op.ListPush text)) (remove_or_clear kinds.List)
+
+-- the kind of the address decides
+abbrev pub part_of : Kind → Reader ℕ WriteOp
+part_of kinds.Bool = bool_part
+part_of kinds.Counter = counter_part
+part_of kinds.Text = text_part
+part_of kinds.Set = set_part
+part_of kinds.Hash = hash_part
+part_of kinds.List = list_part
