@@ -1,5 +1,7 @@
 -- Journals, and what makes one legal: each commit is what its body does on the state that the commits before it leave.
-use Rattle.std.specs.Prelude.{◌≡◌, ℕ, ◌+◌, ◌<◌, ◌==◌, List, [], ◌∷◌, ◌++◌, length, take, filter, slice_get, Some}
+use Rattle.std.specs.Prelude.{◌≡◌, ℕ, ◌+◌, ◌<◌, List, [], length, take, slice_get, Some, refl}
+use Rattle.plain_data.specs.Histories as histories
+use Rattle.plain_data.specs.Histories.{IsLawful}
 use Rattle.txn_trees.specs.declared.statement.Body.{Body}
 use Rattle.txn_grammar.specs.Tree.{tree}
 use Rattle.txn_lang.specs.declared.commit.Commit.{Commit}
@@ -10,7 +12,11 @@ use Rattle.txn_lang.specs.Running.Ran.{done}
 
 -- the commits of one client
 abbrev pub own : ℕ → Journal → Journal
-own client journal = filter (λ commit. commit.client == client) journal
+own client journal = histories.own (λ (commit : Commit). commit.client) client journal
+
+-- nobody has a commit in an empty journal
+own-example : own 7 [] ≡ []
+own-example = refl
 
 -- the commit that a run makes after these
 abbrev pub commit_of : Journal → ℕ → List ℕ → Run → Commit
@@ -39,13 +45,13 @@ pub record MayFollow (m : ℕ) (before : Journal) (commit : Commit) : Type 0 whe
   pub seq : commit.seq ≡ length (own commit.client before) + 1
   pub runs : m < commit.number → IsRunAfter before commit
 
-abbrev pub IsLegalAfter : ℕ → Journal → Journal → Type 0
-IsLegalAfter m before [] = Unit {0}
-IsLegalAfter m before (commit ∷ rest) = MayFollow m before commit × IsLegalAfter m (before ++ commit ∷ []) rest
-
--- each commit of the journal may follow those before it
+-- Each commit of the journal may follow those before it.
 abbrev pub IsLegal : ℕ → Journal → Type 0
-IsLegal m journal = IsLegalAfter m [] journal
+IsLegal m journal = IsLawful MayFollow m journal
+
+-- with nothing in it a journal is legal
+IsLegal-example : IsLegal 0 []
+IsLegal-example = tt
 
 -- a law: of a legal journal each commit, by its place, may follow those before it
 abbrev pub LegalCommitsFollow : Type 0

@@ -2,3 +2,8 @@ pub mod States
 pub mod Running
 pub mod Journals
 pub mod Early
+pub mod Types
+pub mod BoundNames
+pub mod Typing
+pub mod Checking
+pub mod Writes

@@ -1,5 +1,5 @@
 -- The values that commits leave.
-use Rattle.std.specs.Prelude.{ℕ, List, [], ◌∷◌, fold, take, Option, Some, None}
+use Rattle.std.specs.Prelude.{ℕ, List, fold, take, Option, Some, None}
 use Rattle.rdt_types.specs.declared.address.Address.{Address}
 use Rattle.rdt_types.specs.declared.delta.Delta.{Delta}
 use Rattle.rdt_types.specs.declared.value.Value.{Value}

@@ -2,6 +2,7 @@
 
 ghost use Rattle.txn_lang.specs.Journals.{LegalCommitsFollow};
 ghost use Rattle.txn_lang.specs.Running.{DeltasLeaveWhatOperationsLeave};
+ghost use Rattle.txn_lang.specs.Typing.{TypesAreFound, BodiesAreJudged};
 
 /// The law that the deltas of a run leave at each address what its operations leave, one after the other.
 pub fn deltas_leave_what_operations_leave()
@@ -11,4 +12,14 @@ pub fn deltas_leave_what_operations_leave()
 /// The law that each commit of a legal journal is what its body does on the state of the commits before it.
 pub fn legal_commits_follow()
     ensures { LegalCommitsFollow }
+{}
+
+/// The law that an expression has a type, by the rules of typing, exactly where the checker finds that type.
+pub fn types_are_found()
+    ensures { TypesAreFound }
+{}
+
+/// The law that a body is well typed exactly where the checker finds no rule that fails.
+pub fn bodies_are_judged()
+    ensures { BodiesAreJudged }
 {}

@@ -5,14 +5,23 @@
 //! from `txn_grammar`; what runs, validates or keeps commits stands on this crate.
 #![tactic(auto)]
 
+mod bound_names;
 mod checked;
+mod checking;
 mod commit;
 mod early;
+mod item_type;
+mod judging;
 mod laws;
 mod run;
+mod writing;
 
 pub use checked::Checked;
+pub use checking::{CheckError, check};
 pub use commit::{Commit, CommitList};
 pub use early::{EarlyError, early_read};
-pub use laws::{deltas_leave_what_operations_leave, legal_commits_follow};
+pub use item_type::Type;
+pub use laws::{
+    bodies_are_judged, deltas_leave_what_operations_leave, legal_commits_follow, types_are_found,
+};
 pub use run::{Run, Seen, SeenList};
