@@ -1,11 +1,13 @@
 -- Feeds: what changes come to, by address.
-use Rattle.std.specs.Prelude.{◌≡◌, ℕ, List, [], ◌∷◌, fold, Option, Some, None, refl}
+use Rattle.std.specs.Prelude.{◌≡◌, ℕ, List, [], ◌∷◌, ◌++◌, fold, Option, Some, None, refl}
 use Rattle.std.specs.Coded.{Coded, code_by, coded×, coded_list, coded_ℕ}
 use Rattle.std.specs.Map.{keys_of}
+use Rattle.std.specs.List.{AllByRecursion}
 use Rattle.std.specs.List.Sorted.{IsStrictlySortedBy}
 use Rattle.rdt_types.specs.declared.address.Address.{Address}
 use Rattle.rdt_types.specs.declared.delta.Delta.{Delta}
 use Rattle.rdt_types.specs.Addresses.{address_cmp}
+use Rattle.rdt_types.specs.Deltas.{kind_changed}
 use Rattle.rdt_types.specs.DeltaMaps.{Deltas, delta_at, after_maybe, with_delta}
 use Rattle.change_feed.specs.declared.change.Change.{Change}
 use Rattle.change_feed.specs.Pending.{pending}
@@ -53,3 +55,14 @@ abbrev pub FeedsJoin : Type 0
 FeedsJoin =
     (changes later : Deltas) (address : Address) → IsStrictlySortedBy address_cmp (keys_of later)
     → delta_at (joined changes later) address ≡ after_both (delta_at changes address) (delta_at later address)
+
+-- each delta is of the kind of its address
+abbrev pub AreOfTheirKinds : List Change → Type 0
+AreOfTheirKinds changes = AllByRecursion (λ change. kind_changed change.delta ≡ change.address.kind) changes
+
+-- What is pending after changes and then others is what is pending after the first and then what is after the others. So
+-- two feeds of changes that follow one another, joined, have what is pending after all of these.
+abbrev pub PendingJoins : Type 0
+PendingJoins =
+    (changes later : List Change) (address : Address) → AreOfTheirKinds changes → AreOfTheirKinds later
+    → pending address (changes ++ later) ≡ after_both (pending address changes) (pending address later)
