@@ -6,7 +6,7 @@ use Rattle.std.specs.FinMap as map
 use Rattle.plain_data.specs.Texts.{Bytes, text_cmp, MapOf}
 use Rattle.plain_data.specs.Overlays.{overlaid, with_at, found_after}
 use Rattle.plain_data.proofs.Overlays.{same_map, get-overlaid, entries-empty, len-one, overlaid-none, overlaid-one, get-all, all-get, some-len, len-some, Some_is}
-use Rattle.rdt_types.specs.Keyed.{Keyed, marking, clearing, has_form, applied, mark_after, composed}
+use Rattle.rdt_types.specs.Keyed.{Keyed, of_parts, marking, clearing, has_form, applied, mark_after, composed}
 
 module _ {M V : Type 0} (left : M → Option V) where
   -- one mark is done
@@ -49,6 +49,36 @@ module _ {M V : Type 0} (left : M → Option V) where
   -- a composition, applied, is one delta after the other
   pub applied-composed : (d e : Keyed M) (m : MapOf V) → applied left (composed left d e) m ≡ applied left e (applied left d m)
   applied-composed d e m = applied-fields d e.cleared e.marks m
+
+  -- what two later marks leave, one after the other, is what they leave as one
+  one_mark : (cleared : Bool) (later earlier before : Option M)
+      → found_after (mark_after left cleared) later (found_after (mark_after left cleared) earlier before)
+      ≡ found_after (mark_after left cleared) (found_after (mark_after left false) later earlier) before
+  one_mark cleared None earlier before = refl
+  one_mark cleared (Some mark) earlier before = refl
+
+  overlaid-twice : (cleared : Bool) (first second third : MapOf M)
+      → overlaid (mark_after left cleared) (overlaid (mark_after left cleared) first second) third
+      ≡ overlaid (mark_after left cleared) first (overlaid (mark_after left false) second third)
+  overlaid-twice cleared first second third =
+      let mark = mark_after left cleared in
+      same_map _ _
+      (λ q.
+      get-overlaid mark (overlaid mark first second) third q
+      ∙ ap (found_after mark (map.get third q)) (get-overlaid mark first second q)
+      ∙ one_mark cleared (map.get third q) (map.get second q) (map.get first q)
+      ∙ ap (λ o. found_after mark o (map.get first q)) (sym (get-overlaid (mark_after left false) second third q))
+      ∙ sym (get-overlaid mark first (overlaid (mark_after left false) second third) q))
+
+  -- it is one which two of three deltas are composed first
+  pub composed-composed : (d e f : Keyed M) → composed left (composed left d e) f ≡ composed left d (composed left e f)
+  composed-composed d e f = by e.cleared e.marks f.cleared f.marks
+    where
+      by : (b : Bool) (es : MapOf M) (c : Bool) (fs : MapOf M)
+          → composed left (composed left d (of_parts b es)) (of_parts c fs) ≡ composed left d (composed left (of_parts b es) (of_parts c fs))
+      by b es true fs = refl
+      by true es false fs = refl
+      by false es false fs = ap (of_parts d.cleared) (overlaid-twice d.cleared d.marks es fs)
 
   -- ---- forms
 

@@ -1,14 +1,15 @@
 -- The laws of deltas, by kind.
-use Rattle.std.proofs.Common.{◌≡◌, ℤ, true, false, refl, ap, arith}
+use Rattle.std.proofs.Common.{◌≡◌, ℤ, true, false, refl, sym, ap, arith}
 use Rattle.std.proofs.lemmas.Grind.{common_steps}
 use Rattle.rdt_types.specs.declared.value.Value.{Value}
 use Rattle.rdt_types.specs.declared.value.Value.TheVariants as value
 use Rattle.rdt_types.specs.declared.mark.Mark.TheVariants as mark
 use Rattle.rdt_types.specs.declared.operation.WriteOp.TheVariants as op
 use Rattle.rdt_types.specs.declared.delta.Delta.{Delta}
+use Rattle.rdt_types.specs.declared.delta.Delta.TheVariants as delta
 use Rattle.rdt_types.specs.Values.{wrapping_sum, counter_in, set_in, hash_in, list_in}
 use Rattle.rdt_types.specs.Marks.{added, put_by}
-use Rattle.rdt_types.specs.Deltas.{apply, compose, DeltasWrite, CompositionsApplyInTurn}
+use Rattle.rdt_types.specs.Deltas.{apply, compose, DeltasWrite, CompositionsApplyInTurn, CompositionsAssociate}
 use Rattle.rdt_types.proofs.OneKind.{OfOneKind, of_one_kind, bools, puts, put_then_add, add_then_put, adds, texts, sets, hashes, lists}
 use Rattle.rdt_types.proofs.Keyed as keyed
 use Rattle.rdt_types.proofs.Listed as listed
@@ -47,3 +48,20 @@ in_turn first second v (lists d e) = ap value.List (listed.applied-composed d e 
 
 pub compositions_apply_in_turn : CompositionsApplyInTurn
 compositions_apply_in_turn first second v same = in_turn first second v (of_one_kind first second same)
+
+-- kind by kind: a last put forgets what was before it, and the others go by their parts
+associates : (first second third : Delta) → OfOneKind first second → OfOneKind second third
+    → compose (compose first second) third ≡ compose first (compose second third)
+associates first second third p (bools b c) = refl
+associates first second third p (puts m n) = refl
+associates first second third p (put_then_add m n) = refl
+associates first second third p (add_then_put m n) = refl
+associates first second third (put_then_add l m) (adds m' n) = ap delta.PutCounter (sym (adds_in_turn m n (value.Counter l)))
+associates first second third (adds l m) (adds m' n) = ap delta.AddCounter (sym (adds_in_turn m n (value.Counter l)))
+associates first second third p (texts x y) = refl
+associates first second third (sets d e) (sets e' f) = ap delta.Set (keyed.composed-composed added d e f)
+associates first second third (hashes d e) (hashes e' f) = ap delta.Hash (keyed.composed-composed put_by d e f)
+associates first second third (lists d e) (lists e' f) = ap delta.List (listed.composed-composed d e f)
+
+pub compositions_associate : CompositionsAssociate
+compositions_associate first second third same also = associates first second third (of_one_kind first second same) (of_one_kind second third also)

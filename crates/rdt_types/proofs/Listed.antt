@@ -7,8 +7,8 @@ use Rattle.std.specs.Cmp.Lexicographic.{nat_list_cmp_total}
 use Rattle.std.specs.FinMap as map
 use Rattle.plain_data.specs.Texts.{Bytes, text_cmp, SetOfTexts, with_text, has_text}
 use Rattle.plain_data.specs.Overlays.{found_after, union}
-use Rattle.plain_data.proofs.Overlays.{get-overlaid, len-one, some-len, len-some, nonzero}
-use Rattle.rdt_types.specs.Listed.{Listed, without, pushing, removing, clearing, has_form, applied, composed}
+use Rattle.plain_data.proofs.Overlays.{same_map, get-overlaid, len-one, some-len, len-some, nonzero}
+use Rattle.rdt_types.specs.Listed.{Listed, of_parts, without, pushing, removing, clearing, has_form, applied, composed}
 use Rattle.rdt_types.specs.Values.{others}
 
 filter-alike : (p q : Bytes → Bool) → ((x : Bytes) → p x ≡ q x) → (xs : List Bytes) → filter p xs ≡ filter q xs
@@ -78,6 +78,43 @@ applied-fields d false removed pushed items =
 -- a composition, applied, is one delta after the other
 pub applied-composed : (d e : Listed) (items : List Bytes) → applied (composed d e) items ≡ applied e (applied d items)
 applied-composed d e items = applied-fields d e.cleared e.removed e.pushed items
+
+-- of three sets it is one which two are united first
+union-union : (first second third : SetOfTexts) → union (union first second) third ≡ union first (union second third)
+union-union first second third =
+    same_map _ _
+    (λ q.
+    get-overlaid (λ u. Some u) (union first second) third q
+    ∙ ap (found_after (λ u. Some u) (map.get third q)) (get-overlaid (λ u. Some u) first second q)
+    ∙ by (map.get third q) (map.get second q) (map.get first q)
+    ∙ ap (λ o. found_after (λ u. Some u) o (map.get first q)) (sym (get-overlaid (λ u. Some u) second third q))
+    ∙ sym (get-overlaid (λ u. Some u) first (union second third) q))
+  where
+    by : (c b a : Option (Unit {0})) → found_after (λ u. Some u) c (found_after (λ u. Some u) b a) ≡ found_after (λ u. Some u) (found_after (λ u. Some u) c b) a
+    by None b a = refl
+    by (Some u) b a = refl
+
+-- what two deltas leave of the items that a first pushed
+pushed-composed : (second third : SetOfTexts) (items pushed more : List Bytes)
+    → without third (without second items ++ pushed) ++ more ≡ without (union second third) items ++ (without third pushed ++ more)
+pushed-composed second third items pushed more =
+    ap (λ xs. xs ++ more) (filter-append (λ item. not (has_text third item)) (without second items) pushed)
+    ∙ append_assoc (without third (without second items)) (without third pushed) more
+    ∙ ap (λ xs. xs ++ (without third pushed ++ more)) (sym (without-union second third items))
+
+-- it is one which two of three deltas are composed first
+pub composed-composed : (d e f : Listed) → composed (composed d e) f ≡ composed d (composed e f)
+composed-composed d e f = by e.cleared e.removed e.pushed f.cleared f.removed f.pushed
+  where
+    removed_by : (b : Bool) (r s : SetOfTexts) → cond b map.empty (union (cond b map.empty (union d.removed r)) s) ≡ cond b map.empty (union d.removed (union r s))
+    removed_by true r s = refl
+    removed_by false r s = union-union d.removed r s
+
+    by : (b : Bool) (r : SetOfTexts) (p : List Bytes) (c : Bool) (s : SetOfTexts) (q : List Bytes)
+        → composed (composed d (of_parts b r p)) (of_parts c s q) ≡ composed d (composed (of_parts b r p) (of_parts c s q))
+    by b r p true s q = refl
+    by true r p false s q = refl
+    by false r p false s q = λ i. of_parts d.cleared (removed_by d.cleared r s i) (pushed-composed r s d.pushed p q i)
 
 -- ---- forms
 

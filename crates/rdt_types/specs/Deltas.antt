@@ -90,6 +90,12 @@ DeltasWrite = (o : WriteOp) (v : Value) → apply (delta_of o) v ≡ write o v
 abbrev pub CompositionsApplyInTurn : Type 0
 CompositionsApplyInTurn = (first second : Delta) (v : Value) → kind_changed first ≡ kind_changed second → apply (compose first second) v ≡ apply second (apply first v)
 
+-- of three deltas of one kind it is one which two are composed first
+abbrev pub CompositionsAssociate : Type 0
+CompositionsAssociate =
+    (first second third : Delta) → kind_changed first ≡ kind_changed second → kind_changed second ≡ kind_changed third
+    → compose (compose first second) third ≡ compose first (compose second third)
+
 -- putting 7 and then adding 1 is putting 8
 put-then-add : compose (delta.PutCounter (pos 7)) (delta.AddCounter (pos 1)) ≡ delta.PutCounter (pos 8)
 put-then-add = refl

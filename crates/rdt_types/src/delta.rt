@@ -2,7 +2,7 @@
 
 ghost use Rattle.std.specs.Prelude.{◌≡◌, IfOk};
 ghost use Rattle.rdt_types.specs.Deltas as spec;
-ghost use Rattle.rdt_types.specs.Deltas.{DeltasWrite, CompositionsApplyInTurn};
+ghost use Rattle.rdt_types.specs.Deltas.{DeltasWrite, CompositionsApplyInTurn, CompositionsAssociate};
 
 use crate::address::Kind;
 use crate::keyed_delta::{HashDelta, KeyedDelta, SetDelta};
@@ -114,4 +114,9 @@ pub fn deltas_write()
 /// The law that a composition of two deltas of one kind, applied, is one delta after the other.
 pub fn compositions_apply_in_turn()
     ensures { CompositionsApplyInTurn }
+{}
+
+/// The law that of three deltas of one kind it is one which two are composed first.
+pub fn compositions_associate()
+    ensures { CompositionsAssociate }
 {}

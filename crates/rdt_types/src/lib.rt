@@ -21,7 +21,10 @@ mod shard;
 mod value;
 
 pub use address::{Address, Kind};
-pub use delta::{Delta, apply, compose, compositions_apply_in_turn, delta_of, deltas_write};
+pub use delta::{
+    Delta, apply, compose, compositions_apply_in_turn, compositions_associate, delta_of,
+    deltas_write,
+};
 pub use delta_map::{DeltaMap, add_delta};
 pub use keyed_delta::{HashDelta, KeyedDelta, SetDelta};
 pub use limits::{

@@ -1,0 +1,20 @@
+//! The changes of commits, in two forms: a [`Tail`] lists those between two numbers of a journal, and a [`Feed`] keeps at
+//! each address what they come to there. It stands on `rdt_types`; what follows a journal stands on it: shards take tails,
+//! and clients that watch take feeds.
+//!
+//! Read first `specs/Pending.antt` (what is pending at an address after changes) and `specs/Feeds.antt` (what a feed does,
+//! and its laws). `specs/Tails.antt` says what a tail keeps.
+#![tactic(auto)]
+
+mod change;
+mod feed;
+mod laws;
+mod tail;
+
+pub use change::{Change, ChangeList};
+pub use feed::Feed;
+pub use laws::{feeds_join, feeds_keep_pending, pending_joins};
+pub use tail::Tail;
+
+#[cfg(test)]
+mod tests;
