@@ -33,12 +33,14 @@ module _ (k : Kind) where
   of_kind (Some b) (d ∷ deltas) is all = of_kind (Some (compose b d)) deltas (kind-compose b d ∙ all.0) all.1
 
   -- it is one which two of three are composed first
-  two_first : (a b : Delta) (o : Option Delta) → kind_changed a ≡ k → kind_changed b ≡ k → IsOfKind o → after_both (Some (compose a b)) o ≡ after_both (Some a) (after_both (Some b) o)
+  two_first : (a b : Delta) (o : Option Delta) → kind_changed a ≡ k → kind_changed b ≡ k → IsOfKind o
+      → after_both (Some (compose a b)) o ≡ after_both (Some a) (after_both (Some b) o)
   two_first a b None p q r = refl
   two_first a b (Some c) p q r = ap (λ d. Some d) (compositions_associate a b c (p ∙ sym q) (q ∙ sym r))
 
   -- so what deltas come to after one is the composition of that one and of what they come to
-  after_one : (a : Delta) (deltas : List Delta) → kind_changed a ≡ k → AreOfKind deltas → composed_after (Some a) deltas ≡ after_both (Some a) (composed_after None deltas)
+  after_one : (a : Delta) (deltas : List Delta) → kind_changed a ≡ k → AreOfKind deltas
+      → composed_after (Some a) deltas ≡ after_both (Some a) (composed_after None deltas)
   after_one a [] is all = refl
   after_one a (d ∷ deltas) is all =
       after_one (compose a d) deltas (kind-compose a d ∙ all.0) all.1
@@ -49,7 +51,8 @@ module _ (k : Kind) where
   nothing_before None = refl
   nothing_before (Some d) = refl
 
-  after_any : (before : Option Delta) (deltas : List Delta) → IsOfKind before → AreOfKind deltas → composed_after before deltas ≡ after_both before (composed_after None deltas)
+  after_any : (before : Option Delta) (deltas : List Delta) → IsOfKind before → AreOfKind deltas
+      → composed_after before deltas ≡ after_both before (composed_after None deltas)
   after_any None deltas is all = nothing_before (composed_after None deltas)
   after_any (Some a) deltas is all = after_one a deltas is all
 
@@ -64,9 +67,11 @@ deltas_of changes = map (λ c. c.delta) changes
 
 -- those of changes and then of others
 deltas_at-append : (address : Address) (before : Option Delta) (changes later : List Change)
-    → composed_after before (deltas_at address (changes ++ later)) ≡ composed_after (composed_after before (deltas_at address changes)) (deltas_at address later)
+    → composed_after before (deltas_at address (changes ++ later))
+    ≡ composed_after (composed_after before (deltas_at address changes)) (deltas_at address later)
 deltas_at-append address before [] later = refl
-deltas_at-append address before (change ∷ changes) later = by before (is_at (address_cmp address) change.address) (λ b. deltas_at-append address b changes later)
+deltas_at-append address before (change ∷ changes) later =
+    by before (is_at (address_cmp address) change.address) (λ b. deltas_at-append address b changes later)
   where
     by : (before : Option Delta) (b : Bool)
         → ((o : Option Delta) → composed_after o (deltas_of (at address (changes ++ later))) ≡ composed_after (composed_after o (deltas_of (at address changes))) (deltas_of (at address later)))

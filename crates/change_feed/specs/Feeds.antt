@@ -19,7 +19,8 @@ pub record Fed : Type 0 where
 
 -- it is stored as the pair of its fields
 abbrev pub fed_code : Coded Address → Coded Delta → Coded Fed
-fed_code address delta = code_by (ℕ × Deltas) (coded× coded_ℕ (coded_list (coded× address delta))) (λ f. (f.to, f.changes)) (λ p. record { to = p.0; changes = p.1 }) (λ _. refl)
+fed_code address delta =
+    code_by (ℕ × Deltas) (coded× coded_ℕ (coded_list (coded× address delta))) (λ f. (f.to, f.changes)) (λ p. record { to = p.0; changes = p.1 }) (λ _. refl)
 
 -- nothing changed yet
 abbrev pub begun : ℕ → Fed

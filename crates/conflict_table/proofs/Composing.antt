@@ -1,5 +1,6 @@
 -- Own operations and the one delta that they compose to: the same reads are decided, and the others observe the same.
-use Rattle.std.proofs.Common.{◌≡◌, Bool, true, false, not, cond, ◌||◌, [], ◌∷◌, List, nat_eq, is_some, Option, Some, None, pos, negsuc, refl, sym, ap, ◌∙◌}
+use Rattle.std.proofs.Common.{◌≡◌, Bool, true, false, not, cond, ◌||◌, [], ◌∷◌, List, nat_eq, is_some, Option, Some, None, pos, negsuc, refl}
+use Rattle.std.proofs.Common.{sym, ap, ◌∙◌}
 use Rattle.std.proofs.lemmas.Bool.{or_parts}
 use Rattle.std.specs.List.{list_any, AllByRecursion}
 use Rattle.std.specs.Ordering.{eq_by_cmp}
@@ -16,7 +17,8 @@ use Rattle.rdt_types.specs.Values.{write, kind_written}
 use Rattle.rdt_types.specs.Marks.{added, put_by}
 use Rattle.rdt_types.specs.declared.mark.Mark.TheVariants as mark
 use Rattle.rdt_types.specs.Deltas.{kind_changed, delta_of, compose, apply}
-use Rattle.rdt_types.proofs.OneKind.{OfOneKind, of_one_kind, kind-delta_of, kind-compose, bools, puts, put_then_add, add_then_put, adds, texts, sets, hashes, lists}
+use Rattle.rdt_types.proofs.OneKind.{OfOneKind, of_one_kind, kind-delta_of, kind-compose, bools, puts, put_then_add, add_then_put, adds}
+use Rattle.rdt_types.proofs.OneKind.{texts, sets, hashes, lists}
 use Rattle.rdt_types.proofs.Laws.{deltas_write, compositions_apply_in_turn}
 use Rattle.conflict_table.specs.declared.observation.Obs.TheVariants as obs
 use Rattle.conflict_table.specs.declared.read.ReadOp.{ReadOp}
@@ -48,12 +50,14 @@ module _ (k : Kind) (test : Delta → Bool) (by_parts : (first second : Delta) �
       ∙ or_assoc (test d) (test (delta_of o)) (list_any (λ o. test (delta_of o)) own)
 
   -- the composition of operations passes it where the delta of one of them does
-  pub any-composed : (own : List WriteOp) → AllByRecursion (λ o. kind_written o ≡ k) own → if_any test (composed_of own) ≡ list_any (λ o. test (delta_of o)) own
+  pub any-composed : (own : List WriteOp) → AllByRecursion (λ o. kind_written o ≡ k) own
+      → if_any test (composed_of own) ≡ list_any (λ o. test (delta_of o)) own
   any-composed [] all = refl
   any-composed (o ∷ own) all = after_one (delta_of o) own (kind-delta_of o ∙ all.0) all.1
 
   -- so where a test of operations holds
-  pub any-operation : (p : WriteOp → Bool) → ((o : WriteOp) → test (delta_of o) ≡ p o) → (own : List WriteOp) → AllByRecursion (λ o. kind_written o ≡ k) own
+  pub any-operation : (p : WriteOp → Bool) → ((o : WriteOp) → test (delta_of o) ≡ p o) → (own : List WriteOp)
+      → AllByRecursion (λ o. kind_written o ≡ k) own
       → if_any test (composed_of own) ≡ list_any p own
   any-operation p is own all = any-composed own all ∙ alike own
     where
@@ -75,7 +79,8 @@ list_any-or p q (o ∷ own) = ap (λ b. (p o || q o) || b) (list_any-or p q own)
 
 -- ---- each test of deltas, and of operations
 
-one_kind-puts : (first second : Delta) → OfOneKind first second → composed.puts (compose first second) ≡ (composed.puts first || composed.puts second)
+one_kind-puts : (first second : Delta) → OfOneKind first second
+    → composed.puts (compose first second) ≡ (composed.puts first || composed.puts second)
 one_kind-puts first second (bools b c) = refl
 one_kind-puts first second (puts m n) = refl
 one_kind-puts first second (put_then_add m n) = refl
@@ -180,7 +185,8 @@ module _ (k : Kind) (own : List WriteOp) (all : AllByRecursion (λ o. kind_writt
   clears_alike : if_any clears (composed_of own) ≡ list_any is_clear own
   clears_alike = any-operation k clears (λ d e same. one_kind-clears d e (of_one_kind d e same)) is_clear clears-delta_of own all
 
-  names_alike : (x : Bytes) → if_any (λ d. clears d || names x d) (composed_of own) ≡ (list_any is_clear own || list_any (reads.names x) own)
+  names_alike : (x : Bytes)
+      → if_any (λ d. clears d || names x d) (composed_of own) ≡ (list_any is_clear own || list_any (reads.names x) own)
   names_alike x =
       any-operation k (clash (obs.SetHas x)) (compositions_clash_by_parts (obs.SetHas x)) (λ o. is_clear o || reads.names x o) (names-delta_of x) own all
       ∙ list_any-or is_clear (reads.names x) own
@@ -213,19 +219,22 @@ module _ (k : Kind) (own : List WriteOp) (all : AllByRecursion (λ o. kind_writt
       ∙ ap (λ b. b || list_any is_list_remove own) none
 
   pub observed_alike : (r : ReadOp) (v : Value) → is_decided r own ≡ false → observed_by r (composed_of own) v ≡ observed r own v
-  observed_alike (read.ListAt i) v none = ap (λ b. observed_where (read.ListAt i) b v) (removes_alike (or_parts (is_negative i) (list_any is_clear own) none).1)
+  observed_alike (read.ListAt i) v none =
+      ap (λ b. observed_where (read.ListAt i) b v) (removes_alike (or_parts (is_negative i) (list_any is_clear own) none).1)
   observed_alike r v none = refl
 
 -- a composition leaves what the operations leave
 module _ (k : Kind) where
-  left_after : (d : Delta) (own : List WriteOp) (v : Value) → kind_changed d ≡ k → AllByRecursion (λ o. kind_written o ≡ k) own → left_by (composed_after (Some d) own) v ≡ replay own (apply d v)
+  left_after : (d : Delta) (own : List WriteOp) (v : Value) → kind_changed d ≡ k → AllByRecursion (λ o. kind_written o ≡ k) own
+      → left_by (composed_after (Some d) own) v ≡ replay own (apply d v)
   left_after d [] v is all = refl
   left_after d (o ∷ own) v is all =
       let same = is ∙ sym (kind-delta_of o ∙ all.0) in
       left_after (compose d (delta_of o)) own v (kind-compose d (delta_of o) ∙ kind-delta_of o ∙ all.0) all.1
       ∙ ap (replay own) (compositions_apply_in_turn d (delta_of o) v same ∙ deltas_write o (apply d v))
 
-  pub left_alike : (own : List WriteOp) (v : Value) → AllByRecursion (λ o. kind_written o ≡ k) own → left_by (composed_of own) v ≡ replay own v
+  pub left_alike : (own : List WriteOp) (v : Value) → AllByRecursion (λ o. kind_written o ≡ k) own
+      → left_by (composed_of own) v ≡ replay own v
   left_alike [] v all = refl
   left_alike (o ∷ own) v all = left_after (delta_of o) own v (kind-delta_of o ∙ all.0) all.1 ∙ ap (replay own) (deltas_write o v)
 

@@ -1,5 +1,6 @@
 -- Deltas of lists: what they leave, what they change, and what two of them do.
-use Rattle.std.proofs.Common.{◌≡◌, ◌<◌, ℕ, zero, suc, Bool, true, false, not, cond, ◌||◌, List, [], ◌∷◌, ◌++◌, length, replicate, nat_eq, slice_get, Option, Some, None, refl, sym, ap, ◌∙◌, ◌⊎◌, inl, inr, length-append, arith}
+use Rattle.std.proofs.Common.{◌≡◌, ◌<◌, ℕ, zero, suc, Bool, true, false, not, cond, ◌||◌, List, [], ◌∷◌, ◌++◌, length, replicate, nat_eq}
+use Rattle.std.proofs.Common.{slice_get, Option, Some, None, refl, sym, ap, ◌∙◌, ◌⊎◌, inl, inr, length-append, arith}
 use Rattle.std.proofs.lemmas.Bool.{true≢false, not-false, eqb-true, or_parts, cases_eq}
 use Rattle.std.proofs.lemmas.List.{length-replicate}
 use Rattle.std.proofs.lemmas.List.Elements.{filter-append}
@@ -36,7 +37,8 @@ slice_get-replicate : (i : ℕ) (x : Bytes) → slice_get (replicate (suc i) x) 
 slice_get-replicate zero x = refl
 slice_get-replicate (suc i) x = slice_get-replicate i x
 
-without_step : (removed : SetOfTexts) (b : Bool) (x : Bytes) (xs : List Bytes) → has_text removed x ≡ b → without removed (x ∷ xs) ≡ cond (not b) (x ∷ without removed xs) (without removed xs)
+without_step : (removed : SetOfTexts) (b : Bool) (x : Bytes) (xs : List Bytes) → has_text removed x ≡ b
+    → without removed (x ∷ xs) ≡ cond (not b) (x ∷ without removed xs) (without removed xs)
 without_step removed b x xs is = ap (λ b. cond (not b) (x ∷ without removed xs) (without removed xs)) is
 
 -- where nothing is taken out all stay
@@ -51,7 +53,9 @@ without_all removed (suc n) x there = without_step removed true x (replicate n x
 -- and of items that aren't all stay
 without_others : (removed : SetOfTexts) (n : ℕ) (x : Bytes) → has_text removed x ≡ false → without removed (replicate n x) ≡ replicate n x
 without_others removed zero x there = refl
-without_others removed (suc n) x there = without_step removed false x (replicate n x) there ∙ ap (λ ys. x ∷ ys) (without_others removed n x there)
+without_others removed (suc n) x there =
+    without_step removed false x (replicate n x) there
+    ∙ ap (λ ys. x ∷ ys) (without_others removed n x there)
 
 -- a delta that neither clears nor takes out pushes
 pub applied_pushes : (d : Listed) (xs : List Bytes) → (d.cleared || has_some d.removed) ≡ false → applied d xs ≡ xs ++ d.pushed
@@ -80,7 +84,8 @@ abbrev pub ChangesAt : ℕ → Listed → Type 0
 ChangesAt i d = (xs : List Bytes) × (i < length xs) × (slice_get (applied d xs) i ≡ slice_get xs i → ⊥)
 
 -- equal items of which none stays change at their last place, unless the delta pushes the same item there
-all_gone : (i : ℕ) (d : Listed) (x : Bytes) → applied d (replicate (suc i) x) ≡ d.pushed → (slice_get d.pushed i ≡ Some x → ⊥) → ChangesAt i d
+all_gone : (i : ℕ) (d : Listed) (x : Bytes) → applied d (replicate (suc i) x) ≡ d.pushed → (slice_get d.pushed i ≡ Some x → ⊥)
+    → ChangesAt i d
 all_gone i d x gone other = (
   replicate (suc i) x,
   omega (arith, length-replicate (suc i) x),
@@ -98,7 +103,8 @@ cleared_changes i d clears = by (not_both (slice_get d.pushed i) [])
     by (inl other) = all_gone i d [] (cleared_goes d (replicate (suc i) []) clears) other
     by (inr other) = all_gone i d (0 ∷ []) (cleared_goes d (replicate (suc i) (0 ∷ [])) clears) other
 
-removed_goes : (b : Bool) (d : Listed) (n : ℕ) (x : Bytes) → d.cleared ≡ b → has_text d.removed x ≡ true → applied d (replicate n x) ≡ d.pushed
+removed_goes : (b : Bool) (d : Listed) (n : ℕ) (x : Bytes) → d.cleared ≡ b → has_text d.removed x ≡ true
+    → applied d (replicate n x) ≡ d.pushed
 removed_goes true d n x clears there = cleared_goes d _ clears
 removed_goes false d n x keeps there =
     ap (λ b. cond b [] (without d.removed (replicate n x)) ++ d.pushed) keeps
@@ -117,7 +123,8 @@ moved_up d n x y keeps there stays =
 removed_changes : (i : ℕ) (d : Listed) (x : Bytes) → d.cleared ≡ false → has_text d.removed x ≡ true → ChangesAt i d
 removed_changes i d x keeps there = by (has_text d.removed (0 ∷ x)) refl
   where
-    none_stays : has_text d.removed (0 ∷ x) ≡ true → (slice_get d.pushed i ≡ Some x → ⊥) ⊎ (slice_get d.pushed i ≡ Some (0 ∷ x) → ⊥) → ChangesAt i d
+    none_stays : has_text d.removed (0 ∷ x) ≡ true → (slice_get d.pushed i ≡ Some x → ⊥) ⊎ (slice_get d.pushed i ≡ Some (0 ∷ x) → ⊥)
+        → ChangesAt i d
     none_stays longer_there (inl other) = all_gone i d x (removed_goes false d (suc i) x keeps there) other
     none_stays longer_there (inr other) = all_gone i d (0 ∷ x) (removed_goes false d (suc i) (0 ∷ x) keeps longer_there) other
 
@@ -168,14 +175,20 @@ pub clears-composed : (d e : Listed) → (composed d e).cleared ≡ (d.cleared |
 clears-composed d e = by e.cleared refl
   where
     by : (b : Bool) → e.cleared ≡ b → (composed d e).cleared ≡ (d.cleared || b)
-    by true is = ap (λ b. (cond b e (record { cleared = d.cleared; removed = cond d.cleared map.empty (union d.removed e.removed); pushed = without e.removed d.pushed ++ e.pushed })).cleared) is ∙ is ∙ sym (or-true d.cleared)
-    by false is = ap (λ b. (cond b e (record { cleared = d.cleared; removed = cond d.cleared map.empty (union d.removed e.removed); pushed = without e.removed d.pushed ++ e.pushed })).cleared) is ∙ sym (or_none d.cleared)
+    by true is =
+        ap (λ b. (cond b e (record { cleared = d.cleared; removed = cond d.cleared map.empty (union d.removed e.removed); pushed = without e.removed d.pushed ++ e.pushed })).cleared) is
+        ∙ is
+        ∙ sym (or-true d.cleared)
+    by false is =
+        ap (λ b. (cond b e (record { cleared = d.cleared; removed = cond d.cleared map.empty (union d.removed e.removed); pushed = without e.removed d.pushed ++ e.pushed })).cleared) is
+        ∙ sym (or_none d.cleared)
 
 abbrev pub takes : Listed → Bool
 takes d = d.cleared || has_some d.removed
 
 takes_parts : (c : Bool) (r : SetOfTexts) (p : List Bytes) (b : Bool) (s : SetOfTexts) (q : List Bytes)
-    → takes (composed (record { cleared = c; removed = r; pushed = p }) (record { cleared = b; removed = s; pushed = q })) ≡ ((c || has_some r) || (b || has_some s))
+    → takes (composed (record { cleared = c; removed = r; pushed = p }) (record { cleared = b; removed = s; pushed = q }))
+    ≡ ((c || has_some r) || (b || has_some s))
 takes_parts c r p true s q = sym (or-true (c || has_some r))
 takes_parts true r p false s q = refl
 takes_parts false r p false s q = has_some-union r s
@@ -197,7 +210,8 @@ abbrev pub acts : Listed → Bool
 acts d = (d.cleared || has_some d.removed) || has_items d.pushed
 
 acts_parts : (c : Bool) (r : SetOfTexts) (p : List Bytes) (b : Bool) (s : SetOfTexts) (q : List Bytes)
-    → acts (composed (record { cleared = c; removed = r; pushed = p }) (record { cleared = b; removed = s; pushed = q })) ≡ (((c || has_some r) || has_items p) || ((b || has_some s) || has_items q))
+    → acts (composed (record { cleared = c; removed = r; pushed = p }) (record { cleared = b; removed = s; pushed = q }))
+    ≡ (((c || has_some r) || has_items p) || ((b || has_some s) || has_items q))
 acts_parts c r p true s q = sym (or-true ((c || has_some r) || has_items p))
 acts_parts true r p false s q = refl
 acts_parts false r p false s q =

@@ -1,5 +1,6 @@
 -- Whether a map of texts has a key, and whether it has any.
-use Rattle.std.proofs.Common.{◌≡◌, Bool, true, false, not, cond, T, ◌||◌, List, [], ◌∷◌, length, nat_eq, slice_get, is_some, option_map, ◌↔◌, Option, Some, None, refl, sym, ap, ◌∙◌, subst}
+use Rattle.std.proofs.Common.{◌≡◌, Bool, true, false, not, cond, T, ◌||◌, List, [], ◌∷◌, length, nat_eq, slice_get, is_some, option_map, ◌↔◌}
+use Rattle.std.proofs.Common.{Option, Some, None, refl, sym, ap, ◌∙◌, subst}
 use Rattle.std.proofs.lemmas.Bool.{false≢true, not-false, eqb-true, true_from_ne_false, or_left, or_right}
 use Rattle.std.proofs.Math.Bool.{or-true}
 use Rattle.std.proofs.Math.Dec.{eqb-suc-zero}
@@ -66,7 +67,8 @@ module _ {V : Type 0} where
   key-has_some m some = let one = len-some m (subst T (sym some) tt) in (one.0, ap is_some one.2)
 
 -- what is made of the pair at a key is made of its value
-pub twice_mapped : {V W : Type 0} (f : Bytes × V → W) (key : Bytes) (o : Option V) → option_map f (option_map (λ v. (key, v)) o) ≡ option_map (λ v. f (key, v)) o
+pub twice_mapped : {V W : Type 0} (f : Bytes × V → W) (key : Bytes) (o : Option V)
+    → option_map f (option_map (λ v. (key, v)) o) ≡ option_map (λ v. f (key, v)) o
 twice_mapped f key None = refl
 twice_mapped f key (Some v) = refl
 
@@ -77,7 +79,8 @@ module _ {V M : Type 0} (left : M → Option V) (leaves : (mark : M) → is_some
   found (Some mark) u = leaves mark ∙ sym (or-true (is_some u))
 
   -- the keys of either are the keys of an overlay
-  pub contains-overlaid : (under : MapOf V) (over : MapOf M) (x : Bytes) → map.contains_key (overlaid left under over) x ≡ (map.contains_key under x || map.contains_key over x)
+  pub contains-overlaid : (under : MapOf V) (over : MapOf M) (x : Bytes)
+      → map.contains_key (overlaid left under over) x ≡ (map.contains_key under x || map.contains_key over x)
   contains-overlaid under over x = ap is_some (get-overlaid left under over x) ∙ found (map.get over x) (map.get under x)
 
   -- so it has some where one of them has

@@ -24,7 +24,8 @@ module _ {M V : Type 0} (left : M → Option V) where
   unmarked (Some mark) u none = absurd (true≢false none)
 
   -- at a key without a mark, what was there stays
-  pub get-applied_unmarked : (d : Keyed M) (m : MapOf V) (x : Bytes) → d.cleared ≡ false → map.contains_key d.marks x ≡ false → map.get (applied left d m) x ≡ map.get m x
+  pub get-applied_unmarked : (d : Keyed M) (m : MapOf V) (x : Bytes) → d.cleared ≡ false → map.contains_key d.marks x ≡ false
+      → map.get (applied left d m) x ≡ map.get m x
   get-applied_unmarked d m x kept none =
       ap (λ b. map.get (overlaid left (cond b map.empty m) d.marks) x) kept
       ∙ get-overlaid left m d.marks x
@@ -38,13 +39,15 @@ module _ {M V : Type 0} (left : M → Option V) where
   abbrev left_at : Keyed M → Bytes → Option V
   left_at d x = found_after left (map.get d.marks x) None
 
-  settled : (b : Bool) (o : Option M) (u : Option V) → (b ≡ true → u ≡ None) → (b || is_some o) ≡ true → found_after left o u ≡ found_after left o None
+  settled : (b : Bool) (o : Option M) (u : Option V) → (b ≡ true → u ≡ None) → (b || is_some o) ≡ true
+      → found_after left o u ≡ found_after left o None
   settled b (Some mark) u cleared h = refl
   settled true None u cleared h = cleared refl
   settled false None u cleared h = absurd (false≢true h)
 
   -- whatever was there before
-  get-applied_marked : (d : Keyed M) (m : MapOf V) (x : Bytes) → (d.cleared || map.contains_key d.marks x) ≡ true → map.get (applied left d m) x ≡ left_at d x
+  get-applied_marked : (d : Keyed M) (m : MapOf V) (x : Bytes) → (d.cleared || map.contains_key d.marks x) ≡ true
+      → map.get (applied left d m) x ≡ left_at d x
   get-applied_marked d m x h =
       get-overlaid left (cond d.cleared map.empty m) d.marks x
       ∙ settled d.cleared (map.get d.marks x) _ (λ b. ap (λ c. map.get (cond c map.empty m) x) b ∙ map.get-empty text_cmp x) h
@@ -55,7 +58,8 @@ module _ {M V : Type 0} (left : M → Option V) where
   opposite v x (Some w) = map.empty
 
   is_opposite : (v : V) (x : Bytes) (o : Option V) → is_some o ≡ not (map.contains_key (opposite v x o) x)
-  is_opposite v x None = sym (ap (λ o. not (is_some o)) (map.get-insert nat_list_cmp_total map.empty x v x ∙ ap (λ b. cond b (Some v) (map.get (map.empty {R = text_cmp}) x)) (tied x)))
+  is_opposite v x None =
+      sym (ap (λ o. not (is_some o)) (map.get-insert nat_list_cmp_total map.empty x v x ∙ ap (λ b. cond b (Some v) (map.get (map.empty {R = text_cmp}) x)) (tied x)))
   is_opposite v x (Some w) = sym (ap (λ o. not (is_some o)) (map.get-empty text_cmp x))
 
   -- a delta that clears or marks a key changes what is there, of some map
@@ -82,7 +86,9 @@ module _ {M V : Type 0} (left : M → Option V) where
     abbrev touches : Keyed M → Bool
     touches d = d.cleared || test d.marks
 
-    of_parts : (c : Bool) (ms : MapOf M) (b : Bool) (ns : MapOf M) → touches (composed left (record { cleared = c; marks = ms }) (record { cleared = b; marks = ns })) ≡ ((c || test ms) || (b || test ns))
+    of_parts : (c : Bool) (ms : MapOf M) (b : Bool) (ns : MapOf M)
+        → touches (composed left (record { cleared = c; marks = ms }) (record { cleared = b; marks = ns }))
+        ≡ ((c || test ms) || (b || test ns))
     of_parts c ms true ns = sym (or-true (c || test ms))
     of_parts true ms false ns = refl
     of_parts false ms false ns = by_parts ms ns

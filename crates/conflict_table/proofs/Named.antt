@@ -82,13 +82,16 @@ map_is f None y e = absurd (cc)
 map_is f (Some x) y e = (x, cc)
 
 -- the first of two parts passes its test, and so the two
-alone : (o p : Option WriteOp) (w : WriteOp) (a b : Bool) → option_or o p ≡ Some w → (o ≡ Some w → a ≡ true) → (p ≡ Some w → b ≡ true) → (a || b) ≡ true
+alone : (o p : Option WriteOp) (w : WriteOp) (a b : Bool) → option_or o p ≡ Some w → (o ≡ Some w → a ≡ true) → (p ≡ Some w → b ≡ true)
+    → (a || b) ≡ true
 alone None p w a b e f g = or_right a b (g e)
 alone (Some x) p w a b e f g = or_left a b (f e)
 
 -- one mark is a mark at its key
 marks_itself : {M : Type 0} (x : Bytes) (mark : M) → map.contains_key (map.insert {R = text_cmp} map.empty x mark) x ≡ true
-marks_itself x mark = ap is_some (map.get-insert nat_list_cmp_total map.empty x mark x) ∙ ap (λ b. is_some (cond b (Some mark) (map.get (map.empty {R = text_cmp}) x))) (tied x)
+marks_itself x mark =
+    ap is_some (map.get-insert nat_list_cmp_total map.empty x mark x)
+    ∙ ap (λ b. is_some (cond b (Some mark) (map.get (map.empty {R = text_cmp}) x))) (tied x)
 
 clear_alone : (d : Delta) (w : WriteOp) → clear_part d ≡ Some w → clears (delta_of w) ≡ true
 clear_alone (delta.Set d) w e = ap (λ w. clears (delta_of w)) (sym (then_is d.cleared op.SetClear w e))

@@ -1,5 +1,6 @@
 -- A read rests on what it observes: own writes keep what the two values have in common.
-use Rattle.std.proofs.Common.{◌≡◌, ◌<◌, ℕ, pos, negsuc, Bool, true, false, not, cond, ◌||◌, ◌&&◌, List, [], ◌∷◌, ◌++◌, length, nat_lt, slice_get, is_some, unwrap_or, Some, None, refl, sym, ap, ◌∙◌, ◌⊎◌, inl, inr, length-append, arith}
+use Rattle.std.proofs.Common.{◌≡◌, ◌<◌, ℕ, pos, negsuc, Bool, true, false, not, cond, ◌||◌, ◌&&◌, List, [], ◌∷◌, ◌++◌, length, nat_lt}
+use Rattle.std.proofs.Common.{slice_get, is_some, unwrap_or, Some, None, refl, sym, ap, ◌∙◌, ◌⊎◌, inl, inr, length-append, arith}
 use Rattle.std.specs.List.{list_any}
 use Rattle.std.specs.Ordering.{eq_by_cmp}
 use Rattle.std.specs.Cmp.Lexicographic.{nat_list_cmp_total}
@@ -21,7 +22,8 @@ use Rattle.conflict_table.specs.declared.read.ReadOp.{ReadOp}
 use Rattle.conflict_table.specs.declared.read.ReadOp.TheVariants as read
 use Rattle.conflict_table.specs.Observing.{observe}
 use Rattle.std.proofs.lemmas.Bool.Decides.{nat_tests}
-use Rattle.conflict_table.specs.Reads.{replay, answer, is_put, is_clear, names, is_list_remove, item_at, whole, is_decided, whole_observed, observed, place_observed}
+use Rattle.conflict_table.specs.Reads.{replay, answer, is_put, is_clear, names, is_list_remove, item_at, whole, is_decided, whole_observed}
+use Rattle.conflict_table.specs.Reads.{observed, place_observed}
 use Rattle.conflict_table.specs.Laws.{ReadsRestOnObservations}
 use Rattle.conflict_table.proofs.Keys.{either}
 use Rattle.conflict_table.proofs.Items.{slice_get-append}
@@ -33,7 +35,8 @@ module _ (R : Value → Value → Type 0) (kept : (o : WriteOp) (v w : Value) �
   replayed (o ∷ own) v w r = replayed own (write o v) (write o w) (kept o v w r)
 
   -- and that some write brings about
-  pub decided : (test : WriteOp → Bool) → ((o : WriteOp) (v w : Value) → test o ≡ true → R (write o v) (write o w)) → (own : List WriteOp) (v w : Value) → list_any test own ≡ true → R (replay own v) (replay own w)
+  pub decided : (test : WriteOp → Bool) → ((o : WriteOp) (v w : Value) → test o ≡ true → R (write o v) (write o w))
+      → (own : List WriteOp) (v w : Value) → list_any test own ≡ true → R (replay own v) (replay own w)
   decided test made [] v w some = absurd (false≢true some)
   decided test made (o ∷ own) v w some =
       either (test o) (list_any test own) some
@@ -85,12 +88,23 @@ has-without s y x = ap is_some (map.get-remove nat_list_cmp_total s y x) ∙ by 
 
 keeps_element : (x : Bytes) (o : WriteOp) (v w : Value) → Element x v w → Element x (write o v) (write o w)
 keeps_element x (op.SetAdd y) v w r = has-with (set_in v) y x ∙ ap (λ b. eq_by_cmp text_cmp x y || b) r ∙ sym (has-with (set_in w) y x)
-keeps_element x (op.SetRemove y) v w r = has-without (set_in v) y x ∙ ap (λ b. not (eq_by_cmp text_cmp x y) && b) r ∙ sym (has-without (set_in w) y x)
+keeps_element x (op.SetRemove y) v w r =
+    has-without (set_in v) y x
+    ∙ ap (λ b. not (eq_by_cmp text_cmp x y) && b) r
+    ∙ sym (has-without (set_in w) y x)
 keeps_element x o v w r = refl
 
 names_element : (x : Bytes) (o : WriteOp) (v w : Value) → names x o ≡ true → Element x (write o v) (write o w)
-names_element x (op.SetAdd y) v w h = has-with (set_in v) y x ∙ ap (λ b. b || has_text (set_in v) x) h ∙ sym (ap (λ b. b || has_text (set_in w) x) h) ∙ sym (has-with (set_in w) y x)
-names_element x (op.SetRemove y) v w h = has-without (set_in v) y x ∙ ap (λ b. not b && has_text (set_in v) x) h ∙ sym (ap (λ b. not b && has_text (set_in w) x) h) ∙ sym (has-without (set_in w) y x)
+names_element x (op.SetAdd y) v w h =
+    has-with (set_in v) y x
+    ∙ ap (λ b. b || has_text (set_in v) x) h
+    ∙ sym (ap (λ b. b || has_text (set_in w) x) h)
+    ∙ sym (has-with (set_in w) y x)
+names_element x (op.SetRemove y) v w h =
+    has-without (set_in v) y x
+    ∙ ap (λ b. not b && has_text (set_in v) x) h
+    ∙ sym (ap (λ b. not b && has_text (set_in w) x) h)
+    ∙ sym (has-without (set_in w) y x)
 names_element x o v w h = refl
 
 abbrev Set : Value → Value → Type 0
@@ -140,7 +154,8 @@ keeps_items (op.ListPush x) v w r = ap (λ xs. xs ++ x ∷ []) r
 keeps_items (op.ListRemove x) v w r = ap (others x) r
 keeps_items o v w r = refl
 
-clears_all : (R : Value → Value → Type 0) → ((v : Value) → R v v) → (o : WriteOp) (v w : Value) → is_clear o ≡ true → R (write o v) (write o w)
+clears_all : (R : Value → Value → Type 0) → ((v : Value) → R v v) → (o : WriteOp) (v w : Value) → is_clear o ≡ true
+    → R (write o v) (write o w)
 clears_all R same op.SetClear v w h = same _
 clears_all R same op.HashClear v w h = same _
 clears_all R same op.ListClear v w h = same _
@@ -161,7 +176,8 @@ keeps_place i (op.ListPush x) v w none (inr r) =
     )
 keeps_place i o v w none r = inl refl
 
-place_replayed : (i : ℕ) (own : List WriteOp) (v w : Value) → list_any is_list_remove own ≡ false → Place i v w → Place i (replay own v) (replay own w)
+place_replayed : (i : ℕ) (own : List WriteOp) (v w : Value) → list_any is_list_remove own ≡ false → Place i v w
+    → Place i (replay own v) (replay own w)
 place_replayed i [] v w none r = r
 place_replayed i (o ∷ own) v w none r =
     let each = or_parts (is_list_remove o) (list_any is_list_remove own) none in
@@ -178,7 +194,8 @@ both_within i v w within same = inr (within, slice_get_within (list_in w) i _ (s
 of_place : (i : ℕ) (own : List WriteOp) (v w : Value) (a b : Bool) → list_any is_list_remove own ≡ a → nat_lt i (length (list_in v)) ≡ b
     → observe (cond (not a && b) (obs.ListAt i) obs.ListAll) v ≡ observe (cond (not a && b) (obs.ListAt i) obs.ListAll) w
     → item_at (pos i) (list_in (replay own v)) ≡ item_at (pos i) (list_in (replay own w))
-of_place i own v w false true none within same = same_item i (replay own v) (replay own w) (place_replayed i own v w none (both_within i v w (ltb-true i (length (list_in v)) within) (cc)))
+of_place i own v w false true none within same =
+    same_item i (replay own v) (replay own w) (place_replayed i own v w none (both_within i v w (ltb-true i (length (list_in v)) within) (cc)))
 of_place i own v w false false none past same = ap (item_at (pos i)) (replayed Items keeps_items own v w (cc))
 of_place i own v w true b some within same = ap (item_at (pos i)) (replayed Items keeps_items own v w (cc))
 
@@ -186,29 +203,37 @@ of_place i own v w true b some within same = ap (item_at (pos i)) (replayed Item
 
 module _ (R : Value → Value → Type 0) (kept : (o : WriteOp) (v w : Value) → R v w → R (write o v) (write o w)) (same : (v : Value) → R v v) where
   -- where a clear decides
-  by_clear : (own : List WriteOp) (v w : Value) (b : Bool) → list_any is_clear own ≡ b → (b ≡ false → R v w) → R (replay own v) (replay own w)
+  by_clear : (own : List WriteOp) (v w : Value) (b : Bool) → list_any is_clear own ≡ b → (b ≡ false → R v w)
+      → R (replay own v) (replay own w)
   by_clear own v w true clears r = decided R kept is_clear (clears_all R same) own v w clears
   by_clear own v w false keeps r = replayed R kept own v w (r refl)
 
   -- where a clear or a name decides
-  by_name : (test : WriteOp → Bool) → ((o : WriteOp) (v w : Value) → test o ≡ true → R (write o v) (write o w)) → (own : List WriteOp) (v w : Value) (b : Bool) → (list_any is_clear own || list_any test own) ≡ b → (b ≡ false → R v w) → R (replay own v) (replay own w)
+  by_name : (test : WriteOp → Bool) → ((o : WriteOp) (v w : Value) → test o ≡ true → R (write o v) (write o w))
+      → (own : List WriteOp) (v w : Value) (b : Bool) → (list_any is_clear own || list_any test own) ≡ b → (b ≡ false → R v w)
+      → R (replay own v) (replay own w)
   by_name test made own v w true some r =
       either (list_any is_clear own) (list_any test own) some
       (λ clears. decided R kept is_clear (clears_all R same) own v w clears)
       (λ names. decided R kept test made own v w names)
   by_name test made own v w false none r = replayed R kept own v w (r refl)
 
-get_rests : (own : List WriteOp) (v w : Value) (b : Bool) → list_any is_put own ≡ b → (b ≡ false → Whole v w) → Whole (replay own v) (replay own w)
+get_rests : (own : List WriteOp) (v w : Value) (b : Bool) → list_any is_put own ≡ b → (b ≡ false → Whole v w)
+    → Whole (replay own v) (replay own w)
 get_rests own v w true puts r = decided Whole keeps_whole is_put puts_whole own v w puts
 get_rests own v w false keeps r = replayed Whole keeps_whole own v w (r refl)
 
-place_rests : (i : ℕ) (own : List WriteOp) (v w : Value) (b : Bool) → list_any is_clear own ≡ b → (b ≡ false → observe (place_observed (pos i) (list_any is_list_remove own) (list_in v)) v ≡ observe (place_observed (pos i) (list_any is_list_remove own) (list_in v)) w)
+place_rests : (i : ℕ) (own : List WriteOp) (v w : Value) (b : Bool) → list_any is_clear own ≡ b
+    → (b ≡ false → observe (place_observed (pos i) (list_any is_list_remove own) (list_in v)) v ≡ observe (place_observed (pos i) (list_any is_list_remove own) (list_in v)) w)
     → item_at (pos i) (list_in (replay own v)) ≡ item_at (pos i) (list_in (replay own w))
-place_rests i own v w true clears same = ap (item_at (pos i)) (decided Items keeps_items is_clear (clears_all Items (λ v. refl)) own v w clears)
-place_rests i own v w false keeps same = of_place i own v w (list_any is_list_remove own) (nat_lt i (length (list_in v))) refl refl (same refl)
+place_rests i own v w true clears same =
+    ap (item_at (pos i)) (decided Items keeps_items is_clear (clears_all Items (λ v. refl)) own v w clears)
+place_rests i own v w false keeps same =
+    of_place i own v w (list_any is_list_remove own) (nat_lt i (length (list_in v))) refl refl (same refl)
 
 -- each read, by what the two values have in common
-answers_rest : (r : ReadOp) (own : List WriteOp) (v w : Value) → kind_of v ≡ kind_of w → (is_decided r own ≡ false → observe (observed r own v) v ≡ observe (observed r own v) w)
+answers_rest : (r : ReadOp) (own : List WriteOp) (v w : Value) → kind_of v ≡ kind_of w
+    → (is_decided r own ≡ false → observe (observed r own v) v ≡ observe (observed r own v) w)
     → answer r (replay own v) ≡ answer r (replay own w)
 answers_rest read.Get own v w kinds same =
     (get_rests own v w (list_any is_put own) refl (λ none. same_whole v w kinds (same none))).0
@@ -257,9 +282,11 @@ same_place i v w false false past same =
     let lists : list_in v ≡ list_in w = cc in
     sym (ap (λ b. cond b (obs.ListAt i) obs.ListAll) (ap (λ xs. nat_lt i (length xs)) (sym lists) ∙ past))
 
-observes_same : (r : ReadOp) (own : List WriteOp) (v w : Value) → kind_of v ≡ kind_of w → observe (observed r own v) v ≡ observe (observed r own v) w → observed r own v ≡ observed r own w
+observes_same : (r : ReadOp) (own : List WriteOp) (v w : Value) → kind_of v ≡ kind_of w
+    → observe (observed r own v) v ≡ observe (observed r own v) w → observed r own v ≡ observed r own w
 observes_same read.Get own v w kinds same = whole_is v ∙ ap whole_of kinds ∙ sym (whole_is w)
-observes_same (read.ListAt (pos i)) own v w kinds same = same_place i v w (list_any is_list_remove own) (nat_lt i (length (list_in v))) refl same
+observes_same (read.ListAt (pos i)) own v w kinds same =
+    same_place i v w (list_any is_list_remove own) (nat_lt i (length (list_in v))) refl same
 observes_same r own v w kinds same = refl
 
 -- the answer, and what is observed

@@ -1,5 +1,6 @@
 -- The laws of the table, row by row.
-use Rattle.std.proofs.Common.{◌≡◌, ℤ, pos, negsuc, zero, suc, Bool, true, false, not, ◌||◌, [], ◌∷◌, ◌++◌, FitsSigned, slice_get, is_some, Option, refl, sym, ap, ◌∙◌, append-nil, arith}
+use Rattle.std.proofs.Common.{◌≡◌, ℤ, pos, negsuc, zero, suc, Bool, true, false, not, ◌||◌, [], ◌∷◌, ◌++◌, FitsSigned, slice_get, is_some}
+use Rattle.std.proofs.Common.{Option, refl, sym, ap, ◌∙◌, append-nil, arith}
 use Rattle.std.specs.Int.{w64}
 use Rattle.std.proofs.lemmas.Grind.{common_steps}
 use Rattle.std.proofs.lemmas.Bool.{true≢false, or_parts}
@@ -23,7 +24,8 @@ use Rattle.rdt_types.proofs.OneKind.{OfOneKind, of_one_kind, bools, puts, put_th
 use Rattle.conflict_table.proofs.Keys.{or_none, contains-overlaid, has_some-overlaid}
 use Rattle.conflict_table.proofs.Marked.{differs, get-applied_unmarked, applied_unmarked, changed_at, changed, touches-composed}
 use Rattle.conflict_table.proofs.Items as items
-use Rattle.conflict_table.proofs.Items.{longer, applied_pushes, slice_get-append, has_no_items, clears-composed, takes-composed, acts-composed}
+use Rattle.conflict_table.proofs.Items.{longer, applied_pushes, slice_get-append, has_no_items, clears-composed, takes-composed}
+use Rattle.conflict_table.proofs.Items.{acts-composed}
 
 -- what isn't marked, cleared or taken out stays
 pub no_clash_no_change : NoClashNoChange
@@ -72,8 +74,10 @@ addition_of_0 n fits none = ap delta.AddCounter (sym (sum_from_0 n fits) ∙ non
 -- of each row, a value that shows the change
 pub clashes_show_changes : ClashesShowChanges
 clashes_show_changes obs.BoolIs (delta.PutBool b) kinds number some h = (value.Bool (not b), refl, tt, λ same. is_other_bool b (cc))
-clashes_show_changes obs.CounterIs (delta.PutCounter n) kinds number some h = (value.Counter (other_number n), refl, tt, λ same. is_other_number n (cc))
-clashes_show_changes obs.CounterIs (delta.AddCounter n) kinds number some h = (value.Counter (pos 0), refl, tt, λ same. some (addition_of_0 n number (cc)))
+clashes_show_changes obs.CounterIs (delta.PutCounter n) kinds number some h =
+    (value.Counter (other_number n), refl, tt, λ same. is_other_number n (cc))
+clashes_show_changes obs.CounterIs (delta.AddCounter n) kinds number some h =
+    (value.Counter (pos 0), refl, tt, λ same. some (addition_of_0 n number (cc)))
 clashes_show_changes obs.TextIs (delta.PutText x) kinds number some h = (value.Text (0 ∷ x), refl, tt, λ same. longer x (cc))
 clashes_show_changes (obs.SetHas x) (delta.Set d) kinds number some h =
     let change = changed_at added tt d x h in (value.Set change.0, refl, tt, λ same. differs _ _ change.1 (cc))
@@ -128,16 +132,20 @@ nothing_else a b c is = simp or_none is
 
 module _ {M V : Type 0} (left : M → Option V) (d e : Keyed M) where
   pub names-composed : (x : Bytes)
-      → ((composed left d e).cleared || map.contains_key (composed left d e).marks x) ≡ ((d.cleared || map.contains_key d.marks x) || (e.cleared || map.contains_key e.marks x))
-  names-composed x = touches-composed left (λ m. map.contains_key m x) (λ under over. contains-overlaid (mark_after left false) (λ mark. refl) under over x) d e
+      → ((composed left d e).cleared || map.contains_key (composed left d e).marks x)
+      ≡ ((d.cleared || map.contains_key d.marks x) || (e.cleared || map.contains_key e.marks x))
+  names-composed x =
+      touches-composed left (λ m. map.contains_key m x) (λ under over. contains-overlaid (mark_after left false) (λ mark. refl) under over x) d e
 
-  pub names_some-composed : ((composed left d e).cleared || has_some (composed left d e).marks) ≡ ((d.cleared || has_some d.marks) || (e.cleared || has_some e.marks))
+  pub names_some-composed : ((composed left d e).cleared || has_some (composed left d e).marks)
+      ≡ ((d.cleared || has_some d.marks) || (e.cleared || has_some e.marks))
   names_some-composed = touches-composed left has_some (has_some-overlaid (mark_after left false) (λ mark. refl)) d e
 
   pub clears_alone-composed : ((composed left d e).cleared || false) ≡ ((d.cleared || false) || (e.cleared || false))
   clears_alone-composed = touches-composed left (λ m. false) (λ under over. refl) d e
 
-set_clashes : (o : Obs) (d e : Keyed Bool) → clash o (compose (delta.Set d) (delta.Set e)) ≡ (clash o (delta.Set d) || clash o (delta.Set e))
+set_clashes : (o : Obs) (d e : Keyed Bool)
+    → clash o (compose (delta.Set d) (delta.Set e)) ≡ (clash o (delta.Set d) || clash o (delta.Set e))
 set_clashes obs.BoolIs d e = refl
 set_clashes obs.CounterIs d e = refl
 set_clashes obs.TextIs d e = refl
@@ -148,7 +156,8 @@ set_clashes obs.HashAll d e = names_some-composed added d e
 set_clashes (obs.ListAt i) d e = clears_alone-composed added d e
 set_clashes obs.ListAll d e = nothing_else _ _ _ (clears_alone-composed added d e)
 
-hash_clashes : (o : Obs) (d e : Keyed Mark) → clash o (compose (delta.Hash d) (delta.Hash e)) ≡ (clash o (delta.Hash d) || clash o (delta.Hash e))
+hash_clashes : (o : Obs) (d e : Keyed Mark)
+    → clash o (compose (delta.Hash d) (delta.Hash e)) ≡ (clash o (delta.Hash d) || clash o (delta.Hash e))
 hash_clashes obs.BoolIs d e = refl
 hash_clashes obs.CounterIs d e = refl
 hash_clashes obs.TextIs d e = refl
@@ -159,7 +168,8 @@ hash_clashes obs.HashAll d e = names_some-composed put_by d e
 hash_clashes (obs.ListAt i) d e = clears_alone-composed put_by d e
 hash_clashes obs.ListAll d e = nothing_else _ _ _ (clears_alone-composed put_by d e)
 
-list_clashes : (o : Obs) (d e : Listed) → clash o (compose (delta.List d) (delta.List e)) ≡ (clash o (delta.List d) || clash o (delta.List e))
+list_clashes : (o : Obs) (d e : Listed)
+    → clash o (compose (delta.List d) (delta.List e)) ≡ (clash o (delta.List d) || clash o (delta.List e))
 list_clashes obs.BoolIs d e = refl
 list_clashes obs.CounterIs d e = refl
 list_clashes obs.TextIs d e = refl
@@ -174,7 +184,8 @@ list_clashes obs.ListAll d e = acts-composed d e
 by_parts : (o : Obs) (first second : Delta) → OfOneKind first second → clash o (compose first second) ≡ (clash o first || clash o second)
 by_parts o first second (bools b c) = plain_clashes o (delta.PutBool b) (delta.PutBool c) (delta.PutBool c) tt tt tt
 by_parts o first second (puts m n) = plain_clashes o (delta.PutCounter m) (delta.PutCounter n) (delta.PutCounter n) tt tt tt
-by_parts o first second (put_then_add m n) = plain_clashes o (delta.PutCounter m) (delta.AddCounter n) (delta.PutCounter (wrapping_sum m n)) tt tt tt
+by_parts o first second (put_then_add m n) =
+    plain_clashes o (delta.PutCounter m) (delta.AddCounter n) (delta.PutCounter (wrapping_sum m n)) tt tt tt
 by_parts o first second (add_then_put m n) = plain_clashes o (delta.AddCounter m) (delta.PutCounter n) (delta.PutCounter n) tt tt tt
 by_parts o first second (adds m n) = plain_clashes o (delta.AddCounter m) (delta.AddCounter n) (delta.AddCounter (wrapping_sum m n)) tt tt tt
 by_parts o first second (texts x y) = plain_clashes o (delta.PutText x) (delta.PutText y) (delta.PutText y) tt tt tt

@@ -93,5 +93,6 @@ shown (part.ListRemove x) = op.ListRemove x.now
 shown part.ListClear = op.ListClear
 
 -- a clear is named before any mark
-clear-before-marks : named (obs.HashAt (codes "f")) (compose (delta_of op.HashClear) (delta_of (op.HashPut (codes "f") (codes "v")))) ≡ Some op.HashClear
+clear-before-marks : named (obs.HashAt (codes "f")) (compose (delta_of op.HashClear) (delta_of (op.HashPut (codes "f") (codes "v"))))
+    ≡ Some op.HashClear
 clear-before-marks = refl

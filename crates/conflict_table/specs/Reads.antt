@@ -1,5 +1,6 @@
 -- A read in a body that may have written to the same address before.
-use Rattle.std.specs.Prelude.{◌≡◌, Bool, true, false, not, ◌&&◌, ◌||◌, if◌then◌else◌, nat_lt, List, [], ◌∷◌, fold, length, slice_get, ℤ, pos, negsuc, codes, refl}
+use Rattle.std.specs.Prelude.{◌≡◌, Bool, true, false, not, ◌&&◌, ◌||◌, if◌then◌else◌, nat_lt, List, [], ◌∷◌, fold, length, slice_get, ℤ, pos}
+use Rattle.std.specs.Prelude.{negsuc, codes, refl}
 use Rattle.std.specs.Option.{unwrap_or}
 use Rattle.std.specs.List.{list_any}
 use Rattle.std.specs.Ordering.{eq_by_cmp}

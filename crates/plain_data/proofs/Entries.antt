@@ -1,5 +1,6 @@
 -- A list of pairs whose keys rise: the place of a key in it, and what is found and put there.
-use Rattle.std.proofs.Common.{◌≡◌, ℕ, zero, suc, ◌<◌, ◌≤◌, Bool, true, false, cond, List, [], ◌∷◌, length, get_or, set, Option, Some, refl, sym, ap, ◌∙◌, arith, ◌⊎◌, inl, inr}
+use Rattle.std.proofs.Common.{◌≡◌, ℕ, zero, suc, ◌<◌, ◌≤◌, Bool, true, false, cond, List, [], ◌∷◌, length, get_or, set, Option, Some, refl}
+use Rattle.std.proofs.Common.{sym, ap, ◌∙◌, arith, ◌⊎◌, inl, inr}
 use Rattle.std.specs.List.{slice_get, insert, AllByRecursion}
 use Rattle.std.specs.List.Sorted.{IsStrictlySortedBy, IsPartitionedBy}
 use Rattle.std.specs.Map.{lookup, keys_of}
@@ -88,7 +89,8 @@ module _ {K V : Type 0} (R : K → K → Ordering) (o : IsTotalOrder R) where
   Below k es i = (j : ℕ) (e : K × V) → j < i → slice_get es j ≡ Some e → R k e.0 ≡ Greater
 
   -- the value at an equal key is found
-  pub lookup-hit : (k : K) (es : List (K × V)) (i : ℕ) (e : K × V) → Below k es i → slice_get es i ≡ Some e → R k e.0 ≡ Equal → lookup (is_at (R k)) es ≡ Some e.1
+  pub lookup-hit : (k : K) (es : List (K × V)) (i : ℕ) (e : K × V) → Below k es i → slice_get es i ≡ Some e → R k e.0 ≡ Equal
+      → lookup (is_at (R k)) es ≡ Some e.1
   lookup-hit k [] i e lower here same = absurd (cc)
   lookup-hit k (x ∷ es) zero e lower here same =
       let is : x ≡ e = cc in
@@ -98,17 +100,20 @@ module _ {K V : Type 0} (R : K → K → Ordering) (o : IsTotalOrder R) where
       ∙ lookup-hit k es i e (λ j f h g. lower (suc j) f (omega arith) g) here same
 
   -- the value at an equal key is replaced
-  pub insert_entry-hit : (k : K) (v : V) (es : List (K × V)) (i : ℕ) (e : K × V) → Below k es i → slice_get es i ≡ Some e → R k e.0 ≡ Equal → set es i (e.0, v) ≡ insert_entry R es k v
+  pub insert_entry-hit : (k : K) (v : V) (es : List (K × V)) (i : ℕ) (e : K × V) → Below k es i → slice_get es i ≡ Some e → R k e.0 ≡ Equal
+      → set es i (e.0, v) ≡ insert_entry R es k v
   insert_entry-hit k v [] i e lower here same = absurd (cc)
   insert_entry-hit k v (x ∷ es) zero e lower here same =
       let is : x ≡ e = cc in
-      ap (λ p. (p.0, v) ∷ es) (sym is) ∙ sym (ap (λ r. match_ordering r ((k, v) ∷ x ∷ es) ((x.0, v) ∷ es) (x ∷ insert_entry R es k v)) (ap (λ p. R k p.0) is ∙ same))
+      ap (λ p. (p.0, v) ∷ es) (sym is)
+      ∙ sym (ap (λ r. match_ordering r ((k, v) ∷ x ∷ es) ((x.0, v) ∷ es) (x ∷ insert_entry R es k v)) (ap (λ p. R k p.0) is ∙ same))
   insert_entry-hit k v (x ∷ es) (suc i) e lower here same =
       ap (λ rest. x ∷ rest) (insert_entry-hit k v es i e (λ j f h g. lower (suc j) f (omega arith) g) here same)
       ∙ sym (ap (λ r. match_ordering r ((k, v) ∷ x ∷ es) ((x.0, v) ∷ es) (x ∷ insert_entry R es k v)) (lower 0 x (omega arith) refl))
 
   -- a new key goes to its place
-  pub insert_entry-gap : (k : K) (v : V) (es : List (K × V)) (i : ℕ) → Below k es i → ((e : K × V) → slice_get es i ≡ Some e → R k e.0 ≡ Less) → insert es i (k, v) ≡ insert_entry R es k v
+  pub insert_entry-gap : (k : K) (v : V) (es : List (K × V)) (i : ℕ) → Below k es i
+      → ((e : K × V) → slice_get es i ≡ Some e → R k e.0 ≡ Less) → insert es i (k, v) ≡ insert_entry R es k v
   insert_entry-gap k v [] zero lower upper = refl
   insert_entry-gap k v [] (suc i) lower upper = refl
   insert_entry-gap k v (x ∷ es) zero lower upper =
@@ -121,23 +126,28 @@ module _ {K V : Type 0} (R : K → K → Ordering) (o : IsTotalOrder R) where
   abbrev pub placed : Ordering → K → V → K × V → List (K × V) → List (K × V)
   placed r k v x es = match_ordering r ((k, v) ∷ x ∷ es) ((x.0, v) ∷ es) (x ∷ insert_entry R es k v)
 
-  all_keys_placed : (P : K → Type 0) (r : Ordering) (k : K) (v : V) (x : K × V) (es : List (K × V)) → AllByRecursion P (keys_of (x ∷ es)) → P k → AllByRecursion P (keys_of (insert_entry R es k v)) → AllByRecursion P (keys_of (placed r k v x es))
+  all_keys_placed : (P : K → Type 0) (r : Ordering) (k : K) (v : V) (x : K × V) (es : List (K × V)) → AllByRecursion P (keys_of (x ∷ es))
+      → P k → AllByRecursion P (keys_of (insert_entry R es k v)) → AllByRecursion P (keys_of (placed r k v x es))
   all_keys_placed P Less k v x es all p more = (p, all)
   all_keys_placed P Equal k v x es all p more = all
   all_keys_placed P Greater k v x es all p more = (all.0, more)
 
-  all_keys : (P : K → Type 0) (k : K) (v : V) (es : List (K × V)) → AllByRecursion P (keys_of es) → P k → AllByRecursion P (keys_of (insert_entry R es k v))
+  all_keys : (P : K → Type 0) (k : K) (v : V) (es : List (K × V)) → AllByRecursion P (keys_of es) → P k
+      → AllByRecursion P (keys_of (insert_entry R es k v))
   all_keys P k v [] all p = (p, all)
   all_keys P k v (x ∷ es) all p = all_keys_placed P (R k x.0) k v x es all p (all_keys P k v es all.1 p)
 
-  sorted_placed : (r : Ordering) (k : K) (v : V) (x : K × V) (es : List (K × V)) → R k x.0 ≡ r → IsStrictlySortedBy R (keys_of (x ∷ es)) → IsStrictlySortedBy R (keys_of (insert_entry R es k v)) → IsStrictlySortedBy R (keys_of (placed r k v x es))
+  sorted_placed : (r : Ordering) (k : K) (v : V) (x : K × V) (es : List (K × V)) → R k x.0 ≡ r → IsStrictlySortedBy R (keys_of (x ∷ es))
+      → IsStrictlySortedBy R (keys_of (insert_entry R es k v)) → IsStrictlySortedBy R (keys_of (placed r k v x es))
   unfolding IsStrictlySortedBy
   sorted_placed Less k v x es e rising more = ((e, all_above R o k x.0 (keys_of es) e rising.0), rising)
   sorted_placed Equal k v x es e rising more = rising
-  sorted_placed Greater k v x es e rising more = (all_keys (λ y. R x.0 y ≡ Less) k v es rising.0 (o.antisymm x.0 k ∙ ap ordering_reverse e), more)
+  sorted_placed Greater k v x es e rising more =
+      (all_keys (λ y. R x.0 y ≡ Less) k v es rising.0 (o.antisymm x.0 k ∙ ap ordering_reverse e), more)
 
   -- keys stay in order
-  pub sorted-insert_entry : (k : K) (v : V) (es : List (K × V)) → IsStrictlySortedBy R (keys_of es) → IsStrictlySortedBy R (keys_of (insert_entry R es k v))
+  pub sorted-insert_entry : (k : K) (v : V) (es : List (K × V)) → IsStrictlySortedBy R (keys_of es)
+      → IsStrictlySortedBy R (keys_of (insert_entry R es k v))
   unfolding IsStrictlySortedBy
   sorted-insert_entry k v [] rising = (tt, tt)
   sorted-insert_entry k v (x ∷ es) rising = sorted_placed (R k x.0) k v x es refl rising (sorted-insert_entry k v es rising.1)
@@ -167,8 +177,11 @@ module _ {K V : Type 0} (R : K → K → Ordering) (o : IsTotalOrder R) where
       → lookup (is_at (R q)) (insert_entry R es k v) ≡ cond (is_eq (R q k)) (Some v) (lookup (is_at (R q)) es)
       → lookup (is_at (R q)) (placed R o r k v x es) ≡ cond (is_eq (R q k)) (Some v) (lookup (is_at (R q)) (x ∷ es))
   lookup_placed Less q k v x es e more = refl
-  lookup_placed Equal q k v x es e more = found_by (is_eq (R q x.0)) (is_eq (R q k)) v (Some x.1) (lookup (is_at (R q)) es) (ap is_eq (sym (alike_right o k x.0 q e)))
-  lookup_placed Greater q k v x es e more = ap (λ l. cond (is_eq (R q x.0)) (Some x.1) l) more ∙ by (is_eq (R q k)) (is_eq (R q x.0)) refl refl
+  lookup_placed Equal q k v x es e more =
+      found_by (is_eq (R q x.0)) (is_eq (R q k)) v (Some x.1) (lookup (is_at (R q)) es) (ap is_eq (sym (alike_right o k x.0 q e)))
+  lookup_placed Greater q k v x es e more =
+      ap (λ l. cond (is_eq (R q x.0)) (Some x.1) l) more
+      ∙ by (is_eq (R q k)) (is_eq (R q x.0)) refl refl
     where
       by : (b c : Bool) → is_eq (R q k) ≡ b → is_eq (R q x.0) ≡ c
           → cond c (Some x.1) (cond b (Some v) (lookup (is_at (R q)) es)) ≡ cond b (Some v) (cond c (Some x.1) (lookup (is_at (R q)) es))
@@ -177,11 +190,14 @@ module _ {K V : Type 0} (R : K → K → Ordering) (o : IsTotalOrder R) where
       by true true f g = absurd (false≢true (ap is_eq (sym e) ∙ (ap is_eq (sym (o.congr q k x.0 (equal (R q k) f))) ∙ g)))
 
   -- at an equal key there is the new value, and at each other key what was there
-  pub lookup-insert_entry : (q k : K) (v : V) (es : List (K × V)) → lookup (is_at (R q)) (insert_entry R es k v) ≡ cond (is_eq (R q k)) (Some v) (lookup (is_at (R q)) es)
+  pub lookup-insert_entry : (q k : K) (v : V) (es : List (K × V))
+      → lookup (is_at (R q)) (insert_entry R es k v) ≡ cond (is_eq (R q k)) (Some v) (lookup (is_at (R q)) es)
   lookup-insert_entry q k v [] = refl
   lookup-insert_entry q k v (x ∷ es) = lookup_placed (R k x.0) q k v x es refl (lookup-insert_entry q k v es)
 
   -- equal keys find the same
   pub lookup-alike : (a b : K) (es : List (K × V)) → R a b ≡ Equal → lookup (is_at (R a)) es ≡ lookup (is_at (R b)) es
   lookup-alike a b [] e = refl
-  lookup-alike a b (x ∷ es) e = ap (λ r. cond (is_eq r) (Some x.1) (lookup (is_at (R a)) es)) (o.congr a b x.0 e) ∙ ap (λ l. cond (is_eq (R b x.0)) (Some x.1) l) (lookup-alike a b es e)
+  lookup-alike a b (x ∷ es) e =
+      ap (λ r. cond (is_eq r) (Some x.1) (lookup (is_at (R a)) es)) (o.congr a b x.0 e)
+      ∙ ap (λ l. cond (is_eq (R b x.0)) (Some x.1) l) (lookup-alike a b es e)

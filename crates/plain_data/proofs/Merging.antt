@@ -1,5 +1,6 @@
 -- Steps of one pass over two lists of pairs.
-use Rattle.std.proofs.Common.{◌≡◌, ℕ, suc, ◌+◌, ◌<◌, length, drop, get_or, arith, Option, List, [], ◌∷◌, ◌++◌, refl, sym, ap, ◌∙◌, append_assoc, append-nil}
+use Rattle.std.proofs.Common.{◌≡◌, ℕ, suc, ◌+◌, ◌<◌, length, drop, get_or, arith, Option, List, [], ◌∷◌, ◌++◌, refl, sym, ap, ◌∙◌}
+use Rattle.std.proofs.Common.{append_assoc, append-nil}
 use Rattle.std.proofs.Math.Seq.{drop-cons}
 use Rattle.std.specs.Ordering.{match_ordering}
 use Rattle.std.specs.declared.cmp.Ordering.TheVariants.{Less, Equal, Greater}
@@ -50,7 +51,8 @@ module _ {V : Type 0} (key : Bytes) (out rest total : List (Bytes × V)) (sofar 
   all_copied none = sym (append-nil out) ∙ ap (λ xs. out ++ xs) (sym none) ∙ sofar
 
   -- a pair below the key is copied
-  pub one_copied : (e : Bytes × V) (es more : List (Bytes × V)) → rest ≡ e ∷ es → text_cmp key e.0 ≡ Greater → more ≡ out ++ e ∷ [] → more ++ before key es ≡ total
+  pub one_copied : (e : Bytes × V) (es more : List (Bytes × V)) → rest ≡ e ∷ es → text_cmp key e.0 ≡ Greater → more ≡ out ++ e ∷ []
+      → more ++ before key es ≡ total
   one_copied e es more rest-is above more-is =
       ap (λ xs. xs ++ before key es) more-is
       ∙ append_assoc out (e ∷ []) (before key es)
@@ -59,7 +61,8 @@ module _ {V : Type 0} (key : Bytes) (out rest total : List (Bytes × V)) (sofar 
 
 -- one mark is merged
 pub one_merged : {V M : Type 0} (left : M → Option V) (out low more rest above : List (Bytes × V)) (value : Option V) (mark : Bytes × M) (over marks : List (Bytes × M)) (total : List (Bytes × V))
-    → over ≡ mark ∷ marks → low ≡ out ++ before mark.0 rest → above ≡ after mark.0 rest → value ≡ left mark.1 → more ≡ low ++ pair_at mark.0 value
+    → over ≡ mark ∷ marks → low ≡ out ++ before mark.0 rest → above ≡ after mark.0 rest → value ≡ left mark.1
+    → more ≡ low ++ pair_at mark.0 value
     → out ++ merged left rest over ≡ total → more ++ merged left above marks ≡ total
 unfolding merged
 one_merged left out low more rest above value mark over marks total over-is low-is above-is value-is more-is sofar =

@@ -1,5 +1,6 @@
 -- Lists of pairs whose keys rise, as the finite maps of std see them.
-use Rattle.std.proofs.Common.{◌≡◌, ℕ, zero, suc, ◌+◌, ◌<◌, get_or, Option, Some, None, IfSome, option_map, Bor, Bool, true, false, cond, T, ◌&&◌, List, [], ◌∷◌, length, ◌↔◌, refl, sym, ap, ◌∙◌, subst, arith}
+use Rattle.std.proofs.Common.{◌≡◌, ℕ, zero, suc, ◌+◌, ◌<◌, get_or, Option, Some, None, IfSome, option_map, Bor, Bool, true, false, cond, T}
+use Rattle.std.proofs.Common.{◌&&◌, List, [], ◌∷◌, length, ◌↔◌, refl, sym, ap, ◌∙◌, subst, arith}
 use Rattle.std.specs.Cmp.{IsTotalOrder}
 use Rattle.std.specs.List.{AllByRecursion, IsAllAdjacentAnswer}
 use Rattle.std.specs.Bool.{MatchBool}
@@ -85,7 +86,8 @@ module _ {K V : Type 0} (R : K → K → Ordering) where
   )
 
   -- the map of a list in which a value was put is the map with that value
-  pub from_sorted-put : IsTotalOrder R → (es fs : List (K × V)) (k : K) (v : V) → T (is_sorted R es) → T (is_sorted R fs) → fs ≡ insert_entry R es k v → map.from_sorted {R = R} fs ≡ map.insert (map.from_sorted es) k v
+  pub from_sorted-put : IsTotalOrder R → (es fs : List (K × V)) (k : K) (v : V) → T (is_sorted R es) → T (is_sorted R fs)
+      → fs ≡ insert_entry R es k v → map.from_sorted {R = R} fs ≡ map.insert (map.from_sorted es) k v
   from_sorted-put o es fs k v before after is =
       map.same_entries_map _ _
       (map.entries-from_sorted R fs after
@@ -109,7 +111,8 @@ module _ {V : Type 0} (R : Bytes → Bytes → Ordering) (o : IsTotalOrder R) wh
   length-keys [] = refl
   length-keys (e ∷ es) = ap suc (length-keys es)
 
-  next-keys : (es : List (Bytes × V)) (k : ℕ) (d : Bytes × V) → R (get_or (keys_of es) k d.0) (get_or (keys_of es) (k + 1) d.0) ≡ R (get_or es k d).0 (get_or es (k + 1) d).0
+  next-keys : (es : List (Bytes × V)) (k : ℕ) (d : Bytes × V)
+      → R (get_or (keys_of es) k d.0) (get_or (keys_of es) (k + 1) d.0) ≡ R (get_or es k d).0 (get_or es (k + 1) d).0
   next-keys es k d i = R (get_or-keys es k d i) (get_or-keys es (k + 1) d i)
 
   -- keys rise exactly where each is below the next

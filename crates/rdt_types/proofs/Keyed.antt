@@ -5,7 +5,8 @@ use Rattle.std.specs.List.{list_all}
 use Rattle.std.specs.FinMap as map
 use Rattle.plain_data.specs.Texts.{Bytes, text_cmp, MapOf}
 use Rattle.plain_data.specs.Overlays.{overlaid, with_at, found_after}
-use Rattle.plain_data.proofs.Overlays.{same_map, get-overlaid, entries-empty, len-one, overlaid-none, overlaid-one, get-all, all-get, some-len, len-some, Some_is}
+use Rattle.plain_data.proofs.Overlays.{same_map, get-overlaid, entries-empty, len-one, overlaid-none, overlaid-one, get-all, all-get}
+use Rattle.plain_data.proofs.Overlays.{some-len, len-some, Some_is}
 use Rattle.rdt_types.specs.Keyed.{Keyed, of_parts, marking, clearing, has_form, applied, mark_after, composed}
 
 module _ {M V : Type 0} (left : M → Option V) where
@@ -19,7 +20,8 @@ module _ {M V : Type 0} (left : M → Option V) where
 
   -- what a mark leaves after one that may stand at its key too
   in_turn : (cleared : Bool) (later earlier : Option M) (before : Option V)
-      → found_after left (found_after (mark_after left cleared) later earlier) (cond cleared None before) ≡ found_after left later (found_after left earlier (cond cleared None before))
+      → found_after left (found_after (mark_after left cleared) later earlier) (cond cleared None before)
+      ≡ found_after left later (found_after left earlier (cond cleared None before))
   in_turn cleared None earlier before = refl
   in_turn false (Some mark) earlier before = refl
   in_turn true (Some mark) earlier before = by (left mark) refl
@@ -32,7 +34,9 @@ module _ {M V : Type 0} (left : M → Option V) where
   begun-get true m q = map.get-empty text_cmp q
   begun-get false m q = refl
 
-  applied-fields : (d : Keyed M) (cleared : Bool) (marks : MapOf M) (m : MapOf V) → applied left (composed left d (record { cleared = cleared; marks = marks })) m ≡ applied left (record { cleared = cleared; marks = marks }) (applied left d m)
+  applied-fields : (d : Keyed M) (cleared : Bool) (marks : MapOf M) (m : MapOf V)
+      → applied left (composed left d (record { cleared = cleared; marks = marks })) m
+      ≡ applied left (record { cleared = cleared; marks = marks }) (applied left d m)
   applied-fields d true marks m = refl
   applied-fields d false marks m =
       same_map _ _
@@ -95,12 +99,14 @@ module _ {M V : Type 0} (left : M → Option V) where
   kept mark other true e is = subst (λ x. T (is_some (left x))) (Some_is mark other is) (subst T (sym e) tt)
   kept mark other false e is = absurd (cc)
 
-  form-fields : (d : Keyed M) (marks : MapOf M) (cleared : Bool) → d.cleared ≡ cleared → T (has_form left (record { cleared = cleared; marks = d.marks })) → T (has_form left (record { cleared = false; marks = marks }))
+  form-fields : (d : Keyed M) (marks : MapOf M) (cleared : Bool) → d.cleared ≡ cleared
+      → T (has_form left (record { cleared = cleared; marks = d.marks })) → T (has_form left (record { cleared = false; marks = marks }))
       → T (has_form left (record { cleared = cleared; marks = overlaid (mark_after left cleared) d.marks marks }))
   form-fields d marks true is first second =
       all-get leaving _ (λ q mark found. by q mark (map.get marks q) refl (sym (get-overlaid (mark_after left true) d.marks marks q) ∙ found))
     where
-      by : (q : Bytes) (mark : M) (later : Option M) → map.get marks q ≡ later → found_after (mark_after left true) later (map.get d.marks q) ≡ Some mark → T (leaving mark)
+      by : (q : Bytes) (mark : M) (later : Option M) → map.get marks q ≡ later
+          → found_after (mark_after left true) later (map.get d.marks q) ≡ Some mark → T (leaving mark)
       by q mark None e found = get-all leaving d.marks q mark first found
       by q mark (Some later) e found = kept later mark (is_some (left later)) refl found
   form-fields d marks false is first second =
@@ -108,5 +114,7 @@ module _ {M V : Type 0} (left : M → Option V) where
       some-len _ one.0 one.1 (get-overlaid (mark_after left false) d.marks marks one.0 ∙ ap (λ o. found_after (mark_after left false) o (map.get d.marks one.0)) one.2)
 
   -- what is composed with a delta that doesn't clear keeps the form
-  pub form-composed : (d e : Keyed M) → e.cleared ≡ false → T (has_form left d) → T (has_form left e) → T (has_form left (record { cleared = d.cleared; marks = overlaid (mark_after left d.cleared) d.marks e.marks }))
-  form-composed d e is first second = form-fields d e.marks d.cleared refl first (subst (λ b. T (has_form left (record { cleared = b; marks = e.marks }))) is second)
+  pub form-composed : (d e : Keyed M) → e.cleared ≡ false → T (has_form left d) → T (has_form left e)
+      → T (has_form left (record { cleared = d.cleared; marks = overlaid (mark_after left d.cleared) d.marks e.marks }))
+  form-composed d e is first second =
+      form-fields d e.marks d.cleared refl first (subst (λ b. T (has_form left (record { cleared = b; marks = e.marks }))) is second)

@@ -64,4 +64,5 @@ associates first second third (hashes d e) (hashes e' f) = ap delta.Hash (keyed.
 associates first second third (lists d e) (lists e' f) = ap delta.List (listed.composed-composed d e f)
 
 pub compositions_associate : CompositionsAssociate
-compositions_associate first second third same also = associates first second third (of_one_kind first second same) (of_one_kind second third also)
+compositions_associate first second third same also =
+    associates first second third (of_one_kind first second same) (of_one_kind second third also)

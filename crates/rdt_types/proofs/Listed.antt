@@ -1,5 +1,6 @@
 -- Deltas of lists: their composition is one after the other, and keeps their form.
-use Rattle.std.proofs.Common.{◌≡◌, nat_eq, Bool, true, false, not, ◌||◌, cond, T, Option, Some, None, List, [], ◌∷◌, ◌++◌, length, refl, sym, ap, ◌∙◌, subst, append_assoc, append-nil}
+use Rattle.std.proofs.Common.{◌≡◌, nat_eq, Bool, true, false, not, ◌||◌, cond, T, Option, Some, None, List, [], ◌∷◌, ◌++◌, length, refl, sym}
+use Rattle.std.proofs.Common.{ap, ◌∙◌, subst, append_assoc, append-nil}
 use Rattle.std.specs.Option.{is_some}
 use Rattle.std.specs.List.{filter}
 use Rattle.std.specs.Ordering.{eq_by_cmp}
@@ -19,17 +20,22 @@ filter-append : (p : Bytes → Bool) (xs ys : List Bytes) → filter p (xs ++ ys
 filter-append p [] ys = refl
 filter-append p (x ∷ xs) ys = by (filter-append p xs ys) (p x)
   where
-    by : filter p (xs ++ ys) ≡ filter p xs ++ filter p ys → (b : Bool) → cond b (x ∷ filter p (xs ++ ys)) (filter p (xs ++ ys)) ≡ cond b (x ∷ filter p xs) (filter p xs) ++ filter p ys
+    by : filter p (xs ++ ys) ≡ filter p xs ++ filter p ys → (b : Bool)
+        → cond b (x ∷ filter p (xs ++ ys)) (filter p (xs ++ ys)) ≡ cond b (x ∷ filter p xs) (filter p xs) ++ filter p ys
     by rest true = ap (λ zs. x ∷ zs) rest
     by rest false = rest
 
 -- where nothing is taken out all items stay
 pub without-none : (items : List Bytes) → without map.empty items ≡ items
 without-none [] = refl
-without-none (x ∷ xs) = (λ i. cond (not (is_some (map.get-empty {X = Unit {0}} text_cmp x i))) (x ∷ without map.empty xs) (without map.empty xs)) ∙ ap (λ ys. x ∷ ys) (without-none xs)
+without-none (x ∷ xs) =
+    (λ i. cond (not (is_some (map.get-empty {X = Unit {0}} text_cmp x i))) (x ∷ without map.empty xs) (without map.empty xs))
+    ∙ ap (λ ys. x ∷ ys) (without-none xs)
 
 has-one : (text item : Bytes) → has_text (with_text map.empty text) item ≡ eq_by_cmp text_cmp item text
-has-one text item = ap is_some (map.get-insert nat_list_cmp_total map.empty text tt item ∙ ap (cond (eq_by_cmp text_cmp item text) (Some tt)) (map.get-empty text_cmp item)) ∙ by (eq_by_cmp text_cmp item text)
+has-one text item =
+    ap is_some (map.get-insert nat_list_cmp_total map.empty text tt item ∙ ap (cond (eq_by_cmp text_cmp item text) (Some tt)) (map.get-empty text_cmp item))
+    ∙ by (eq_by_cmp text_cmp item text)
   where
     by : (b : Bool) → is_some (cond {A = Option (Unit {0})} b (Some tt) None) ≡ b
     by true = refl
@@ -58,20 +64,25 @@ without-union some more (x ∷ xs) =
     ∙ by (has_text some x) (has_text more x) refl (without-union some more xs)
   where
     by : (a b : Bool) → has_text more x ≡ b → without (union some more) xs ≡ without more (without some xs)
-        → cond (not (a || b)) (x ∷ without (union some more) xs) (without (union some more) xs) ≡ without more (cond (not a) (x ∷ without some xs) (without some xs))
+        → cond (not (a || b)) (x ∷ without (union some more) xs) (without (union some more) xs)
+        ≡ without more (cond (not a) (x ∷ without some xs) (without some xs))
     by true b e rest = rest
     by false true e rest = rest ∙ ap (λ c. cond (not c) (x ∷ without more (without some xs)) (without more (without some xs))) (sym e)
-    by false false e rest = ap (λ ys. x ∷ ys) rest ∙ ap (λ c. cond (not c) (x ∷ without more (without some xs)) (without more (without some xs))) (sym e)
+    by false false e rest =
+        ap (λ ys. x ∷ ys) rest
+        ∙ ap (λ c. cond (not c) (x ∷ without more (without some xs)) (without more (without some xs))) (sym e)
 
 applied-fields : (d : Listed) (cleared : Bool) (removed : SetOfTexts) (pushed items : List Bytes)
-    → applied (composed d (record { cleared = cleared; removed = removed; pushed = pushed })) items ≡ applied (record { cleared = cleared; removed = removed; pushed = pushed }) (applied d items)
+    → applied (composed d (record { cleared = cleared; removed = removed; pushed = pushed })) items
+    ≡ applied (record { cleared = cleared; removed = removed; pushed = pushed }) (applied d items)
 applied-fields d true removed pushed items = refl
 applied-fields d false removed pushed items =
     ap (λ xs. xs ++ (without removed d.pushed ++ pushed)) (begun d.cleared)
     ∙ sym (append_assoc (without removed (cond d.cleared [] (without d.removed items))) (without removed d.pushed) pushed)
     ∙ ap (λ xs. xs ++ pushed) (sym (filter-append (λ item. not (has_text removed item)) (cond d.cleared [] (without d.removed items)) d.pushed))
   where
-    begun : (b : Bool) → cond b [] (without (cond b map.empty (union d.removed removed)) items) ≡ without removed (cond b [] (without d.removed items))
+    begun : (b : Bool)
+        → cond b [] (without (cond b map.empty (union d.removed removed)) items) ≡ without removed (cond b [] (without d.removed items))
     begun true = refl
     begun false = without-union d.removed removed items
 
@@ -90,7 +101,8 @@ union-union first second third =
     ∙ ap (λ o. found_after (λ u. Some u) o (map.get first q)) (sym (get-overlaid (λ u. Some u) second third q))
     ∙ sym (get-overlaid (λ u. Some u) first (union second third) q))
   where
-    by : (c b a : Option (Unit {0})) → found_after (λ u. Some u) c (found_after (λ u. Some u) b a) ≡ found_after (λ u. Some u) (found_after (λ u. Some u) c b) a
+    by : (c b a : Option (Unit {0}))
+        → found_after (λ u. Some u) c (found_after (λ u. Some u) b a) ≡ found_after (λ u. Some u) (found_after (λ u. Some u) c b) a
     by None b a = refl
     by (Some u) b a = refl
 
@@ -106,7 +118,8 @@ pushed-composed second third items pushed more =
 pub composed-composed : (d e f : Listed) → composed (composed d e) f ≡ composed d (composed e f)
 composed-composed d e f = by e.cleared e.removed e.pushed f.cleared f.removed f.pushed
   where
-    removed_by : (b : Bool) (r s : SetOfTexts) → cond b map.empty (union (cond b map.empty (union d.removed r)) s) ≡ cond b map.empty (union d.removed (union r s))
+    removed_by : (b : Bool) (r s : SetOfTexts)
+        → cond b map.empty (union (cond b map.empty (union d.removed r)) s) ≡ cond b map.empty (union d.removed (union r s))
     removed_by true r s = refl
     removed_by false r s = union-union d.removed r s
 
@@ -141,19 +154,24 @@ either true b false d first second h = absurd (first tt)
 either false b true d first second h = tt
 either false b false d first second h = second h
 
-form-fields : (d : Listed) (cleared : Bool) (removed : SetOfTexts) (pushed : List Bytes) → T (has_form (record { cleared = false; removed = removed; pushed = pushed }))
+form-fields : (d : Listed) (cleared : Bool) (removed : SetOfTexts) (pushed : List Bytes)
+    → T (has_form (record { cleared = false; removed = removed; pushed = pushed }))
     → T (has_form (record { cleared = cleared; removed = cond cleared map.empty (union d.removed removed); pushed = without removed d.pushed ++ pushed }))
 form-fields d true removed pushed second = form-clearing
-form-fields d false removed pushed second = either _ _ _ _ (some-union d.removed removed) (some-append (without removed d.pushed) pushed) second
+form-fields d false removed pushed second =
+    either _ _ _ _ (some-union d.removed removed) (some-append (without removed d.pushed) pushed) second
 
 -- what is composed with a delta that doesn't clear keeps the form
 pub form-composed : (d e : Listed) → e.cleared ≡ false → T (has_form e)
     → T (has_form (record { cleared = d.cleared; removed = cond d.cleared map.empty (union d.removed e.removed); pushed = without e.removed d.pushed ++ e.pushed }))
-form-composed d e is second = form-fields d d.cleared e.removed e.pushed (subst (λ b. T (has_form (record { cleared = b; removed = e.removed; pushed = e.pushed }))) is second)
+form-composed d e is second =
+    form-fields d d.cleared e.removed e.pushed (subst (λ b. T (has_form (record { cleared = b; removed = e.removed; pushed = e.pushed }))) is second)
 
 -- the same of what is made part by part
-pub form-made : (d e : Listed) (removed : SetOfTexts) (kept pushed : List Bytes) → e.cleared ≡ false → T (has_form e) → removed ≡ cond d.cleared map.empty (union d.removed e.removed)
-    → kept ≡ without e.removed d.pushed → pushed ≡ kept ++ e.pushed → T (has_form (record { cleared = d.cleared; removed = removed; pushed = pushed }))
+pub form-made : (d e : Listed) (removed : SetOfTexts) (kept pushed : List Bytes) → e.cleared ≡ false → T (has_form e)
+    → removed ≡ cond d.cleared map.empty (union d.removed e.removed)
+    → kept ≡ without e.removed d.pushed → pushed ≡ kept ++ e.pushed
+    → T (has_form (record { cleared = d.cleared; removed = removed; pushed = pushed }))
 form-made d e removed kept pushed is second removed-is kept-is pushed-is =
     subst (λ (texts : SetOfTexts). T (has_form (record { cleared = d.cleared; removed = texts; pushed = pushed }))) (sym removed-is)
     (subst (λ (items : List Bytes). T (has_form (record { cleared = d.cleared; removed = cond d.cleared map.empty (union d.removed e.removed); pushed = items })))

@@ -88,7 +88,8 @@ DeltasWrite = (o : WriteOp) (v : Value) → apply (delta_of o) v ≡ write o v
 
 -- a composition of two deltas of one kind, applied, is one delta after the other
 abbrev pub CompositionsApplyInTurn : Type 0
-CompositionsApplyInTurn = (first second : Delta) (v : Value) → kind_changed first ≡ kind_changed second → apply (compose first second) v ≡ apply second (apply first v)
+CompositionsApplyInTurn =
+    (first second : Delta) (v : Value) → kind_changed first ≡ kind_changed second → apply (compose first second) v ≡ apply second (apply first v)
 
 -- of three deltas of one kind it is one which two are composed first
 abbrev pub CompositionsAssociate : Type 0
