@@ -1,5 +1,5 @@
 -- The bytes that tokens are made of.
-use Rattle.std.specs.Prelude.{ℕ, Bool, not, ◌&&◌, ◌||◌, ◌==◌, nat_le, List}
+use Rattle.std.specs.Prelude.{ℕ, Bool, ◌&&◌, ◌||◌, ◌==◌, nat_le, List}
 
 abbrev pub Text : Type 0
 Text = List ℕ
@@ -23,15 +23,3 @@ is_blank b = b == 32 || b == 9 || b == 13
 -- `"`
 abbrev pub is_quote : ℕ → Bool
 is_quote b = b == 34
-
--- `\`
-abbrev pub is_backslash : ℕ → Bool
-is_backslash b = b == 92
-
--- the `x` of a hexadecimal escape
-abbrev pub is_hex_mark : ℕ → Bool
-is_hex_mark b = b == 120
-
--- What stands for itself between quotes: all bytes but those below 32, 127, `"` and `\`.
-abbrev pub is_plain : ℕ → Bool
-is_plain b = nat_le 32 b && not (b == 127) && not (is_quote b) && not (is_backslash b)
