@@ -31,7 +31,7 @@ use Rattle.txn_grammar.specs.Grammar as rule
 use Rattle.txn_grammar.specs.Grammar.{Word, NumberLeaf, TextLeaf, TruthLeaf, NameLeaf, LeafRule, Further, Chain, OtherSide, Comparison, ComparisonOf, ExpressionOf, Negative, Not, InParens, Group, Len, Str, AfterComma, Elements, Texts, Times, Arguments, Targeted, Read, Opened, UnaryOf, Unary, Negation, Expression}
 use Rattle.txn_grammar.specs.code.Forms.{of_next, chosen, at_spot, leaf_of, leaf_at, opener_of, opener_at}
 use Rattle.txn_grammar.specs.code.Reader.{word, sees, number_leaf, text_leaf, truth_leaf, name_leaf, leaf_read, a_leaf, begins_operator, further, chain, begins_relation, other_side, comparison, comparison_of, expression_of, negative, not_read, in_parens, group, len, str, after_comma, elements, any_elements, texts, times, arguments_read, targeted, read, opened_read, opened, unary_of, negation_of, unary, negation, expression}
-use Rattle.txn_grammar.proofs.Choices.{AnyOf, chosen_fits, fits_as}
+use Rattle.txn_grammar.proofs.Choices.{AnyOf, chosen_fits}
 use Rattle.txn_grammar.proofs.TokenFits.{OfSymbol, made_at, ahead_of_word, ahead_seen, ahead_of_symbol, word_fits, number_fits, text_fits, name_fits, truth_fits, operator_fits, relation_fits, kind_fits, read_fits as read_word_fits}
 use Rattle.txn_grammar.proofs.Ends.{product_end, sum_end, comparison_end, conjunction_end, expression_end, plus_ends_product, relation_ends_sum, and_ends_comparison, or_ends_conjunction, begins_leaf, begins_opened, begins_unary, begins_expression, leaf_opens_nothing, unary_no_not, expression_no_close}
 
@@ -96,8 +96,8 @@ from_leaf ts us a (inr (inr (inr r))) = (leaf.Name, r)
 
 pub leaf_fits : Fits Spelled a_leaf LeafRule any
 unfolding a_leaf
-leaf_fits = fits_as Spelled a_leaf (AnyOf leaf_branch) LeafRule any to_leaf from_leaf
-    (chosen_fits Spelled leaf_at leaf.Name leaf_read leaf_branch any leaf_branch_fits leaf_begun)
+leaf_fits = chosen_fits Spelled leaf_at leaf.Name leaf_read leaf_branch any leaf_branch_fits leaf_begun
+    LeafRule to_leaf from_leaf
 
 -- what is told begins something
 pub told : {B : Type 0} (f : Spot → Option B) (h : Option Spot) (b : B) → of_next f h ≡ Some b → begins f h ≡ true
@@ -321,8 +321,8 @@ module _ (u : Reader Spot Expr) (U : Rule Spot Expr) (fu : Fits Spelled u U any)
 
   opened_fits : Fits Spelled (opened u e) (Opened U E) any
   unfolding opened
-  opened_fits = fits_as Spelled _ (AnyOf (opened_branch U E)) (Opened U E) any (to_opened U E) (from_opened U E)
-      (chosen_fits Spelled opener_at opener.Read (opened_read u e) (opened_branch U E) any opened_branch_fits (opened_begun U E))
+  opened_fits = chosen_fits Spelled opener_at opener.Read (opened_read u e) (opened_branch U E) any opened_branch_fits (opened_begun U E)
+      (Opened U E) (to_opened U E) (from_opened U E)
 
   unary_of_fits : Fits Spelled (unary_of u e) (UnaryOf U E) any
   unfolding unary_of

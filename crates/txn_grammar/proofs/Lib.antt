@@ -4,3 +4,4 @@ pub mod Ends
 pub mod ExpressionFits
 pub mod StatementFits
 pub mod Parses
+pub mod Values

@@ -1,9 +1,11 @@
 -- Whole texts.
-use Rattle.std.proofs.Common.{◌≡◌, ℕ, ◌+◌, true, length, List, ◌∷◌, [], ◌++◌, Option, Some, None, Result, Ok, Err, refl, ap, sym, ◌∙◌, subst, append_assoc, append-nil}
+use Rattle.std.proofs.Common.{◌≡◌, ℕ, ◌+◌, true, length, List, ◌∷◌, [], ◌++◌, Option, Some, None, Result, Ok, Err, refl, ap, sym, ◌∙◌, subst, drop, arith, append_assoc, append-nil}
+use Rattle.std.proofs.Math.Seq.{drop-append_seam}
 use Rattle.txn_trees.specs.declared.statement.Body.{Body}
 use Rattle.predictive_parsing.specs.Reading.{whole}
 use Rattle.predictive_parsing.specs.Fits.{unless}
 use Rattle.predictive_parsing.specs.Stops.{StopsAt, NoFurther}
+use Rattle.predictive_parsing.proofs.Columns.{one_column}
 use Rattle.predictive_parsing.proofs.Wholes.{whole_sound, whole_complete, whole_unique, whole_stops}
 use Rattle.txn_grammar.specs.declared.limit.TheConstants.{DEEPEST}
 use Rattle.txn_grammar.specs.declared.token.Spot.{Spot}
@@ -64,3 +66,16 @@ no_body ts before (s ∷ rest) e none b r = none rest b (subst (λ xs. IsBody xs
 -- and a body has none
 pub column_no_body : (z : Text) (column : ℕ) (b : Body) → IsSyntaxColumn z column → IsBody (lex z) b → ⊥
 column_no_body z column b x r = no_body (lex z) x.stops.before x.rest x.stops.cut x.stops.no_further b r
+
+-- what is left where a text stops is what its tokens have there
+rest_is : (ts before rest : List Spot) → ts ≡ before ++ rest → rest ≡ drop (length before) ts
+rest_is ts before rest e = sym (ap (drop (length before)) e ∙ drop-append_seam before rest)
+
+-- so the column is the only one
+pub column_unique : (z : Text) (c d : ℕ) → IsSyntaxColumn z c → IsSyntaxColumn z d → c ≡ d
+column_unique z c d x y =
+    let k = one_column Spelled BodyRule (lex z) (length x.stops.before + 1) (length y.stops.before + 1)
+        (record { rest = x.rest; stops = x.stops; place = refl }) (record { rest = y.rest; stops = y.stops; place = refl }) in
+    let l : length x.stops.before ≡ length y.stops.before = omega arith in
+    let m = rest_is (lex z) x.stops.before x.rest x.stops.cut ∙ ap (λ n. drop n (lex z)) l ∙ sym (rest_is (lex z) y.stops.before y.rest y.stops.cut) in
+    x.place ∙ ap (first_column (length z + 1)) m ∙ sym y.place

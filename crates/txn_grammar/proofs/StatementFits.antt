@@ -24,7 +24,7 @@ use Rattle.txn_grammar.specs.Trees.{stmt_at, write_stmt, body_of}
 use Rattle.txn_grammar.specs.Grammar.{Word, Expression, LetStmt, EmitStmt, FailStmt, SimpleStmt, Block, Otherwise, IfStmt, ForStmt, WriteStmt, NestingStmt, Statement, BodyRule}
 use Rattle.txn_grammar.specs.code.Forms.{of_next, simple_at, nesting_at}
 use Rattle.txn_grammar.specs.code.Reader.{sees, expression, let_stmt, emit_stmt, fail_stmt, simple_read, simple_stmt, begins_simple, begins_nesting, begins_statement, block, otherwise_read, if_stmt, for_stmt, write_stmt_read, nesting_read, nesting_stmt, statement, body}
-use Rattle.txn_grammar.proofs.Choices.{AnyOf, chosen_fits, fits_as}
+use Rattle.txn_grammar.proofs.Choices.{AnyOf, chosen_fits}
 use Rattle.txn_grammar.proofs.TokenFits.{ahead_of_word, ahead_of_symbol, word_fits, name_fits, write_fits}
 use Rattle.txn_grammar.proofs.Ends.{expression_end, statement_end, begins_expression, nesting_not_simple, statement_goes, statement_none, statement_no_close}
 use Rattle.txn_grammar.proofs.ExpressionFits.{told, in_parens_fits, arguments_fits, targeted_fits, expression_fits, expression_begins}
@@ -73,8 +73,8 @@ module _ (e : Reader Spot Expr) (E : Rule Spot Expr) (fe : Fits Spelled e E expr
 
   simple_fits : Fits Spelled (simple_stmt e) (SimpleStmt E) any
   unfolding simple_stmt
-  simple_fits = fits_as Spelled _ (AnyOf (simple_branch E)) (SimpleStmt E) any to_simple from_simple
-      (chosen_fits Spelled simple_at simple.Emit (simple_read e) (simple_branch E) any simple_branch_fits simple_begun)
+  simple_fits = chosen_fits Spelled simple_at simple.Emit (simple_read e) (simple_branch E) any simple_branch_fits simple_begun
+      (SimpleStmt E) to_simple from_simple
 
 -- ---- blocks
 
@@ -176,8 +176,8 @@ module _ (e : Reader Spot Expr) (E : Rule Spot Expr) (fe : Fits Spelled e E expr
 
   nesting_fits : Fits Spelled (nesting_stmt e a starts p) (NestingStmt E A P) statement_end
   unfolding nesting_stmt
-  nesting_fits = fits_as Spelled _ (AnyOf (nesting_branch E A P)) (NestingStmt E A P) statement_end (to_nesting E A P) (from_nesting E A P)
-      (chosen_fits Spelled nesting_at nesting.Write (nesting_read e a starts p) (nesting_branch E A P) statement_end nesting_branch_fits (nesting_begun E A P))
+  nesting_fits = chosen_fits Spelled nesting_at nesting.Write (nesting_read e a starts p) (nesting_branch E A P) statement_end nesting_branch_fits (nesting_begun E A P)
+      (NestingStmt E A P) (to_nesting E A P) (from_nesting E A P)
 
 -- ---- statements, by the levels that are left
 

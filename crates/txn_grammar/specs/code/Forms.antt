@@ -1,6 +1,6 @@
 -- What a token begins: the choices of the reader. The law `parsed_is_body` ties all that is read by them to the grammar.
 use Rattle.std.specs.Prelude.{Option, Some, None, unwrap_or}
-use Rattle.predictive_parsing.specs.Reading.{Reader, next}
+use Rattle.predictive_parsing.specs.Reading.{Reader, guided}
 use Rattle.txn_grammar.specs.declared.form.Leaf.{Leaf}
 use Rattle.txn_grammar.specs.declared.form.Leaf.TheVariants as leaf
 use Rattle.txn_grammar.specs.declared.form.Opener.{Opener}
@@ -25,7 +25,7 @@ of_next f (Some item) = f item
 
 -- the branch that the item ahead begins, or else this one, which refuses it
 abbrev pub chosen : {I A B : Type 0} → (I → Option B) → B → (B → Reader I A) → Reader I A
-chosen f other branches = λ ts. branches (unwrap_or (of_next f (next ts)) other) ts
+chosen f other branches = guided (λ ahead. unwrap_or (of_next f ahead) other) branches
 
 -- what f makes of the token at a spot
 abbrev pub at_spot : {B : Type 0} → (Token → Option B) → Spot → Option B

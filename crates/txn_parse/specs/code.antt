@@ -1,0 +1,2 @@
+-- Definitions that mirror code. Nobody has to judge by them.
+pub mod Nests

@@ -1,0 +1,9 @@
+//! Reads the bodies of transactions.
+#![tactic(auto)]
+
+mod grammar;
+mod place;
+mod token;
+mod tree;
+
+pub(crate) type Stop = plain_data::OrNoMemory<predictive_parsing::Refused>;
