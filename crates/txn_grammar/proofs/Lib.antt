@@ -5,3 +5,4 @@ pub mod ExpressionFits
 pub mod StatementFits
 pub mod Parses
 pub mod Values
+pub mod Cuts

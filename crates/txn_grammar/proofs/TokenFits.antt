@@ -12,8 +12,9 @@ use Rattle.predictive_parsing.specs.Reading.{next, is_made, begins, one, turns, 
 use Rattle.predictive_parsing.specs.Rules.{One}
 use Rattle.predictive_parsing.specs.Fits.{Fits, any}
 use Rattle.predictive_parsing.proofs.Combined.{one_fits}
-use Rattle.dtext.specs.Reading.{byte, hexadecimal, escape, piece, pieces} 
-use Rattle.dtext.specs.Reading as texts
+use Rattle.predictive_parsing.specs.Bytes.{byte}
+use Rattle.dtext.specs.code.Reading.{pieces}
+use Rattle.dtext.specs.code.Reading as texts
 use Rattle.txn_grammar.specs.declared.rank.Rank.{Rank}
 use Rattle.txn_grammar.specs.declared.rank.Rank.TheVariants as rank
 use Rattle.txn_grammar.specs.declared.symbol.Symbol.{Symbol}

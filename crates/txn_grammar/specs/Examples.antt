@@ -1,7 +1,8 @@
 -- Texts, cut and read.
 use Rattle.std.specs.Prelude.{◌≡◌, [], ◌∷◌, codes, pos, refl}
 use Rattle.predictive_parsing.specs.Reading.{one, turns, many}
-use Rattle.dtext.specs.Reading.{byte, hexadecimal, escape, piece, pieces, text}
+use Rattle.predictive_parsing.specs.Bytes.{byte}
+use Rattle.dtext.specs.code.Reading.{hexadecimal, escape, piece, pieces, text}
 use Rattle.txn_grammar.specs.declared.symbol.Symbol.TheVariants as s
 use Rattle.txn_grammar.specs.declared.token.Token.TheVariants as t
 use Rattle.txn_grammar.specs.Spellings.{reserved_word, mark}

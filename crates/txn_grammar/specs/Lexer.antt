@@ -1,15 +1,16 @@
 -- The tokens of a text. Each is the longest that fits; blanks separate tokens and mean nothing else.
-use Rattle.std.specs.Prelude.{◌≡◌, ℕ, zero, suc, ◌+◌, ◌-◌, Bool, true, false, if◌then◌else◌, nat_lt, List, [], ◌∷◌, length, take, slice_index, ℤ, Option, Some, None, Ok, Err}
+use Rattle.std.specs.Prelude.{◌≡◌, ℕ, zero, suc, ◌+◌, ◌-◌, ◌==◌, Bool, true, false, if◌then◌else◌, nat_lt, List, [], ◌∷◌, length, take, slice_index, ℤ, Option, Some, None, Ok, Err}
 use Rattle.std.specs.List.{prefix_len}
 use Rattle.predictive_parsing.specs.Reading.{Outcome}
-use Rattle.dtext.specs.Reading.{text}
+use Rattle.dtext.specs.Characters.{is_letter, is_digit, is_word, is_blank}
+use Rattle.dtext.specs.code.Reading.{text}
 use Rattle.txn_grammar.specs.declared.limit.TheConstants.{LONGEST_NAME}
 use Rattle.txn_grammar.specs.declared.symbol.Symbol.{Symbol}
 use Rattle.txn_grammar.specs.declared.token.Token.{Token}
 use Rattle.txn_grammar.specs.declared.token.Token.TheVariants as t
 use Rattle.txn_grammar.specs.declared.token.Spot.{Spot}
 use Rattle.txn_grammar.specs.declared.token.Lexeme.{Lexeme}
-use Rattle.txn_grammar.specs.Characters.{Text, is_letter, is_digit, is_word, is_blank, is_quote}
+use Rattle.txn_grammar.specs.Characters.{Text}
 use Rattle.txn_grammar.specs.Spellings.{reserved_word, mark}
 use Rattle.txn_grammar.specs.Numbers.{number_value}
 
@@ -56,12 +57,12 @@ mark_lexeme None short = short_lexeme short
 unfoldable pub mark_at : Text → Lexeme
 mark_at z = mark_lexeme (if nat_lt (length z) 2 then None else mark (take 2 z)) (mark (take 1 z))
 
--- the token at the front, where no blank stands
+-- the token at the front, where no blank stands; 34 is `"`
 unfoldable pub token_at : Text → Lexeme
 token_at z =
     if is_letter (slice_index z 0) then word_at z
     else (if is_digit (slice_index z 0) then number_at z
-    else (if is_quote (slice_index z 0) then text_at z
+    else (if slice_index z 0 == 34 then text_at z
     else mark_at z))
 
 abbrev pub spot : ℕ → Token → Spot

@@ -4,6 +4,7 @@
 mod error;
 mod form;
 mod laws;
+mod lexer;
 mod meaning;
 mod spelling;
 mod limit;
@@ -17,6 +18,7 @@ mod token;
 pub use error::ReadError;
 pub use form::{Leaf, Nesting, Opener, Simple};
 pub use laws::{parsed_is_body, syntax_columns};
+pub use lexer::tokens;
 pub use limit::{DEEPEST, LARGEST, LONGEST_NAME};
 pub use meaning::{is_symbol, kind_at, leaf_of, nesting_of, number_of, opener_of, operator_at, read_at, relation_at, simple_of, truth_at, write_at};
 pub use operation::{Operation, READS, WRITES};
