@@ -90,7 +90,7 @@ cuts c (b ∷ z) l e =
     let k : (c + 1) + (n - 1) ≡ c + n = omega arith in
     at_blank c b z false e
     ∙ ap (λ xs. spot c (token_at (b ∷ z)).token ∷ behind (token_at (b ∷ z)) xs)
-        (skips (c + 1) (n - 1) z ∙ ap (λ m. lex_from m 0 (drop (n - 1) z)) k ∙ ap (λ xs. lex_from (c + n) 0 xs) (drop_less n b z some))
+    (skips (c + 1) (n - 1) z ∙ ap (λ m. lex_from m 0 (drop (n - 1) z)) k ∙ ap (λ xs. lex_from (c + n) 0 xs) (drop_less n b z some))
 
 blanks : (c : ℕ) (z : Text) → 0 < length z → is_blank (slice_index z 0) ≡ true → lex_from c 0 z ≡ lex_from (c + 1) 0 (drop 1 z)
 blanks c [] l e = absurd (omega arith)

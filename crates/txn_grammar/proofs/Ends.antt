@@ -1,10 +1,8 @@
 -- What may follow an expression of each rank, and what expressions begin with.
-use Rattle.std.proofs.Common.{◌≡◌, ℕ, zero, suc, Bool, true, false, ◌||◌, ◌⊎◌, inl, inr, List, ◌∷◌, [], Option, Some, None, refl, ap, sym, ◌∙◌}
-use Rattle.predictive_parsing.specs.Reading.{next, is_made, begins}
+use Rattle.std.proofs.Common.{◌≡◌, ℕ, zero, suc, Bool, true, false, ◌||◌, ◌⊎◌, inl, inr, Option, Some, None, refl}
+use Rattle.predictive_parsing.specs.Reading.{is_made, begins}
 use Rattle.predictive_parsing.specs.Fits.{any, unless}
 use Rattle.txn_grammar.specs.declared.rank.Rank.TheVariants as rank
-use Rattle.txn_grammar.specs.declared.form.Leaf.{Leaf}
-use Rattle.txn_grammar.specs.declared.form.Leaf.TheVariants as leaf
 use Rattle.txn_grammar.specs.declared.symbol.Symbol.{Symbol}
 use Rattle.txn_grammar.specs.declared.symbol.Symbol.TheVariants as s
 use Rattle.txn_grammar.specs.declared.token.Token.{Token}
@@ -12,8 +10,8 @@ use Rattle.txn_grammar.specs.declared.token.Token.TheVariants as t
 use Rattle.txn_grammar.specs.declared.token.Spot.{Spot}
 use Rattle.txn_grammar.specs.Spellings.{same_symbol}
 use Rattle.txn_grammar.specs.Lexer.{spot}
-use Rattle.txn_grammar.specs.Tokens.{of_symbol, operator_of, relation_of}
-use Rattle.txn_grammar.specs.code.Forms.{at_spot, leaf_of, leaf_at, opener_of, opener_at, simple_of, simple_at, nesting_of, nesting_at}
+use Rattle.txn_grammar.specs.Tokens.{operator_of, relation_of}
+use Rattle.txn_grammar.specs.code.Forms.{leaf_at, opener_at}
 use Rattle.txn_grammar.specs.code.Reader.{sees, begins_operator, begins_relation, begins_simple, begins_nesting, begins_statement}
 
 -- ---- what follows

@@ -1,12 +1,10 @@
 -- Expressions: each production is read as its rule says.
-use Rattle.std.proofs.Common.{◌≡◌, ℕ, zero, suc, Bool, true, false, not, ◌&&◌, ◌||◌, List, ◌∷◌, [], Option, Some, None, refl, ap, sym, ◌∙◌, inl, inr}
-use Rattle.rdt_types.specs.declared.address.Kind.{Kind}
+use Rattle.std.proofs.Common.{◌≡◌, ℕ, zero, suc, Bool, true, not, ◌||◌, List, ◌∷◌, [], Option, Some, None, refl, ap, ◌∙◌, inl, inr}
 use Rattle.txn_trees.specs.declared.expression.Expr.{Expr}
 use Rattle.txn_trees.specs.declared.expression.ExprNode.TheVariants as node
-use Rattle.txn_trees.specs.declared.expression.Operand.{Operand}
 use Rattle.txn_trees.specs.declared.word.Relation.{Relation}
 use Rattle.predictive_parsing.specs.Reading.{Reader, next, is_made, begins, pure}
-use Rattle.predictive_parsing.specs.Rules.{Rule, One, Then, Pure, Or, Optional}
+use Rattle.predictive_parsing.specs.Rules.{Rule, One, Pure, Or, Optional}
 use Rattle.predictive_parsing.specs.Fits.{Fits, any, unless}
 use Rattle.predictive_parsing.proofs.Basic.{both}
 use Rattle.predictive_parsing.proofs.Combined.{one_begins, seen, onwards, followed, narrowed, either_fits, optional_fits, pure_fits}
@@ -19,20 +17,18 @@ use Rattle.txn_grammar.specs.declared.form.Opener.{Opener}
 use Rattle.txn_grammar.specs.declared.form.Opener.TheVariants as opener
 use Rattle.txn_grammar.specs.declared.symbol.Symbol.{Symbol}
 use Rattle.txn_grammar.specs.declared.symbol.Symbol.TheVariants as s
-use Rattle.txn_grammar.specs.declared.target.Target.{Target}
 use Rattle.txn_grammar.specs.declared.token.Token.{Token}
 use Rattle.txn_grammar.specs.declared.token.Token.TheVariants as t
 use Rattle.txn_grammar.specs.declared.token.Spot.{Spot}
 use Rattle.txn_grammar.specs.Spellings.{same_symbol}
 use Rattle.txn_grammar.specs.Lexer.{spot, Spelled}
-use Rattle.txn_grammar.specs.Tokens.{at, symbol_at, of_symbol, number, text, name, truth_of, operator_of, relation_of, kind_of, read_of}
+use Rattle.txn_grammar.specs.Tokens.{at, symbol_at, of_symbol, number, text, name, truth_of, operator_of, relation_of, kind_of}
 use Rattle.txn_grammar.specs.Trees.{expr, number_expr, text_expr, truth_expr, name_expr, grouped, operand, chained, compared, target_of, read_expr}
-use Rattle.txn_grammar.specs.Grammar as rule
-use Rattle.txn_grammar.specs.Grammar.{Word, NumberLeaf, TextLeaf, TruthLeaf, NameLeaf, LeafRule, Further, Chain, OtherSide, Comparison, ComparisonOf, ExpressionOf, Negative, Not, InParens, Group, Len, Str, AfterComma, Elements, Texts, Times, Arguments, Targeted, Read, Opened, UnaryOf, Unary, Negation, Expression}
-use Rattle.txn_grammar.specs.code.Forms.{of_next, chosen, at_spot, leaf_of, leaf_at, opener_of, opener_at}
-use Rattle.txn_grammar.specs.code.Reader.{word, sees, number_leaf, text_leaf, truth_leaf, name_leaf, leaf_read, a_leaf, begins_operator, further, chain, begins_relation, other_side, comparison, comparison_of, expression_of, negative, not_read, in_parens, group, len, str, after_comma, elements, any_elements, texts, times, arguments_read, targeted, read, opened_read, opened, unary_of, negation_of, unary, negation, expression}
+use Rattle.txn_grammar.specs.Grammar.{NumberLeaf, TextLeaf, TruthLeaf, NameLeaf, LeafRule, Further, Chain, OtherSide, Comparison, ComparisonOf, ExpressionOf, Negative, Not, InParens, Group, Len, Str, AfterComma, Elements, Texts, Times, Arguments, Targeted, Read, Opened, UnaryOf, Unary, Negation, Expression}
+use Rattle.txn_grammar.specs.code.Forms.{of_next, leaf_of, leaf_at, opener_at}
+use Rattle.txn_grammar.specs.code.Reader.{sees, number_leaf, text_leaf, truth_leaf, name_leaf, leaf_read, a_leaf, begins_operator, further, chain, begins_relation, other_side, comparison, comparison_of, expression_of, negative, not_read, in_parens, group, len, str, after_comma, elements, any_elements, texts, times, arguments_read, targeted, read, opened_read, opened, unary_of, negation_of, unary, negation, expression}
 use Rattle.txn_grammar.proofs.Choices.{AnyOf, chosen_fits}
-use Rattle.txn_grammar.proofs.TokenFits.{OfSymbol, made_at, ahead_of_word, ahead_seen, ahead_of_symbol, word_fits, number_fits, text_fits, name_fits, truth_fits, operator_fits, relation_fits, kind_fits, read_fits as read_word_fits}
+use Rattle.txn_grammar.proofs.TokenFits.{made_at, ahead_of_word, ahead_seen, ahead_of_symbol, word_fits, number_fits, text_fits, name_fits, truth_fits, operator_fits, relation_fits, kind_fits, read_fits as read_word_fits}
 use Rattle.txn_grammar.proofs.Ends.{product_end, sum_end, comparison_end, conjunction_end, expression_end, plus_ends_product, relation_ends_sum, and_ends_comparison, or_ends_conjunction, begins_leaf, begins_opened, begins_unary, begins_expression, leaf_opens_nothing, unary_no_not, expression_no_close}
 
 -- ---- leaves

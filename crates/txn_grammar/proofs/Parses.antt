@@ -1,5 +1,5 @@
 -- Whole texts.
-use Rattle.std.proofs.Common.{◌≡◌, ℕ, ◌+◌, true, length, List, ◌∷◌, [], ◌++◌, Option, Some, None, Result, Ok, Err, refl, ap, sym, ◌∙◌, subst, drop, arith, append_assoc, append-nil}
+use Rattle.std.proofs.Common.{◌≡◌, ℕ, ◌+◌, true, length, List, ◌∷◌, [], ◌++◌, Some, None, Result, Ok, Err, refl, ap, sym, ◌∙◌, subst, drop, arith, append_assoc, append-nil}
 use Rattle.std.proofs.Math.Seq.{drop-append_seam}
 use Rattle.txn_trees.specs.declared.statement.Body.{Body}
 use Rattle.predictive_parsing.specs.Reading.{whole}
@@ -75,7 +75,7 @@ rest_is ts before rest e = sym (ap (drop (length before)) e ∙ drop-append_seam
 pub column_unique : (z : Text) (c d : ℕ) → IsSyntaxColumn z c → IsSyntaxColumn z d → c ≡ d
 column_unique z c d x y =
     let k = one_column Spelled BodyRule (lex z) (length x.stops.before + 1) (length y.stops.before + 1)
-        (record { rest = x.rest; stops = x.stops; place = refl }) (record { rest = y.rest; stops = y.stops; place = refl }) in
+    (record { rest = x.rest; stops = x.stops; place = refl }) (record { rest = y.rest; stops = y.stops; place = refl }) in
     let l : length x.stops.before ≡ length y.stops.before = omega arith in
     let m = rest_is (lex z) x.stops.before x.rest x.stops.cut ∙ ap (λ n. drop n (lex z)) l ∙ sym (rest_is (lex z) y.stops.before y.rest y.stops.cut) in
     x.place ∙ ap (first_column (length z + 1)) m ∙ sym y.place

@@ -1,10 +1,10 @@
 -- Statements and bodies: each production is read as its rule says.
-use Rattle.std.proofs.Common.{◌≡◌, ℕ, zero, suc, Bool, true, false, ◌||◌, ◌&&◌, not, List, ◌∷◌, [], Option, Some, None, refl, ap, sym, ◌∙◌, inl, inr}
+use Rattle.std.proofs.Common.{◌≡◌, ℕ, zero, suc, Bool, true, false, ◌||◌, not, List, Option, Some, None, refl, ap, ◌∙◌, inl, inr}
 use Rattle.txn_trees.specs.declared.expression.Expr.{Expr}
 use Rattle.txn_trees.specs.declared.statement.Stmt.{Stmt}
 use Rattle.txn_trees.specs.declared.statement.StmtNode.TheVariants as stmt
-use Rattle.predictive_parsing.specs.Reading.{Reader, next, is_made, begins, many}
-use Rattle.predictive_parsing.specs.Rules.{Rule, Many, Optional}
+use Rattle.predictive_parsing.specs.Reading.{Reader, next, is_made}
+use Rattle.predictive_parsing.specs.Rules.{Rule}
 use Rattle.predictive_parsing.specs.Fits.{Fits, any, unless}
 use Rattle.predictive_parsing.proofs.Combined.{one_begins, seen, onwards, followed, narrowed, either_fits, optional_fits}
 use Rattle.predictive_parsing.proofs.Lists.{many_fits, list_fits}
@@ -21,9 +21,9 @@ use Rattle.txn_grammar.specs.Spellings.{same_symbol}
 use Rattle.txn_grammar.specs.Lexer.{spot, Spelled}
 use Rattle.txn_grammar.specs.Tokens.{at, symbol_at, of_symbol, kind_of}
 use Rattle.txn_grammar.specs.Trees.{stmt_at, write_stmt, body_of}
-use Rattle.txn_grammar.specs.Grammar.{Word, Expression, LetStmt, EmitStmt, FailStmt, SimpleStmt, Block, Otherwise, IfStmt, ForStmt, WriteStmt, NestingStmt, Statement, BodyRule}
+use Rattle.txn_grammar.specs.Grammar.{Word, LetStmt, EmitStmt, FailStmt, SimpleStmt, Block, Otherwise, IfStmt, ForStmt, WriteStmt, NestingStmt, Statement, BodyRule}
 use Rattle.txn_grammar.specs.code.Forms.{of_next, simple_at, nesting_at}
-use Rattle.txn_grammar.specs.code.Reader.{sees, expression, let_stmt, emit_stmt, fail_stmt, simple_read, simple_stmt, begins_simple, begins_nesting, begins_statement, block, otherwise_read, if_stmt, for_stmt, write_stmt_read, nesting_read, nesting_stmt, statement, body}
+use Rattle.txn_grammar.specs.code.Reader.{sees, let_stmt, emit_stmt, fail_stmt, simple_read, simple_stmt, begins_simple, begins_nesting, begins_statement, block, otherwise_read, if_stmt, for_stmt, write_stmt_read, nesting_read, nesting_stmt, statement, body}
 use Rattle.txn_grammar.proofs.Choices.{AnyOf, chosen_fits}
 use Rattle.txn_grammar.proofs.TokenFits.{ahead_of_word, ahead_of_symbol, word_fits, name_fits, write_fits}
 use Rattle.txn_grammar.proofs.Ends.{expression_end, statement_end, begins_expression, nesting_not_simple, statement_goes, statement_none, statement_no_close}
@@ -195,7 +195,7 @@ statement_fits zero = narrowed Spelled statement_end (λ h k. refl) (simple_fits
 statement_fits (suc n) = either_fits Spelled begins_simple _ _ _ _ statement_end
     (narrowed Spelled statement_end (λ h k. refl) (simple_fits _ _ (expression_fits (suc n))))
     (nesting_fits _ _ (expression_fits (suc n)) _ _ (expression_fits n) (expression_begins n)
-        (begins_statement n) _ _ (statement_fits n) (statement_begins n) (statement_none n) (statement_goes n) (statement_no_close n))
+    (begins_statement n) _ _ (statement_fits n) (statement_begins n) (statement_none n) (statement_goes n) (statement_no_close n))
     (λ ts us a r. simple_begins _ _ (expression_fits (suc n)) ts us a r)
     (λ ts us a r h. nesting_not_simple (next ts) (nesting_begins _ _ _ ts us a r))
 

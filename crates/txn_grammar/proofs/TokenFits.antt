@@ -1,5 +1,5 @@
 -- One token: what a rule's first token says of what is ahead, and that each rule of one token is read.
-use Rattle.std.proofs.Common.{◌≡◌, ℕ, Bool, true, false, List, ◌∷◌, [], Option, Some, None, refl, ap, sym, ◌∙◌, cond, codes, pos, ℤ}
+use Rattle.std.proofs.Common.{◌≡◌, ℕ, Bool, true, false, List, ◌∷◌, [], Option, Some, None, refl, ap, sym, ◌∙◌, cond, codes, pos}
 use Rattle.std.specs.Option.{option_map}
 use denote.Enum.Bare.{same_true, true_same}
 use Rattle.rdt_types.specs.declared.address.Kind.{Kind}
@@ -23,13 +23,11 @@ use Rattle.txn_grammar.specs.contracts.symbol.Symbol.{the_type}
 use Rattle.txn_grammar.specs.declared.token.Token.{Token}
 use Rattle.txn_grammar.specs.declared.token.Token.TheVariants as t
 use Rattle.txn_grammar.specs.declared.token.Spot.{Spot}
-use Rattle.txn_grammar.specs.Characters.{Text}
 use Rattle.txn_grammar.specs.Spellings.{same_symbol, spelling, reserved_word, mark}
 use Rattle.txn_grammar.specs.Numbers.{number_value, small_value}
 use Rattle.txn_grammar.specs.Lexer.{spot, lex, token_at, word_at, word_token, number_at, text_at, mark_at, Spelled}
-use Rattle.txn_grammar.specs.Tokens.{at, is_symbol, symbol_at, of_symbol, of_name, number, text, name, truth_of, operator_of, relation_of, kind_of, same_kind, operation, write_named, read_named, write_of, read_of}
+use Rattle.txn_grammar.specs.Tokens.{at, is_symbol, symbol_at, of_symbol, number, text, name, truth_of, operator_of, relation_of, kind_of, same_kind, operation, write_named, read_named, write_of, read_of}
 use Rattle.txn_grammar.specs.Grammar.{Word}
-use Rattle.txn_grammar.specs.code.Forms.{of_next, at_spot}
 use Rattle.txn_grammar.specs.code.Reader.{word, sees}
 
 -- ---- the token that a rule takes

@@ -80,7 +80,7 @@ lex_from column (suc left) (b ∷ z) = lex_from (column + 1) left z
 lex_from column zero (b ∷ z) =
     if is_blank b then lex_from (column + 1) zero z
     else spot column (token_at (b ∷ z)).token
-        ∷ (if is_malformed (token_at (b ∷ z)).token then [] else lex_from (column + 1) ((token_at (b ∷ z)).len - 1) z)
+    ∷ (if is_malformed (token_at (b ∷ z)).token then [] else lex_from (column + 1) ((token_at (b ∷ z)).len - 1) z)
 
 -- the tokens of a text, with their columns, up to the first malformed one
 unfoldable pub lex : Text → List Spot

@@ -3,25 +3,21 @@
 --   body = stmt { stmt }
 --   stmt = "emit" expr ";" | kind "(" text ")" "." write "(" expr ")" ";"
 --   expr = number | kind "(" text ")" "." read "(" ")"
-use Rattle.std.specs.Prelude.{ℕ, List, [], ◌∷◌}
+use Rattle.std.specs.Prelude.{List, [], ◌∷◌}
 use Rattle.txn_trees.specs.declared.expression.Expr.{Expr}
 use Rattle.txn_trees.specs.declared.statement.Stmt.{Stmt}
 use Rattle.txn_trees.specs.declared.statement.StmtNode.TheVariants as stmt
 use Rattle.txn_trees.specs.declared.statement.Body.{Body}
 use Rattle.predictive_parsing.specs.Rules.{Rule, One, Pure, Or, ListOf, Whole, ◌>>=◌}
-use Rattle.txn_grammar.specs.declared.symbol.Symbol.{Symbol}
 use Rattle.txn_grammar.specs.declared.symbol.Symbol.TheVariants as s
 use Rattle.txn_grammar.specs.declared.token.Spot.{Spot}
 use Rattle.txn_grammar.specs.declared.target.Target.{Target}
-use Rattle.txn_grammar.specs.Tokens.{at, symbol_at, number}
+use Rattle.txn_grammar.specs.Tokens.{at, number}
+use Rattle.txn_grammar.specs.Grammar.{Word}
 use Rattle.txn_grammar.specs.Trees.{number_expr, text_expr, target_of, read_expr, stmt_at, write_stmt, body_of}
 use Rattle.txn_grammar.specs.early.Tokens.{key, kind_of, write_word, read_word}
 
 -- ---- rules
-
--- a reserved word or a mark, by its column
-abbrev pub Word : Symbol → Rule Spot ℕ
-Word symbol = One (symbol_at symbol)
 
 abbrev pub Number : Rule Spot Expr
 Number = do

@@ -1,24 +1,17 @@
 -- The reader of bodies, rule by rule as the grammar has them.
-use Rattle.std.specs.Prelude.{ℕ, Bool, ◌||◌, List, [], ◌∷◌, Option}
+use Rattle.std.specs.Prelude.{Bool, ◌||◌, List, [], ◌∷◌, Option}
 use Rattle.txn_trees.specs.declared.expression.Expr.{Expr}
 use Rattle.txn_trees.specs.declared.statement.Stmt.{Stmt}
 use Rattle.txn_trees.specs.declared.statement.StmtNode.TheVariants as stmt
 use Rattle.txn_trees.specs.declared.statement.Body.{Body}
 use Rattle.predictive_parsing.specs.Reading.{Reader, ◌>>=◌, pure, begins, one, either, list}
-use Rattle.txn_grammar.specs.declared.symbol.Symbol.{Symbol}
 use Rattle.txn_grammar.specs.declared.symbol.Symbol.TheVariants as s
 use Rattle.txn_grammar.specs.declared.token.Spot.{Spot}
 use Rattle.txn_grammar.specs.declared.target.Target.{Target}
-use Rattle.txn_grammar.specs.Tokens.{at, symbol_at, number}
+use Rattle.txn_grammar.specs.Tokens.{at, number}
+use Rattle.txn_grammar.specs.code.Reader.{word, sees}
 use Rattle.txn_grammar.specs.early.Tokens.{key, kind_of, write_word, read_word}
 use Rattle.txn_grammar.specs.Trees.{number_expr, text_expr, target_of, read_expr, stmt_at, write_stmt, body_of}
-
-unfoldable pub word : Symbol → Reader Spot ℕ
-word symbol = one (symbol_at symbol)
-
--- whether this symbol is ahead
-abbrev pub sees : Symbol → Option Spot → Bool
-sees symbol = begins (symbol_at symbol)
 
 unfoldable pub number_read : Reader Spot Expr
 number_read = do
