@@ -1,6 +1,7 @@
 //! Reads the bodies of transactions.
 #![tactic(auto)]
 
+mod chain;
 mod grammar;
 mod place;
 mod token;
