@@ -1,7 +1,12 @@
-pub mod QuotedFits
+pub mod Choices
 pub mod TokenFits
-pub mod GrammarFits
+pub mod Ends
+pub mod ExpressionFits
+pub mod StatementFits
+pub mod Parses
 pub mod Values
 pub mod Cuts
-pub mod Cursors
-pub mod Bodies
+pub mod EarlyTokenFits
+pub mod EarlyGrammarFits
+pub mod EarlyCursors
+pub mod EarlyBodies

@@ -5,7 +5,7 @@ use Rattle.predictive_parsing.specs.Reading.{whole}
 use Rattle.txn_grammar.specs.declared.token.Spot.{Spot}
 use Rattle.txn_grammar.specs.Characters.{Text}
 use Rattle.txn_grammar.specs.Lexer.{lex}
-use Rattle.txn_grammar.specs.Reader.{body}
+use Rattle.txn_grammar.specs.early.Reader.{body}
 
 abbrev pub if_read : Result Body (List Spot) → Option Body
 if_read (Ok body) = Some body

@@ -1,33 +1,33 @@
-//! The tokens and the grammar of transaction bodies, and the reader that turns a text into its tree.
-//!
-//! [`read_body`] is what the language stands on: bytes go through `lexer` to tokens, and from a `cursor` over these
-//! through `expression` and `statement` to a body. Read the definitions first: `specs/Lexer` says what tokens a text
-//! has, `specs/Grammar` which tokens are a body, and `specs/Tree` what body a text is. `laws` ties the grammar, a
-//! relation, to the function by which the code is proved.
+//! The tokens and the grammar of transaction bodies.
 #![tactic(auto)]
 
-mod body;
-mod character;
-mod cursor;
+mod early;
 mod error;
-mod expression;
+mod form;
 mod laws;
 mod lexer;
+mod limit;
 mod meaning;
 mod number;
-mod quoted;
+mod operation;
+mod rank;
 mod spelling;
-mod statement;
 mod symbol;
 mod target;
-#[cfg(test)]
-mod tests;
 mod token;
 
-pub use body::read_body;
+pub use early::read_body;
 pub use error::ReadError;
-pub use laws::{quoted_is_rule, refuses_first, tree_is_body};
+pub use form::{Leaf, Nesting, Opener, Simple};
+pub use laws::{parsed_is_body, syntax_columns};
 pub use lexer::tokens;
-pub use symbol::Symbol;
+pub use limit::{DEEPEST, LARGEST, LONGEST_NAME};
+pub use meaning::{
+    is_symbol, kind_at, leaf_of, nesting_of, number_of, opener_of, operator_at, read_at,
+    relation_at, simple_of, truth_at, write_at,
+};
+pub use operation::{Operation, READS, WRITES};
+pub use rank::Rank;
+pub use symbol::{MARKS, Symbol, WORDS};
 pub use target::Target;
 pub use token::{Lexeme, Spot, Token};
