@@ -32,7 +32,7 @@ use Rattle.txn_lang.specs.declared.run.Run.{Run}
 use Rattle.txn_lang.specs.declared.run.Seen.{Seen}
 use Rattle.txn_lang.specs.contracts.run.SeenPartialEq.TheImpl as seen_eq
 use Rattle.txn_lang.specs.Steps.{Memory, Step, stopped, gives, Stepping, answered, read_at, write_at}
-use Rattle.txn_lang.specs.Items.{Names, fits}
+use Rattle.txn_lang.specs.Items.{Names}
 use Rattle.txn_lang.specs.Rules.{body_run}
 use Rattle.txn_lang.specs.States.{PartialState}
 use Rattle.txn_lang.specs.Own.{at_address, with_seen}
@@ -72,44 +72,6 @@ seen_alike x z e =
     ap (λ k. record { address = record { kind = k; key = x.address.key }; obs = x.obs }) (kind_same _ _ inner.0)
     ∙ (ap (λ t. record { address = record { kind = z.address.kind; key = t }; obs = x.obs }) (text_same _ _ inner.1)
     ∙ ap (λ o. record { address = z.address; obs = o }) (obs_same _ _ outer.1))
-
-whole_alike : (v w : Value) → kind_of v ≡ kind_of w → whole_observed w ≡ whole_observed v
-whole_alike (value.Bool a) (value.Bool b) k = refl
-whole_alike (value.Text a) (value.Text b) k = refl
-whole_alike (value.Bool a) _ k = grind arith
-whole_alike (value.Text a) _ k = grind arith
-whole_alike _ (value.Bool b) k = grind arith
-whole_alike _ (value.Text b) k = grind arith
-whole_alike _ _ k = refl
-
--- a place within one list is within another that has the same item there
-place_alike : (i : ℕ) (xs ys : List Bytes) (v w : Value) → list_in v ≡ xs → list_in w ≡ ys → (b : Bool)
-    → observe (cond (b && nat_lt i (length xs)) (obs.ListAt i) obs.ListAll) v ≡ observe (cond (b && nat_lt i (length xs)) (obs.ListAt i) obs.ListAll) w
-    → cond (b && nat_lt i (length ys)) (obs.ListAt i) obs.ListAll ≡ cond (b && nat_lt i (length xs)) (obs.ListAt i) obs.ListAll
-place_alike i xs ys v w vx wy false e = refl
-place_alike i xs ys v w vx wy true e = by (nat_lt i (length xs)) refl e
-  where
-    by : (t : Bool) → nat_lt i (length xs) ≡ t → observe (cond t (obs.ListAt i) obs.ListAll) v ≡ observe (cond t (obs.ListAt i) obs.ListAll) w
-        → cond (nat_lt i (length ys)) (obs.ListAt i) obs.ListAll ≡ cond t (obs.ListAt i) obs.ListAll
-    by true is e =
-        let there : slice_get (list_in w) i ≡ Some (get_or xs i []) = (let h : slice_get (list_in v) i ≡ slice_get (list_in w) i = cc in sym h ∙ (ap (λ zs. slice_get zs i) vx ∙ slice_get-get_or xs i [] (ltb-true i (length xs) is))) in
-        let within : i < length ys = slice_get_within ys i _ (ap (λ zs. slice_get zs i) (sym wy) ∙ there) in
-        ap (λ t. cond t (obs.ListAt i) obs.ListAll) (lt-ltb i (length ys) within)
-    by false is e =
-        let same : list_in v ≡ list_in w = cc in
-        ap (λ t. cond t (obs.ListAt i) obs.ListAll) (ap (λ zs. nat_lt i (length zs)) (sym wy ∙ (sym same ∙ vx)) ∙ is)
-
--- what is observed of two values that agree on it is the same observation
-observed_alike : (r : ReadOp) (ops : List WriteOp) (v w : Value) → kind_of v ≡ kind_of w → observe (observed r ops v) v ≡ observe (observed r ops v) w → observed r ops w ≡ observed r ops v
-observed_alike read.Get ops v w k e = whole_alike v w k
-observed_alike (read.SetHas x) ops v w k e = refl
-observed_alike read.SetAll ops v w k e = refl
-observed_alike (read.HashHas x) ops v w k e = refl
-observed_alike (read.HashGet x) ops v w k e = refl
-observed_alike read.HashFields ops v w k e = refl
-observed_alike (read.ListAt (negsuc i)) ops v w k e = refl
-observed_alike (read.ListAt (pos i)) ops v w k e = place_alike i (list_in v) (list_in w) v w refl refl (not (list_any is_list_remove ops)) e
-observed_alike read.ListAll ops v w k e = refl
 
 module _ (P : Seen → Type 0) where
   front : (xs : List Seen) (z : Seen) → AllByRecursion P (xs ++ z ∷ []) → AllByRecursion P xs × P z
@@ -168,8 +130,9 @@ module _ (s t : PartialState) where
     read_forth false (Some v) not_here is fine =
         let z = (parts (AgreesOn s t) p.memory.observations (seen_of v) fine).1 in
         let both = z.same v is in
-        let alike : answer r (replay ops v) ≡ answer r (replay ops z.there) = reads_rest_on_observations r ops v z.there both.0 (λ _. both.1) in
-        let same : observed r ops z.there ≡ observed r ops v = observed_alike r ops v z.there both.0 both.1 in
+        let rests = reads_rest_on_observations r ops v z.there both.0 (λ _. both.1) in
+        let alike : answer r (replay ops v) ≡ answer r (replay ops z.there) = rests.0 in
+        let same : observed r ops z.there ≡ observed r ops v = sym (rests.1 not_here) in
         ap (λ (x : Item × _). gives x.0 (record p { memory = record p.memory { observations = with_seen p.memory.observations (record { address = a; obs = x.1 }) } })) (ap (λ (i : Item). (i, observed r ops v)) alike ∙ ap (λ o. (answer r (replay ops z.there), o)) (sym same))
         ∙ ap (λ w. answered a (own_value r a w p.memory) p) (sym z.is)
 
@@ -177,8 +140,8 @@ module _ (s t : PartialState) where
   same_step (stopped e q) v p is = (q.memory, refl, sym is)
   same_step (gives x q) v p is = (q.memory, refl, sym is)
 
-  reads : (r : ReadOp) (a : Address) → fits r a.kind ≡ true → Both (read_at (own s) r a) (read_at (own t) r a)
-  reads r a f = record {
+  reads : (r : ReadOp) (a : Address) → Both (read_at (own s) r a) (read_at (own t) r a)
+  reads r a = record {
     back = λ p. read_back r a p (is_decided r (ops r a p)) (s a);
     forth = λ p m is fine. subst (λ m. Same (λ o p. o ≡ p) Good Needs (read_at (own s) r a p) (read_at (own t) r a (onto m p))) is
         (same_step (read_at (own s) r a p) (read_at (own t) r a p) p (read_forth r a p (is_decided r (ops r a p)) (s a) refl refl fine));

@@ -33,7 +33,7 @@ use Rattle.txn_lang.specs.Execution.{ticks_of}
 use Rattle.txn_lang.specs.declared.progress.Stop.{Stop}
 use Rattle.txn_lang.specs.declared.progress.Stop.TheVariants as stop
 use Rattle.txn_lang.specs.declared.progress.Progress.{Progress}
-use Rattle.txn_lang.specs.Items.{Names, named, int_in, bool_in, text_in, texts_in, size_of, is_big, decides, joined, negated, length_of, read_of, write_of, write_with, text_write, counter_write, clear_of, fits, text_size, elements_in, compares}
+use Rattle.txn_lang.specs.Items.{Names, named, int_in, bool_in, text_in, texts_in, size_of, is_big, decides, joined, negated, length_of, read_of, write_of, write_with, text_write, counter_write, clear_of, text_size, elements_in, compares}
 use Rattle.txn_lang.specs.Rules.{Expression, Statement, sized, all_values, joined_with, link, chain, answer_with, address_of, of_node, of_expr, of_operand, node_run, expr_run, operand_run, body_run, all_steps, block, block_maybe, turn, turns, write_maybe, of_step, of_stmt, step_run, stmt_run}
 use Rattle.txn_trees.specs.declared.expression.Operand.{Operand}
 use Rattle.txn_lang.specs.Steps.{Memory, Step, stopped, gives, Stepping, and_then, ◌>>=◌, pure, stop_by, charge, carry, emit, answered, read_at, write_at}
@@ -45,19 +45,7 @@ unit = tt
 abbrev pub onto : {S T : Type 0} → T → Progress S → Progress T
 onto t p = record { memory = t; emitted = p.emitted; ticks = p.ticks; load = p.load }
 
--- the words of a kind make its reads and writes
-read_fits : (k : Kind) (word : ReadWord) (is : List Item) → fits (read_of k word is) k ≡ true
-read_fits kind.Bool word is = refl
-read_fits kind.Counter word is = refl
-read_fits kind.Text word is = refl
-read_fits kind.Set read_word.Has is = refl
-read_fits kind.Set _ is = refl
-read_fits kind.Hash read_word.Has is = refl
-read_fits kind.Hash read_word.Get is = refl
-read_fits kind.Hash _ is = refl
-read_fits kind.List read_word.At is = refl
-read_fits kind.List _ is = refl
-
+-- the words of a kind make its writes
 abbrev IsOfKind : Kind → Option WriteOp → Type 0
 IsOfKind k None = Unit {0}
 IsOfKind k (Some o) = kind_written o ≡ k
@@ -232,7 +220,7 @@ module _ {S T : Type 0} (R : S → T → Type 0) (Good : S → Type 0) (Needs : 
     abbrev AsOperand : Operand → Type 0
     AsOperand o = ((operand_of m o).0 ≡ (operand_of n o).0) × AsExpression (operand_of m o).1 (operand_of n o).1
 
-    module _ (reads : (r : ReadOp) (a : Address) → fits r a.kind ≡ true → Simulates (read_at m r a) (read_at n r a)) where
+    module _ (reads : (r : ReadOp) (a : Address) → Simulates (read_at m r a) (read_at n r a)) where
       -- one layer: each child is some expression, by h, and simulates
       module _ {N E O : Type 0} (hN : N → ExprNode) (hE : E → Expr) (hO : O → Operand)
           (nodes : (x : N) → AsExpression (node_run m (hN x)) (node_run n (hN x)))
@@ -274,7 +262,7 @@ module _ {S T : Type 0} (R : S → T → Type 0) (Good : S → Type 0) (Needs : 
         layer_simulates (ExprNode-F.Chain e os) names = then_simulates (charge_alike (length_alike os)) (λ _. then_simulates (exprs e names) (λ i. chain_simulates i os names))
         layer_simulates (ExprNode-F.Read k e word es) names =
             then_simulates (charge_simulates 1) (λ _. then_simulates (exprs e names) (λ key. then_simulates (values_simulate [] es names) (λ is.
-            then_simulates (reads (read_of k word is) (address_of k key) (read_fits k word is)) (λ i. then_simulates (charge_simulates (elements_in i)) (λ _. sized_simulates i)))))
+            then_simulates (reads (read_of k word is) (address_of k key)) (λ i. then_simulates (charge_simulates (elements_in i)) (λ _. sized_simulates i)))))
 
         -- what is one layer over children that simulate does so
         node_layer : (x : ExprNode-F ExprNode Expr Operand) (y : ExprNode-F N E O) → map-ExprNode N E O ExprNode Expr Operand hN hE hO y ≡ x

@@ -149,20 +149,6 @@ read_of kind.List read_word.At is = read.ListAt (first_int is)
 read_of kind.List _ is = read.ListAll
 read_of _ _ is = read.Get
 
--- whether a read is one of a kind's
-abbrev pub fits : ReadOp → Kind → Bool
-fits read.Get kind.Bool = true
-fits read.Get kind.Counter = true
-fits read.Get kind.Text = true
-fits (read.SetHas x) kind.Set = true
-fits read.SetAll kind.Set = true
-fits (read.HashHas f) kind.Hash = true
-fits (read.HashGet f) kind.Hash = true
-fits read.HashFields kind.Hash = true
-fits (read.ListAt i) kind.List = true
-fits read.ListAll kind.List = true
-fits _ _ = false
-
 -- the writes of a set, a hash and a list that take one text
 abbrev pub text_write : Kind → WriteWord → Bytes → Option WriteOp
 text_write kind.Set write_word.Add x = Some (op.SetAdd x)
