@@ -4,3 +4,5 @@ pub mod Typing
 pub mod Histories
 pub mod NamesKept
 pub mod EarlyTyped
+pub mod Simulation
+pub mod Determinacy

@@ -12,7 +12,8 @@ use Rattle.std.proofs.lemmas.Cmp.{nat_list_cmp_total}
 use Rattle.plain_data.specs.Texts.{Bytes, MapOf, text_cmp}
 use Rattle.txn_lang.specs.declared.bound_names.Binding.{Binding}
 use Rattle.txn_lang.specs.declared.item_type.Type.{«Type» as ItemType}
-use Rattle.txn_lang.specs.Types.{Names, type_bound, later}
+use Rattle.txn_lang.specs.Types.{Names, type_bound}
+use Rattle.txn_lang.specs.Bindings.{later}
 use Rattle.txn_lang.specs.BoundNames.{names_of, type_there, Hides, Keeps}
 use Rattle.txn_lang.proofs.Histories.{lawful-push, lawful-front}
 

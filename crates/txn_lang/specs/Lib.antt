@@ -2,7 +2,14 @@ pub mod States
 pub mod Running
 pub mod Journals
 pub mod Early
+pub mod Bindings
 pub mod Types
+pub mod Own
+pub mod Steps
+pub mod Items
+pub mod Rules
+pub mod Execution
+pub mod Determinacy
 pub mod BoundNames
 pub mod Typing
 pub mod Checking

@@ -36,13 +36,10 @@ use Rattle.txn_trees.specs.declared.statement.Body.{Body}
 use Rattle.txn_lang.specs.declared.run.Run.{Run}
 use Rattle.txn_lang.specs.declared.run.Seen.{Seen}
 use Rattle.txn_lang.specs.contracts.run.SeenPartialEq.TheImpl as seen_eq
-use Rattle.txn_lang.specs.States.{PartialState, after}
+use Rattle.txn_lang.specs.States.{PartialState}
+pub use Rattle.txn_lang.specs.Own.{Operations, at_address, with_seen, deltas_of, AreOfTheirKinds, DeltasLeaveWhatOperationsLeave}
 
 -- ---- a run as far as it has come
-
--- the body's own operations, each at its address, in order
-abbrev pub Operations : Type 0
-Operations = List (Address × WriteOp)
 
 -- what a run has done so far
 pub record Progress : Type 0 where
@@ -73,14 +70,6 @@ abbrev pub pure : {A : Type 0} → A → Stepping A
 pure x = λ p. gives x p
 
 -- ---- reads and writes
-
--- the operations at an address, in order
-abbrev pub at_address : Address → Operations → List WriteOp
-at_address a own = map (λ w. w.1) (filter (λ w. is_eq (address_cmp a w.0)) own)
-
--- an observation is listed when it is first made
-abbrev pub with_seen : List Seen → Seen → List Seen
-with_seen seen s = if list_any (λ t. seen_eq.ghosts.eq t s) seen then seen else seen ++ s ∷ []
 
 abbrev pub observes : Address → Obs → Progress → Progress
 observes a o p = record p { observations = with_seen p.observations (record { address = a; obs = o }) }
@@ -162,10 +151,6 @@ run_all m (s ∷ ss) = do
 
 -- ---- whole runs
 
--- The deltas of operations: at each address the composition of theirs, in order.
-abbrev pub deltas_of : Operations → Deltas
-deltas_of own = fold (λ deltas w. with_delta deltas w.0 (delta_of w.1)) [] own
-
 -- A run needs the value at an address, or it is done.
 pub data Ran : Type 0 where
   need : Address → Ran
@@ -182,12 +167,3 @@ ended (gives x p) = done (run_of p)
 unfoldable pub exec : Body → PartialState → Ran
 exec b m = ended (run_all m b.stmts start)
 
--- ---- a law
-
--- each operation is of the kind of its address
-abbrev pub AreOfTheirKinds : Operations → Type 0
-AreOfTheirKinds own = AllByRecursion (λ w. kind_written w.1 ≡ w.0.kind) own
-
--- the deltas of operations leave at each address what the operations leave, one after the other
-abbrev pub DeltasLeaveWhatOperationsLeave : Type 0
-DeltasLeaveWhatOperationsLeave = (own : Operations) (a : Address) (v : Value) → AreOfTheirKinds own → after (deltas_of own) a v ≡ replay (at_address a own) v

@@ -13,7 +13,10 @@ mod early;
 mod item_type;
 mod judging;
 mod laws;
+mod limits;
+mod progress;
 mod run;
+mod snaps;
 mod writing;
 
 pub use checked::Checked;
@@ -22,6 +25,10 @@ pub use commit::{Commit, CommitList};
 pub use early::{EarlyError, early_read};
 pub use item_type::Type;
 pub use laws::{
-    bodies_are_judged, deltas_leave_what_operations_leave, legal_commits_follow, types_are_found,
+    bodies_are_judged, deltas_leave_what_operations_leave, legal_commits_follow, runs_are_bounded,
+    runs_are_determined, types_are_found,
 };
+pub use limits::{LOAD_LIMIT, TEXT_LIMIT, TEXTS_LIMIT, TICK_LIMIT};
+pub use progress::{NameList, Progress, Stop};
 pub use run::{Run, Seen, SeenList};
+pub use snaps::{Snap, Snaps};
