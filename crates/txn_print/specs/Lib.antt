@@ -1,0 +1,5 @@
+pub mod Places
+pub mod Pieces
+pub mod Canonical
+pub mod Columns
+pub mod ReadBack
