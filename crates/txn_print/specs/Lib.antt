@@ -3,3 +3,4 @@ pub mod Pieces
 pub mod Canonical
 pub mod Columns
 pub mod ReadBack
+pub mod Examples
