@@ -6,7 +6,3 @@ pub mod StatementFits
 pub mod Parses
 pub mod Values
 pub mod Cuts
-pub mod EarlyTokenFits
-pub mod EarlyGrammarFits
-pub mod EarlyCursors
-pub mod EarlyBodies

@@ -1,5 +1,5 @@
 -- Whole texts.
-use Rattle.std.proofs.Common.{◌≡◌, ℕ, ◌+◌, true, length, List, ◌∷◌, [], ◌++◌, Some, None, Result, Ok, Err, refl, ap, sym, ◌∙◌, subst, drop, arith, append_assoc, append-nil}
+use Rattle.std.proofs.Common.{◌≡◌, ℕ, ◌+◌, true, length, List, ◌∷◌, [], ◌++◌, Option, Some, None, Result, Ok, Err, refl, ap, sym, ◌∙◌, subst, drop, arith, append_assoc, append-nil}
 use Rattle.std.proofs.Math.Seq.{drop-append_seam}
 use Rattle.txn_trees.specs.declared.statement.Body.{Body}
 use Rattle.predictive_parsing.specs.Reading.{whole}
@@ -13,7 +13,7 @@ use Rattle.txn_grammar.specs.Characters.{Text}
 use Rattle.txn_grammar.specs.Spellings.{same_symbol}
 use Rattle.txn_grammar.specs.Lexer.{lex, Spelled}
 use Rattle.txn_grammar.specs.Grammar.{BodyRule, IsBody}
-use Rattle.txn_grammar.specs.Parsed.{if_read, parsed, first_column, IsSyntaxColumn}
+use Rattle.txn_grammar.specs.Parsed.{if_read, parsed, first_column, IsSyntaxColumn, refused, syntax_column}
 use Rattle.txn_grammar.specs.code.Reader.{body, begins_statement}
 use Rattle.txn_grammar.proofs.Ends.{statement_end}
 use Rattle.txn_grammar.proofs.StatementFits.{body_fits}
@@ -59,6 +59,15 @@ column_there z e = there (whole body (lex z)) refl e
     there (Ok b) k h = absurd (cc)
     there (Err rest) k h = (first_column (length z + 1) rest, refused_column z rest k)
 
+-- the one that is computed
+pub column_computed : (z : Text) → parsed z ≡ None → IsSyntaxColumn z (syntax_column z)
+unfolding parsed syntax_column
+column_computed z e = at (whole body (lex z)) refl e
+  where
+    at : (r : Result Body (List Spot)) → whole body (lex z) ≡ r → if_read r ≡ None → IsSyntaxColumn z (first_column (length z + 1) (refused r))
+    at (Ok b) k h = absurd (cc)
+    at (Err rest) k h = refused_column z rest k
+
 no_body : (ts before rest : List Spot) → ts ≡ before ++ rest → NoFurther BodyRule before rest → (b : Body) → IsBody ts b → ⊥
 no_body ts before [] e none b r = none b (subst (λ xs. IsBody xs b) (e ∙ append-nil before) r)
 no_body ts before (s ∷ rest) e none b r = none rest b (subst (λ xs. IsBody xs b) (e ∙ sym (append_assoc before (s ∷ []) rest)) r)
@@ -79,3 +88,19 @@ column_unique z c d x y =
     let l : length x.stops.before ≡ length y.stops.before = omega arith in
     let m = rest_is (lex z) x.stops.before x.rest x.stops.cut ∙ ap (λ n. drop n (lex z)) l ∙ sym (rest_is (lex z) y.stops.before y.rest y.stops.cut) in
     x.place ∙ ap (first_column (length z + 1)) m ∙ sym y.place
+
+-- and it is the only one
+pub column_is_computed : (z : Text) (column : ℕ) → IsSyntaxColumn z column → column ≡ syntax_column z
+column_is_computed z column x = by (parsed z) refl
+  where
+    by : (o : Option Body) → parsed z ≡ o → column ≡ syntax_column z
+    by (Some b) e = absurd (column_no_body z column b x (parsed_sound z b e))
+    by None e = column_unique z column (syntax_column z) x (column_computed z e)
+
+-- a text that has a column is no body
+pub column_of_none : (z : Text) (column : ℕ) → IsSyntaxColumn z column → parsed z ≡ None
+column_of_none z column x = by (parsed z) refl
+  where
+    by : (o : Option Body) → parsed z ≡ o → o ≡ None
+    by (Some b) e = absurd (column_no_body z column b x (parsed_sound z b e))
+    by None e = refl

@@ -9,5 +9,3 @@ pub mod Grammar
 pub mod Parsed
 pub mod Examples
 pub mod code
-pub mod early
-pub mod Tree

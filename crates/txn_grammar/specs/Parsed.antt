@@ -29,3 +29,14 @@ pub record IsSyntaxColumn (z : Text) (column : ℕ) : Type 0 where
   pub rest : List Spot
   pub stops : StopsAt Spelled BodyRule (lex z) rest
   pub place : column ≡ first_column (length z + 1) rest
+
+-- ---- the column, computed
+
+-- what is left where a reader refuses
+abbrev pub refused : Result Body (List Spot) → List Spot
+refused (Ok found) = []
+refused (Err rest) = rest
+
+-- the column at which a text that is no body stops being one
+unfoldable pub syntax_column : Text → ℕ
+syntax_column z = first_column (length z + 1) (refused (whole body (lex z)))

@@ -6,7 +6,7 @@ ghost use Rattle.txn_grammar.specs.declared.token.Spot.{Spot};
 ghost use Rattle.txn_grammar.specs.Characters.{Text};
 ghost use Rattle.txn_grammar.specs.Lexer.{lex};
 ghost use Rattle.txn_grammar.specs.Grammar.{IsBody};
-ghost use Rattle.txn_grammar.specs.Parsed.{parsed, IsSyntaxColumn};
+ghost use Rattle.txn_grammar.specs.Parsed.{parsed, syntax_column, IsSyntaxColumn};
 
 /// The function from texts finds exactly the bodies that the grammar derives, and so at most one for a text.
 pub fn parsed_is_body()
@@ -21,4 +21,6 @@ pub fn syntax_columns()
     ensures there { (z : Text) → parsed z ≡ None → (column : ℕ) × IsSyntaxColumn z column }
     ensures of_no_body { (z : Text) (column : ℕ) (b : Body) → IsSyntaxColumn z column → IsBody (lex z) b → ⊥ }
     ensures unique { (z : Text) (c d : ℕ) → IsSyntaxColumn z c → IsSyntaxColumn z d → c ≡ d }
+    // The one that is computed is the one.
+    ensures computed { (z : Text) → parsed z ≡ None → IsSyntaxColumn z (syntax_column z) }
 {}

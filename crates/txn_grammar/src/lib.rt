@@ -1,8 +1,6 @@
 //! The tokens and the grammar of transaction bodies.
 #![tactic(auto)]
 
-mod early;
-mod error;
 mod form;
 mod laws;
 mod lexer;
@@ -16,8 +14,6 @@ mod symbol;
 mod target;
 mod token;
 
-pub use early::read_body;
-pub use error::ReadError;
 pub use form::{Leaf, Nesting, Opener, Simple};
 pub use laws::{parsed_is_body, syntax_columns};
 pub use lexer::tokens;

@@ -3,6 +3,6 @@ pub mod Journals
 pub mod Typing
 pub mod Histories
 pub mod NamesKept
-pub mod EarlyTyped
+pub mod Trees
 pub mod Simulation
 pub mod Determinacy

@@ -4,6 +4,7 @@ ghost use Rattle.txn_lang.specs.Journals.{LegalCommitsFollow};
 ghost use Rattle.txn_lang.specs.Own.{DeltasLeaveWhatOperationsLeave};
 ghost use Rattle.txn_lang.specs.Execution.{RunsAreBounded};
 ghost use Rattle.txn_lang.specs.Determinacy.{RunsAreDetermined};
+ghost use Rattle.txn_lang.specs.Tree.{TreesAreTypedBodies};
 ghost use Rattle.txn_lang.specs.Typing.{TypesAreFound, BodiesAreJudged};
 
 /// The law that the deltas of a run leave at each address what its operations leave, one after the other.
@@ -35,4 +36,10 @@ pub fn runs_are_determined()
 /// The law that no run charges more ticks than the limit.
 pub fn runs_are_bounded()
     ensures { RunsAreBounded }
+{}
+
+/// The law that a text has a tree exactly where the grammar derives it from the text's tokens, and it is well typed. So
+/// a text has one tree at most.
+pub fn trees_are_typed_bodies()
+    ensures { TreesAreTypedBodies }
 {}
