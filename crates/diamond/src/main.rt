@@ -28,6 +28,7 @@ fn run(rt: &HostRuntime, words: &[String]) -> Result<u8, AllocError> {
     let mut source = StdSource::new(rt.alloc(), rt.reader())?;
     let mut sink = StdSink::new(io::writer(rt));
     Ok(diamond(
+        rt,
         rt.alloc(),
         command.as_slice(),
         &mut source,

@@ -14,4 +14,6 @@ pub use top::{BAD_WORDS, diamond};
 pub use words::USAGE;
 
 #[cfg(test)]
+mod order;
+#[cfg(test)]
 mod tests;

@@ -8,7 +8,9 @@ use rdt_types::Settings;
 use script_runner::run_script;
 use std::alloc::Global;
 use std::process::Abort;
+use std::sync::Wait;
 use std::test::Fail;
+use std::thread::Threads;
 
 const ROW_1: &[u8] = b"0 do counter(\"x\").add(5); emit counter(\"x\").get();\n";
 
@@ -36,7 +38,7 @@ fn in_pieces(piece: usize) -> Way
 
 /// Runs a script, and asserts how it ends and what it has written.
 fn expect(
-    rt: &impl Abort,
+    rt: &(impl Abort + Threads + Wait + Sync),
     alloc: Global,
     way: &Way,
     script: &[u8],
@@ -49,6 +51,7 @@ fn expect(
     let mut source = MemSource::new(alloc, script, way.read_piece, way.read_fails)?;
     let mut sink = MemSink::new(alloc, way.write_piece, way.write_fails)?;
     let found = diamond(
+        rt,
         alloc,
         &["run"],
         &mut source,
@@ -58,6 +61,11 @@ fn expect(
     );
     assert_eq!(rt; found, status);
     assert_eq!(rt; sink.taken(), output);
+    // Only where a write or a flush failed isn't all passed on.
+    assert_eq!(rt;
+        sink.passed() == output,
+        way.write_fails.is_empty() || output.is_empty()
+    );
     Ok(())
 }
 
@@ -191,12 +199,25 @@ fn faults_stop_a_run(rt: HostRuntime) -> Result<(), Fail> {
 }
 
 #[test]
+fn a_flush_that_fails_leaves_status_3(rt: HostRuntime) -> Result<(), Fail> {
+    // The read of the second line's first byte fails, and then the flush, the second call of the sink.
+    let way = Way {
+        read_piece: 1,
+        read_fails: &[51],
+        write_piece: 4096,
+        write_fails: &[1],
+    };
+    expect(&rt, rt.alloc(), &way, ROW_1, 3, b"0 commit 1 ok 5\n")
+}
+
+#[test]
 fn other_words_are_refused(rt: HostRuntime) -> Result<(), Fail> {
     let words: [&[&str]; 4] = [&[], &["fly"], &["run", "run"], &["run", "--shards", "4"]];
     for words in words {
         let mut source = MemSource::new(rt.alloc(), ROW_1, 1, &[])?;
         let mut sink = MemSink::new(rt.alloc(), 1, &[])?;
         let status = diamond(
+            &rt,
             rt.alloc(),
             words,
             &mut source,

@@ -1,6 +1,6 @@
 //! The words of a command.
 
-ghost use Rattle.std.specs.Prelude.{◌≡◌, map};
+ghost use Rattle.std.specs.Prelude.{◌≡◌};
 ghost use Rattle.diamond_cli.specs.Words as spec;
 
 /// What the program says of its words where they are not of the form.
@@ -8,7 +8,7 @@ pub const USAGE: &str = "usage: diamond run";
 
 /// Whether the words are those that run a script.
 pub(crate) fn is_run(words: &[&str]) -> bool
-    ensures { result ≡ spec.is_run (map (λ word. word.now) words.now) }
+    ensures { result ≡ spec.is_run (spec.texts words.now) }
 {
     match words {
         [word] => *word == "run",

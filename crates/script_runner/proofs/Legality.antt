@@ -6,6 +6,7 @@ use Rattle.dio_core.specs.declared.line.Line.{Line}
 use Rattle.dio_core.specs.declared.line.Line.TheVariants as line
 use Rattle.dio_core.specs.Lines.{lines, line_of}
 use Rattle.txn_trees.specs.declared.statement.Body.{Body}
+use Rattle.rdt_types.specs.declared.settings.Settings.{Settings}
 use Rattle.txn_grammar.specs.Characters.{Text}
 use Rattle.txn_grammar.specs.Tree.{tree}
 use Rattle.txn_lang.specs.declared.run.Run.{Run}
@@ -14,7 +15,6 @@ use Rattle.txn_lang.specs.Running.{Ran, exec}
 use Rattle.txn_lang.specs.Running.Ran.{need, done}
 use Rattle.txn_lang.specs.Journals.{IsLegal, MayFollow, commit_of}
 use Rattle.txn_lang.proofs.Journals.{legal-push}
-use Rattle.script_runner.specs.Script.{Told}
 use Rattle.script_runner.specs.Words.{trimmed, first_word, after_word, is_quiet, client_named}
 use Rattle.script_runner.specs.Play.{Answer, reply_line, full_words, ended, ran, do_body, client_line, line_of_client, text_line, answer, Played, one_more, play, nothing_played}
 
@@ -27,7 +27,8 @@ keeps_either true x y kx ky = kx
 keeps_either false x y kx ky = ky
 
 -- the commit of a run of a body on what a journal leaves may follow it
-follows : (journal : Journal) (client : ℕ) (body : Text) (b : Body) (run : Run) → tree body ≡ Some b → exec b (known (left_by journal)) ≡ done run
+follows : (journal : Journal) (client : ℕ) (body : Text) (b : Body) (run : Run) → tree body ≡ Some b
+    → exec b (known (left_by journal)) ≡ done run
     → MayFollow 0 journal (commit_of journal client body run)
 follows journal client body b run read is-run = record {
   number = refl;
@@ -36,7 +37,8 @@ follows journal client body b run read is-run = record {
 }
 
 module _ (limit : ℕ) (journal : Journal) (legal : IsLegal 0 journal) where
-  commits : (client : ℕ) (body : Text) (b : Body) → tree body ≡ Some b → (r : Ran) → exec b (known (left_by journal)) ≡ r → Keeps (ended limit journal client body r)
+  commits : (client : ℕ) (body : Text) (b : Body) → tree body ≡ Some b → (r : Ran) → exec b (known (left_by journal)) ≡ r
+      → Keeps (ended limit journal client body r)
   commits client body b read (need a) e = legal
   commits client body b read (done run) e =
       keeps_either (nat_le limit (length journal)) (journal, reply_line client (full_words limit))
@@ -65,15 +67,18 @@ module _ (limit : ℕ) (journal : Journal) (legal : IsLegal 0 journal) where
   of_line line.TooLong = legal
   of_line line.End = legal
 
-played_legal : (limit : ℕ) (raws : List Text) (p : Played) → IsLegal 0 p.journal → IsLegal 0 (fold (one_more limit) p raws).journal
-played_legal limit [] p legal = legal
-played_legal limit (raw ∷ raws) p legal = played_legal limit raws (one_more limit p raw) (of_line limit p.journal legal (line_of (length raw) raw))
+-- lines in order keep it legal
+played_legal : (settings : Settings) (raws : List Text) (p : Played) → IsLegal 0 p.world.journal
+    → IsLegal 0 (fold (one_more settings) p raws).world.journal
+played_legal settings [] p legal = legal
+played_legal settings (raw ∷ raws) p legal =
+    played_legal settings raws (one_more settings p raw) (of_line settings.limit p.world.journal legal (line_of raw))
 
 -- each commit of the journal of a script is what its body does on the state before it
-pub play-legal : (limit : ℕ) (bytes : Text) → IsLegal 0 (play limit bytes).journal
-play-legal limit bytes = played_legal limit (lines bytes) nothing_played tt
+pub play-legal : (settings : Settings) (bytes : Text) → IsLegal 0 (play settings bytes).world.journal
+play-legal settings bytes = played_legal settings (lines bytes) nothing_played tt
 
 -- the same of an input that may not be told
-pub played_is_legal : (limit : ℕ) (left : Told) → IfSome left (λ bytes. IsLegal 0 (play limit bytes).journal)
-played_is_legal limit None = tt
-played_is_legal limit (Some bytes) = play-legal limit bytes
+pub played_is_legal : (settings : Settings) (left : Option Text) → IfSome left (λ bytes. IsLegal 0 (play settings bytes).world.journal)
+played_is_legal settings None = tt
+played_is_legal settings (Some bytes) = play-legal settings bytes

@@ -4,3 +4,4 @@ pub mod Writes
 pub mod Turns
 pub mod Plays
 pub mod Legality
+pub mod Promises

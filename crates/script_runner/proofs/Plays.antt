@@ -1,166 +1,236 @@
 -- Many lines of a script.
-use Rattle.std.proofs.Common.{◌≡◌, ℕ, ◌+◌, ◌≤◌, ◌<◌, true, List, [], ◌∷◌, ◌++◌, length, Some, None, Ok, Err, refl, sym, ap, ◌∙◌, arith, append_assoc, length-append, fold, ◌⊎◌, inl, inr}
-use Rattle.std.specs.Prelude.{IfSome}
-use Rattle.std.proofs.lemmas.List.{append-nil}
+use Rattle.std.proofs.Common.{◌≡◌, ℕ, suc, ◌+◌, ◌-◌, ◌≤◌, ◌<◌, true, false, List, [], ◌∷◌, ◌++◌, length, take, drop, Option, Ok, Err, refl, sym, ap, ◌∙◌, arith, append_assoc, length-append, fold, inl, inr}
+use Rattle.plain_data.specs.declared.or_no_memory.OrNoMemory.{OrNoMemory}
+use Rattle.plain_data.specs.declared.or_no_memory.OrNoMemory.TheVariants as stop
+use Rattle.std.proofs.lemmas.List.{append-nil, take-append-drop, take_all, take_at}
 use Rattle.std.proofs.lemmas.List.Sums.{fold-append}
-use Rattle.dio_core.specs.declared.line.LineFault.{LineFault}
-use Rattle.dio_core.specs.declared.line.LineFault.TheVariants as fault
-use Rattle.script_runner.specs.Stops.{stop_of}
-use Rattle.dio_core.specs.Lines.{lines, BreaksOff}
-use Rattle.dio_core.specs.Sinks.{with_back}
+use Rattle.dio_core.specs.declared.line.TheConstants.{LONGEST_RUN}
+use Rattle.dio_core.specs.declared.line.Line.{Line}
+use Rattle.dio_core.specs.declared.line.Line.TheVariants as line
+use Rattle.dio_core.specs.Lines.{lines, Answers, TakesLine, IsBegun}
+use Rattle.dio_core.specs.Sinks.{with_more}
+use Rattle.dio_core.proofs.Told.{WhereTold-then, WhereTold-refl}
+use Rattle.dio_core.proofs.Sinks.{with_more-with_more, with_more-nil}
+use Rattle.rdt_types.specs.declared.settings.Settings.{Settings}
 use Rattle.txn_grammar.specs.Characters.{Text}
-use Rattle.txn_lang.specs.States.{Journal}
-use Rattle.script_runner.specs.declared.stop.Stop.{Stop}
-use Rattle.script_runner.specs.declared.stop.Stop.TheVariants as stop
+use Rattle.script_runner.specs.declared.stop.Cause.{Cause}
+use Rattle.script_runner.specs.declared.stop.Cause.TheVariants as cause
 use Rattle.script_runner.specs.declared.stop.TheConstants.{MOST_LINES}
-use Rattle.script_runner.specs.Play.{Played, played, nothing_played, one_more, answer_raw}
-use Rattle.script_runner.specs.Script.{Told, DoesLine, BeginsLine, Turns, HasPlayed, PlaysOn, IsPlayed, IsBrokenOff, IsCutOff, ReadsLine, Ran}
-use Rattle.script_runner.proofs.Turns.{with_back-twice}
+use Rattle.script_runner.specs.Play.{ScriptWorld, Played, played, nothing_played, one_more, reply_to, world_of}
+use Rattle.script_runner.specs.Script.{IsPlayed, IsBrokenOff, HasTooManyLines, IsCutOff, but_last}
+use Rattle.script_runner.specs.code.Turns.{Moment, DoesLine, BeginsLine, Turns, StopsReading, HasPlayed, Plays, Ran}
 
 -- one more line, played after the others
-played-push : (limit : ℕ) (raws : List Text) (raw : Text) → played limit (raws ++ raw ∷ []) ≡ one_more limit (played limit raws) raw
-played-push limit raws raw = fold-append (one_more limit) nothing_played raws (raw ∷ [])
+played-push : (settings : Settings) (raws : List Text) (raw : Text)
+    → played settings (raws ++ raw ∷ []) ≡ one_more settings (played settings raws) raw
+played-push settings raws raw = fold-append (one_more settings) nothing_played raws (raw ∷ [])
+
+-- its output is that of the others and the reply to it
+output-push : (settings : Settings) (raws : List Text) (raw : Text)
+    → (played settings (raws ++ raw ∷ [])).output ≡ (played settings raws).output ++ reply_to settings (played settings raws).world raw
+output-push settings raws raw = ap (λ (p : Played). p.output) (played-push settings raws raw)
 
 -- more lines only add to the output
-output-grows : (limit : ℕ) (raws : List Text) (p : Played) → (more : Text) × ((fold (one_more limit) p raws).output ≡ p.output ++ more)
-output-grows limit [] p = ([], sym (append-nil p.output))
-output-grows limit (raw ∷ raws) p =
-    let rest = output-grows limit raws (one_more limit p raw) in
-    let reply = (answer_raw limit p.journal raw).1 in
-    (reply ++ rest.0, rest.1 ∙ append_assoc p.output reply rest.0)
+output-grows : (settings : Settings) (raws : List Text) (p : Played) → length p.output ≤ length (fold (one_more settings) p raws).output
+output-grows settings [] p = omega arith
+output-grows settings (raw ∷ raws) p =
+    omega (arith, output-grows settings raws (one_more settings p raw), length-append p.output (reply_to settings p.world raw))
 
-played-grows : (limit : ℕ) (raws more : List Text) → (text : Text) × ((played limit (raws ++ more)).output ≡ (played limit raws).output ++ text)
-played-grows limit raws more =
-    let rest = output-grows limit more (played limit raws) in
-    (rest.0, ap (λ (p : Played). p.output) (fold-append (one_more limit) nothing_played raws more) ∙ rest.1)
+-- so some of the lines have no more output than all of them
+output-take : (settings : Settings) (n : ℕ) (raws : List Text)
+    → length (played settings (take n raws)).output ≤ length (played settings raws).output
+output-take settings n raws =
+    let all : played settings raws ≡ fold (one_more settings) (played settings (take n raws)) (drop n raws) =
+    ap (played settings) (sym (take-append-drop n raws)) ∙ fold-append (one_more settings) nothing_played (take n raws) (drop n raws) in
+    omega (arith, output-grows settings (drop n raws) (played settings (take n raws)), ap (λ (p : Played). length p.output) all)
+
+-- all of one text and then some of another
+take-beyond : (xs ys : Text) (k : ℕ) → take (length xs + k) (xs ++ ys) ≡ xs ++ take k ys
+take-beyond [] ys k = ap (λ (n : ℕ). take n ys) (let e : 0 + k ≡ k = omega arith in e)
+take-beyond (x ∷ xs) ys k =
+    let further : suc (length xs) + k ≡ suc (length xs + k) = omega arith in
+    ap (λ (n : ℕ). take n (x ∷ (xs ++ ys))) further ∙ ap (λ zs. x ∷ zs) (take-beyond xs ys k)
+
+-- all lines but the last, where one was added
+but_last-push : (raws : List Text) (raw : Text) → but_last (raws ++ raw ∷ []) ≡ raws
+but_last-push raws raw =
+    let long : length (raws ++ raw ∷ []) - 1 ≡ length raws = omega (arith, length-append raws (raw ∷ [])) in
+    ap (λ (n : ℕ). take n (raws ++ raw ∷ [])) long ∙ take_at raws (raw ∷ []) (length raws) refl
 
 -- nothing was played yet
-pub plays-none : (limit : ℕ) (left taken : Told) → PlaysOn limit left left [] taken taken 0
-plays-none limit None taken = refl
-plays-none limit (Some all) None = record { raws = []; read = refl; many = refl; made = refl; output = refl }
-plays-none limit (Some all) (Some taken) = record { raws = []; read = refl; many = refl; made = refl; output = ap (λ t. Some t) (sym (append-nil taken)) }
+pub plays-none : (settings : Settings) (left taken : Option Text) (start : Moment) → start.world ≡ world_of []
+    → Plays settings 0 start start
+plays-none settings left taken start empty = WhereTold-refl (HasPlayed settings 0 start start) start.left (λ all. record {
+  raws = [];
+  read = refl;
+  many = refl;
+  made = empty;
+  output = sym (with_more-nil start.taken);
+})
 
-module _ (limit : ℕ) where
-  more_played : (all rest rest_then : Text) (old new : Journal) (taken now now_then : Told) (n : ℕ)
-      → HasPlayed limit all rest old taken now n → DoesLine limit rest rest_then old new now now_then → HasPlayed limit all rest_then new taken now_then (n + 1)
-  more_played all rest rest_then old new taken now now_then n past line = record {
-    raws = past.raws ++ line.raw ∷ [];
-    read = past.read ∙ (ap (λ ls. past.raws ++ ls) line.read ∙ sym (append_assoc past.raws (line.raw ∷ []) (lines rest_then)));
-    many = length-append past.raws (line.raw ∷ []) ∙ ap (λ k. k + 1) past.many;
-    made = line.journal ∙ (ap (λ j. (answer_raw limit j line.raw).0) past.made ∙ sym (ap (λ (p : Played). p.journal) (played-push limit past.raws line.raw)));
-    output =
-        line.output
-        ∙ (ap (λ t. with_back t (answer_raw limit old line.raw).1) past.output
-        ∙ (with_back-twice taken (played limit past.raws).output (answer_raw limit old line.raw).1
-        ∙ ap (with_back taken) (ap (λ j. (played limit past.raws).output ++ (answer_raw limit j line.raw).1) past.made ∙ sym (ap (λ (p : Played). p.output) (played-push limit past.raws line.raw)))));
-  }
-
-  -- and then a line
-  pub plays-more : (left now now_then : Told) (old new : Journal) (taken took took_then : Told) (n : ℕ)
-      → PlaysOn limit left now old taken took n → Turns limit (Ok true) now now_then old new took took_then → PlaysOn limit left now_then new taken took_then (n + 1)
-  plays-more None None now_then old new taken took took_then n past turn = turn
-  plays-more None (Some rest) now_then old new taken took took_then n past turn = absurd (cc)
-  plays-more (Some all) None now_then old new taken took took_then n past turn = absurd past
-  plays-more (Some all) (Some rest) None old new taken took took_then n past turn = absurd turn
-  plays-more (Some all) (Some rest) (Some rest_then) old new taken took took_then n past turn = more_played all rest rest_then old new taken took took_then n past turn
-
-  -- the output of lines is a front of that of the whole input
-  cut_off : (all : Text) (raws : List Text) (rest : Text) (left took taken : Told) (text : Text)
-      → lines all ≡ raws ++ lines rest → length raws ≤ MOST_LINES → (left ≡ Some rest) ⊎ BreaksOff (Some rest) left
-      → with_back took text ≡ with_back taken (played limit raws).output → IsCutOff limit all left taken took
-  cut_off all raws rest left took taken text read few place output =
-      let more = played-grows limit raws (lines rest) in
-      record {
-        raws = raws;
-        rest = rest;
-        read = read;
-        few = few;
-        place = place;
-        more = text ++ more.0;
+module _ (settings : Settings) where
+  -- one more line of an input that is told
+  more_played : (n : ℕ) (start now then : Moment) (all mid rest : Text) → HasPlayed settings n start now all mid
+      → DoesLine settings now then mid rest
+      → HasPlayed settings (n + 1) start then all rest
+  more_played n start now then all mid rest past line =
+      let out = (played settings past.raws).output in
+      let same = ap (λ (w : ScriptWorld). reply_to settings w line.raw) past.made in record {
+        raws = past.raws ++ line.raw ∷ [];
+        read = past.read ∙ ap (λ ls. past.raws ++ ls) line.read ∙ sym (append_assoc past.raws (line.raw ∷ []) (lines rest));
+        many = length-append past.raws (line.raw ∷ []) ∙ ap (λ k. k + 1) past.many;
+        made =
+            line.world ∙ ap (λ (w : ScriptWorld). (one_more settings (record { world = w; output = out }) line.raw).world) past.made
+            ∙ sym (ap (λ (p : Played). p.world) (played-push settings past.raws line.raw));
         output =
-            sym (with_back-twice took text more.0)
-            ∙ (ap (λ t. with_back t more.0) output
-            ∙ (with_back-twice taken (played limit raws).output more.0
-            ∙ ap (with_back taken) (sym more.1 ∙ sym (ap (λ ls. (played limit ls).output) read))));
+            line.output ∙ ap (λ t. with_more t (reply_to settings now.world line.raw)) past.output
+            ∙ with_more-with_more start.taken out (reply_to settings now.world line.raw)
+            ∙ ap (λ reply. with_more start.taken (out ++ reply)) same
+            ∙ ap (with_more start.taken) (sym (output-push settings past.raws line.raw));
       }
 
-  -- a line whose reply was begun
-  begun_front : (all rest : Text) (old : Journal) (left taken took took_then : Told) (n : ℕ) → n < MOST_LINES
-      → HasPlayed limit all rest old taken took n → BeginsLine limit rest left old took took_then → IsCutOff limit all left taken took_then
-  begun_front all rest old left taken took took_then n few past begun =
-      let out = (played limit past.raws).output in
-      let line = begun.line in
-      let reply = (answer_raw limit old line.raw).1 in
-      cut_off all (past.raws ++ line.raw ∷ []) line.rest left took_then taken begun.more
-      (past.read ∙ (ap (λ ls. past.raws ++ ls) line.read ∙ sym (append_assoc past.raws (line.raw ∷ []) (lines line.rest))))
-      (omega (arith, length-append past.raws (line.raw ∷ []), past.many))
-      (inl line.behind)
-      (begun.output
-      ∙ (ap (λ t. with_back t reply) past.output
-      ∙ (with_back-twice taken out reply
-      ∙ ap (with_back taken) (ap (λ j. out ++ (answer_raw limit j line.raw).1) past.made ∙ sym (ap (λ (p : Played). p.output) (played-push limit past.raws line.raw))))))
+  -- and then a line
+  pub plays-more : (n : ℕ) (start now then : Moment) → Plays settings n start now → Turns settings (Ok true) now then
+      → Plays settings (n + 1) start then
+  plays-more n start now then = WhereTold-then start.left now.left then.left (more_played n start now then)
 
-  with_back-nothing : (t : Told) → with_back t [] ≡ t
-  with_back-nothing None = refl
-  with_back-nothing (Some taken) = ap (λ xs. Some xs) (append-nil taken)
+  -- the input ended behind these lines
+  ended : (n : ℕ) (start now then : Moment) (all mid rest : Text) → n ≤ MOST_LINES → then.taken ≡ now.taken
+      → HasPlayed settings n start now all mid → (mid ≡ []) × (rest ≡ []) → IsPlayed settings start.taken then.taken all rest
+  ended n start now then all mid rest few same past none =
+      let read : lines all ≡ past.raws = past.read ∙ ap (λ bytes. past.raws ++ lines bytes) none.0 ∙ append-nil past.raws in record {
+        whole = none.1;
+        few = omega (arith, ap length read, past.many);
+        output = same ∙ past.output ∙ ap (λ raws. with_more start.taken (played settings raws).output) (sym read);
+      }
 
-  -- a line was begun, and nothing more was written
-  broken_front : (all rest : Text) (old : Journal) (left taken took took_then : Told) (n : ℕ) → n ≤ MOST_LINES
-      → HasPlayed limit all rest old taken took n → BreaksOff (Some rest) left → took_then ≡ took → IsCutOff limit all left taken took_then
-  broken_front all rest old left taken took took_then n few past broken same =
-      cut_off all past.raws rest left took_then taken [] past.read (omega (arith, past.many)) (inr broken) (with_back-nothing took_then ∙ (same ∙ past.output))
+  -- a turn that found no line
+  pub plays-ended : (n : ℕ) (start now then : Moment) → n ≤ MOST_LINES → Plays settings n start now → Turns settings (Ok false) now then
+      → Ran settings (Ok tt) start then
+  plays-ended n start now then few past none =
+      WhereTold-then start.left now.left then.left (λ all mid rest. ended n start now then all mid rest few none.1) past none.0
 
-  -- there was no memory in a line, or for what it does
-  wanting_front : (all rest : Text) (old : Journal) (left taken took took_then : Told) (n : ℕ) → n < MOST_LINES
-      → HasPlayed limit all rest old taken took n → BreaksOff (Some rest) left ⊎ ReadsLine rest left → took_then ≡ took → IsCutOff limit all left taken took_then
-  wanting_front all rest old left taken took took_then n few past (inl broken) same = broken_front all rest old left taken took took_then n (omega arith) past broken same
-  wanting_front all rest old left taken took took_then n few past (inr line) same =
-      let reply = (answer_raw limit old line.raw).1 in
-      begun_front all rest old left taken took took_then n few past (record { line = line; more = reply; output = ap (λ t. with_back t reply) same })
-
-  broken_off : (all rest : Text) (old : Journal) (left taken took took_then : Told) (n : ℕ) → n ≤ MOST_LINES
-      → HasPlayed limit all rest old taken took n → BreaksOff (Some rest) left → took_then ≡ took → IsBrokenOff limit all left taken took_then
-  broken_off all rest old left taken took took_then n few past broken same = record {
+  -- a line was begun behind these, and nothing more was written
+  broken : (n k : ℕ) (start now then : Moment) (all mid rest : Text) → n ≤ MOST_LINES → k < LONGEST_RUN → then.taken ≡ now.taken
+      → HasPlayed settings n start now all mid → IsBegun k mid rest → IsBrokenOff settings start.taken then.taken all rest
+  broken n k start now then all mid rest few short same past begun = record {
     raws = past.raws;
-    rest = rest;
+    broken = mid;
     read = past.read;
     few = omega (arith, past.many);
-    broken = broken;
+    breaks = (k, omega arith, short, begun);
     output = same ∙ past.output;
   }
 
-  stopped : (all rest : Text) (old new : Journal) (left taken took took_then : Told) (n : ℕ) → n < MOST_LINES
-      → HasPlayed limit all rest old taken took n → (e : Stop) → Turns limit (Err e) (Some rest) left old new took took_then → Ran limit (Err e) (Some all) left taken took_then
-  stopped all rest old new left taken took took_then n few past stop.ReadFault turn = broken_off all rest old left taken took took_then n (omega arith) past turn.0 turn.1
-  stopped all rest old new left taken took took_then n few past stop.WriteFault turn = begun_front all rest old left taken took took_then n few past turn
-  stopped all rest old new left taken took took_then n few past stop.NoMemory turn = wanting_front all rest old left taken took took_then n few past turn.0 turn.1
-  stopped all rest old new left taken took took_then n few past stop.TooManyLines turn = absurd turn
+  -- a run that was broken off in a line is cut off there
+  cut_broken : (taken taken_then : Option Text) (all rest : Text) → IsBrokenOff settings taken taken_then all rest
+      → IsCutOff settings taken taken_then all rest
+  cut_broken taken taken_then all rest off =
+      let out = (played settings off.raws).output in record {
+        raws = off.raws;
+        behind = off.broken;
+        read = off.read;
+        few = off.few;
+        place = off.breaks;
+        count = length out;
+        within = omega arith;
+        answered = output-take settings (length off.raws - 1) off.raws;
+        output = off.output ∙ ap (with_more taken) (sym (take_all (length out) out (omega arith)));
+      }
+
+  -- a line was read behind these, and of its reply a prefix was taken
+  cut_begun : (n : ℕ) (start now then : Moment) (all mid rest : Text) → n < MOST_LINES
+      → HasPlayed settings n start now all mid → BeginsLine settings now then mid rest → IsCutOff settings start.taken then.taken all rest
+  cut_begun n start now then all mid rest few past line =
+      let raws = past.raws ++ line.raw ∷ [] in
+      let out = (played settings past.raws).output in
+      let reply = reply_to settings now.world line.raw in
+      let whole : (played settings raws).output ≡ out ++ reply =
+      output-push settings past.raws line.raw ∙ ap (λ (w : ScriptWorld). out ++ reply_to settings w line.raw) (sym past.made) in
+      let k = line.output.0 in
+      let some : take (length out + k) (out ++ reply) ≡ out ++ take k reply = take-beyond out reply k in record {
+        raws = raws;
+        behind = rest;
+        read = past.read ∙ ap (λ ls. past.raws ++ ls) line.read ∙ sym (append_assoc past.raws (line.raw ∷ []) (lines rest));
+        few = omega (arith, length-append past.raws (line.raw ∷ []), past.many);
+        place = (0, omega arith, omega arith, (omega arith, tt, refl));
+        count = length out + k;
+        within = omega (arith, ap length whole, length-append out reply, line.output.1);
+        answered = omega (arith, ap (λ ls. length (played settings ls).output) (but_last-push past.raws line.raw));
+        output =
+            line.output.2 ∙ ap (λ t. with_more t (take k reply)) past.output
+            ∙ with_more-with_more start.taken out (take k reply)
+            ∙ ap (with_more start.taken) (sym some ∙ ap (take (length out + k)) (sym whole));
+      }
+
+  -- a line broke off behind these
+  stopped_reading : (n : ℕ) (start now then : Moment) → n ≤ MOST_LINES → Plays settings n start now → then.taken ≡ now.taken
+      → (e : OrNoMemory Cause) → StopsReading e now.left then.left → Ran settings (Err e) start then
+  stopped_reading n start now then few past same (stop.Cause cause.ReadFault) off =
+      WhereTold-then start.left now.left then.left (λ all mid rest. broken n off.0 start now then all mid rest few off.2 same) past off.3
+  stopped_reading n start now then few past same (stop.Cause cause.WriteFault) off = absurd off
+  stopped_reading n start now then few past same (stop.Cause cause.TooManyLines) off = absurd off
+  stopped_reading n start now then few past same stop.NoMemory off =
+      WhereTold-then start.left now.left then.left
+      (λ all mid rest played begun. cut_broken start.taken then.taken all rest
+      (broken n off.0 start now then all mid rest few off.2 same played begun))
+      past off.3
 
   -- a turn that stopped
-  pub plays-stopped : (left now now_then : Told) (old new : Journal) (taken took took_then : Told) (n : ℕ) → n < MOST_LINES
-      → PlaysOn limit left now old taken took n → (e : Stop) → Turns limit (Err e) now now_then old new took took_then → Ran limit (Err e) left now_then taken took_then
-  plays-stopped None now now_then old new taken took took_then n few past e turn = tt
-  plays-stopped (Some all) None now_then old new taken took took_then n few past e turn = absurd past
-  plays-stopped (Some all) (Some rest) now_then old new taken took took_then n few past e turn = stopped all rest old new now_then taken took took_then n few past e turn
+  pub plays-stopped : (n : ℕ) (start now then : Moment) → n < MOST_LINES → Plays settings n start now → (e : OrNoMemory Cause)
+      → Turns settings (Err e) now then → Ran settings (Err e) start then
+  plays-stopped n start now then few past (stop.Cause cause.ReadFault) turn =
+      stopped_reading n start now then (omega arith) past turn.1 (stop.Cause cause.ReadFault) turn.0
+  plays-stopped n start now then few past (stop.Cause cause.WriteFault) turn =
+      WhereTold-then start.left now.left then.left (λ all mid rest. cut_begun n start now then all mid rest few) past turn
+  plays-stopped n start now then few past (stop.Cause cause.TooManyLines) turn = absurd turn
+  plays-stopped n start now then few past stop.NoMemory (inl off) = stopped_reading n start now then
+      (omega arith) past off.1 stop.NoMemory off.0
+  plays-stopped n start now then few past stop.NoMemory (inr line) =
+      WhereTold-then start.left now.left then.left (λ all mid rest. cut_begun n start now then all mid rest few) past line
 
-  -- a read failed behind the last line that may be read, or there was no memory for one
-  unread : (all rest : Text) (journal : Journal) (left taken took : Told) (n : ℕ) → n ≤ MOST_LINES
-      → HasPlayed limit all rest journal taken took n → BreaksOff (Some rest) left → (f : LineFault) → Ran limit (Err (stop_of f)) (Some all) left taken took
-  unread all rest journal left taken took n few past broken fault.ReadFault = broken_off all rest journal left taken took took n few past broken refl
-  unread all rest journal left taken took n few past broken fault.NoMemory = broken_front all rest journal left taken took took n few past broken refl
+  -- a line broke off behind the last one that may be read
+  pub plays-unread : (n : ℕ) (start now then : Moment) → n ≤ MOST_LINES → Plays settings n start now → then.taken ≡ now.taken
+      → (e : OrNoMemory Cause) → StopsReading e now.left then.left → Ran settings (Err e) start then
+  plays-unread n start now then few past same e off = stopped_reading n start now then few past same e off
 
-  pub plays-unread : (left now now_then : Told) (journal : Journal) (taken took : Told) (n : ℕ) → n ≤ MOST_LINES
-      → PlaysOn limit left now journal taken took n → BreaksOff now now_then → (f : LineFault) → Ran limit (Err (stop_of f)) left now_then taken took
-  plays-unread None now now_then journal taken took n few past broken f = tt
-  plays-unread (Some all) None now_then journal taken took n few past broken f = absurd past
-  plays-unread (Some all) (Some rest) now_then journal taken took n few past broken f = unread all rest journal now_then taken took n few past broken f
+  -- a line behind the last one that may be read
+  one_too_many : (n : ℕ) (start now then : Moment) (l : Line) (all mid rest : Text) → n ≡ MOST_LINES → then.taken ≡ now.taken
+      → (l ≡ line.End → ⊥)
+      → HasPlayed settings n start now all mid → Answers l mid rest → HasTooManyLines settings start.taken then.taken all rest
+  one_too_many n start now then line.End all mid rest most same some past takes = absurd (some refl)
+  one_too_many n start now then (line.Bytes bytes) all mid rest most same some past takes = record {
+    raws = past.raws;
+    next = takes.raw;
+    read = past.read ∙ ap (λ ls. past.raws ++ ls) takes.first.0;
+    most = past.many ∙ most;
+    output = same ∙ past.output;
+  }
+  one_too_many n start now then line.TooLong all mid rest most same some past takes = record {
+    raws = past.raws;
+    next = takes.raw;
+    read = past.read ∙ ap (λ ls. past.raws ++ ls) takes.first.0;
+    most = past.many ∙ most;
+    output = same ∙ past.output;
+  }
 
--- the whole output is a front of itself
-pub played_cut_off : (limit : ℕ) (all : Text) (left taken took : Told) → IsPlayed limit all left taken took → IsCutOff limit all left taken took
-played_cut_off limit all left taken took whole =
-    cut_off limit all (lines all) [] left took taken [] (sym (append-nil (lines all))) whole.few (inl whole.whole) (with_back-nothing limit took ∙ whole.output)
+  pub plays-too_many : (n : ℕ) (start now then : Moment) (l : Line) → n ≡ MOST_LINES → then.taken ≡ now.taken → (l ≡ line.End → ⊥)
+      → Plays settings n start now → TakesLine l now.left then.left → Ran settings (Err (stop.Cause cause.TooManyLines)) start then
+  plays-too_many n start now then l most same some =
+      WhereTold-then start.left now.left then.left (λ all mid rest. one_too_many n start now then l all mid rest most same some)
 
-pub played_is_cut_off : (limit : ℕ) (old left taken took : Told)
-    → IfSome old (λ all. IsPlayed limit all left taken took) → IfSome old (λ all. IsCutOff limit all left taken took)
-played_is_cut_off limit None left taken took whole = tt
-played_is_cut_off limit (Some all) left taken took whole = played_cut_off limit all left taken took whole
+-- a run whose flush failed at the end is cut off behind the last line
+pub cut_whole : (settings : Settings) (taken taken_then : Option Text) (all rest : Text) → IsPlayed settings taken taken_then all rest
+    → IsCutOff settings taken taken_then all rest
+cut_whole settings taken taken_then all rest is =
+    let out = (played settings (lines all)).output in record {
+      raws = lines all;
+      behind = [];
+      read = sym (append-nil (lines all));
+      few = is.few;
+      place = (0, omega arith, omega arith, (omega arith, tt, is.whole));
+      count = length out;
+      within = omega arith;
+      answered = output-take settings (length (lines all) - 1) (lines all);
+      output = is.output ∙ ap (with_more taken) (sym (take_all (length out) out (omega arith)));
+    }

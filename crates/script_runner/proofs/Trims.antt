@@ -18,7 +18,7 @@ trimmed_end-solid : (z : List ℕ) (b : ℕ) → is_blank b ≡ false → trimme
 trimmed_end-solid [] b h = rw h
 trimmed_end-solid (x ∷ z) b h = ap (unless_last_blank x) (trimmed_end-solid z b h) ∙ unless_last_blank-longer x z b
 
--- a front, by its last byte
+-- a prefix, by its last byte
 take-last : (z : List ℕ) (n : ℕ) → 0 < n → n ≤ length z → take n z ≡ take (n - 1) z ++ get_or z (n - 1) 0 ∷ []
 take-last z n some within =
     let more : n ≡ n - 1 + 1 = omega arith in

@@ -1,61 +1,61 @@
 -- One line of a script.
-use Rattle.std.proofs.Common.{◌≡◌, ℕ, ◌≤◌, ◌<◌, true, false, ◌++◌, length, take, drop, cond, Some, None, Err, refl, sym, ap, ◌∙◌, arith, append_assoc}
-use Rattle.std.specs.Prelude.{nat_lt}
-use Rattle.std.proofs.lemmas.Bool.Decides.{nat_tests}
-use Rattle.std.proofs.lemmas.List.{take-append-drop}
+use Rattle.std.proofs.Common.{◌≡◌, Option, refl, ap, sym, ◌∙◌, subst, arith}
 use Rattle.dio_core.specs.declared.line.Line.{Line}
 use Rattle.dio_core.specs.declared.line.Line.TheVariants as line
-use Rattle.dio_core.specs.declared.line.TheConstants.{LONGEST_LINE}
-use Rattle.dio_core.specs.Lines.{TakesLine, IsShort, line_of}
-use Rattle.dio_core.specs.Sinks.{with_back, TakesFront}
+use Rattle.dio_core.specs.Told.{WhereTold}
+use Rattle.dio_core.specs.Lines.{TakesFirst, Answers, TakesLine, line_of}
+use Rattle.dio_core.specs.Sinks.{with_more, TakesPrefix}
+use Rattle.dio_core.proofs.Told.{WhereTold-map}
+use Rattle.dio_core.proofs.Sinks.{with_more-nil}
+use Rattle.rdt_types.specs.declared.settings.Settings.{Settings}
 use Rattle.txn_grammar.specs.Characters.{Text}
 use Rattle.txn_lang.specs.States.{Journal}
-use Rattle.script_runner.specs.declared.stop.Stop.TheVariants as stop
-use Rattle.script_runner.specs.Play.{answer, answer_raw}
-use Rattle.script_runner.specs.Script.{Told, BeginsLine, Turns}
+use Rattle.script_runner.specs.Play.{answer, world_of}
+use Rattle.script_runner.specs.code.Turns.{moment, DoesLine, BeginsLine}
 
--- a short line is answered whole
-line_of-short : (raw : Text) → length raw ≤ LONGEST_LINE → line_of (length raw) raw ≡ line.Bytes raw
-line_of-short raw short = ap (λ b. cond b line.TooLong (line.Bytes raw)) (let h : nat_lt LONGEST_LINE (length raw) ≡ false = grind (arith, nat_tests) in h)
+-- a line that is there is the first of the input
+first_taken : (l : Line) (all rest : Text) → (l ≡ line.End → ⊥) → Answers l all rest → TakesFirst l all rest
+first_taken line.End all rest some takes = absurd (some refl)
+first_taken (line.Bytes bytes) all rest some takes = takes
+first_taken line.TooLong all rest some takes = takes
 
--- a longer one is called too long
-line_of-long : (raw : Text) → LONGEST_LINE < length raw → line_of (length raw) raw ≡ line.TooLong
-line_of-long raw long = ap (λ b. cond b line.TooLong (line.Bytes raw)) (let h : nat_lt LONGEST_LINE (length raw) ≡ true = grind (arith, nat_tests) in h)
+module _ (settings : Settings) (old new : Journal) (reply : Text) (l : Line) (some : l ≡ line.End → ⊥)
+    (answered : answer settings.limit old l ≡ (new, reply)) (left left_then taken taken_then : Option Text) where
+  -- what was answered to the line is what the play answers to it
+  answer_is : (raw : Text) → l ≡ line_of raw → answer settings.limit old (line_of raw) ≡ (new, reply)
+  answer_is raw is = subst (λ (k : Line). answer settings.limit old k ≡ (new, reply)) is answered
 
--- what was taken, and then the rest of it
-pub with_back-twice : (taken : Told) (a b : Text) → with_back (with_back taken a) b ≡ with_back taken (a ++ b)
-with_back-twice None a b = refl
-with_back-twice (Some taken) a b = ap (λ xs. Some xs) (append_assoc taken a b)
+  -- a line was done, and its reply was taken
+  pub line-done : TakesLine l left left_then → taken_then ≡ with_more taken reply
+      → WhereTold (DoesLine settings (moment old left taken) (moment new left_then taken_then)) left left_then
+  line-done takes wrote = WhereTold-map left left_then (λ all rest is.
+      let line = first_taken l all rest some is in
+      let same = answer_is line.raw line.answered in record {
+        raw = line.raw;
+        read = line.first.0;
+        world = ap (λ (a : Journal × Text). world_of a.0) (sym same);
+        output = wrote ∙ ap (λ (a : Journal × Text). with_more taken a.1) (sym same);
+      }) takes
 
-module _ (limit : ℕ) (all rest : Text) (old new : Journal) (reply : Text) (taken taken_then : Told) (front : TakesFront reply taken taken_then) where
-  -- a reply of which a front was written
-  begun : (raw : Text) (l : Line) → line_of (length raw) raw ≡ l → answer limit old l ≡ (new, reply)
-      → with_back taken_then (drop front.0 reply) ≡ with_back taken (answer_raw limit old raw).1
-  begun raw l is answered =
-      ap (λ t. with_back t (drop front.0 reply)) front.2
-      ∙ (with_back-twice taken (take front.0 reply) (drop front.0 reply)
-      ∙ (ap (with_back taken) (take-append-drop front.0 reply)
-      ∙ ap (with_back taken) (sym (ap (λ (k : Line). (answer limit old k).1) is ∙ ap (λ (p : Journal × Text). p.1) answered))))
+  -- a line was done, and of its reply a prefix was taken
+  pub line-begun : TakesLine l left left_then → TakesPrefix reply taken taken_then
+      → WhereTold (BeginsLine settings (moment old left taken) (moment new left_then taken_then)) left left_then
+  line-begun takes wrote = WhereTold-map left left_then (λ all rest is.
+      let line = first_taken l all rest some is in
+      let same = answer_is line.raw line.answered in record {
+        raw = line.raw;
+        read = line.first.0;
+        output = subst (λ (bytes : Text). TakesPrefix bytes taken taken_then) (ap (λ (a : Journal × Text). a.1) (sym same)) wrote;
+      }) takes
 
-  begins : (l : Line) → TakesLine l (Some all) (Some rest) → IsShort l → (l ≡ line.End → ⊥) → answer limit old l ≡ (new, reply)
-      → BeginsLine limit all (Some rest) old taken taken_then
-  begins (line.Bytes bytes) takes short some answered = record {
-    line = record { raw = bytes; rest = rest; read = takes.0; behind = refl };
-    more = drop front.0 reply;
-    output = begun bytes (line.Bytes bytes) (line_of-short bytes short) answered;
-  }
-  begins line.TooLong takes short some answered = record {
-    line = record { raw = takes.0; rest = rest; read = takes.2.0; behind = refl };
-    more = drop front.0 reply;
-    output = begun takes.0 line.TooLong (line_of-long takes.0 takes.1) answered;
-  }
-  begins line.End takes short some answered = absurd (some refl)
-
--- a line whose reply was not written whole
-pub write_faults : (limit : ℕ) (left left_then : Told) (old new : Journal) (reply : Text) (taken taken_then : Told) (l : Line)
-    → TakesLine l left left_then → IsShort l → (l ≡ line.End → ⊥) → answer limit old l ≡ (new, reply) → TakesFront reply taken taken_then
-    → Turns limit (Err stop.WriteFault) left left_then old new taken taken_then
-write_faults limit None left_then old new reply taken taken_then l takes short some answered front = takes
-write_faults limit (Some all) None old new reply taken taken_then l takes short some answered front = absurd takes
-write_faults limit (Some all) (Some rest) old new reply taken taken_then l takes short some answered front =
-    begins limit all rest old new reply taken taken_then front l takes short some answered
+-- a line was read, and there was no memory for what it does
+pub line-wanting : (settings : Settings) (old new : Journal) (l : Line) → (l ≡ line.End → ⊥)
+    → (left left_then taken taken_then : Option Text)
+    → TakesLine l left left_then → taken_then ≡ taken
+    → WhereTold (BeginsLine settings (moment old left taken) (moment new left_then taken_then)) left left_then
+line-wanting settings old new l some left left_then taken taken_then takes same = WhereTold-map left left_then (λ all rest is.
+    let line = first_taken l all rest some is in record {
+      raw = line.raw;
+      read = line.first.0;
+      output = (0, omega arith, same ∙ sym (with_more-nil taken));
+    }) takes

@@ -5,5 +5,5 @@ pub mod Overlay
 pub mod Words
 pub mod Play
 pub mod Lines
-pub mod Stops
 pub mod Script
+pub mod code

@@ -2,10 +2,12 @@
 use Rattle.std.specs.Prelude.{ℕ, ◌+◌, nat_le, if◌then◌else◌, List, [], ◌∷◌, ◌++◌, fold, length, Option, Some, None, codes}
 use Rattle.std.specs.Str.{bytes_eq}
 use Rattle.std.specs.Fmt.{decimal}
+use Rattle.dio_core.specs.declared.line.TheConstants.{NEWLINE}
 use Rattle.dio_core.specs.declared.line.Line.{Line}
 use Rattle.dio_core.specs.declared.line.Line.TheVariants as line
 use Rattle.dio_core.specs.Lines.{lines, line_of}
 use Rattle.rdt_types.specs.declared.outcome.Outcome.{Outcome}
+use Rattle.rdt_types.specs.declared.settings.Settings.{Settings}
 use Rattle.dtext.specs.Printing.{printed_outcome}
 use Rattle.txn_trees.specs.declared.statement.Body.{Body}
 use Rattle.txn_grammar.specs.Characters.{Text}
@@ -21,7 +23,7 @@ use Rattle.script_runner.specs.Words.{trimmed, first_word, after_word, is_quiet,
 
 -- a reply line: the client, a space, the words and a newline
 abbrev pub reply_line : ℕ → Text → Text
-reply_line client words = ((decimal client ++ 32 ∷ []) ++ words) ++ 10 ∷ []
+reply_line client words = ((decimal client ++ 32 ∷ []) ++ words) ++ NEWLINE ∷ []
 
 abbrev pub commit_words : ℕ → Outcome → Text
 commit_words number outcome = ((codes "commit " ++ decimal number) ++ 32 ∷ []) ++ printed_outcome outcome
@@ -80,28 +82,42 @@ answer limit journal line.End = (journal, [])
 
 -- ---- what a script does
 
--- what lines have made of an empty journal, and their replies
-pub record Played : Type 0 where
+-- What a script has made so far: its journal.
+pub record ScriptWorld : Type 0 where
   pub journal : Journal
+
+-- the world of this journal
+abbrev pub world_of : Journal → ScriptWorld
+world_of journal = record { journal = journal }
+
+-- What lines have made of the world that they began with, and their replies.
+pub record Played : Type 0 where
+  pub world : ScriptWorld
   pub output : Text
 
+-- before the first line
 abbrev pub nothing_played : Played
-nothing_played = record { journal = []; output = [] }
+nothing_played = record { world = world_of []; output = [] }
 
--- a line as it stands in the input
-abbrev pub answer_raw : ℕ → Journal → Text → Answer
-answer_raw limit journal raw = answer limit journal (line_of (length raw) raw)
+-- the world after a line as it stands in the input
+abbrev pub world_after : Settings → ScriptWorld → Text → ScriptWorld
+world_after settings world raw = world_of (answer settings.limit world.journal (line_of raw)).0
 
-abbrev pub one_more : ℕ → Played → Text → Played
-one_more limit played raw = record {
-  journal = (answer_raw limit played.journal raw).0;
-  output = played.output ++ (answer_raw limit played.journal raw).1;
+-- the reply to such a line
+abbrev pub reply_to : Settings → ScriptWorld → Text → Text
+reply_to settings world raw = (answer settings.limit world.journal (line_of raw)).1
+
+-- and then one more line
+abbrev pub one_more : Settings → Played → Text → Played
+one_more settings played raw = record {
+  world = world_after settings played.world raw;
+  output = played.output ++ reply_to settings played.world raw;
 }
 
 -- lines in order
-abbrev pub played : ℕ → List Text → Played
-played limit raws = fold (one_more limit) nothing_played raws
+abbrev pub played : Settings → List Text → Played
+played settings raws = fold (one_more settings) nothing_played raws
 
--- a whole input, on a journal with this limit
-abbrev pub play : ℕ → Text → Played
-play limit bytes = played limit (lines bytes)
+-- a whole input
+abbrev pub play : Settings → Text → Played
+play settings bytes = played settings (lines bytes)

@@ -1,119 +1,124 @@
--- What a run of a script has read and written when it ends, or when it stops before.
-use Rattle.std.specs.Prelude.{◌≡◌, ℕ, ◌≤◌, ◌⊎◌, Bool, true, false, List, [], ◌∷◌, ◌++◌, length, Option, Some, None, IfSome, Result, Ok, Err}
+-- What a run of a script promises, by the status that it answers.
+use Rattle.std.specs.Prelude.{◌≡◌, ℕ, ◌-◌, ◌≤◌, ◌⊎◌, ◌==◌, List, [], ◌∷◌, ◌++◌, length, take, Option, Some, IfSome, IsTrue, refl}
+use Rattle.std.specs.List.{list_any}
+use Rattle.dio_core.specs.Told.{WhereTold}
+use Rattle.dio_core.specs.Counts.{Rose, IsCounted}
 use Rattle.dio_core.specs.Lines.{lines, BreaksOff}
-use Rattle.dio_core.specs.Sinks.{with_back}
+use Rattle.dio_core.specs.Sinks.{with_more, IsPassedOn}
+use Rattle.rdt_types.specs.declared.settings.Settings.{Settings}
 use Rattle.txn_grammar.specs.Characters.{Text}
-use Rattle.txn_lang.specs.States.{Journal}
-use Rattle.script_runner.specs.declared.stop.Stop.{Stop}
-use Rattle.script_runner.specs.declared.stop.Stop.TheVariants as stop
+use Rattle.txn_lang.specs.Journals.{IsLegal}
+use Rattle.script_runner.specs.declared.status.TheConstants.{WHOLE, READ_FAULT, WRITE_FAULT, NO_MEMORY, TOO_MANY_LINES}
 use Rattle.script_runner.specs.declared.stop.TheConstants.{MOST_LINES}
-use Rattle.script_runner.specs.Play.{played, play, answer_raw}
+use Rattle.script_runner.specs.Play.{played, play}
 
--- what a source has left, or a sink has taken, or None where it doesn't tell
-abbrev pub Told : Type 0
-Told = Option Text
+-- ---- the limits and the statuses
 
--- ---- one line
+MOST_LINES-is : MOST_LINES ≡ 1000000
+MOST_LINES-is = refl
 
--- One line was read, done and answered.
-pub record DoesLine (limit : ℕ) (all rest : Text) (old new : Journal) (taken taken_then : Told) : Type 0 where
-  pub raw : Text
-  pub read : lines all ≡ raw ∷ lines rest
-  pub journal : new ≡ (answer_raw limit old raw).0
-  pub output : taken_then ≡ with_back taken (answer_raw limit old raw).1
+statuses-are : WHOLE ∷ READ_FAULT ∷ WRITE_FAULT ∷ NO_MEMORY ∷ TOO_MANY_LINES ∷ [] ≡ 0 ∷ 3 ∷ 4 ∷ 5 ∷ 9 ∷ []
+statuses-are = refl
 
--- One line was read.
-pub record ReadsLine (all : Text) (left : Told) : Type 0 where
-  pub raw : Text
-  pub rest : Text
-  pub read : lines all ≡ raw ∷ lines rest
-  pub behind : left ≡ Some rest
+-- ---- the two streams of a run
 
--- One line was read, and a front of its reply was written.
-pub record BeginsLine (limit : ℕ) (all : Text) (left : Told) (old : Journal) (taken taken_then : Told) : Type 0 where
-  pub line : ReadsLine all left
-  pub more : Text
-  pub output : with_back taken_then more ≡ with_back taken (answer_raw limit old line.raw).1
+-- The source, when the run begins and when it ends.
+pub record Reading : Type 0 where
+  pub left : Option Text  -- what it has left, or None where it doesn't tell
+  pub left_then : Option Text
+  pub faults : ℕ  -- how many reads have failed
+  pub faults_then : ℕ
 
-abbrev pub DoesLineOn : ℕ → Text → Told → Journal → Journal → Told → Told → Type 0
-DoesLineOn limit all None old new taken taken_then = ⊥
-DoesLineOn limit all (Some rest) old new taken taken_then = DoesLine limit all rest old new taken taken_then
+-- the source of a run, by what sources tell
+abbrev pub reading : {S : Type 0} → (S → Option Text) → (S → ℕ) → S → S → Reading
+reading left faults old new = record { left = left old; left_then = left new; faults = faults old; faults_then = faults new }
 
--- What a turn did, of an input that is told: `true` says that there was a line.
-abbrev pub TurnsOn : ℕ → Result Bool Stop → Text → Told → Journal → Journal → Told → Told → Type 0
-TurnsOn limit (Ok true) all left old new taken taken_then = DoesLineOn limit all left old new taken taken_then
-TurnsOn limit (Ok false) all left old new taken taken_then = (all ≡ []) × (left ≡ Some []) × (taken_then ≡ taken)
-TurnsOn limit (Err stop.ReadFault) all left old new taken taken_then = BreaksOff (Some all) left × (taken_then ≡ taken)
-TurnsOn limit (Err stop.WriteFault) all left old new taken taken_then = BeginsLine limit all left old taken taken_then
-TurnsOn limit (Err stop.NoMemory) all left old new taken taken_then = (BreaksOff (Some all) left ⊎ ReadsLine all left) × (taken_then ≡ taken)
-TurnsOn limit (Err stop.TooManyLines) all left old new taken taken_then = ⊥
+-- The sink, when the run begins and when it ends.
+pub record Writing : Type 0 where
+  pub taken : Option Text  -- what it has taken, or None where it doesn't tell
+  pub taken_then : Option Text
+  pub passed_then : Option Text  -- what of it has been passed on at the end
+  pub faults : ℕ  -- how many writes and flushes have failed
+  pub faults_then : ℕ
 
-abbrev pub Turns : ℕ → Result Bool Stop → Told → Told → Journal → Journal → Told → Told → Type 0
-Turns limit result None left old new taken taken_then = left ≡ None
-Turns limit result (Some all) left old new taken taken_then = TurnsOn limit result all left old new taken taken_then
+-- the sink of a run, by what sinks tell
+abbrev pub writing : {W : Type 0} → (W → Option Text) → (W → Option Text) → (W → ℕ) → W → W → Writing
+writing taken passed faults old new =
+    record { taken = taken old; taken_then = taken new; passed_then = passed new; faults = faults old; faults_then = faults new }
 
--- ---- many lines
-
--- So many lines of the input were read, done and answered, and this is what is left.
-pub record HasPlayed (limit : ℕ) (all rest : Text) (journal : Journal) (taken taken_then : Told) (count : ℕ) : Type 0 where
-  pub raws : List Text
-  pub read : lines all ≡ raws ++ lines rest
-  pub many : length raws ≡ count
-  pub made : journal ≡ (played limit raws).journal
-  pub output : taken_then ≡ with_back taken (played limit raws).output
-
-abbrev pub HasPlayedOn : ℕ → Text → Told → Journal → Told → Told → ℕ → Type 0
-HasPlayedOn limit all None journal taken taken_then count = ⊥
-HasPlayedOn limit all (Some rest) journal taken taken_then count = HasPlayed limit all rest journal taken taken_then count
-
-abbrev pub PlaysOn : ℕ → Told → Told → Journal → Told → Told → ℕ → Type 0
-PlaysOn limit None left journal taken taken_then count = left ≡ None
-PlaysOn limit (Some all) left journal taken taken_then count = HasPlayedOn limit all left journal taken taken_then count
-
--- ---- whole runs
+-- ---- how a run may end, from all of an input to the rest of it, and from what was taken to what is taken then
 
 -- The whole input was read, and its whole output was taken.
-pub record IsPlayed (limit : ℕ) (all : Text) (left taken taken_then : Told) : Type 0 where
-  pub whole : left ≡ Some []
-  pub output : taken_then ≡ with_back taken (play limit all).output
+pub record IsPlayed (settings : Settings) (taken taken_then : Option Text) (all rest : Text) : Type 0 where
+  pub whole : rest ≡ []
   pub few : length (lines all) ≤ MOST_LINES
+  pub output : taken_then ≡ with_more taken (play settings all).output
 
 -- A read failed in a line. The lines before it were read whole, and their output was taken.
-pub record IsBrokenOff (limit : ℕ) (all : Text) (left taken taken_then : Told) : Type 0 where
+pub record IsBrokenOff (settings : Settings) (taken taken_then : Option Text) (all rest : Text) : Type 0 where
   pub raws : List Text
-  pub rest : Text
-  pub read : lines all ≡ raws ++ lines rest
+  pub broken : Text
+  pub read : lines all ≡ raws ++ lines broken
   pub few : length raws ≤ MOST_LINES
-  pub broken : BreaksOff (Some rest) left
-  pub output : taken_then ≡ with_back taken (played limit raws).output
+  pub breaks : BreaksOff (Some broken) (Some rest)
+  pub output : taken_then ≡ with_more taken (played settings raws).output
 
 -- One line more than the most was read. The output of those before it was taken.
-pub record IsTooLong (limit : ℕ) (all : Text) (left taken taken_then : Told) : Type 0 where
+pub record HasTooManyLines (settings : Settings) (taken taken_then : Option Text) (all rest : Text) : Type 0 where
   pub raws : List Text
   pub next : Text
-  pub rest : Text
   pub read : lines all ≡ raws ++ next ∷ lines rest
   pub most : length raws ≡ MOST_LINES
-  pub behind : left ≡ Some rest
-  pub output : taken_then ≡ with_back taken (played limit raws).output
+  pub output : taken_then ≡ with_more taken (played settings raws).output
 
--- No line behind the last one that may be read was read, and what was taken is a front of the whole output.
-pub record IsCutOff (limit : ℕ) (all : Text) (left taken taken_then : Told) : Type 0 where
+-- all lines but the last
+abbrev pub but_last : List Text → List Text
+but_last raws = take (length raws - 1) raws
+
+-- A write failed, or memory was wanting. Some lines were read, and perhaps one was begun. Of the output of those that
+-- were read a prefix was taken, behind what had been taken before. It has all replies but that to the last of them: each
+-- line is answered before the next one is read.
+pub record IsCutOff (settings : Settings) (taken taken_then : Option Text) (all rest : Text) : Type 0 where
   pub raws : List Text
-  pub rest : Text
-  pub read : lines all ≡ raws ++ lines rest
+  pub behind : Text
+  pub read : lines all ≡ raws ++ lines behind
   pub few : length raws ≤ MOST_LINES
-  pub place : (left ≡ Some rest) ⊎ BreaksOff (Some rest) left
-  pub more : Text
-  pub output : with_back taken_then more ≡ with_back taken (play limit all).output
+  pub place : BreaksOff (Some behind) (Some rest)
+  pub count : ℕ  -- how many bytes of the output were taken
+  pub within : count ≤ length (played settings raws).output
+  pub answered : length (played settings (but_last raws)).output ≤ count
+  pub output : taken_then ≡ with_more taken (take count (played settings raws).output)
 
-abbrev pub RanOn : ℕ → Result (Unit {0}) Stop → Text → Told → Told → Told → Type 0
-RanOn limit (Ok done) all left taken taken_then = IsPlayed limit all left taken taken_then
-RanOn limit (Err stop.ReadFault) all left taken taken_then = IsBrokenOff limit all left taken taken_then
-RanOn limit (Err stop.TooManyLines) all left taken taken_then = IsTooLong limit all left taken taken_then
-RanOn limit (Err stop.WriteFault) all left taken taken_then = IsCutOff limit all left taken taken_then
-RanOn limit (Err stop.NoMemory) all left taken taken_then = IsCutOff limit all left taken taken_then
+-- A flush was tried: it has passed on all that was taken, or it failed and was counted.
+abbrev pub TriesFlush : Writing → Type 0
+TriesFlush w = ((w.faults_then ≡ w.faults) × IsPassedOn w.taken_then w.passed_then) ⊎ Rose w.faults w.faults_then
 
--- what a run did, of a source that may not tell
-abbrev pub Ran : ℕ → Result (Unit {0}) Stop → Told → Told → Told → Told → Type 0
-Ran limit result old left taken taken_then = IfSome old (λ all. RanOn limit result all left taken taken_then)
+-- ---- what a run promises
+
+pub record KeepsPromises (settings : Settings) (status : ℕ) (r : Reading) (w : Writing) : Type 0 where
+  -- there are five statuses
+  pub statuses : IsTrue (list_any (λ s. s == status) (WHOLE ∷ READ_FAULT ∷ WRITE_FAULT ∷ NO_MEMORY ∷ TOO_MANY_LINES ∷ []))
+  -- at 0 nothing is left, and the whole output was taken
+  pub whole : status ≡ WHOLE → WhereTold (IsPlayed settings w.taken w.taken_then) r.left r.left_then
+  -- and passed on
+  pub flushed : status ≡ WHOLE → IsPassedOn w.taken_then w.passed_then
+  -- the journal that the script leaves is legal: each commit is what its body does on the state of those before it
+  pub legal : IfSome r.left (λ all. IsLegal 0 (play settings all).world.journal)
+  -- at 3 the output of the lines that were read whole was taken
+  pub broken_off : status ≡ READ_FAULT → WhereTold (IsBrokenOff settings w.taken w.taken_then) r.left r.left_then
+  -- at 9 that of the most lines that may be read
+  pub too_many : status ≡ TOO_MANY_LINES → WhereTold (HasTooManyLines settings w.taken w.taken_then) r.left r.left_then
+  -- at 4 and 5 a prefix of the output of the lines that were read, which has all replies but the last
+  pub cut_off : (status ≡ WRITE_FAULT) ⊎ (status ≡ NO_MEMORY) → WhereTold (IsCutOff settings w.taken w.taken_then) r.left r.left_then
+  -- the source's count rose at 3, and at no other status
+  pub reads : IsCounted (status == READ_FAULT) r.faults r.faults_then
+  -- the sink's count rose at 4
+  pub write_fault : status ≡ WRITE_FAULT → Rose w.faults w.faults_then
+  -- it stayed at 0 and 5
+  pub no_write_fault : (status ≡ WHOLE) ⊎ (status ≡ NO_MEMORY) → w.faults_then ≡ w.faults
+  -- at 3 and 9 no write failed before the flush at the end, which may have failed
+  pub tried : (status ≡ READ_FAULT) ⊎ (status ≡ TOO_MANY_LINES) → TriesFlush w
+  -- an input of no more lines than may be read, and over which no count rose, is played to its end, memory aside
+  pub completes : (all : Text) → r.left ≡ Some all → length (lines all) ≤ MOST_LINES → ¬ (Rose r.faults r.faults_then)
+      → ¬ (Rose w.faults w.faults_then)
+      → (status ≡ WHOLE) ⊎ (status ≡ NO_MEMORY)

@@ -1,13 +1,14 @@
 -- The words of a line.
 use Rattle.std.specs.Prelude.{◌≡◌, ℕ, ◌+◌, ◌-◌, ◌*◌, ◌==◌, Bool, true, not, ◌&&◌, nat_le, if◌then◌else◌, [], ◌∷◌, take, drop, Option, Some, None, codes, refl}
 use Rattle.std.specs.List.{prefix_len}
+use Rattle.script_runner.specs.declared.words.TheConstants.{LAST_CLIENT}
 use Rattle.txn_grammar.specs.Characters.{Text, is_blank, is_digit}
 
 -- what words are made of
 abbrev pub is_solid : ℕ → Bool
 is_solid b = not (is_blank b)
 
--- the text without the blanks at its front
+-- the text without the blanks at its beginning
 abbrev pub trimmed_start : Text → Text
 trimmed_start z = drop (prefix_len is_blank z) z
 
@@ -37,12 +38,15 @@ abbrev pub is_quiet : Text → Bool
 is_quiet [] = true
 is_quiet (b ∷ z) = b == 35
 
--- the client that a word names: a number from 0 to 63, without a leading zero
+-- the client that a word names: a number from 0 to the last client, without a leading zero
 abbrev pub client_named : Text → Option ℕ
 client_named (d ∷ []) = if is_digit d then Some (d - 48) else None
 client_named (d ∷ e ∷ []) =
-    if nat_le 49 d && nat_le d 54 && is_digit e && nat_le (10 * (d - 48) + (e - 48)) 63 then Some (10 * (d - 48) + (e - 48)) else None
+    if nat_le 49 d && is_digit d && is_digit e && nat_le (10 * (d - 48) + (e - 48)) LAST_CLIENT then Some (10 * (d - 48) + (e - 48)) else None
 client_named word = None
+
+LAST_CLIENT-is : LAST_CLIENT ≡ 63
+LAST_CLIENT-is = refl
 
 greatest-client : client_named (codes "63") ≡ Some 63
 greatest-client = refl

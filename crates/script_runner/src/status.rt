@@ -6,11 +6,11 @@ pub const WHOLE: u8 = 0;
 /// A read failed.
 pub const READ_FAULT: u8 = 3;
 
-/// A write failed.
+/// A write or the flush at the end failed.
 pub const WRITE_FAULT: u8 = 4;
 
 /// There was no memory.
 pub const NO_MEMORY: u8 = 5;
 
 /// There is a line behind the last one that may be read.
-pub const TOO_LONG: u8 = 9;
+pub const TOO_MANY_LINES: u8 = 9;

@@ -1,9 +1,12 @@
 //! The words of a line.
 
-ghost use Rattle.std.specs.Prelude.{◌≡◌, ◌≤◌, ◌<◌, length, IfSome};
+ghost use Rattle.std.specs.Prelude.{◌≡◌, ◌≤◌, length, IfSome};
 ghost use Rattle.std.specs.List.{prefix_len};
 ghost use Rattle.txn_grammar.specs.Characters.{is_blank};
 ghost use Rattle.script_runner.specs.Words as spec;
+
+/// The last client of a script. The first is 0.
+pub const LAST_CLIENT: u32 = 63;
 
 /// Space, tab and CR separate words.
 fn is_blank(byte: u8) -> bool
@@ -12,7 +15,7 @@ fn is_blank(byte: u8) -> bool
     byte == b' ' || byte == b'\t' || byte == b'\r'
 }
 
-/// How many bytes at the front are blanks.
+/// How many bytes at the beginning are blanks.
 fn blanks_len(text: &[u8]) -> usize
     ensures value { result ≡ prefix_len is_blank text.now }
     ensures within { result ≤ length text.now }
@@ -36,7 +39,7 @@ fn word_len(text: &[u8]) -> usize
     len
 }
 
-/// The text without the blanks at its front.
+/// The text without the blanks at its beginning.
 fn trimmed_start(text: &[u8]) -> &[u8]
     ensures value { result.now ≡ spec.trimmed_start text.now }
     ensures shorter { length result.now ≤ length text.now }
@@ -90,16 +93,20 @@ pub fn is_quiet(text: &[u8]) -> bool
     }
 }
 
-/// The client that a word names: a number from 0 to 63, without a leading zero.
+/// The client that a word names: a number from 0 to [`LAST_CLIENT`], without a leading zero.
 pub fn client_named(word: &[u8]) -> Option<u32>
     ensures value { result ≡ spec.client_named word.now }
-    ensures small { IfSome result (λ client. client < 64) }
+    ensures small { IfSome result (λ client. client ≤ LAST_CLIENT) }
 {
     match word {
         [units] if units.is_ascii_digit() => Some(u32::from(units - b'0')),
-        [tens @ b'1'..=b'6', units] if units.is_ascii_digit() => {
+        [tens @ b'1'..=b'9', units] if units.is_ascii_digit() => {
             let client = u32::from(tens - b'0') * 10 + u32::from(units - b'0');
-            if client <= 63 { Some(client) } else { None }
+            if client <= LAST_CLIENT {
+                Some(client)
+            } else {
+                None
+            }
         }
         _ => None,
     }

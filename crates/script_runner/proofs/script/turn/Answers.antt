@@ -1,11 +1,14 @@
-use Rattle.std.proofs.Common.{subst, List, ℕ}
-use Rattle.dio_core.specs.Sinks.{TakesFront}
-use Rattle.script_runner.proofs.Turns.{write_faults}
+use Rattle.std.proofs.Common.{refl, inr}
+use Rattle.std.proofs.lemmas.Result.{err_from_is_err_and}
+use Rattle.script_runner.proofs.Turns.{line-wanting}
 use Rattle.script_runner.proofs.script.turn.Goals as goal
 
-pub returns-clause-turns : goal.returns-clause-turns
-returns-clause-turns g c =
-    let front = subst (λ (bytes : List ℕ). TakesFront bytes (g.W.Sink.taken c.args.sink.now) (g.W.Sink.taken c.write_all.new.sink)) c.as_slice.ensures c.if-write_all.ensures.front in
-    write_faults c.args.limit (g.S.Source.left c.args.source.now) (g.S.Source.left c.next_line.new.source) c.args.world.now.journal c.answer.new.world.journal
-    c.in_ok-reply.reply (g.W.Sink.taken c.args.sink.now) (g.W.Sink.taken c.write_all.new.sink) c.in_ok-line.line
-    c.in_ok-line.ensures.line c.in_ok-line.ensures.short c.in_default.not-End c.in_ok-reply.ensures.answers front
+-- there was no memory for what the line does
+pub returns-in_err-reply : goal.returns-in_err-reply
+returns-in_err-reply g c =
+    let left = g.S.Source.left in
+    let taken = g.W.Sink.taken in
+    let wanting = line-wanting c.args.settings.now c.args.world.now.journal c.answer.new.world.journal c.in_ok-line.line c.in_default.not-End
+    (left c.args.source.now) (left c.read_line.new.source) (taken c.args.sink.now) (taken c.args.sink.now) c.in_ok-line.ensures.line refl in
+    let p = err_from_is_err_and c.from_residual-in_err-reply.result c.from_residual-in_err-reply.ensures.1 in
+    rw (p.1, p.2) (record { turns = inr wanting; keeps = tt; reads = c.in_ok-line.ensures.reads; writes = refl })

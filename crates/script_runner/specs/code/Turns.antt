@@ -1,0 +1,99 @@
+-- What the loop of a run knows: of one line, and of those so far. The laws of proofs/Turns.antt and proofs/Plays.antt tie
+-- it to the ways in which a run may end.
+use Rattle.std.specs.Prelude.{◌≡◌, ℕ, ◌⊎◌, Bool, true, false, List, [], ◌∷◌, ◌++◌, length, Option, Result, Ok, Err}
+use Rattle.plain_data.specs.declared.or_no_memory.OrNoMemory.{OrNoMemory}
+use Rattle.plain_data.specs.declared.or_no_memory.OrNoMemory.TheVariants as stop
+use Rattle.dio_core.specs.Told.{WhereTold}
+use Rattle.dio_core.specs.Lines.{lines, BreaksOff}
+use Rattle.dio_core.specs.Sinks.{with_more, TakesPrefix}
+use Rattle.rdt_types.specs.declared.settings.Settings.{Settings}
+use Rattle.txn_grammar.specs.Characters.{Text}
+use Rattle.txn_lang.specs.States.{Journal}
+use Rattle.script_runner.specs.declared.stop.Cause.{Cause}
+use Rattle.script_runner.specs.declared.stop.Cause.TheVariants as cause
+use Rattle.script_runner.specs.Play.{ScriptWorld, world_of, played, world_after, reply_to}
+use Rattle.script_runner.specs.Script.{IsPlayed, IsBrokenOff, HasTooManyLines, IsCutOff}
+
+-- What a run has at a moment: its world, what the source has left, and what the sink has taken.
+pub record Moment : Type 0 where
+  pub world : ScriptWorld
+  pub left : Option Text
+  pub taken : Option Text
+
+abbrev pub moment : Journal → Option Text → Option Text → Moment
+moment journal left taken = record { world = world_of journal; left = left; taken = taken }
+
+-- the run stops for a fault of its source
+abbrev pub read_stopped : {A : Type 0} → Result A (OrNoMemory Cause) → Bool
+read_stopped (Ok a) = false
+read_stopped (Err stop.NoMemory) = false
+read_stopped (Err (stop.Cause cause.ReadFault)) = true
+read_stopped (Err (stop.Cause cause.WriteFault)) = false
+read_stopped (Err (stop.Cause cause.TooManyLines)) = false
+
+-- the run stops for a fault of its sink
+abbrev pub write_stopped : {A : Type 0} → Result A (OrNoMemory Cause) → Bool
+write_stopped (Ok a) = false
+write_stopped (Err stop.NoMemory) = false
+write_stopped (Err (stop.Cause cause.ReadFault)) = false
+write_stopped (Err (stop.Cause cause.WriteFault)) = true
+write_stopped (Err (stop.Cause cause.TooManyLines)) = false
+
+-- a line broke off for want of memory, or for a fault of the source alone
+abbrev pub StopsReading : OrNoMemory Cause → Option Text → Option Text → Type 0
+StopsReading stop.NoMemory left left_then = BreaksOff left left_then
+StopsReading (stop.Cause cause.ReadFault) left left_then = BreaksOff left left_then
+StopsReading (stop.Cause cause.WriteFault) left left_then = ⊥
+StopsReading (stop.Cause cause.TooManyLines) left left_then = ⊥
+
+-- ---- one line
+
+-- One line was read, done and answered.
+pub record DoesLine (settings : Settings) (before after : Moment) (all rest : Text) : Type 0 where
+  pub raw : Text
+  pub read : lines all ≡ raw ∷ lines rest
+  pub world : after.world ≡ world_after settings before.world raw
+  pub output : after.taken ≡ with_more before.taken (reply_to settings before.world raw)
+
+-- One line was read, and a prefix of its reply was taken.
+pub record BeginsLine (settings : Settings) (before after : Moment) (all rest : Text) : Type 0 where
+  pub raw : Text
+  pub read : lines all ≡ raw ∷ lines rest
+  pub output : TakesPrefix (reply_to settings before.world raw) before.taken after.taken
+
+-- What a turn did: `true` says that there was a line.
+abbrev pub Turns : Settings → Result Bool (OrNoMemory Cause) → Moment → Moment → Type 0
+Turns settings (Ok true) before after = WhereTold (DoesLine settings before after) before.left after.left
+Turns settings (Ok false) before after =
+    WhereTold (λ all rest. (all ≡ []) × (rest ≡ [])) before.left after.left × (after.taken ≡ before.taken)
+Turns settings (Err (stop.Cause cause.ReadFault)) before after = BreaksOff before.left after.left × (after.taken ≡ before.taken)
+Turns settings (Err (stop.Cause cause.WriteFault)) before after = WhereTold (BeginsLine settings before after) before.left after.left
+Turns settings (Err (stop.Cause cause.TooManyLines)) before after = ⊥
+Turns settings (Err stop.NoMemory) before after =
+    (BreaksOff before.left after.left × (after.taken ≡ before.taken)) ⊎ WhereTold (BeginsLine settings before after) before.left after.left
+
+-- ---- many lines
+
+-- So many lines of the input were read, done and answered.
+pub record HasPlayed (settings : Settings) (count : ℕ) (start now : Moment) (all rest : Text) : Type 0 where
+  pub raws : List Text
+  pub read : lines all ≡ raws ++ lines rest
+  pub many : length raws ≡ count
+  pub made : now.world ≡ (played settings raws).world
+  pub output : now.taken ≡ with_more start.taken (played settings raws).output
+
+-- the same of a source that may not tell what it has left
+abbrev pub Plays : Settings → ℕ → Moment → Moment → Type 0
+Plays settings count start now = WhereTold (HasPlayed settings count start now) start.left now.left
+
+-- how a run ended
+abbrev pub Ends : Settings → Result (Unit {0}) (OrNoMemory Cause) → Option Text → Option Text → Text → Text → Type 0
+Ends settings (Ok done) taken taken_then = IsPlayed settings taken taken_then
+Ends settings (Err (stop.Cause cause.ReadFault)) taken taken_then = IsBrokenOff settings taken taken_then
+Ends settings (Err (stop.Cause cause.TooManyLines)) taken taken_then = HasTooManyLines settings taken taken_then
+Ends settings (Err (stop.Cause cause.WriteFault)) taken taken_then = IsCutOff settings taken taken_then
+Ends settings (Err stop.NoMemory) taken taken_then = IsCutOff settings taken taken_then
+
+-- what a run did, of a source that may not tell what it has left
+abbrev pub Ran : Settings → Result (Unit {0}) (OrNoMemory Cause) → Moment → Moment → Type 0
+Ran settings result start now = WhereTold (Ends settings result start.taken now.taken) start.left now.left
