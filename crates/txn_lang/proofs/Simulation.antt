@@ -33,7 +33,7 @@ use Rattle.txn_lang.specs.Execution.{ticks_of}
 use Rattle.txn_lang.specs.declared.progress.Stop.{Stop}
 use Rattle.txn_lang.specs.declared.progress.Stop.TheVariants as stop
 use Rattle.txn_lang.specs.declared.progress.Progress.{Progress}
-use Rattle.txn_lang.specs.Items.{Names, named, int_in, bool_in, text_in, texts_in, size_of, is_big, decides, joined, negated, length_of, read_of, write_of, write_with, text_write, counter_write, clear_of, text_size, elements_in, compares}
+use Rattle.txn_lang.specs.Items.{Names, named, int_in, bool_in, text_in, texts_in, size_of, is_big, decides, joined, negated, length_of, read_of, write_of, write_with, pair_write, text_write, counter_write, clear_of, text_size, elements_in, compares}
 use Rattle.txn_lang.specs.Rules.{Expression, Statement, sized, all_values, joined_with, link, chain, answer_with, address_of, of_node, of_expr, of_operand, node_run, expr_run, operand_run, body_run, all_steps, block, block_maybe, turn, turns, write_maybe, of_step, of_stmt, step_run, stmt_run}
 use Rattle.txn_trees.specs.declared.expression.Operand.{Operand}
 use Rattle.txn_lang.specs.Steps.{Memory, Step, stopped, gives, Stepping, and_then, ◌>>=◌, pure, stop_by, charge, carry, emit, answered, read_at, write_at}
@@ -69,6 +69,10 @@ clear_fits kind.Hash = refl
 clear_fits kind.List = refl
 clear_fits _ = tt
 
+pair_fits : (k : Kind) (f t : Bytes) → IsOfKind k (pair_write k f t)
+pair_fits kind.Hash f t = refl
+pair_fits _ f t = tt
+
 one_fits : (k : Kind) (word : WriteWord) (i : Item) → IsOfKind k (write_with k word i)
 one_fits kind.Bool word i = refl
 one_fits kind.Counter word i = counter_fits word (int_in i)
@@ -80,8 +84,7 @@ one_fits kind.List word i = text_fits kind.List word (text_in i)
 pub write_fits : (k : Kind) (word : WriteWord) (is : List Item) → IsOfKind k (write_of k word is)
 write_fits k word [] = clear_fits k
 write_fits k word (i ∷ []) = one_fits k word i
-write_fits kind.Hash word (i ∷ j ∷ is) = refl
-write_fits _ word (i ∷ j ∷ is) = tt
+write_fits k word (i ∷ j ∷ is) = pair_fits k (text_in i) (text_in j)
 
 module _ {M : Type 0} (m : Memory M) where
   abbrev pub expr_of : Expr → Expression M

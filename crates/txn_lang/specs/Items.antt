@@ -176,12 +176,16 @@ write_with kind.Counter word i = counter_write word (int_in i)
 write_with kind.Text _ i = Some (op.PutText (text_in i))
 write_with k word i = text_write k word (text_in i)
 
+-- the write of two arguments, which a hash alone has
+abbrev pub pair_write : Kind → Bytes → Bytes → Option WriteOp
+pair_write kind.Hash f t = Some (op.HashPut f t)
+pair_write _ f t = None
+
 -- what a word of a kind writes, with its arguments
 abbrev pub write_of : Kind → WriteWord → List Item → Option WriteOp
 write_of k word [] = clear_of k
 write_of k word (i ∷ []) = write_with k word i
-write_of kind.Hash word (i ∷ j ∷ _) = Some (op.HashPut (text_in i) (text_in j))
-write_of _ word (i ∷ j ∷ _) = None
+write_of k word (i ∷ j ∷ _) = pair_write k (text_in i) (text_in j)
 
 -- the texts among arguments
 abbrev pub text_size : Item → ℕ
