@@ -1,0 +1,4 @@
+pub mod LineFits
+pub mod ReplyFits
+pub mod Verbs
+pub mod PrintedBack
