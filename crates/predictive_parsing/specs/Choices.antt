@@ -57,7 +57,7 @@ pub record AreWords {W : Type 0} (spelled : W → Bytes) (first : W) (others : L
 -- ---- worked rows
 
 -- two words that begin alike, told apart at the third byte
-abbrev alike : Bool → Bytes
+abbrev pub alike : Bool → Bytes
 alike true = codes "see"
 alike false = codes "set"
 

@@ -1,20 +1,19 @@
 -- The reader of lines reads what their rule derives.
-use Rattle.std.proofs.Common.{◌≡◌, ◌<◌, ◌≤◌, ℕ, Bool, true, false, not, ◌&&◌, List, [], ◌∷◌, ◌++◌, Option, Some, None, refl, ap, sym, ◌∙◌, inl, inr, arith, cond, nat_eq, nat_le}
+use Rattle.std.proofs.Common.{◌≡◌, ◌<◌, ◌≤◌, ℕ, Bool, true, false, not, [], ◌∷◌, ◌++◌, Option, Some, None, refl, ap, ◌∙◌, inl, inr, arith}
 use Rattle.std.proofs.lemmas.Bool.Decides.{nat_tests}
 use Rattle.plain_data.specs.Texts.{Bytes}
 use Rattle.std.specs.List.{AllPass}
 use Rattle.std.proofs.lemmas.List.Elements.{All-head}
-use Rattle.predictive_parsing.specs.Reading.{Reader, and_then, next, one, pure, ahead, passing, of, run, run_up_to}
-use Rattle.predictive_parsing.specs.Rules.{Rule, One, Then, Pure, Or, Of, Run, RunUpTo, SpelledBy}
+use Rattle.predictive_parsing.specs.Reading.{Reader, and_then, next, pure, ahead, passing}
+use Rattle.predictive_parsing.specs.Rules.{Rule, One, Then, Pure, Run}
 use Rattle.predictive_parsing.specs.Fits.{Fits, any, unless}
 use Rattle.predictive_parsing.specs.Bytes.{IsByte}
 use Rattle.predictive_parsing.specs.Choices.{In, AreWords, are_bytes}
-use Rattle.predictive_parsing.proofs.Basic.{not_true}
 use Rattle.predictive_parsing.proofs.Combined.{pure_fits, one_fits, seen, onwards, followed, narrowed, either_fits, run_fits, run_up_to_fits, passing_ahead}
 use Rattle.predictive_parsing.proofs.Choices.{one_of_fits}
 use Rattle.dtext.specs.Characters.{is_blank, is_letter, is_digit, is_word}
 use Rattle.dtext.specs.Follows.{no_digit}
-use Rattle.dtext.specs.Spellings.{NaturalRule, PositiveRule}
+use Rattle.dtext.specs.Spellings.{NaturalRule}
 use Rattle.dtext.proofs.NumberFits.{natural_fits, positive_fits, digit_first}
 use Rattle.session_text.specs.declared.limits.TheConstants.{MOST_ATTEMPTS, LARGEST, NAME_REST}
 use Rattle.session_text.specs.declared.verb.Verb.{Verb}

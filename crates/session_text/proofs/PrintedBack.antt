@@ -1,11 +1,9 @@
 -- What is printed is a spelling of its reply.
-use Rattle.std.proofs.Common.{◌≡◌, ◌≤◌, ℕ, List, [], ◌∷◌, ◌++◌, refl, ap, sym, ◌∙◌, subst, inl, inr, codes, append_assoc, append-nil}
+use Rattle.std.proofs.Common.{◌≡◌, ◌≤◌, ℕ, [], ◌++◌, refl, ap, sym, ◌∙◌, subst, inl, inr, codes, append-nil}
 use Rattle.std.specs.Fmt.{decimal}
 use Rattle.plain_data.specs.Texts.{Bytes}
-use Rattle.predictive_parsing.specs.Rules.{Rule, Then, Pure, Of, Word, Behind, Run, RunUpTo}
+use Rattle.predictive_parsing.specs.Rules.{Rule, Then, Pure, Of, Word, Behind}
 use Rattle.rdt_types.specs.declared.address.Kind.{Kind}
-use Rattle.rdt_types.specs.declared.address.Kind.TheVariants as kinds
-use Rattle.rdt_types.specs.declared.address.Address.{Address}
 use Rattle.rdt_types.specs.declared.outcome.Outcome.{Outcome}
 use Rattle.rdt_types.specs.declared.operation.WriteOp.{WriteOp}
 use Rattle.rdt_types.specs.Printed.{printed_text, printed_address}

@@ -1,34 +1,28 @@
 -- The reader of replies reads what their rule derives.
-use Rattle.std.proofs.Common.{◌≡◌, ◌<◌, ◌≤◌, ℕ, Bool, true, false, not, ◌&&◌, List, [], ◌∷◌, ◌++◌, Option, Some, None, refl, ap, sym, ◌∙◌, inl, inr, arith, codes}
+use Rattle.std.proofs.Common.{◌≡◌, ℕ, Bool, true, not, ◌∷◌, ◌++◌, Option, Some, refl, ap, ◌∙◌, inl, inr, arith, codes}
 use Rattle.plain_data.specs.Texts.{Bytes}
-use Rattle.predictive_parsing.specs.Reading.{Reader, and_then, next, pure, either, of}
-use Rattle.predictive_parsing.specs.Rules.{Rule, Then, Pure, Or, Of, Word, Behind, SpelledBy}
-use Rattle.predictive_parsing.specs.Fits.{Fits, any, unless}
-use Rattle.predictive_parsing.specs.Bytes.{IsByte, sees, word, behind}
+use Rattle.predictive_parsing.specs.Reading.{Reader, and_then, next}
+use Rattle.predictive_parsing.specs.Rules.{Rule, Then, Or, Of, Word, Behind}
+use Rattle.predictive_parsing.specs.Fits.{Fits, any}
+use Rattle.predictive_parsing.specs.Bytes.{IsByte, sees}
 use Rattle.predictive_parsing.specs.Choices.{In, AreWords, are_bytes}
 use Rattle.predictive_parsing.proofs.Basic.{both}
 use Rattle.predictive_parsing.proofs.Combined.{fits_as, pure_fits, seen, onwards, narrowed, either_fits}
 use Rattle.predictive_parsing.proofs.Combined as combined
-use Rattle.predictive_parsing.proofs.Words.{behind_fits, named_fits, byte_begins}
+use Rattle.predictive_parsing.proofs.Words.{behind_fits, named_fits}
 use Rattle.predictive_parsing.proofs.Choices.{one_of_fits}
 use Rattle.rdt_types.specs.declared.address.Kind.{Kind}
 use Rattle.rdt_types.specs.declared.address.Kind.TheVariants as kinds
-use Rattle.rdt_types.specs.declared.address.Address.{Address}
-use Rattle.rdt_types.specs.declared.outcome.Outcome.{Outcome}
 use Rattle.conflict_table.specs.declared.observation.Obs.{Obs}
 use Rattle.conflict_table.specs.declared.observation.Obs.TheVariants as obs
-use Rattle.abort_witness.specs.declared.witness.Witness.{Witness}
 use Rattle.dtext.specs.Follows.{no_digit, no_more}
-use Rattle.dtext.specs.Spellings.{TextRule, NaturalRule, AddressRule, OutcomeRule, PartOf}
-use Rattle.dtext.specs.code.Reading.{text, natural, address, outcome, part_of}
+use Rattle.dtext.specs.Spellings.{TextRule, NaturalRule, AddressRule, OutcomeRule}
 use Rattle.dtext.proofs.TextFits.{text_fits}
 use Rattle.dtext.proofs.NumberFits.{natural_fits}
 use Rattle.dtext.proofs.FormFits.{address_fits, outcome_fits}
 use Rattle.dtext.proofs.PartFits.{part_of_fits}
 use Rattle.session_text.specs.declared.limits.TheConstants.{LARGEST, LARGEST_SHARD, LARGEST_COLUMN}
-use Rattle.session_text.specs.declared.reply.Reply.{Reply}
 use Rattle.session_text.specs.declared.reply.Reply.TheVariants as reply
-use Rattle.session_text.specs.declared.reply.Why.{Why}
 use Rattle.session_text.specs.declared.reply.Why.TheVariants as why
 use Rattle.session_text.specs.declared.reply_word.ReplyWord.{ReplyWord}
 use Rattle.session_text.specs.declared.reply_word.ReplyWord.TheVariants as first
@@ -38,8 +32,7 @@ use Rattle.session_text.specs.declared.why_word.WhyWord.TheVariants as reason
 use Rattle.session_text.specs.declared.why_word.TheConstants as whys
 use Rattle.session_text.specs.Printing.{word_of, why_of}
 use Rattle.session_text.specs.Lines.{NameRule}
-use Rattle.session_text.specs.Replies.{Numbered, ObsOf, Column, WhyForm, WhyRule, Ending, WitnessRule, Fronted, Twice, Form, ReplyRule}
-use Rattle.session_text.specs.code.Lines.{name}
+use Rattle.session_text.specs.Replies.{Numbered, ObsOf, Column, WhyForm, WhyRule, WitnessRule, Form, ReplyRule}
 use Rattle.session_text.specs.code.Replies.{numbered, whole_of, whole, all, set_obs, hash_obs, list_obs, obs_of, column, why_form, why_read, spaced_address, ending, spaced_name, witness, shard, commit, read, prepared, followed, at, ran, late, ahead_of, refused, form, reply_read}
 use Rattle.session_text.proofs.LineFits.{name_fits, no_word}
 

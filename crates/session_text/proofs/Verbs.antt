@@ -1,5 +1,5 @@
 -- The whole of a line.
-use Rattle.std.proofs.Common.{◌≡◌, ◌≢◌, true, Option, None, Result, Ok, Err, IfOk, refl, ap, sym, ◌∙◌}
+use Rattle.std.proofs.Common.{◌≡◌, ◌≢◌, Result, Ok, Err, IfOk, refl, ap, sym, ◌∙◌}
 use Rattle.plain_data.specs.Texts.{Bytes}
 use Rattle.predictive_parsing.specs.Reading.{whole, whole_of}
 use Rattle.predictive_parsing.specs.Bytes.{IsByte}

@@ -1,13 +1,9 @@
 -- The printed form of replies, a row a reply: words and numbers with one space between each two. Texts, addresses, outcomes
 -- and parts are printed as data is.
-use Rattle.std.specs.Prelude.{◌≡◌, ℕ, pos, [], ◌∷◌, ◌++◌, codes, refl}
+use Rattle.std.specs.Prelude.{ℕ, ◌++◌, codes}
 use Rattle.std.specs.Fmt.{decimal}
 use Rattle.plain_data.specs.Texts.{Bytes}
 use Rattle.rdt_types.specs.Printed.{printed_text, printed_address}
-use Rattle.rdt_types.specs.declared.address.Kind.TheVariants as kinds
-use Rattle.rdt_types.specs.declared.outcome.Outcome.TheVariants as outcomes
-use Rattle.rdt_types.specs.declared.outcome.Item.TheVariants as items
-use Rattle.rdt_types.specs.declared.operation.WriteOp.TheVariants as op
 use Rattle.conflict_table.specs.declared.observation.Obs.{Obs}
 use Rattle.conflict_table.specs.declared.observation.Obs.TheVariants as obs
 use Rattle.abort_witness.specs.declared.witness.Witness.{Witness}

@@ -1,5 +1,5 @@
 -- What is printed reads back.
-use Rattle.std.specs.Prelude.{◌≡◌, ℕ, ◌≤◌, []}
+use Rattle.std.specs.Prelude.{◌≤◌}
 use Rattle.plain_data.specs.Texts.{Bytes}
 use Rattle.predictive_parsing.specs.Rules.{Whole}
 use Rattle.abort_witness.specs.declared.witness.Witness.{Witness}

@@ -1,6 +1,6 @@
 -- The spellings of replies, as rules, a row a reply. Texts in them are read as leniently as texts are; observations and
 -- parts are of the kind of the address beside them.
-use Rattle.std.specs.Prelude.{ℕ, [], ◌∷◌, codes}
+use Rattle.std.specs.Prelude.{ℕ, codes}
 use Rattle.plain_data.specs.Texts.{Bytes}
 use Rattle.predictive_parsing.specs.Rules.{Rule, ◌>>=◌, Pure, Or, Of, Word, Behind, SpelledBy, Whole}
 use Rattle.rdt_types.specs.declared.address.Kind.{Kind}

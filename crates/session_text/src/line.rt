@@ -177,11 +177,7 @@ fn unwatch(alloc: Global, cursor: &mut Cursor<u8>) -> Result<Verb, OrNoMemory<Re
 
 /// What stands behind a word.
 #[tactic(auto, unfolding(crate::specs::code::Lines::form))]
-fn form(
-    alloc: Global,
-    word: VerbWord,
-    cursor: &mut Cursor<u8>,
-) -> Result<Verb, OrNoMemory<Refused>>
+fn form(alloc: Global, word: VerbWord, cursor: &mut Cursor<u8>) -> Result<Verb, OrNoMemory<Refused>>
     ensures { Reads (spec.form word cursor.old) result cursor.new }
 {
     match word {

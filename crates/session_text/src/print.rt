@@ -15,12 +15,7 @@ use rdt_types::{Address, Outcome};
 use std::alloc::{AllocError, Global};
 
 /// Adds a word, and a number behind it.
-fn push_counted(
-    alloc: Global,
-    out: &mut Text,
-    word: &[u8],
-    number: u64,
-) -> Result<(), AllocError>
+fn push_counted(alloc: Global, out: &mut Text, word: &[u8], number: u64) -> Result<(), AllocError>
     ensures { OnOk result (out.new ≡ out.old ++ (word.now ++ decimal number)) }
 {
     out.extend_from_slice(word)?;
@@ -112,12 +107,7 @@ fn push_both(
     push_counted(alloc, out, second, other)
 }
 
-fn push_read(
-    alloc: Global,
-    out: &mut Text,
-    address: &Address,
-    base: u64,
-) -> Result<(), AllocError>
+fn push_read(alloc: Global, out: &mut Text, address: &Address, base: u64) -> Result<(), AllocError>
     ensures { OnOk result (out.new ≡ out.old ++ (codes "read " ++ (printed_address address.now ++ (codes " base " ++ decimal base)))) }
 {
     out.extend_from_slice(b"read ")?;
@@ -150,10 +140,24 @@ fn push_reply(alloc: Global, out: &mut Text, reply: &Reply) -> Result<(), AllocE
         }
         Reply::Read(address, base) => push_read(alloc, out, address, *base),
         Reply::Prepared(shard, front) => {
-            push_both(alloc, out, b"prepare ", u64::from(*shard), b" front ", *front)
+            push_both(
+                alloc,
+                out,
+                b"prepare ",
+                u64::from(*shard),
+                b" front ",
+                *front,
+            )
         }
         Reply::Followed(shard, front) => {
-            push_both(alloc, out, b"follow ", u64::from(*shard), b" front ", *front)
+            push_both(
+                alloc,
+                out,
+                b"follow ",
+                u64::from(*shard),
+                b" front ",
+                *front,
+            )
         }
         Reply::At(n, outcome) => push_ended(alloc, out, b"at ", *n, outcome),
         Reply::Ran(name, n, outcome) => push_ran(alloc, out, name, *n, outcome),

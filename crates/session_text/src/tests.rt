@@ -253,7 +253,9 @@ fn columns_of_wrong_replies(rt: HostRuntime) {
 #[test]
 fn texts_are_read_leniently(rt: HostRuntime) {
     let read = read_and_print(rt.alloc(), b"read text(\"\\x61\") base 1");
-    assert!(rt; read.is_ok_and(|printed| printed.as_slice() == b"read text(\"a\") base 1".as_slice()));
+    assert!(rt;
+        read.is_ok_and(|printed| printed.as_slice() == b"read text(\"a\") base 1".as_slice())
+    );
 }
 
 fn witness(alloc: Global) -> Result<Witness, AllocError> {

@@ -1,6 +1,6 @@
 -- The readers of lines, as functions: the code is proved equal to them. Judge by the rules of specs/Lines: the law
 -- `readers_are_rules` ties the reader of lines to its rule.
-use Rattle.std.specs.Prelude.{ℕ, Bool, List, [], ◌∷◌, Option}
+use Rattle.std.specs.Prelude.{ℕ, [], ◌∷◌}
 use Rattle.plain_data.specs.Texts.{Bytes}
 use Rattle.predictive_parsing.specs.Reading.{Reader, ◌>>=◌, pure, one, either, ahead, passing, of, run, run_up_to}
 use Rattle.predictive_parsing.specs.Choices.{one_of}

@@ -1,6 +1,6 @@
 -- The readers of replies, as functions: the code is proved equal to them. Judge by the rules of specs/Replies: the law
 -- `readers_are_rules` ties the reader of replies to its rule.
-use Rattle.std.specs.Prelude.{ℕ, [], ◌∷◌, codes}
+use Rattle.std.specs.Prelude.{ℕ, codes}
 use Rattle.plain_data.specs.Texts.{Bytes}
 use Rattle.predictive_parsing.specs.Reading.{Reader, ◌>>=◌, pure, either, of}
 use Rattle.predictive_parsing.specs.Bytes.{sees, word, behind}
