@@ -19,3 +19,6 @@ mod words;
 
 pub use running::{Step, run};
 pub use txn_lang::{Run, Seen, SeenList, Snap, Snaps};
+
+#[cfg(test)]
+mod tests;

@@ -1,7 +1,6 @@
 pub mod Replay
 pub mod Journals
 pub mod Typing
-pub mod Histories
 pub mod NamesKept
 pub mod Trees
 pub mod Simulation

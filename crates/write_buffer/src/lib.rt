@@ -12,3 +12,6 @@ mod observing;
 
 pub use asked::Asked;
 pub use buffer::Buffer;
+
+#[cfg(test)]
+mod tests;

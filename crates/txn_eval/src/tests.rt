@@ -1,0 +1,55 @@
+//! Worked runs.
+
+use crate::running::{Step, run};
+use plain_data::Text;
+use rdt_types::{Address, Item, Kind, Outcome, Value};
+use std::alloc::Global;
+use std::test::Fail;
+use txn_lang::{Run, Snap, Snaps, early_read};
+
+/// The one item that a run emitted, if it is done and emitted one int.
+fn emitted(run: &Run) -> Option<i64> {
+    match &run.outcome {
+        Outcome::Ok(items) => match items.as_slice() {
+            [Item::Int(n)] => Some(*n),
+            _ => None,
+        },
+        _ => None,
+    }
+}
+
+/// What a run on the snaps emits, if it is done.
+fn emits(alloc: Global, source: &[u8], snaps: &Snaps) -> Option<i64> {
+    if source.len() > 4096 {
+        return None;
+    }
+    let Ok(body) = early_read(alloc, source) else {
+        return None;
+    };
+    match run(alloc, &body, snaps) {
+        Ok(Step::Done(done)) => emitted(&done),
+        _ => None,
+    }
+}
+
+/// An own addition goes into the value, which is needed, and an own put needs none.
+#[test]
+fn own_writes_are_read(rt: HostRuntime) -> Result<(), Fail> {
+    let alloc = rt.alloc();
+    let mut snaps = Snaps::new(alloc);
+    let added = b"counter(\"x\").add(2); emit counter(\"x\").get();";
+    let put = b"counter(\"x\").put(7); emit counter(\"x\").get();";
+    assert_eq!(&rt; emits(alloc, added, &snaps), None);
+    assert_eq!(&rt; emits(alloc, put, &snaps), Some(7));
+    let address = Address {
+        kind: Kind::Counter,
+        key: Text::from_slice(alloc, b"x")?,
+    };
+    let snap = Snap {
+        base: 1,
+        value: Value::Counter(40),
+    };
+    snaps.insert(address, snap)?;
+    assert_eq!(&rt; emits(alloc, added, &snaps), Some(42));
+    Ok(())
+}
