@@ -87,10 +87,12 @@ unfolding statement
 statement_last n ts e = ap (λ m. statement m ts) e ∙ ap (λ m. simple_stmt (expression m) ts) (sym e)
 
 pub begins_last : (n : ℕ) (h : Option Spot) → n ≡ 0 → begins_statement n h ≡ begins_simple h
+unfolding begins_statement
 begins_last n h e = ap (λ m. begins_statement m h) e
 
 -- with one
 pub begins_deeper : (n : ℕ) (h : Option Spot) → 0 < n → begins_statement n h ≡ begins_simple h || begins_nesting h
+unfolding begins_statement
 begins_deeper n h some = let e : n ≡ suc (n - 1) = omega arith in ap (λ m. begins_statement m h) e
 
 abbrev nested : ℕ → Reader Spot Stmt

@@ -259,7 +259,7 @@ begins_simple = begins simple_at
 abbrev pub begins_nesting : Option Spot → Bool
 begins_nesting = begins nesting_at
 
-abbrev pub begins_statement : ℕ → Option Spot → Bool
+unfoldable pub begins_statement : ℕ → Option Spot → Bool
 begins_statement zero ahead = begins_simple ahead
 begins_statement (suc n) ahead = begins_simple ahead || begins_nesting ahead
 
