@@ -135,6 +135,7 @@ either_true false b e = inr e
 
 -- one statement may follow another
 pub statement_goes : (n : ℕ) (h : Option Spot) → begins_statement n h ≡ true → statement_end h ≡ true
+unfolding begins_statement
 statement_goes zero h e = by_token begins_simple statement_end true refl simple_token h e
 statement_goes (suc n) h e = elim (either_true (begins_simple h) (begins_nesting h) e) [
   | inl k ↦ by_token begins_simple statement_end true refl simple_token h k
@@ -143,9 +144,11 @@ statement_goes (suc n) h e = elim (either_true (begins_simple h) (begins_nesting
 
 -- no statement begins at the end, or with a closing brace
 pub statement_none : (n : ℕ) → begins_statement n None ≡ false
+unfolding begins_statement
 statement_none zero = refl
 statement_none (suc n) = refl
 
 pub statement_no_close : (n column : ℕ) → begins_statement n (Some (spot column (t.Symbol s.CloseBrace))) ≡ false
+unfolding begins_statement
 statement_no_close zero column = refl
 statement_no_close (suc n) column = refl

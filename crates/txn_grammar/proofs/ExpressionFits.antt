@@ -3,7 +3,7 @@ use Rattle.std.proofs.Common.{◌≡◌, ℕ, zero, suc, Bool, true, not, ◌||�
 use Rattle.txn_trees.specs.declared.expression.Expr.{Expr}
 use Rattle.txn_trees.specs.declared.expression.ExprNode.TheVariants as node
 use Rattle.txn_trees.specs.declared.word.Relation.{Relation}
-use Rattle.predictive_parsing.specs.Reading.{Reader, next, is_made, begins, pure}
+use Rattle.predictive_parsing.specs.Reading.{Reader, next, turns, is_made, begins, pure}
 use Rattle.predictive_parsing.specs.Rules.{Rule, One, Pure, Or, Optional}
 use Rattle.predictive_parsing.specs.Fits.{Fits, any, unless}
 use Rattle.predictive_parsing.proofs.Basic.{both}
@@ -222,7 +222,7 @@ module _ (e : Reader Spot Expr) (E : Rule Spot Expr) (fe : Fits Spelled e E expr
   times_end (suc n) us vs a r h = comma_ends us r.middle r.value r.first
 
   times_fits : (n : ℕ) → Fits Spelled (times (after_comma e) n) (Times (AfterComma E) n) expression_end
-  unfolding times
+  unfolding turns
   times_fits zero = narrowed Spelled expression_end (λ h k. refl) (pure_fits Spelled [])
   times_fits (suc n) = followed Spelled after_comma_fits (λ first. seen Spelled (λ rest. first ∷ rest) (times_fits n))
       (λ first us vs b r h. times_end n us r.middle r.value r.first (ap (λ xs. expression_end (next xs)) r.second.here ∙ h))

@@ -20,7 +20,7 @@ use Rattle.txn_grammar.proofs.StatementFits.{body_fits}
 
 -- a body may end where the text does
 ends : unless (begins_statement DEEPEST) statement_end None ≡ true
-unfolding same_symbol
+unfolding same_symbol begins_statement
 ends = refl
 
 read_by : (r : Result Body (List Spot)) (b : Body) → if_read r ≡ Some b → r ≡ Ok b

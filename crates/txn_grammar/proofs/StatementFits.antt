@@ -182,7 +182,7 @@ module _ (e : Reader Spot Expr) (E : Rule Spot Expr) (fe : Fits Spelled e E expr
 -- ---- statements, by the levels that are left
 
 statement_begins : (n : ℕ) (ts us : List Spot) (a : Stmt) → Statement n ts a us → begins_statement n (next ts) ≡ true
-unfolding Statement
+unfolding Statement begins_statement
 statement_begins zero ts us a r = simple_begins _ _ (expression_fits zero) ts us a r
 statement_begins (suc n) ts us a (inl r) = ap (λ b. b || begins_nesting (next ts)) (simple_begins _ _ (expression_fits (suc n)) ts us a r)
 statement_begins (suc n) ts us a (inr r) =

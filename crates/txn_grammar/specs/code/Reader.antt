@@ -8,7 +8,8 @@ use Rattle.txn_trees.specs.declared.statement.Stmt.{Stmt}
 use Rattle.txn_trees.specs.declared.statement.StmtNode.TheVariants as stmt
 use Rattle.txn_trees.specs.declared.statement.Body.{Body}
 use Rattle.txn_trees.specs.declared.word.Relation.{Relation}
-use Rattle.predictive_parsing.specs.Reading.{Reader, ◌>>=◌, pure, begins, one, either, many, list, optional}
+use Rattle.predictive_parsing.specs.Reading.{Reader, ◌>>=◌, pure, begins, one, either, turns, many, list, optional}
+use Rattle.predictive_parsing.specs.Fits.{any}
 use Rattle.txn_grammar.specs.declared.limit.TheConstants.{DEEPEST}
 use Rattle.txn_grammar.specs.declared.form.Leaf.{Leaf}
 use Rattle.txn_grammar.specs.declared.form.Leaf.TheVariants as leaf
@@ -162,12 +163,9 @@ texts expression = do
   _ ← word s.CloseBracket
   pure (expr column (node.Texts found))
 
-unfoldable pub times : {A : Type 0} → Reader Spot A → ℕ → Reader Spot (List A)
-times p zero = pure []
-times p (suc count) = do
-  first ← p
-  rest ← times p count
-  pure (first ∷ rest)
+-- so many, whatever is ahead
+abbrev pub times : {A : Type 0} → Reader Spot A → ℕ → Reader Spot (List A)
+times p count = turns any p count
 
 unfoldable pub arguments_read : Reader Spot Expr → ℕ → Reader Spot (List Expr)
 arguments_read expression zero = pure []
@@ -261,7 +259,7 @@ begins_simple = begins simple_at
 abbrev pub begins_nesting : Option Spot → Bool
 begins_nesting = begins nesting_at
 
-abbrev pub begins_statement : ℕ → Option Spot → Bool
+unfoldable pub begins_statement : ℕ → Option Spot → Bool
 begins_statement zero ahead = begins_simple ahead
 begins_statement (suc n) ahead = begins_simple ahead || begins_nesting ahead
 
