@@ -11,6 +11,8 @@ use Rattle.txn_lang.specs.Typing.{Judged, judge, IsTyped}
 use Rattle.txn_lang.specs.Tree.{if_accepted, if_typed as if_tree, tree}
 use Rattle.txn_lang.proofs.Typing.{bodies_are_judged}
 use Rattle.script_runner.specs.Words.{trimmed_end}
+use Rattle.plain_data.specs.declared.or_no_memory.OrNoMemory.TheVariants.{Cause}
+use Rattle.script_runner.specs.Lines.{ReadsBody}
 use Rattle.script_runner.specs.Play.{column_in, if_typed, if_parsed, body_of}
 
 -- where the text stops being a body
@@ -41,3 +43,19 @@ tree_there text body e = parsed_by (parsed (trimmed_end text)) e
     parsed_by : (o : Option Body) → if_parsed text o ≡ Ok body → if_tree o ≡ Some body
     parsed_by (Some b) h = typed_by b (judge b) h
     parsed_by None h = absurd (cc)
+
+-- ---- what is answered
+
+module _ (text source : Text) (trimmed : source ≡ trimmed_end text) where
+  pub refuses_syntax : (column told : ℕ) → IsSyntaxColumn source column → told ≡ column_in text column → ReadsBody (Err (Cause (why.Syntax told))) (body_of text)
+  refuses_syntax column told x is reason e =
+      let k : why.Syntax told ≡ reason = cc in
+      stops_at text column (subst (λ z. IsSyntaxColumn z column) trimmed x) ∙ ap (λ n. Err (why.Syntax n)) (sym is) ∙ ap (λ r. Err r) k
+
+  pub refuses_type : (body : Body) (column : ℕ) → parsed source ≡ Some body → judge body ≡ Err column → ReadsBody (Err (Cause (why.BadType column))) (body_of text)
+  refuses_type body column read fails reason e =
+      let k : why.BadType column ≡ reason = cc in
+      ill_typed text body column (ap parsed (sym trimmed) ∙ read) fails ∙ ap (λ r. Err r) k
+
+  pub accepts : (body : Body) → parsed source ≡ Some body → IsTyped body → body_of text ≡ Ok body
+  accepts body read typed = well_typed text body (ap parsed (sym trimmed) ∙ read) typed

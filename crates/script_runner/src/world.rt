@@ -50,7 +50,8 @@ impl World {
     {
         let value = self.values.value_at(alloc, &address)?;
         let base = self.journal.len() as u64;
-        snaps.insert(address, Snap { base, value })
+        snaps.insert(address, Snap { base, value })?;
+        Ok(())
     }
 
     /// The run of a body on the state that the journal leaves. It runs anew each time that it needs one more value, and

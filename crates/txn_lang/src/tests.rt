@@ -1,13 +1,11 @@
 //! Worked bodies.
 
 use crate::bound_names::BoundNames;
-use crate::checking::{CheckError, check};
 use crate::item_type::Type;
 use crate::judging::type_of;
 use plain_data::{Boxed, Sequence, Text};
 use std::alloc::{AllocError, Global};
 use std::test::Fail;
-use txn_grammar::read_body;
 use txn_trees::{Expr, ExprNode, Operand, Operator};
 
 fn expr(column: u32, node: ExprNode) -> Expr {
@@ -53,29 +51,4 @@ fn bound_and_forgotten(rt: HostRuntime) -> Result<(), Fail> {
     names.bind(&name, Type::Text)?;
     assert!(&rt; matches!(type_of(&names, &used), Ok(Type::Text)));
     Ok(())
-}
-
-/// Whether a body that may only read is refused for a write at a column.
-fn writes_at(alloc: Global, source: &[u8], column: u32) -> bool {
-    if source.len() > 4096 {
-        return false;
-    }
-    let Ok(body) = read_body(alloc, source) else {
-        return false;
-    };
-    let Ok(text) = Text::from_slice(alloc, source) else {
-        return false;
-    };
-    match check(alloc, body, text, true) {
-        Err(CheckError::Writes(found)) => found == column,
-        _ => false,
-    }
-}
-
-#[test]
-fn write_in_a_read_only_body(rt: HostRuntime) {
-    let alloc = rt.alloc();
-    assert!(&rt; writes_at(alloc, b"counter(\"x\").add(1);", 1));
-    assert!(&rt; writes_at(alloc, b"emit 1; counter(\"x\").put(2);", 9));
-    assert!(&rt; !writes_at(alloc, b"emit counter(\"x\").get();", 6));
 }
