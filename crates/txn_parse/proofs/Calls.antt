@@ -1,5 +1,5 @@
 -- What a call of a closure says of the values behind its references.
-use Rattle.std.proofs.Common.{◌≡◌, List, Result, refl}
+use Rattle.std.proofs.Common.{refl}
 use Rattle.std.specs.Fn.{Shared, FnReturnsAt}
 use Rattle.std.proofs.lemmas.Fn.{says}
 use denote.Ref.{Bor, MutBor}

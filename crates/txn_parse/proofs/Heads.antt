@@ -1,5 +1,5 @@
 -- What is ahead.
-use Rattle.std.proofs.Common.{◌≡◌, Bool, true, false, List, [], ◌∷◌, drop, Option, Some, None, Ok, Err, refl, ap, sym, ◌∙◌}
+use Rattle.std.proofs.Common.{◌≡◌, Bool, List, drop, Option, Some, None, Ok, Err, refl, ap, sym, ◌∙◌}
 use Rattle.std.specs.Option.{option_map, is_some}
 use Rattle.predictive_parsing.specs.Reading.{next, is_made, begins, one}
 use Rattle.predictive_parsing.specs.Reads.{made_of}

@@ -1,5 +1,5 @@
 -- How readers go down the levels, and choose by what is ahead.
-use Rattle.std.proofs.Common.{◌≡◌, ℕ, zero, suc, ◌-◌, ◌<◌, Bool, true, false, ◌||◌, List, [], ◌∷◌, Ok, Option, Some, None, unwrap_or, refl, ap, sym, ◌∙◌, arith, cond}
+use Rattle.std.proofs.Common.{◌≡◌, ℕ, suc, ◌-◌, ◌<◌, Bool, true, false, ◌||◌, List, [], ◌∷◌, Ok, Option, Some, None, unwrap_or, ap, sym, ◌∙◌, arith, cond}
 use Rattle.txn_trees.specs.declared.expression.Expr.{Expr}
 use Rattle.txn_trees.specs.declared.statement.Stmt.{Stmt}
 use Rattle.predictive_parsing.specs.Reading.{Reader, next, begins, is_made, and_then, pure}
@@ -13,7 +13,7 @@ use Rattle.txn_grammar.specs.declared.form.Nesting.{Nesting}
 use Rattle.txn_grammar.specs.declared.form.Nesting.TheVariants as nesting
 use Rattle.txn_grammar.specs.declared.token.Spot.{Spot}
 use Rattle.txn_grammar.specs.code.Forms.{of_next, leaf_at, opener_at, simple_at, nesting_at}
-use Rattle.txn_grammar.specs.code.Reader.{a_leaf, leaf_read, opened, opened_read, unary_of, negation_of, comparison_of, expression_of, unary, negation, expression, arguments_read, times, after_comma, simple_stmt, simple_read, nesting_stmt, nesting_read, statement, begins_simple, begins_nesting, begins_statement}
+use Rattle.txn_grammar.specs.code.Reader.{a_leaf, leaf_read, opened, opened_read, unary_of, negation_of, comparison_of, unary, negation, expression, arguments_read, times, after_comma, simple_stmt, simple_read, nesting_stmt, nesting_read, statement, begins_simple, begins_nesting, begins_statement}
 use Rattle.predictive_parsing.specs.Reading.{turns}
 use Rattle.predictive_parsing.proofs.Loops.{with_front, no_front}
 use Rattle.txn_parse.proofs.Heads.{begins_at}

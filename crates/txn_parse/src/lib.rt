@@ -8,6 +8,8 @@ mod leaf;
 mod place;
 mod simple;
 mod statement;
+#[cfg(test)]
+mod tests;
 mod token;
 mod tree;
 mod whole;

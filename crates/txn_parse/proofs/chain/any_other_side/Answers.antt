@@ -1,6 +1,5 @@
 use Rattle.std.proofs.Common.{rules, arith}
 use Rattle.std.proofs.lemmas.Grind.{common_steps}
-use Rattle.txn_parse.proofs.Calls.{left_at}
 use Rattle.predictive_parsing.specs.Reading.{optional}
 use Rattle.txn_parse.proofs.chain.any_other_side.Goals as goal
 

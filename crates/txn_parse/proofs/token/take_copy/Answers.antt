@@ -1,4 +1,4 @@
-use Rattle.std.proofs.Common.{rules, arith, ◌≡◌, Some}
+use Rattle.std.proofs.Common.{rules, arith}
 use Rattle.std.proofs.lemmas.Grind.{common_steps}
 use Rattle.txn_parse.proofs.Heads.{copy_taken, copy_refused}
 use Rattle.txn_parse.proofs.token.take_copy.Goals as goal

@@ -1,6 +1,5 @@
 use Rattle.std.proofs.Common.{◌≡◌, ◌-◌, length}
 use Rattle.predictive_parsing.specs.Reading.{turns, many}
-use Rattle.predictive_parsing.specs.Fits.{any}
 use Rattle.predictive_parsing.proofs.Loops.{with_front}
 use Rattle.txn_grammar.specs.declared.symbol.Symbol.TheVariants as symbol
 use Rattle.txn_grammar.specs.code.Reader.{sees, after_comma, expression}

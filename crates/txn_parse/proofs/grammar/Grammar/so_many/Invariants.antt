@@ -1,9 +1,8 @@
-use Rattle.std.proofs.Common.{◌≡◌, ◌-◌, length}
+use Rattle.std.proofs.Common.{◌≡◌, ◌-◌}
 use Rattle.predictive_parsing.specs.Reading.{turns}
 use Rattle.predictive_parsing.specs.Fits.{any}
 use Rattle.predictive_parsing.proofs.Loops.{with_front}
-use Rattle.txn_grammar.specs.declared.symbol.Symbol.TheVariants as symbol
-use Rattle.txn_grammar.specs.code.Reader.{sees, after_comma, expression}
+use Rattle.txn_grammar.specs.code.Reader.{after_comma, expression}
 use Rattle.txn_parse.proofs.grammar.Grammar.so_many.Given as goal
 
 -- what is found, and what the turns that are left will find, is all
