@@ -166,4 +166,3 @@ ended (gives x p) = done (run_of p)
 -- the run of a body on the values of a state
 unfoldable pub exec : Body → PartialState → Ran
 exec b m = ended (run_all m b.stmts start)
-
