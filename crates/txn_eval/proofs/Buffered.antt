@@ -77,7 +77,7 @@ module _ (s : PartialState) where
         ap (λ d. asked_over d a r (s a)) (delta_at-deltas p.memory.operations [] a)
         ∙ ap (asked_over (composed_of ops) a r) there
         ∙ ap (λ b. cond b (Answered (answer r (left_by (composed_of ops) (default_of a.kind))) None) (with_value r (composed_of ops) v))
-            ((reads_go_by_compositions r a.kind ops (default_of a.kind) (AllOf-at_address a p.memory.operations all)).0 ∙ is)
+        ((reads_go_by_compositions r a.kind ops (default_of a.kind) (AllOf-at_address a p.memory.operations all)).0 ∙ is)
         ∙ told_by b v is
 
     told_along : (b : Bool) (v : Option Value)
@@ -100,12 +100,15 @@ module _ (s : PartialState) where
   writes : (a : Address) (o : WriteOp) → kind_written o ≡ a.kind → Both (write_at (own s) a o) (write_at (kept s) a o)
   writes a o k = record {
     back = λ p fine. tt;
-    forth = λ p t with_it fine.
-        (kept_write a o t,
-        (ap (kept_write a o) with_it.0
-        ∙ ap (λ ds. record { buffer = ds; observations = p.memory.observations }) (sym (fold-append (λ deltas w. with_delta deltas w.0 (delta_of w.1)) [] p.memory.operations ((a, o) ∷ []))),
-        all_push p.memory.operations (a, o) with_it.1 k),
-        refl);
+    forth = λ p t with_it fine. (
+      kept_write a o t,
+      (
+        ap (kept_write a o) with_it.0
+            ∙ ap (λ ds. record { buffer = ds; observations = p.memory.observations }) (sym (fold-append (λ deltas w. with_delta deltas w.0 (delta_of w.1)) [] p.memory.operations ((a, o) ∷ []))),
+        all_push p.memory.operations (a, o) with_it.1 k,
+      ),
+      refl,
+    );
     bounded = λ p h. h;
   }
 

@@ -3,7 +3,6 @@
 ghost use Rattle.txn_lang.specs.Steps as steps;
 ghost use Rattle.txn_eval.specs.code.Answers.{Answers};
 
-
 use crate::kept::Kept;
 use txn_lang::{LOAD_LIMIT, Progress, Stop, TICK_LIMIT};
 

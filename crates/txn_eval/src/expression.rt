@@ -10,14 +10,14 @@ ghost use Rattle.txn_eval.specs.Running.{values_of};
 
 use crate::charging::charge;
 use crate::items::{
-    bool_in, compares, decides, elements_in, int_in, into_text, joined, length_item, negated, shown_int,
-    texts_of,
+    bool_in, compares, decides, elements_in, int_in, into_text, joined, length_item, negated,
+    shown_int, texts_of,
 };
+use crate::kept::Kept;
 use crate::memory::read_at;
 use crate::naming::{bound_to, named};
 use crate::sizes::sized;
 use crate::words::read_of;
-use crate::kept::Kept;
 use rdt_types::{Address, Item, ItemList, Kind};
 use std::alloc::Global;
 use txn_lang::{NameList, Progress, Snaps, Stop};

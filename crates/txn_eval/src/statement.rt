@@ -10,9 +10,9 @@ ghost use Rattle.txn_eval.specs.Running.{values_of};
 use crate::charging::{carry, charge};
 use crate::expression::{value_of, values_of};
 use crate::items::{bool_in, into_text, into_texts};
+use crate::kept::Kept;
 use crate::loads::{emit_size, write_size};
 use crate::memory::write_at;
-use crate::kept::Kept;
 use crate::words::write_of;
 use plain_data::Text;
 use rdt_types::{Address, Item, Kind};
@@ -173,7 +173,15 @@ fn step(
         StmtNode::For(name, expr, stmts) => {
             let item = value_of(alloc, snaps, names, run, expr)?;
             let texts = into_texts(alloc, item);
-            turns(alloc, snaps, names, run, name, texts.as_slice(), stmts.as_slice())
+            turns(
+                alloc,
+                snaps,
+                names,
+                run,
+                name,
+                texts.as_slice(),
+                stmts.as_slice(),
+            )
         }
         StmtNode::Write(kind, key, word, arguments) => {
             let key = value_of(alloc, snaps, names, run, key)?;

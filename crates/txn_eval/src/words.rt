@@ -39,7 +39,12 @@ fn first_int(items: &[Item]) -> i64
     }
 }
 
-pub(crate) fn read_of(alloc: Global, kind: Kind, word: ReadWord, items: &[Item]) -> Result<ReadOp, AllocError>
+pub(crate) fn read_of(
+    alloc: Global,
+    kind: Kind,
+    word: ReadWord,
+    items: &[Item],
+) -> Result<ReadOp, AllocError>
     ensures { IfOk result (λ r. r ≡ spec.read_of kind word items.now) }
 {
     Ok(match (kind, word) {

@@ -13,12 +13,7 @@ fn expr(column: u32, node: ExprNode) -> Expr {
 }
 
 /// A chain of two operands.
-fn chain(
-    alloc: Global,
-    first: Expr,
-    operator: Operator,
-    value: Expr,
-) -> Result<Expr, AllocError> {
+fn chain(alloc: Global, first: Expr, operator: Operator, value: Expr) -> Result<Expr, AllocError> {
     let column = first.column;
     let mut operands = Sequence::new(alloc);
     operands.push(Operand { operator, value })?;

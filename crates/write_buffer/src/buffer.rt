@@ -45,12 +45,7 @@ impl Buffer {
     }
 
     /// Adds an operation, behind what was written at the address before.
-    pub fn put(
-        &mut self,
-        alloc: Global,
-        address: &Address,
-        op: &WriteOp,
-    ) -> Result<(), AllocError>
+    pub fn put(&mut self, alloc: Global, address: &Address, op: &WriteOp) -> Result<(), AllocError>
         ensures ok { OnOk result (self.new ≡ with_delta self.old address.now (deltas.delta_of op.now)) }
         ensures err { OnErr result (self.new ≡ self.old) }
     {

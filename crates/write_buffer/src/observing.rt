@@ -105,11 +105,7 @@ fn place_observed(place: i64, takes_out: bool, value: &Value) -> Obs
 }
 
 /// What a read observes that the own delta doesn't decide.
-pub(crate) fn observed(
-    read: &ReadOp,
-    own: Option<&Delta>,
-    value: &Value,
-) -> Result<Obs, AllocError>
+pub(crate) fn observed(read: &ReadOp, own: Option<&Delta>, value: &Value) -> Result<Obs, AllocError>
     ensures { IfOk result (λ o. o ≡ composed.observed_by read.now (option_copied own.entry) value.now) }
 {
     Ok(match read {
