@@ -369,11 +369,13 @@ module _ {I : Type 0} (Possible : I → Type 0) where
           let cut : ts ≡ front ++ us = sym (take-append-drop m ts) ∙ ap (λ xs. xs ++ drop m ts) k.0 ∙ ap (λ xs. front ++ xs) k.1 in
           let l = prefix_len-le-length passes ts in
           let same : length front ≡ m = ap length (sym k.0) ∙ length-take-le m ts (omega (arith, l)) in
-          let pass : AllPass passes front = subst (λ xs. AllPass passes xs) k.0 (subst (λ xs. AllPass passes xs) (take-shorter m n ts (omega arith)) (All-take (λ x. passes x ≡ true) m (take n ts) (prefix-passes passes ts))) in
-          (record { cut = cut; pass = pass; within = omega arith }, elim (le_or limit n) [
-            | inl h ↦ inl (omega arith)
-            | inr h ↦ inr (let e : m ≡ n = omega arith in ap (λ xs. ahead passes (next xs)) (sym k.1 ∙ ap (λ i. drop i ts) e) ∙ prefix-stops passes ts)
-          ])
+          let pass : AllPass passes front = subst (λ xs. AllPass passes xs) k.0 (subst (λ xs. AllPass passes xs) (take-shorter m n ts (omega arith)) (All-take (λ x. passes x ≡ true) m (take n ts) (prefix-passes passes ts))) in (
+            record { cut = cut; pass = pass; within = omega arith },
+            elim (le_or limit n) [
+              | inl h ↦ inl (omega arith)
+              | inr h ↦ inr (let e : m ≡ n = omega arith in ap (λ xs. ahead passes (next xs)) (sym k.1 ∙ ap (λ i. drop i ts) e) ∙ prefix-stops passes ts)
+            ],
+          )
 
       -- such a front is read
       up_to_reads : (front us : List I) → AllPass passes front → length front ≤ limit → (length front ≡ limit) ⊎ (ahead passes (next us) ≡ false) → run_up_to limit passes (front ++ us) ≡ Ok (front, us)
@@ -394,7 +396,7 @@ module _ {I : Type 0} (Possible : I → Type 0) where
             front = front;
             cut = k.0.cut;
             derives = λ vs. record { cut = refl; pass = k.0.pass; within = k.0.within };
-            again = λ vs h. up_to_reads front vs k.0.pass k.0.within (elim k.1 [ | inl l ↦ inl l | inr n ↦ inr (ap (ahead passes) h ∙ n) ]);
+            again = λ vs h. up_to_reads front vs k.0.pass k.0.within (elim k.1 [ inl l ↦ inl l | inr n ↦ inr (ap (ahead passes) h ∙ n) ]);
           }
 
       -- a run is never refused

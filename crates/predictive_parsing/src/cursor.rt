@@ -95,9 +95,7 @@ impl<'a, I> Cursor<'a, I> {
         requires { F.IsAlwaysCallable test }
         ensures { (passes : I → Bool) → Computes (FnReturnsAt F.Fn test) passes → run_up_to limit passes self.old ≡ Ok (result.now, self.new) }
     {
-        let (run, behind) = self
-            .rest
-            .split_at(limit.min(prefix_len(self.rest, test)));
+        let (run, behind) = self.rest.split_at(limit.min(prefix_len(self.rest, test)));
         self.rest = behind;
         run
     }

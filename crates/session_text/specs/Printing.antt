@@ -76,6 +76,10 @@ printed_why why.Name = codes "name"
 printed_why why.Busy = codes "busy"
 printed_why why.NoAttempt = codes "none"
 
+-- what was observed, where, and at which base
+abbrev pub printed_observed : Witness → Bytes
+printed_observed w = printed_address w.address ++ (codes " " ++ (printed_obs w.obs ++ (codes " base " ++ decimal w.base)))
+
 -- what was observed, and which commit changed it
 abbrev pub printed_witness : Witness → Bytes
 printed_witness w =

@@ -60,7 +60,7 @@ fn push_why(alloc: Global, out: &mut Text, why: Why) -> Result<(), AllocError>
 
 /// Adds what was observed.
 fn push_observed(alloc: Global, out: &mut Text, witness: &Witness) -> Result<(), AllocError>
-    ensures { OnOk result (out.new ≡ out.old ++ (printed_address witness.now.address ++ (codes " " ++ (spec.printed_obs witness.now.obs ++ (codes " base " ++ decimal witness.now.base))))) }
+    ensures { OnOk result (out.new ≡ out.old ++ spec.printed_observed witness.now) }
 {
     push_address(out, &witness.address)?;
     out.extend_from_slice(b" ")?;
