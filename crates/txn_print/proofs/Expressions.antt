@@ -54,7 +54,8 @@ module _ (Good : Piece → Type 0) (goods : Productions.Goods Good) where
     pub here : (q : Place) → tightness q ≤ tightness p → Back Good bare (rule_at n q) (canon.at q shown) w
 
   -- what is of a rank stands without parentheses at each place that is no tighter
-  own : (n : ℕ) (p r : Place) (ps : List Piece) (w : Expr) → tightness p ≤ tightness r → Back Good bare (rule_at n r) ps w → Fine n p (shown_as r ps) w
+  own : (n : ℕ) (p r : Place) (ps : List Piece) (w : Expr) → tightness p ≤ tightness r → Back Good bare (rule_at n r) ps w
+      → Fine n p (shown_as r ps) w
   own n p r ps w h b = record {
     inner = b;
     here = λ q k.
@@ -68,7 +69,8 @@ module _ (Good : Piece → Type 0) (goods : Productions.Goods Good) where
   looser n p q shown w h f = record { inner = f.inner; here = λ r k. f.here r (omega arith) }
 
   -- with a level more it stands at any place, in parentheses where it needs them
-  anywhere : (n : ℕ) (q : Place) (shown : Shown) (w : Expr) → Back Good bare (rule_at n shown.rank) shown.pieces w → (t : Bool) → needs_parens shown.rank q ≡ t
+  anywhere : (n : ℕ) (q : Place) (shown : Shown) (w : Expr) → Back Good bare (rule_at n shown.rank) shown.pieces w → (t : Bool)
+      → needs_parens shown.rank q ≡ t
       → Back Good bare (rule_at (suc n) q) (cond t (grouped shown.pieces) shown.pieces) w
   unfolding Unary
   anywhere n q shown w b true h =
@@ -96,7 +98,8 @@ module _ (Good : Piece → Type 0) (goods : Productions.Goods Good) where
   }
 
   -- shown alike
-  as_shown : (n : ℕ) (p : Place) (e : Expr) (shown : Shown) (w : Expr) → canon.shown e ≡ shown → bare e ≡ w → Fine n p shown w → Fine n p (canon.shown e) (bare e)
+  as_shown : (n : ℕ) (p : Place) (e : Expr) (shown : Shown) (w : Expr) → canon.shown e ≡ shown → bare e ≡ w → Fine n p shown w
+      → Fine n p (canon.shown e) (bare e)
   as_shown n p e shown w h k f = subst (λ x. Fine n p x (bare e)) (sym h) (subst (λ y. Fine n p shown y) (sym k) f)
 
   abbrev pub AllFine : ℕ → Place → Rule Spot Expr → Type 0
@@ -107,8 +110,10 @@ module _ (Good : Piece → Type 0) (goods : Productions.Goods Good) where
   moved n p e e' h f = subst (λ x. Fine n p (canon.shown x) (bare x)) (sym h) f
 
   -- what is closed in itself
-  closed : (n : ℕ) (R : Rule Spot Expr) → Within R (Unary n) → (e : Expr) (ps : List Piece) (w : Expr) → canon.shown e ≡ shown_as place.Unary ps → bare e ≡ w → Back Good bare R ps w → Fine n place.Unary (canon.shown e) (bare e)
-  closed n R f e ps w h k b = as_shown n place.Unary e (shown_as place.Unary ps) w h k (own n place.Unary place.Unary ps w (omega arith) (within Good bare R (Unary n) ps w f b))
+  closed : (n : ℕ) (R : Rule Spot Expr) → Within R (Unary n) → (e : Expr) (ps : List Piece) (w : Expr)
+      → canon.shown e ≡ shown_as place.Unary ps → bare e ≡ w → Back Good bare R ps w → Fine n place.Unary (canon.shown e) (bare e)
+  closed n R f e ps w h k b =
+      as_shown n place.Unary e (shown_as place.Unary ps) w h k (own n place.Unary place.Unary ps w (omega arith) (within Good bare R (Unary n) ps w f b))
 
   -- ---- leaves
 
@@ -137,7 +142,8 @@ module _ (Good : Piece → Type 0) (goods : Productions.Goods Good) where
   name_is _ v e = absurd (cc)
 
   pub good_name : (ts us : List Spot) (a : ℕ × Bytes) → One (at name) ts a us → Each G ts → Good (spaced (t.Name a.1))
-  good_name ts us a r g = subst (λ x. is_malformed x ≡ false → Good (spaced x)) (name_is _ a.1 (made_at name ts us a r)) (good_taken (at name) ts us a r g) refl
+  good_name ts us a r g =
+      subst (λ x. is_malformed x ≡ false → Good (spaced x)) (name_is _ a.1 (made_at name ts us a r)) (good_taken (at name) ts us a r g) refl
 
   leaf_fine : (n : ℕ) → Within LeafRule (Unary n) → AllFine n place.Unary LeafRule
   leaf_fine n f ts us e (inl r) g =
@@ -191,7 +197,8 @@ module _ (Good : Piece → Type 0) (goods : Productions.Goods Good) where
       pub each : Each Shows es
       pub length : length es ≡ count
 
-    times_shown : (count : ℕ) (ts us : List Spot) (es : List Expr) → Times (AfterComma (Expression n)) count ts es us → Each G ts → Shown_list es count
+    times_shown : (count : ℕ) (ts us : List Spot) (es : List Expr) → Times (AfterComma (Expression n)) count ts es us → Each G ts
+        → Shown_list es count
     times_shown zero ts us es r g = subst (λ xs. Shown_list xs zero) (sym r.is) (record { each = tt; length = refl })
     times_shown (suc count) ts us es r g =
         let x = r.first in
@@ -199,7 +206,8 @@ module _ (Good : Piece → Type 0) (goods : Productions.Goods Good) where
         let rest = times_shown count r.middle r.second.middle r.second.value r.second.first (keep_after_comma G _ (keep_expression G n) ts r.middle r.value x g) in
         subst (λ xs. Shown_list xs (suc count)) (sym r.second.second.is) (record { each = (here, rest.each); length = ap (λ m. suc m) rest.length })
 
-    pub arguments_shown : (count : ℕ) (ts us : List Spot) (es : List Expr) → Arguments (Expression n) count ts es us → Each G ts → Shown_list es count
+    pub arguments_shown : (count : ℕ) (ts us : List Spot) (es : List Expr) → Arguments (Expression n) count ts es us → Each G ts
+        → Shown_list es count
     arguments_shown zero ts us es r g = subst (λ xs. Shown_list xs zero) (sym r.is) (record { each = tt; length = refl })
     arguments_shown (suc count) ts us es r g =
         let here = shows ts r.middle r.value r.first g in
@@ -302,7 +310,8 @@ module _ (Good : Piece → Type 0) (goods : Productions.Goods Good) where
   module _ (n : ℕ) (r : Rank) (p q : Place) (tighter : tightness p ≤ tightness q) (up : Within (Chain r (rule_at n q)) (rule_at n p))
       (signs : (x : Symbol) (o : Operator) → operator_of r x ≡ Some o → (operator_of r (sign o) ≡ Some o) × (chain_place o ≡ p) × (operand_place o ≡ q))
       (fine : AllFine n q (rule_at n q)) (keep : Keeps G (rule_at n q)) where
-    symbol_made : (x : Token) (o : Operator) → of_symbol (operator_of r) x ≡ Some o → (operator_of r (sign o) ≡ Some o) × (chain_place o ≡ p) × (operand_place o ≡ q)
+    symbol_made : (x : Token) (o : Operator) → of_symbol (operator_of r) x ≡ Some o
+        → (operator_of r (sign o) ≡ Some o) × (chain_place o ≡ p) × (operand_place o ≡ q)
     symbol_made (t.Symbol x) o e = signs x o e
     symbol_made _ o e = absurd (cc)
 
@@ -312,7 +321,8 @@ module _ (Good : Piece → Type 0) (goods : Productions.Goods Good) where
       operand_is : operand_place (out-Operand a).operator ≡ q
       back : Back Good bare_operand (Further r (rule_at n q)) (further (shown_operand a)) (bare_operand a)
 
-    joined_at : (o : Operator) (e : Expr) → (operator_of r (sign o) ≡ Some o) × (chain_place o ≡ p) × (operand_place o ≡ q) → Fine n q (canon.shown e) (bare e) → Joined (operand o e)
+    joined_at : (o : Operator) (e : Expr) → (operator_of r (sign o) ≡ Some o) × (chain_place o ≡ p) × (operand_place o ≡ q)
+        → Fine n q (canon.shown e) (bare e) → Joined (operand o e)
     joined_at o e k f = record {
       place_is = k.1;
       operand_is = k.2;
@@ -329,18 +339,22 @@ module _ (Good : Piece → Type 0) (goods : Productions.Goods Good) where
 
     all_joined : (ts us : List Spot) (os : List Operand) → Many (Further r (rule_at n q)) ts os us → Each G ts → Each Joined os
     all_joined ts us os (none ts') g = tt
-    all_joined ts us os (more ts' us' vs' a rest x xs) g = (joined ts us' a x g, all_joined us' us rest xs (keep_further G r _ keep ts us' a x g))
+    all_joined ts us os (more ts' us' vs' a rest x xs) g =
+        (joined ts us' a x g, all_joined us' us rest xs (keep_further G r _ keep ts us' a x g))
 
-    backs : (os : List Operand) → Each Joined os → Each (λ a. Back Good bare_operand (Further r (rule_at n q)) (further (shown_operand a)) (bare_operand a)) os
+    backs : (os : List Operand) → Each Joined os
+        → Each (λ a. Back Good bare_operand (Further r (rule_at n q)) (further (shown_operand a)) (bare_operand a)) os
     backs [] h = tt
     backs (a ∷ as_) h = (h.0.back, backs as_ h.1)
 
-    many_operands : (os : List Operand) → Each Joined os → Back Good (map bare_operand) (Many (Further r (rule_at n q))) (flat_map further (map shown_operand os)) (map bare_operand os)
+    many_operands : (os : List Operand) → Each Joined os
+        → Back Good (map bare_operand) (Many (Further r (rule_at n q))) (flat_map further (map shown_operand os)) (map bare_operand os)
     many_operands os h =
         subst (λ ps. Back Good (map bare_operand) (Many (Further r (rule_at n q))) ps (map bare_operand os)) (sym (Productions.flat-map Good goods shown_operand further os))
         (many_back Good bare_operand (Further r (rule_at n q)) (λ a. further (shown_operand a)) os (backs os h))
 
-    chain_with : (f : Expr) (os : List Operand) → Fine n q (canon.shown f) (bare f) → Each Joined os → Fine n p (canon.shown (chained (f, os))) (bare (chained (f, os)))
+    chain_with : (f : Expr) (os : List Operand) → Fine n q (canon.shown f) (bare f) → Each Joined os
+        → Fine n p (canon.shown (chained (f, os))) (bare (chained (f, os)))
     chain_with f [] b h = looser n q p (canon.shown f) (bare f) tighter b
     chain_with f (o ∷ os) b h =
         let e = chained (f, o ∷ os) in
@@ -365,12 +379,16 @@ module _ (Good : Piece → Type 0) (goods : Productions.Goods Good) where
   abbrev Signs : Rank → Place → Place → Operator → Type 0
   Signs r p q o = (operator_of r (sign o) ≡ Some o) × (chain_place o ≡ p) × (operand_place o ≡ q)
 
-  or_signs : (x : Symbol) (o : Operator) → operator_of rank.Disjunction x ≡ Some o → Signs rank.Disjunction place.Disjunction place.Conjunction o
-  or_signs s.Or o e = let k : operator.Or ≡ o = cc in subst (λ z. Signs rank.Disjunction place.Disjunction place.Conjunction z) k (refl, refl, refl)
+  or_signs : (x : Symbol) (o : Operator) → operator_of rank.Disjunction x ≡ Some o
+      → Signs rank.Disjunction place.Disjunction place.Conjunction o
+  or_signs s.Or o e =
+      let k : operator.Or ≡ o = cc in subst (λ z. Signs rank.Disjunction place.Disjunction place.Conjunction z) k (refl, refl, refl)
   or_signs _ o e = absurd (cc)
 
-  and_signs : (x : Symbol) (o : Operator) → operator_of rank.Conjunction x ≡ Some o → Signs rank.Conjunction place.Conjunction place.Negation o
-  and_signs s.And o e = let k : operator.And ≡ o = cc in subst (λ z. Signs rank.Conjunction place.Conjunction place.Negation z) k (refl, refl, refl)
+  and_signs : (x : Symbol) (o : Operator) → operator_of rank.Conjunction x ≡ Some o
+      → Signs rank.Conjunction place.Conjunction place.Negation o
+  and_signs s.And o e =
+      let k : operator.And ≡ o = cc in subst (λ z. Signs rank.Conjunction place.Conjunction place.Negation z) k (refl, refl, refl)
   and_signs _ o e = absurd (cc)
 
   sum_signs : (x : Symbol) (o : Operator) → operator_of rank.Sum x ≡ Some o → Signs rank.Sum place.Sum place.Product o
@@ -379,7 +397,8 @@ module _ (Good : Piece → Type 0) (goods : Productions.Goods Good) where
   sum_signs _ o e = absurd (cc)
 
   product_signs : (x : Symbol) (o : Operator) → operator_of rank.Product x ≡ Some o → Signs rank.Product place.Product place.Unary o
-  product_signs s.Times o e = let k : operator.Times ≡ o = cc in subst (λ z. Signs rank.Product place.Product place.Unary z) k (refl, refl, refl)
+  product_signs s.Times o e =
+      let k : operator.Times ≡ o = cc in subst (λ z. Signs rank.Product place.Product place.Unary z) k (refl, refl, refl)
   product_signs _ o e = absurd (cc)
 
   -- ---- comparisons
@@ -395,7 +414,8 @@ module _ (Good : Piece → Type 0) (goods : Productions.Goods Good) where
         (own n place.Comparison place.Comparison ps _ (omega arith)
         (Productions.compare_back Good goods (rule_at n place.Sum) x.0 _ _ _ _ (b.here place.Sum (omega arith)) ((h x refl).here place.Sum (omega arith))))
 
-    side_fine : (ts us : List Spot) (m : Option (Relation × Expr)) → Optional (OtherSide (rule_at n place.Sum)) ts m us → Each G ts → (x : Relation × Expr) → m ≡ Some x → Fine n place.Sum (canon.shown x.1) (bare x.1)
+    side_fine : (ts us : List Spot) (m : Option (Relation × Expr)) → Optional (OtherSide (rule_at n place.Sum)) ts m us → Each G ts
+        → (x : Relation × Expr) → m ≡ Some x → Fine n place.Sum (canon.shown x.1) (bare x.1)
     side_fine ts us m (inl r) g x e =
         let y = r.first in
         let f = fine y.middle y.second.middle y.second.value y.second.first (keep_one G _ ts y.middle y.value y.first g) in
@@ -418,17 +438,20 @@ module _ (Good : Piece → Type 0) (goods : Productions.Goods Good) where
     product_fine = chain_fine n rank.Product place.Product place.Unary (omega arith) (λ ts us e r. r) product_signs fine (keep_unary G n)
 
     sum_fine : AllFine n place.Sum (rule_at n place.Sum)
-    sum_fine = chain_fine n rank.Sum place.Sum place.Product (omega arith) (λ ts us e r. r) sum_signs product_fine (keep_chain G rank.Product _ (keep_unary G n))
+    sum_fine =
+        chain_fine n rank.Sum place.Sum place.Product (omega arith) (λ ts us e r. r) sum_signs product_fine (keep_chain G rank.Product _ (keep_unary G n))
 
     comparison_fine : AllFine n place.Comparison (ComparisonOf (Unary n))
     comparison_fine = compare_fine n sum_fine (keep_chain G rank.Sum _ (keep_chain G rank.Product _ (keep_unary G n)))
 
   module _ (n : ℕ) (fine : AllFine n place.Negation (Negation n)) where
     conjunction_fine : AllFine n place.Conjunction (rule_at n place.Conjunction)
-    conjunction_fine = chain_fine n rank.Conjunction place.Conjunction place.Negation (omega arith) (λ ts us e r. r) and_signs fine (keep_negation G n)
+    conjunction_fine =
+        chain_fine n rank.Conjunction place.Conjunction place.Negation (omega arith) (λ ts us e r. r) and_signs fine (keep_negation G n)
 
     disjunction_fine : AllFine n place.Disjunction (Expression n)
-    disjunction_fine = chain_fine n rank.Disjunction place.Disjunction place.Conjunction (omega arith) (λ ts us e r. r) or_signs conjunction_fine (keep_chain G rank.Conjunction _ (keep_negation G n))
+    disjunction_fine =
+        chain_fine n rank.Disjunction place.Disjunction place.Conjunction (omega arith) (λ ts us e r. r) or_signs conjunction_fine (keep_chain G rank.Conjunction _ (keep_negation G n))
 
   -- ---- level by level
 
@@ -445,7 +468,8 @@ module _ (Good : Piece → Type 0) (goods : Productions.Goods Good) where
   unary_at n fine ts us e (inl r) g = fine ts us e r g
   unary_at n fine ts us e (inr r) g = leaf_fine (suc n) (λ xs ys x q. inr q) ts us e r g
 
-  negation_at : (n : ℕ) → AllFine n place.Negation (Negation n) → AllFine (suc n) place.Negation (ComparisonOf (Unary (suc n))) → AllFine (suc n) place.Negation (Negation (suc n))
+  negation_at : (n : ℕ) → AllFine n place.Negation (Negation n) → AllFine (suc n) place.Negation (ComparisonOf (Unary (suc n)))
+      → AllFine (suc n) place.Negation (Negation (suc n))
   unfolding Unary
   negation_at n fine others ts us e (inl r) g =
       let c = r.value in let v = r.second.value in

@@ -47,7 +47,8 @@ module _ (G : Spot → Type 0) where
   -- ---- expressions
 
   keep_leaf : Keeps LeafRule
-  keep_leaf = keep_or _ _ (mapped _ _ (keep_one _)) (keep_or _ _ (mapped _ _ (keep_one _)) (keep_or _ _ (mapped _ _ (keep_one _)) (mapped _ _ (keep_one _))))
+  keep_leaf =
+      keep_or _ _ (mapped _ _ (keep_one _)) (keep_or _ _ (mapped _ _ (keep_one _)) (keep_or _ _ (mapped _ _ (keep_one _)) (mapped _ _ (keep_one _))))
 
   pub keep_further : (r : Rank) (P : Rule Spot Expr) → Keeps P → Keeps (Further r P)
   keep_further r P f = keep_then _ _ (keep_one _) (λ o. mapped _ _ f)
@@ -85,7 +86,8 @@ module _ (G : Spot → Type 0) where
   keep_targeted E f = keep_then _ _ (keep_one _) (λ k. keep_then _ _ (keep_parens E f) (λ key. worded _ _ (λ d. keep_pure _)))
 
   keep_read : (E : Rule Spot Expr) → Keeps E → Keeps (Read E)
-  keep_read E f = keep_then _ _ (keep_targeted E f) (λ t. keep_then _ _ (keep_one _) (λ o. mapped _ _ (keep_parens _ (keep_arguments E f o.1.arguments))))
+  keep_read E f =
+      keep_then _ _ (keep_targeted E f) (λ t. keep_then _ _ (keep_one _) (λ o. mapped _ _ (keep_parens _ (keep_arguments E f o.1.arguments))))
 
   keep_texts : (E : Rule Spot Expr) → Keeps E → Keeps (Texts E)
   keep_texts E f = worded _ _ (λ c. keep_then _ _ (keep_or _ _ (keep_elements E f) (keep_pure [])) (λ es. worded _ _ (λ d. keep_pure _)))
@@ -139,4 +141,5 @@ module _ (G : Spot → Type 0) where
   pub keep_statement : (n : ℕ) → Keeps (Statement n)
   unfolding Statement
   keep_statement zero = keep_simple _ (keep_expression zero)
-  keep_statement (suc n) = keep_or _ _ (keep_simple _ (keep_expression (suc n))) (keep_nesting _ _ _ (keep_expression (suc n)) (keep_expression n) (keep_statement n))
+  keep_statement (suc n) =
+      keep_or _ _ (keep_simple _ (keep_expression (suc n))) (keep_nesting _ _ _ (keep_expression (suc n)) (keep_expression n) (keep_statement n))

@@ -17,7 +17,8 @@ pub read_back : (z : Text) (b : Body) → IsBody (lex z) b → ReadsBack b
 read_back z b r =
     let back = body_read Good goods (lex z) [] b r (lex_good z) in
     let found = back.again (lex (canonical b)) [] (text-tokens (shown_body b) back.good) in
-    record { read = found.value; derived = subst (λ ys. BodyRule ys found.value []) (append-nil (lex (canonical b))) found.derives; same = found.alike }
+    record { read =
+        found.value; derived = subst (λ ys. BodyRule ys found.value []) (append-nil (lex (canonical b))) found.derives; same = found.alike }
 
 -- so the function from texts finds it
 pub parse_back : (z : Text) (b : Body) → parsed z ≡ Some b → ParsesBack b

@@ -137,12 +137,14 @@ show_node (node.Number value) = shown_as place.Unary (spaced (t.Number value) �
 show_node (node.Text bytes) = shown_as place.Unary (spaced (t.Text bytes) ∷ [])
 show_node (node.Bool value) = shown_as place.Unary (word (truth value) ∷ [])
 show_node (node.Name name) = shown_as place.Unary (spaced (t.Name name) ∷ [])
-show_node (node.Texts elements) = shown_as place.Unary (opening s.OpenBracket ∷ (separated (map whole elements) ++ closing s.CloseBracket ∷ []))
+show_node (node.Texts elements) =
+    shown_as place.Unary (opening s.OpenBracket ∷ (separated (map whole elements) ++ closing s.CloseBracket ∷ []))
 show_node (node.Len argument) = shown_as place.Unary (word s.Len ∷ given (whole argument))
 show_node (node.Str argument) = shown_as place.Unary (word s.Str ∷ given (whole argument))
 show_node (node.Negative value) = shown_as place.Unary (opening s.Minus ∷ at place.Unary value)
 show_node (node.Not value) = shown_as place.Negation (word s.Not ∷ at place.Negation value)
-show_node (node.Compare left relation right) = shown_as place.Comparison (at place.Sum left ++ word (comparison relation) ∷ at place.Sum right)
+show_node (node.Compare left relation right) =
+    shown_as place.Comparison (at place.Sum left ++ word (comparison relation) ∷ at place.Sum right)
 show_node (node.Chain first rest) = chain first rest
 show_node (node.Read kind key word arguments) = shown_as place.Unary (operation kind (whole key) (read_name word) (map whole arguments))
 
