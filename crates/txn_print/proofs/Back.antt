@@ -1,7 +1,7 @@
 -- What it means that tokens are read back by a rule, and how that follows rule by rule.
-use Rattle.std.proofs.Common.{◌≡◌, ◌⊎◌, List, [], ◌∷◌, ◌++◌, map, Option, Some, None, refl, ap, sym, ◌∙◌, subst, inl, inr, append_assoc, append-nil}
+use Rattle.std.proofs.Common.{◌≡◌, List, [], ◌∷◌, ◌++◌, map, Option, Some, refl, ap, sym, ◌∙◌, subst, append_assoc, append-nil}
 use Rattle.std.specs.List.{flat_map}
-use Rattle.predictive_parsing.specs.Rules.{Rule, One, Then, Pure, Or, Many, none, more, ListOf, ◌>>=◌}
+use Rattle.predictive_parsing.specs.Rules.{Rule, One, Then, Pure, Many, none, more}
 use Rattle.txn_grammar.specs.declared.token.Spot.{Spot}
 use Rattle.txn_grammar.specs.declared.token.Token.{Token}
 use Rattle.txn_print.specs.Pieces.{Piece}

@@ -5,7 +5,7 @@ use Rattle.rdt_types.specs.declared.address.Kind.{Kind}
 use Rattle.txn_trees.specs.declared.expression.Expr.{Expr, Expr-F, fold_out-Expr, out-Expr}
 use Rattle.txn_trees.specs.declared.expression.ExprNode.{ExprNode, fold-ExprNode, fold_out-ExprNode}
 use Rattle.txn_trees.specs.declared.expression.ExprNode.TheVariants as made
-use Rattle.txn_trees.specs.declared.expression.Operand.{Operand, Operand-F, fold-Operand, fold_out-Operand, out-Operand}
+use Rattle.txn_trees.specs.declared.expression.Operand.{Operand, Operand-F, fold-Operand, fold_out-Operand}
 use Rattle.txn_trees.specs.declared.word.Operator.{Operator}
 use Rattle.txn_trees.specs.declared.word.Relation.{Relation}
 use Rattle.txn_trees.specs.declared.word.ReadWord.{ReadWord}

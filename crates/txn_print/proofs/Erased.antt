@@ -7,10 +7,9 @@ use Rattle.txn_trees.specs.declared.expression.Expr.{Expr, Expr-F, fold_out-Expr
 use Rattle.txn_trees.specs.declared.expression.ExprNode.{ExprNode, ExprNode-F, roll-ExprNode, fold-ExprNode, fold_out-ExprNode}
 use Rattle.txn_trees.specs.declared.expression.ExprNode.TheVariants as made
 use Rattle.txn_trees.specs.declared.expression.Operand.{Operand, Operand-F, roll-Operand, fold-Operand, fold_out-Operand, out-Operand}
-use Rattle.txn_trees.specs.declared.statement.Stmt.{Stmt, Stmt-F, fold_out-Stmt, out-Stmt, roll-Stmt}
+use Rattle.txn_trees.specs.declared.statement.Stmt.{Stmt, Stmt-F, fold_out-Stmt, roll-Stmt}
 use Rattle.txn_trees.specs.declared.statement.StmtNode.{StmtNode, fold-StmtNode, fold_out-StmtNode}
 use Rattle.txn_trees.specs.declared.statement.StmtNode.TheVariants as stmt
-use Rattle.txn_trees.specs.declared.word.Operator.{Operator}
 use Rattle.txn_trees.specs.declared.word.Relation.{Relation}
 use Rattle.txn_trees.specs.declared.word.ReadWord.{ReadWord}
 use Rattle.txn_trees.specs.declared.word.WriteWord.{WriteWord}

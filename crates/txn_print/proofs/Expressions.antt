@@ -1,12 +1,12 @@
 -- What is shown of an expression that the grammar derives is read back, within the same levels.
-use Rattle.std.proofs.Common.{◌≡◌, ℕ, zero, suc, ◌≤◌, ◌<◌, ℤ, Bool, true, false, cond, List, [], ◌∷◌, ◌++◌, map, length, Option, Some, None, refl, ap, sym, ◌∙◌, subst, inl, inr, arith}
+use Rattle.std.proofs.Common.{◌≡◌, ℕ, zero, suc, ◌≤◌, ℤ, Bool, true, false, cond, List, [], ◌∷◌, ◌++◌, map, length, Option, Some, None, refl, ap, sym, ◌∙◌, subst, inl, inr, arith}
 use Rattle.std.specs.List.{flat_map}
 use Rattle.std.specs.Option.{option_map}
 use Rattle.std.proofs.lemmas.Bool.{ltb-false, le-ltb}
 use Rattle.plain_data.specs.Texts.{Bytes}
 use Rattle.rdt_types.specs.declared.address.Kind.{Kind}
-use Rattle.predictive_parsing.specs.Rules.{Rule, One, Then, Pure, Or, Many, none, more, ListOf, Optional, ◌>>=◌}
-use Rattle.txn_trees.specs.declared.expression.Expr.{Expr, out-Expr}
+use Rattle.predictive_parsing.specs.Rules.{Rule, One, Pure, Or, Many, none, more, Optional}
+use Rattle.txn_trees.specs.declared.expression.Expr.{Expr}
 use Rattle.txn_trees.specs.declared.expression.ExprNode.TheVariants as made
 use Rattle.txn_trees.specs.declared.expression.Operand.{Operand, out-Operand}
 use Rattle.txn_trees.specs.declared.word.Operator.{Operator}
@@ -22,23 +22,23 @@ use Rattle.txn_grammar.specs.declared.target.Target.{Target}
 use Rattle.txn_grammar.specs.declared.token.Token.{Token}
 use Rattle.txn_grammar.specs.declared.token.Token.TheVariants as t
 use Rattle.txn_grammar.specs.declared.token.Spot.{Spot}
-use Rattle.txn_grammar.specs.Tokens.{at, of_symbol, number, text, name, truth_of, operator_of, relation_of, kind_of, read_of, read_named}
+use Rattle.txn_grammar.specs.Tokens.{at, of_symbol, number, text, name, operator_of, read_of, read_named}
 use Rattle.txn_grammar.specs.Trees.{expr, number_expr, text_expr, truth_expr, name_expr, operand, chained, compared, target_of, read_expr}
 use Rattle.txn_grammar.specs.Trees as trees
 use Rattle.txn_grammar.specs.Lexer.{is_malformed}
-use Rattle.txn_grammar.specs.Grammar.{Word, LeafRule, NumberLeaf, TextLeaf, TruthLeaf, NameLeaf, Further, Chain, OtherSide, Comparison, ComparisonOf, ExpressionOf, Negative, Not, InParens, Group, Len, Str, AfterComma, Elements, Texts, Times, Arguments, Targeted, Read, Opened, UnaryOf, Unary, Negation, Expression}
+use Rattle.txn_grammar.specs.Grammar.{LeafRule, NumberLeaf, TextLeaf, TruthLeaf, NameLeaf, Further, Chain, OtherSide, Comparison, ComparisonOf, Negative, Not, InParens, Group, Len, Str, AfterComma, Elements, Texts, Times, Arguments, Targeted, Read, Opened, Unary, Negation, Expression}
 use Rattle.txn_print.specs.declared.place.Place.{Place}
 use Rattle.txn_print.specs.declared.place.Place.TheVariants as place
 use Rattle.txn_print.specs.Places.{tightness, needs_parens, chain_place, operand_place}
-use Rattle.txn_print.specs.Pieces.{Piece, spaced, opening, closing, joining, word}
+use Rattle.txn_print.specs.Pieces.{Piece, spaced, word}
 use Rattle.txn_print.specs.Canonical.{Shown, shown_as, grouped, given, after_comma, separated, target, request, kind_symbol, sign, comparison, truth, read_name, further, shown_operand, shown_chain, shown, expression}
 use Rattle.txn_print.specs.Canonical as canon
 use Rattle.txn_print.specs.Columns.{bare}
-use Rattle.txn_print.proofs.Erased.{bare_operand, bared_group, bared_number, bared_text, bared_bool, bared_name, bared_texts, bared_len, bared_str, bared_negative, bared_not, bared_compare, bared_chain, bared_read}
+use Rattle.txn_print.proofs.Erased.{bare_operand, bared_group, bared_number, bared_text, bared_bool, bared_name, bared_texts, bared_len, bared_str, bared_negative, bared_not, bared_compare, bared_read}
 use Rattle.txn_print.proofs.Equations.{at_number, at_text, at_bool, at_name, at_texts, at_len, at_str, at_negative, at_not, at_compare, at_chain, at_read, shown_group}
-use Rattle.txn_print.proofs.Back.{Back, Each, within, pure_back, one_back, then_back, mapped_back, many_back}
-use Rattle.txn_print.proofs.Within.{Within, rule_at, deeper, looser_at, alone}
-use Rattle.txn_print.proofs.Keeps.{Keeps, keep_one, keep_pure, keep_then, keep_or, keep_many, keep_further, keep_chain, keep_expression_of, keep_parens, keep_after_comma, keep_arguments, keep_targeted, keep_unary, keep_negation, keep_expression}
+use Rattle.txn_print.proofs.Back.{Back, Each, within, many_back}
+use Rattle.txn_print.proofs.Within.{Within, rule_at, deeper, looser_at}
+use Rattle.txn_print.proofs.Keeps.{Keeps, keep_one, keep_further, keep_chain, keep_after_comma, keep_targeted, keep_unary, keep_negation, keep_expression}
 use Rattle.txn_print.proofs.Operations.{read_again}
 use Rattle.txn_print.proofs.Productions
 
@@ -59,9 +59,9 @@ module _ (Good : Piece → Type 0) (goods : Productions.Goods Good) where
   own n p r ps w h b = record {
     inner = b;
     here = λ q k.
-      let no : needs_parens r q ≡ false = le-ltb (tightness r) (tightness q) (omega arith) in
-      subst (λ t. Back Good bare (rule_at n q) (cond t (grouped ps) ps) w) (sym no)
-      (within Good bare (rule_at n r) (rule_at n q) ps w (looser_at n r q (omega arith)) b);
+        let no : needs_parens r q ≡ false = le-ltb (tightness r) (tightness q) (omega arith) in
+        subst (λ t. Back Good bare (rule_at n q) (cond t (grouped ps) ps) w) (sym no)
+        (within Good bare (rule_at n r) (rule_at n q) ps w (looser_at n r q (omega arith)) b);
   }
 
   -- at a looser place
@@ -327,7 +327,7 @@ module _ (Good : Piece → Type 0) (goods : Productions.Goods Good) where
       place_is = k.1;
       operand_is = k.2;
       back = Productions.further_back Good goods r (rule_at n q) o e (canon.at (operand_place o) (canon.shown e)) k.0
-        (subst (λ z. Back Good bare (rule_at n q) (canon.at z (canon.shown e)) (bare e)) (sym k.2) (f.here q (omega arith)));
+          (subst (λ z. Back Good bare (rule_at n q) (canon.at z (canon.shown e)) (bare e)) (sym k.2) (f.here q (omega arith)));
     }
 
     joined : (ts us : List Spot) (a : Operand) → Further r (rule_at n q) ts a us → Each G ts → Joined a
@@ -360,9 +360,9 @@ module _ (Good : Piece → Type 0) (goods : Productions.Goods Good) where
         let e = chained (f, o ∷ os) in
         let ps = canon.at q (canon.shown f) ++ flat_map further (map shown_operand (o ∷ os)) in
         let is : canon.shown e ≡ shown_as p ps =
-            at_chain e f (o ∷ os) refl
-            ∙ ap (λ z. shown_as z (canon.at (operand_place (out-Operand o).operator) (canon.shown f) ++ flat_map further (map shown_operand (o ∷ os)))) h.0.place_is
-            ∙ ap (λ z. shown_as p (canon.at z (canon.shown f) ++ flat_map further (map shown_operand (o ∷ os)))) h.0.operand_is in
+        at_chain e f (o ∷ os) refl
+        ∙ ap (λ z. shown_as z (canon.at (operand_place (out-Operand o).operator) (canon.shown f) ++ flat_map further (map shown_operand (o ∷ os)))) h.0.place_is
+        ∙ ap (λ z. shown_as p (canon.at z (canon.shown f) ++ flat_map further (map shown_operand (o ∷ os)))) h.0.operand_is in
         as_shown n p e (shown_as p ps) (bare e) is refl
         (own n p p ps (bare e) (omega arith)
         (within Good bare (Chain r (rule_at n q)) (rule_at n p) ps (bare e) up

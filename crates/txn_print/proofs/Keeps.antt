@@ -1,13 +1,13 @@
 -- What holds of each token that a rule is given holds of each that it leaves.
-use Rattle.std.proofs.Common.{◌≡◌, ℕ, zero, suc, List, [], ◌∷◌, Option, Some, None, refl, ap, sym, ◌∙◌, subst, inl, inr}
-use Rattle.predictive_parsing.specs.Rules.{Rule, One, Then, Pure, Or, Many, none, more, ListOf, Optional, ◌>>=◌}
+use Rattle.std.proofs.Common.{ℕ, zero, suc, List, [], Option, Some, None, subst, inl, inr}
+use Rattle.predictive_parsing.specs.Rules.{Rule, One, Then, Pure, Or, Many, none, more, Optional}
 use Rattle.txn_trees.specs.declared.expression.Expr.{Expr}
 use Rattle.txn_trees.specs.declared.statement.Stmt.{Stmt}
 use Rattle.txn_grammar.specs.declared.rank.Rank.{Rank}
 use Rattle.txn_grammar.specs.declared.rank.Rank.TheVariants as rank
 use Rattle.txn_grammar.specs.declared.symbol.Symbol.{Symbol}
 use Rattle.txn_grammar.specs.declared.token.Spot.{Spot}
-use Rattle.txn_grammar.specs.Grammar.{Word, LeafRule, Further, Chain, OtherSide, Comparison, ComparisonOf, ExpressionOf, Negative, Not, InParens, Group, Len, Str, AfterComma, Elements, Texts, Times, Arguments, Targeted, Read, Opened, UnaryOf, Unary, Negation, Expression, SimpleStmt, Block, Otherwise, IfStmt, ForStmt, WriteStmt, NestingStmt, Statement}
+use Rattle.txn_grammar.specs.Grammar.{Word, LeafRule, Further, Chain, Comparison, ComparisonOf, ExpressionOf, InParens, AfterComma, Elements, Texts, Times, Arguments, Targeted, Read, Opened, Unary, Negation, Expression, SimpleStmt, Block, NestingStmt, Statement}
 use Rattle.txn_print.proofs.Back.{Each}
 
 module _ (G : Spot → Type 0) where

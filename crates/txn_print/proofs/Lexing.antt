@@ -1,5 +1,5 @@
 -- The text of good tokens is cut into these tokens.
-use Rattle.std.proofs.Common.{◌≡◌, ℕ, zero, suc, ◌+◌, ◌-◌, Bool, true, false, ◌&&◌, ◌||◌, ◌==◌, cond, List, [], ◌∷◌, ◌++◌, map, length, refl, ap, sym, ◌∙◌, subst, append_assoc, append-nil, arith}
+use Rattle.std.proofs.Common.{◌≡◌, ℕ, suc, ◌+◌, ◌-◌, Bool, true, false, ◌&&◌, ◌||◌, ◌==◌, cond, List, [], ◌∷◌, ◌++◌, length, refl, ap, sym, ◌∙◌, subst, append_assoc, append-nil, arith}
 use Rattle.std.specs.List.{list_any}
 use Rattle.std.proofs.lemmas.Bool.{eqb-true}
 use Rattle.plain_data.specs.Texts.{Bytes}
@@ -9,7 +9,7 @@ use Rattle.txn_grammar.specs.declared.token.Lexeme.{Lexeme}
 use Rattle.dtext.specs.Characters.{is_blank}
 use Rattle.txn_grammar.specs.Lexer.{lexeme, token_at, spot, is_malformed, lex_from, lex}
 use Rattle.txn_print.specs.declared.line.Line.{Line}
-use Rattle.txn_print.specs.Pieces.{Piece, printed, space_if, put, write, written, empty, text}
+use Rattle.txn_print.specs.Pieces.{Piece, printed, space_if, write, written, empty, text}
 use Rattle.txn_print.specs.ReadBack.{tokens}
 use Rattle.txn_print.proofs.Back.{Each, tokens_of}
 

@@ -1,15 +1,15 @@
 -- Productions of the grammar, read back part by part.
-use Rattle.std.proofs.Common.{◌≡◌, ℕ, zero, suc, ℤ, Bool, true, false, cond, List, [], ◌∷◌, ◌++◌, map, length, Option, Some, None, refl, ap, sym, ◌∙◌, subst, inl, inr, append_assoc, append-nil}
+use Rattle.std.proofs.Common.{◌≡◌, ℕ, ℤ, Bool, true, false, cond, List, [], ◌∷◌, ◌++◌, map, length, Option, Some, None, refl, ap, sym, ◌∙◌, subst, inl, inr, append-nil}
 use Rattle.std.specs.List.{flat_map}
 use Rattle.std.specs.Option.{option_map}
 use denote.Enum.Bare.{true_same}
 use Rattle.rdt_types.specs.declared.address.Kind.{Kind}
 use Rattle.rdt_types.specs.declared.address.Kind.TheVariants as kind
-use Rattle.predictive_parsing.specs.Rules.{Rule, One, Then, Pure, Or, Many, none, more, ListOf, Optional, ◌>>=◌}
+use Rattle.predictive_parsing.specs.Rules.{Rule, One, Then, Pure, Or, Many, ListOf, Optional, ◌>>=◌}
 use Rattle.plain_data.specs.Texts.{Bytes}
-use Rattle.txn_trees.specs.declared.expression.Expr.{Expr, out-Expr}
+use Rattle.txn_trees.specs.declared.expression.Expr.{Expr}
 use Rattle.txn_trees.specs.declared.expression.ExprNode.TheVariants as made
-use Rattle.txn_trees.specs.declared.expression.Operand.{Operand, out-Operand}
+use Rattle.txn_trees.specs.declared.expression.Operand.{Operand}
 use Rattle.txn_trees.specs.declared.word.Operator.{Operator}
 use Rattle.txn_trees.specs.declared.word.Relation.{Relation}
 use Rattle.txn_trees.specs.declared.word.Relation.TheVariants as relation
@@ -25,12 +25,12 @@ use Rattle.txn_grammar.specs.declared.token.Token.{Token}
 use Rattle.txn_grammar.specs.declared.token.Token.TheVariants as t
 use Rattle.txn_grammar.specs.declared.token.Spot.{Spot}
 use Rattle.txn_grammar.specs.Spellings.{same_symbol}
-use Rattle.txn_grammar.specs.Tokens.{at, symbol_at, is_symbol, of_symbol, number, text, name, truth_of, operator_of, relation_of, kind_of, write_of, read_of, read_named, write_named}
+use Rattle.txn_grammar.specs.Tokens.{at, symbol_at, is_symbol, of_symbol, number, text, name, truth_of, operator_of, relation_of, kind_of, read_of, read_named}
 use Rattle.txn_grammar.specs.Trees.{expr, number_expr, text_expr, truth_expr, name_expr, operand, chained, compared, target_of, read_expr}
 use Rattle.txn_grammar.specs.Trees as trees
 use Rattle.txn_grammar.specs.Grammar.{Word, NumberLeaf, TextLeaf, TruthLeaf, NameLeaf, Further, Chain, OtherSide, Comparison, Negative, Not, InParens, Group, Len, Str, AfterComma, Elements, Texts, Times, Arguments, Targeted, Read}
 use Rattle.txn_print.specs.Pieces.{Piece, spaced, opening, closing, joining, word}
-use Rattle.txn_print.specs.Canonical.{grouped, given, after_comma, separated, target, request, kind_symbol, sign, comparison, truth, read_name, write_name, further, shown_operand, expression}
+use Rattle.txn_print.specs.Canonical.{grouped, given, after_comma, separated, target, request, kind_symbol, sign, comparison, truth, read_name, write_name, expression}
 use Rattle.txn_print.specs.Columns.{bare}
 use Rattle.txn_print.proofs.Erased.{bare_operand, bared_group, bared_number, bared_text, bared_bool, bared_name, bared_texts, bared_len, bared_str, bared_negative, bared_not, bared_compare, bared_chain, bared_read}
 use Rattle.txn_print.proofs.Back.{Back, Each, within, pure_back, one_back, then_back, mapped_back, many_back}
@@ -186,6 +186,7 @@ module _ (Good : Piece → Type 0) where
             then_back Good value_of bare_side (One (at (of_symbol relation_of))) (λ x. S >>= λ y. Pure (x.1, y)) (word (comparison r) ∷ []) rs r (r, w)
             (at_back (of_symbol relation_of) (word (comparison r)) r (goods.words (comparison r)) (relation-comparison r))
             (λ x i. mapped_back Good bare bare_side S (λ y. (x.1, y)) rs w (r, w) k (λ y j. ap (λ z. (z, bare y)) i ∙ ap (λ z. (r, z)) j))
+
         both : (a : Expr) (m : Option (Relation × Expr)) → bare a ≡ l → option_map bare_side m ≡ Some (r, w)
             → bare (compared a m) ≡ expr 0 (made.Compare l r w)
         both a None h i = absurd (cc)

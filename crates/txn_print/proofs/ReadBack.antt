@@ -1,5 +1,5 @@
 -- The canonical text of a body that the grammar derives is read back.
-use Rattle.std.proofs.Common.{◌≡◌, List, [], Some, subst, append-nil}
+use Rattle.std.proofs.Common.{◌≡◌, [], Some, subst, append-nil}
 use Rattle.txn_trees.specs.declared.statement.Body.{Body}
 use Rattle.txn_grammar.specs.Characters.{Text}
 use Rattle.txn_grammar.specs.Lexer.{lex}
@@ -17,8 +17,12 @@ pub read_back : (z : Text) (b : Body) → IsBody (lex z) b → ReadsBack b
 read_back z b r =
     let back = body_read Good goods (lex z) [] b r (lex_good z) in
     let found = back.again (lex (canonical b)) [] (text-tokens (shown_body b) back.good) in
-    record { read =
-        found.value; derived = subst (λ ys. BodyRule ys found.value []) (append-nil (lex (canonical b))) found.derives; same = found.alike }
+    record {
+      read =
+          found.value;
+      derived = subst (λ ys. BodyRule ys found.value []) (append-nil (lex (canonical b))) found.derives;
+      same = found.alike;
+    }
 
 -- so the function from texts finds it
 pub parse_back : (z : Text) (b : Body) → parsed z ≡ Some b → ParsesBack b

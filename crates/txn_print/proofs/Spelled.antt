@@ -1,14 +1,14 @@
 -- Each token that a text can have is printed as it is cut.
-use Rattle.std.proofs.Common.{◌≡◌, ℕ, zero, suc, ◌+◌, ◌-◌, ◌*◌, ◌≤◌, ◌<◌, ◌^◌, Bool, true, false, ◌&&◌, ◌||◌, ◌==◌, nat_lt, nat_le, nat_eq, cond, List, [], ◌∷◌, ◌++◌, map, take, drop, length, fold, codes, ℤ, pos, Option, Some, None, Ok, Err, refl, ap, sym, ◌∙◌, subst, append_assoc, append-nil, slice_index, arith}
+use Rattle.std.proofs.Common.{◌≡◌, ℕ, zero, suc, ◌+◌, ◌-◌, ◌*◌, ◌≤◌, ◌<◌, Bool, true, false, ◌&&◌, ◌||◌, ◌==◌, nat_lt, nat_le, cond, [], ◌∷◌, ◌++◌, take, drop, length, fold, ℤ, pos, Option, Some, None, Ok, Err, refl, ap, sym, ◌∙◌, subst, slice_index, arith}
 use Rattle.std.specs.List.{list_all, prefix_len, AllPass}
-use Rattle.std.specs.Fmt.{decimal, signed_decimal}
+use Rattle.std.specs.Fmt.{decimal}
 use Rattle.std.specs.Char.{digit_value}
 use Rattle.std.specs.Str.Parse.{AllDigits, digits_value_after}
 use Rattle.std.proofs.Math.Seq.{take-append_seam}
 use Rattle.std.proofs.lemmas.Bool.{le-ltb}
 use Rattle.std.proofs.lemmas.Bool.Decides.{nat_tests}
 use Rattle.std.proofs.lemmas.List.{length-append}
-use Rattle.std.proofs.lemmas.List.Elements.{All-nil, All-head, All-tail, All-cons}
+use Rattle.std.proofs.lemmas.List.Elements.{All-nil, All-head, All-cons}
 use Rattle.plain_data.specs.Texts.{Bytes}
 use Rattle.rdt_types.specs.Printed.{printed_text}
 use Rattle.predictive_parsing.specs.Reading.{next, ahead, Outcome}
@@ -32,8 +32,8 @@ use Rattle.txn_grammar.specs.declared.token.Lexeme.{Lexeme}
 use Rattle.dtext.specs.Characters.{is_letter, is_digit, is_word, is_blank}
 use Rattle.txn_grammar.specs.Spellings.{spelling, same_symbol, reserved_word, mark}
 use Rattle.txn_grammar.specs.Numbers.{with_digit, digits_value, small_value, number_value}
-use Rattle.txn_grammar.specs.Lexer.{lexeme, reserved_or_name, word_token, word_at, number_token, number_at, quoted_lexeme, text_at, short_lexeme, mark_lexeme, mark_at, token_at, spot, is_malformed, lex_from, lex}
-use Rattle.txn_print.specs.Pieces.{Piece, spaced, opening, closing, joining, word, printed}
+use Rattle.txn_grammar.specs.Lexer.{lexeme, reserved_or_name, word_token, word_at, number_token, number_at, quoted_lexeme, text_at, mark_lexeme, mark_at, token_at, spot, is_malformed, lex_from, lex}
+use Rattle.txn_print.specs.Pieces.{spaced, word, printed}
 use Rattle.txn_print.specs.Canonical.{read_name, write_name}
 use Rattle.txn_print.proofs.Back.{Each}
 use Rattle.txn_print.proofs.Lexing.{is_gap, gap_begins, by_gap, Good}
@@ -130,9 +130,9 @@ two_bytes symbol c d e b m is = record {
   touches = λ k. absurd (cc);
   formed = refl;
   cut = λ z follows.
-    m (d ∷ z)
-    ∙ ap (λ t. mark_lexeme (cond t None (mark (c ∷ d ∷ []))) (mark (c ∷ []))) (le-ltb (length (c ∷ d ∷ z)) 2 (omega arith))
-    ∙ ap (λ o. mark_lexeme o (mark (c ∷ []))) is;
+      m (d ∷ z)
+      ∙ ap (λ t. mark_lexeme (cond t None (mark (c ∷ d ∷ []))) (mark (c ∷ []))) (le-ltb (length (c ∷ d ∷ z)) 2 (omega arith))
+      ∙ ap (λ o. mark_lexeme o (mark (c ∷ []))) is;
 }
 
 -- ---- the words and marks of the language
@@ -231,9 +231,9 @@ text_good bytes =
       touches = λ k. absurd (cc);
       formed = refl;
       cut = λ z k.
-        let read : text (34 ∷ (inner ++ z)) ≡ Ok (bytes, z) = text_fits.reads (printed_text bytes ++ z) z bytes (text_made bytes z) refl in
-        let len : length (34 ∷ (inner ++ z)) - length z ≡ suc (length inner) = let l = length-append inner z in omega arith in
-        ap (λ o. quoted_lexeme (34 ∷ (inner ++ z)) o) read ∙ ap (λ n. lexeme (t.Text bytes) n) len;
+          let read : text (34 ∷ (inner ++ z)) ≡ Ok (bytes, z) = text_fits.reads (printed_text bytes ++ z) z bytes (text_made bytes z) refl in
+          let len : length (34 ∷ (inner ++ z)) - length z ≡ suc (length inner) = let l = length-append inner z in omega arith in
+          ap (λ o. quoted_lexeme (34 ∷ (inner ++ z)) o) read ∙ ap (λ n. lexeme (t.Text bytes) n) len;
     }
 
 -- ---- numbers
@@ -362,7 +362,7 @@ mark_good None None h = absurd (cc)
 -- by what the byte ahead is
 by_front : (b : ℕ) (z : Bytes) (letter digit quote : Bool) → is_letter b ≡ letter
     → let x : Lexeme = cond letter (word_at (b ∷ z)) (cond digit (number_at (b ∷ z)) (cond quote (text_at (b ∷ z)) (mark_at (b ∷ z)))) in
-      is_malformed x.token ≡ false → Good (spaced x.token)
+    is_malformed x.token ≡ false → Good (spaced x.token)
 unfolding number_at text_at mark_at
 by_front b z true digit quote l h = word_at_good b z l h
 by_front b z false true quote l h =

@@ -4,7 +4,7 @@ use Rattle.std.specs.List.{flat_map}
 use Rattle.std.specs.Option.{option_map}
 use Rattle.plain_data.specs.Texts.{Bytes}
 use Rattle.rdt_types.specs.declared.address.Kind.{Kind}
-use Rattle.predictive_parsing.specs.Rules.{Rule, One, Then, Pure, Or, Many, none, more, ListOf, Optional, ◌>>=◌}
+use Rattle.predictive_parsing.specs.Rules.{Rule, One, Pure, Many, none, more, ListOf, Optional, ◌>>=◌}
 use Rattle.txn_trees.specs.declared.expression.Expr.{Expr}
 use Rattle.txn_trees.specs.declared.statement.Stmt.{Stmt}
 use Rattle.txn_trees.specs.declared.statement.StmtNode.TheVariants as stmt
@@ -18,7 +18,7 @@ use Rattle.txn_grammar.specs.declared.token.Token.TheVariants as t
 use Rattle.txn_grammar.specs.declared.token.Spot.{Spot}
 use Rattle.txn_grammar.specs.declared.limit.TheConstants.{DEEPEST}
 use Rattle.txn_grammar.specs.Tokens.{at, name, write_of, write_named}
-use Rattle.txn_grammar.specs.Trees.{stmt_at, write_stmt, target_of, body_of}
+use Rattle.txn_grammar.specs.Trees.{stmt_at, write_stmt, body_of}
 use Rattle.txn_grammar.specs.Grammar.{Word, InParens, Arguments, Targeted, Expression, LetStmt, EmitStmt, FailStmt, SimpleStmt, Block, Otherwise, IfStmt, ForStmt, WriteStmt, NestingStmt, Statement, BodyRule}
 use Rattle.txn_print.specs.Pieces.{Piece, spaced, closing, word}
 use Rattle.txn_print.specs.Canonical.{expression, block, otherwise, ended, target, request, operation, write_name, shown_stmt, shown_body}
@@ -28,9 +28,9 @@ use Rattle.txn_print.proofs.Equations.{at_let, at_emit, at_fail, at_if, at_for, 
 use Rattle.txn_print.proofs.Operations.{write_again}
 use Rattle.txn_print.proofs.Back.{Back, Each, within, pure_back, then_back, mapped_back, many_back}
 use Rattle.txn_print.proofs.Within.{Within}
-use Rattle.txn_print.proofs.Keeps.{keep_one, keep_many, keep_block, keep_expression, keep_targeted, keep_statement}
+use Rattle.txn_print.proofs.Keeps.{keep_one, keep_block, keep_expression, keep_targeted, keep_statement}
 use Rattle.txn_print.proofs.Productions.{Goods, no_column, value_of, bare_target, word_back, at_back, flat-map, targeted_back, request_then}
-use Rattle.txn_print.proofs.Expressions.{G as source, expression_fine, Inside, inside_parens, good_name, made_at, shows, arguments_shown, aimed}
+use Rattle.txn_print.proofs.Expressions.{G as source, expression_fine, inside_parens, good_name, made_at, shows, arguments_shown, aimed}
 
 module _ (Good : Piece → Type 0) (goods : Goods Good) where
   abbrev G : Spot → Type 0
@@ -250,9 +250,9 @@ module _ (Good : Piece → Type 0) (goods : Goods Good) where
         let es = r.second.second.value.1 in
         let behind = keep_targeted G _ (keep_expression G n) ts r.middle r.value r.first g in
         let found = subst (λ (y : Target). write_named y.kind (write_name op.word) ≡ Some op) aim.is
-            (write_word r.value.kind r.second.first.item.token op (made_at Good goods (write_of r.value.kind) r.middle r.second.middle r.second.value r.second.first)) in
+        (write_word r.value.kind r.second.first.item.token op (made_at Good goods (write_of r.value.kind) r.middle r.second.middle r.second.value r.second.first)) in
         let i = inside_parens Good goods (Arguments (Expression n) op.arguments) r.second.middle r.second.second.middle r.second.second.value r.second.second.first
-            (keep_one G _ r.middle r.second.middle r.second.value r.second.first behind) in
+        (keep_one G _ r.middle r.second.middle r.second.value r.second.first behind) in
         let all = arguments_shown Good goods n (expression_fine Good goods n) op.arguments i.from i.to es i.derived i.good in
         let to = stmt_at aim.column (stmt.Write aim.kind aim.key op.word es) in
         let is : x ≡ to = r.second.second.second.second.is ∙ ap (λ (y : Target). write_stmt y op.word es) aim.is in
@@ -297,7 +297,9 @@ module _ (Good : Piece → Type 0) (goods : Goods Good) where
   body_read ts us b r g =
       let S = Statement DEEPEST in
       let l = r.first in
-      let h : Reads (Statement DEEPEST) (l.value ∷ l.second.value) = (statement_read DEEPEST ts l.middle l.value l.first g,
-        all_read DEEPEST S (statement_read DEEPEST) (keep_statement G DEEPEST) l.middle l.second.middle l.second.value l.second.first (keep_statement G DEEPEST ts l.middle l.value l.first g)) in
+      let h : Reads (Statement DEEPEST) (l.value ∷ l.second.value) = (
+        statement_read DEEPEST ts l.middle l.value l.first g,
+        all_read DEEPEST S (statement_read DEEPEST) (keep_statement G DEEPEST) l.middle l.second.middle l.second.value l.second.first (keep_statement G DEEPEST ts l.middle l.value l.first g),
+      ) in
       let is : b ≡ body_of (l.value, l.second.value) = r.second.is ∙ ap (λ (p : Stmt × List Stmt). body_of p) l.second.second.is in
       subst (λ x. Back Good without_columns BodyRule (shown_body x) (without_columns x)) (sym is) (bodies S l.value l.second.value h)

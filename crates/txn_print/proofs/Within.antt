@@ -1,12 +1,11 @@
 -- What a rule derives, a looser rule derives too, and so does the same rule with one level more.
-use Rattle.std.proofs.Common.{◌≡◌, ℕ, zero, suc, ◌+◌, ◌-◌, ◌≤◌, List, [], ◌∷◌, Option, Some, None, refl, ap, sym, ◌∙◌, subst, inl, inr, arith}
-use Rattle.predictive_parsing.specs.Rules.{Rule, One, Then, Pure, Or, Many, none, more, ListOf, Optional, ◌>>=◌}
+use Rattle.std.proofs.Common.{◌≡◌, ℕ, zero, suc, ◌+◌, ◌-◌, ◌≤◌, List, [], Some, None, refl, ap, sym, ◌∙◌, subst, inl, inr, arith}
+use Rattle.predictive_parsing.specs.Rules.{Rule, Then, Pure, Or, Many, none, more, Optional}
 use Rattle.txn_trees.specs.declared.expression.Expr.{Expr}
-use Rattle.txn_trees.specs.declared.statement.Stmt.{Stmt}
 use Rattle.txn_grammar.specs.declared.rank.Rank.{Rank}
 use Rattle.txn_grammar.specs.declared.rank.Rank.TheVariants as rank
 use Rattle.txn_grammar.specs.declared.token.Spot.{Spot}
-use Rattle.txn_grammar.specs.Grammar.{LeafRule, Further, Chain, OtherSide, Comparison, ComparisonOf, ExpressionOf, Negative, Not, InParens, Group, Len, Str, AfterComma, Elements, Texts, Times, Arguments, Targeted, Read, Opened, UnaryOf, Unary, Negation, Expression}
+use Rattle.txn_grammar.specs.Grammar.{LeafRule, Chain, Comparison, ComparisonOf, ExpressionOf, InParens, AfterComma, Elements, Texts, Times, Arguments, Targeted, Read, Opened, Unary, Negation, Expression}
 use Rattle.txn_print.specs.declared.place.Place.{Place}
 use Rattle.txn_print.specs.declared.place.Place.TheVariants as place
 use Rattle.txn_print.specs.Places.{tightness}

@@ -1,14 +1,14 @@
 -- The canonical text of a body: its tokens, with parentheses exactly where the grammar needs them, and their spaces.
-use Rattle.std.specs.Prelude.{◌≡◌, Bool, true, false, if◌then◌else◌, List, [], ◌∷◌, ◌++◌, map, Option, Some, None, codes}
+use Rattle.std.specs.Prelude.{Bool, true, false, if◌then◌else◌, List, [], ◌∷◌, ◌++◌, map, Option, Some, None, codes}
 use Rattle.std.specs.List.{flat_map}
 use Rattle.plain_data.specs.Texts.{Bytes}
 use Rattle.rdt_types.specs.declared.address.Kind.{Kind}
 use Rattle.rdt_types.specs.declared.address.Kind.TheVariants as kind
-use Rattle.txn_trees.specs.declared.expression.Expr.{Expr, Expr-F, fold-Expr}
+use Rattle.txn_trees.specs.declared.expression.Expr.{Expr, fold-Expr}
 use Rattle.txn_trees.specs.declared.expression.ExprNode.{ExprNode-F}
 use Rattle.txn_trees.specs.declared.expression.ExprNode.TheOpen as node
-use Rattle.txn_trees.specs.declared.expression.Operand.{Operand, Operand-F, out-Operand}
-use Rattle.txn_trees.specs.declared.statement.Stmt.{Stmt, Stmt-F, fold-Stmt}
+use Rattle.txn_trees.specs.declared.expression.Operand.{Operand, out-Operand}
+use Rattle.txn_trees.specs.declared.statement.Stmt.{Stmt, fold-Stmt}
 use Rattle.txn_trees.specs.declared.statement.StmtNode.{StmtNode-F}
 use Rattle.txn_trees.specs.declared.statement.StmtNode.TheOpen as stmt
 use Rattle.txn_trees.specs.declared.statement.Body.{Body}
@@ -197,4 +197,3 @@ abbrev pub canonical : Body → Bytes
 canonical body = text (shown_body body)
 
 -- ---- worked lines
-

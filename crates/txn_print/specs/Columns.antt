@@ -1,10 +1,10 @@
 -- Trees, columns aside.
-use Rattle.std.specs.Prelude.{◌≡◌, List, map}
-use Rattle.txn_trees.specs.declared.expression.Expr.{Expr, Expr-F, fold-Expr, roll-Expr}
-use Rattle.txn_trees.specs.declared.expression.ExprNode.{ExprNode, ExprNode-F, roll-ExprNode}
-use Rattle.txn_trees.specs.declared.expression.Operand.{Operand, Operand-F, roll-Operand}
-use Rattle.txn_trees.specs.declared.statement.Stmt.{Stmt, Stmt-F, fold-Stmt, roll-Stmt}
-use Rattle.txn_trees.specs.declared.statement.StmtNode.{StmtNode, StmtNode-F, roll-StmtNode}
+use Rattle.std.specs.Prelude.{◌≡◌, map}
+use Rattle.txn_trees.specs.declared.expression.Expr.{Expr, fold-Expr, roll-Expr}
+use Rattle.txn_trees.specs.declared.expression.ExprNode.{ExprNode, roll-ExprNode}
+use Rattle.txn_trees.specs.declared.expression.Operand.{Operand, roll-Operand}
+use Rattle.txn_trees.specs.declared.statement.Stmt.{Stmt, fold-Stmt, roll-Stmt}
+use Rattle.txn_trees.specs.declared.statement.StmtNode.{StmtNode, StmtNode-F}
 use Rattle.txn_trees.specs.declared.statement.StmtNode.TheOpen as open_stmt
 use Rattle.txn_trees.specs.declared.statement.StmtNode.TheVariants as stmt
 use Rattle.txn_trees.specs.declared.statement.Body.{Body}
