@@ -1,7 +1,7 @@
 -- What it means that tokens are read back by a rule, and how that follows rule by rule.
-use Rattle.std.proofs.Common.{◌≡◌, ◌⊎◌, List, [], ◌∷◌, ◌++◌, map, Option, Some, None, refl, ap, sym, ◌∙◌, subst, inl, inr, append_assoc, append-nil}
+use Rattle.std.proofs.Common.{◌≡◌, List, [], ◌∷◌, ◌++◌, map, Option, Some, refl, ap, sym, ◌∙◌, subst, append_assoc, append-nil}
 use Rattle.std.specs.List.{flat_map}
-use Rattle.predictive_parsing.specs.Rules.{Rule, One, Then, Pure, Or, Many, none, more, ListOf, ◌>>=◌}
+use Rattle.predictive_parsing.specs.Rules.{Rule, One, Then, Pure, Many, none, more}
 use Rattle.txn_grammar.specs.declared.token.Spot.{Spot}
 use Rattle.txn_grammar.specs.declared.token.Token.{Token}
 use Rattle.txn_print.specs.Pieces.{Piece}
@@ -78,7 +78,8 @@ module _ (Good : Piece → Type 0) where
     pub again : (xs vs : List Spot) → tokens xs ≡ tokens_of pieces → Again e R xs vs w
 
   -- the same by a rule that derives as much
-  pub within : {A B : Type 0} (e : A → B) (R Q : Rule Spot A) (pieces : List Piece) (w : B) → ((ts us : List Spot) (a : A) → R ts a us → Q ts a us) → Back e R pieces w → Back e Q pieces w
+  pub within : {A B : Type 0} (e : A → B) (R Q : Rule Spot A) (pieces : List Piece) (w : B)
+      → ((ts us : List Spot) (a : A) → R ts a us → Q ts a us) → Back e R pieces w → Back e Q pieces w
   within e R Q pieces w f b = record {
     good = b.good;
     again = λ xs vs h. let z = b.again xs vs h in record { value = z.value; derives = f (xs ++ vs) vs z.value z.derives; alike = z.alike };
@@ -97,7 +98,9 @@ module _ (Good : Piece → Type 0) where
     pub made : f spot ≡ Some value
     pub alike : e value ≡ w
 
-  one_again : {A B : Type 0} (e : A → B) (f : Spot → Option A) (piece : Piece) (w : B) → ((spot : Spot) → spot.token ≡ piece.token → Made e f spot w) → (xs vs : List Spot) → tokens xs ≡ piece.token ∷ [] → Again e (One f) xs vs w
+  one_again : {A B : Type 0} (e : A → B) (f : Spot → Option A) (piece : Piece) (w : B)
+      → ((spot : Spot) → spot.token ≡ piece.token → Made e f spot w) → (xs vs : List Spot) → tokens xs ≡ piece.token ∷ []
+      → Again e (One f) xs vs w
   one_again e f piece w made xs vs h =
       let x = first_of_them xs piece.token [] h in
       let m = made x.spot x.token in
@@ -107,7 +110,8 @@ module _ (Good : Piece → Type 0) where
         alike = m.alike;
       }
 
-  pub one_back : {A B : Type 0} (e : A → B) (f : Spot → Option A) (piece : Piece) (w : B) → Good piece → ((spot : Spot) → spot.token ≡ piece.token → Made e f spot w) → Back e (One f) (piece ∷ []) w
+  pub one_back : {A B : Type 0} (e : A → B) (f : Spot → Option A) (piece : Piece) (w : B) → Good piece
+      → ((spot : Spot) → spot.token ≡ piece.token → Made e f spot w) → Back e (One f) (piece ∷ []) w
   one_back e f piece w g made = record { good = (g, tt); again = one_again e f piece w made }
 
   -- some spots with these tokens

@@ -5,7 +5,7 @@ use Rattle.rdt_types.specs.declared.address.Kind.{Kind}
 use Rattle.txn_trees.specs.declared.expression.Expr.{Expr, Expr-F, fold_out-Expr, out-Expr}
 use Rattle.txn_trees.specs.declared.expression.ExprNode.{ExprNode, fold-ExprNode, fold_out-ExprNode}
 use Rattle.txn_trees.specs.declared.expression.ExprNode.TheVariants as made
-use Rattle.txn_trees.specs.declared.expression.Operand.{Operand, Operand-F, fold-Operand, fold_out-Operand, out-Operand}
+use Rattle.txn_trees.specs.declared.expression.Operand.{Operand, Operand-F, fold-Operand, fold_out-Operand}
 use Rattle.txn_trees.specs.declared.word.Operator.{Operator}
 use Rattle.txn_trees.specs.declared.word.Relation.{Relation}
 use Rattle.txn_trees.specs.declared.word.ReadWord.{ReadWord}
@@ -61,41 +61,52 @@ module _ (e : Expr) where
 
   pub at_number : (n : ℤ) → node_of e ≡ made.Number n → shown e ≡ shown_as place.Unary (spaced (t.Number n) ∷ [])
   unfolding shown
-  at_number n h = by_node (made.Number n) h ∙ (fold_out-ExprNode Shown Shown (Operator × Shown) show_node expr_step operand_step (made.Number n) ∙ rw made.outs-Number refl)
+  at_number n h =
+      by_node (made.Number n) h ∙ (fold_out-ExprNode Shown Shown (Operator × Shown) show_node expr_step operand_step (made.Number n) ∙ rw made.outs-Number refl)
 
   pub at_text : (bytes : Bytes) → node_of e ≡ made.Text bytes → shown e ≡ shown_as place.Unary (spaced (t.Text bytes) ∷ [])
   unfolding shown
-  at_text bytes h = by_node (made.Text bytes) h ∙ (fold_out-ExprNode Shown Shown (Operator × Shown) show_node expr_step operand_step (made.Text bytes) ∙ rw made.outs-Text refl)
+  at_text bytes h =
+      by_node (made.Text bytes) h ∙ (fold_out-ExprNode Shown Shown (Operator × Shown) show_node expr_step operand_step (made.Text bytes) ∙ rw made.outs-Text refl)
 
   pub at_bool : (b : Bool) → node_of e ≡ made.Bool b → shown e ≡ shown_as place.Unary (word (truth b) ∷ [])
   unfolding shown
-  at_bool b h = by_node (made.Bool b) h ∙ (fold_out-ExprNode Shown Shown (Operator × Shown) show_node expr_step operand_step (made.Bool b) ∙ rw made.outs-Bool refl)
+  at_bool b h =
+      by_node (made.Bool b) h ∙ (fold_out-ExprNode Shown Shown (Operator × Shown) show_node expr_step operand_step (made.Bool b) ∙ rw made.outs-Bool refl)
 
   pub at_name : (name : Bytes) → node_of e ≡ made.Name name → shown e ≡ shown_as place.Unary (spaced (t.Name name) ∷ [])
   unfolding shown
-  at_name name h = by_node (made.Name name) h ∙ (fold_out-ExprNode Shown Shown (Operator × Shown) show_node expr_step operand_step (made.Name name) ∙ rw made.outs-Name refl)
+  at_name name h =
+      by_node (made.Name name) h ∙ (fold_out-ExprNode Shown Shown (Operator × Shown) show_node expr_step operand_step (made.Name name) ∙ rw made.outs-Name refl)
 
   pub at_len : (a : Expr) → node_of e ≡ made.Len a → shown e ≡ shown_as place.Unary (word s.Len ∷ given (expression a))
   unfolding shown
-  at_len a h = by_node (made.Len a) h ∙ (fold_out-ExprNode Shown Shown (Operator × Shown) show_node expr_step operand_step (made.Len a) ∙ rw made.outs-Len refl)
+  at_len a h =
+      by_node (made.Len a) h ∙ (fold_out-ExprNode Shown Shown (Operator × Shown) show_node expr_step operand_step (made.Len a) ∙ rw made.outs-Len refl)
 
   pub at_str : (a : Expr) → node_of e ≡ made.Str a → shown e ≡ shown_as place.Unary (word s.Str ∷ given (expression a))
   unfolding shown
-  at_str a h = by_node (made.Str a) h ∙ (fold_out-ExprNode Shown Shown (Operator × Shown) show_node expr_step operand_step (made.Str a) ∙ rw made.outs-Str refl)
+  at_str a h =
+      by_node (made.Str a) h ∙ (fold_out-ExprNode Shown Shown (Operator × Shown) show_node expr_step operand_step (made.Str a) ∙ rw made.outs-Str refl)
 
   pub at_negative : (a : Expr) → node_of e ≡ made.Negative a → shown e ≡ shown_as place.Unary (opening s.Minus ∷ at place.Unary (shown a))
   unfolding shown
-  at_negative a h = by_node (made.Negative a) h ∙ (fold_out-ExprNode Shown Shown (Operator × Shown) show_node expr_step operand_step (made.Negative a) ∙ rw made.outs-Negative refl)
+  at_negative a h =
+      by_node (made.Negative a) h ∙ (fold_out-ExprNode Shown Shown (Operator × Shown) show_node expr_step operand_step (made.Negative a) ∙ rw made.outs-Negative refl)
 
   pub at_not : (a : Expr) → node_of e ≡ made.Not a → shown e ≡ shown_as place.Negation (word s.Not ∷ at place.Negation (shown a))
   unfolding shown
-  at_not a h = by_node (made.Not a) h ∙ (fold_out-ExprNode Shown Shown (Operator × Shown) show_node expr_step operand_step (made.Not a) ∙ rw made.outs-Not refl)
+  at_not a h =
+      by_node (made.Not a) h ∙ (fold_out-ExprNode Shown Shown (Operator × Shown) show_node expr_step operand_step (made.Not a) ∙ rw made.outs-Not refl)
 
-  pub at_compare : (l : Expr) (r : Relation) (a : Expr) → node_of e ≡ made.Compare l r a → shown e ≡ shown_as place.Comparison (at place.Sum (shown l) ++ word (comparison r) ∷ at place.Sum (shown a))
+  pub at_compare : (l : Expr) (r : Relation) (a : Expr) → node_of e ≡ made.Compare l r a
+      → shown e ≡ shown_as place.Comparison (at place.Sum (shown l) ++ word (comparison r) ∷ at place.Sum (shown a))
   unfolding shown
-  at_compare l r a h = by_node (made.Compare l r a) h ∙ (fold_out-ExprNode Shown Shown (Operator × Shown) show_node expr_step operand_step (made.Compare l r a) ∙ rw made.outs-Compare refl)
+  at_compare l r a h =
+      by_node (made.Compare l r a) h ∙ (fold_out-ExprNode Shown Shown (Operator × Shown) show_node expr_step operand_step (made.Compare l r a) ∙ rw made.outs-Compare refl)
 
-  pub at_texts : (es : List Expr) → node_of e ≡ made.Texts es → shown e ≡ shown_as place.Unary (opening s.OpenBracket ∷ (separated (map expression es) ++ closing s.CloseBracket ∷ []))
+  pub at_texts : (es : List Expr) → node_of e ≡ made.Texts es
+      → shown e ≡ shown_as place.Unary (opening s.OpenBracket ∷ (separated (map expression es) ++ closing s.CloseBracket ∷ []))
   unfolding shown
   at_texts es h =
       by_node (made.Texts es) h
@@ -109,7 +120,8 @@ module _ (e : Expr) where
       ∙ (fold_out-ExprNode Shown Shown (Operator × Shown) show_node expr_step operand_step (made.Chain f os)
       ∙ rw made.outs-Chain (ap (λ xs. chain (shown f) xs) (operands os)))
 
-  pub at_read : (kind : Kind) (key : Expr) (asked : ReadWord) (es : List Expr) → node_of e ≡ made.Read kind key asked es → shown e ≡ shown_as place.Unary (operation kind (expression key) (read_name asked) (map expression es))
+  pub at_read : (kind : Kind) (key : Expr) (asked : ReadWord) (es : List Expr) → node_of e ≡ made.Read kind key asked es
+      → shown e ≡ shown_as place.Unary (operation kind (expression key) (read_name asked) (map expression es))
   unfolding shown
   at_read kind key asked es h =
       by_node (made.Read kind key asked es) h
@@ -133,27 +145,38 @@ module _ (x : Stmt) where
   unfolding shown_stmt
   stmt_by_node n h = fold_out-Stmt (List Piece) (List Piece) show_stmt stmt_step x ∙ ap node_shown_stmt h
 
-  pub at_let : (name : Bytes) (e : Expr) → (out-Stmt x).node ≡ stmt.Let name e → shown_stmt x ≡ word s.Let ∷ spaced (t.Name name) ∷ word s.Assign ∷ ended (expression e)
+  pub at_let : (name : Bytes) (e : Expr) → (out-Stmt x).node ≡ stmt.Let name e
+      → shown_stmt x ≡ word s.Let ∷ spaced (t.Name name) ∷ word s.Assign ∷ ended (expression e)
   unfolding shown_stmt
-  at_let name e h = stmt_by_node (stmt.Let name e) h ∙ (fold_out-StmtNode (List Piece) (List Piece) show_stmt stmt_step (stmt.Let name e) ∙ rw stmt.outs-Let refl)
+  at_let name e h =
+      stmt_by_node (stmt.Let name e) h ∙ (fold_out-StmtNode (List Piece) (List Piece) show_stmt stmt_step (stmt.Let name e) ∙ rw stmt.outs-Let refl)
 
   pub at_emit : (e : Expr) → (out-Stmt x).node ≡ stmt.Emit e → shown_stmt x ≡ word s.Emit ∷ ended (expression e)
   unfolding shown_stmt
-  at_emit e h = stmt_by_node (stmt.Emit e) h ∙ (fold_out-StmtNode (List Piece) (List Piece) show_stmt stmt_step (stmt.Emit e) ∙ rw stmt.outs-Emit refl)
+  at_emit e h =
+      stmt_by_node (stmt.Emit e) h ∙ (fold_out-StmtNode (List Piece) (List Piece) show_stmt stmt_step (stmt.Emit e) ∙ rw stmt.outs-Emit refl)
 
   pub at_fail : (e : Expr) → (out-Stmt x).node ≡ stmt.Fail e → shown_stmt x ≡ word s.Fail ∷ ended (expression e)
   unfolding shown_stmt
-  at_fail e h = stmt_by_node (stmt.Fail e) h ∙ (fold_out-StmtNode (List Piece) (List Piece) show_stmt stmt_step (stmt.Fail e) ∙ rw stmt.outs-Fail refl)
+  at_fail e h =
+      stmt_by_node (stmt.Fail e) h ∙ (fold_out-StmtNode (List Piece) (List Piece) show_stmt stmt_step (stmt.Fail e) ∙ rw stmt.outs-Fail refl)
 
-  pub at_if : (e : Expr) (holds : List Stmt) (other : Option (List Stmt)) → (out-Stmt x).node ≡ stmt.If e holds other → shown_stmt x ≡ word s.If ∷ (expression e ++ (block (map shown_stmt holds) ++ otherwise (option_map (map shown_stmt) other)))
+  pub at_if : (e : Expr) (holds : List Stmt) (other : Option (List Stmt)) → (out-Stmt x).node ≡ stmt.If e holds other
+      → shown_stmt x ≡ word s.If ∷ (expression e ++ (block (map shown_stmt holds) ++ otherwise (option_map (map shown_stmt) other)))
   unfolding shown_stmt
-  at_if e holds None h = stmt_by_node (stmt.If e holds None) h ∙ (fold_out-StmtNode (List Piece) (List Piece) show_stmt stmt_step (stmt.If e holds None) ∙ rw stmt.outs-If refl)
-  at_if e holds (Some ss) h = stmt_by_node (stmt.If e holds (Some ss)) h ∙ (fold_out-StmtNode (List Piece) (List Piece) show_stmt stmt_step (stmt.If e holds (Some ss)) ∙ rw stmt.outs-If refl)
+  at_if e holds None h =
+      stmt_by_node (stmt.If e holds None) h ∙ (fold_out-StmtNode (List Piece) (List Piece) show_stmt stmt_step (stmt.If e holds None) ∙ rw stmt.outs-If refl)
+  at_if e holds (Some ss) h =
+      stmt_by_node (stmt.If e holds (Some ss)) h ∙ (fold_out-StmtNode (List Piece) (List Piece) show_stmt stmt_step (stmt.If e holds (Some ss)) ∙ rw stmt.outs-If refl)
 
-  pub at_for : (name : Bytes) (e : Expr) (each : List Stmt) → (out-Stmt x).node ≡ stmt.For name e each → shown_stmt x ≡ word s.For ∷ spaced (t.Name name) ∷ word s.In ∷ (expression e ++ block (map shown_stmt each))
+  pub at_for : (name : Bytes) (e : Expr) (each : List Stmt) → (out-Stmt x).node ≡ stmt.For name e each
+      → shown_stmt x ≡ word s.For ∷ spaced (t.Name name) ∷ word s.In ∷ (expression e ++ block (map shown_stmt each))
   unfolding shown_stmt
-  at_for name e each h = stmt_by_node (stmt.For name e each) h ∙ (fold_out-StmtNode (List Piece) (List Piece) show_stmt stmt_step (stmt.For name e each) ∙ rw stmt.outs-For refl)
+  at_for name e each h =
+      stmt_by_node (stmt.For name e each) h ∙ (fold_out-StmtNode (List Piece) (List Piece) show_stmt stmt_step (stmt.For name e each) ∙ rw stmt.outs-For refl)
 
-  pub at_write : (kind : Kind) (key : Expr) (done : WriteWord) (es : List Expr) → (out-Stmt x).node ≡ stmt.Write kind key done es → shown_stmt x ≡ ended (operation kind (expression key) (write_name done) (map expression es))
+  pub at_write : (kind : Kind) (key : Expr) (done : WriteWord) (es : List Expr) → (out-Stmt x).node ≡ stmt.Write kind key done es
+      → shown_stmt x ≡ ended (operation kind (expression key) (write_name done) (map expression es))
   unfolding shown_stmt
-  at_write kind key done es h = stmt_by_node (stmt.Write kind key done es) h ∙ (fold_out-StmtNode (List Piece) (List Piece) show_stmt stmt_step (stmt.Write kind key done es) ∙ rw stmt.outs-Write refl)
+  at_write kind key done es h =
+      stmt_by_node (stmt.Write kind key done es) h ∙ (fold_out-StmtNode (List Piece) (List Piece) show_stmt stmt_step (stmt.Write kind key done es) ∙ rw stmt.outs-Write refl)

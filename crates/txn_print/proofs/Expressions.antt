@@ -1,12 +1,12 @@
 -- What is shown of an expression that the grammar derives is read back, within the same levels.
-use Rattle.std.proofs.Common.{◌≡◌, ℕ, zero, suc, ◌≤◌, ◌<◌, ℤ, Bool, true, false, cond, List, [], ◌∷◌, ◌++◌, map, length, Option, Some, None, refl, ap, sym, ◌∙◌, subst, inl, inr, arith}
+use Rattle.std.proofs.Common.{◌≡◌, ℕ, zero, suc, ◌≤◌, ℤ, Bool, true, false, cond, List, [], ◌∷◌, ◌++◌, map, length, Option, Some, None, refl, ap, sym, ◌∙◌, subst, inl, inr, arith}
 use Rattle.std.specs.List.{flat_map}
 use Rattle.std.specs.Option.{option_map}
 use Rattle.std.proofs.lemmas.Bool.{ltb-false, le-ltb}
 use Rattle.plain_data.specs.Texts.{Bytes}
 use Rattle.rdt_types.specs.declared.address.Kind.{Kind}
-use Rattle.predictive_parsing.specs.Rules.{Rule, One, Then, Pure, Or, Many, none, more, ListOf, Optional, ◌>>=◌}
-use Rattle.txn_trees.specs.declared.expression.Expr.{Expr, out-Expr}
+use Rattle.predictive_parsing.specs.Rules.{Rule, One, Pure, Or, Many, none, more, Optional}
+use Rattle.txn_trees.specs.declared.expression.Expr.{Expr}
 use Rattle.txn_trees.specs.declared.expression.ExprNode.TheVariants as made
 use Rattle.txn_trees.specs.declared.expression.Operand.{Operand, out-Operand}
 use Rattle.txn_trees.specs.declared.word.Operator.{Operator}
@@ -22,23 +22,23 @@ use Rattle.txn_grammar.specs.declared.target.Target.{Target}
 use Rattle.txn_grammar.specs.declared.token.Token.{Token}
 use Rattle.txn_grammar.specs.declared.token.Token.TheVariants as t
 use Rattle.txn_grammar.specs.declared.token.Spot.{Spot}
-use Rattle.txn_grammar.specs.Tokens.{at, of_symbol, number, text, name, truth_of, operator_of, relation_of, kind_of, read_of, read_named}
+use Rattle.txn_grammar.specs.Tokens.{at, of_symbol, number, text, name, operator_of, read_of, read_named}
 use Rattle.txn_grammar.specs.Trees.{expr, number_expr, text_expr, truth_expr, name_expr, operand, chained, compared, target_of, read_expr}
 use Rattle.txn_grammar.specs.Trees as trees
 use Rattle.txn_grammar.specs.Lexer.{is_malformed}
-use Rattle.txn_grammar.specs.Grammar.{Word, LeafRule, NumberLeaf, TextLeaf, TruthLeaf, NameLeaf, Further, Chain, OtherSide, Comparison, ComparisonOf, ExpressionOf, Negative, Not, InParens, Group, Len, Str, AfterComma, Elements, Texts, Times, Arguments, Targeted, Read, Opened, UnaryOf, Unary, Negation, Expression}
+use Rattle.txn_grammar.specs.Grammar.{LeafRule, NumberLeaf, TextLeaf, TruthLeaf, NameLeaf, Further, Chain, OtherSide, Comparison, ComparisonOf, Negative, Not, InParens, Group, Len, Str, AfterComma, Elements, Texts, Times, Arguments, Targeted, Read, Opened, Unary, Negation, Expression}
 use Rattle.txn_print.specs.declared.place.Place.{Place}
 use Rattle.txn_print.specs.declared.place.Place.TheVariants as place
 use Rattle.txn_print.specs.Places.{tightness, needs_parens, chain_place, operand_place}
-use Rattle.txn_print.specs.Pieces.{Piece, spaced, opening, closing, joining, word}
+use Rattle.txn_print.specs.Pieces.{Piece, spaced, word}
 use Rattle.txn_print.specs.Canonical.{Shown, shown_as, grouped, given, after_comma, separated, target, request, kind_symbol, sign, comparison, truth, read_name, further, shown_operand, shown_chain, shown, expression}
 use Rattle.txn_print.specs.Canonical as canon
 use Rattle.txn_print.specs.Columns.{bare}
-use Rattle.txn_print.proofs.Erased.{bare_operand, bared_group, bared_number, bared_text, bared_bool, bared_name, bared_texts, bared_len, bared_str, bared_negative, bared_not, bared_compare, bared_chain, bared_read}
+use Rattle.txn_print.proofs.Erased.{bare_operand, bared_group, bared_number, bared_text, bared_bool, bared_name, bared_texts, bared_len, bared_str, bared_negative, bared_not, bared_compare, bared_read}
 use Rattle.txn_print.proofs.Equations.{at_number, at_text, at_bool, at_name, at_texts, at_len, at_str, at_negative, at_not, at_compare, at_chain, at_read, shown_group}
-use Rattle.txn_print.proofs.Back.{Back, Each, within, pure_back, one_back, then_back, mapped_back, many_back}
-use Rattle.txn_print.proofs.Within.{Within, rule_at, deeper, looser_at, alone}
-use Rattle.txn_print.proofs.Keeps.{Keeps, keep_one, keep_pure, keep_then, keep_or, keep_many, keep_further, keep_chain, keep_expression_of, keep_parens, keep_after_comma, keep_arguments, keep_targeted, keep_unary, keep_negation, keep_expression}
+use Rattle.txn_print.proofs.Back.{Back, Each, within, many_back}
+use Rattle.txn_print.proofs.Within.{Within, rule_at, deeper, looser_at}
+use Rattle.txn_print.proofs.Keeps.{Keeps, keep_one, keep_further, keep_chain, keep_after_comma, keep_targeted, keep_unary, keep_negation, keep_expression}
 use Rattle.txn_print.proofs.Operations.{read_again}
 use Rattle.txn_print.proofs.Productions
 
@@ -54,13 +54,14 @@ module _ (Good : Piece → Type 0) (goods : Productions.Goods Good) where
     pub here : (q : Place) → tightness q ≤ tightness p → Back Good bare (rule_at n q) (canon.at q shown) w
 
   -- what is of a rank stands without parentheses at each place that is no tighter
-  own : (n : ℕ) (p r : Place) (ps : List Piece) (w : Expr) → tightness p ≤ tightness r → Back Good bare (rule_at n r) ps w → Fine n p (shown_as r ps) w
+  own : (n : ℕ) (p r : Place) (ps : List Piece) (w : Expr) → tightness p ≤ tightness r → Back Good bare (rule_at n r) ps w
+      → Fine n p (shown_as r ps) w
   own n p r ps w h b = record {
     inner = b;
     here = λ q k.
-      let no : needs_parens r q ≡ false = le-ltb (tightness r) (tightness q) (omega arith) in
-      subst (λ t. Back Good bare (rule_at n q) (cond t (grouped ps) ps) w) (sym no)
-      (within Good bare (rule_at n r) (rule_at n q) ps w (looser_at n r q (omega arith)) b);
+        let no : needs_parens r q ≡ false = le-ltb (tightness r) (tightness q) (omega arith) in
+        subst (λ t. Back Good bare (rule_at n q) (cond t (grouped ps) ps) w) (sym no)
+        (within Good bare (rule_at n r) (rule_at n q) ps w (looser_at n r q (omega arith)) b);
   }
 
   -- at a looser place
@@ -68,7 +69,8 @@ module _ (Good : Piece → Type 0) (goods : Productions.Goods Good) where
   looser n p q shown w h f = record { inner = f.inner; here = λ r k. f.here r (omega arith) }
 
   -- with a level more it stands at any place, in parentheses where it needs them
-  anywhere : (n : ℕ) (q : Place) (shown : Shown) (w : Expr) → Back Good bare (rule_at n shown.rank) shown.pieces w → (t : Bool) → needs_parens shown.rank q ≡ t
+  anywhere : (n : ℕ) (q : Place) (shown : Shown) (w : Expr) → Back Good bare (rule_at n shown.rank) shown.pieces w → (t : Bool)
+      → needs_parens shown.rank q ≡ t
       → Back Good bare (rule_at (suc n) q) (cond t (grouped shown.pieces) shown.pieces) w
   unfolding Unary
   anywhere n q shown w b true h =
@@ -96,7 +98,8 @@ module _ (Good : Piece → Type 0) (goods : Productions.Goods Good) where
   }
 
   -- shown alike
-  as_shown : (n : ℕ) (p : Place) (e : Expr) (shown : Shown) (w : Expr) → canon.shown e ≡ shown → bare e ≡ w → Fine n p shown w → Fine n p (canon.shown e) (bare e)
+  as_shown : (n : ℕ) (p : Place) (e : Expr) (shown : Shown) (w : Expr) → canon.shown e ≡ shown → bare e ≡ w → Fine n p shown w
+      → Fine n p (canon.shown e) (bare e)
   as_shown n p e shown w h k f = subst (λ x. Fine n p x (bare e)) (sym h) (subst (λ y. Fine n p shown y) (sym k) f)
 
   abbrev pub AllFine : ℕ → Place → Rule Spot Expr → Type 0
@@ -107,8 +110,10 @@ module _ (Good : Piece → Type 0) (goods : Productions.Goods Good) where
   moved n p e e' h f = subst (λ x. Fine n p (canon.shown x) (bare x)) (sym h) f
 
   -- what is closed in itself
-  closed : (n : ℕ) (R : Rule Spot Expr) → Within R (Unary n) → (e : Expr) (ps : List Piece) (w : Expr) → canon.shown e ≡ shown_as place.Unary ps → bare e ≡ w → Back Good bare R ps w → Fine n place.Unary (canon.shown e) (bare e)
-  closed n R f e ps w h k b = as_shown n place.Unary e (shown_as place.Unary ps) w h k (own n place.Unary place.Unary ps w (omega arith) (within Good bare R (Unary n) ps w f b))
+  closed : (n : ℕ) (R : Rule Spot Expr) → Within R (Unary n) → (e : Expr) (ps : List Piece) (w : Expr)
+      → canon.shown e ≡ shown_as place.Unary ps → bare e ≡ w → Back Good bare R ps w → Fine n place.Unary (canon.shown e) (bare e)
+  closed n R f e ps w h k b =
+      as_shown n place.Unary e (shown_as place.Unary ps) w h k (own n place.Unary place.Unary ps w (omega arith) (within Good bare R (Unary n) ps w f b))
 
   -- ---- leaves
 
@@ -137,7 +142,8 @@ module _ (Good : Piece → Type 0) (goods : Productions.Goods Good) where
   name_is _ v e = absurd (cc)
 
   pub good_name : (ts us : List Spot) (a : ℕ × Bytes) → One (at name) ts a us → Each G ts → Good (spaced (t.Name a.1))
-  good_name ts us a r g = subst (λ x. is_malformed x ≡ false → Good (spaced x)) (name_is _ a.1 (made_at name ts us a r)) (good_taken (at name) ts us a r g) refl
+  good_name ts us a r g =
+      subst (λ x. is_malformed x ≡ false → Good (spaced x)) (name_is _ a.1 (made_at name ts us a r)) (good_taken (at name) ts us a r g) refl
 
   leaf_fine : (n : ℕ) → Within LeafRule (Unary n) → AllFine n place.Unary LeafRule
   leaf_fine n f ts us e (inl r) g =
@@ -191,7 +197,8 @@ module _ (Good : Piece → Type 0) (goods : Productions.Goods Good) where
       pub each : Each Shows es
       pub length : length es ≡ count
 
-    times_shown : (count : ℕ) (ts us : List Spot) (es : List Expr) → Times (AfterComma (Expression n)) count ts es us → Each G ts → Shown_list es count
+    times_shown : (count : ℕ) (ts us : List Spot) (es : List Expr) → Times (AfterComma (Expression n)) count ts es us → Each G ts
+        → Shown_list es count
     times_shown zero ts us es r g = subst (λ xs. Shown_list xs zero) (sym r.is) (record { each = tt; length = refl })
     times_shown (suc count) ts us es r g =
         let x = r.first in
@@ -199,7 +206,8 @@ module _ (Good : Piece → Type 0) (goods : Productions.Goods Good) where
         let rest = times_shown count r.middle r.second.middle r.second.value r.second.first (keep_after_comma G _ (keep_expression G n) ts r.middle r.value x g) in
         subst (λ xs. Shown_list xs (suc count)) (sym r.second.second.is) (record { each = (here, rest.each); length = ap (λ m. suc m) rest.length })
 
-    pub arguments_shown : (count : ℕ) (ts us : List Spot) (es : List Expr) → Arguments (Expression n) count ts es us → Each G ts → Shown_list es count
+    pub arguments_shown : (count : ℕ) (ts us : List Spot) (es : List Expr) → Arguments (Expression n) count ts es us → Each G ts
+        → Shown_list es count
     arguments_shown zero ts us es r g = subst (λ xs. Shown_list xs zero) (sym r.is) (record { each = tt; length = refl })
     arguments_shown (suc count) ts us es r g =
         let here = shows ts r.middle r.value r.first g in
@@ -302,7 +310,8 @@ module _ (Good : Piece → Type 0) (goods : Productions.Goods Good) where
   module _ (n : ℕ) (r : Rank) (p q : Place) (tighter : tightness p ≤ tightness q) (up : Within (Chain r (rule_at n q)) (rule_at n p))
       (signs : (x : Symbol) (o : Operator) → operator_of r x ≡ Some o → (operator_of r (sign o) ≡ Some o) × (chain_place o ≡ p) × (operand_place o ≡ q))
       (fine : AllFine n q (rule_at n q)) (keep : Keeps G (rule_at n q)) where
-    symbol_made : (x : Token) (o : Operator) → of_symbol (operator_of r) x ≡ Some o → (operator_of r (sign o) ≡ Some o) × (chain_place o ≡ p) × (operand_place o ≡ q)
+    symbol_made : (x : Token) (o : Operator) → of_symbol (operator_of r) x ≡ Some o
+        → (operator_of r (sign o) ≡ Some o) × (chain_place o ≡ p) × (operand_place o ≡ q)
     symbol_made (t.Symbol x) o e = signs x o e
     symbol_made _ o e = absurd (cc)
 
@@ -312,12 +321,13 @@ module _ (Good : Piece → Type 0) (goods : Productions.Goods Good) where
       operand_is : operand_place (out-Operand a).operator ≡ q
       back : Back Good bare_operand (Further r (rule_at n q)) (further (shown_operand a)) (bare_operand a)
 
-    joined_at : (o : Operator) (e : Expr) → (operator_of r (sign o) ≡ Some o) × (chain_place o ≡ p) × (operand_place o ≡ q) → Fine n q (canon.shown e) (bare e) → Joined (operand o e)
+    joined_at : (o : Operator) (e : Expr) → (operator_of r (sign o) ≡ Some o) × (chain_place o ≡ p) × (operand_place o ≡ q)
+        → Fine n q (canon.shown e) (bare e) → Joined (operand o e)
     joined_at o e k f = record {
       place_is = k.1;
       operand_is = k.2;
       back = Productions.further_back Good goods r (rule_at n q) o e (canon.at (operand_place o) (canon.shown e)) k.0
-        (subst (λ z. Back Good bare (rule_at n q) (canon.at z (canon.shown e)) (bare e)) (sym k.2) (f.here q (omega arith)));
+          (subst (λ z. Back Good bare (rule_at n q) (canon.at z (canon.shown e)) (bare e)) (sym k.2) (f.here q (omega arith)));
     }
 
     joined : (ts us : List Spot) (a : Operand) → Further r (rule_at n q) ts a us → Each G ts → Joined a
@@ -329,26 +339,30 @@ module _ (Good : Piece → Type 0) (goods : Productions.Goods Good) where
 
     all_joined : (ts us : List Spot) (os : List Operand) → Many (Further r (rule_at n q)) ts os us → Each G ts → Each Joined os
     all_joined ts us os (none ts') g = tt
-    all_joined ts us os (more ts' us' vs' a rest x xs) g = (joined ts us' a x g, all_joined us' us rest xs (keep_further G r _ keep ts us' a x g))
+    all_joined ts us os (more ts' us' vs' a rest x xs) g =
+        (joined ts us' a x g, all_joined us' us rest xs (keep_further G r _ keep ts us' a x g))
 
-    backs : (os : List Operand) → Each Joined os → Each (λ a. Back Good bare_operand (Further r (rule_at n q)) (further (shown_operand a)) (bare_operand a)) os
+    backs : (os : List Operand) → Each Joined os
+        → Each (λ a. Back Good bare_operand (Further r (rule_at n q)) (further (shown_operand a)) (bare_operand a)) os
     backs [] h = tt
     backs (a ∷ as_) h = (h.0.back, backs as_ h.1)
 
-    many_operands : (os : List Operand) → Each Joined os → Back Good (map bare_operand) (Many (Further r (rule_at n q))) (flat_map further (map shown_operand os)) (map bare_operand os)
+    many_operands : (os : List Operand) → Each Joined os
+        → Back Good (map bare_operand) (Many (Further r (rule_at n q))) (flat_map further (map shown_operand os)) (map bare_operand os)
     many_operands os h =
         subst (λ ps. Back Good (map bare_operand) (Many (Further r (rule_at n q))) ps (map bare_operand os)) (sym (Productions.flat-map Good goods shown_operand further os))
         (many_back Good bare_operand (Further r (rule_at n q)) (λ a. further (shown_operand a)) os (backs os h))
 
-    chain_with : (f : Expr) (os : List Operand) → Fine n q (canon.shown f) (bare f) → Each Joined os → Fine n p (canon.shown (chained (f, os))) (bare (chained (f, os)))
+    chain_with : (f : Expr) (os : List Operand) → Fine n q (canon.shown f) (bare f) → Each Joined os
+        → Fine n p (canon.shown (chained (f, os))) (bare (chained (f, os)))
     chain_with f [] b h = looser n q p (canon.shown f) (bare f) tighter b
     chain_with f (o ∷ os) b h =
         let e = chained (f, o ∷ os) in
         let ps = canon.at q (canon.shown f) ++ flat_map further (map shown_operand (o ∷ os)) in
         let is : canon.shown e ≡ shown_as p ps =
-            at_chain e f (o ∷ os) refl
-            ∙ ap (λ z. shown_as z (canon.at (operand_place (out-Operand o).operator) (canon.shown f) ++ flat_map further (map shown_operand (o ∷ os)))) h.0.place_is
-            ∙ ap (λ z. shown_as p (canon.at z (canon.shown f) ++ flat_map further (map shown_operand (o ∷ os)))) h.0.operand_is in
+        at_chain e f (o ∷ os) refl
+        ∙ ap (λ z. shown_as z (canon.at (operand_place (out-Operand o).operator) (canon.shown f) ++ flat_map further (map shown_operand (o ∷ os)))) h.0.place_is
+        ∙ ap (λ z. shown_as p (canon.at z (canon.shown f) ++ flat_map further (map shown_operand (o ∷ os)))) h.0.operand_is in
         as_shown n p e (shown_as p ps) (bare e) is refl
         (own n p p ps (bare e) (omega arith)
         (within Good bare (Chain r (rule_at n q)) (rule_at n p) ps (bare e) up
@@ -365,12 +379,16 @@ module _ (Good : Piece → Type 0) (goods : Productions.Goods Good) where
   abbrev Signs : Rank → Place → Place → Operator → Type 0
   Signs r p q o = (operator_of r (sign o) ≡ Some o) × (chain_place o ≡ p) × (operand_place o ≡ q)
 
-  or_signs : (x : Symbol) (o : Operator) → operator_of rank.Disjunction x ≡ Some o → Signs rank.Disjunction place.Disjunction place.Conjunction o
-  or_signs s.Or o e = let k : operator.Or ≡ o = cc in subst (λ z. Signs rank.Disjunction place.Disjunction place.Conjunction z) k (refl, refl, refl)
+  or_signs : (x : Symbol) (o : Operator) → operator_of rank.Disjunction x ≡ Some o
+      → Signs rank.Disjunction place.Disjunction place.Conjunction o
+  or_signs s.Or o e =
+      let k : operator.Or ≡ o = cc in subst (λ z. Signs rank.Disjunction place.Disjunction place.Conjunction z) k (refl, refl, refl)
   or_signs _ o e = absurd (cc)
 
-  and_signs : (x : Symbol) (o : Operator) → operator_of rank.Conjunction x ≡ Some o → Signs rank.Conjunction place.Conjunction place.Negation o
-  and_signs s.And o e = let k : operator.And ≡ o = cc in subst (λ z. Signs rank.Conjunction place.Conjunction place.Negation z) k (refl, refl, refl)
+  and_signs : (x : Symbol) (o : Operator) → operator_of rank.Conjunction x ≡ Some o
+      → Signs rank.Conjunction place.Conjunction place.Negation o
+  and_signs s.And o e =
+      let k : operator.And ≡ o = cc in subst (λ z. Signs rank.Conjunction place.Conjunction place.Negation z) k (refl, refl, refl)
   and_signs _ o e = absurd (cc)
 
   sum_signs : (x : Symbol) (o : Operator) → operator_of rank.Sum x ≡ Some o → Signs rank.Sum place.Sum place.Product o
@@ -379,7 +397,8 @@ module _ (Good : Piece → Type 0) (goods : Productions.Goods Good) where
   sum_signs _ o e = absurd (cc)
 
   product_signs : (x : Symbol) (o : Operator) → operator_of rank.Product x ≡ Some o → Signs rank.Product place.Product place.Unary o
-  product_signs s.Times o e = let k : operator.Times ≡ o = cc in subst (λ z. Signs rank.Product place.Product place.Unary z) k (refl, refl, refl)
+  product_signs s.Times o e =
+      let k : operator.Times ≡ o = cc in subst (λ z. Signs rank.Product place.Product place.Unary z) k (refl, refl, refl)
   product_signs _ o e = absurd (cc)
 
   -- ---- comparisons
@@ -395,7 +414,8 @@ module _ (Good : Piece → Type 0) (goods : Productions.Goods Good) where
         (own n place.Comparison place.Comparison ps _ (omega arith)
         (Productions.compare_back Good goods (rule_at n place.Sum) x.0 _ _ _ _ (b.here place.Sum (omega arith)) ((h x refl).here place.Sum (omega arith))))
 
-    side_fine : (ts us : List Spot) (m : Option (Relation × Expr)) → Optional (OtherSide (rule_at n place.Sum)) ts m us → Each G ts → (x : Relation × Expr) → m ≡ Some x → Fine n place.Sum (canon.shown x.1) (bare x.1)
+    side_fine : (ts us : List Spot) (m : Option (Relation × Expr)) → Optional (OtherSide (rule_at n place.Sum)) ts m us → Each G ts
+        → (x : Relation × Expr) → m ≡ Some x → Fine n place.Sum (canon.shown x.1) (bare x.1)
     side_fine ts us m (inl r) g x e =
         let y = r.first in
         let f = fine y.middle y.second.middle y.second.value y.second.first (keep_one G _ ts y.middle y.value y.first g) in
@@ -418,17 +438,20 @@ module _ (Good : Piece → Type 0) (goods : Productions.Goods Good) where
     product_fine = chain_fine n rank.Product place.Product place.Unary (omega arith) (λ ts us e r. r) product_signs fine (keep_unary G n)
 
     sum_fine : AllFine n place.Sum (rule_at n place.Sum)
-    sum_fine = chain_fine n rank.Sum place.Sum place.Product (omega arith) (λ ts us e r. r) sum_signs product_fine (keep_chain G rank.Product _ (keep_unary G n))
+    sum_fine =
+        chain_fine n rank.Sum place.Sum place.Product (omega arith) (λ ts us e r. r) sum_signs product_fine (keep_chain G rank.Product _ (keep_unary G n))
 
     comparison_fine : AllFine n place.Comparison (ComparisonOf (Unary n))
     comparison_fine = compare_fine n sum_fine (keep_chain G rank.Sum _ (keep_chain G rank.Product _ (keep_unary G n)))
 
   module _ (n : ℕ) (fine : AllFine n place.Negation (Negation n)) where
     conjunction_fine : AllFine n place.Conjunction (rule_at n place.Conjunction)
-    conjunction_fine = chain_fine n rank.Conjunction place.Conjunction place.Negation (omega arith) (λ ts us e r. r) and_signs fine (keep_negation G n)
+    conjunction_fine =
+        chain_fine n rank.Conjunction place.Conjunction place.Negation (omega arith) (λ ts us e r. r) and_signs fine (keep_negation G n)
 
     disjunction_fine : AllFine n place.Disjunction (Expression n)
-    disjunction_fine = chain_fine n rank.Disjunction place.Disjunction place.Conjunction (omega arith) (λ ts us e r. r) or_signs conjunction_fine (keep_chain G rank.Conjunction _ (keep_negation G n))
+    disjunction_fine =
+        chain_fine n rank.Disjunction place.Disjunction place.Conjunction (omega arith) (λ ts us e r. r) or_signs conjunction_fine (keep_chain G rank.Conjunction _ (keep_negation G n))
 
   -- ---- level by level
 
@@ -445,7 +468,8 @@ module _ (Good : Piece → Type 0) (goods : Productions.Goods Good) where
   unary_at n fine ts us e (inl r) g = fine ts us e r g
   unary_at n fine ts us e (inr r) g = leaf_fine (suc n) (λ xs ys x q. inr q) ts us e r g
 
-  negation_at : (n : ℕ) → AllFine n place.Negation (Negation n) → AllFine (suc n) place.Negation (ComparisonOf (Unary (suc n))) → AllFine (suc n) place.Negation (Negation (suc n))
+  negation_at : (n : ℕ) → AllFine n place.Negation (Negation n) → AllFine (suc n) place.Negation (ComparisonOf (Unary (suc n)))
+      → AllFine (suc n) place.Negation (Negation (suc n))
   unfolding Unary
   negation_at n fine others ts us e (inl r) g =
       let c = r.value in let v = r.second.value in

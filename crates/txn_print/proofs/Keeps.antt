@@ -1,13 +1,13 @@
 -- What holds of each token that a rule is given holds of each that it leaves.
-use Rattle.std.proofs.Common.{◌≡◌, ℕ, zero, suc, List, [], ◌∷◌, Option, Some, None, refl, ap, sym, ◌∙◌, subst, inl, inr}
-use Rattle.predictive_parsing.specs.Rules.{Rule, One, Then, Pure, Or, Many, none, more, ListOf, Optional, ◌>>=◌}
+use Rattle.std.proofs.Common.{ℕ, zero, suc, List, [], Option, Some, None, subst, inl, inr}
+use Rattle.predictive_parsing.specs.Rules.{Rule, One, Then, Pure, Or, Many, none, more, Optional}
 use Rattle.txn_trees.specs.declared.expression.Expr.{Expr}
 use Rattle.txn_trees.specs.declared.statement.Stmt.{Stmt}
 use Rattle.txn_grammar.specs.declared.rank.Rank.{Rank}
 use Rattle.txn_grammar.specs.declared.rank.Rank.TheVariants as rank
 use Rattle.txn_grammar.specs.declared.symbol.Symbol.{Symbol}
 use Rattle.txn_grammar.specs.declared.token.Spot.{Spot}
-use Rattle.txn_grammar.specs.Grammar.{Word, LeafRule, Further, Chain, OtherSide, Comparison, ComparisonOf, ExpressionOf, Negative, Not, InParens, Group, Len, Str, AfterComma, Elements, Texts, Times, Arguments, Targeted, Read, Opened, UnaryOf, Unary, Negation, Expression, SimpleStmt, Block, Otherwise, IfStmt, ForStmt, WriteStmt, NestingStmt, Statement}
+use Rattle.txn_grammar.specs.Grammar.{Word, LeafRule, Further, Chain, Comparison, ComparisonOf, ExpressionOf, InParens, AfterComma, Elements, Texts, Times, Arguments, Targeted, Read, Opened, Unary, Negation, Expression, SimpleStmt, Block, NestingStmt, Statement}
 use Rattle.txn_print.proofs.Back.{Each}
 
 module _ (G : Spot → Type 0) where
@@ -47,7 +47,8 @@ module _ (G : Spot → Type 0) where
   -- ---- expressions
 
   keep_leaf : Keeps LeafRule
-  keep_leaf = keep_or _ _ (mapped _ _ (keep_one _)) (keep_or _ _ (mapped _ _ (keep_one _)) (keep_or _ _ (mapped _ _ (keep_one _)) (mapped _ _ (keep_one _))))
+  keep_leaf =
+      keep_or _ _ (mapped _ _ (keep_one _)) (keep_or _ _ (mapped _ _ (keep_one _)) (keep_or _ _ (mapped _ _ (keep_one _)) (mapped _ _ (keep_one _))))
 
   pub keep_further : (r : Rank) (P : Rule Spot Expr) → Keeps P → Keeps (Further r P)
   keep_further r P f = keep_then _ _ (keep_one _) (λ o. mapped _ _ f)
@@ -85,7 +86,8 @@ module _ (G : Spot → Type 0) where
   keep_targeted E f = keep_then _ _ (keep_one _) (λ k. keep_then _ _ (keep_parens E f) (λ key. worded _ _ (λ d. keep_pure _)))
 
   keep_read : (E : Rule Spot Expr) → Keeps E → Keeps (Read E)
-  keep_read E f = keep_then _ _ (keep_targeted E f) (λ t. keep_then _ _ (keep_one _) (λ o. mapped _ _ (keep_parens _ (keep_arguments E f o.1.arguments))))
+  keep_read E f =
+      keep_then _ _ (keep_targeted E f) (λ t. keep_then _ _ (keep_one _) (λ o. mapped _ _ (keep_parens _ (keep_arguments E f o.1.arguments))))
 
   keep_texts : (E : Rule Spot Expr) → Keeps E → Keeps (Texts E)
   keep_texts E f = worded _ _ (λ c. keep_then _ _ (keep_or _ _ (keep_elements E f) (keep_pure [])) (λ es. worded _ _ (λ d. keep_pure _)))
@@ -139,4 +141,5 @@ module _ (G : Spot → Type 0) where
   pub keep_statement : (n : ℕ) → Keeps (Statement n)
   unfolding Statement
   keep_statement zero = keep_simple _ (keep_expression zero)
-  keep_statement (suc n) = keep_or _ _ (keep_simple _ (keep_expression (suc n))) (keep_nesting _ _ _ (keep_expression (suc n)) (keep_expression n) (keep_statement n))
+  keep_statement (suc n) =
+      keep_or _ _ (keep_simple _ (keep_expression (suc n))) (keep_nesting _ _ _ (keep_expression (suc n)) (keep_expression n) (keep_statement n))

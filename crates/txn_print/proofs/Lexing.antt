@@ -1,5 +1,5 @@
 -- The text of good tokens is cut into these tokens.
-use Rattle.std.proofs.Common.{◌≡◌, ℕ, zero, suc, ◌+◌, ◌-◌, Bool, true, false, ◌&&◌, ◌||◌, ◌==◌, cond, List, [], ◌∷◌, ◌++◌, map, length, refl, ap, sym, ◌∙◌, subst, append_assoc, append-nil, arith}
+use Rattle.std.proofs.Common.{◌≡◌, ℕ, suc, ◌+◌, ◌-◌, Bool, true, false, ◌&&◌, ◌||◌, ◌==◌, cond, List, [], ◌∷◌, ◌++◌, length, refl, ap, sym, ◌∙◌, subst, append_assoc, append-nil, arith}
 use Rattle.std.specs.List.{list_any}
 use Rattle.std.proofs.lemmas.Bool.{eqb-true}
 use Rattle.plain_data.specs.Texts.{Bytes}
@@ -9,7 +9,7 @@ use Rattle.txn_grammar.specs.declared.token.Lexeme.{Lexeme}
 use Rattle.dtext.specs.Characters.{is_blank}
 use Rattle.txn_grammar.specs.Lexer.{lexeme, token_at, spot, is_malformed, lex_from, lex}
 use Rattle.txn_print.specs.declared.line.Line.{Line}
-use Rattle.txn_print.specs.Pieces.{Piece, printed, space_if, put, write, written, empty, text}
+use Rattle.txn_print.specs.Pieces.{Piece, printed, space_if, write, written, empty, text}
 use Rattle.txn_print.specs.ReadBack.{tokens}
 use Rattle.txn_print.proofs.Back.{Each, tokens_of}
 
@@ -50,7 +50,8 @@ pub record Good (piece : Piece) : Type 0 where
   pub no_blank : is_blank first ≡ false
   pub touches : piece.before ≡ false → is_gap first ≡ true
   pub formed : is_malformed piece.token ≡ false
-  pub cut : (z : Bytes) → (piece.after ≡ true → gap_begins z ≡ true) → token_at (first ∷ (rest ++ z)) ≡ lexeme piece.token (suc (length rest))
+  pub cut : (z : Bytes) → (piece.after ≡ true → gap_begins z ≡ true)
+      → token_at (first ∷ (rest ++ z)) ≡ lexeme piece.token (suc (length rest))
 
 -- ---- the text, from its front
 
@@ -90,7 +91,8 @@ module _ (z : Bytes) (ts : List Token) (others : (c : ℕ) → tokens (lex_from 
   step c b y blank found =
       cond blank (lex_from (c + 1) 0 y) (spot c found.token ∷ cond (is_malformed found.token) [] (lex_from (c + 1) (found.len - 1) y))
 
-  one_token : (p : Piece) → Good p → (p.after ≡ true → gap_begins z ≡ true) → (c : ℕ) → tokens (lex_from c 0 (printed p.token ++ z)) ≡ p.token ∷ ts
+  one_token : (p : Piece) → Good p → (p.after ≡ true → gap_begins z ≡ true) → (c : ℕ)
+      → tokens (lex_from c 0 (printed p.token ++ z)) ≡ p.token ∷ ts
   one_token p g follows c =
       let y = g.rest ++ z in
       let x = token_at (g.first ∷ y) in
@@ -103,7 +105,8 @@ module _ (z : Bytes) (ts : List Token) (others : (c : ℕ) → tokens (lex_from 
       ∙ ap (λ xs. p.token ∷ xs) (passed g.rest (c + 1))
 
 -- behind a space or not
-spaced_token : (p : Piece) (z : Bytes) (ts : List Token) (t : Bool) → ((c : ℕ) → tokens (lex_from c 0 (printed p.token ++ z)) ≡ ts) → (c : ℕ) → tokens (lex_from c 0 (space_if t ++ (printed p.token ++ z))) ≡ ts
+spaced_token : (p : Piece) (z : Bytes) (ts : List Token) (t : Bool) → ((c : ℕ) → tokens (lex_from c 0 (printed p.token ++ z)) ≡ ts)
+    → (c : ℕ) → tokens (lex_from c 0 (space_if t ++ (printed p.token ++ z))) ≡ ts
 spaced_token p z ts true h c = h (c + 1)
 spaced_token p z ts false h c = h c
 

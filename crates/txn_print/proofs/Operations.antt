@@ -1,5 +1,5 @@
 -- The words of operations: each is printed as the table of its kind spells it.
-use Rattle.std.proofs.Common.{◌≡◌, ℕ, Bool, true, false, cond, ◌&&◌, List, [], ◌∷◌, map, find, codes, Option, Some, None, refl, ap, sym, ◌∙◌, subst}
+use Rattle.std.proofs.Common.{◌≡◌, ℕ, Bool, true, false, cond, ◌&&◌, List, [], ◌∷◌, map, find, Some, refl, subst}
 use Rattle.std.specs.Option.{option_map}
 use Rattle.std.specs.Str.{bytes_eq}
 use denote.Enum.Bare.{same_true}
@@ -44,9 +44,11 @@ module _ {W : Type 0} (name : W → Bytes) (all : List (Row W)) where
       subst (λ (o : Operation W). operation_in all k (name o.word) ≡ Some o) is (subst (λ (x : Kind). operation_in all x (name row.2) ≡ Some (operation row.2 row.3)) kind h)
   again_by row rows k n op h others false t f = others f
 
-  again_in : (rows : List (Row W)) (k : Kind) (n : Bytes) (op : Operation W) → Each Again rows → operation_in rows k n ≡ Some op → operation_in all k (name op.word) ≡ Some op
+  again_in : (rows : List (Row W)) (k : Kind) (n : Bytes) (op : Operation W) → Each Again rows → operation_in rows k n ≡ Some op
+      → operation_in all k (name op.word) ≡ Some op
   again_in [] k n op h e = absurd (cc)
-  again_in (row ∷ rows) k n op h e = again_by row rows k n op h.0 (λ f. again_in rows k n op h.1 f) (same_kind row.0 k && bytes_eq row.1 n) refl e
+  again_in (row ∷ rows) k n op h e =
+      again_by row rows k n op h.0 (λ f. again_in rows k n op h.1 f) (same_kind row.0 k && bytes_eq row.1 n) refl e
 
 -- a read's word
 pub read_again : (k : Kind) (n : Bytes) (op : Operation ReadWord) → read_named k n ≡ Some op → read_named k (read_name op.word) ≡ Some op
@@ -56,7 +58,8 @@ read_again k n op e =
     again_in read_name rows rows k n op (refl, (refl, (refl, (refl, (refl, (refl, (refl, (refl, (refl, (refl, tt)))))))))) e
 
 -- a write's word
-pub write_again : (k : Kind) (n : Bytes) (op : Operation WriteWord) → write_named k n ≡ Some op → write_named k (write_name op.word) ≡ Some op
+pub write_again : (k : Kind) (n : Bytes) (op : Operation WriteWord) → write_named k n ≡ Some op
+    → write_named k (write_name op.word) ≡ Some op
 unfolding write_named same_kind
 write_again k n op e =
     let rows : List (Row WriteWord) = map (λ row. (row.0, row.1.now, row.2, row.3)) WRITES in

@@ -1,15 +1,15 @@
 -- Productions of the grammar, read back part by part.
-use Rattle.std.proofs.Common.{◌≡◌, ℕ, zero, suc, ℤ, Bool, true, false, cond, List, [], ◌∷◌, ◌++◌, map, length, Option, Some, None, refl, ap, sym, ◌∙◌, subst, inl, inr, append_assoc, append-nil}
+use Rattle.std.proofs.Common.{◌≡◌, ℕ, ℤ, Bool, true, false, cond, List, [], ◌∷◌, ◌++◌, map, length, Option, Some, None, refl, ap, sym, ◌∙◌, subst, inl, inr, append-nil}
 use Rattle.std.specs.List.{flat_map}
 use Rattle.std.specs.Option.{option_map}
 use denote.Enum.Bare.{true_same}
 use Rattle.rdt_types.specs.declared.address.Kind.{Kind}
 use Rattle.rdt_types.specs.declared.address.Kind.TheVariants as kind
-use Rattle.predictive_parsing.specs.Rules.{Rule, One, Then, Pure, Or, Many, none, more, ListOf, Optional, ◌>>=◌}
+use Rattle.predictive_parsing.specs.Rules.{Rule, One, Then, Pure, Or, Many, ListOf, Optional, ◌>>=◌}
 use Rattle.plain_data.specs.Texts.{Bytes}
-use Rattle.txn_trees.specs.declared.expression.Expr.{Expr, out-Expr}
+use Rattle.txn_trees.specs.declared.expression.Expr.{Expr}
 use Rattle.txn_trees.specs.declared.expression.ExprNode.TheVariants as made
-use Rattle.txn_trees.specs.declared.expression.Operand.{Operand, out-Operand}
+use Rattle.txn_trees.specs.declared.expression.Operand.{Operand}
 use Rattle.txn_trees.specs.declared.word.Operator.{Operator}
 use Rattle.txn_trees.specs.declared.word.Relation.{Relation}
 use Rattle.txn_trees.specs.declared.word.Relation.TheVariants as relation
@@ -25,12 +25,12 @@ use Rattle.txn_grammar.specs.declared.token.Token.{Token}
 use Rattle.txn_grammar.specs.declared.token.Token.TheVariants as t
 use Rattle.txn_grammar.specs.declared.token.Spot.{Spot}
 use Rattle.txn_grammar.specs.Spellings.{same_symbol}
-use Rattle.txn_grammar.specs.Tokens.{at, symbol_at, is_symbol, of_symbol, number, text, name, truth_of, operator_of, relation_of, kind_of, write_of, read_of, read_named, write_named}
+use Rattle.txn_grammar.specs.Tokens.{at, symbol_at, is_symbol, of_symbol, number, text, name, truth_of, operator_of, relation_of, kind_of, read_of, read_named}
 use Rattle.txn_grammar.specs.Trees.{expr, number_expr, text_expr, truth_expr, name_expr, operand, chained, compared, target_of, read_expr}
 use Rattle.txn_grammar.specs.Trees as trees
 use Rattle.txn_grammar.specs.Grammar.{Word, NumberLeaf, TextLeaf, TruthLeaf, NameLeaf, Further, Chain, OtherSide, Comparison, Negative, Not, InParens, Group, Len, Str, AfterComma, Elements, Texts, Times, Arguments, Targeted, Read}
 use Rattle.txn_print.specs.Pieces.{Piece, spaced, opening, closing, joining, word}
-use Rattle.txn_print.specs.Canonical.{grouped, given, after_comma, separated, target, request, kind_symbol, sign, comparison, truth, read_name, write_name, further, shown_operand, expression}
+use Rattle.txn_print.specs.Canonical.{grouped, given, after_comma, separated, target, request, kind_symbol, sign, comparison, truth, read_name, write_name, expression}
 use Rattle.txn_print.specs.Columns.{bare}
 use Rattle.txn_print.proofs.Erased.{bare_operand, bared_group, bared_number, bared_text, bared_bool, bared_name, bared_texts, bared_len, bared_str, bared_negative, bared_not, bared_compare, bared_chain, bared_read}
 use Rattle.txn_print.proofs.Back.{Back, Each, within, pure_back, one_back, then_back, mapped_back, many_back}
@@ -74,7 +74,8 @@ same_self symbol = true_same the_type symbol symbol refl
 
 module _ (Good : Piece → Type 0) where
   -- a word or a mark
-  pub word_back : (symbol : Symbol) (piece : Piece) → Good piece → piece.token ≡ t.Symbol symbol → Back Good no_column (Word symbol) (piece ∷ []) tt
+  pub word_back : (symbol : Symbol) (piece : Piece) → Good piece → piece.token ≡ t.Symbol symbol
+      → Back Good no_column (Word symbol) (piece ∷ []) tt
   word_back symbol piece g e = one_back Good no_column (symbol_at symbol) piece tt g (λ spot h. record {
     value = spot.column;
     made = ap (λ x. cond (is_symbol symbol x) (Some spot.column) None) (h ∙ e) ∙ ap (λ b. cond b (Some spot.column) None) (same_self symbol);
@@ -82,7 +83,8 @@ module _ (Good : Piece → Type 0) where
   })
 
   -- what f makes of a token
-  pub at_back : {A : Type 0} (f : Token → Option A) (piece : Piece) (a : A) → Good piece → f piece.token ≡ Some a → Back Good value_of (One (at f)) (piece ∷ []) a
+  pub at_back : {A : Type 0} (f : Token → Option A) (piece : Piece) (a : A) → Good piece → f piece.token ≡ Some a
+      → Back Good value_of (One (at f)) (piece ∷ []) a
   at_back f piece a g e = one_back Good value_of (at f) piece a g (λ spot h. record {
     value = (spot.column, a);
     made = ap (option_map (λ x. (spot.column, x))) (ap f h ∙ e);
@@ -90,8 +92,10 @@ module _ (Good : Piece → Type 0) where
   })
 
   -- a leaf
-  leaf_back : {A : Type 0} (f : Token → Option A) (g : ℕ × A → Expr) (piece : Piece) (a : A) (w : Expr) → Good piece → f piece.token ≡ Some a → ((c : ℕ) → bare (g (c, a)) ≡ w) → Back Good bare (Then (One (at f)) (λ x. Pure (g x))) (piece ∷ []) w
-  leaf_back f g piece a w k e h = mapped_back Good value_of bare (One (at f)) g (piece ∷ []) a w (at_back f piece a k e) (λ x i. ap (λ y. bare (g (x.0, y))) i ∙ h x.0)
+  leaf_back : {A : Type 0} (f : Token → Option A) (g : ℕ × A → Expr) (piece : Piece) (a : A) (w : Expr) → Good piece
+      → f piece.token ≡ Some a → ((c : ℕ) → bare (g (c, a)) ≡ w) → Back Good bare (Then (One (at f)) (λ x. Pure (g x))) (piece ∷ []) w
+  leaf_back f g piece a w k e h =
+      mapped_back Good value_of bare (One (at f)) g (piece ∷ []) a w (at_back f piece a k e) (λ x i. ap (λ y. bare (g (x.0, y))) i ∙ h x.0)
 
   pub number_back : (v : ℤ) → Good (spaced (t.Number v)) → Back Good bare NumberLeaf (spaced (t.Number v) ∷ []) (expr 0 (made.Number v))
   number_back v g = leaf_back number number_expr (spaced (t.Number v)) v _ g refl (λ c. bared_number c v)
@@ -111,7 +115,8 @@ module _ (Good : Piece → Type 0) where
 
   module _ (goods : Goods Good) where
     -- in parentheses, which stand behind a space or not
-    pub parens_back : {A B : Type 0} (e : A → B) (P : Rule Spot A) (before : Piece) (ps : List Piece) (w : B) → Good before → before.token ≡ t.Symbol s.OpenParen
+    pub parens_back : {A B : Type 0} (e : A → B) (P : Rule Spot A) (before : Piece) (ps : List Piece) (w : B) → Good before
+        → before.token ≡ t.Symbol s.OpenParen
         → Back Good e P ps w → Back Good (λ (a : ℕ × A). e a.1) (InParens P) (before ∷ (ps ++ closing s.CloseParen ∷ [])) w
     parens_back {A} {B} e P before ps w g h b =
         let seen : ℕ × A → B = λ a. e a.1 in
@@ -120,7 +125,8 @@ module _ (Good : Piece → Type 0) where
         (λ c i. then_back Good e seen P (λ a. Word s.CloseParen >>= λ d. Pure (c, a)) ps (closing s.CloseParen ∷ []) w w b
         (λ a j. mapped_back Good no_column seen (Word s.CloseParen) (λ d. (c, a)) (closing s.CloseParen ∷ []) tt w (word_back s.CloseParen (closing s.CloseParen) goods.close_paren refl) (λ d k. j)))
 
-    pub given_back : {A B : Type 0} (e : A → B) (P : Rule Spot A) (ps : List Piece) (w : B) → Back Good e P ps w → Back Good (λ (a : ℕ × A). e a.1) (InParens P) (given ps) w
+    pub given_back : {A B : Type 0} (e : A → B) (P : Rule Spot A) (ps : List Piece) (w : B) → Back Good e P ps w
+        → Back Good (λ (a : ℕ × A). e a.1) (InParens P) (given ps) w
     given_back e P ps w b = parens_back e P (joining s.OpenParen) ps w goods.call refl b
 
     pub group_back : (E : Rule Spot Expr) (ps : List Piece) (w : Expr) → Back Good bare E ps w → Back Good bare (Group E) (grouped ps) w
@@ -128,25 +134,29 @@ module _ (Good : Piece → Type 0) where
         mapped_back Good (λ (a : ℕ × Expr). bare a.1) bare (InParens E) (λ a. trees.grouped a.0 a.1) (grouped ps) w w
         (parens_back bare E (opening s.OpenParen) ps w goods.open_paren refl b) (λ a h. bared_group a.0 a.1 ∙ h)
 
-    pub negative_back : (U : Rule Spot Expr) (ps : List Piece) (w : Expr) → Back Good bare U ps w → Back Good bare (Negative U) (opening s.Minus ∷ ps) (expr 0 (made.Negative w))
+    pub negative_back : (U : Rule Spot Expr) (ps : List Piece) (w : Expr) → Back Good bare U ps w
+        → Back Good bare (Negative U) (opening s.Minus ∷ ps) (expr 0 (made.Negative w))
     negative_back U ps w b =
         then_back Good no_column bare (Word s.Minus) (λ c. U >>= λ v. Pure (expr c (made.Negative v))) (opening s.Minus ∷ []) ps tt _
         (word_back s.Minus (opening s.Minus) goods.minus refl)
         (λ c i. mapped_back Good bare bare U (λ v. expr c (made.Negative v)) ps w _ b (λ v h. bared_negative c v ∙ ap (λ x. expr 0 (made.Negative x)) h))
 
-    pub not_back : (N : Rule Spot Expr) (ps : List Piece) (w : Expr) → Back Good bare N ps w → Back Good bare (Not N) (word s.Not ∷ ps) (expr 0 (made.Not w))
+    pub not_back : (N : Rule Spot Expr) (ps : List Piece) (w : Expr) → Back Good bare N ps w
+        → Back Good bare (Not N) (word s.Not ∷ ps) (expr 0 (made.Not w))
     not_back N ps w b =
         then_back Good no_column bare (Word s.Not) (λ c. N >>= λ v. Pure (expr c (made.Not v))) (word s.Not ∷ []) ps tt _
         (word_back s.Not (word s.Not) (goods.words s.Not) refl)
         (λ c i. mapped_back Good bare bare N (λ v. expr c (made.Not v)) ps w _ b (λ v h. bared_not c v ∙ ap (λ x. expr 0 (made.Not x)) h))
 
-    pub len_back : (E : Rule Spot Expr) (ps : List Piece) (w : Expr) → Back Good bare E ps w → Back Good bare (Len E) (word s.Len ∷ given ps) (expr 0 (made.Len w))
+    pub len_back : (E : Rule Spot Expr) (ps : List Piece) (w : Expr) → Back Good bare E ps w
+        → Back Good bare (Len E) (word s.Len ∷ given ps) (expr 0 (made.Len w))
     len_back E ps w b =
         then_back Good no_column bare (Word s.Len) (λ c. InParens E >>= λ a. Pure (expr c (made.Len a.1))) (word s.Len ∷ []) (given ps) tt _
         (word_back s.Len (word s.Len) (goods.words s.Len) refl)
         (λ c i. mapped_back Good (λ (a : ℕ × Expr). bare a.1) bare (InParens E) (λ a. expr c (made.Len a.1)) (given ps) w _ (given_back bare E ps w b) (λ a h. bared_len c a.1 ∙ ap (λ x. expr 0 (made.Len x)) h))
 
-    pub str_back : (E : Rule Spot Expr) (ps : List Piece) (w : Expr) → Back Good bare E ps w → Back Good bare (Str E) (word s.Str ∷ given ps) (expr 0 (made.Str w))
+    pub str_back : (E : Rule Spot Expr) (ps : List Piece) (w : Expr) → Back Good bare E ps w
+        → Back Good bare (Str E) (word s.Str ∷ given ps) (expr 0 (made.Str w))
     str_back E ps w b =
         then_back Good no_column bare (Word s.Str) (λ c. InParens E >>= λ a. Pure (expr c (made.Str a.1))) (word s.Str ∷ []) (given ps) tt _
         (word_back s.Str (word s.Str) (goods.words s.Str) refl)
@@ -176,7 +186,9 @@ module _ (Good : Piece → Type 0) where
             then_back Good value_of bare_side (One (at (of_symbol relation_of))) (λ x. S >>= λ y. Pure (x.1, y)) (word (comparison r) ∷ []) rs r (r, w)
             (at_back (of_symbol relation_of) (word (comparison r)) r (goods.words (comparison r)) (relation-comparison r))
             (λ x i. mapped_back Good bare bare_side S (λ y. (x.1, y)) rs w (r, w) k (λ y j. ap (λ z. (z, bare y)) i ∙ ap (λ z. (r, z)) j))
-        both : (a : Expr) (m : Option (Relation × Expr)) → bare a ≡ l → option_map bare_side m ≡ Some (r, w) → bare (compared a m) ≡ expr 0 (made.Compare l r w)
+
+        both : (a : Expr) (m : Option (Relation × Expr)) → bare a ≡ l → option_map bare_side m ≡ Some (r, w)
+            → bare (compared a m) ≡ expr 0 (made.Compare l r w)
         both a None h i = absurd (cc)
         both a (Some x) h i =
             let j : bare_side x ≡ (r, w) = cc in
@@ -184,7 +196,8 @@ module _ (Good : Piece → Type 0) where
 
     -- ---- chains
 
-    pub chained_alike : (f g : Expr) (os ps : List Operand) → bare f ≡ bare g → map bare_operand os ≡ map bare_operand ps → bare (chained (f, os)) ≡ bare (chained (g, ps))
+    pub chained_alike : (f g : Expr) (os ps : List Operand) → bare f ≡ bare g → map bare_operand os ≡ map bare_operand ps
+        → bare (chained (f, os)) ≡ bare (chained (g, ps))
     chained_alike f g [] [] h i = h
     chained_alike f g [] (p ∷ ps) h i = absurd (cc)
     chained_alike f g (o ∷ os) [] h i = absurd (cc)
@@ -194,7 +207,8 @@ module _ (Good : Piece → Type 0) where
         ∙ ap (λ xs. expr 0 (made.Chain (bare g) xs)) i
         ∙ sym (bared_chain _ g (p ∷ ps))
 
-    pub further_back : (r : Rank) (P : Rule Spot Expr) (o : Operator) (e : Expr) (ps : List Piece) → operator_of r (sign o) ≡ Some o → Back Good bare P ps (bare e)
+    pub further_back : (r : Rank) (P : Rule Spot Expr) (o : Operator) (e : Expr) (ps : List Piece) → operator_of r (sign o) ≡ Some o
+        → Back Good bare P ps (bare e)
         → Back Good bare_operand (Further r P) (word (sign o) ∷ ps) (bare_operand (operand o e))
     further_back r P o e ps k b =
         then_back Good value_of bare_operand (One (at (of_symbol (operator_of r)))) (λ x. P >>= λ v. Pure (operand x.1 v)) (word (sign o) ∷ []) ps o _
@@ -212,7 +226,8 @@ module _ (Good : Piece → Type 0) where
 
     -- ---- lists of expressions
 
-    pub comma_back : (E : Rule Spot Expr) (ps : List Piece) (w : Expr) → Back Good bare E ps w → Back Good bare (AfterComma E) (after_comma ps) w
+    pub comma_back : (E : Rule Spot Expr) (ps : List Piece) (w : Expr) → Back Good bare E ps w
+        → Back Good bare (AfterComma E) (after_comma ps) w
     comma_back E ps w b =
         then_back Good no_column bare (Word s.Comma) (λ c. E) (closing s.Comma ∷ []) ps tt w
         (word_back s.Comma (closing s.Comma) goods.comma refl) (λ c i. b)
@@ -237,7 +252,8 @@ module _ (Good : Piece → Type 0) where
         (λ a i. mapped_back Good (map bare) (map bare) (Times (AfterComma E) (length es)) (λ rest. a ∷ rest) (flat_map after_comma (map expression es)) (map bare es) _
         (times_back E es h.1) (λ rest j. ap (λ x. x ∷ map bare rest) i ∙ ap (λ xs. bare e ∷ xs) j))
 
-    commas_back : (E : Rule Spot Expr) (es : List Expr) → Each (λ e. Back Good bare E (expression e) (bare e)) es → Each (λ e. Back Good bare (AfterComma E) (after_comma (expression e)) (bare e)) es
+    commas_back : (E : Rule Spot Expr) (es : List Expr) → Each (λ e. Back Good bare E (expression e) (bare e)) es
+        → Each (λ e. Back Good bare (AfterComma E) (after_comma (expression e)) (bare e)) es
     commas_back E [] h = tt
     commas_back E (e ∷ es) h = (comma_back E (expression e) (bare e) h.0, commas_back E es h.1)
 
@@ -261,8 +277,10 @@ module _ (Good : Piece → Type 0) where
     -- any number of elements
     inside_back : (E : Rule Spot Expr) (es : List Expr) → Each (λ e. Back Good bare E (expression e) (bare e)) es
         → Back Good (map bare) (Or (Elements E) (Pure [])) (separated (map expression es)) (map bare es)
-    inside_back E [] h = within Good (map bare) (Pure []) (Or (Elements E) (Pure [])) [] [] (λ ts us a x. inr x) (pure_back Good (map bare) [] [] refl)
-    inside_back E (e ∷ es) h = within Good (map bare) (Elements E) (Or (Elements E) (Pure [])) _ _ (λ ts us a x. inl x) (elements_back E e es h)
+    inside_back E [] h =
+        within Good (map bare) (Pure []) (Or (Elements E) (Pure [])) [] [] (λ ts us a x. inr x) (pure_back Good (map bare) [] [] refl)
+    inside_back E (e ∷ es) h =
+        within Good (map bare) (Elements E) (Or (Elements E) (Pure [])) _ _ (λ ts us a x. inl x) (elements_back E e es h)
 
     pub texts_back : (E : Rule Spot Expr) (es : List Expr) → Each (λ e. Back Good bare E (expression e) (bare e)) es
         → Back Good bare (Texts E) (opening s.OpenBracket ∷ (separated (map expression es) ++ closing s.CloseBracket ∷ [])) (expr 0 (made.Texts (map bare es)))
@@ -285,7 +303,8 @@ module _ (Good : Piece → Type 0) where
     kind-symbol kind.Hash = refl
     kind-symbol kind.List = refl
 
-    pub targeted_back : (E : Rule Spot Expr) (k : Kind) (ps : List Piece) (w : Expr) → Back Good bare E ps w → Back Good bare_target (Targeted E) (target k ps) (k, w)
+    pub targeted_back : (E : Rule Spot Expr) (k : Kind) (ps : List Piece) (w : Expr) → Back Good bare E ps w
+        → Back Good bare_target (Targeted E) (target k ps) (k, w)
     targeted_back E k ps w b =
         then_back Good value_of bare_target (One (at (of_symbol kind_of))) (λ x. InParens E >>= λ key. Word s.Dot >>= λ d. Pure (target_of x key.1)) (word (kind_symbol k) ∷ []) (given ps ++ joining s.Dot ∷ []) k _
         (at_back (of_symbol kind_of) (word (kind_symbol k)) k (goods.words (kind_symbol k)) (kind-symbol k))

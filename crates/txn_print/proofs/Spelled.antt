@@ -1,14 +1,14 @@
 -- Each token that a text can have is printed as it is cut.
-use Rattle.std.proofs.Common.{◌≡◌, ℕ, zero, suc, ◌+◌, ◌-◌, ◌*◌, ◌≤◌, ◌<◌, ◌^◌, Bool, true, false, ◌&&◌, ◌||◌, ◌==◌, nat_lt, nat_le, nat_eq, cond, List, [], ◌∷◌, ◌++◌, map, take, drop, length, fold, codes, ℤ, pos, Option, Some, None, Ok, Err, refl, ap, sym, ◌∙◌, subst, append_assoc, append-nil, slice_index, arith}
+use Rattle.std.proofs.Common.{◌≡◌, ℕ, zero, suc, ◌+◌, ◌-◌, ◌*◌, ◌≤◌, ◌<◌, Bool, true, false, ◌&&◌, ◌||◌, ◌==◌, nat_lt, nat_le, cond, [], ◌∷◌, ◌++◌, take, drop, length, fold, ℤ, pos, Option, Some, None, Ok, Err, refl, ap, sym, ◌∙◌, subst, slice_index, arith}
 use Rattle.std.specs.List.{list_all, prefix_len, AllPass}
-use Rattle.std.specs.Fmt.{decimal, signed_decimal}
+use Rattle.std.specs.Fmt.{decimal}
 use Rattle.std.specs.Char.{digit_value}
 use Rattle.std.specs.Str.Parse.{AllDigits, digits_value_after}
 use Rattle.std.proofs.Math.Seq.{take-append_seam}
 use Rattle.std.proofs.lemmas.Bool.{le-ltb}
 use Rattle.std.proofs.lemmas.Bool.Decides.{nat_tests}
 use Rattle.std.proofs.lemmas.List.{length-append}
-use Rattle.std.proofs.lemmas.List.Elements.{All-nil, All-head, All-tail, All-cons}
+use Rattle.std.proofs.lemmas.List.Elements.{All-nil, All-head, All-cons}
 use Rattle.plain_data.specs.Texts.{Bytes}
 use Rattle.rdt_types.specs.Printed.{printed_text}
 use Rattle.predictive_parsing.specs.Reading.{next, ahead, Outcome}
@@ -32,8 +32,8 @@ use Rattle.txn_grammar.specs.declared.token.Lexeme.{Lexeme}
 use Rattle.dtext.specs.Characters.{is_letter, is_digit, is_word, is_blank}
 use Rattle.txn_grammar.specs.Spellings.{spelling, same_symbol, reserved_word, mark}
 use Rattle.txn_grammar.specs.Numbers.{with_digit, digits_value, small_value, number_value}
-use Rattle.txn_grammar.specs.Lexer.{lexeme, reserved_or_name, word_token, word_at, number_token, number_at, quoted_lexeme, text_at, short_lexeme, mark_lexeme, mark_at, token_at, spot, is_malformed, lex_from, lex}
-use Rattle.txn_print.specs.Pieces.{Piece, spaced, opening, closing, joining, word, printed}
+use Rattle.txn_grammar.specs.Lexer.{lexeme, reserved_or_name, word_token, word_at, number_token, number_at, quoted_lexeme, text_at, mark_lexeme, mark_at, token_at, spot, is_malformed, lex_from, lex}
+use Rattle.txn_print.specs.Pieces.{spaced, word, printed}
 use Rattle.txn_print.specs.Canonical.{read_name, write_name}
 use Rattle.txn_print.proofs.Back.{Each}
 use Rattle.txn_print.proofs.Lexing.{is_gap, gap_begins, by_gap, Good}
@@ -65,7 +65,8 @@ all_pass p [] e = All-nil (λ x. p x ≡ true)
 all_pass p (x ∷ xs) e = let k = both (p x) (list_all p xs) e in All-cons (λ y. p y ≡ true) x xs k.0 (all_pass p xs k.1)
 
 -- a word and what isn't part of it
-word_cut : (b : ℕ) (w z : Bytes) → is_letter b ≡ true → AllPass is_word (b ∷ w) → gap_begins z ≡ true → token_at (b ∷ (w ++ z)) ≡ lexeme (word_token (b ∷ w)) (suc (length w))
+word_cut : (b : ℕ) (w z : Bytes) → is_letter b ≡ true → AllPass is_word (b ∷ w) → gap_begins z ≡ true
+    → token_at (b ∷ (w ++ z)) ≡ lexeme (word_token (b ∷ w)) (suc (length w))
 unfolding token_at word_at
 word_cut b w z e all h =
     let len = prefix_len-front is_word (b ∷ w) z all (word_ends z h) in
@@ -74,7 +75,8 @@ word_cut b w z e all h =
     ∙ ap (λ xs. lexeme (word_token xs) (suc (length w))) (take-append_seam (b ∷ w) z)
 
 -- a token that is a word
-word_good : (token : Token) (b : ℕ) (w : Bytes) → printed token ≡ b ∷ w → is_letter b ≡ true → AllPass is_word (b ∷ w) → word_token (b ∷ w) ≡ token → is_malformed token ≡ false → Good (spaced token)
+word_good : (token : Token) (b : ℕ) (w : Bytes) → printed token ≡ b ∷ w → is_letter b ≡ true → AllPass is_word (b ∷ w)
+    → word_token (b ∷ w) ≡ token → is_malformed token ≡ false → Good (spaced token)
 word_good token b w e l all is h = record {
   first = b;
   rest = w;
@@ -86,13 +88,15 @@ word_good token b w e l all is h = record {
 }
 
 -- a word that is written out
-written_word : (token : Token) (b : ℕ) (w : Bytes) → printed token ≡ b ∷ w → is_letter b ≡ true → list_all is_word (b ∷ w) ≡ true → word_token (b ∷ w) ≡ token → is_malformed token ≡ false → Good (spaced token)
+written_word : (token : Token) (b : ℕ) (w : Bytes) → printed token ≡ b ∷ w → is_letter b ≡ true → list_all is_word (b ∷ w) ≡ true
+    → word_token (b ∷ w) ≡ token → is_malformed token ≡ false → Good (spaced token)
 written_word token b w e l all is h = word_good token b w e l (all_pass is_word (b ∷ w) all) is h
 
 -- ---- marks
 
 -- a mark of one byte, whatever makes no longer mark with it behind it
-one_byte : (symbol : Symbol) (before after : Bool) (c : ℕ) → spelling symbol ≡ c ∷ [] → is_blank c ≡ false → (before ≡ false → is_gap c ≡ true)
+one_byte : (symbol : Symbol) (before after : Bool) (c : ℕ) → spelling symbol ≡ c ∷ [] → is_blank c ≡ false
+    → (before ≡ false → is_gap c ≡ true)
     → ((z : Bytes) → token_at (c ∷ z) ≡ mark_at (c ∷ z)) → mark (c ∷ []) ≡ Some symbol
     → ((d : ℕ) → (after ≡ true → is_gap d ≡ true) → mark (c ∷ d ∷ []) ≡ None)
     → Good (record { token = t.Symbol symbol; before = before; after = after })
@@ -115,7 +119,8 @@ one_byte symbol before after c e b k m alone longer = record {
         ∙ ap (λ o. mark_lexeme None o) alone
 
 -- a mark of two bytes, whatever follows
-two_bytes : (symbol : Symbol) (c d : ℕ) → spelling symbol ≡ c ∷ d ∷ [] → is_blank c ≡ false → ((z : Bytes) → token_at (c ∷ z) ≡ mark_at (c ∷ z)) → mark (c ∷ d ∷ []) ≡ Some symbol → Good (word symbol)
+two_bytes : (symbol : Symbol) (c d : ℕ) → spelling symbol ≡ c ∷ d ∷ [] → is_blank c ≡ false
+    → ((z : Bytes) → token_at (c ∷ z) ≡ mark_at (c ∷ z)) → mark (c ∷ d ∷ []) ≡ Some symbol → Good (word symbol)
 unfolding mark_at
 two_bytes symbol c d e b m is = record {
   first = c;
@@ -125,9 +130,9 @@ two_bytes symbol c d e b m is = record {
   touches = λ k. absurd (cc);
   formed = refl;
   cut = λ z follows.
-    m (d ∷ z)
-    ∙ ap (λ t. mark_lexeme (cond t None (mark (c ∷ d ∷ []))) (mark (c ∷ []))) (le-ltb (length (c ∷ d ∷ z)) 2 (omega arith))
-    ∙ ap (λ o. mark_lexeme o (mark (c ∷ []))) is;
+      m (d ∷ z)
+      ∙ ap (λ t. mark_lexeme (cond t None (mark (c ∷ d ∷ []))) (mark (c ∷ []))) (le-ltb (length (c ∷ d ∷ z)) 2 (omega arith))
+      ∙ ap (λ o. mark_lexeme o (mark (c ∷ []))) is;
 }
 
 -- ---- the words and marks of the language
@@ -139,9 +144,12 @@ word_symbol s.Equal = two_bytes s.Equal 61 61 refl refl (λ z. refl) refl
 word_symbol s.Unequal = two_bytes s.Unequal 33 61 refl refl (λ z. refl) refl
 word_symbol s.AtMost = two_bytes s.AtMost 60 61 refl refl (λ z. refl) refl
 word_symbol s.AtLeast = two_bytes s.AtLeast 62 61 refl refl (λ z. refl) refl
-word_symbol s.Less = one_byte s.Less true true 60 refl refl (λ e. absurd (cc)) (λ z. refl) refl (λ d h. by_gap (λ x. mark (60 ∷ x ∷ []) ≡ None) refl refl refl refl refl refl refl d (h refl))
-word_symbol s.Greater = one_byte s.Greater true true 62 refl refl (λ e. absurd (cc)) (λ z. refl) refl (λ d h. by_gap (λ x. mark (62 ∷ x ∷ []) ≡ None) refl refl refl refl refl refl refl d (h refl))
-word_symbol s.Assign = one_byte s.Assign true true 61 refl refl (λ e. absurd (cc)) (λ z. refl) refl (λ d h. by_gap (λ x. mark (61 ∷ x ∷ []) ≡ None) refl refl refl refl refl refl refl d (h refl))
+word_symbol s.Less =
+    one_byte s.Less true true 60 refl refl (λ e. absurd (cc)) (λ z. refl) refl (λ d h. by_gap (λ x. mark (60 ∷ x ∷ []) ≡ None) refl refl refl refl refl refl refl d (h refl))
+word_symbol s.Greater =
+    one_byte s.Greater true true 62 refl refl (λ e. absurd (cc)) (λ z. refl) refl (λ d h. by_gap (λ x. mark (62 ∷ x ∷ []) ≡ None) refl refl refl refl refl refl refl d (h refl))
+word_symbol s.Assign =
+    one_byte s.Assign true true 61 refl refl (λ e. absurd (cc)) (λ z. refl) refl (λ d h. by_gap (λ x. mark (61 ∷ x ∷ []) ≡ None) refl refl refl refl refl refl refl d (h refl))
 word_symbol s.Plus = one_byte s.Plus true true 43 refl refl (λ e. absurd (cc)) (λ z. refl) refl (λ d h. refl)
 word_symbol s.Minus = one_byte s.Minus true true 45 refl refl (λ e. absurd (cc)) (λ z. refl) refl (λ d h. refl)
 word_symbol s.Times = one_byte s.Times true true 42 refl refl (λ e. absurd (cc)) (λ z. refl) refl (λ d h. refl)
@@ -159,19 +167,29 @@ word_symbol symbol = written_word (t.Symbol symbol) (slice_index (spelling symbo
 -- the words of operations
 read_word : (w : ReadWord) → Good (spaced (t.Name (read_name w)))
 unfolding word_token reserved_word
-read_word read.Get = written_word (t.Name (read_name read.Get)) (slice_index (read_name read.Get) 0) (drop 1 (read_name read.Get)) refl refl refl refl refl
-read_word read.Has = written_word (t.Name (read_name read.Has)) (slice_index (read_name read.Has) 0) (drop 1 (read_name read.Has)) refl refl refl refl refl
-read_word read.All = written_word (t.Name (read_name read.All)) (slice_index (read_name read.All) 0) (drop 1 (read_name read.All)) refl refl refl refl refl
-read_word read.Fields = written_word (t.Name (read_name read.Fields)) (slice_index (read_name read.Fields) 0) (drop 1 (read_name read.Fields)) refl refl refl refl refl
-read_word read.At = written_word (t.Name (read_name read.At)) (slice_index (read_name read.At) 0) (drop 1 (read_name read.At)) refl refl refl refl refl
+read_word read.Get =
+    written_word (t.Name (read_name read.Get)) (slice_index (read_name read.Get) 0) (drop 1 (read_name read.Get)) refl refl refl refl refl
+read_word read.Has =
+    written_word (t.Name (read_name read.Has)) (slice_index (read_name read.Has) 0) (drop 1 (read_name read.Has)) refl refl refl refl refl
+read_word read.All =
+    written_word (t.Name (read_name read.All)) (slice_index (read_name read.All) 0) (drop 1 (read_name read.All)) refl refl refl refl refl
+read_word read.Fields =
+    written_word (t.Name (read_name read.Fields)) (slice_index (read_name read.Fields) 0) (drop 1 (read_name read.Fields)) refl refl refl refl refl
+read_word read.At =
+    written_word (t.Name (read_name read.At)) (slice_index (read_name read.At) 0) (drop 1 (read_name read.At)) refl refl refl refl refl
 
 write_word : (w : WriteWord) → Good (spaced (t.Name (write_name w)))
 unfolding word_token reserved_word
-write_word write.Put = written_word (t.Name (write_name write.Put)) (slice_index (write_name write.Put) 0) (drop 1 (write_name write.Put)) refl refl refl refl refl
-write_word write.Add = written_word (t.Name (write_name write.Add)) (slice_index (write_name write.Add) 0) (drop 1 (write_name write.Add)) refl refl refl refl refl
-write_word write.Remove = written_word (t.Name (write_name write.Remove)) (slice_index (write_name write.Remove) 0) (drop 1 (write_name write.Remove)) refl refl refl refl refl
-write_word write.Clear = written_word (t.Name (write_name write.Clear)) (slice_index (write_name write.Clear) 0) (drop 1 (write_name write.Clear)) refl refl refl refl refl
-write_word write.Push = written_word (t.Name (write_name write.Push)) (slice_index (write_name write.Push) 0) (drop 1 (write_name write.Push)) refl refl refl refl refl
+write_word write.Put =
+    written_word (t.Name (write_name write.Put)) (slice_index (write_name write.Put) 0) (drop 1 (write_name write.Put)) refl refl refl refl refl
+write_word write.Add =
+    written_word (t.Name (write_name write.Add)) (slice_index (write_name write.Add) 0) (drop 1 (write_name write.Add)) refl refl refl refl refl
+write_word write.Remove =
+    written_word (t.Name (write_name write.Remove)) (slice_index (write_name write.Remove) 0) (drop 1 (write_name write.Remove)) refl refl refl refl refl
+write_word write.Clear =
+    written_word (t.Name (write_name write.Clear)) (slice_index (write_name write.Clear) 0) (drop 1 (write_name write.Clear)) refl refl refl refl refl
+write_word write.Push =
+    written_word (t.Name (write_name write.Push)) (slice_index (write_name write.Push) 0) (drop 1 (write_name write.Push)) refl refl refl refl refl
 
 pub goods : Goods Good
 unfolding spelling same_symbol mark token_at
@@ -193,7 +211,8 @@ goods = record {
 -- ---- names
 
 -- a word that isn't reserved
-name_good : (w : Bytes) (b : ℕ) (rest : Bytes) → w ≡ b ∷ rest → is_letter b ≡ true → AllPass is_word w → word_token w ≡ t.Name w → Good (spaced (t.Name w))
+name_good : (w : Bytes) (b : ℕ) (rest : Bytes) → w ≡ b ∷ rest → is_letter b ≡ true → AllPass is_word w → word_token w ≡ t.Name w
+    → Good (spaced (t.Name w))
 name_good w b rest e l all is =
     word_good (t.Name w) b rest e l (subst (λ x. AllPass is_word x) e all) (ap word_token (sym e) ∙ is) refl
 
@@ -212,9 +231,9 @@ text_good bytes =
       touches = λ k. absurd (cc);
       formed = refl;
       cut = λ z k.
-        let read : text (34 ∷ (inner ++ z)) ≡ Ok (bytes, z) = text_fits.reads (printed_text bytes ++ z) z bytes (text_made bytes z) refl in
-        let len : length (34 ∷ (inner ++ z)) - length z ≡ suc (length inner) = let l = length-append inner z in omega arith in
-        ap (λ o. quoted_lexeme (34 ∷ (inner ++ z)) o) read ∙ ap (λ n. lexeme (t.Text bytes) n) len;
+          let read : text (34 ∷ (inner ++ z)) ≡ Ok (bytes, z) = text_fits.reads (printed_text bytes ++ z) z bytes (text_made bytes z) refl in
+          let len : length (34 ∷ (inner ++ z)) - length z ≡ suc (length inner) = let l = length-append inner z in omega arith in
+          ap (λ o. quoted_lexeme (34 ∷ (inner ++ z)) o) read ∙ ap (λ n. lexeme (t.Text bytes) n) len;
     }
 
 -- ---- numbers
@@ -232,7 +251,8 @@ digits_pass [] h = All-nil (λ x. is_digit x ≡ true)
 digits_pass (d ∷ ds) h = All-cons (λ x. is_digit x ≡ true) d ds (digit_of d h.0) (digits_pass ds h.1)
 
 -- digits and what isn't one
-digits_cut : (b : ℕ) (ds z : Bytes) → AllPass is_digit (b ∷ ds) → gap_begins z ≡ true → token_at (b ∷ (ds ++ z)) ≡ lexeme (number_token (number_value (b ∷ ds))) (suc (length ds))
+digits_cut : (b : ℕ) (ds z : Bytes) → AllPass is_digit (b ∷ ds) → gap_begins z ≡ true
+    → token_at (b ∷ (ds ++ z)) ≡ lexeme (number_token (number_value (b ∷ ds))) (suc (length ds))
 unfolding token_at number_at
 digits_cut b ds z all h =
     let d = All-head (λ x. is_digit x ≡ true) b ds all in
@@ -244,7 +264,8 @@ digits_cut b ds z all h =
     ∙ ap (λ n. lexeme (number_token (number_value (take n y))) n) len
     ∙ ap (λ xs. lexeme (number_token (number_value xs)) (suc (length ds))) (take-append_seam (b ∷ ds) z)
 
-digits_good : (k b : ℕ) (ds : Bytes) → decimal k ≡ b ∷ ds → AllPass is_digit (b ∷ ds) → number_value (b ∷ ds) ≡ Some (pos k) → Good (spaced (t.Number (pos k)))
+digits_good : (k b : ℕ) (ds : Bytes) → decimal k ≡ b ∷ ds → AllPass is_digit (b ∷ ds) → number_value (b ∷ ds) ≡ Some (pos k)
+    → Good (spaced (t.Number (pos k)))
 digits_good k b ds e all is = record {
   first = b;
   rest = ds;
@@ -293,7 +314,8 @@ reserved_good w b rest e l all false i (Some symbol) r h = word_symbol symbol
 reserved_good w b rest e l all false i None r h =
     name_good w b rest e l all (ap (λ long. cond long t.Malformed (reserved_or_name w (reserved_word w))) i ∙ ap (λ o. reserved_or_name w o) r)
 
-word_token_good : (w : Bytes) (b : ℕ) (rest : Bytes) → w ≡ b ∷ rest → is_letter b ≡ true → AllPass is_word w → is_malformed (word_token w) ≡ false → Good (spaced (word_token w))
+word_token_good : (w : Bytes) (b : ℕ) (rest : Bytes) → w ≡ b ∷ rest → is_letter b ≡ true → AllPass is_word w
+    → is_malformed (word_token w) ≡ false → Good (spaced (word_token w))
 unfolding word_token
 word_token_good w b rest e l all h = reserved_good w b rest e l all (nat_lt LONGEST_NAME (length w)) refl (reserved_word w) refl h
 
@@ -301,7 +323,8 @@ take_some : (n b : ℕ) (z : Bytes) → 1 ≤ n → take n (b ∷ z) ≡ b ∷ t
 take_some zero b z h = absurd (omega arith)
 take_some (suc n) b z h = ap (λ m. b ∷ take m z) (omega arith)
 
-word_at_good : (b : ℕ) (z : Bytes) → is_letter b ≡ true → is_malformed (word_at (b ∷ z)).token ≡ false → Good (spaced (word_at (b ∷ z)).token)
+word_at_good : (b : ℕ) (z : Bytes) → is_letter b ≡ true → is_malformed (word_at (b ∷ z)).token ≡ false
+    → Good (spaced (word_at (b ∷ z)).token)
 unfolding word_at
 word_at_good b z l h =
     let n = prefix_len is_word (b ∷ z) in
@@ -309,17 +332,20 @@ word_at_good b z l h =
     word_token_good (take n (b ∷ z)) b (take (n - 1) z) (take_some n b z some) l (prefix-passes is_word (b ∷ z)) h
 
 -- a number
-small_good : (k : ℕ) (v : ℤ) (needless small : Bool) → nat_le k LARGEST ≡ small → cond needless None (cond small (Some (pos k)) None) ≡ Some v → Good (spaced (t.Number v))
+small_good : (k : ℕ) (v : ℤ) (needless small : Bool) → nat_le k LARGEST ≡ small
+    → cond needless None (cond small (Some (pos k)) None) ≡ Some v → Good (spaced (t.Number v))
 small_good k v true u e h = absurd (cc)
 small_good k v false false e h = absurd (cc)
 small_good k v false true e h =
     let is : pos k ≡ v = cc in
     subst (λ x. Good (spaced (t.Number x))) is (number_good k (grind (arith, nat_tests, e)))
 
-number_token_good : (ds : Bytes) (o : Option ℤ) → number_value ds ≡ o → is_malformed (number_token o) ≡ false → Good (spaced (number_token o))
+number_token_good : (ds : Bytes) (o : Option ℤ) → number_value ds ≡ o → is_malformed (number_token o) ≡ false
+    → Good (spaced (number_token o))
 unfolding number_value small_value
 number_token_good ds None e h = absurd (cc)
-number_token_good ds (Some v) e h = small_good (digits_value ds) v (nat_lt 1 (length ds) && slice_index ds 0 == 48) (nat_le (digits_value ds) LARGEST) refl e
+number_token_good ds (Some v) e h =
+    small_good (digits_value ds) v (nat_lt 1 (length ds) && slice_index ds 0 == 48) (nat_le (digits_value ds) LARGEST) refl e
 
 -- a text in quotes
 quoted_good : (z : Bytes) (o : Outcome ℕ Bytes) → is_malformed (quoted_lexeme z o).token ≡ false → Good (spaced (quoted_lexeme z o).token)
@@ -327,7 +353,8 @@ quoted_good z (Ok read) h = text_good read.0
 quoted_good z (Err rest) h = absurd (cc)
 
 -- a mark
-mark_good : (long short : Option Symbol) → is_malformed (mark_lexeme long short).token ≡ false → Good (spaced (mark_lexeme long short).token)
+mark_good : (long short : Option Symbol) → is_malformed (mark_lexeme long short).token ≡ false
+    → Good (spaced (mark_lexeme long short).token)
 mark_good (Some symbol) short h = word_symbol symbol
 mark_good None (Some symbol) h = word_symbol symbol
 mark_good None None h = absurd (cc)
@@ -335,10 +362,11 @@ mark_good None None h = absurd (cc)
 -- by what the byte ahead is
 by_front : (b : ℕ) (z : Bytes) (letter digit quote : Bool) → is_letter b ≡ letter
     → let x : Lexeme = cond letter (word_at (b ∷ z)) (cond digit (number_at (b ∷ z)) (cond quote (text_at (b ∷ z)) (mark_at (b ∷ z)))) in
-      is_malformed x.token ≡ false → Good (spaced x.token)
+    is_malformed x.token ≡ false → Good (spaced x.token)
 unfolding number_at text_at mark_at
 by_front b z true digit quote l h = word_at_good b z l h
-by_front b z false true quote l h = number_token_good (take (prefix_len is_digit (b ∷ z)) (b ∷ z)) (number_value (take (prefix_len is_digit (b ∷ z)) (b ∷ z))) refl h
+by_front b z false true quote l h =
+    number_token_good (take (prefix_len is_digit (b ∷ z)) (b ∷ z)) (number_value (take (prefix_len is_digit (b ∷ z)) (b ∷ z))) refl h
 by_front b z false false true l h = quoted_good (b ∷ z) (text (b ∷ z)) h
 by_front b z false false false l h = mark_good (cond (nat_lt (length (b ∷ z)) 2) None (mark (take 2 (b ∷ z)))) (mark (take 1 (b ∷ z))) h
 

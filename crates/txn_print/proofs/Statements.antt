@@ -4,7 +4,7 @@ use Rattle.std.specs.List.{flat_map}
 use Rattle.std.specs.Option.{option_map}
 use Rattle.plain_data.specs.Texts.{Bytes}
 use Rattle.rdt_types.specs.declared.address.Kind.{Kind}
-use Rattle.predictive_parsing.specs.Rules.{Rule, One, Then, Pure, Or, Many, none, more, ListOf, Optional, ◌>>=◌}
+use Rattle.predictive_parsing.specs.Rules.{Rule, One, Pure, Many, none, more, ListOf, Optional, ◌>>=◌}
 use Rattle.txn_trees.specs.declared.expression.Expr.{Expr}
 use Rattle.txn_trees.specs.declared.statement.Stmt.{Stmt}
 use Rattle.txn_trees.specs.declared.statement.StmtNode.TheVariants as stmt
@@ -18,7 +18,7 @@ use Rattle.txn_grammar.specs.declared.token.Token.TheVariants as t
 use Rattle.txn_grammar.specs.declared.token.Spot.{Spot}
 use Rattle.txn_grammar.specs.declared.limit.TheConstants.{DEEPEST}
 use Rattle.txn_grammar.specs.Tokens.{at, name, write_of, write_named}
-use Rattle.txn_grammar.specs.Trees.{stmt_at, write_stmt, target_of, body_of}
+use Rattle.txn_grammar.specs.Trees.{stmt_at, write_stmt, body_of}
 use Rattle.txn_grammar.specs.Grammar.{Word, InParens, Arguments, Targeted, Expression, LetStmt, EmitStmt, FailStmt, SimpleStmt, Block, Otherwise, IfStmt, ForStmt, WriteStmt, NestingStmt, Statement, BodyRule}
 use Rattle.txn_print.specs.Pieces.{Piece, spaced, closing, word}
 use Rattle.txn_print.specs.Canonical.{expression, block, otherwise, ended, target, request, operation, write_name, shown_stmt, shown_body}
@@ -28,9 +28,9 @@ use Rattle.txn_print.proofs.Equations.{at_let, at_emit, at_fail, at_if, at_for, 
 use Rattle.txn_print.proofs.Operations.{write_again}
 use Rattle.txn_print.proofs.Back.{Back, Each, within, pure_back, then_back, mapped_back, many_back}
 use Rattle.txn_print.proofs.Within.{Within}
-use Rattle.txn_print.proofs.Keeps.{keep_one, keep_many, keep_block, keep_expression, keep_targeted, keep_statement}
+use Rattle.txn_print.proofs.Keeps.{keep_one, keep_block, keep_expression, keep_targeted, keep_statement}
 use Rattle.txn_print.proofs.Productions.{Goods, no_column, value_of, bare_target, word_back, at_back, flat-map, targeted_back, request_then}
-use Rattle.txn_print.proofs.Expressions.{G as source, expression_fine, Inside, inside_parens, good_name, made_at, shows, arguments_shown, aimed}
+use Rattle.txn_print.proofs.Expressions.{G as source, expression_fine, inside_parens, good_name, made_at, shows, arguments_shown, aimed}
 
 module _ (Good : Piece → Type 0) (goods : Goods Good) where
   abbrev G : Spot → Type 0
@@ -39,7 +39,8 @@ module _ (Good : Piece → Type 0) (goods : Goods Good) where
   -- ---- productions
 
   -- up to the semicolon
-  ended_back : (E : Rule Spot Expr) (f : Expr → Stmt) (ps : List Piece) (w : Expr) (v : Stmt) → Back Good bare E ps w → ((e : Expr) → bare e ≡ w → bare_stmt (f e) ≡ v)
+  ended_back : (E : Rule Spot Expr) (f : Expr → Stmt) (ps : List Piece) (w : Expr) (v : Stmt) → Back Good bare E ps w
+      → ((e : Expr) → bare e ≡ w → bare_stmt (f e) ≡ v)
       → Back Good bare_stmt (E >>= λ e. Word s.Semicolon >>= λ d. Pure (f e)) (ended ps) v
   ended_back E f ps w v b h =
       then_back Good bare bare_stmt E (λ e. Word s.Semicolon >>= λ d. Pure (f e)) ps (closing s.Semicolon ∷ []) w v b
@@ -57,13 +58,15 @@ module _ (Good : Piece → Type 0) (goods : Goods Good) where
       (word s.Assign ∷ []) (ended ps) tt _ (word_back Good s.Assign (word s.Assign) (goods.words s.Assign) refl)
       (λ a k. ended_back E (λ e. stmt_at c (stmt.Let x.1 e)) ps w _ b (λ e h. bared_let c x.1 e ∙ ap (λ y. stmt_at 0 (stmt.Let y (bare e))) j ∙ ap (λ y. stmt_at 0 (stmt.Let n y)) h))))
 
-  emit_back : (E : Rule Spot Expr) (ps : List Piece) (w : Expr) → Back Good bare E ps w → Back Good bare_stmt (EmitStmt E) (word s.Emit ∷ ended ps) (stmt_at 0 (stmt.Emit w))
+  emit_back : (E : Rule Spot Expr) (ps : List Piece) (w : Expr) → Back Good bare E ps w
+      → Back Good bare_stmt (EmitStmt E) (word s.Emit ∷ ended ps) (stmt_at 0 (stmt.Emit w))
   emit_back E ps w b =
       then_back Good no_column bare_stmt (Word s.Emit) (λ c. E >>= λ e. Word s.Semicolon >>= λ d. Pure (stmt_at c (stmt.Emit e))) (word s.Emit ∷ []) (ended ps) tt _
       (word_back Good s.Emit (word s.Emit) (goods.words s.Emit) refl)
       (λ c i. ended_back E (λ e. stmt_at c (stmt.Emit e)) ps w _ b (λ e h. bared_emit c e ∙ ap (λ y. stmt_at 0 (stmt.Emit y)) h))
 
-  fail_back : (E : Rule Spot Expr) (ps : List Piece) (w : Expr) → Back Good bare E ps w → Back Good bare_stmt (FailStmt E) (word s.Fail ∷ ended ps) (stmt_at 0 (stmt.Fail w))
+  fail_back : (E : Rule Spot Expr) (ps : List Piece) (w : Expr) → Back Good bare E ps w
+      → Back Good bare_stmt (FailStmt E) (word s.Fail ∷ ended ps) (stmt_at 0 (stmt.Fail w))
   fail_back E ps w b =
       then_back Good no_column bare_stmt (Word s.Fail) (λ c. E >>= λ e. Word s.Semicolon >>= λ d. Pure (stmt_at c (stmt.Fail e))) (word s.Fail ∷ []) (ended ps) tt _
       (word_back Good s.Fail (word s.Fail) (goods.words s.Fail) refl)
@@ -73,7 +76,8 @@ module _ (Good : Piece → Type 0) (goods : Goods Good) where
   abbrev Reads : Rule Spot Stmt → List Stmt → Type 0
   Reads S = Each (λ x. Back Good bare_stmt S (shown_stmt x) (bare_stmt x))
 
-  block_back : (S : Rule Spot Stmt) (ss : List Stmt) → Reads S ss → Back Good (map bare_stmt) (Block S) (block (map shown_stmt ss)) (map bare_stmt ss)
+  block_back : (S : Rule Spot Stmt) (ss : List Stmt) → Reads S ss
+      → Back Good (map bare_stmt) (Block S) (block (map shown_stmt ss)) (map bare_stmt ss)
   block_back S ss h =
       let ps = flat_map (λ (p : List Piece). p) (map shown_stmt ss) in
       then_back Good no_column (map bare_stmt) (Word s.OpenBrace) (λ c. Many S >>= λ xs. Word s.CloseBrace >>= λ d. Pure xs) (word s.OpenBrace ∷ []) (ps ++ word s.CloseBrace ∷ []) tt _
@@ -90,7 +94,8 @@ module _ (Good : Piece → Type 0) (goods : Goods Good) where
 
   otherwise_back : (S : Rule Spot Stmt) (other : Option (List Stmt)) → ReadsOther S other
       → Back Good (option_map (map bare_stmt)) (Optional (Otherwise S)) (otherwise (option_map (map shown_stmt) other)) (option_map (map bare_stmt) other)
-  otherwise_back S None h = within Good (option_map (map bare_stmt)) (Pure None) (Optional (Otherwise S)) [] None (λ ts us a x. inr x) (pure_back Good (option_map (map bare_stmt)) None None refl)
+  otherwise_back S None h =
+      within Good (option_map (map bare_stmt)) (Pure None) (Optional (Otherwise S)) [] None (λ ts us a x. inr x) (pure_back Good (option_map (map bare_stmt)) None None refl)
   otherwise_back S (Some ss) h =
       within Good (option_map (map bare_stmt)) (Otherwise S >>= λ x. Pure (Some x)) (Optional (Otherwise S)) _ _ (λ ts us a x. inl x)
       (mapped_back Good (map bare_stmt) (option_map (map bare_stmt)) (Otherwise S) (λ x. Some x) (word s.Else ∷ block (map shown_stmt ss)) (map bare_stmt ss) _
@@ -98,7 +103,8 @@ module _ (Good : Piece → Type 0) (goods : Goods Good) where
       (word_back Good s.Else (word s.Else) (goods.words s.Else) refl) (λ c i. block_back S ss h))
       (λ x i. ap (λ y. Some y) i))
 
-  if_back : (E : Rule Spot Expr) (S : Rule Spot Stmt) (ps : List Piece) (w : Expr) (ss : List Stmt) (other : Option (List Stmt)) → Back Good bare E ps w → Reads S ss → ReadsOther S other
+  if_back : (E : Rule Spot Expr) (S : Rule Spot Stmt) (ps : List Piece) (w : Expr) (ss : List Stmt) (other : Option (List Stmt))
+      → Back Good bare E ps w → Reads S ss → ReadsOther S other
       → Back Good bare_stmt (IfStmt E S) (word s.If ∷ (ps ++ (block (map shown_stmt ss) ++ otherwise (option_map (map shown_stmt) other)))) (stmt_at 0 (stmt.If w (map bare_stmt ss) (option_map (map bare_stmt) other)))
   if_back E S ps w ss other b h k =
       let qs = block (map shown_stmt ss) in
@@ -113,7 +119,8 @@ module _ (Good : Piece → Type 0) (goods : Goods Good) where
       ∙ ap (λ y. stmt_at 0 (stmt.If w y (option_map (map bare_stmt) m))) l
       ∙ ap (λ y. stmt_at 0 (stmt.If w (map bare_stmt ss) y)) q))))
 
-  for_back : (E : Rule Spot Expr) (S : Rule Spot Stmt) (n : Bytes) (ps : List Piece) (w : Expr) (ss : List Stmt) → Good (spaced (t.Name n)) → Back Good bare E ps w → Reads S ss
+  for_back : (E : Rule Spot Expr) (S : Rule Spot Stmt) (n : Bytes) (ps : List Piece) (w : Expr) (ss : List Stmt) → Good (spaced (t.Name n))
+      → Back Good bare E ps w → Reads S ss
       → Back Good bare_stmt (ForStmt E S) (word s.For ∷ spaced (t.Name n) ∷ word s.In ∷ (ps ++ block (map shown_stmt ss))) (stmt_at 0 (stmt.For n w (map bare_stmt ss)))
   for_back E S n ps w ss g b h =
       let qs = block (map shown_stmt ss) in
@@ -151,7 +158,8 @@ module _ (Good : Piece → Type 0) (goods : Goods Good) where
   ReadBack R S = (ts us : List Spot) (x : Stmt) → R ts x us → Each G ts → Back Good bare_stmt S (shown_stmt x) (bare_stmt x)
 
   -- another name for the same
-  moved : (R : Rule Spot Stmt) (x x' : Stmt) (ps : List Piece) (v : Stmt) → x ≡ x' → shown_stmt x' ≡ ps → bare_stmt x' ≡ v → Back Good bare_stmt R ps v → Back Good bare_stmt R (shown_stmt x) (bare_stmt x)
+  moved : (R : Rule Spot Stmt) (x x' : Stmt) (ps : List Piece) (v : Stmt) → x ≡ x' → shown_stmt x' ≡ ps → bare_stmt x' ≡ v
+      → Back Good bare_stmt R ps v → Back Good bare_stmt R (shown_stmt x) (bare_stmt x)
   moved R x x' ps v h k l b =
       subst (λ y. Back Good bare_stmt R (shown_stmt y) (bare_stmt y)) (sym h)
       (subst (λ qs. Back Good bare_stmt R qs (bare_stmt x')) (sym k) (subst (λ u. Back Good bare_stmt R ps u) (sym l) b))
@@ -242,9 +250,9 @@ module _ (Good : Piece → Type 0) (goods : Goods Good) where
         let es = r.second.second.value.1 in
         let behind = keep_targeted G _ (keep_expression G n) ts r.middle r.value r.first g in
         let found = subst (λ (y : Target). write_named y.kind (write_name op.word) ≡ Some op) aim.is
-            (write_word r.value.kind r.second.first.item.token op (made_at Good goods (write_of r.value.kind) r.middle r.second.middle r.second.value r.second.first)) in
+        (write_word r.value.kind r.second.first.item.token op (made_at Good goods (write_of r.value.kind) r.middle r.second.middle r.second.value r.second.first)) in
         let i = inside_parens Good goods (Arguments (Expression n) op.arguments) r.second.middle r.second.second.middle r.second.second.value r.second.second.first
-            (keep_one G _ r.middle r.second.middle r.second.value r.second.first behind) in
+        (keep_one G _ r.middle r.second.middle r.second.value r.second.first behind) in
         let all = arguments_shown Good goods n (expression_fine Good goods n) op.arguments i.from i.to es i.derived i.good in
         let to = stmt_at aim.column (stmt.Write aim.kind aim.key op.word es) in
         let is : x ≡ to = r.second.second.second.second.is ∙ ap (λ (y : Target). write_stmt y op.word es) aim.is in
@@ -265,7 +273,8 @@ module _ (Good : Piece → Type 0) (goods : Goods Good) where
   statement_read : (n : ℕ) → ReadBack (Statement n) (Statement n)
   unfolding Statement ReadBack
   statement_read zero ts us x r g = simple_read zero ts us x r g
-  statement_read (suc n) ts us x (inl r) g = wider (SimpleStmt (Expression (suc n))) (Statement (suc n)) (λ xs ys y q. inl q) (simple_read (suc n)) ts us x r g
+  statement_read (suc n) ts us x (inl r) g =
+      wider (SimpleStmt (Expression (suc n))) (Statement (suc n)) (λ xs ys y q. inl q) (simple_read (suc n)) ts us x r g
   statement_read (suc n) ts us x (inr r) g =
       wider (NestingStmt (Expression (suc n)) (Expression n) (Statement n)) (Statement (suc n)) (λ xs ys y q. inr q)
       (nesting_read n (Statement n) (statement_read n) (keep_statement G n)) ts us x r g
@@ -282,12 +291,15 @@ module _ (Good : Piece → Type 0) (goods : Goods Good) where
       (λ rest j. ap (λ y. (y, map bare_stmt rest)) i ∙ ap (λ y. (bare_stmt x, y)) j)))
       (λ l i. ap (λ (p : Stmt × List Stmt). record { stmts = p.0 ∷ p.1 }) i)
 
-  pub body_read : (ts us : List Spot) (b : Body) → BodyRule ts b us → Each G ts → Back Good without_columns BodyRule (shown_body b) (without_columns b)
+  pub body_read : (ts us : List Spot) (b : Body) → BodyRule ts b us → Each G ts
+      → Back Good without_columns BodyRule (shown_body b) (without_columns b)
   unfolding ReadBack
   body_read ts us b r g =
       let S = Statement DEEPEST in
       let l = r.first in
-      let h : Reads (Statement DEEPEST) (l.value ∷ l.second.value) = (statement_read DEEPEST ts l.middle l.value l.first g,
-        all_read DEEPEST S (statement_read DEEPEST) (keep_statement G DEEPEST) l.middle l.second.middle l.second.value l.second.first (keep_statement G DEEPEST ts l.middle l.value l.first g)) in
+      let h : Reads (Statement DEEPEST) (l.value ∷ l.second.value) = (
+        statement_read DEEPEST ts l.middle l.value l.first g,
+        all_read DEEPEST S (statement_read DEEPEST) (keep_statement G DEEPEST) l.middle l.second.middle l.second.value l.second.first (keep_statement G DEEPEST ts l.middle l.value l.first g),
+      ) in
       let is : b ≡ body_of (l.value, l.second.value) = r.second.is ∙ ap (λ (p : Stmt × List Stmt). body_of p) l.second.second.is in
       subst (λ x. Back Good without_columns BodyRule (shown_body x) (without_columns x)) (sym is) (bodies S l.value l.second.value h)

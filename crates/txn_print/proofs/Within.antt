@@ -1,12 +1,11 @@
 -- What a rule derives, a looser rule derives too, and so does the same rule with one level more.
-use Rattle.std.proofs.Common.{◌≡◌, ℕ, zero, suc, ◌+◌, ◌-◌, ◌≤◌, List, [], ◌∷◌, Option, Some, None, refl, ap, sym, ◌∙◌, subst, inl, inr, arith}
-use Rattle.predictive_parsing.specs.Rules.{Rule, One, Then, Pure, Or, Many, none, more, ListOf, Optional, ◌>>=◌}
+use Rattle.std.proofs.Common.{◌≡◌, ℕ, zero, suc, ◌+◌, ◌-◌, ◌≤◌, List, [], Some, None, refl, ap, sym, ◌∙◌, subst, inl, inr, arith}
+use Rattle.predictive_parsing.specs.Rules.{Rule, Then, Pure, Or, Many, none, more, Optional}
 use Rattle.txn_trees.specs.declared.expression.Expr.{Expr}
-use Rattle.txn_trees.specs.declared.statement.Stmt.{Stmt}
 use Rattle.txn_grammar.specs.declared.rank.Rank.{Rank}
 use Rattle.txn_grammar.specs.declared.rank.Rank.TheVariants as rank
 use Rattle.txn_grammar.specs.declared.token.Spot.{Spot}
-use Rattle.txn_grammar.specs.Grammar.{LeafRule, Further, Chain, OtherSide, Comparison, ComparisonOf, ExpressionOf, Negative, Not, InParens, Group, Len, Str, AfterComma, Elements, Texts, Times, Arguments, Targeted, Read, Opened, UnaryOf, Unary, Negation, Expression}
+use Rattle.txn_grammar.specs.Grammar.{LeafRule, Chain, Comparison, ComparisonOf, ExpressionOf, InParens, AfterComma, Elements, Texts, Times, Arguments, Targeted, Read, Opened, Unary, Negation, Expression}
 use Rattle.txn_print.specs.declared.place.Place.{Place}
 use Rattle.txn_print.specs.declared.place.Place.TheVariants as place
 use Rattle.txn_print.specs.Places.{tightness}
@@ -19,8 +18,10 @@ Within {A} P Q = (ts us : List Spot) (a : A) → P ts a us → Q ts a us
 pub same : {A : Type 0} (P : Rule Spot A) → Within P P
 same P ts us a r = r
 
-pub then_within : {A B : Type 0} (P P' : Rule Spot A) (Q Q' : A → Rule Spot B) → Within P P' → ((a : A) → Within (Q a) (Q' a)) → Within (Then P Q) (Then P' Q')
-then_within P P' Q Q' f g ts us b r = record { value = r.value; middle = r.middle; first = f ts r.middle r.value r.first; second = g r.value r.middle us b r.second }
+pub then_within : {A B : Type 0} (P P' : Rule Spot A) (Q Q' : A → Rule Spot B) → Within P P' → ((a : A) → Within (Q a) (Q' a))
+    → Within (Then P Q) (Then P' Q')
+then_within P P' Q Q' f g ts us b r =
+    record { value = r.value; middle = r.middle; first = f ts r.middle r.value r.first; second = g r.value r.middle us b r.second }
 
 -- the second part alone differs
 behind : {A B : Type 0} (P : Rule Spot A) (Q Q' : A → Rule Spot B) → ((a : A) → Within (Q a) (Q' a)) → Within (Then P Q) (Then P Q')
@@ -76,7 +77,8 @@ targeted_within : (E E' : Rule Spot Expr) → Within E E' → Within (Targeted E
 targeted_within E E' f = behind _ _ _ (λ k. before _ _ _ (parens_within E E' f))
 
 read_within : (E E' : Rule Spot Expr) → Within E E' → Within (Read E) (Read E')
-read_within E E' f = then_within _ _ _ _ (targeted_within E E' f) (λ t. behind _ _ _ (λ o. before _ _ _ (parens_within _ _ (arguments_within E E' f o.1.arguments))))
+read_within E E' f =
+    then_within _ _ _ _ (targeted_within E E' f) (λ t. behind _ _ _ (λ o. before _ _ _ (parens_within _ _ (arguments_within E E' f o.1.arguments))))
 
 texts_within : (E E' : Rule Spot Expr) → Within E E' → Within (Texts E) (Texts E')
 texts_within E E' f = behind _ _ _ (λ c. before _ _ _ (or_within _ _ _ _ (elements_within E E' f) (same (Pure []))))
@@ -105,7 +107,8 @@ negation_more_at n m u = or_within _ _ _ _ (behind _ _ _ (λ c. before _ _ _ m.n
 
 more_levels : (n : ℕ) → More n
 unfolding Unary
-more_levels zero = record { unary = λ ts us e r. inr r; negation = λ ts us e r. inr (comparison_of_within _ _ (λ a b x q. inr q) ts us e r) }
+more_levels zero =
+    record { unary = λ ts us e r. inr r; negation = λ ts us e r. inr (comparison_of_within _ _ (λ a b x q. inr q) ts us e r) }
 more_levels (suc n) =
     let m = more_levels n in
     let u = unary_more_at n m in

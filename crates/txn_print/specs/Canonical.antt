@@ -1,14 +1,14 @@
 -- The canonical text of a body: its tokens, with parentheses exactly where the grammar needs them, and their spaces.
-use Rattle.std.specs.Prelude.{◌≡◌, Bool, true, false, if◌then◌else◌, List, [], ◌∷◌, ◌++◌, map, Option, Some, None, codes}
+use Rattle.std.specs.Prelude.{Bool, true, false, if◌then◌else◌, List, [], ◌∷◌, ◌++◌, map, Option, Some, None, codes}
 use Rattle.std.specs.List.{flat_map}
 use Rattle.plain_data.specs.Texts.{Bytes}
 use Rattle.rdt_types.specs.declared.address.Kind.{Kind}
 use Rattle.rdt_types.specs.declared.address.Kind.TheVariants as kind
-use Rattle.txn_trees.specs.declared.expression.Expr.{Expr, Expr-F, fold-Expr}
+use Rattle.txn_trees.specs.declared.expression.Expr.{Expr, fold-Expr}
 use Rattle.txn_trees.specs.declared.expression.ExprNode.{ExprNode-F}
 use Rattle.txn_trees.specs.declared.expression.ExprNode.TheOpen as node
-use Rattle.txn_trees.specs.declared.expression.Operand.{Operand, Operand-F, out-Operand}
-use Rattle.txn_trees.specs.declared.statement.Stmt.{Stmt, Stmt-F, fold-Stmt}
+use Rattle.txn_trees.specs.declared.expression.Operand.{Operand, out-Operand}
+use Rattle.txn_trees.specs.declared.statement.Stmt.{Stmt, fold-Stmt}
 use Rattle.txn_trees.specs.declared.statement.StmtNode.{StmtNode-F}
 use Rattle.txn_trees.specs.declared.statement.StmtNode.TheOpen as stmt
 use Rattle.txn_trees.specs.declared.statement.Body.{Body}
@@ -137,12 +137,14 @@ show_node (node.Number value) = shown_as place.Unary (spaced (t.Number value) �
 show_node (node.Text bytes) = shown_as place.Unary (spaced (t.Text bytes) ∷ [])
 show_node (node.Bool value) = shown_as place.Unary (word (truth value) ∷ [])
 show_node (node.Name name) = shown_as place.Unary (spaced (t.Name name) ∷ [])
-show_node (node.Texts elements) = shown_as place.Unary (opening s.OpenBracket ∷ (separated (map whole elements) ++ closing s.CloseBracket ∷ []))
+show_node (node.Texts elements) =
+    shown_as place.Unary (opening s.OpenBracket ∷ (separated (map whole elements) ++ closing s.CloseBracket ∷ []))
 show_node (node.Len argument) = shown_as place.Unary (word s.Len ∷ given (whole argument))
 show_node (node.Str argument) = shown_as place.Unary (word s.Str ∷ given (whole argument))
 show_node (node.Negative value) = shown_as place.Unary (opening s.Minus ∷ at place.Unary value)
 show_node (node.Not value) = shown_as place.Negation (word s.Not ∷ at place.Negation value)
-show_node (node.Compare left relation right) = shown_as place.Comparison (at place.Sum left ++ word (comparison relation) ∷ at place.Sum right)
+show_node (node.Compare left relation right) =
+    shown_as place.Comparison (at place.Sum left ++ word (comparison relation) ∷ at place.Sum right)
 show_node (node.Chain first rest) = chain first rest
 show_node (node.Read kind key word arguments) = shown_as place.Unary (operation kind (whole key) (read_name word) (map whole arguments))
 
@@ -195,4 +197,3 @@ abbrev pub canonical : Body → Bytes
 canonical body = text (shown_body body)
 
 -- ---- worked lines
-

@@ -1,17 +1,18 @@
 -- Trees, columns aside.
-use Rattle.std.specs.Prelude.{◌≡◌, List, map}
-use Rattle.txn_trees.specs.declared.expression.Expr.{Expr, Expr-F, fold-Expr, roll-Expr}
-use Rattle.txn_trees.specs.declared.expression.ExprNode.{ExprNode, ExprNode-F, roll-ExprNode}
-use Rattle.txn_trees.specs.declared.expression.Operand.{Operand, Operand-F, roll-Operand}
-use Rattle.txn_trees.specs.declared.statement.Stmt.{Stmt, Stmt-F, fold-Stmt, roll-Stmt}
-use Rattle.txn_trees.specs.declared.statement.StmtNode.{StmtNode, StmtNode-F, roll-StmtNode}
+use Rattle.std.specs.Prelude.{◌≡◌, map}
+use Rattle.txn_trees.specs.declared.expression.Expr.{Expr, fold-Expr, roll-Expr}
+use Rattle.txn_trees.specs.declared.expression.ExprNode.{ExprNode, roll-ExprNode}
+use Rattle.txn_trees.specs.declared.expression.Operand.{Operand, roll-Operand}
+use Rattle.txn_trees.specs.declared.statement.Stmt.{Stmt, fold-Stmt, roll-Stmt}
+use Rattle.txn_trees.specs.declared.statement.StmtNode.{StmtNode, StmtNode-F}
 use Rattle.txn_trees.specs.declared.statement.StmtNode.TheOpen as open_stmt
 use Rattle.txn_trees.specs.declared.statement.StmtNode.TheVariants as stmt
 use Rattle.txn_trees.specs.declared.statement.Body.{Body}
 
 -- the expression with every column 0
 unfoldable pub bare : Expr → Expr
-bare = fold-Expr ExprNode Expr Operand (λ n. roll-ExprNode n) (λ e. roll-Expr (record { column = 0; node = e.node })) (λ o. roll-Operand (record { operator = o.operator; value = o.value }))
+bare =
+    fold-Expr ExprNode Expr Operand (λ n. roll-ExprNode n) (λ e. roll-Expr (record { column = 0; node = e.node })) (λ o. roll-Operand (record { operator = o.operator; value = o.value }))
 
 -- the statement with every column 0, those of its expressions too
 abbrev pub bare_node : StmtNode-F StmtNode Stmt → StmtNode

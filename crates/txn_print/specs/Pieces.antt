@@ -1,6 +1,6 @@
 -- A text as a list of tokens, with the spaces between them: one space stands between two tokens, unless the first lets
 -- none follow or the second lets none stand before it.
-use Rattle.std.specs.Prelude.{◌≡◌, Bool, true, false, ◌&&◌, if◌then◌else◌, List, [], ◌∷◌, ◌++◌, fold, codes, pos, refl}
+use Rattle.std.specs.Prelude.{◌≡◌, Bool, true, false, ◌&&◌, List, [], ◌∷◌, ◌++◌, fold, codes, refl}
 use Rattle.std.specs.Fmt.{signed_decimal}
 use Rattle.plain_data.specs.Texts.{Bytes}
 use Rattle.rdt_types.specs.Printed.{printed_text}

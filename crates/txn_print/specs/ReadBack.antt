@@ -1,10 +1,11 @@
 -- What it means that the canonical text of a body is read back.
-use Rattle.std.specs.Prelude.{◌≡◌, List, map}
+use Rattle.std.specs.Prelude.{◌≡◌, List, map, Some}
 use Rattle.txn_trees.specs.declared.statement.Body.{Body}
 use Rattle.txn_grammar.specs.declared.token.Spot.{Spot}
 use Rattle.txn_grammar.specs.declared.token.Token.{Token}
 use Rattle.txn_grammar.specs.Lexer.{lex}
 use Rattle.txn_grammar.specs.Grammar.{IsBody}
+use Rattle.txn_grammar.specs.Parsed.{parsed}
 use Rattle.txn_print.specs.Canonical.{canonical}
 use Rattle.txn_print.specs.Columns.{SameButColumns}
 
@@ -18,3 +19,7 @@ pub record ReadsBack (body : Body) : Type 0 where
   pub read : Body
   pub derived : IsBody (lex (canonical body)) read
   pub same : SameButColumns read body
+
+-- The function from texts finds that body.
+abbrev pub ParsesBack : Body → Type 0
+ParsesBack body = (read : Body) × (parsed (canonical body) ≡ Some read) × SameButColumns read body

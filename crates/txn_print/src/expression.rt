@@ -50,7 +50,12 @@ fn rank_of(e: &Expr) -> Place
 
 /// Prints an expression at a place: in parentheses exactly where its rule isn't reached from there without them.
 #[cycle(expression)]
-pub(crate) fn push_expr(alloc: Global, line: &mut Line, e: &Expr, place: Place) -> Result<(), AllocError>
+pub(crate) fn push_expr(
+    alloc: Global,
+    line: &mut Line,
+    e: &Expr,
+    place: Place,
+) -> Result<(), AllocError>
     ensures { OnOk result (line.new ≡ written line.old (spec.at place (spec.shown e.now))) }
 {
     if !rank_of(e).needs_parens(place) {
@@ -148,7 +153,12 @@ fn push_separated(alloc: Global, line: &mut Line, elements: &[Expr]) -> Result<(
 
 /// Prints the kind and the key of an operation, and the dot behind them.
 #[cycle(expression)]
-pub(crate) fn push_target(alloc: Global, line: &mut Line, kind: Kind, key: &Expr) -> Result<(), AllocError>
+pub(crate) fn push_target(
+    alloc: Global,
+    line: &mut Line,
+    kind: Kind,
+    key: &Expr,
+) -> Result<(), AllocError>
     ensures { OnOk result (line.new ≡ written line.old (spec.target kind (spec.expression key.now))) }
 {
     line.word(kind_symbol(kind))?;

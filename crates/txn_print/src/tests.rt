@@ -165,7 +165,8 @@ fn prints_blocks(rt: HostRuntime) -> Result<(), Fail> {
 fn prints_a_seat_sale(rt: HostRuntime) -> Result<(), Fail> {
     let alloc = rt.alloc();
     let body = sale(alloc)?;
-    let text = b"if set(\"seats\").has(\"A1\") { set(\"seats\").remove(\"A1\"); hash(\"sold\").put(\"A1\", \"ann\"); counter(\"sales\").add(1); emit \"ok\"; } else { fail \"taken\"; }";
+    let text =
+        b"if set(\"seats\").has(\"A1\") { set(\"seats\").remove(\"A1\"); hash(\"sold\").put(\"A1\", \"ann\"); counter(\"sales\").add(1); emit \"ok\"; } else { fail \"taken\"; }";
     assert!(rt; has_text(alloc, &body, text)?);
     Ok(())
 }

@@ -1,6 +1,5 @@
-use Rattle.std.proofs.Common.{ap, sym, ◌∙◌, arith}
+use Rattle.std.proofs.Common.{arith}
 use Rattle.std.proofs.lemmas.Grind.{common_steps}
-use Rattle.txn_print.specs.Canonical.{Shown}
 use Rattle.txn_print.proofs.Equations.{at_chain}
 use Rattle.txn_print.proofs.expression.rank_of.Goals as goal
 
