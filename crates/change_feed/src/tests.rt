@@ -1,7 +1,7 @@
 //! Each call once, with ample memory.
 
 use crate::{Change, ChangeList, Feed, Tail};
-use plain_data::{Text, TextMap};
+use plain_data::Text;
 use rdt_types::{Address, Delta, KeyedDelta, Kind};
 use std::alloc::{AllocError, Global};
 use std::test::Fail;
@@ -48,11 +48,14 @@ fn adding(alloc: Global, element: &[u8]) -> Result<Delta, AllocError> {
     Ok(Delta::Set(KeyedDelta::marking(alloc, &element, true)?))
 }
 
-/// A set's delta that clears and then adds an element.
-fn clearing_and_adding(alloc: Global, element: &[u8]) -> Result<Option<Delta>, AllocError> {
-    let mut marks = TextMap::new(alloc);
-    marks.insert(Text::from_slice(alloc, element)?, true)?;
-    Ok(KeyedDelta::from_parts(true, marks).map(Delta::Set))
+/// Whether a set's change clears, and then adds this element alone.
+fn clears_and_adds(delta: Option<&Delta>, element: &Text) -> bool {
+    match delta {
+        Some(Delta::Set(d)) => {
+            d.cleared() && d.marks().len() == 1 && d.marks().contains(element)
+        }
+        _ => false,
+    }
 }
 
 #[test]
@@ -65,10 +68,8 @@ fn a_clear_between_two_marks_drops_the_first(rt: HostRuntime) -> Result<(), Fail
     for delta in [a, Delta::Set(KeyedDelta::clearing(alloc)), b] {
         feed.add(&set, &delta)?;
     }
-    match (feed.changes().get(&set), clearing_and_adding(alloc, b"b")?) {
-        (Some(found), Some(wanted)) => assert!(rt; *found == wanted),
-        _ => assert!(rt; false),
-    }
+    let element = Text::from_slice(alloc, b"b")?;
+    assert!(rt; clears_and_adds(feed.changes().get(&set), &element));
     Ok(())
 }
 
