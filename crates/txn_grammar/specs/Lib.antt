@@ -7,7 +7,7 @@ pub mod Tokens
 pub mod Trees
 pub mod Grammar
 pub mod Parsed
-pub mod Examples
 pub mod code
+pub mod Examples
 pub mod early
 pub mod Tree
