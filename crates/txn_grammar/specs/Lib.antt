@@ -7,5 +7,5 @@ pub mod Tokens
 pub mod Trees
 pub mod Grammar
 pub mod Parsed
-pub mod Examples
 pub mod code
+pub mod Examples

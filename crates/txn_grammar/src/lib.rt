@@ -1,4 +1,11 @@
-//! The tokens and the grammar of transaction bodies.
+//! The tokens and the grammar of transaction bodies: what tokens a text has, which tokens are a body, and the column at
+//! which a text stops being one. It stands on `txn_trees`, whose trees bodies are, and on `dtext`, whose rule texts in
+//! quotes follow. Journals cite it; the parser (`txn_parse`) is proved equal to it.
+//!
+//! Read first `specs/Lexer` (the tokens of a text), `specs/Grammar` (the rules, in the order of the grammar, with the
+//! tables of `specs/Tokens`) and `specs/Parsed` (the body of a text, and the column where there is none). `laws` ties the
+//! grammar, a relation, to the function by which parsers are proved. The code here is what is below a parser: `tokens`,
+//! and the tables by which a token is asked what it is. `early` is the reader of the part that runs so far.
 #![tactic(auto)]
 
 mod form;
@@ -12,6 +19,8 @@ mod rank;
 mod spelling;
 mod symbol;
 mod target;
+#[cfg(test)]
+mod tests;
 mod token;
 
 pub use form::{Leaf, Nesting, Opener, Simple};

@@ -198,7 +198,6 @@ impl<F: Fn(Global, &mut Cursor<'_, Spot>, u8, Place) -> Result<Expr, Stop>> Gram
         })
     }
 
-
     /// So many expressions, each behind a comma.
     fn so_many(&self, cursor: &mut Cursor<Spot>, count: usize) -> Result<ExprList, Stop>
         requires nests { Nests self.now.levels (F.pre self.now.inside) (F.post self.now.inside) }
@@ -231,7 +230,11 @@ impl<F: Fn(Global, &mut Cursor<'_, Spot>, u8, Place) -> Result<Expr, Stop>> Gram
 
     /// The same in parentheses, with the column of the opening one.
     #[tactic(auto, unfolding(txn_grammar::specs::code::Reader::in_parens))]
-    pub(crate) fn arguments_in_parens(&self, cursor: &mut Cursor<Spot>, count: usize) -> Result<(u32, ExprList), Stop>
+    pub(crate) fn arguments_in_parens(
+        &self,
+        cursor: &mut Cursor<Spot>,
+        count: usize,
+    ) -> Result<(u32, ExprList), Stop>
         requires nests { Nests self.now.levels (F.pre self.now.inside) (F.post self.now.inside) }
         requires some { 0 < self.now.levels }
         ensures { Reads (spec.in_parens (spec.arguments_read (spec.expression (self.now.levels - 1)) count) cursor.old) result cursor.new }
@@ -316,7 +319,12 @@ impl<F: Fn(Global, &mut Cursor<'_, Spot>, u8, Place) -> Result<Expr, Stop>> Gram
         requires { Nests self.now.levels (F.pre self.now.inside) (F.post self.now.inside) }
         ensures { Reads (spec.chain rank.Product (spec.unary self.now.levels) cursor.old) result cursor.new }
     {
-        chain(self.alloc, cursor, Rank::Product, |cursor| self.unary(cursor))
+        chain(
+            self.alloc,
+            cursor,
+            Rank::Product,
+            |cursor| self.unary(cursor),
+        )
     }
 
     /// Products joined by `+` and `-`.
@@ -368,7 +376,12 @@ impl<F: Fn(Global, &mut Cursor<'_, Spot>, u8, Place) -> Result<Expr, Stop>> Gram
         requires { Nests self.now.levels (F.pre self.now.inside) (F.post self.now.inside) }
         ensures { Reads (spec.chain rank.Conjunction (spec.negation self.now.levels) cursor.old) result cursor.new }
     {
-        chain(self.alloc, cursor, Rank::Conjunction, |cursor| self.negation(cursor))
+        chain(
+            self.alloc,
+            cursor,
+            Rank::Conjunction,
+            |cursor| self.negation(cursor),
+        )
     }
 
     /// Conjunctions joined by `or`.
@@ -377,9 +390,13 @@ impl<F: Fn(Global, &mut Cursor<'_, Spot>, u8, Place) -> Result<Expr, Stop>> Gram
         requires { Nests self.now.levels (F.pre self.now.inside) (F.post self.now.inside) }
         ensures { Reads (spec.expression self.now.levels cursor.old) result cursor.new }
     {
-        chain(self.alloc, cursor, Rank::Disjunction, |cursor| self.conjunction(cursor))
+        chain(
+            self.alloc,
+            cursor,
+            Rank::Disjunction,
+            |cursor| self.conjunction(cursor),
+        )
     }
-
 }
 
 /// What stands at this place, with so many levels left.

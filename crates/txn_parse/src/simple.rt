@@ -13,11 +13,7 @@ use txn_grammar::{Simple, Spot, Symbol, simple_of};
 use txn_trees::{Expr, Stmt, StmtNode};
 
 /// An expression, with so many levels left.
-pub(crate) fn expression(
-    alloc: Global,
-    cursor: &mut Cursor<Spot>,
-    levels: u8,
-) -> Result<Expr, Stop>
+pub(crate) fn expression(alloc: Global, cursor: &mut Cursor<Spot>, levels: u8) -> Result<Expr, Stop>
     ensures { Reads (spec.expression levels cursor.old) result cursor.new }
 {
     placed_read(alloc, cursor, levels, Place::Whole)

@@ -177,7 +177,6 @@ impl<F: Fn(Global, &mut Cursor<'_, Spot>, u8) -> Result<Stmt, Stop>> Statements<
         let found = ahead(cursor, |spot| nesting_of(&spot.token)).unwrap_or(Nesting::Write);
         self.nesting_read(cursor, found)
     }
-
 }
 
 /// A target, one of its kind's writes, and so many arguments as that takes.

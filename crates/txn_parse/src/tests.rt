@@ -3,7 +3,8 @@
 use crate::{ParseError, parse};
 use plain_data::Text;
 use std::alloc::{AllocError, Global};
-use txn_trees::{Body, Expr, ExprNode, Operator, ReadWord, Relation, StmtNode};
+use txn_grammar::{READS, WORDS, WRITES};
+use txn_trees::{Body, Expr, ExprNode, Operator, StmtNode};
 
 /// No test has a text as long as this.
 const SHORT: usize = 5000;
@@ -151,63 +152,246 @@ fn expressions(rt: HostRuntime) {
     assert!(rt; all_refused_at(rt.alloc(), &rows));
 }
 
-/// So many openers, what stands in them, and so many closers.
-fn nested(
-    alloc: Global,
-    opener: &[u8],
-    inside: &[u8],
-    closer: &[u8],
-    count: usize,
-) -> Result<Text, AllocError> {
-    let mut source = Text::new(alloc);
-    for _ in 0..count {
-        source.extend_from_slice(opener)?;
+/// A text that opens so many levels, all alike.
+#[derive(Clone, Copy)]
+struct Nested {
+    before: &'static [u8],
+    opener: &'static [u8],
+    inside: &'static [u8],
+    closer: &'static [u8],
+    after: &'static [u8],
+}
+
+impl Nested {
+    fn text(self, alloc: Global, levels: usize) -> Result<Text, AllocError> {
+        let mut source = Text::from_slice(alloc, self.before)?;
+        for _ in 0..levels {
+            source.extend_from_slice(self.opener)?;
+        }
+        source.extend_from_slice(self.inside)?;
+        for _ in 0..levels {
+            source.extend_from_slice(self.closer)?;
+        }
+        source.extend_from_slice(self.after)?;
+        Ok(source)
     }
-    source.extend_from_slice(inside)?;
-    for _ in 0..count {
-        source.extend_from_slice(closer)?;
+
+    /// Where it is refused; 0 for a body.
+    fn refused_at(self, alloc: Global, levels: usize) -> Option<u32> {
+        match self.text(alloc, levels) {
+            Ok(source) => refused_at(alloc, source.as_slice()),
+            Err(_) => None,
+        }
     }
+}
+
+/// An expression that is emitted.
+fn emitted(opener: &'static [u8], inside: &'static [u8], closer: &'static [u8]) -> Nested {
+    Nested {
+        before: b"emit ".as_slice(),
+        opener,
+        inside,
+        closer,
+        after: b";".as_slice(),
+    }
+}
+
+/// A statement alone.
+fn alone(opener: &'static [u8], inside: &'static [u8], closer: &'static [u8]) -> Nested {
+    Nested {
+        before: b"".as_slice(),
+        opener,
+        inside,
+        closer,
+        after: b"".as_slice(),
+    }
+}
+
+#[test]
+fn deepest(rt: HostRuntime) {
+    let rows = [
+        (
+            emitted(b"(".as_slice(), b"1".as_slice(), b")".as_slice()),
+            38,
+        ),
+        (
+            emitted(b"[".as_slice(), b"".as_slice(), b"]".as_slice()),
+            38,
+        ),
+        (
+            emitted(b"-".as_slice(), b"1".as_slice(), b"".as_slice()),
+            38,
+        ),
+        (
+            emitted(b"not ".as_slice(), b"x".as_slice(), b"".as_slice()),
+            134,
+        ),
+        (
+            emitted(b"len(".as_slice(), b"x".as_slice(), b")".as_slice()),
+            134,
+        ),
+        (
+            emitted(b"str(".as_slice(), b"1".as_slice(), b")".as_slice()),
+            134,
+        ),
+        (
+            emitted(
+                b"list(\"l\").at(".as_slice(),
+                b"0".as_slice(),
+                b")".as_slice(),
+            ),
+            422,
+        ),
+        (
+            alone(b"if 1{".as_slice(), b"emit 1;".as_slice(), b"}".as_slice()),
+            161,
+        ),
+        (
+            alone(b"for x in y{".as_slice(), b"".as_slice(), b"}".as_slice()),
+            353,
+        ),
+    ];
+    for (nested, column) in rows {
+        assert!(rt; nested.refused_at(rt.alloc(), 32) == Some(0));
+        assert!(rt; nested.refused_at(rt.alloc(), 33) == Some(column));
+    }
+}
+
+#[test]
+fn no_level_left(rt: HostRuntime) {
+    let rows = [
+        (
+            emitted(b"(".as_slice(), b"len(x)".as_slice(), b")".as_slice()),
+            38,
+        ),
+        (
+            emitted(b"(".as_slice(), b"str(1)".as_slice(), b")".as_slice()),
+            38,
+        ),
+        (
+            emitted(
+                b"(".as_slice(),
+                b"text(\"t\").get()".as_slice(),
+                b")".as_slice(),
+            ),
+            38,
+        ),
+        (
+            emitted(b"(".as_slice(), b"1 + -1".as_slice(), b")".as_slice()),
+            42,
+        ),
+        (
+            alone(b"if 1{".as_slice(), b"if 1{}".as_slice(), b"}".as_slice()),
+            161,
+        ),
+        (
+            alone(
+                b"if 1{".as_slice(),
+                b"for x in y{}".as_slice(),
+                b"}".as_slice(),
+            ),
+            161,
+        ),
+        (
+            alone(
+                b"if 1{".as_slice(),
+                b"set(\"s\").clear();".as_slice(),
+                b"}".as_slice(),
+            ),
+            161,
+        ),
+        (
+            alone(
+                b"if 1{".as_slice(),
+                b"emit (1);".as_slice(),
+                b"}".as_slice(),
+            ),
+            166,
+        ),
+    ];
+    for (nested, column) in rows {
+        assert!(rt; nested.refused_at(rt.alloc(), 32) == Some(column));
+    }
+}
+
+/// The statement `let` of a word.
+fn bound(alloc: Global, word: &[u8]) -> Result<Text, AllocError> {
+    let mut source = Text::from_slice(alloc, b"let ".as_slice())?;
+    source.extend_from_slice(word)?;
+    source.extend_from_slice(b" = 1;".as_slice())?;
     Ok(source)
 }
 
-/// Where such a text is refused; 0 for a body.
-fn nested_refused_at(
-    alloc: Global,
-    opener: &[u8],
-    inside: &[u8],
-    closer: &[u8],
-    count: usize,
-) -> Option<u32> {
-    match nested(alloc, opener, inside, closer, count) {
+/// Where it is refused; 0 for a body.
+fn bound_refused_at(alloc: Global, word: &[u8]) -> Option<u32> {
+    if word.len() > SHORT {
+        return None;
+    }
+    match bound(alloc, word) {
         Ok(source) => refused_at(alloc, source.as_slice()),
         Err(_) => None,
     }
 }
 
-/// Whether 32 levels are a body, and what opens the next one is refused at this column.
-fn is_deepest(alloc: Global, opener: &[u8], inside: &[u8], closer: &[u8], column: u32) -> bool {
-    nested_refused_at(alloc, opener, inside, closer, 32) == Some(0)
-        && nested_refused_at(alloc, opener, inside, closer, 33) == Some(column)
+#[test]
+fn reserved_words_are_no_names(rt: HostRuntime) {
+    for (word, _) in &WORDS {
+        assert!(rt; bound_refused_at(rt.alloc(), word) == Some(5));
+    }
 }
 
 #[test]
-fn levels(rt: HostRuntime) {
-    let rows = [
-        (b"if(".as_slice(), b"1".as_slice(), b"){}".as_slice(), 97),
-        (
-            b"if 1{".as_slice(),
-            b"emit 1;".as_slice(),
-            b"}".as_slice(),
-            161,
-        ),
-        (
-            b"for x in y{".as_slice(),
-            b"".as_slice(),
-            b"}".as_slice(),
-            353,
-        ),
-    ];
-    for (opener, inside, closer, column) in rows {
-        assert!(rt; is_deepest(rt.alloc(), opener, inside, closer, column));
+fn operation_words_are_names(rt: HostRuntime) {
+    for (_, word, _, _) in &WRITES {
+        assert!(rt; bound_refused_at(rt.alloc(), word) == Some(0));
     }
+    for (_, word, _, _) in &READS {
+        assert!(rt; bound_refused_at(rt.alloc(), word) == Some(0));
+    }
+}
+
+/// Whether the expression is a number at this column.
+fn is_number(expr: &Expr, column: u32, value: i64) -> bool {
+    match &expr.node {
+        ExprNode::Number(found) => expr.column == column && *found == value,
+        _ => false,
+    }
+}
+
+/// Whether the body is `emit (1) + 2 * 3 - 4;`: one chain of sums, whose second operand is one of products.
+fn is_chain(body: &Body) -> bool {
+    let [stmt] = body.stmts.as_slice() else {
+        return false;
+    };
+    let StmtNode::Emit(sum) = &stmt.node else {
+        return false;
+    };
+    let ExprNode::Chain(first, others) = &sum.node else {
+        return false;
+    };
+    let [product, last] = others.as_slice() else {
+        return false;
+    };
+    let ExprNode::Chain(two, factors) = &product.value.node else {
+        return false;
+    };
+    let [three] = factors.as_slice() else {
+        return false;
+    };
+    stmt.column == 1
+        && sum.column == 6
+        && is_number(first.get(), 6, 1)
+        && product.operator == Operator::Plus
+        && product.value.column == 12
+        && is_number(two.get(), 12, 2)
+        && three.operator == Operator::Times
+        && is_number(&three.value, 16, 3)
+        && last.operator == Operator::Minus
+        && is_number(&last.value, 20, 4)
+}
+
+#[test]
+fn tree_of_a_chain(rt: HostRuntime) {
+    let body = parse(rt.alloc(), b"emit (1) + 2 * 3 - 4;".as_slice());
+    assert!(rt; body.is_ok_and(|body| is_chain(&body)));
 }

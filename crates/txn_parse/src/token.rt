@@ -111,7 +111,10 @@ pub(crate) fn truth(cursor: &mut Cursor<Spot>) -> Result<(u32, bool), OrNoMemory
 }
 
 /// Takes an operator of this rank, with its column.
-pub(crate) fn operator(cursor: &mut Cursor<Spot>, rank: Rank) -> Result<(u32, Operator), OrNoMemory<Refused>>
+pub(crate) fn operator(
+    cursor: &mut Cursor<Spot>,
+    rank: Rank,
+) -> Result<(u32, Operator), OrNoMemory<Refused>>
     ensures { Reads (read.one (spec.at (spec.of_symbol (spec.operator_of rank))) cursor.old) result cursor.new }
 {
     cursor.take(|spot| operator_spot(rank, spot))
@@ -132,14 +135,20 @@ pub(crate) fn kind(cursor: &mut Cursor<Spot>) -> Result<(u32, Kind), OrNoMemory<
 }
 
 /// Takes the word of one of the kind's writes, with its column.
-pub(crate) fn write(cursor: &mut Cursor<Spot>, kind: Kind) -> Result<(u32, Operation<WriteWord>), OrNoMemory<Refused>>
+pub(crate) fn write(
+    cursor: &mut Cursor<Spot>,
+    kind: Kind,
+) -> Result<(u32, Operation<WriteWord>), OrNoMemory<Refused>>
     ensures { Reads (read.one (spec.at (spec.write_of kind)) cursor.old) result cursor.new }
 {
     cursor.take(|spot| at(spot, write_at(kind, &spot.token)))
 }
 
 /// Takes the word of one of the kind's reads, with its column.
-pub(crate) fn read(cursor: &mut Cursor<Spot>, kind: Kind) -> Result<(u32, Operation<ReadWord>), OrNoMemory<Refused>>
+pub(crate) fn read(
+    cursor: &mut Cursor<Spot>,
+    kind: Kind,
+) -> Result<(u32, Operation<ReadWord>), OrNoMemory<Refused>>
     ensures { Reads (read.one (spec.at (spec.read_of kind)) cursor.old) result cursor.new }
 {
     cursor.take(|spot| at(spot, read_at(kind, &spot.token)))

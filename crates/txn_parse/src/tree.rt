@@ -6,7 +6,9 @@ ghost use Rattle.txn_grammar.specs.Trees as tree;
 use plain_data::Boxed;
 use std::alloc::{AllocError, Global};
 use txn_grammar::Target;
-use txn_trees::{Expr, ExprList, ExprNode, OperandList, ReadWord, Relation, Stmt, StmtNode, WriteWord};
+use txn_trees::{
+    Expr, ExprList, ExprNode, OperandList, ReadWord, Relation, Stmt, StmtNode, WriteWord,
+};
 
 /// What stands in parentheses, at the opening one.
 pub(crate) fn grouped(column: u32, inner: Expr) -> Expr

@@ -1,0 +1,131 @@
+//! Worked texts.
+
+use crate::early::read_body;
+use crate::error::ReadError;
+use crate::lexer::tokens;
+use crate::symbol::Symbol;
+use crate::token::Token;
+use std::alloc::Global;
+
+/// No test has a text as long as this.
+const SHORT: usize = 5000;
+
+/// What the one token of a text is to be.
+#[derive(Clone, Copy)]
+enum Wanted {
+    Symbol(Symbol),
+    Name,
+    Number(i64),
+    Text(&'static [u8]),
+    Malformed,
+}
+
+fn is_wanted(token: &Token, source: &[u8], wanted: Wanted) -> bool {
+    match (token, wanted) {
+        (Token::Symbol(found), Wanted::Symbol(symbol)) => *found == symbol,
+        (Token::Name(found), Wanted::Name) => found.as_slice() == source,
+        (Token::Number(found), Wanted::Number(value)) => *found == value,
+        (Token::Text(found), Wanted::Text(bytes)) => found.as_slice() == bytes,
+        (Token::Malformed, Wanted::Malformed) => true,
+        _ => false,
+    }
+}
+
+/// Whether the text's first token, behind no blank, is as wanted.
+fn begins_with(alloc: Global, source: &[u8], wanted: Wanted) -> bool {
+    if source.len() > SHORT {
+        return false;
+    }
+    match tokens(alloc, source) {
+        Ok(spots) => match spots.first() {
+            Some(spot) => spot.column == 1 && is_wanted(&spot.token, source, wanted),
+            None => false,
+        },
+        Err(_) => false,
+    }
+}
+
+#[test]
+fn each_token(rt: HostRuntime) {
+    let rows = [
+        (b"emit".as_slice(), Wanted::Symbol(Symbol::Emit)),
+        (b"peak".as_slice(), Wanted::Symbol(Symbol::Peak)),
+        (b"peaks".as_slice(), Wanted::Name),
+        (b"==".as_slice(), Wanted::Symbol(Symbol::Equal)),
+        (b"=".as_slice(), Wanted::Symbol(Symbol::Assign)),
+        (b"<=".as_slice(), Wanted::Symbol(Symbol::AtMost)),
+        (b"!".as_slice(), Wanted::Malformed),
+        (b"0".as_slice(), Wanted::Number(0)),
+        (b"01".as_slice(), Wanted::Malformed),
+        (
+            b"9223372036854775807".as_slice(),
+            Wanted::Number(9223372036854775807),
+        ),
+        (b"9223372036854775808".as_slice(), Wanted::Malformed),
+        (b"abcdefghijklmnopqrstuvwxyz_12345".as_slice(), Wanted::Name),
+        (
+            b"abcdefghijklmnopqrstuvwxyz_123456".as_slice(),
+            Wanted::Malformed,
+        ),
+        (
+            b"\"a\\\"\\\\\\n\\x00\\xff\xff\"".as_slice(),
+            Wanted::Text(b"a\"\\\n\x00\xff\xff".as_slice()),
+        ),
+        (b"\"\\q\"".as_slice(), Wanted::Malformed),
+        (b"\"\\x4\"".as_slice(), Wanted::Malformed),
+        (b"\"\\xAA\"".as_slice(), Wanted::Malformed),
+        (b"\"\x7f\"".as_slice(), Wanted::Malformed),
+        (b"\"a".as_slice(), Wanted::Malformed),
+    ];
+    for (source, wanted) in rows {
+        assert!(rt; begins_with(rt.alloc(), source, wanted));
+    }
+}
+
+fn is_body(alloc: Global, source: &[u8]) -> bool {
+    source.len() <= SHORT && read_body(alloc, source).is_ok()
+}
+
+fn is_refused(alloc: Global, source: &[u8]) -> bool {
+    source.len() <= SHORT && matches!(read_body(alloc, source), Err(ReadError::Refused))
+}
+
+#[test]
+fn bodies(rt: HostRuntime) {
+    let rows = [
+        b"emit 1;".as_slice(),
+        b"counter(\"x\").add(5); emit counter(\"x\").get();".as_slice(),
+        b"counter(\"x\").put(counter(\"y\").get());".as_slice(),
+        b"emit 1;emit 2;".as_slice(),
+        b"\temit\r1\r;\r".as_slice(),
+        b"emit counter(\"\\\"\\\\\\n\\x00\xff\x80\").get();".as_slice(),
+        b"emit 9223372036854775807;".as_slice(),
+    ];
+    for source in rows {
+        assert!(rt; is_body(rt.alloc(), source));
+    }
+}
+
+#[test]
+fn refused(rt: HostRuntime) {
+    let rows = [
+        b"".as_slice(),
+        b"  ".as_slice(),
+        b"emit 1".as_slice(),
+        b"emit 1; 2".as_slice(),
+        b"emit y;".as_slice(),
+        b"emit -1;".as_slice(),
+        b"emit 01;".as_slice(),
+        b"emit 9223372036854775808;".as_slice(),
+        b"emit\"a\";".as_slice(),
+        b"emit\n1;".as_slice(),
+        b"counter(\"x\").get();".as_slice(),
+        b"counter(\"x\").add();".as_slice(),
+        b"emit counter(\"x\").get(1);".as_slice(),
+        b"counter(\"\\q\").add(1);".as_slice(),
+        b"peak(\"x\").add(1);".as_slice(),
+    ];
+    for source in rows {
+        assert!(rt; is_refused(rt.alloc(), source));
+    }
+}
