@@ -5,7 +5,7 @@
 //! Read first `specs/Lexer` (the tokens of a text), `specs/Grammar` (the rules, in the order of the grammar, with the
 //! tables of `specs/Tokens`) and `specs/Parsed` (the body of a text, and the column where there is none). `laws` ties the
 //! grammar, a relation, to the function by which parsers are proved. The code here is what is below a parser: `tokens`,
-//! and the tables by which a token is asked what it is. `early` is the reader of the part that runs so far.
+//! and the tables by which a token is asked what it is.
 #![tactic(auto)]
 
 mod form;

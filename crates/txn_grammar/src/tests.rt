@@ -1,7 +1,5 @@
-//! Worked texts.
+//! Worked tokens. Bodies are read in the tests of `txn_parse`.
 
-use crate::early::read_body;
-use crate::error::ReadError;
 use crate::lexer::tokens;
 use crate::symbol::Symbol;
 use crate::token::Token;
@@ -79,53 +77,5 @@ fn each_token(rt: HostRuntime) {
     ];
     for (source, wanted) in rows {
         assert!(rt; begins_with(rt.alloc(), source, wanted));
-    }
-}
-
-fn is_body(alloc: Global, source: &[u8]) -> bool {
-    source.len() <= SHORT && read_body(alloc, source).is_ok()
-}
-
-fn is_refused(alloc: Global, source: &[u8]) -> bool {
-    source.len() <= SHORT && matches!(read_body(alloc, source), Err(ReadError::Refused))
-}
-
-#[test]
-fn bodies(rt: HostRuntime) {
-    let rows = [
-        b"emit 1;".as_slice(),
-        b"counter(\"x\").add(5); emit counter(\"x\").get();".as_slice(),
-        b"counter(\"x\").put(counter(\"y\").get());".as_slice(),
-        b"emit 1;emit 2;".as_slice(),
-        b"\temit\r1\r;\r".as_slice(),
-        b"emit counter(\"\\\"\\\\\\n\\x00\xff\x80\").get();".as_slice(),
-        b"emit 9223372036854775807;".as_slice(),
-    ];
-    for source in rows {
-        assert!(rt; is_body(rt.alloc(), source));
-    }
-}
-
-#[test]
-fn refused(rt: HostRuntime) {
-    let rows = [
-        b"".as_slice(),
-        b"  ".as_slice(),
-        b"emit 1".as_slice(),
-        b"emit 1; 2".as_slice(),
-        b"emit y;".as_slice(),
-        b"emit -1;".as_slice(),
-        b"emit 01;".as_slice(),
-        b"emit 9223372036854775808;".as_slice(),
-        b"emit\"a\";".as_slice(),
-        b"emit\n1;".as_slice(),
-        b"counter(\"x\").get();".as_slice(),
-        b"counter(\"x\").add();".as_slice(),
-        b"emit counter(\"x\").get(1);".as_slice(),
-        b"counter(\"\\q\").add(1);".as_slice(),
-        b"peak(\"x\").add(1);".as_slice(),
-    ];
-    for source in rows {
-        assert!(rt; is_refused(rt.alloc(), source));
     }
 }
