@@ -40,6 +40,7 @@ tree_there text body e = parsed_by (parsed (trimmed_end text)) e
     typed_by : (b : Body) (r : Judged Names) → if_typed b r ≡ Ok body → if_accepted b r ≡ Some body
     typed_by b (Ok names) h = let k : b ≡ body = cc in ap (λ x. Some x) k
     typed_by b (Err column) h = absurd (cc)
+
     parsed_by : (o : Option Body) → if_parsed text o ≡ Ok body → if_tree o ≡ Some body
     parsed_by (Some b) h = typed_by b (judge b) h
     parsed_by None h = absurd (cc)

@@ -40,12 +40,14 @@ one_more state snaps b snap are is a v e =
 -- a whole state agrees with some of its values on whatever was observed
 agree : (state : State) (snaps : List (Address × Snap)) → AreOf state snaps → (seen : List Seen) → Agree (values_of snaps) (known state) seen
 agree state snaps are [] = tt
-agree state snaps are (z ∷ seen) =
-    (record {
-      there = state z.address;
-      is = refl;
-      same = λ v e. let k = are z.address v e in (ap kind_of k, ap (observe z.obs) k);
-    }, agree state snaps are seen)
+agree state snaps are (z ∷ seen) = (
+  record {
+    there = state z.address;
+    is = refl;
+    same = λ v e. let k = are z.address v e in (ap kind_of k, ap (observe z.obs) k);
+  },
+  agree state snaps are seen,
+)
 
 -- so a run that is done on them is the run on the state
 pub done_on_state : (body : Body) (state : State) (snaps : List (Address × Snap)) (r : Run) → AreOf state snaps

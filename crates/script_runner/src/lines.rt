@@ -4,7 +4,8 @@ ghost use Rattle.std.specs.Prelude.{◌≡◌, ◌≤◌, length, OnOk, Some, No
 ghost use Rattle.dio_core.specs.Lines.{IsShort};
 ghost use Rattle.script_runner.specs.Play as spec;
 ghost use Rattle.script_runner.specs.Worlds.{Keeps};
-ghost use Rattle.script_runner.specs.Verbs.{asked as asked_in, IsWithin};
+ghost use Rattle.session_text.specs.Bodies.{IsWithin};
+ghost use Rattle.script_runner.specs.Verbs.{asked as asked_in};
 ghost use Rattle.script_runner.specs.Lines.{Answers};
 
 use crate::body::body_of;

@@ -38,12 +38,7 @@ impl World {
     }
 
     /// Adds the value at an address to those that a run may rest on.
-    fn snap(
-        &self,
-        alloc: Global,
-        snaps: &mut Snaps,
-        address: Address,
-    ) -> Result<(), AllocError>
+    fn snap(&self, alloc: Global, snaps: &mut Snaps, address: Address) -> Result<(), AllocError>
         requires keeps { Keeps self.now }
         requires values { AreOf (left_by self.now.journal) snaps.old }
         ensures { OnOk result (AreOf (left_by self.now.journal) snaps.new) }

@@ -2,3 +2,4 @@ pub mod LineFits
 pub mod ReplyFits
 pub mod Verbs
 pub mod PrintedBack
+pub mod Within

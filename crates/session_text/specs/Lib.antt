@@ -1,5 +1,6 @@
 pub mod Limits
 pub mod Lines
+pub mod Bodies
 pub mod Answers
 pub mod Printing
 pub mod Replies
