@@ -8,6 +8,8 @@ use dio_core::{NoDisk, NoListener, StdSink, StdSource};
 use std::alloc::AllocError;
 use std::io::ErrorKind;
 use std::process::ExitCode;
+use std::sync::Wait;
+use std::thread::Threads;
 use std::{env, io};
 
 /// The words behind the program's name.
@@ -19,8 +21,13 @@ fn words(rt: &HostRuntime) -> io::Result<Vec<String>> {
     Ok(words)
 }
 
-/// Runs the command that the words name over the process's streams, and answers its status.
-fn run(rt: &HostRuntime, words: &[String]) -> Result<u8, AllocError> {
+/// Runs the command that the words name over the process's streams, and answers its status. `threads` is the runtime
+/// too, as what starts threads and waits.
+fn run<R: Threads + Wait + Sync>(
+    rt: &HostRuntime,
+    threads: &R,
+    words: &[String],
+) -> Result<u8, AllocError> {
     let mut command = Vec::new(rt.alloc());
     for word in words {
         command.push(word.as_str())?;
@@ -28,7 +35,7 @@ fn run(rt: &HostRuntime, words: &[String]) -> Result<u8, AllocError> {
     let mut source = StdSource::new(rt.alloc(), rt.reader())?;
     let mut sink = StdSink::new(io::writer(rt));
     Ok(diamond(
-        rt,
+        threads,
         rt.alloc(),
         command.as_slice(),
         &mut source,
@@ -39,16 +46,16 @@ fn run(rt: &HostRuntime, words: &[String]) -> Result<u8, AllocError> {
 }
 
 /// The status of the whole: arguments that can't be read as texts are words that are not of the form.
-fn status(rt: &HostRuntime) -> u8 {
+fn status<R: Threads + Wait + Sync>(rt: &HostRuntime, threads: &R) -> u8 {
     match words(rt) {
-        Ok(words) => run(rt, words.as_slice()).unwrap_or(NO_MEMORY),
+        Ok(words) => run(rt, threads, words.as_slice()).unwrap_or(NO_MEMORY),
         Err(error) if error.kind() == ErrorKind::OutOfMemory => NO_MEMORY,
         Err(_) => BAD_WORDS,
     }
 }
 
 fn main(rt: HostRuntime) -> ExitCode {
-    let status = status(&rt);
+    let status = status(&rt, &rt);
     if status == BAD_WORDS {
         let _ = eprintln!(rt; "{USAGE}");
     }

@@ -14,6 +14,8 @@ pub use top::{BAD_WORDS, diamond};
 pub use words::USAGE;
 
 #[cfg(test)]
+mod language;
+#[cfg(test)]
 mod order;
 #[cfg(test)]
 mod tests;

@@ -101,7 +101,7 @@ fn each_line_is_answered_before_the_next_is_read(rt: HostRuntime) -> Result<(), 
     let noted = log.into_inner();
     assert_eq!(rt;
         noted.as_slice(),
-        b"0 fly\n0 refused unbuilt\n\n1 fly\n1 refused unbuilt\n0 fly0 refused unbuilt\n!".as_slice()
+        b"0 fly\n0 refused verb\n\n1 fly\n1 refused verb\n0 fly0 refused verb\n!".as_slice()
     );
     Ok(())
 }

@@ -16,7 +16,7 @@ const ROW_1: &[u8] = b"0 do counter(\"x\").add(5); emit counter(\"x\").get();\n"
 
 /// The pieces in which a script is read and its replies are written, and the calls that fail.
 #[derive(Clone, Copy)]
-struct Way {
+pub(crate) struct Way {
     read_piece: usize,
     read_fails: &'static [u64],
     write_piece: usize,
@@ -24,7 +24,7 @@ struct Way {
 }
 
 /// In pieces of this size, with no fault.
-fn in_pieces(piece: usize) -> Way
+pub(crate) fn in_pieces(piece: usize) -> Way
     ensures reads { result.read_piece ≡ piece }
     ensures writes { result.write_piece ≡ piece }
 {
@@ -37,7 +37,7 @@ fn in_pieces(piece: usize) -> Way
 }
 
 /// Runs a script, and asserts how it ends and what it has written.
-fn expect(
+pub(crate) fn expect(
     rt: &(impl Abort + Threads + Wait + Sync),
     alloc: Global,
     way: &Way,
@@ -80,10 +80,10 @@ fn scripts_are_answered(rt: HostRuntime) -> Result<(), Fail> {
             b"x\n00 do emit 1;\n64 # a\n",
             b"- refused client\n- refused client\n- refused client\n",
         ),
-        (b"0 fly\n", b"0 refused unbuilt\n"),
+        (b"0 fly\n", b"0 refused verb\n"),
         (
             b"63 do emit y;\n0 do\n",
-            b"63 refused unbuilt\n0 refused unbuilt\n",
+            b"63 refused type 6\n0 refused syntax 1\n",
         ),
         (
             b"0 do counter(\"x\").add(5); emit counter(\"x\").get();\n0 do counter(\"x\").put(7); emit counter(\"x\").get();",
@@ -103,7 +103,7 @@ fn scripts_are_answered(rt: HostRuntime) -> Result<(), Fail> {
         ),
         (
             b" \t0   do   emit 1;emit 2; \t\r\n0 do emit 01;\n0 do emit 1\n",
-            b"0 commit 1 ok 1 2\n0 refused unbuilt\n0 refused unbuilt\n",
+            b"0 commit 1 ok 1 2\n0 refused syntax 6\n0 refused syntax 7\n",
         ),
     ];
     for (script, output) in rows {
@@ -245,7 +245,7 @@ fn a_full_journal_takes_no_more(rt: HostRuntime) -> Result<(), Fail> {
     assert_eq!(rt; status, 0);
     assert_eq!(rt;
         sink.taken(),
-        b"0 commit 1 ok\n1 full 1\n1 refused unbuilt\n".as_slice()
+        b"0 commit 1 ok\n1 full 1\n1 refused verb\n".as_slice()
     );
     Ok(())
 }

@@ -5,10 +5,11 @@ use Rattle.predictive_parsing.specs.Reading.{next, pure, either, of}
 use Rattle.predictive_parsing.specs.Rules.{Rule, Then, Pure, Or, Many, ListOf, Word, SpelledBy, Of, Behind}
 use Rattle.predictive_parsing.specs.Fits.{Fits, any, unless}
 use Rattle.predictive_parsing.specs.Bytes.{IsByte, Byte, sees, word}
+use Rattle.predictive_parsing.specs.Choices.{are_bytes}
 use Rattle.predictive_parsing.proofs.Basic.{both, not_true}
 use Rattle.predictive_parsing.proofs.Combined.{fits_as, guided_fits, spelled_to, spelled_from, pure_fits, onwards, followed, either_fits, seen, narrowed}
 use Rattle.predictive_parsing.proofs.Lists.{many_fits, list_fits}
-use Rattle.predictive_parsing.proofs.Words.{are_bytes, byte_fits, byte_next, byte_begins, behind_fits, named_fits}
+use Rattle.predictive_parsing.proofs.Words.{byte_fits, byte_next, byte_begins, behind_fits, named_fits}
 use Rattle.plain_data.specs.Texts.{Bytes}
 use Rattle.rdt_types.specs.declared.address.Kind.{Kind}
 use Rattle.rdt_types.specs.declared.address.Kind.TheVariants as kinds

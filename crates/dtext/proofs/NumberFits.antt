@@ -288,7 +288,7 @@ number_from ts us (negsuc n) r = inl (record {
 })
 
 -- a number without a sign begins with a digit
-digit_first : (ts us : Bytes) (n : ℕ) → ts ≡ decimal n ++ us → n < 2 ^ 64 → (b : ℕ) × (rest : Bytes) × (ts ≡ b ∷ rest) × (48 ≤ b) × (b ≤ 57)
+pub digit_first : (ts us : Bytes) (n : ℕ) → ts ≡ decimal n ++ us → n < 2 ^ 64 → (b : ℕ) × (rest : Bytes) × (ts ≡ b ∷ rest) × (48 ≤ b) × (b ≤ 57)
 digit_first ts us zero e l = (48, us, e ∙ ap (λ xs. xs ++ us) decimal_zero, omega arith, omega arith)
 digit_first ts us (suc n) e l =
     let x = decimal_parts (suc n) (omega arith) l in

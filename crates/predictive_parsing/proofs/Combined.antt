@@ -1,12 +1,13 @@
 -- A reader fits its rule where its parts do: one lemma for each way to put readers together.
-use Rattle.std.proofs.Common.{◌≡◌, Bool, true, false, not, List, [], ◌∷◌, ◌++◌, length, take, drop, Option, Some, None, Ok, Err, refl, ap, sym, ◌∙◌, subst, cond, inl, inr}
-use Rattle.std.proofs.lemmas.List.Elements.{All-nil, All-append, All-cons}
+use Rattle.std.proofs.Common.{◌≡◌, Bool, true, false, not, List, [], ◌∷◌, ◌++◌, length, take, drop, min, ℕ, ◌≤◌, ◌⊎◌, arith, Option, Some, None, Ok, Err, refl, ap, sym, ◌∙◌, subst, cond, inl, inr}
+use Rattle.std.proofs.lemmas.List.Elements.{All-nil, All-append, All-cons, All-take}
 use Rattle.std.specs.List.{prefix_len, AllPass}
-use Rattle.std.proofs.lemmas.List.{take-append-drop}
+use Rattle.std.proofs.lemmas.List.{take-append-drop, length-take-le}
+use Rattle.std.proofs.lemmas.List.Sums.{prefix_len-le-length}
 use Rattle.std.proofs.Math.Seq.{take-append_seam, drop-append_seam}
-use Rattle.predictive_parsing.specs.Reading.{Reader, next, is_made, begins, ahead, and_then, pure, one, on_made, either, optional, guided, run}
-use Rattle.predictive_parsing.specs.Rules.{Rule, One, Then, Pure, Or, Optional, Of, Word, SpelledBy, Run}
-use Rattle.predictive_parsing.proofs.Prefixes.{prefix_len-front, prefix-passes, prefix-stops}
+use Rattle.predictive_parsing.specs.Reading.{Reader, next, is_made, begins, ahead, passing, and_then, pure, one, on_made, either, optional, guided, run, run_up_to}
+use Rattle.predictive_parsing.specs.Rules.{Rule, One, Then, Pure, Or, Optional, Of, Word, SpelledBy, Run, RunUpTo}
+use Rattle.predictive_parsing.proofs.Prefixes.{prefix_len-front, prefix_len-least, prefix-passes, prefix-stops, le_or, take-shorter}
 use Rattle.predictive_parsing.specs.Fits.{Fits, Taken, Stuck, Completes, any, unless}
 use Rattle.predictive_parsing.proofs.Basic.{next_kept, assoc, cut_twice, ok_pair, err_same, both, not_true, bind_ok, bind_err, taken_as, stuck_as, completes_as}
 
@@ -300,6 +301,20 @@ module _ {I : Type 0} (Possible : I → Type 0) where
       some = completes_as (q example) (q example) (Q example) SomeOf (λ xs ys c r. (example, r)) Possible [] (fq example).some;
     }
 
+  -- ---- items that pass a test
+
+  -- an item that is taken as it passes does pass
+  pub passing_is : (test : I → Bool) (item a : I) → passing test item ≡ Some a → test item ≡ true
+  passing_is test item a e = by_test (test item) e
+    where
+      by_test : (t : Bool) → cond t (Some item) None ≡ Some a → t ≡ true
+      by_test true h = refl
+      by_test false h = absurd (cc)
+
+  -- so one is ahead
+  pub passing_ahead : (test : I → Bool) (ts us : List I) (a : I) → One (passing test) ts a us → ahead test (next ts) ≡ true
+  passing_ahead test ts us a r = ap (λ xs. ahead test (next xs)) r.first ∙ passing_is test r.item a r.made
+
   -- ---- as many items as pass a test
 
   module _ (passes : I → Bool) where
@@ -340,3 +355,60 @@ module _ {I : Type 0} (Possible : I → Type 0) where
       refuses = λ ts us e. absurd (run_reads_all ts us e);
       some = record { rest = []; value = []; possible = All-nil Possible; derives = λ vs. record { cut = refl; pass = All-nil (λ x. passes x ≡ true) } };
     }
+
+    -- ---- up to a limit
+
+    module _ (limit : ℕ) where
+      -- what is read is such a front, and there was no room for more or there is no more
+      up_to_front : (ts us front : List I) → run_up_to limit passes ts ≡ Ok (front, us) → RunUpTo limit passes ts front us × ((length front ≡ limit) ⊎ (ahead passes (next us) ≡ false))
+      unfolding run_up_to
+      up_to_front ts us front e =
+          let n = prefix_len passes ts in
+          let m = min limit n in
+          let k = ok_pair (take m ts) front (drop m ts) us e in
+          let cut : ts ≡ front ++ us = sym (take-append-drop m ts) ∙ ap (λ xs. xs ++ drop m ts) k.0 ∙ ap (λ xs. front ++ xs) k.1 in
+          let l = prefix_len-le-length passes ts in
+          let same : length front ≡ m = ap length (sym k.0) ∙ length-take-le m ts (omega (arith, l)) in
+          let pass : AllPass passes front = subst (λ xs. AllPass passes xs) k.0 (subst (λ xs. AllPass passes xs) (take-shorter m n ts (omega arith)) (All-take (λ x. passes x ≡ true) m (take n ts) (prefix-passes passes ts))) in (
+            record { cut = cut; pass = pass; within = omega arith },
+            elim (le_or limit n) [
+              | inl h ↦ inl (omega arith)
+              | inr h ↦ inr (let e : m ≡ n = omega arith in ap (λ xs. ahead passes (next xs)) (sym k.1 ∙ ap (λ i. drop i ts) e) ∙ prefix-stops passes ts)
+            ],
+          )
+
+      -- such a front is read
+      up_to_reads : (front us : List I) → AllPass passes front → length front ≤ limit → (length front ≡ limit) ⊎ (ahead passes (next us) ≡ false) → run_up_to limit passes (front ++ us) ≡ Ok (front, us)
+      unfolding run_up_to
+      up_to_reads front us all l stop =
+          let k : min limit (prefix_len passes (front ++ us)) ≡ length front = min_is stop in
+          ap (λ n. Ok (take n (front ++ us), drop n (front ++ us))) k
+          ∙ ap (λ xs. Ok (xs, drop (length front) (front ++ us))) (take-append_seam front us) ∙ ap (λ xs. Ok (front, xs)) (drop-append_seam front us)
+        where
+          min_is : (length front ≡ limit) ⊎ (ahead passes (next us) ≡ false) → min limit (prefix_len passes (front ++ us)) ≡ length front
+          min_is (inl e) = let m = prefix_len-least passes front us all in omega arith
+          min_is (inr e) = let m = prefix_len-front passes front us all e in omega arith
+
+      up_to_takes : (ts us front : List I) → run_up_to limit passes ts ≡ Ok (front, us) → Taken (run_up_to limit passes) (RunUpTo limit passes) ts front us
+      up_to_takes ts us front e =
+          let k = up_to_front ts us front e in
+          record {
+            front = front;
+            cut = k.0.cut;
+            derives = λ vs. record { cut = refl; pass = k.0.pass; within = k.0.within };
+            again = λ vs h. up_to_reads front vs k.0.pass k.0.within (elim k.1 [ inl l ↦ inl l | inr n ↦ inr (ap (ahead passes) h ∙ n) ]);
+          }
+
+      -- a run is never refused
+      up_to_reads_all : (ts us : List I) → run_up_to limit passes ts ≡ Err us → ⊥
+      unfolding run_up_to
+      up_to_reads_all ts us e = cc
+
+      -- As many as there are up to the limit: what follows doesn't pass.
+      pub run_up_to_fits : Fits Possible (run_up_to limit passes) (RunUpTo limit passes) (unless (ahead passes) any)
+      run_up_to_fits = record {
+        takes = up_to_takes;
+        reads = λ ts us front r h. ap (run_up_to limit passes) r.cut ∙ up_to_reads front us r.pass r.within (inr (not_true (ahead passes (next us)) h));
+        refuses = λ ts us e. absurd (up_to_reads_all ts us e);
+        some = record { rest = []; value = []; possible = All-nil Possible; derives = λ vs. record { cut = refl; pass = All-nil (λ x. passes x ≡ true); within = omega arith } };
+      }

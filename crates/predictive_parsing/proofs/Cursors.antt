@@ -1,9 +1,9 @@
 -- One item, taken or refused.
-use Rattle.std.proofs.Common.{◌≡◌, ◌<◌, ◌≤◌, ◌+◌, ℕ, List, [], ◌∷◌, take, drop, get_or, length, Bool, false, Option, Some, None, Result, Ok, Err, IfOk, refl, ap, sym, ◌∙◌, arith}
+use Rattle.std.proofs.Common.{◌≡◌, ◌<◌, ◌≤◌, ◌+◌, ℕ, List, [], ◌∷◌, take, drop, min, get_or, length, Bool, false, Option, Some, None, Result, Ok, Err, IfOk, refl, ap, sym, ◌∙◌, arith}
 use Rattle.std.specs.List.{prefix_len}
 use Rattle.std.proofs.lemmas.List.{drop_more, drop_all}
 use Rattle.plain_data.specs.Texts.{Bytes}
-use Rattle.predictive_parsing.specs.Reading.{Outcome, next, is_made, begins, ahead, run, one, on_made, and_then}
+use Rattle.predictive_parsing.specs.Reading.{Outcome, next, is_made, begins, ahead, run, run_up_to, one, on_made, and_then}
 use Rattle.predictive_parsing.specs.Bytes.{byte, word}
 use Rattle.predictive_parsing.specs.Reads.{Reads, made_of}
 use Rattle.plain_data.specs.declared.or_no_memory.OrNoMemory.{OrNoMemory}
@@ -77,6 +77,13 @@ pub run_is : {I : Type 0} (passes : I → Bool) (ts front us : List I) (n : ℕ)
 unfolding run
 run_is passes ts front us n e f b =
     ap (λ m. Ok (take m ts, drop m ts)) (sym e) ∙ ap (λ xs. Ok (xs, drop n ts)) (sym f) ∙ ap (λ xs. Ok (front, xs)) (sym b)
+
+-- the same, up to a limit
+pub run_up_to_is : {I : Type 0} (limit : ℕ) (passes : I → Bool) (ts front us : List I) (m n : ℕ) → m ≡ prefix_len passes ts → n ≡ min limit m → front ≡ take n ts → us ≡ drop n ts → run_up_to limit passes ts ≡ Ok (front, us)
+unfolding run_up_to
+run_up_to_is limit passes ts front us m n e l f b =
+    let k : min limit (prefix_len passes ts) ≡ n = ap (min limit) (sym e) ∙ sym l in
+    ap (λ i. Ok (take i ts, drop i ts)) k ∙ ap (λ xs. Ok (xs, drop n ts)) (sym f) ∙ ap (λ xs. Ok (front, xs)) (sym b)
 
 -- ---- the loop over a word's bytes
 

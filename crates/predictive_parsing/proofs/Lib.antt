@@ -3,6 +3,7 @@ pub mod Combined
 pub mod Lists
 pub mod Words
 pub mod Wholes
+pub mod Choices
 pub mod Columns
 pub mod Cursors
 pub mod Prefixes

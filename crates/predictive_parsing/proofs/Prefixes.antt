@@ -1,5 +1,6 @@
 -- How many items at the front pass a test, item by item.
-use Rattle.std.proofs.Common.{◌≡◌, ◌+◌, ◌<◌, ◌≤◌, ℕ, suc, Bool, true, false, cond, List, [], ◌∷◌, ◌++◌, length, take, drop, get_or, refl, ap, sym, ◌∙◌, subst, inl, inr, arith}
+use Rattle.std.proofs.Common.{◌≡◌, ◌+◌, ◌<◌, ◌≤◌, ◌⊎◌, ℕ, zero, suc, nat_le, Bool, true, false, cond, List, [], ◌∷◌, ◌++◌, length, take, drop, get_or, refl, ap, sym, ◌∙◌, subst, inl, inr, arith}
+use Rattle.std.proofs.lemmas.Bool.Decides.{nat_tests}
 use Rattle.std.specs.List.{prefix_len, AllPass}
 use Rattle.std.proofs.lemmas.List.Elements.{All-nil, All-head, All-tail, All-cons}
 use Rattle.predictive_parsing.specs.Reading.{next, ahead}
@@ -62,3 +63,25 @@ prefix-stops passes (item ∷ ts) = elim (bool_cases (passes item)) [
       ap (λ n. ahead passes (next (drop n (item ∷ ts)))) k ∙ prefix-stops passes ts
   | inr e ↦ ap (λ n. ahead passes (next (drop n (item ∷ ts)))) (prefix_len-none passes (item ∷ ts) e) ∙ e
 ]
+
+-- items that pass are a part of the prefix at least
+pub prefix_len-least : {I : Type 0} (passes : I → Bool) (front us : List I) → AllPass passes front → length front ≤ prefix_len passes (front ++ us)
+prefix_len-least passes [] us all = omega arith
+prefix_len-least passes (item ∷ front) us all =
+    let k = prefix_len-least passes front us (All-tail (λ x. passes x ≡ true) item front all) in
+    omega (arith, prefix_len-more passes item (front ++ us) (All-head (λ x. passes x ≡ true) item front all))
+
+-- of two numbers one is at most the other
+pub le_or : (m n : ℕ) → (m ≤ n) ⊎ (n ≤ m)
+le_or m n = by_test (nat_le m n) refl
+  where
+    by_test : (t : Bool) → nat_le m n ≡ t → (m ≤ n) ⊎ (n ≤ m)
+    by_test true e = inl (grind (arith, nat_tests, e))
+    by_test false e = inr (grind (arith, nat_tests, e))
+
+-- the front of a front
+pub take-shorter : {I : Type 0} (m n : ℕ) (ts : List I) → m ≤ n → take m (take n ts) ≡ take m ts
+take-shorter zero n ts l = refl
+take-shorter (suc m) zero ts l = absurd (omega arith)
+take-shorter (suc m) (suc n) [] l = refl
+take-shorter (suc m) (suc n) (item ∷ ts) l = ap (λ xs. item ∷ xs) (take-shorter m n ts (omega arith))

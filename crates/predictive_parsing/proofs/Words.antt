@@ -6,6 +6,7 @@ use Rattle.predictive_parsing.specs.Reading.{Reader, next, of}
 use Rattle.predictive_parsing.specs.Rules.{Rule, Then, Of, Word, Behind}
 use Rattle.predictive_parsing.specs.Fits.{Fits, any}
 use Rattle.predictive_parsing.specs.Bytes.{IsByte, exactly, Byte, byte, sees, word, behind}
+use Rattle.predictive_parsing.specs.Choices.{are_bytes}
 use Rattle.predictive_parsing.proofs.Basic.{both}
 use Rattle.predictive_parsing.proofs.Combined.{fits_as, pure_fits, one_fits, onwards, seen}
 
@@ -50,11 +51,6 @@ word_whole b w ts us a r = byte_taken b ts r.middle r.value r.first ∙ ap (λ x
 -- and a word is its first byte and the rest
 word_parts : (b : ℕ) (w : Bytes) (ts us : Bytes) (a : Unit {0}) → Word (b ∷ w) ts a us → Then (Byte b) (λ _. Word w) ts a us
 word_parts b w ts us a r = record { value = tt; middle = w ++ us; first = record { item = b; first = r; made = exactly_made b }; second = refl }
-
--- whether a word is made of bytes
-abbrev pub are_bytes : Bytes → Bool
-are_bytes [] = true
-are_bytes (b ∷ w) = nat_lt b 256 && are_bytes w
 
 -- a byte is below 256
 below : (b : ℕ) → nat_lt b 256 ≡ true → b < 256

@@ -5,5 +5,6 @@ pub mod Stops
 pub mod Examples
 pub mod Columns
 pub mod Bytes
+pub mod Choices
 pub mod Reads
 pub mod Digits

@@ -1,6 +1,6 @@
 -- Readers: functions that read the front of a list of items and look one item ahead. They are written as rules are, and
 -- each choice names the items with which its first part begins.
-use Rattle.std.specs.Prelude.{ℕ, zero, suc, Bool, true, false, if◌then◌else◌, List, [], ◌∷◌, length, take, drop, Option, Some, None, Result, Ok, Err}
+use Rattle.std.specs.Prelude.{ℕ, zero, suc, Bool, true, false, if◌then◌else◌, List, [], ◌∷◌, length, take, drop, min, Option, Some, None, Result, Ok, Err}
 use Rattle.std.specs.List.{prefix_len}
 
 -- a value and the items behind it, or the items from the first one on that does not fit
@@ -43,6 +43,10 @@ begins f (Some item) = is_made (f item)
 abbrev pub ahead : {I : Type 0} → (I → Bool) → Option I → Bool
 ahead test None = false
 ahead test (Some item) = test item
+
+-- the item, where it passes the test
+abbrev pub passing : {I : Type 0} → (I → Bool) → I → Option I
+passing test item = if test item then Some item else None
 
 abbrev pub on_made : {I A : Type 0} → I → Option A → List I → Outcome I A
 on_made item (Some a) ts = Ok (a, ts)
@@ -93,6 +97,10 @@ guided guess q = λ ts. q (guess (next ts)) ts
 -- the items at the front that pass a test, as many as there are
 unfoldable pub run : {I : Type 0} → (I → Bool) → Reader I (List I)
 run passes ts = Ok (take (prefix_len passes ts) ts, drop (prefix_len passes ts) ts)
+
+-- the same, up to a limit
+unfoldable pub run_up_to : {I : Type 0} → ℕ → (I → Bool) → Reader I (List I)
+run_up_to limit passes ts = Ok (take (min limit (prefix_len passes ts)) ts, drop (min limit (prefix_len passes ts)) ts)
 
 abbrev pub whole_of : {I A : Type 0} → Outcome I A → Result A (List I)
 whole_of (Ok (a, [])) = Ok a

@@ -1,6 +1,6 @@
 -- What stands at the front of a list of items, as relations: nothing here chooses, looks ahead or counts. A rule is
 -- written in the notation of `do`, in the order of the grammar.
-use Rattle.std.specs.Prelude.{◌≡◌, ◌⊎◌, Bool, List, [], ◌∷◌, ◌++◌, Option, Some, None}
+use Rattle.std.specs.Prelude.{◌≡◌, ◌⊎◌, ℕ, ◌≤◌, length, Bool, List, [], ◌∷◌, ◌++◌, Option, Some, None}
 use Rattle.std.specs.List.{AllPass}
 
 -- A rule: `P ts a us` says that the items ts are those of the value a, and then us.
@@ -73,6 +73,12 @@ Behind word P = do
 pub record Run {I : Type 0} (passes : I → Bool) (ts run us : List I) : Type 0 where
   pub cut : ts ≡ run ++ us
   pub pass : AllPass passes run
+
+-- at most so many items that pass a test
+pub record RunUpTo {I : Type 0} (limit : ℕ) (passes : I → Bool) (ts run us : List I) : Type 0 where
+  pub cut : ts ≡ run ++ us
+  pub pass : AllPass passes run
+  pub within : length run ≤ limit
 
 -- all the items are those of the value
 abbrev pub Whole : {I A : Type 0} → Rule I A → List I → A → Type 0

@@ -3,7 +3,7 @@
 ghost use Rattle.std.specs.Prelude.{◌≡◌, Option, Bool, Ok, drop, length};
 ghost use Rattle.std.specs.Option.{option_copied};
 ghost use Rattle.std.specs.Fn.{FnOnceReturnsAt, FnReturnsAt};
-ghost use Rattle.predictive_parsing.specs.Reading.{next, ahead, one, run};
+ghost use Rattle.predictive_parsing.specs.Reading.{next, ahead, one, run, run_up_to};
 ghost use Rattle.predictive_parsing.specs.Reads.{Reads, Computes};
 
 use crate::prefix::prefix_len;
@@ -39,6 +39,13 @@ impl<'a, I> Cursor<'a, I> {
         ensures { result ≡ length self.now }
     {
         self.rest.len()
+    }
+
+    /// The items left, as a slice.
+    pub fn as_slice(&self) -> &'a [I]
+        ensures { result.now ≡ self.now }
+    {
+        self.rest
     }
 
     /// The item ahead.
@@ -81,6 +88,16 @@ impl<'a, I> Cursor<'a, I> {
         };
         self.rest = behind;
         Ok(made)
+    }
+
+    /// Takes the items at the front that pass the test, as many as there are up to a limit.
+    pub fn run_up_to<F: Fn(&I) -> bool>(&mut self, limit: usize, test: F) -> &'a [I]
+        requires { F.IsAlwaysCallable test }
+        ensures { (passes : I → Bool) → Computes (FnReturnsAt F.Fn test) passes → run_up_to limit passes self.old ≡ Ok (result.now, self.new) }
+    {
+        let (run, behind) = self.rest.split_at(limit.min(prefix_len(self.rest, test)));
+        self.rest = behind;
+        run
     }
 
     /// Takes the items at the front that pass the test, as many as there are.

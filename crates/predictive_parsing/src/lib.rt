@@ -10,11 +10,13 @@
 #![tactic(auto)]
 
 mod bytes;
+mod choice;
 mod cursor;
 mod many;
 mod prefix;
 mod refused;
 
+pub use choice::Spelled;
 pub use cursor::Cursor;
 pub use many::{Reading, read_many};
 pub use prefix::prefix_len;

@@ -6,7 +6,7 @@ ghost use Rattle.predictive_parsing.specs.Digits as spec;
 ghost use Rattle.predictive_parsing.specs.Reading.{one};
 ghost use Rattle.predictive_parsing.specs.Reads.{Reads};
 
-use crate::{Cursor, Reading, Refused, prefix_len, read_many};
+use crate::{Cursor, Reading, Refused, Spelled, prefix_len, read_many};
 use plain_data::OrNoMemory;
 use std::alloc::Global;
 use std::test::Fail;
@@ -74,4 +74,35 @@ fn words_and_runs(rt: HostRuntime) -> Result<(), Fail> {
 fn prefixes(rt: HostRuntime) {
     assert_eq!(rt; prefix_len(&[1, 2, 9, 3], |item| *item < 5), 2);
     assert_eq!(rt; prefix_len(&[1, 2], |item| *item < 5), 2);
+}
+
+/// Two words that begin alike.
+impl Spelled for bool {
+    ghost use Rattle.predictive_parsing.specs.Choices.{alike};
+
+    ghost spelled = { alike };
+
+    fn bytes(self) -> &'static [u8] {
+        if self {
+            b"see".as_slice()
+        } else {
+            b"set".as_slice()
+        }
+    }
+}
+
+#[test]
+fn one_of_two_words(rt: HostRuntime) {
+    let mut cursor = Cursor::new(b"setting".as_slice());
+    assert_eq!(rt; cursor.one_of(true, &[false]), Ok(false));
+    assert!(rt; cursor.run_up_to(2, |byte| *byte == b't') == b"t".as_slice());
+    assert!(rt; cursor.run_up_to(2, |byte| *byte != b't') == b"in".as_slice());
+    assert!(rt; cursor.as_slice() == b"g".as_slice());
+}
+
+#[test]
+fn other_words_are_refused_where_they_differ(rt: HostRuntime) {
+    let mut cursor = Cursor::new(b"sew".as_slice());
+    assert!(rt; cursor.one_of(true, &[false]).is_err());
+    assert!(rt; cursor.as_slice() == b"w".as_slice());
 }

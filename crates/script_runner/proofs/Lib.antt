@@ -1,4 +1,6 @@
-pub mod Overlays
+pub mod Verbs
+pub mod Bodies
+pub mod Snaps
 pub mod Trims
 pub mod Writes
 pub mod Turns

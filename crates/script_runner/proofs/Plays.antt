@@ -17,7 +17,7 @@ use Rattle.script_runner.specs.declared.stop.Cause.{Cause}
 use Rattle.script_runner.specs.declared.stop.Cause.TheVariants as cause
 use Rattle.script_runner.specs.declared.stop.TheConstants.{MOST_LINES}
 use Rattle.script_runner.specs.Play.{ScriptWorld, Played, played, nothing_played, one_more, reply_to, world_of}
-use Rattle.script_runner.specs.Script.{IsPlayed, IsBrokenOff, HasTooManyLines, IsCutOff, but_last}
+use Rattle.script_runner.specs.Script.{IsPlayed, IsBrokenOff, HasTooManyLines, IsCutOff, IsCutOffBehindLine, but_last}
 use Rattle.script_runner.specs.code.Turns.{Moment, DoesLine, BeginsLine, Turns, StopsReading, HasPlayed, Plays, Ran}
 
 -- one more line, played after the others
@@ -179,10 +179,12 @@ module _ (settings : Settings) where
   -- a turn that stopped
   pub plays-stopped : (n : ℕ) (start now then : Moment) → n < MOST_LINES → Plays settings n start now → (e : OrNoMemory Cause)
       → Turns settings (Err e) now then → Ran settings (Err e) start then
+  unfolding cut_begun
   plays-stopped n start now then few past (stop.Cause cause.ReadFault) turn =
       stopped_reading n start now then (omega arith) past turn.1 (stop.Cause cause.ReadFault) turn.0
   plays-stopped n start now then few past (stop.Cause cause.WriteFault) turn =
-      WhereTold-then start.left now.left then.left (λ all mid rest. cut_begun n start now then all mid rest few) past turn
+      WhereTold-then start.left now.left then.left
+      (λ all mid rest played line. (cut_begun n start now then all mid rest few played line, refl)) past turn
   plays-stopped n start now then few past (stop.Cause cause.TooManyLines) turn = absurd turn
   plays-stopped n start now then few past stop.NoMemory (inl off) = stopped_reading n start now then
       (omega arith) past off.1 stop.NoMemory off.0
@@ -221,9 +223,9 @@ module _ (settings : Settings) where
 
 -- a run whose flush failed at the end is cut off behind the last line
 pub cut_whole : (settings : Settings) (taken taken_then : Option Text) (all rest : Text) → IsPlayed settings taken taken_then all rest
-    → IsCutOff settings taken taken_then all rest
+    → IsCutOffBehindLine settings taken taken_then all rest
 cut_whole settings taken taken_then all rest is =
-    let out = (played settings (lines all)).output in record {
+    let out = (played settings (lines all)).output in (record {
       raws = lines all;
       behind = [];
       read = sym (append-nil (lines all));
@@ -233,4 +235,4 @@ cut_whole settings taken taken_then all rest is =
       within = omega arith;
       answered = output-take settings (length (lines all) - 1) (lines all);
       output = is.output ∙ ap (with_more taken) (sym (take_all (length out) out (omega arith)));
-    }
+    }, is.whole)

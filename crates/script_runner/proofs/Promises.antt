@@ -9,7 +9,7 @@ use Rattle.rdt_types.specs.declared.settings.Settings.{Settings}
 use Rattle.txn_grammar.specs.Characters.{Text}
 use Rattle.script_runner.specs.declared.status.TheConstants.{WHOLE, READ_FAULT, WRITE_FAULT, NO_MEMORY, TOO_MANY_LINES}
 use Rattle.script_runner.specs.declared.stop.TheConstants.{MOST_LINES}
-use Rattle.script_runner.specs.Script.{Reading, Writing, IsPlayed, IsBrokenOff, HasTooManyLines, IsCutOff, TriesFlush, KeepsPromises}
+use Rattle.script_runner.specs.Script.{Reading, Writing, IsPlayed, IsBrokenOff, HasTooManyLines, IsCutOff, IsCutOffBehindLine, TriesFlush, KeepsPromises}
 use Rattle.script_runner.proofs.Plays.{cut_whole}
 use Rattle.script_runner.proofs.Legality.{played_is_legal}
 
@@ -41,7 +41,8 @@ module _ (settings : Settings) (r : Reading) (w : Writing) where
     legal = played_is_legal settings r.left;
     broken_off = λ is. absurd (omega (arith, is));
     too_many = λ is. absurd (omega (arith, is));
-    cut_off = λ is. absurd (elim is [ inl e ↦ omega (arith, e) | inr e ↦ omega (arith, e) ]);
+    unwritten = λ is. absurd (omega (arith, is));
+    wanting = λ is. absurd (omega (arith, is));
     reads = reads;
     write_fault = λ is. absurd (omega (arith, is));
     no_write_fault = λ _. writes;
@@ -50,7 +51,7 @@ module _ (settings : Settings) (r : Reading) (w : Writing) where
   }
 
   -- a write failed, or the flush at the end
-  pub promises-write_fault : WhereTold (IsCutOff settings w.taken w.taken_then) r.left r.left_then
+  pub promises-write_fault : WhereTold (IsCutOffBehindLine settings w.taken w.taken_then) r.left r.left_then
       → r.faults_then ≡ r.faults → Rose w.faults w.faults_then → KeepsPromises settings WRITE_FAULT r w
   promises-write_fault cut reads rose = record {
     statuses = refl;
@@ -59,7 +60,8 @@ module _ (settings : Settings) (r : Reading) (w : Writing) where
     legal = played_is_legal settings r.left;
     broken_off = λ is. absurd (omega (arith, is));
     too_many = λ is. absurd (omega (arith, is));
-    cut_off = λ _. cut;
+    unwritten = λ _. cut;
+    wanting = λ is. absurd (omega (arith, is));
     reads = reads;
     write_fault = λ _. rose;
     no_write_fault = λ is. absurd (elim is [ inl e ↦ omega (arith, e) | inr e ↦ omega (arith, e) ]);
@@ -82,7 +84,8 @@ module _ (settings : Settings) (r : Reading) (w : Writing) where
     legal = played_is_legal settings r.left;
     broken_off = λ is. absurd (omega (arith, is));
     too_many = λ is. absurd (omega (arith, is));
-    cut_off = λ _. cut;
+    unwritten = λ is. absurd (omega (arith, is));
+    wanting = λ _. cut;
     reads = reads;
     write_fault = λ is. absurd (omega (arith, is));
     no_write_fault = λ _. writes;
@@ -100,7 +103,8 @@ module _ (settings : Settings) (r : Reading) (w : Writing) where
     legal = played_is_legal settings r.left;
     broken_off = λ _. off;
     too_many = λ is. absurd (omega (arith, is));
-    cut_off = λ is. absurd (elim is [ inl e ↦ omega (arith, e) | inr e ↦ omega (arith, e) ]);
+    unwritten = λ is. absurd (omega (arith, is));
+    wanting = λ is. absurd (omega (arith, is));
     reads = rose;
     write_fault = λ is. absurd (omega (arith, is));
     no_write_fault = λ is. absurd (elim is [ inl e ↦ omega (arith, e) | inr e ↦ omega (arith, e) ]);
@@ -118,7 +122,8 @@ module _ (settings : Settings) (r : Reading) (w : Writing) where
     legal = played_is_legal settings r.left;
     broken_off = λ is. absurd (omega (arith, is));
     too_many = λ _. many;
-    cut_off = λ is. absurd (elim is [ inl e ↦ omega (arith, e) | inr e ↦ omega (arith, e) ]);
+    unwritten = λ is. absurd (omega (arith, is));
+    wanting = λ is. absurd (omega (arith, is));
     reads = reads;
     write_fault = λ is. absurd (omega (arith, is));
     no_write_fault = λ is. absurd (elim is [ inl e ↦ omega (arith, e) | inr e ↦ omega (arith, e) ]);

@@ -1,8 +1,9 @@
 pub mod Values
 pub mod Seqs
 pub mod Worlds
-pub mod Overlay
 pub mod Words
+pub mod Verbs
+pub mod Snaps
 pub mod Play
 pub mod Lines
 pub mod Script

@@ -1,84 +1,150 @@
 -- What a script does: the journal that its lines make, and the bytes that answer them.
-use Rattle.std.specs.Prelude.{ℕ, ◌+◌, nat_le, if◌then◌else◌, List, [], ◌∷◌, ◌++◌, fold, length, Option, Some, None, codes}
-use Rattle.std.specs.Str.{bytes_eq}
+--
+-- Each line is tested in this order: whether it is too long; whether it asks for nothing; whether its first word is a
+-- client; whether the rest asks for nothing; whether the rest is of a verb's form; whether the verb's body is of the
+-- grammar; whether it is well typed; and whether the verb is built, which so far is `do` alone. The first test that fails
+-- is answered, and the journal stays. (Too long a line is told from all others where it is cut from the input.)
+use Rattle.std.specs.Prelude.{ℕ, ◌+◌, nat_le, if◌then◌else◌, List, [], ◌∷◌, ◌++◌, fold, length, Option, Some, None, Result, Ok, Err, codes}
 use Rattle.std.specs.Fmt.{decimal}
 use Rattle.dio_core.specs.declared.line.TheConstants.{NEWLINE}
 use Rattle.dio_core.specs.declared.line.Line.{Line}
 use Rattle.dio_core.specs.declared.line.Line.TheVariants as line
 use Rattle.dio_core.specs.Lines.{lines, line_of}
-use Rattle.rdt_types.specs.declared.outcome.Outcome.{Outcome}
 use Rattle.rdt_types.specs.declared.settings.Settings.{Settings}
-use Rattle.dtext.specs.Printing.{printed_outcome}
+use Rattle.session_text.specs.declared.reply.Reply.TheVariants as reply
+use Rattle.session_text.specs.declared.reply.Why.{Why}
+use Rattle.session_text.specs.declared.reply.Why.TheVariants as why
+use Rattle.session_text.specs.declared.verb.Verb.{Verb}
+use Rattle.session_text.specs.declared.verb.Verb.TheVariants as verb
+use Rattle.session_text.specs.Printing.{printed_reply}
 use Rattle.txn_trees.specs.declared.statement.Body.{Body}
 use Rattle.txn_grammar.specs.Characters.{Text}
-use Rattle.txn_grammar.specs.Tree.{tree}
+use Rattle.txn_grammar.specs.Parsed.{parsed, syntax_column}
 use Rattle.txn_lang.specs.declared.run.Run.{Run}
 use Rattle.txn_lang.specs.States.{Journal, known, left_by}
-use Rattle.txn_lang.specs.Running.{Ran, exec}
-use Rattle.txn_lang.specs.Running.Ran.{need, done}
+use Rattle.txn_lang.specs.Types.{Names}
+use Rattle.txn_lang.specs.Typing.{Judged, judge}
+use Rattle.txn_lang.specs.Execution.{Ran, need, done, exec}
 use Rattle.txn_lang.specs.Journals.{commit_of}
-use Rattle.script_runner.specs.Words.{trimmed, first_word, after_word, is_quiet, client_named}
+use Rattle.script_runner.specs.declared.reply.Early.{Early}
+use Rattle.script_runner.specs.declared.reply.Early.TheVariants as early
+use Rattle.script_runner.specs.declared.reply.Told.{Told}
+use Rattle.script_runner.specs.Words.{trimmed_start, trimmed_end, first_word, after_word, is_quiet, client_named}
+use Rattle.script_runner.specs.Verbs.{asked}
 
 -- ---- replies
 
--- a reply line: the client, a space, the words and a newline
-abbrev pub reply_line : ℕ → Text → Text
-reply_line client words = ((decimal client ++ 32 ∷ []) ++ words) ++ NEWLINE ∷ []
+-- whom a reply names: a client, or nobody
+abbrev pub named : Option ℕ → Text
+named None = codes "-"
+named (Some client) = decimal client
 
-abbrev pub commit_words : ℕ → Outcome → Text
-commit_words number outcome = ((codes "commit " ++ decimal number) ++ 32 ∷ []) ++ printed_outcome outcome
+-- the words of a reply
+abbrev pub words : Early → Text
+words (early.Built r) = printed_reply r
+words early.Unbuilt = codes "refused unbuilt"
 
-abbrev pub full_words : ℕ → Text
-full_words limit = codes "full " ++ decimal limit
+-- a reply line: whom it names, a space, the words and a newline
+abbrev pub reply_line : Told → Text
+reply_line told = ((named told.client ++ 32 ∷ []) ++ words told.reply) ++ NEWLINE ∷ []
 
--- what is answered to a verb, or a body, that isn't built yet
-abbrev pub unbuilt_words : Text
-unbuilt_words = codes "refused unbuilt"
+-- a line that asks for nothing has no reply
+abbrev pub printed : Option Told → Text
+printed None = []
+printed (Some told) = reply_line told
 
--- ---- what one line does
+abbrev pub refused : Why → Early
+refused reason = early.Built (reply.Refused reason)
 
--- the journal after a line, and its reply
+-- ---- the body of a verb
+
+-- Where a text stops being a body it has a column. Blanks at its end mean nothing, but where it only ends too early the
+-- column is the one behind them.
+abbrev pub column_in : Text → ℕ → ℕ
+column_in text column = if nat_le column (length (trimmed_end text)) then column else length text + 1
+
+abbrev pub if_typed : Body → Judged Names → Result Body Why
+if_typed body (Ok names) = Ok body
+if_typed body (Err column) = Err (why.BadType column)
+
+abbrev pub if_parsed : Text → Option Body → Result Body Why
+if_parsed text None = Err (why.Syntax (column_in text (syntax_column (trimmed_end text))))
+if_parsed text (Some body) = if_typed body (judge body)
+
+-- the body that a text is, or why it is refused
+unfoldable pub body_of : Text → Result Body Why
+body_of text = if_parsed text (parsed (trimmed_end text))
+
+-- ---- what one verb does
+
+-- the journal after a verb, and the reply to it
 abbrev pub Answer : Type 0
-Answer = Journal × Text
+Answer = Journal × Early
 
 -- a journal that has as many commits as its limit takes no more
 abbrev pub committed : ℕ → Journal → ℕ → Text → Run → Answer
 committed limit journal client body run =
-    if nat_le limit (length journal) then (journal, reply_line client (full_words limit))
-    else (journal ++ commit_of journal client body run ∷ [], reply_line client (commit_words (length journal + 1) run.outcome))
+    if nat_le limit (length journal) then (journal, early.Built (reply.Full limit))
+    else (journal ++ commit_of journal client body run ∷ [], early.Built (reply.Commit (length journal + 1) run.outcome))
 
 -- A whole state has each value that a run may need.
 abbrev pub ended : ℕ → Journal → ℕ → Text → Ran → Answer
-ended limit journal client body (need a) = (journal, [])
+ended limit journal client body (need a) = (journal, early.Unbuilt)
 ended limit journal client body (done run) = committed limit journal client body run
 
-abbrev pub ran : ℕ → Journal → ℕ → Text → Option Body → Answer
-ran limit journal client body None = (journal, reply_line client unbuilt_words)
-ran limit journal client body (Some b) = ended limit journal client body (exec b (known (left_by journal)))
+-- A body runs on the state that the journal leaves, and is committed without the blanks at its end.
+abbrev pub ran : ℕ → Journal → ℕ → Text → Result Body Why → Answer
+ran limit journal client text (Err reason) = (journal, refused reason)
+ran limit journal client text (Ok body) = ended limit journal client (trimmed_end text) (exec body (known (left_by journal)))
 
--- `do BODY`
-unfoldable pub do_body : ℕ → Journal → ℕ → Text → Answer
-do_body limit journal client body = ran limit journal client body (tree body)
+-- what is said of the body of a verb that isn't built
+abbrev pub only_read : Result Body Why → Early
+only_read (Err reason) = refused reason
+only_read (Ok body) = early.Unbuilt
+
+abbrev pub of_verb : ℕ → Journal → ℕ → Verb → Answer
+of_verb limit journal client (verb.Do text) = ran limit journal client text (body_of text)
+of_verb limit journal client (verb.Try attempts text) = (journal, only_read (body_of text))
+of_verb limit journal client (verb.Begin text) = (journal, only_read (body_of text))
+of_verb limit journal client (verb.Look text) = (journal, only_read (body_of text))
+of_verb limit journal client (verb.At number text) = (journal, only_read (body_of text))
+of_verb limit journal client (verb.Watch name text) = (journal, only_read (body_of text))
+of_verb limit journal client other = (journal, early.Unbuilt)
+
+-- ---- what one line does
+
+abbrev pub of_asked : ℕ → Journal → ℕ → Option Verb → Answer
+of_asked limit journal client None = (journal, refused why.Verb)
+of_asked limit journal client (Some v) = of_verb limit journal client v
+
+-- the journal after a line, and what is told of it
+abbrev pub Done : Type 0
+Done = Journal × Option Told
+
+abbrev pub tells : Option ℕ → Answer → Done
+tells client answer = (answer.0, Some (record { client = client; reply = answer.1 }))
 
 -- what follows a client
-unfoldable pub client_line : ℕ → Journal → ℕ → Text → Answer
+unfoldable pub client_line : ℕ → Journal → ℕ → Text → Done
 client_line limit journal client text =
-    if is_quiet text then (journal, [])
-    else (if bytes_eq (first_word text) (codes "do") then do_body limit journal client (after_word text)
-    else (journal, reply_line client unbuilt_words))
+    if is_quiet text then (journal, None) else tells (Some client) (of_asked limit journal client (asked text))
 
-abbrev pub line_of_client : ℕ → Journal → Text → Option ℕ → Answer
-line_of_client limit journal text None = (journal, codes "- refused client\n")
+abbrev pub line_of_client : ℕ → Journal → Text → Option ℕ → Done
+line_of_client limit journal text None = tells None (journal, refused why.Client)
 line_of_client limit journal text (Some client) = client_line limit journal client (after_word text)
 
--- a line without the blanks at its ends
-unfoldable pub text_line : ℕ → Journal → Text → Answer
-text_line limit journal text = if is_quiet text then (journal, []) else line_of_client limit journal text (client_named (first_word text))
+-- a line without the blanks at its beginning
+unfoldable pub text_line : ℕ → Journal → Text → Done
+text_line limit journal text = if is_quiet text then (journal, None) else line_of_client limit journal text (client_named (first_word text))
 
-abbrev pub answer : ℕ → Journal → Line → Answer
-answer limit journal (line.Bytes bytes) = text_line limit journal (trimmed bytes)
-answer limit journal line.TooLong = (journal, codes "- refused long\n")
-answer limit journal line.End = (journal, [])
+abbrev pub does : ℕ → Journal → Line → Done
+does limit journal (line.Bytes bytes) = text_line limit journal (trimmed_start bytes)
+does limit journal line.TooLong = tells None (journal, refused why.Long)
+does limit journal line.End = (journal, None)
+
+-- the journal after a line, and the bytes that answer it
+abbrev pub answer : ℕ → Journal → Line → Journal × Text
+answer limit journal l = ((does limit journal l).0, printed (does limit journal l).1)
 
 -- ---- what a script does
 

@@ -89,6 +89,10 @@ pub record IsCutOff (settings : Settings) (taken taken_then : Option Text) (all 
   pub answered : length (played settings (but_last raws)).output ≤ count
   pub output : taken_then ≡ with_more taken (take count (played settings raws).output)
 
+-- The same, where no byte behind the last line that was read was taken.
+abbrev pub IsCutOffBehindLine : Settings → Option Text → Option Text → Text → Text → Type 0
+IsCutOffBehindLine settings taken taken_then all rest = (cut : IsCutOff settings taken taken_then all rest) × (rest ≡ cut.behind)
+
 -- A flush was tried: it has passed on all that was taken, or it failed and was counted.
 abbrev pub TriesFlush : Writing → Type 0
 TriesFlush w = ((w.faults_then ≡ w.faults) × IsPassedOn w.taken_then w.passed_then) ⊎ Rose w.faults w.faults_then
@@ -108,8 +112,10 @@ pub record KeepsPromises (settings : Settings) (status : ℕ) (r : Reading) (w :
   pub broken_off : status ≡ READ_FAULT → WhereTold (IsBrokenOff settings w.taken w.taken_then) r.left r.left_then
   -- at 9 that of the most lines that may be read
   pub too_many : status ≡ TOO_MANY_LINES → WhereTold (HasTooManyLines settings w.taken w.taken_then) r.left r.left_then
-  -- at 4 and 5 a prefix of the output of the lines that were read, which has all replies but the last
-  pub cut_off : (status ≡ WRITE_FAULT) ⊎ (status ≡ NO_MEMORY) → WhereTold (IsCutOff settings w.taken w.taken_then) r.left r.left_then
+  -- at 4 and 5 a prefix of the output of the lines that were read, which has all replies but the last; at 4 nothing of
+  -- the next line was read
+  pub unwritten : status ≡ WRITE_FAULT → WhereTold (IsCutOffBehindLine settings w.taken w.taken_then) r.left r.left_then
+  pub wanting : status ≡ NO_MEMORY → WhereTold (IsCutOff settings w.taken w.taken_then) r.left r.left_then
   -- the source's count rose at 3, and at no other status
   pub reads : IsCounted (status == READ_FAULT) r.faults r.faults_then
   -- the sink's count rose at 4

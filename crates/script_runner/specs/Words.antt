@@ -22,9 +22,6 @@ abbrev pub trimmed_end : Text → Text
 trimmed_end [] = []
 trimmed_end (b ∷ z) = unless_last_blank b (trimmed_end z)
 
-abbrev pub trimmed : Text → Text
-trimmed z = trimmed_start (trimmed_end z)
-
 -- the first word of a text that begins with no blank
 abbrev pub first_word : Text → Text
 first_word z = take (prefix_len is_solid z) z
@@ -54,8 +51,11 @@ greatest-client = refl
 too-great-client : client_named (codes "64") ≡ None
 too-great-client = refl
 
-words-example : first_word (trimmed (codes "  do emit 1; ")) ≡ codes "do"
+words-example : first_word (trimmed_start (codes "  do emit 1; ")) ≡ codes "do"
 words-example = refl
 
-rest-example : after_word (trimmed (codes "  do  emit 1; ")) ≡ codes "emit 1;"
+rest-example : after_word (trimmed_start (codes "  do  emit 1; ")) ≡ codes "emit 1; "
 rest-example = refl
+
+trimmed_end-example : trimmed_end (codes "emit 1; ") ≡ codes "emit 1;"
+trimmed_end-example = refl

@@ -5,9 +5,10 @@
 //! says what a run promises at each status.
 #![tactic(auto)]
 
+mod body;
+mod laws;
 mod lines;
 mod reply;
-mod running;
 mod script;
 mod seqs;
 mod status;
@@ -16,6 +17,7 @@ mod values;
 mod words;
 mod world;
 
+pub use laws::verbs_are_forms;
 pub use script::run_script;
 pub use status::{NO_MEMORY, READ_FAULT, TOO_MANY_LINES, WHOLE, WRITE_FAULT};
 pub use stop::MOST_LINES;

@@ -40,7 +40,7 @@ fn word_len(text: &[u8]) -> usize
 }
 
 /// The text without the blanks at its beginning.
-fn trimmed_start(text: &[u8]) -> &[u8]
+pub fn trimmed_start(text: &[u8]) -> &[u8]
     ensures value { result.now ≡ spec.trimmed_start text.now }
     ensures shorter { length result.now ≤ length text.now }
 {
@@ -48,7 +48,7 @@ fn trimmed_start(text: &[u8]) -> &[u8]
 }
 
 /// The text without the blanks at its end.
-fn trimmed_end(text: &[u8]) -> &[u8]
+pub fn trimmed_end(text: &[u8]) -> &[u8]
     ensures value { result.now ≡ spec.trimmed_end text.now }
     ensures shorter { length result.now ≤ length text.now }
 {
@@ -57,14 +57,6 @@ fn trimmed_end(text: &[u8]) -> &[u8]
         end -= 1;
     }
     &text[..end]
-}
-
-/// The text without the blanks at both ends.
-pub fn trimmed(text: &[u8]) -> &[u8]
-    ensures value { result.now ≡ spec.trimmed text.now }
-    ensures shorter { length result.now ≤ length text.now }
-{
-    trimmed_start(trimmed_end(text))
 }
 
 /// The first word of a text that begins with no blank.

@@ -3,18 +3,18 @@
 
 ghost use Rattle.std.specs.Prelude.{◌≡◌, ◌<◌, ◌^◌, [], ◌∷◌, ◌++◌, length, IfOk, OnOk};
 ghost use Rattle.txn_lang.specs.States.{known, left_by};
-ghost use Rattle.txn_lang.specs.Running.{exec};
-ghost use Rattle.txn_lang.specs.Running.Ran.{done};
+ghost use Rattle.txn_lang.specs.Execution.{exec, done};
 ghost use Rattle.txn_lang.specs.Journals.{commit_of};
 ghost use Rattle.script_runner.specs.Worlds.{Keeps};
+ghost use Rattle.script_runner.specs.Snaps.{AreOf};
 
-use crate::running::run;
 use crate::seqs::Seqs;
 use crate::values::Values;
 use plain_data::{Sequence, Text};
+use rdt_types::Address;
 use std::alloc::{AllocError, Global};
-use txn_lang::{Commit, CommitList, Run};
-use txn_trees::Body;
+use txn_eval::{Step, run};
+use txn_lang::{Checked, Commit, CommitList, Run, Snap, Snaps};
 
 /// A journal, and what is kept beside it.
 #[derive(Drop)]
@@ -37,12 +37,32 @@ impl World {
         }
     }
 
-    /// The run of a body on the state that the journal leaves.
-    pub fn run(&self, alloc: Global, body: &Body) -> Result<Run, AllocError>
-        requires { Keeps self.now }
-        ensures { IfOk result (λ r. exec body.now (known (left_by self.now.journal)) ≡ done r) }
+    /// Adds the value at an address to those that a run may rest on.
+    fn snap(&self, alloc: Global, snaps: &mut Snaps, address: Address) -> Result<(), AllocError>
+        requires keeps { Keeps self.now }
+        requires values { AreOf (left_by self.now.journal) snaps.old }
+        ensures { OnOk result (AreOf (left_by self.now.journal) snaps.new) }
     {
-        run(alloc, &self.values, body)
+        let value = self.values.value_at(alloc, &address)?;
+        let base = self.journal.len() as u64;
+        snaps.insert(address, Snap { base, value })?;
+        Ok(())
+    }
+
+    /// The run of a body on the state that the journal leaves. It runs anew each time that it needs one more value, and
+    /// so many values as it may need here are in no memory.
+    pub fn run(&self, alloc: Global, body: &Checked) -> Result<Run, AllocError>
+        requires { Keeps self.now }
+        ensures { IfOk result (λ r. exec body.now.body (known (left_by self.now.journal)) ≡ done r) }
+    {
+        let mut snaps = Snaps::new(alloc);
+        for _ in 0..usize::MAX {
+            match run(alloc, body, &snaps)? {
+                Step::Done(run) => return Ok(run),
+                Step::Need(address) => self.snap(alloc, &mut snaps, address)?,
+            }
+        }
+        Err(AllocError)
     }
 
     /// Adds the commit of a run. After want of memory the world is of no use.

@@ -1,5 +1,5 @@
 -- A text is cut token by token.
-use Rattle.std.proofs.Common.{◌≡◌, ℕ, zero, suc, ◌+◌, ◌-◌, ◌<◌, ◌≤◌, Bool, true, false, cond, List, [], ◌∷◌, ◌++◌, length, take, drop, slice_index, Option, Some, None, Ok, Err, nat_lt, refl, ap, sym, ◌∙◌, inl, inr, arith, append_assoc, length-drop, get_or-drop, drop-drop}
+use Rattle.std.proofs.Common.{◌≡◌, ℕ, zero, suc, ◌+◌, ◌-◌, ◌<◌, ◌≤◌, ◌==◌, Bool, true, false, cond, List, [], ◌∷◌, ◌++◌, length, take, drop, slice_index, Option, Some, None, Ok, Err, nat_lt, refl, ap, sym, ◌∙◌, inl, inr, arith, append_assoc, length-drop, get_or-drop, drop-drop}
 use Rattle.std.specs.List.{prefix_len}
 use Rattle.std.proofs.lemmas.Bool.Decides.{nat_tests}
 use Rattle.std.proofs.lemmas.List.Sums.{prefix_len-le-length}
@@ -8,11 +8,16 @@ use Rattle.predictive_parsing.proofs.Basic.{bool_cases}
 use Rattle.txn_grammar.specs.declared.symbol.Symbol.{Symbol}
 use Rattle.txn_grammar.specs.declared.token.Spot.{Spot}
 use Rattle.txn_grammar.specs.declared.token.Lexeme.{Lexeme}
-use Rattle.txn_grammar.specs.Characters.{Text, is_letter, is_digit, is_word, is_blank, is_quote}
-use Rattle.txn_grammar.specs.QuotedReader.{quoted}
-use Rattle.txn_grammar.specs.Spellings.{long_mark, short_mark}
-use Rattle.txn_grammar.specs.Lexer.{spot, word_at, number_at, text_at, quoted_lexeme, mark_at, mark_lexeme, short_lexeme, token_at, lex_from}
-use Rattle.txn_grammar.proofs.QuotedFits.{quoted_shrinks}
+use Rattle.dtext.specs.Characters.{is_letter, is_digit, is_word, is_blank}
+use Rattle.dtext.specs.code.Reading.{text}
+use Rattle.dtext.specs.Spellings.{TextRule}
+use Rattle.dtext.proofs.TextFits.{text_fits, text_begins}
+use Rattle.predictive_parsing.specs.Fits.{any}
+use Rattle.predictive_parsing.specs.Bytes.{IsByte, sees}
+use Rattle.predictive_parsing.proofs.Lists.{shrinks}
+use Rattle.txn_grammar.specs.Characters.{Text}
+use Rattle.txn_grammar.specs.Spellings.{mark}
+use Rattle.txn_grammar.specs.Lexer.{spot, word_at, number_at, text_at, quoted_lexeme, mark_at, mark_lexeme, short_lexeme, is_malformed, token_at, lex_from}
 
 -- ---- a token takes a byte at least, and no more than there are
 
@@ -27,8 +32,12 @@ run_moves test (b ∷ z) l e = record { some = rw e (omega arith); within = pref
 letter_word : (b : ℕ) → is_letter b ≡ true → is_word b ≡ true
 letter_word b e = rw e refl
 
-quoted_moves : (z : Text) (r : Outcome ℕ Text) → 0 < length z → quoted z ≡ r → Moves (quoted_lexeme z r).len z
-quoted_moves z (Ok (bytes, rest)) l e = let k = quoted_shrinks z rest bytes e in record { some = omega arith; within = omega arith }
+-- a text in quotes takes a byte at least
+pub text_shrinks : (z rest bytes : Text) → text z ≡ Ok (bytes, rest) → length rest < length z
+text_shrinks = shrinks IsByte (sees 34) text TextRule any text_fits text_begins refl
+
+quoted_moves : (z : Text) (r : Outcome ℕ Text) → 0 < length z → text z ≡ r → Moves (quoted_lexeme z r).len z
+quoted_moves z (Ok (bytes, rest)) l e = let k = text_shrinks z rest bytes e in record { some = omega arith; within = omega arith }
 quoted_moves z (Err rest) l e = record { some = omega arith; within = omega arith }
 
 short_moves : (z : Text) (short : Option Symbol) → 0 < length z → Moves (short_lexeme short).len z
@@ -46,9 +55,9 @@ token_moves z l = elim (bool_cases (is_letter (slice_index z 0))) [
   | inl e ↦ rw e (run_moves is_word z l (letter_word (slice_index z 0) e))
   | inr e ↦ elim (bool_cases (is_digit (slice_index z 0))) [
     | inl f ↦ rw (e, f) (run_moves is_digit z l f)
-    | inr f ↦ elim (bool_cases (is_quote (slice_index z 0))) [
-      | inl g ↦ rw (e, f, g) (quoted_moves z (quoted z) l refl)
-      | inr g ↦ rw (e, f, g) (mark_moves z (nat_lt (length z) 2) (long_mark (take 2 z)) (short_mark (take 1 z)) l refl)
+    | inr f ↦ elim (bool_cases (slice_index z 0 == 34)) [
+      | inl g ↦ rw (e, f, g) (quoted_moves z (text z) l refl)
+      | inr g ↦ rw (e, f, g) (mark_moves z (nat_lt (length z) 2) (mark (take 2 z)) (mark (take 1 z)) l refl)
     ]
   ]
 ]
@@ -65,18 +74,23 @@ drop_less : (n b : ℕ) (z : Text) → 1 ≤ n → drop (n - 1) z ≡ drop n (b 
 drop_less zero b z h = absurd (omega arith)
 drop_less (suc n) b z h = let e : suc n - 1 ≡ n = omega arith in ap (λ k. drop k z) e
 
-at_blank : (c b : ℕ) (z : Text) (t : Bool) → is_blank b ≡ t → lex_from c 0 (b ∷ z) ≡ cond t (lex_from (c + 1) 0 z) (spot c (token_at (b ∷ z)).token ∷ lex_from (c + 1) ((token_at (b ∷ z)).len - 1) z)
-at_blank c b z t e = ap (λ x. cond x (lex_from (c + 1) zero z) (spot c (token_at (b ∷ z)).token ∷ lex_from (c + 1) ((token_at (b ∷ z)).len - 1) z)) e
+-- what is behind a token: nothing where it is malformed
+abbrev behind : Lexeme → List Spot → List Spot
+behind found rest = cond (is_malformed found.token) [] rest
+
+at_blank : (c b : ℕ) (z : Text) (t : Bool) → is_blank b ≡ t → lex_from c 0 (b ∷ z) ≡ cond t (lex_from (c + 1) 0 z) (spot c (token_at (b ∷ z)).token ∷ behind (token_at (b ∷ z)) (lex_from (c + 1) ((token_at (b ∷ z)).len - 1) z))
+at_blank c b z t e = ap (λ x. cond x (lex_from (c + 1) zero z) (spot c (token_at (b ∷ z)).token ∷ behind (token_at (b ∷ z)) (lex_from (c + 1) ((token_at (b ∷ z)).len - 1) z))) e
 
 -- the tokens from a column on, which begins with a token
-cuts : (c : ℕ) (z : Text) → 0 < length z → is_blank (slice_index z 0) ≡ false → lex_from c 0 z ≡ spot c (token_at z).token ∷ lex_from (c + (token_at z).len) 0 (drop (token_at z).len z)
+cuts : (c : ℕ) (z : Text) → 0 < length z → is_blank (slice_index z 0) ≡ false → lex_from c 0 z ≡ spot c (token_at z).token ∷ behind (token_at z) (lex_from (c + (token_at z).len) 0 (drop (token_at z).len z))
 cuts c [] l e = absurd (omega arith)
 cuts c (b ∷ z) l e =
     let n = (token_at (b ∷ z)).len in
     let some = (token_moves (b ∷ z) l).some in
     let k : (c + 1) + (n - 1) ≡ c + n = omega arith in
     at_blank c b z false e
-    ∙ ap (λ xs. spot c (token_at (b ∷ z)).token ∷ xs) (skips (c + 1) (n - 1) z ∙ ap (λ m. lex_from m 0 (drop (n - 1) z)) k ∙ ap (λ xs. lex_from (c + n) 0 xs) (drop_less n b z some))
+    ∙ ap (λ xs. spot c (token_at (b ∷ z)).token ∷ behind (token_at (b ∷ z)) xs)
+    (skips (c + 1) (n - 1) z ∙ ap (λ m. lex_from m 0 (drop (n - 1) z)) k ∙ ap (λ xs. lex_from (c + n) 0 xs) (drop_less n b z some))
 
 blanks : (c : ℕ) (z : Text) → 0 < length z → is_blank (slice_index z 0) ≡ true → lex_from c 0 z ≡ lex_from (c + 1) 0 (drop 1 z)
 blanks c [] l e = absurd (omega arith)
@@ -94,14 +108,27 @@ module _ (z : Text) (at : ℕ) (below : at < length z) where
   pub blank_at : is_blank (slice_index z at) ≡ true → lex_from (at + 1) 0 (drop at z) ≡ lex_from ((at + 1) + 1) 0 (drop (at + 1) z)
   blank_at e = blanks (at + 1) (drop at z) some_left (ap is_blank first_at ∙ e) ∙ ap (λ xs. lex_from ((at + 1) + 1) 0 xs) (drop-drop 1 at z)
 
-  pub lexeme_at : (found : Lexeme) → found ≡ token_at (drop at z) → is_blank (slice_index z at) ≡ false → lex_from (at + 1) 0 (drop at z) ≡ spot (at + 1) found.token ∷ lex_from ((at + found.len) + 1) 0 (drop (at + found.len) z)
+  lexeme_at : (found : Lexeme) → found ≡ token_at (drop at z) → is_blank (slice_index z at) ≡ false
+      → lex_from (at + 1) 0 (drop at z) ≡ spot (at + 1) found.token ∷ behind found (lex_from ((at + found.len) + 1) 0 (drop (at + found.len) z))
   lexeme_at found e h =
       let w = drop at z in
       let n = found.len in
       let k : (at + 1) + n ≡ (at + n) + 1 = omega arith in
       cuts (at + 1) w some_left (ap is_blank first_at ∙ h)
-      ∙ ap (λ x. spot (at + 1) x.token ∷ lex_from ((at + 1) + x.len) 0 (drop x.len w)) (sym e)
-      ∙ ap (λ xs. spot (at + 1) found.token ∷ xs) (ap (λ m. lex_from m 0 (drop n w)) k ∙ ap (λ xs. lex_from ((at + n) + 1) 0 xs) (drop-drop n at z))
+      ∙ ap (λ x. spot (at + 1) x.token ∷ behind x (lex_from ((at + 1) + x.len) 0 (drop x.len w))) (sym e)
+      ∙ ap (λ xs. spot (at + 1) found.token ∷ behind found xs) (ap (λ m. lex_from m 0 (drop n w)) k ∙ ap (λ xs. lex_from ((at + n) + 1) 0 xs) (drop-drop n at z))
+
+  -- a token goes on to those behind it
+  pub lexeme_goes : (found : Lexeme) → found ≡ token_at (drop at z) → is_blank (slice_index z at) ≡ false → is_malformed found.token ≡ false
+      → lex_from (at + 1) 0 (drop at z) ≡ spot (at + 1) found.token ∷ lex_from ((at + found.len) + 1) 0 (drop (at + found.len) z)
+  lexeme_goes found e h k =
+      lexeme_at found e h ∙ ap (λ b. spot (at + 1) found.token ∷ cond b [] (lex_from ((at + found.len) + 1) 0 (drop (at + found.len) z))) k
+
+  -- and a malformed one is the last
+  pub lexeme_ends : (found : Lexeme) → found ≡ token_at (drop at z) → is_blank (slice_index z at) ≡ false → is_malformed found.token ≡ true
+      → lex_from (at + 1) 0 (drop at z) ≡ spot (at + 1) found.token ∷ []
+  lexeme_ends found e h k =
+      lexeme_at found e h ∙ ap (λ b. spot (at + 1) found.token ∷ cond b [] (lex_from ((at + found.len) + 1) 0 (drop (at + found.len) z))) k
 
 -- the token at a place takes a byte at least, and no more than are left
 pub moves_at : (z : Text) (at : ℕ) (found : Lexeme) → at < length z → found ≡ token_at (drop at z) → (1 ≤ found.len) × (at + found.len ≤ length z)
@@ -114,3 +141,7 @@ moves_at z at found below e =
 -- one more token is known
 pub one_more : (items spots rest before whole : List Spot) (s : Spot) → items ≡ spots ++ s ∷ [] → before ≡ s ∷ rest → spots ++ before ≡ whole → items ++ rest ≡ whole
 one_more items spots rest before whole s e h k = ap (λ xs. xs ++ rest) e ∙ append_assoc spots (s ∷ []) rest ∙ ap (λ xs. spots ++ xs) (sym h) ∙ k
+
+-- the last token is known
+pub last_one : (items spots before whole : List Spot) (s : Spot) → items ≡ spots ++ s ∷ [] → before ≡ s ∷ [] → spots ++ before ≡ whole → items ≡ whole
+last_one items spots before whole s e h k = e ∙ ap (λ xs. spots ++ xs) (sym h) ∙ k

@@ -1,7 +1,8 @@
-pub mod QuotedFits
+pub mod Choices
 pub mod TokenFits
-pub mod GrammarFits
+pub mod Ends
+pub mod ExpressionFits
+pub mod StatementFits
+pub mod Parses
 pub mod Values
 pub mod Cuts
-pub mod Cursors
-pub mod Bodies

@@ -1,37 +1,6 @@
--- The bytes that tokens are made of.
-use Rattle.std.specs.Prelude.{ℕ, Bool, not, ◌&&◌, ◌||◌, ◌==◌, nat_le, List}
+-- Texts, and the classes of bytes that tokens are made of, by the names that this crate's users have for them.
+use Rattle.std.specs.Prelude.{ℕ, List}
+pub use Rattle.dtext.specs.Characters.{is_letter, is_digit, is_word, is_blank}
 
 abbrev pub Text : Type 0
 Text = List ℕ
-
--- `a` to `z`
-abbrev pub is_letter : ℕ → Bool
-is_letter b = nat_le 97 b && nat_le b 122
-
--- `0` to `9`
-abbrev pub is_digit : ℕ → Bool
-is_digit b = nat_le 48 b && nat_le b 57
-
--- what a word goes on with: a letter, a digit or `_`
-abbrev pub is_word : ℕ → Bool
-is_word b = is_letter b || is_digit b || b == 95
-
--- space, tab and CR
-abbrev pub is_blank : ℕ → Bool
-is_blank b = b == 32 || b == 9 || b == 13
-
--- `"`
-abbrev pub is_quote : ℕ → Bool
-is_quote b = b == 34
-
--- `\`
-abbrev pub is_backslash : ℕ → Bool
-is_backslash b = b == 92
-
--- the `x` of a hexadecimal escape
-abbrev pub is_hex_mark : ℕ → Bool
-is_hex_mark b = b == 120
-
--- What stands for itself between quotes: all bytes but those below 32, 127, `"` and `\`.
-abbrev pub is_plain : ℕ → Bool
-is_plain b = nat_le 32 b && not (b == 127) && not (is_quote b) && not (is_backslash b)

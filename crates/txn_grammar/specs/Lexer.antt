@@ -1,31 +1,29 @@
 -- The tokens of a text. Each is the longest that fits; blanks separate tokens and mean nothing else.
-use Rattle.std.specs.Prelude.{◌≡◌, ℕ, zero, suc, ◌+◌, ◌-◌, if◌then◌else◌, nat_lt, List, [], ◌∷◌, length, take, slice_index, ℤ, Option, Some, None, Ok, Err}
+use Rattle.std.specs.Prelude.{◌≡◌, ℕ, zero, suc, ◌+◌, ◌-◌, ◌==◌, Bool, true, false, if◌then◌else◌, nat_lt, List, [], ◌∷◌, length, take, slice_index, ℤ, Option, Some, None, Ok, Err}
 use Rattle.std.specs.List.{prefix_len}
 use Rattle.predictive_parsing.specs.Reading.{Outcome}
+use Rattle.dtext.specs.Characters.{is_letter, is_digit, is_word, is_blank}
+use Rattle.dtext.specs.code.Reading.{text}
+use Rattle.txn_grammar.specs.declared.limit.TheConstants.{LONGEST_NAME}
 use Rattle.txn_grammar.specs.declared.symbol.Symbol.{Symbol}
 use Rattle.txn_grammar.specs.declared.token.Token.{Token}
 use Rattle.txn_grammar.specs.declared.token.Token.TheVariants as t
 use Rattle.txn_grammar.specs.declared.token.Spot.{Spot}
 use Rattle.txn_grammar.specs.declared.token.Lexeme.{Lexeme}
-use Rattle.txn_grammar.specs.Characters.{Text, is_letter, is_digit, is_word, is_blank, is_quote}
-use Rattle.txn_grammar.specs.QuotedReader.{quoted}
-use Rattle.txn_grammar.specs.Spellings.{reserved_word, long_mark, short_mark}
+use Rattle.txn_grammar.specs.Characters.{Text}
+use Rattle.txn_grammar.specs.Spellings.{reserved_word, mark}
 use Rattle.txn_grammar.specs.Numbers.{number_value}
 
 abbrev pub lexeme : Token → ℕ → Lexeme
 lexeme token len = record { token = token; len = len }
 
--- the most bytes of a word
-abbrev pub word_limit : ℕ
-word_limit = 32
-
 abbrev pub reserved_or_name : Text → Option Symbol → Token
 reserved_or_name word (Some symbol) = t.Symbol symbol
 reserved_or_name word None = t.Name word
 
--- a reserved word, or else a name
+-- a reserved word, or else a name; malformed where it is too long
 unfoldable pub word_token : Text → Token
-word_token word = if nat_lt word_limit (length word) then t.Malformed else reserved_or_name word (reserved_word word)
+word_token word = if nat_lt LONGEST_NAME (length word) then t.Malformed else reserved_or_name word (reserved_word word)
 
 -- a letter, then letters, digits and `_`
 unfoldable pub word_at : Text → Lexeme
@@ -43,9 +41,9 @@ abbrev pub quoted_lexeme : Text → Outcome ℕ Text → Lexeme
 quoted_lexeme z (Ok read) = lexeme (t.Text read.0) (length z - length read.1)
 quoted_lexeme z (Err rest) = lexeme t.Malformed 1
 
--- a text in quotes
+-- a text in quotes, as every text of a value is spelled
 unfoldable pub text_at : Text → Lexeme
-text_at z = quoted_lexeme z (quoted z)
+text_at z = quoted_lexeme z (text z)
 
 abbrev pub short_lexeme : Option Symbol → Lexeme
 short_lexeme (Some symbol) = lexeme (t.Symbol symbol) 1
@@ -57,28 +55,34 @@ mark_lexeme None short = short_lexeme short
 
 -- a mark of two bytes, or else of one
 unfoldable pub mark_at : Text → Lexeme
-mark_at z = mark_lexeme (if nat_lt (length z) 2 then None else long_mark (take 2 z)) (short_mark (take 1 z))
+mark_at z = mark_lexeme (if nat_lt (length z) 2 then None else mark (take 2 z)) (mark (take 1 z))
 
--- the token at the front, where no blank stands
+-- the token at the front, where no blank stands; 34 is `"`
 unfoldable pub token_at : Text → Lexeme
 token_at z =
     if is_letter (slice_index z 0) then word_at z
     else (if is_digit (slice_index z 0) then number_at z
-    else (if is_quote (slice_index z 0) then text_at z
+    else (if slice_index z 0 == 34 then text_at z
     else mark_at z))
 
 abbrev pub spot : ℕ → Token → Spot
 spot column token = record { column = column; token = token }
 
--- The tokens from a column on; the number counts the bytes that are left of the token before.
+abbrev pub is_malformed : Token → Bool
+is_malformed t.Malformed = true
+is_malformed other = false
+
+-- The tokens from a column on; the number counts the bytes that are left of the token before. Behind a malformed token
+-- none is looked for: no body has it.
 abbrev pub lex_from : ℕ → ℕ → Text → List Spot
 lex_from column left [] = []
 lex_from column (suc left) (b ∷ z) = lex_from (column + 1) left z
 lex_from column zero (b ∷ z) =
     if is_blank b then lex_from (column + 1) zero z
-    else spot column (token_at (b ∷ z)).token ∷ lex_from (column + 1) ((token_at (b ∷ z)).len - 1) z
+    else spot column (token_at (b ∷ z)).token
+    ∷ (if is_malformed (token_at (b ∷ z)).token then [] else lex_from (column + 1) ((token_at (b ∷ z)).len - 1) z)
 
--- the tokens of a text, with their columns
+-- the tokens of a text, with their columns, up to the first malformed one
 unfoldable pub lex : Text → List Spot
 lex z = lex_from 1 0 z
 

@@ -1,12 +1,11 @@
 pub mod Characters
-pub mod Quoted
-pub mod QuotedReader
-pub mod Spellings
+pub mod Limits
 pub mod Numbers
+pub mod Spellings
 pub mod Lexer
 pub mod Tokens
+pub mod Trees
 pub mod Grammar
-pub mod Reader
-pub mod Tree
-pub mod Reads
+pub mod Parsed
+pub mod code
 pub mod Examples

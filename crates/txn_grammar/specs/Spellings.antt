@@ -1,97 +1,51 @@
 -- How reserved words and marks are spelled.
-use Rattle.std.specs.Prelude.{if◌then◌else◌, List, [], ◌∷◌, codes, Option, Some, None}
+use Rattle.std.specs.Prelude.{◌≡◌, Bool, List, [], ◌++◌, unwrap_or, codes, find, map, Option, Some, None, refl}
+use Rattle.std.specs.Option.{option_map}
 use Rattle.std.specs.Str.{bytes_eq}
+use denote.Enum.Bare.{sameb}
 use Rattle.txn_grammar.specs.declared.symbol.Symbol.{Symbol}
+use Rattle.txn_grammar.specs.contracts.symbol.Symbol.{the_type}
 use Rattle.txn_grammar.specs.declared.symbol.Symbol.TheVariants as s
+use Rattle.txn_grammar.specs.declared.symbol.TheConstants.{WORDS, MARKS}
 use Rattle.txn_grammar.specs.Characters.{Text}
 
-abbrev pub Spellings : Type 0
-Spellings = List (Text × Symbol)
+-- the rows of the two tables of symbols
+abbrev pub words : List (Text × Symbol)
+words = map (λ row. (row.0.now, row.1)) WORDS
 
--- the symbol that is spelled so
-abbrev pub looked_up : Text → Spellings → Option Symbol
-looked_up text [] = None
-looked_up text (row ∷ rest) = if bytes_eq text row.0 then Some row.1 else looked_up text rest
+abbrev pub marks : List (Text × Symbol)
+marks = map (λ row. (row.0.now, row.1)) MARKS
 
--- the words of statements
-abbrev pub statement_words : Spellings
-statement_words =
-    (codes "let", s.Let)
-    ∷ (codes "emit", s.Emit)
-    ∷ (codes "fail", s.Fail)
-    ∷ (codes "if", s.If)
-    ∷ (codes "else", s.Else)
-    ∷ (codes "for", s.For)
-    ∷ (codes "in", s.In) ∷ []
-
--- the words of expressions
-abbrev pub expression_words : Spellings
-expression_words =
-    (codes "and", s.And)
-    ∷ (codes "or", s.Or)
-    ∷ (codes "not", s.Not)
-    ∷ (codes "true", s.True)
-    ∷ (codes "false", s.False)
-    ∷ (codes "len", s.Len)
-    ∷ (codes "str", s.Str) ∷ []
-
--- the words of kinds
-abbrev pub kind_words : Spellings
-kind_words =
-    (codes "bool", s.Bool)
-    ∷ (codes "counter", s.Counter)
-    ∷ (codes "text", s.Text)
-    ∷ (codes "set", s.Set)
-    ∷ (codes "hash", s.Hash)
-    ∷ (codes "list", s.List)
-    ∷ (codes "peak", s.Peak) ∷ []
-
--- the marks of two bytes
-abbrev pub long_marks : Spellings
-long_marks =
-    (codes "==", s.Equal)
-    ∷ (codes "!=", s.Unequal)
-    ∷ (codes "<=", s.AtMost)
-    ∷ (codes ">=", s.AtLeast) ∷ []
-
--- the marks of one byte
-abbrev pub short_marks : Spellings
-short_marks =
-    (codes "<", s.Less)
-    ∷ (codes ">", s.Greater)
-    ∷ (codes "=", s.Assign)
-    ∷ (codes "+", s.Plus)
-    ∷ (codes "-", s.Minus)
-    ∷ (codes "*", s.Times)
-    ∷ (codes "(", s.OpenParen)
-    ∷ (codes ")", s.CloseParen)
-    ∷ (codes "[", s.OpenBracket)
-    ∷ (codes "]", s.CloseBracket)
-    ∷ (codes "{", s.OpenBrace)
-    ∷ (codes "}", s.CloseBrace)
-    ∷ (codes ",", s.Comma)
-    ∷ (codes ";", s.Semicolon)
-    ∷ (codes ".", s.Dot) ∷ []
-
-abbrev pub or_else : Option Symbol → Option Symbol → Option Symbol
-or_else (Some symbol) other = Some symbol
-or_else None other = other
-
-unfoldable pub statement_word : Text → Option Symbol
-statement_word word = looked_up word statement_words
-
-unfoldable pub expression_word : Text → Option Symbol
-expression_word word = looked_up word expression_words
-
-unfoldable pub kind_word : Text → Option Symbol
-kind_word word = looked_up word kind_words
+-- the symbol of the row that has this spelling
+abbrev pub spelled_in : List (Text × Symbol) → Text → Option Symbol
+spelled_in rows text = option_map (λ row. row.1) (find (λ row. bytes_eq row.0 text) rows)
 
 -- the reserved word that this is, if it is one
 unfoldable pub reserved_word : Text → Option Symbol
-reserved_word word = or_else (statement_word word) (or_else (expression_word word) (kind_word word))
+reserved_word text = spelled_in words text
 
-unfoldable pub long_mark : Text → Option Symbol
-long_mark mark = looked_up mark long_marks
+-- the mark that this is, if it is one
+unfoldable pub mark : Text → Option Symbol
+mark text = spelled_in marks text
 
-unfoldable pub short_mark : Text → Option Symbol
-short_mark mark = looked_up mark short_marks
+-- `==` on symbols
+unfoldable pub same_symbol : Symbol → Symbol → Bool
+same_symbol = sameb the_type
+
+-- how a symbol is spelled
+unfoldable pub spelling : Symbol → Text
+spelling symbol = unwrap_or (option_map (λ row. row.0) (find (λ row. same_symbol row.1 symbol) (words ++ marks))) []
+
+-- a word that is kept for a kind to come is reserved
+peak_is_reserved : reserved_word (codes "peak") ≡ Some s.Peak
+unfolding reserved_word
+peak_is_reserved = refl
+
+-- an operation's word is not
+put_is_no_reserved_word : reserved_word (codes "put") ≡ None
+unfolding reserved_word
+put_is_no_reserved_word = refl
+
+brace : spelling s.OpenBrace ≡ codes "{"
+unfolding spelling same_symbol
+brace = refl

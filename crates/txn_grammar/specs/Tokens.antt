@@ -1,32 +1,36 @@
--- What rules ask of a token.
-use Rattle.std.specs.Prelude.{ℕ, Bool, true, false, if◌then◌else◌, nat_le, length, codes, ℤ, Option, Some, None}
+-- What rules ask of a token: tables of the language, one row each.
+use Rattle.std.specs.Prelude.{◌≡◌, ℕ, Bool, true, false, ◌&&◌, if◌then◌else◌, List, codes, find, map, ℤ, Option, Some, None, refl}
+use Rattle.std.specs.Option.{option_map}
 use Rattle.std.specs.Str.{bytes_eq}
 use denote.Enum.Bare.{sameb}
 use Rattle.rdt_types.specs.declared.address.Kind.{Kind}
 use Rattle.rdt_types.specs.declared.address.Kind.TheVariants as kind
+use Rattle.rdt_types.specs.contracts.address.Kind as kinds
+use Rattle.txn_trees.specs.declared.word.Operator.{Operator}
+use Rattle.txn_trees.specs.declared.word.Operator.TheVariants as operator
+use Rattle.txn_trees.specs.declared.word.Relation.{Relation}
+use Rattle.txn_trees.specs.declared.word.Relation.TheVariants as relation
 use Rattle.txn_trees.specs.declared.word.WriteWord.{WriteWord}
 use Rattle.txn_trees.specs.declared.word.WriteWord.TheVariants as write
 use Rattle.txn_trees.specs.declared.word.ReadWord.{ReadWord}
 use Rattle.txn_trees.specs.declared.word.ReadWord.TheVariants as read
+use Rattle.txn_grammar.specs.declared.rank.Rank.{Rank}
+use Rattle.txn_grammar.specs.declared.rank.Rank.TheVariants as rank
 use Rattle.txn_grammar.specs.declared.symbol.Symbol.{Symbol}
 use Rattle.txn_grammar.specs.declared.symbol.Symbol.TheVariants as s
-use Rattle.txn_grammar.specs.contracts.symbol.Symbol.{the_type}
+use Rattle.txn_grammar.specs.declared.operation.Operation.{Operation}
+use Rattle.txn_grammar.specs.declared.operation.TheConstants.{WRITES, READS}
 use Rattle.txn_grammar.specs.declared.token.Token.{Token}
 use Rattle.txn_grammar.specs.declared.token.Token.TheVariants as t
 use Rattle.txn_grammar.specs.declared.token.Spot.{Spot}
 use Rattle.txn_grammar.specs.Characters.{Text}
+use Rattle.txn_grammar.specs.Spellings.{same_symbol}
 
-abbrev pub with_column : {A : Type 0} → ℕ → Option A → Option (ℕ × A)
-with_column column (Some a) = Some (column, a)
-with_column column None = None
+-- ---- tokens with their columns
 
 -- what f makes of a token, with its column
 abbrev pub at : {A : Type 0} → (Token → Option A) → Spot → Option (ℕ × A)
-at f spot = with_column spot.column (f spot.token)
-
--- `==` on symbols
-unfoldable pub same_symbol : Symbol → Symbol → Bool
-same_symbol = sameb the_type
+at f spot = option_map (λ a. (spot.column, a)) (f spot.token)
 
 abbrev pub is_symbol : Symbol → Token → Bool
 is_symbol symbol (t.Symbol found) = same_symbol found symbol
@@ -36,94 +40,111 @@ is_symbol symbol other = false
 abbrev pub symbol_at : Symbol → Spot → Option ℕ
 symbol_at symbol spot = if is_symbol symbol spot.token then Some spot.column else None
 
+-- what f makes of a symbol
+abbrev pub of_symbol : {A : Type 0} → (Symbol → Option A) → Token → Option A
+of_symbol f (t.Symbol symbol) = f symbol
+of_symbol f other = None
+
+-- ---- values and names
+
 abbrev pub number : Token → Option ℤ
 number (t.Number value) = Some value
 number other = None
 
--- the most bytes of a key
-abbrev pub key_limit : ℕ
-key_limit = 1024
+abbrev pub text : Token → Option Text
+text (t.Text bytes) = Some bytes
+text other = None
 
--- a text that isn't too long for a key
-abbrev pub key : Token → Option Text
-key (t.Text bytes) = if nat_le (length bytes) key_limit then Some bytes else None
-key other = None
+abbrev pub name : Token → Option Text
+name (t.Name bytes) = Some bytes
+name other = None
 
-abbrev pub kind_of_symbol : Symbol → Option Kind
-kind_of_symbol s.Counter = Some kind.Counter
-kind_of_symbol other = None
+-- `true` and `false`
+abbrev pub truth_of : Symbol → Option Bool
+truth_of s.True = Some true
+truth_of s.False = Some false
+truth_of other = None
 
--- the word of a kind
-abbrev pub kind_of : Token → Option Kind
-kind_of (t.Symbol symbol) = kind_of_symbol symbol
+-- ---- operators
+
+-- the operators of each rank of chains
+abbrev pub operator_of : Rank → Symbol → Option Operator
+operator_of rank.Disjunction s.Or = Some operator.Or
+operator_of rank.Conjunction s.And = Some operator.And
+operator_of rank.Sum s.Plus = Some operator.Plus
+operator_of rank.Sum s.Minus = Some operator.Minus
+operator_of rank.Product s.Times = Some operator.Times
+operator_of _ _ = None
+
+-- the comparisons
+abbrev pub relation_of : Symbol → Option Relation
+relation_of s.Equal = Some relation.Equal
+relation_of s.Unequal = Some relation.Unequal
+relation_of s.Less = Some relation.Less
+relation_of s.AtMost = Some relation.AtMost
+relation_of s.Greater = Some relation.Greater
+relation_of s.AtLeast = Some relation.AtLeast
+relation_of other = None
+
+-- ---- kinds and their operations
+
+-- the word of each kind; `peak` is kept for one to come
+abbrev pub kind_of : Symbol → Option Kind
+kind_of s.Bool = Some kind.Bool
+kind_of s.Counter = Some kind.Counter
+kind_of s.Text = Some kind.Text
+kind_of s.Set = Some kind.Set
+kind_of s.Hash = Some kind.Hash
+kind_of s.List = Some kind.List
 kind_of other = None
 
--- the names of writes
-abbrev pub write_spelled : Text → Option WriteWord
-write_spelled name =
-    if bytes_eq name (codes "put") then Some write.Put
-    else (if bytes_eq name (codes "add") then Some write.Add
-    else (if bytes_eq name (codes "remove") then Some write.Remove
-    else (if bytes_eq name (codes "clear") then Some write.Clear
-    else (if bytes_eq name (codes "push") then Some write.Push
-    else None))))
+-- `==` on kinds
+unfoldable pub same_kind : Kind → Kind → Bool
+same_kind = sameb kinds.the_type
 
--- the writes of each kind
-abbrev pub has_write : Kind → WriteWord → Bool
-has_write kind.Bool write.Put = true
-has_write kind.Counter write.Put = true
-has_write kind.Counter write.Add = true
-has_write kind.Text write.Put = true
-has_write kind.Set write.Add = true
-has_write kind.Set write.Remove = true
-has_write kind.Set write.Clear = true
-has_write kind.Hash write.Put = true
-has_write kind.Hash write.Remove = true
-has_write kind.Hash write.Clear = true
-has_write kind.List write.Push = true
-has_write kind.List write.Remove = true
-has_write kind.List write.Clear = true
-has_write _ _ = false
+abbrev pub operation : {W : Type 0} → W → ℕ → Operation W
+operation word arguments = record { word = word; arguments = arguments }
 
--- a word, where it passes
-abbrev pub where_has : {A : Type 0} → (A → Bool) → Option A → Option A
-where_has has None = None
-where_has has (Some word) = if has word then Some word else None
+-- the operation in the row of this kind and spelling
+abbrev pub operation_in : {W : Type 0} → List (Kind × Text × W × ℕ) → Kind → Text → Option (Operation W)
+operation_in rows kind spelling = option_map (λ row. operation row.2 row.3) (find (λ row. same_kind row.0 kind && bytes_eq row.1 spelling) rows)
 
-unfoldable pub write_named : Kind → Text → Option WriteWord
-write_named k name = where_has (has_write k) (write_spelled name)
+unfoldable pub write_named : Kind → Text → Option (Operation WriteWord)
+write_named kind spelling = operation_in (map (λ row. (row.0, row.1.now, row.2, row.3)) WRITES) kind spelling
 
-abbrev pub write_word : Kind → Token → Option WriteWord
-write_word k (t.Name name) = write_named k name
-write_word k other = None
+unfoldable pub read_named : Kind → Text → Option (Operation ReadWord)
+read_named kind spelling = operation_in (map (λ row. (row.0, row.1.now, row.2, row.3)) READS) kind spelling
 
--- the names of reads
-abbrev pub read_spelled : Text → Option ReadWord
-read_spelled name =
-    if bytes_eq name (codes "get") then Some read.Get
-    else (if bytes_eq name (codes "has") then Some read.Has
-    else (if bytes_eq name (codes "all") then Some read.All
-    else (if bytes_eq name (codes "fields") then Some read.Fields
-    else (if bytes_eq name (codes "at") then Some read.At
-    else None))))
+-- what f makes of a name
+abbrev pub of_name : {A : Type 0} → (Text → Option A) → Token → Option A
+of_name f (t.Name bytes) = f bytes
+of_name f other = None
 
--- the reads of each kind
-abbrev pub has_read : Kind → ReadWord → Bool
-has_read kind.Bool read.Get = true
-has_read kind.Counter read.Get = true
-has_read kind.Text read.Get = true
-has_read kind.Set read.Has = true
-has_read kind.Set read.All = true
-has_read kind.Hash read.Has = true
-has_read kind.Hash read.Get = true
-has_read kind.Hash read.Fields = true
-has_read kind.List read.At = true
-has_read kind.List read.All = true
-has_read _ _ = false
+-- the kind's write that the token names
+abbrev pub write_of : Kind → Token → Option (Operation WriteWord)
+write_of kind = of_name (write_named kind)
 
-unfoldable pub read_named : Kind → Text → Option ReadWord
-read_named k name = where_has (has_read k) (read_spelled name)
+-- the kind's read that the token names
+abbrev pub read_of : Kind → Token → Option (Operation ReadWord)
+read_of kind = of_name (read_named kind)
 
-abbrev pub read_word : Kind → Token → Option ReadWord
-read_word k (t.Name name) = read_named k name
-read_word k other = None
+-- ---- worked lines
+
+-- `put` of a hash takes a field and a text
+put_of_hash : write_named kind.Hash (codes "put") ≡ Some (operation write.Put 2)
+unfolding write_named same_kind
+put_of_hash = refl
+
+-- nothing is removed from a counter
+no_remove_of_counter : write_named kind.Counter (codes "remove") ≡ None
+unfolding write_named same_kind
+no_remove_of_counter = refl
+
+-- `get` of a hash takes a field, and that of a counter nothing
+get_of_hash : read_named kind.Hash (codes "get") ≡ Some (operation read.Get 1)
+unfolding read_named same_kind
+get_of_hash = refl
+
+get_of_counter : read_named kind.Counter (codes "get") ≡ Some (operation read.Get 0)
+unfolding read_named same_kind
+get_of_counter = refl

@@ -1,33 +1,38 @@
-//! The tokens and the grammar of transaction bodies, and the reader that turns a text into its tree.
+//! The tokens and the grammar of transaction bodies: what tokens a text has, which tokens are a body, and the column at
+//! which a text stops being one. It stands on `txn_trees`, whose trees bodies are, and on `dtext`, whose rule texts in
+//! quotes follow. Journals cite it; the parser (`txn_parse`) is proved equal to it.
 //!
-//! [`read_body`] is what the language stands on: bytes go through `lexer` to tokens, and from a `cursor` over these
-//! through `expression` and `statement` to a body. Read the definitions first: `specs/Lexer` says what tokens a text
-//! has, `specs/Grammar` which tokens are a body, and `specs/Tree` what body a text is. `laws` ties the grammar, a
-//! relation, to the function by which the code is proved.
+//! Read first `specs/Lexer` (the tokens of a text), `specs/Grammar` (the rules, in the order of the grammar, with the
+//! tables of `specs/Tokens`) and `specs/Parsed` (the body of a text, and the column where there is none). `laws` ties the
+//! grammar, a relation, to the function by which parsers are proved. The code here is what is below a parser: `tokens`,
+//! and the tables by which a token is asked what it is.
 #![tactic(auto)]
 
-mod body;
-mod character;
-mod cursor;
-mod error;
-mod expression;
+mod form;
 mod laws;
 mod lexer;
+mod limit;
 mod meaning;
 mod number;
-mod quoted;
+mod operation;
+mod rank;
 mod spelling;
-mod statement;
 mod symbol;
 mod target;
 #[cfg(test)]
 mod tests;
 mod token;
 
-pub use body::read_body;
-pub use error::ReadError;
-pub use laws::{quoted_is_rule, refuses_first, tree_is_body};
+pub use form::{Leaf, Nesting, Opener, Simple};
+pub use laws::{parsed_is_body, syntax_columns};
 pub use lexer::tokens;
-pub use symbol::Symbol;
+pub use limit::{DEEPEST, LARGEST, LONGEST_NAME};
+pub use meaning::{
+    is_symbol, kind_at, leaf_of, nesting_of, number_of, opener_of, operator_at, read_at,
+    relation_at, simple_of, truth_at, write_at,
+};
+pub use operation::{Operation, READS, WRITES};
+pub use rank::Rank;
+pub use symbol::{MARKS, Symbol, WORDS};
 pub use target::Target;
 pub use token::{Lexeme, Spot, Token};

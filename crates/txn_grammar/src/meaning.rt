@@ -1,21 +1,22 @@
-//! What a token stands for, as rules ask it.
+//! What a token stands for, as rules ask it: the code of the tables in `specs/Tokens` and of the choices in
+//! `specs/code/Forms`.
 
-ghost use Rattle.std.specs.Prelude.{◌≡◌};
-ghost use Rattle.predictive_parsing.specs.Reading as read;
+ghost use Rattle.std.specs.Prelude.{◌≡◌, map};
+ghost use Rattle.txn_grammar.specs.Spellings.{same_symbol};
 ghost use Rattle.txn_grammar.specs.Tokens as spec;
+ghost use Rattle.txn_grammar.specs.code.Forms as form;
 
+use crate::form::{Leaf, Nesting, Opener, Simple};
+use crate::operation::{Operation, READS, WRITES};
+use crate::rank::Rank;
 use crate::symbol::Symbol;
 use crate::token::Token;
-use plain_data::Text;
 use rdt_types::Kind;
-use txn_trees::{ReadWord, WriteWord};
-
-/// The most bytes of a key, its escapes read.
-const KEY_LIMIT: usize = 1024;
+use txn_trees::{Operator, ReadWord, Relation, WriteWord};
 
 /// Whether the token is this symbol.
-#[tactic(auto, unfolding(crate::specs::Tokens::same_symbol))]
-pub(crate) fn is_symbol(symbol: Symbol, token: &Token) -> bool
+#[tactic(auto, unfolding(crate::specs::Spellings::same_symbol))]
+pub fn is_symbol(symbol: Symbol, token: &Token) -> bool
     ensures { result ≡ spec.is_symbol symbol token.now }
 {
     match token {
@@ -25,7 +26,7 @@ pub(crate) fn is_symbol(symbol: Symbol, token: &Token) -> bool
 }
 
 /// The number that the token is.
-pub(crate) fn number_of(token: &Token) -> Option<i64>
+pub fn number_of(token: &Token) -> Option<i64>
     ensures { result ≡ spec.number token.now }
 {
     match token {
@@ -34,145 +35,213 @@ pub(crate) fn number_of(token: &Token) -> Option<i64>
     }
 }
 
+/// The truth value that the symbol is.
+fn truth_of(symbol: Symbol) -> Option<bool>
+    ensures { result ≡ spec.truth_of symbol }
+{
+    match symbol {
+        Symbol::True => Some(true),
+        Symbol::False => Some(false),
+        _ => None,
+    }
+}
+
+/// The truth value that the token is.
+pub fn truth_at(token: &Token) -> Option<bool>
+    ensures { result ≡ spec.of_symbol spec.truth_of token.now }
+{
+    match token {
+        Token::Symbol(symbol) => truth_of(*symbol),
+        _ => None,
+    }
+}
+
+/// The operator of this rank that the symbol is.
+fn operator_of(rank: Rank, symbol: Symbol) -> Option<Operator>
+    ensures { result ≡ spec.operator_of rank symbol }
+{
+    match (rank, symbol) {
+        (Rank::Disjunction, Symbol::Or) => Some(Operator::Or),
+        (Rank::Conjunction, Symbol::And) => Some(Operator::And),
+        (Rank::Sum, Symbol::Plus) => Some(Operator::Plus),
+        (Rank::Sum, Symbol::Minus) => Some(Operator::Minus),
+        (Rank::Product, Symbol::Times) => Some(Operator::Times),
+        _ => None,
+    }
+}
+
+/// The operator of this rank that the token is.
+pub fn operator_at(rank: Rank, token: &Token) -> Option<Operator>
+    ensures { result ≡ spec.of_symbol (spec.operator_of rank) token.now }
+{
+    match token {
+        Token::Symbol(symbol) => operator_of(rank, *symbol),
+        _ => None,
+    }
+}
+
+/// The comparison that the symbol is.
+fn relation_of(symbol: Symbol) -> Option<Relation>
+    ensures { result ≡ spec.relation_of symbol }
+{
+    match symbol {
+        Symbol::Equal => Some(Relation::Equal),
+        Symbol::Unequal => Some(Relation::Unequal),
+        Symbol::Less => Some(Relation::Less),
+        Symbol::AtMost => Some(Relation::AtMost),
+        Symbol::Greater => Some(Relation::Greater),
+        Symbol::AtLeast => Some(Relation::AtLeast),
+        _ => None,
+    }
+}
+
+/// The comparison that the token is.
+pub fn relation_at(token: &Token) -> Option<Relation>
+    ensures { result ≡ spec.of_symbol spec.relation_of token.now }
+{
+    match token {
+        Token::Symbol(symbol) => relation_of(*symbol),
+        _ => None,
+    }
+}
+
+/// The kind whose word the symbol is. `peak` is kept for one to come.
+fn kind_of(symbol: Symbol) -> Option<Kind>
+    ensures { result ≡ spec.kind_of symbol }
+{
+    match symbol {
+        Symbol::Bool => Some(Kind::Bool),
+        Symbol::Counter => Some(Kind::Counter),
+        Symbol::Text => Some(Kind::Text),
+        Symbol::Set => Some(Kind::Set),
+        Symbol::Hash => Some(Kind::Hash),
+        Symbol::List => Some(Kind::List),
+        _ => None,
+    }
+}
+
 /// The kind whose word the token is.
-pub(crate) fn kind_of(token: &Token) -> Option<Kind>
-    ensures { result ≡ spec.kind_of token.now }
+pub fn kind_at(token: &Token) -> Option<Kind>
+    ensures { result ≡ spec.of_symbol spec.kind_of token.now }
 {
     match token {
-        Token::Symbol(Symbol::Counter) => Some(Kind::Counter),
+        Token::Symbol(symbol) => kind_of(*symbol),
         _ => None,
     }
 }
 
-/// The write of this name.
-fn write_spelled(name: &[u8]) -> Option<WriteWord>
-    ensures { result ≡ spec.write_spelled name.now }
+/// Whether the kinds are one.
+#[tactic(auto, unfolding(crate::specs::Tokens::same_kind))]
+fn same_kind(a: Kind, b: Kind) -> bool
+    ensures { result ≡ spec.same_kind a b }
 {
-    if name == b"put".as_slice() {
-        Some(WriteWord::Put)
-    } else if name == b"add".as_slice() {
-        Some(WriteWord::Add)
-    } else if name == b"remove".as_slice() {
-        Some(WriteWord::Remove)
-    } else if name == b"clear".as_slice() {
-        Some(WriteWord::Clear)
-    } else if name == b"push".as_slice() {
-        Some(WriteWord::Push)
-    } else {
-        None
-    }
+    a == b
 }
 
-/// Whether the kind has the write.
-fn has_write(kind: Kind, word: WriteWord) -> bool
-    ensures { result ≡ spec.has_write kind word }
+/// The operation in the row of this kind and spelling.
+fn operation_in<W: Copy>(
+    mut rows: &[(Kind, &[u8], W, usize)],
+    kind: Kind,
+    spelling: &[u8],
+) -> Option<Operation<W>>
+    ensures { result ≡ spec.operation_in (map (λ row. (row.0, row.1.now, row.2, row.3)) rows.entry.now) kind spelling.now }
 {
-    match (kind, word) {
-        (Kind::Bool | Kind::Counter | Kind::Text | Kind::Hash, WriteWord::Put) => true,
-        (Kind::Counter | Kind::Set, WriteWord::Add) => true,
-        (Kind::Set | Kind::Hash | Kind::List, WriteWord::Remove | WriteWord::Clear) => true,
-        (Kind::List, WriteWord::Push) => true,
-        _ => false,
-    }
-}
-
-/// The write of this name that the kind has.
-#[tactic(auto, unfolding(crate::specs::Tokens::write_named))]
-fn write_named(kind: Kind, name: &[u8]) -> Option<WriteWord>
-    ensures { result ≡ spec.write_named kind name.now }
-{
-    match write_spelled(name) {
-        Some(word) if has_write(kind, word) => Some(word),
-        _ => None,
-    }
-}
-
-/// The write of this kind whose name the token is.
-pub(crate) fn write_word_of(kind: Kind, token: &Token) -> Option<WriteWord>
-    ensures { result ≡ spec.write_word kind token.now }
-{
-    match token {
-        Token::Name(name) => write_named(kind, name.as_slice()),
-        _ => None,
-    }
-}
-
-/// The read of this name.
-fn read_spelled(name: &[u8]) -> Option<ReadWord>
-    ensures { result ≡ spec.read_spelled name.now }
-{
-    if name == b"get".as_slice() {
-        Some(ReadWord::Get)
-    } else if name == b"has".as_slice() {
-        Some(ReadWord::Has)
-    } else if name == b"all".as_slice() {
-        Some(ReadWord::All)
-    } else if name == b"fields".as_slice() {
-        Some(ReadWord::Fields)
-    } else if name == b"at".as_slice() {
-        Some(ReadWord::At)
-    } else {
-        None
-    }
-}
-
-/// Whether the kind has the read.
-fn has_read(kind: Kind, word: ReadWord) -> bool
-    ensures { result ≡ spec.has_read kind word }
-{
-    match (kind, word) {
-        (Kind::Bool | Kind::Counter | Kind::Text | Kind::Hash, ReadWord::Get) => true,
-        (Kind::Set | Kind::Hash, ReadWord::Has) => true,
-        (Kind::Set | Kind::List, ReadWord::All) => true,
-        (Kind::Hash, ReadWord::Fields) => true,
-        (Kind::List, ReadWord::At) => true,
-        _ => false,
-    }
-}
-
-/// The read of this name that the kind has.
-#[tactic(auto, unfolding(crate::specs::Tokens::read_named))]
-fn read_named(kind: Kind, name: &[u8]) -> Option<ReadWord>
-    ensures { result ≡ spec.read_named kind name.now }
-{
-    match read_spelled(name) {
-        Some(word) if has_read(kind, word) => Some(word),
-        _ => None,
-    }
-}
-
-/// The read of this kind whose name the token is.
-pub(crate) fn read_word_of(kind: Kind, token: &Token) -> Option<ReadWord>
-    ensures { result ≡ spec.read_word kind token.now }
-{
-    match token {
-        Token::Name(name) => read_named(kind, name.as_slice()),
-        _ => None,
-    }
-}
-
-/// Whether the token is a text that isn't too long for a key.
-pub(crate) fn is_key(token: &Token) -> bool
-    ensures { result ≡ read.is_made (spec.key token.now) }
-{
-    match token {
-        Token::Text(bytes) => bytes.len() <= KEY_LIMIT,
-        _ => false,
-    }
-}
-
-/// The key that the token is, which is consumed in any case.
-pub(crate) fn key_of(token: Token) -> Option<Text>
-    ensures { result ≡ spec.key token }
-{
-    match token {
-        Token::Text(bytes) => {
-            if bytes.len() <= KEY_LIMIT {
-                Some(bytes)
-            } else {
-                None
-            }
+    while let [row, rest @ ..] = rows {
+        if same_kind(row.0, kind) && row.1 == spelling {
+            return Some(Operation {
+                word: row.2,
+                arguments: row.3,
+            });
         }
+        rows = rest;
+    }
+    None
+}
+
+/// The kind's write that the token names.
+#[tactic(auto, unfolding(crate::specs::Tokens::write_named))]
+pub fn write_at(kind: Kind, token: &Token) -> Option<Operation<WriteWord>>
+    ensures { result ≡ spec.write_of kind token.now }
+{
+    match token {
+        Token::Name(name) => operation_in(&WRITES, kind, name.as_slice()),
+        _ => None,
+    }
+}
+
+/// The kind's read that the token names.
+#[tactic(auto, unfolding(crate::specs::Tokens::read_named))]
+pub fn read_at(kind: Kind, token: &Token) -> Option<Operation<ReadWord>>
+    ensures { result ≡ spec.read_of kind token.now }
+{
+    match token {
+        Token::Name(name) => operation_in(&READS, kind, name.as_slice()),
+        _ => None,
+    }
+}
+
+/// The leaf that the token is.
+pub fn leaf_of(token: &Token) -> Option<Leaf>
+    ensures { result ≡ form.leaf_of token.now }
+{
+    match token {
+        Token::Number(_) => Some(Leaf::Number),
+        Token::Text(_) => Some(Leaf::Text),
+        Token::Name(_) => Some(Leaf::Name),
+        Token::Symbol(Symbol::True | Symbol::False) => Some(Leaf::Truth),
+        _ => None,
+    }
+}
+
+/// The expression that the token opens.
+pub fn opener_of(token: &Token) -> Option<Opener>
+    ensures { result ≡ spec.of_symbol form.opener_of token.now }
+{
+    match token {
+        Token::Symbol(Symbol::Minus) => Some(Opener::Negative),
+        Token::Symbol(Symbol::OpenParen) => Some(Opener::Group),
+        Token::Symbol(Symbol::Len) => Some(Opener::Len),
+        Token::Symbol(Symbol::Str) => Some(Opener::Str),
+        Token::Symbol(Symbol::OpenBracket) => Some(Opener::Texts),
+        Token::Symbol(
+            Symbol::Bool
+            | Symbol::Counter
+            | Symbol::Text
+            | Symbol::Set
+            | Symbol::Hash
+            | Symbol::List,
+        ) => Some(Opener::Read),
+        _ => None,
+    }
+}
+
+/// The simple statement that the token begins.
+pub fn simple_of(token: &Token) -> Option<Simple>
+    ensures { result ≡ spec.of_symbol form.simple_of token.now }
+{
+    match token {
+        Token::Symbol(Symbol::Let) => Some(Simple::Let),
+        Token::Symbol(Symbol::Emit) => Some(Simple::Emit),
+        Token::Symbol(Symbol::Fail) => Some(Simple::Fail),
+        _ => None,
+    }
+}
+
+/// The nesting statement that the token begins.
+pub fn nesting_of(token: &Token) -> Option<Nesting>
+    ensures { result ≡ spec.of_symbol form.nesting_of token.now }
+{
+    match token {
+        Token::Symbol(Symbol::If) => Some(Nesting::If),
+        Token::Symbol(Symbol::For) => Some(Nesting::For),
+        Token::Symbol(
+            Symbol::Bool
+            | Symbol::Counter
+            | Symbol::Text
+            | Symbol::Set
+            | Symbol::Hash
+            | Symbol::List,
+        ) => Some(Nesting::Write),
         _ => None,
     }
 }

@@ -3,21 +3,23 @@
 ghost use Rattle.std.specs.Prelude.{◌≡◌};
 ghost use Rattle.txn_grammar.specs.Numbers as spec;
 
-/// The value of the digits, unless it is above the largest `i64`.
+use crate::limit::LARGEST;
+
+/// The value of the digits, unless it is above the largest number.
 fn small_value(digits: &[u8]) -> Option<i64>
     ensures { result ≡ spec.small_value digits.now }
 {
     let mut value: u128 = 0;
     for digit in digits {
         value = 10 * value + u128::from(digit.saturating_sub(b'0'));
-        if value > LARGEST {
+        if value > u128::from(LARGEST) {
             return None;
         }
     }
     Some(value as i64)
 }
 
-/// The number that the digits write: no needless zero in front, and not above the largest `i64`.
+/// The number that the digits write: no needless zero in front, and not above the largest number.
 #[tactic(auto, unfolding(crate::specs::Numbers::number_value))]
 pub(crate) fn number_value(digits: &[u8]) -> Option<i64>
     ensures { result ≡ spec.number_value digits.now }
@@ -27,6 +29,3 @@ pub(crate) fn number_value(digits: &[u8]) -> Option<i64>
     }
     small_value(digits)
 }
-
-/// The largest number that can be written, which is the largest `i64`.
-const LARGEST: u128 = 9223372036854775807;

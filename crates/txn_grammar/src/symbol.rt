@@ -59,3 +59,51 @@ pub enum Symbol {
     /// `.`
     Dot,
 }
+
+/// The reserved words, which are no names.
+pub const WORDS: [(&[u8], Symbol); 21] = [
+    (b"let", Symbol::Let),
+    (b"emit", Symbol::Emit),
+    (b"fail", Symbol::Fail),
+    (b"if", Symbol::If),
+    (b"else", Symbol::Else),
+    (b"for", Symbol::For),
+    (b"in", Symbol::In),
+    (b"and", Symbol::And),
+    (b"or", Symbol::Or),
+    (b"not", Symbol::Not),
+    (b"true", Symbol::True),
+    (b"false", Symbol::False),
+    (b"len", Symbol::Len),
+    (b"str", Symbol::Str),
+    (b"bool", Symbol::Bool),
+    (b"counter", Symbol::Counter),
+    (b"text", Symbol::Text),
+    (b"set", Symbol::Set),
+    (b"hash", Symbol::Hash),
+    (b"list", Symbol::List),
+    (b"peak", Symbol::Peak),
+];
+
+/// The marks, of two bytes and of one.
+pub const MARKS: [(&[u8], Symbol); 19] = [
+    (b"==", Symbol::Equal),
+    (b"!=", Symbol::Unequal),
+    (b"<=", Symbol::AtMost),
+    (b">=", Symbol::AtLeast),
+    (b"<", Symbol::Less),
+    (b">", Symbol::Greater),
+    (b"=", Symbol::Assign),
+    (b"+", Symbol::Plus),
+    (b"-", Symbol::Minus),
+    (b"*", Symbol::Times),
+    (b"(", Symbol::OpenParen),
+    (b")", Symbol::CloseParen),
+    (b"[", Symbol::OpenBracket),
+    (b"]", Symbol::CloseBracket),
+    (b"{", Symbol::OpenBrace),
+    (b"}", Symbol::CloseBrace),
+    (b",", Symbol::Comma),
+    (b";", Symbol::Semicolon),
+    (b".", Symbol::Dot),
+];

@@ -1,6 +1,7 @@
 pub mod Replay
 pub mod Journals
 pub mod Typing
-pub mod Histories
 pub mod NamesKept
-pub mod EarlyTyped
+pub mod Trees
+pub mod Simulation
+pub mod Determinacy

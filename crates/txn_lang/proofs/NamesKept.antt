@@ -12,9 +12,11 @@ use Rattle.std.proofs.lemmas.Cmp.{nat_list_cmp_total}
 use Rattle.plain_data.specs.Texts.{Bytes, MapOf, text_cmp}
 use Rattle.txn_lang.specs.declared.bound_names.Binding.{Binding}
 use Rattle.txn_lang.specs.declared.item_type.Type.{«Type» as ItemType}
-use Rattle.txn_lang.specs.Types.{Names, type_bound, later}
+use Rattle.txn_lang.specs.Types.{Names, type_bound}
+use Rattle.txn_lang.specs.Bindings.{later}
 use Rattle.txn_lang.specs.BoundNames.{names_of, type_there, Hides, Keeps}
-use Rattle.txn_lang.proofs.Histories.{lawful-push, lawful-front}
+use Rattle.std.proofs.Math.Seq.{take-append_seam}
+use Rattle.plain_data.proofs.Histories.{IsLawful-push, IsLawful-prefix, IsLawful-place}
 
 -- nothing is kept of no names
 pub keeps-empty : Keeps fin.empty []
@@ -45,7 +47,7 @@ keeps-bind types bs b keeps hides = record {
       type_there-insert types b.name (Some b.item_type) x
       ∙ ap (cond (eq_by_cmp text_cmp x b.name) (Some b.item_type)) (keeps.newest x)
       ∙ sym (type_bound-push bs b x);
-  hidden = lawful-push Hides 0 bs b keeps.hidden hides;
+  hidden = IsLawful-push Hides 0 bs b keeps.hidden hides;
 }
 
 is_equal : (o : Ordering) → is_eq o ≡ true → o ≡ Equal
@@ -61,15 +63,23 @@ later-tied (n ∷ names) x y start tied =
 type_bound-tied : (names : Names) (x y : Bytes) → eq_by_cmp text_cmp x y ≡ true → type_bound names x ≡ type_bound names y
 type_bound-tied names x y tied = later-tied names x y None (is_equal (text_cmp x y) tied)
 
+-- the last place of a list
+last_place : {A : Type 0} (xs : List A) (x : A) → slice_get (xs ++ x ∷ []) (length xs) ≡ Some x
+last_place [] x = refl
+last_place (y ∷ xs) x = last_place xs x
+
 -- the name that was bound last is forgotten
 pub keeps-forget : (types : MapOf (Option ItemType)) (bs : List Binding) (b : Binding) → Keeps types (bs ++ b ∷ []) → Keeps (fin.insert types b.name b.hidden) bs
 keeps-forget types bs b keeps = record {
   newest = λ x. type_there-insert types b.name b.hidden x ∙ by x (eq_by_cmp text_cmp x b.name) refl;
-  hidden = (lawful-front Hides 0 bs b keeps.hidden).0;
+  hidden = IsLawful-prefix Hides 0 bs (bs ++ b ∷ []) (b ∷ [], refl) keeps.hidden;
 }
   where
+    last_hides : Hides 0 bs b
+    last_hides = subst (λ before. Hides 0 before b) (take-append_seam bs (b ∷ [])) (IsLawful-place Hides 0 (bs ++ b ∷ []) keeps.hidden (length bs) b (last_place bs b))
+
     by : (x : Bytes) (tied : Bool) → eq_by_cmp text_cmp x b.name ≡ tied → cond tied b.hidden (type_there (fin.get types x)) ≡ type_bound (names_of bs) x
-    by x true e = (lawful-front Hides 0 bs b keeps.hidden).1 ∙ sym (type_bound-tied (names_of bs) x b.name e)
+    by x true e = last_hides ∙ sym (type_bound-tied (names_of bs) x b.name e)
     by x false e = keeps.newest x ∙ type_bound-push bs b x ∙ ap (λ t. cond t (Some b.item_type) (type_bound (names_of bs) x)) e
 
 -- a list whose last item is known

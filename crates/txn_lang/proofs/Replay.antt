@@ -19,7 +19,7 @@ use Rattle.rdt_types.proofs.Addresses.{address_cmp-equal}
 use Rattle.rdt_types.proofs.Laws.{deltas_write, compositions_apply_in_turn}
 use Rattle.conflict_table.specs.Reads.{replay}
 use Rattle.txn_lang.specs.States.{apply_maybe}
-use Rattle.txn_lang.specs.Running.{Operations, at_address, AreOfTheirKinds, DeltasLeaveWhatOperationsLeave}
+use Rattle.txn_lang.specs.Own.{Operations, at_address, AreOfTheirKinds, DeltasLeaveWhatOperationsLeave}
 
 -- one more operation, after a delta that may be there
 abbrev pub composed_with : Option Delta → WriteOp → Option Delta

@@ -3,12 +3,11 @@ use Rattle.std.specs.Prelude.{◌≡◌, ℕ, ◌+◌, ◌<◌, List, [], length
 use Rattle.plain_data.specs.Histories as histories
 use Rattle.plain_data.specs.Histories.{IsLawful}
 use Rattle.txn_trees.specs.declared.statement.Body.{Body}
-use Rattle.txn_grammar.specs.Tree.{tree}
 use Rattle.txn_lang.specs.declared.commit.Commit.{Commit}
 use Rattle.txn_lang.specs.declared.run.Run.{Run}
 use Rattle.txn_lang.specs.States.{Journal, known, left_by}
-use Rattle.txn_lang.specs.Running.{exec}
-use Rattle.txn_lang.specs.Running.Ran.{done}
+use Rattle.txn_lang.specs.Execution.{exec, done}
+use Rattle.txn_lang.specs.Tree.{tree}
 
 -- the commits of one client
 abbrev pub own : ℕ → Journal → Journal

@@ -1,7 +1,7 @@
 -- Types, and which of them the operations of the language take and give.
 use Rattle.std.specs.Prelude.{◌≡◌, Bool, true, false, ◌||◌, if◌then◌else◌, List, [], ◌∷◌, fold, Option, Some, None, codes, refl}
-use Rattle.std.specs.Ordering.{eq_by_cmp}
-use Rattle.plain_data.specs.Texts.{Bytes, text_cmp}
+use Rattle.plain_data.specs.Texts.{Bytes}
+use Rattle.txn_lang.specs.Bindings.{bound}
 use Rattle.rdt_types.specs.declared.address.Kind.{Kind}
 use Rattle.rdt_types.specs.declared.address.Kind.TheVariants as kind
 use Rattle.txn_trees.specs.declared.word.Operator.{Operator}
@@ -28,16 +28,9 @@ same _ _ = false
 abbrev pub Names : Type 0
 Names = List (Bytes × ItemType)
 
-abbrev pub later : Bytes → Option ItemType → Bytes × ItemType → Option ItemType
-later x found bound = if eq_by_cmp text_cmp x bound.0 then Some bound.1 else found
-
--- the type of a name, if it is bound: the newest binding counts
+-- the type of a name, if it is bound
 abbrev pub type_bound : Names → Bytes → Option ItemType
-type_bound names x = fold (later x) None names
-
--- a name that is bound again
-newest-counts : type_bound ((codes "y", type.Int) ∷ (codes "x", type.Bool) ∷ (codes "y", type.Text) ∷ []) (codes "y") ≡ Some type.Text
-newest-counts = refl
+type_bound names x = bound names x
 
 -- ---- operations
 

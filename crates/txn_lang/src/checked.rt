@@ -1,7 +1,7 @@
 //! Bodies that have been read and checked.
 
 ghost use Rattle.std.specs.Prelude.{◌≡◌, IsTrue, Some, None};
-ghost use Rattle.txn_grammar.specs.Tree.{tree};
+ghost use Rattle.txn_lang.specs.Tree.{tree};
 ghost use Rattle.txn_lang.specs.Typing.{IsTyped};
 ghost use Rattle.txn_lang.specs.Writes.{first_write};
 

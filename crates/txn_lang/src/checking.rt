@@ -2,7 +2,7 @@
 
 ghost use Rattle.std.specs.Prelude.{◌≡◌, ◌≤◌, ℕ, map, take, length, IsTrue, None, Some, Err, IfOk, OnOk, MatchResult};
 ghost use Rattle.plain_data.specs.declared.or_no_memory.OrNoMemory.TheVariants.{Cause};
-ghost use Rattle.txn_grammar.specs.Tree.{tree};
+ghost use Rattle.txn_grammar.specs.Parsed.{parsed};
 ghost use Rattle.txn_lang.specs.Typing as spec;
 ghost use Rattle.txn_lang.specs.Typing.{judge as judge_of, IsTyped};
 ghost use Rattle.txn_lang.specs.Writes.{first_write as first_write_of};
@@ -138,7 +138,7 @@ pub fn check(
     source: Text,
     read_only: bool,
 ) -> Result<Checked, CheckError>
-    requires { tree source ≡ Some body }
+    requires { parsed source ≡ Some body }
     ensures body { IfOk result (λ checked. checked.body ≡ body) }
     ensures source { IfOk result (λ checked. checked.source ≡ source) }
     ensures read_only { IfOk result (λ checked. checked.read_only ≡ read_only) }

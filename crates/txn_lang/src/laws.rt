@@ -1,7 +1,10 @@
 //! Laws of the definitions, each the contract of a function that does nothing.
 
 ghost use Rattle.txn_lang.specs.Journals.{LegalCommitsFollow};
-ghost use Rattle.txn_lang.specs.Running.{DeltasLeaveWhatOperationsLeave};
+ghost use Rattle.txn_lang.specs.Own.{DeltasLeaveWhatOperationsLeave};
+ghost use Rattle.txn_lang.specs.Execution.{RunsAreBounded};
+ghost use Rattle.txn_lang.specs.Determinacy.{RunsAreDetermined};
+ghost use Rattle.txn_lang.specs.Tree.{TreesAreTypedBodies};
 ghost use Rattle.txn_lang.specs.Typing.{TypesAreFound, BodiesAreJudged};
 
 /// The law that the deltas of a run leave at each address what its operations leave, one after the other.
@@ -22,4 +25,21 @@ pub fn types_are_found()
 /// The law that a body is well typed exactly where the checker finds no rule that fails.
 pub fn bodies_are_judged()
     ensures { BodiesAreJudged }
+{}
+
+/// The law of determinacy: if the run of a body on one state is done, and a second state agrees with it on all that was
+/// observed, the run on the second is the same.
+pub fn runs_are_determined()
+    ensures { RunsAreDetermined }
+{}
+
+/// The law that no run charges more ticks than the limit.
+pub fn runs_are_bounded()
+    ensures { RunsAreBounded }
+{}
+
+/// The law that a text has a tree exactly where the grammar derives it from the text's tokens, and it is well typed. So
+/// a text has one tree at most.
+pub fn trees_are_typed_bodies()
+    ensures { TreesAreTypedBodies }
 {}

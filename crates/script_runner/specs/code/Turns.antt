@@ -12,7 +12,7 @@ use Rattle.txn_lang.specs.States.{Journal}
 use Rattle.script_runner.specs.declared.stop.Cause.{Cause}
 use Rattle.script_runner.specs.declared.stop.Cause.TheVariants as cause
 use Rattle.script_runner.specs.Play.{ScriptWorld, world_of, played, world_after, reply_to}
-use Rattle.script_runner.specs.Script.{IsPlayed, IsBrokenOff, HasTooManyLines, IsCutOff}
+use Rattle.script_runner.specs.Script.{IsPlayed, IsBrokenOff, HasTooManyLines, IsCutOff, IsCutOffBehindLine}
 
 -- What a run has at a moment: its world, what the source has left, and what the sink has taken.
 pub record Moment : Type 0 where
@@ -91,7 +91,7 @@ abbrev pub Ends : Settings → Result (Unit {0}) (OrNoMemory Cause) → Option T
 Ends settings (Ok done) taken taken_then = IsPlayed settings taken taken_then
 Ends settings (Err (stop.Cause cause.ReadFault)) taken taken_then = IsBrokenOff settings taken taken_then
 Ends settings (Err (stop.Cause cause.TooManyLines)) taken taken_then = HasTooManyLines settings taken taken_then
-Ends settings (Err (stop.Cause cause.WriteFault)) taken taken_then = IsCutOff settings taken taken_then
+Ends settings (Err (stop.Cause cause.WriteFault)) taken taken_then = IsCutOffBehindLine settings taken taken_then
 Ends settings (Err stop.NoMemory) taken taken_then = IsCutOff settings taken taken_then
 
 -- what a run did, of a source that may not tell what it has left

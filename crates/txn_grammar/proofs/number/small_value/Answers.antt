@@ -5,8 +5,8 @@ use Rattle.txn_grammar.specs.Numbers.{with_digit}
 use Rattle.txn_grammar.proofs.Values.{too_large, small}
 use Rattle.txn_grammar.proofs.number.small_value.Goals as goal
 
-pub returns-then-value-gt-LARGEST : goal.returns-then-value-gt-LARGEST
-returns-then-value-gt-LARGEST c =
+pub returns-then-value-from : goal.returns-then-value-from
+returns-then-value-from c =
     let k = fold_more with_digit 0 c.args.digits.now c.loop-digit.digit-index 0 (omega arith) in
     sym (too_large c.args.digits.now (c.loop-digit.digit-index + 1) (omega (arith, k)))
 

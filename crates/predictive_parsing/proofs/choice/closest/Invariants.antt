@@ -1,0 +1,7 @@
+use Rattle.std.proofs.Common.{◌≡◌, drop}
+use Rattle.predictive_parsing.specs.Choices.{closest}
+use Rattle.predictive_parsing.proofs.choice.closest.Given as goal
+
+-- the best so far, and the words that are left
+abbrev pub invariant-loop-word : goal.invariant-loop-word
+invariant-loop-word g l = closest g.W.Spelled.spelled l.bytes l.best (drop l.word-index l.others) ≡ closest g.W.Spelled.spelled l.bytes l.fn.first l.others

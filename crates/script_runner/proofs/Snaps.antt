@@ -1,0 +1,55 @@
+-- A run on some values of a state is the run on the whole state.
+use Rattle.std.proofs.Common.{◌≡◌, ◌≢◌, Bool, true, false, cond, List, [], ◌∷◌, Option, Some, None, refl, ap, sym, ◌∙◌, subst}
+use Rattle.std.specs.Option.{option_map}
+use Rattle.std.specs.Ordering.{is_eq}
+use Rattle.std.specs.Map.{lookup}
+use Rattle.std.specs.BTreeMap.{is_at, insert_entry}
+use Rattle.plain_data.proofs.Entries.{lookup-insert_entry, equal}
+use Rattle.rdt_types.specs.declared.address.Address.{Address}
+use Rattle.rdt_types.specs.declared.value.Value.{Value}
+use Rattle.rdt_types.specs.contracts.address.AddressOrd.TheImpl.Laws as order
+use Rattle.rdt_types.specs.Addresses.{address_cmp}
+use Rattle.rdt_types.specs.Values.{kind_of}
+use Rattle.rdt_types.proofs.Addresses.{address_cmp-equal}
+use Rattle.conflict_table.specs.Observing.{observe}
+use Rattle.txn_trees.specs.declared.statement.Body.{Body}
+use Rattle.txn_lang.specs.declared.run.Run.{Run}
+use Rattle.txn_lang.specs.declared.run.Seen.{Seen}
+use Rattle.txn_lang.specs.declared.snaps.Snap.{Snap}
+use Rattle.txn_lang.specs.States.{State, known}
+use Rattle.txn_lang.specs.Execution.{exec, done}
+use Rattle.txn_lang.specs.Determinacy.{Agree}
+use Rattle.txn_lang.proofs.Determinacy.{runs_are_determined}
+use Rattle.txn_eval.specs.Running.{values_of}
+use Rattle.script_runner.specs.Snaps.{AreOf}
+
+-- no values are those of any state
+pub none_of : (state : State) → AreOf state []
+none_of state a v e = absurd (cc)
+
+-- one more value of the state
+pub one_more : (state : State) (snaps : List (Address × Snap)) (b : Address) (snap : Snap) → AreOf state snaps → snap.value ≡ state b
+    → AreOf state (insert_entry address_cmp snaps b snap)
+one_more state snaps b snap are is a v e =
+    by (is_eq (address_cmp a b)) refl (sym (ap (option_map (λ s. s.value)) (lookup-insert_entry address_cmp order.total-law a b snap snaps)) ∙ e)
+  where
+    by : (t : Bool) → is_eq (address_cmp a b) ≡ t → option_map (λ s. s.value) (cond t (Some snap) (lookup (is_at (address_cmp a)) snaps)) ≡ Some v → v ≡ state a
+    by true e h = let k : snap.value ≡ v = cc in sym k ∙ (is ∙ ap state (sym (address_cmp-equal a b (equal (address_cmp a b) e))))
+    by false e h = are a v h
+
+-- a whole state agrees with some of its values on whatever was observed
+agree : (state : State) (snaps : List (Address × Snap)) → AreOf state snaps → (seen : List Seen) → Agree (values_of snaps) (known state) seen
+agree state snaps are [] = tt
+agree state snaps are (z ∷ seen) = (
+  record {
+    there = state z.address;
+    is = refl;
+    same = λ v e. let k = are z.address v e in (ap kind_of k, ap (observe z.obs) k);
+  },
+  agree state snaps are seen,
+)
+
+-- so a run that is done on them is the run on the state
+pub done_on_state : (body : Body) (state : State) (snaps : List (Address × Snap)) (r : Run) → AreOf state snaps
+    → exec body (values_of snaps) ≡ done r → exec body (known state) ≡ done r
+done_on_state body state snaps r are e = runs_are_determined body (values_of snaps) (known state) r e (agree state snaps are r.observations)

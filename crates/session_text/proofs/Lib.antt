@@ -1,0 +1,5 @@
+pub mod LineFits
+pub mod ReplyFits
+pub mod Verbs
+pub mod PrintedBack
+pub mod Within

@@ -1,0 +1,105 @@
+-- The printed form of replies, a row a reply: words and numbers with one space between each two. Texts, addresses, outcomes
+-- and parts are printed as data is.
+use Rattle.std.specs.Prelude.{ℕ, ◌++◌, codes}
+use Rattle.std.specs.Fmt.{decimal}
+use Rattle.plain_data.specs.Texts.{Bytes}
+use Rattle.rdt_types.specs.Printed.{printed_text, printed_address}
+use Rattle.conflict_table.specs.declared.observation.Obs.{Obs}
+use Rattle.conflict_table.specs.declared.observation.Obs.TheVariants as obs
+use Rattle.abort_witness.specs.declared.witness.Witness.{Witness}
+use Rattle.dtext.specs.Printing.{printed_outcome, printed_part}
+use Rattle.session_text.specs.declared.reply.Reply.{Reply}
+use Rattle.session_text.specs.declared.reply.Reply.TheVariants as reply
+use Rattle.session_text.specs.declared.reply.Why.{Why}
+use Rattle.session_text.specs.declared.reply.Why.TheVariants as why
+use Rattle.session_text.specs.declared.reply_word.ReplyWord.{ReplyWord}
+use Rattle.session_text.specs.declared.reply_word.ReplyWord.TheVariants as word
+use Rattle.session_text.specs.declared.why_word.WhyWord.{WhyWord}
+use Rattle.session_text.specs.declared.why_word.WhyWord.TheVariants as reason
+
+-- the first word of a reply
+abbrev pub word_of : ReplyWord → Bytes
+word_of word.Commit = codes "commit"
+word_of word.Abort = codes "abort"
+word_of word.Read = codes "read"
+word_of word.Prepare = codes "prepare"
+word_of word.Follow = codes "follow"
+word_of word.At = codes "at"
+word_of word.Run = codes "run"
+word_of word.Current = codes "current"
+word_of word.Idle = codes "idle"
+word_of word.Seen = codes "seen"
+word_of word.Late = codes "late"
+word_of word.Ahead = codes "ahead"
+word_of word.Full = codes "full"
+word_of word.Disk = codes "disk"
+word_of word.Dropped = codes "dropped"
+word_of word.Refused = codes "refused"
+
+-- the word for why a line is refused
+abbrev pub why_of : WhyWord → Bytes
+why_of reason.Long = codes "long"
+why_of reason.Client = codes "client"
+why_of reason.Verb = codes "verb"
+why_of reason.Syntax = codes "syntax"
+why_of reason.BadType = codes "type"
+why_of reason.Writes = codes "writes"
+why_of reason.Name = codes "name"
+why_of reason.Busy = codes "busy"
+why_of reason.NoAttempt = codes "none"
+
+-- a number behind a word
+abbrev pub counted : Bytes → ℕ → Bytes
+counted word n = word ++ decimal n
+
+-- an observation: of which kind it is, the address beside it says
+abbrev pub printed_obs : Obs → Bytes
+printed_obs obs.BoolIs = codes "whole"
+printed_obs obs.CounterIs = codes "whole"
+printed_obs obs.TextIs = codes "whole"
+printed_obs (obs.SetHas element) = codes "has " ++ printed_text element
+printed_obs obs.SetAll = codes "all"
+printed_obs (obs.HashAt field) = codes "at " ++ printed_text field
+printed_obs obs.HashAll = codes "all"
+printed_obs (obs.ListAt place) = codes "at " ++ decimal place
+printed_obs obs.ListAll = codes "all"
+
+-- why a line is refused, with the column where there is one
+abbrev pub printed_why : Why → Bytes
+printed_why why.Long = codes "long"
+printed_why why.Client = codes "client"
+printed_why why.Verb = codes "verb"
+printed_why (why.Syntax column) = codes "syntax " ++ decimal column
+printed_why (why.BadType column) = codes "type " ++ decimal column
+printed_why (why.Writes column) = codes "writes " ++ decimal column
+printed_why why.Name = codes "name"
+printed_why why.Busy = codes "busy"
+printed_why why.NoAttempt = codes "none"
+
+-- what was observed, where, and at which base
+abbrev pub printed_observed : Witness → Bytes
+printed_observed w = printed_address w.address ++ (codes " " ++ (printed_obs w.obs ++ (codes " base " ++ decimal w.base)))
+
+-- what was observed, and which commit changed it
+abbrev pub printed_witness : Witness → Bytes
+printed_witness w =
+    printed_address w.address ++ (codes " " ++ (printed_obs w.obs ++ (codes " base " ++ (decimal w.base
+    ++ (codes " clash " ++ (printed_part w.part ++ (codes " commit " ++ decimal w.number)))))))
+
+abbrev pub printed_reply : Reply → Bytes
+printed_reply (reply.Commit n outcome) = codes "commit " ++ (decimal n ++ (codes " " ++ printed_outcome outcome))
+printed_reply (reply.Abort witness) = codes "abort " ++ printed_witness witness
+printed_reply (reply.Read address base) = codes "read " ++ (printed_address address ++ (codes " base " ++ decimal base))
+printed_reply (reply.Prepared shard front) = codes "prepare " ++ (decimal shard ++ (codes " front " ++ decimal front))
+printed_reply (reply.Followed shard front) = codes "follow " ++ (decimal shard ++ (codes " front " ++ decimal front))
+printed_reply (reply.At n outcome) = codes "at " ++ (decimal n ++ (codes " " ++ printed_outcome outcome))
+printed_reply (reply.Ran name n outcome) = codes "run " ++ (name ++ (codes " " ++ (decimal n ++ (codes " " ++ printed_outcome outcome))))
+printed_reply (reply.Current n) = codes "current " ++ decimal n
+printed_reply reply.Idle = codes "idle"
+printed_reply (reply.Seen n) = codes "seen " ++ decimal n
+printed_reply (reply.Late n horizon) = codes "late " ++ (decimal n ++ (codes " " ++ decimal horizon))
+printed_reply (reply.Ahead n seen) = codes "ahead " ++ (decimal n ++ (codes " " ++ decimal seen))
+printed_reply (reply.Full limit) = codes "full " ++ decimal limit
+printed_reply reply.Disk = codes "disk"
+printed_reply reply.Dropped = codes "dropped"
+printed_reply (reply.Refused reason) = codes "refused " ++ printed_why reason

@@ -1,0 +1,34 @@
+//! The lines of a session and the replies to them, as texts: a line says what it asks for, and each reply has one printed
+//! form, which reads back. It stands on `dtext`, by which the data in replies is printed and read; what serves a session
+//! reads its lines here and prints its replies here, and what checks a session reads both.
+//!
+//! Read first `specs/Lines` (the forms of lines, a row a verb), `specs/Printing` (the printed form of replies, a row a reply)
+//! and `specs/Replies` (the spellings of replies, a row a reply). The code reads with functions over the cursor of
+//! `predictive_parsing`, each proved equal to its reader in `specs/code`; `laws` ties readers, printing and columns to the
+//! rules.
+#![tactic(auto)]
+
+mod answer;
+mod laws;
+mod limits;
+mod line;
+mod observation;
+mod print;
+mod read;
+mod reply;
+mod reply_word;
+mod verb;
+mod verb_word;
+mod why_word;
+
+pub use laws::{
+    columns_pin_answers, printed_replies_read_back, readers_are_rules, texts_have_one_value,
+};
+pub use limits::{LARGEST, LARGEST_COLUMN, LARGEST_SHARD, MOST_ATTEMPTS, NAME_REST};
+pub use print::print_reply;
+pub use read::{read_reply, read_verb};
+pub use reply::{Reply, Why};
+pub use verb::{Verb, VerbError};
+
+#[cfg(test)]
+mod tests;

@@ -1,0 +1,186 @@
+//! Printing replies.
+
+ghost use Rattle.std.specs.Prelude.{◌≡◌, ◌++◌, codes, IfOk, OnOk};
+ghost use Rattle.std.specs.Fmt.{decimal};
+ghost use Rattle.dtext.specs.Printing.{printed_outcome};
+ghost use Rattle.rdt_types.specs.Printed.{printed_text, printed_address};
+ghost use Rattle.session_text.specs.Printing as spec;
+
+use crate::reply::{Reply, Why};
+use abort_witness::Witness;
+use conflict_table::Obs;
+use dtext::{push_address, push_natural, push_outcome, push_part, push_text};
+use plain_data::Text;
+use rdt_types::{Address, Outcome};
+use std::alloc::{AllocError, Global};
+
+/// Adds a word, and a number behind it.
+fn push_counted(alloc: Global, out: &mut Text, word: &[u8], number: u64) -> Result<(), AllocError>
+    ensures { OnOk result (out.new ≡ out.old ++ (word.now ++ decimal number)) }
+{
+    out.extend_from_slice(word)?;
+    push_natural(alloc, out, number)
+}
+
+/// Adds a word, and a text in quotes behind it.
+fn push_named(out: &mut Text, word: &[u8], text: &Text) -> Result<(), AllocError>
+    ensures { OnOk result (out.new ≡ out.old ++ (word.now ++ printed_text text.now)) }
+{
+    out.extend_from_slice(word)?;
+    push_text(out, text)
+}
+
+fn push_obs(alloc: Global, out: &mut Text, obs: &Obs) -> Result<(), AllocError>
+    ensures { OnOk result (out.new ≡ out.old ++ spec.printed_obs obs.now) }
+{
+    match obs {
+        Obs::BoolIs | Obs::CounterIs | Obs::TextIs => out.extend_from_slice(b"whole"),
+        Obs::SetHas(element) => push_named(out, b"has ", element),
+        Obs::HashAt(field) => push_named(out, b"at ", field),
+        Obs::ListAt(place) => push_counted(alloc, out, b"at ", *place),
+        Obs::SetAll | Obs::HashAll | Obs::ListAll => out.extend_from_slice(b"all"),
+    }
+}
+
+fn push_why(alloc: Global, out: &mut Text, why: Why) -> Result<(), AllocError>
+    ensures { OnOk result (out.new ≡ out.old ++ spec.printed_why why) }
+{
+    match why {
+        Why::Long => out.extend_from_slice(b"long"),
+        Why::Client => out.extend_from_slice(b"client"),
+        Why::Verb => out.extend_from_slice(b"verb"),
+        Why::Syntax(column) => push_counted(alloc, out, b"syntax ", u64::from(column)),
+        Why::BadType(column) => push_counted(alloc, out, b"type ", u64::from(column)),
+        Why::Writes(column) => push_counted(alloc, out, b"writes ", u64::from(column)),
+        Why::Name => out.extend_from_slice(b"name"),
+        Why::Busy => out.extend_from_slice(b"busy"),
+        Why::NoAttempt => out.extend_from_slice(b"none"),
+    }
+}
+
+/// Adds what was observed.
+fn push_observed(alloc: Global, out: &mut Text, witness: &Witness) -> Result<(), AllocError>
+    ensures { OnOk result (out.new ≡ out.old ++ spec.printed_observed witness.now) }
+{
+    push_address(out, &witness.address)?;
+    out.extend_from_slice(b" ")?;
+    push_obs(alloc, out, &witness.obs)?;
+    push_counted(alloc, out, b" base ", witness.base)
+}
+
+fn push_witness(alloc: Global, out: &mut Text, witness: &Witness) -> Result<(), AllocError>
+    ensures { OnOk result (out.new ≡ out.old ++ spec.printed_witness witness.now) }
+{
+    push_observed(alloc, out, witness)?;
+    out.extend_from_slice(b" clash ")?;
+    push_part(alloc, out, &witness.part)?;
+    push_counted(alloc, out, b" commit ", witness.number)
+}
+
+/// Adds a word and a number, and an outcome behind it.
+fn push_ended(
+    alloc: Global,
+    out: &mut Text,
+    word: &[u8],
+    number: u64,
+    outcome: &Outcome,
+) -> Result<(), AllocError>
+    ensures { OnOk result (out.new ≡ out.old ++ (word.now ++ (decimal number ++ (codes " " ++ printed_outcome outcome.now)))) }
+{
+    push_counted(alloc, out, word, number)?;
+    out.extend_from_slice(b" ")?;
+    push_outcome(alloc, out, outcome)
+}
+
+/// Adds two words, each with a number behind it.
+fn push_both(
+    alloc: Global,
+    out: &mut Text,
+    first: &[u8],
+    number: u64,
+    second: &[u8],
+    other: u64,
+) -> Result<(), AllocError>
+    ensures { OnOk result (out.new ≡ out.old ++ (first.now ++ (decimal number ++ (second.now ++ decimal other)))) }
+{
+    push_counted(alloc, out, first, number)?;
+    push_counted(alloc, out, second, other)
+}
+
+fn push_read(alloc: Global, out: &mut Text, address: &Address, base: u64) -> Result<(), AllocError>
+    ensures { OnOk result (out.new ≡ out.old ++ (codes "read " ++ (printed_address address.now ++ (codes " base " ++ decimal base)))) }
+{
+    out.extend_from_slice(b"read ")?;
+    push_address(out, address)?;
+    push_counted(alloc, out, b" base ", base)
+}
+
+fn push_ran(
+    alloc: Global,
+    out: &mut Text,
+    name: &Text,
+    number: u64,
+    outcome: &Outcome,
+) -> Result<(), AllocError>
+    ensures { OnOk result (out.new ≡ out.old ++ (codes "run " ++ (name.now ++ (codes " " ++ (decimal number ++ (codes " " ++ printed_outcome outcome.now)))))) }
+{
+    out.extend_from_slice(b"run ")?;
+    out.extend_from_slice(name.as_slice())?;
+    push_ended(alloc, out, b" ", number, outcome)
+}
+
+fn push_reply(alloc: Global, out: &mut Text, reply: &Reply) -> Result<(), AllocError>
+    ensures { OnOk result (out.new ≡ out.old ++ spec.printed_reply reply.now) }
+{
+    match reply {
+        Reply::Commit(n, outcome) => push_ended(alloc, out, b"commit ", *n, outcome),
+        Reply::Abort(witness) => {
+            out.extend_from_slice(b"abort ")?;
+            push_witness(alloc, out, witness)
+        }
+        Reply::Read(address, base) => push_read(alloc, out, address, *base),
+        Reply::Prepared(shard, front) => {
+            push_both(
+                alloc,
+                out,
+                b"prepare ",
+                u64::from(*shard),
+                b" front ",
+                *front,
+            )
+        }
+        Reply::Followed(shard, front) => {
+            push_both(
+                alloc,
+                out,
+                b"follow ",
+                u64::from(*shard),
+                b" front ",
+                *front,
+            )
+        }
+        Reply::At(n, outcome) => push_ended(alloc, out, b"at ", *n, outcome),
+        Reply::Ran(name, n, outcome) => push_ran(alloc, out, name, *n, outcome),
+        Reply::Current(n) => push_counted(alloc, out, b"current ", *n),
+        Reply::Idle => out.extend_from_slice(b"idle"),
+        Reply::Seen(n) => push_counted(alloc, out, b"seen ", *n),
+        Reply::Late(n, horizon) => push_both(alloc, out, b"late ", *n, b" ", *horizon),
+        Reply::Ahead(n, seen) => push_both(alloc, out, b"ahead ", *n, b" ", *seen),
+        Reply::Full(limit) => push_counted(alloc, out, b"full ", u64::from(*limit)),
+        Reply::Disk => out.extend_from_slice(b"disk"),
+        Reply::Dropped => out.extend_from_slice(b"dropped"),
+        Reply::Refused(why) => {
+            out.extend_from_slice(b"refused ")?;
+            push_why(alloc, out, *why)
+        }
+    }
+}
+
+/// Prints a reply.
+pub fn print_reply(alloc: Global, reply: &Reply) -> Result<Text, AllocError>
+    ensures { IfOk result (λ out. out ≡ spec.printed_reply reply.now) }
+{
+    let mut out = Text::new(alloc);
+    push_reply(alloc, &mut out, reply)?;
+    Ok(out)
+}

@@ -1,0 +1,24 @@
+//! The evaluator: it runs checked bodies on the values that it is given. Its one promise is that a run is `exec` of
+//! `txn_lang`, whose rules it carries out over a buffer of deltas (`write_buffer`) where the definition replays operations.
+//!
+//! Read first `specs/Running.antt` of this crate (what a run comes to, on which values), and then `specs/Rules.antt` and
+//! `specs/Execution.antt` of `txn_lang`, which say what a body does.
+#![tactic(auto)]
+
+mod charging;
+mod expression;
+mod items;
+mod kept;
+mod loads;
+mod memory;
+mod naming;
+mod running;
+mod sizes;
+mod statement;
+mod words;
+
+pub use running::{Step, run};
+pub use txn_lang::{Run, Seen, SeenList, Snap, Snaps};
+
+#[cfg(test)]
+mod tests;

@@ -1,0 +1,192 @@
+//! What statements do.
+
+ghost use Rattle.std.specs.Prelude.{◌≡◌, ◌+◌, map, []};
+ghost use Rattle.txn_lang.specs.Steps as steps;
+ghost use Rattle.txn_lang.specs.Rules as rules;
+ghost use Rattle.txn_eval.specs.code.Answers.{Answers, Leaves};
+ghost use Rattle.txn_eval.specs.code.Buffering.{kept};
+ghost use Rattle.txn_eval.specs.Running.{values_of};
+
+use crate::charging::{carry, charge};
+use crate::expression::{value_of, values_of};
+use crate::items::{bool_in, into_text, into_texts};
+use crate::kept::Kept;
+use crate::loads::{emit_size, write_size};
+use crate::memory::write_at;
+use crate::words::write_of;
+use plain_data::Text;
+use rdt_types::{Address, Item, Kind};
+use std::alloc::Global;
+use txn_lang::{NameList, Progress, Snaps, Stop};
+use txn_trees::{Stmt, StmtNode, WriteWord};
+
+/// Emits an item.
+fn emit(run: &mut Progress<Kept>, item: Item) -> Result<(), Stop>
+    ensures { Answers result run.new (rules.emit_item item run.old) }
+{
+    match emit_size(&item) {
+        Some(size) => {
+            carry(run, size)?;
+            run.emitted.push(item)?;
+            Ok(())
+        }
+        None => Err(Stop::NoMemory),
+    }
+}
+
+/// Writes what a word says.
+fn write(
+    alloc: Global,
+    snaps: &Snaps,
+    run: &mut Progress<Kept>,
+    kind: Kind,
+    key: Item,
+    word: WriteWord,
+    arguments: &[Item],
+) -> Result<(), Stop>
+    ensures { Answers result run.new (rules.writes_with (kept (values_of snaps.now)) kind key word arguments.now run.old) }
+{
+    let key = into_text(alloc, key);
+    let Some(size) = write_size(&key, arguments) else {
+        return Err(Stop::NoMemory);
+    };
+    carry(run, size)?;
+    match write_of(alloc, kind, word, arguments)? {
+        Some(op) => write_at(alloc, snaps, run, &Address { kind, key }, &op),
+        None => Ok(()),
+    }
+}
+
+/// Statements in order.
+#[cycle(step)]
+pub(crate) fn steps_of(
+    alloc: Global,
+    snaps: &Snaps,
+    names: &mut NameList,
+    run: &mut Progress<Kept>,
+    stmts: &[Stmt],
+) -> Result<(), Stop>
+    ensures { Leaves result names.new run.new (rules.all_steps (map (rules.stmt_run (kept (values_of snaps.now))) stmts.now) names.old run.old) }
+{
+    for stmt in stmts {
+        step(alloc, snaps, names, run, stmt)?;
+    }
+    Ok(())
+}
+
+/// Statements in a block, which forgets its names.
+#[cycle(step)]
+fn block(
+    alloc: Global,
+    snaps: &Snaps,
+    names: &mut NameList,
+    run: &mut Progress<Kept>,
+    stmts: &[Stmt],
+) -> Result<(), Stop>
+    ensures { Leaves result names.new run.new (rules.block (map (rules.stmt_run (kept (values_of snaps.now))) stmts.now) names.old run.old) }
+{
+    let count = names.len();
+    steps_of(alloc, snaps, names, run, stmts)?;
+    names.truncate(count);
+    Ok(())
+}
+
+/// A turn of a loop.
+#[cycle(step)]
+fn turn(
+    alloc: Global,
+    snaps: &Snaps,
+    names: &mut NameList,
+    run: &mut Progress<Kept>,
+    name: &Text,
+    text: &Text,
+    stmts: &[Stmt],
+) -> Result<(), Stop>
+    ensures { Leaves result names.new run.new (rules.turn name.now (map (rules.stmt_run (kept (values_of snaps.now))) stmts.now) text.now names.old run.old) }
+{
+    charge(run, 1)?;
+    let count = names.len();
+    let bound = (name.clone()?, Item::Text(text.clone()?));
+    names.push(bound)?;
+    steps_of(alloc, snaps, names, run, stmts)?;
+    names.truncate(count);
+    Ok(())
+}
+
+/// The turns of a loop.
+#[cycle(step)]
+fn turns(
+    alloc: Global,
+    snaps: &Snaps,
+    names: &mut NameList,
+    run: &mut Progress<Kept>,
+    name: &Text,
+    texts: &[Text],
+    stmts: &[Stmt],
+) -> Result<(), Stop>
+    ensures { Leaves result names.new run.new (rules.turns name.now (map (rules.stmt_run (kept (values_of snaps.now))) stmts.now) texts.now names.old run.old) }
+{
+    for text in texts {
+        turn(alloc, snaps, names, run, name, text, stmts)?;
+    }
+    Ok(())
+}
+
+/// A statement.
+#[cycle(step)]
+fn step(
+    alloc: Global,
+    snaps: &Snaps,
+    names: &mut NameList,
+    run: &mut Progress<Kept>,
+    stmt: &Stmt,
+) -> Result<(), Stop>
+    ensures { Leaves result names.new run.new (rules.stmt_run (kept (values_of snaps.now)) stmt.now names.old run.old) }
+{
+    charge(run, 1)?;
+    match &stmt.node {
+        StmtNode::Let(name, expr) => {
+            let item = value_of(alloc, snaps, names, run, expr)?;
+            let name = name.clone()?;
+            names.push((name, item))?;
+            Ok(())
+        }
+        StmtNode::Emit(expr) => {
+            let item = value_of(alloc, snaps, names, run, expr)?;
+            emit(run, item)
+        }
+        StmtNode::Fail(expr) => {
+            let item = value_of(alloc, snaps, names, run, expr)?;
+            Err(Stop::Fail(into_text(alloc, item)))
+        }
+        StmtNode::If(expr, yes, no) => {
+            let item = value_of(alloc, snaps, names, run, expr)?;
+            if bool_in(&item) {
+                block(alloc, snaps, names, run, yes.as_slice())
+            } else {
+                match no {
+                    Some(no) => block(alloc, snaps, names, run, no.as_slice()),
+                    None => Ok(()),
+                }
+            }
+        }
+        StmtNode::For(name, expr, stmts) => {
+            let item = value_of(alloc, snaps, names, run, expr)?;
+            let texts = into_texts(alloc, item);
+            turns(
+                alloc,
+                snaps,
+                names,
+                run,
+                name,
+                texts.as_slice(),
+                stmts.as_slice(),
+            )
+        }
+        StmtNode::Write(kind, key, word, arguments) => {
+            let key = value_of(alloc, snaps, names, run, key)?;
+            let items = values_of(alloc, snaps, names, run, arguments.as_slice())?;
+            write(alloc, snaps, run, *kind, key, *word, items.as_slice())
+        }
+    }
+}

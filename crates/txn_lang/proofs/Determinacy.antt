@@ -1,0 +1,177 @@
+-- A run rests on what it observed.
+use Rattle.std.proofs.Common.{lit≤, nat_eq, ◌≡◌, ℕ, pos, negsuc, Bool, true, false, not, ◌||◌, ◌&&◌, List, [], ◌∷◌, ◌++◌, length, nat_lt, Option, Some, None, refl, ap, sym, ◌∙◌, subst, cond, rules, arith, slice_get, get_or, ◌<◌}
+use Rattle.std.specs.List.{list_any, AllByRecursion}
+use denote.Enum.Bare.{same_true}
+use Rattle.std.specs.Cmp.Lexicographic.{pointwise}
+use Rattle.rdt_types.specs.declared.address.Kind.{Kind}
+use Rattle.rdt_types.specs.contracts.address.Kind.{the_type as the_kind}
+use Rattle.rdt_types.specs.contracts.address.KindPartialEq.TheImpl as kind_eq
+use Rattle.rdt_types.specs.contracts.address.AddressPartialEq.TheImpl as address_eq
+use Rattle.conflict_table.specs.declared.observation.Obs.{Obs}
+use Rattle.conflict_table.specs.contracts.observation.ObsPartialEq.TheImpl as obs_eq
+use Rattle.rdt_types.specs.declared.address.Address.{Address}
+use Rattle.rdt_types.specs.declared.value.Value.{Value}
+use Rattle.rdt_types.specs.declared.operation.WriteOp.{WriteOp}
+use Rattle.rdt_types.specs.declared.outcome.Item.{Item}
+use Rattle.plain_data.specs.Texts.{Bytes}
+use Rattle.conflict_table.specs.declared.observation.Obs.TheVariants as obs
+use Rattle.std.proofs.lemmas.Bool.{ltb-true, lt-ltb, eqb-true}
+use Rattle.std.proofs.lemmas.Option.{slice_get_within, slice_get-get_or}
+use Rattle.rdt_types.specs.Values.{list_in, kind_of, kind_written, default_of}
+use Rattle.conflict_table.specs.declared.read.ReadOp.{ReadOp}
+use Rattle.conflict_table.specs.declared.read.ReadOp.TheVariants as read
+use Rattle.rdt_types.specs.declared.value.Value.TheVariants as value
+use Rattle.conflict_table.specs.Observing.{observe}
+use Rattle.conflict_table.specs.Reads.{replay, answer, is_decided, observed, whole_observed, is_list_remove}
+use Rattle.conflict_table.proofs.Resting.{reads_rest_on_observations}
+use Rattle.txn_trees.specs.declared.statement.Body.{Body}
+use Rattle.txn_lang.specs.declared.progress.Stop.{Stop}
+use Rattle.txn_lang.specs.declared.progress.Stop.TheVariants as stop
+use Rattle.txn_lang.specs.declared.progress.Progress.{Progress}
+use Rattle.txn_lang.specs.declared.run.Run.{Run}
+use Rattle.txn_lang.specs.declared.run.Seen.{Seen}
+use Rattle.txn_lang.specs.contracts.run.SeenPartialEq.TheImpl as seen_eq
+use Rattle.txn_lang.specs.Steps.{Memory, Step, stopped, gives, Stepping, answered, read_at, write_at}
+use Rattle.txn_lang.specs.Items.{Names}
+use Rattle.txn_lang.specs.Rules.{body_run}
+use Rattle.txn_lang.specs.States.{PartialState}
+use Rattle.txn_lang.specs.Own.{at_address, with_seen}
+use Rattle.txn_lang.specs.Execution.{Ran, need, done, Own, own, own_read, own_value, own_write, ended, own_run, exec, begun, nothing_yet, RunsAreBounded}
+use Rattle.txn_lang.specs.Determinacy.{AgreesOn, Agree, RunsAreDetermined}
+use Rattle.txn_lang.proofs.Simulation.{Simulates, Fine, Same, onto, body_simulates, answered_bounded}
+
+and_parts : (a b : Bool) → (a && b) ≡ true → (a ≡ true) × (b ≡ true)
+and_parts true b e = (refl, e)
+and_parts false b e = absurd (cc)
+
+text_same : (x y : Bytes) → pointwise nat_eq x y ≡ true → x ≡ y
+text_same [] [] e = refl
+text_same [] (b ∷ y) e = absurd (cc)
+text_same (a ∷ x) [] e = absurd (cc)
+text_same (a ∷ x) (b ∷ y) e = let both = and_parts (nat_eq a b) (pointwise nat_eq x y) e in ap (λ c. c ∷ x) (eqb-true a b both.0) ∙ ap (λ z. b ∷ z) (text_same x y both.1)
+
+kind_same : (a b : Kind) → kind_eq.ghosts.eq a b ≡ true → a ≡ b
+kind_same a b e = same_true the_kind tt a b e
+
+obs_same : (o p : Obs) → obs_eq.ghosts.eq o p ≡ true → o ≡ p
+obs_same obs.BoolIs obs.BoolIs e = refl
+obs_same obs.CounterIs obs.CounterIs e = refl
+obs_same obs.TextIs obs.TextIs e = refl
+obs_same (obs.SetHas x) (obs.SetHas y) e = ap (λ t. obs.SetHas t) (text_same x y e)
+obs_same obs.SetAll obs.SetAll e = refl
+obs_same (obs.HashAt x) (obs.HashAt y) e = ap (λ t. obs.HashAt t) (text_same x y e)
+obs_same obs.HashAll obs.HashAll e = refl
+obs_same (obs.ListAt i) (obs.ListAt j) e = ap (λ k. obs.ListAt k) (eqb-true i j e)
+obs_same obs.ListAll obs.ListAll e = refl
+obs_same _ _ e = absurd (cc)
+
+seen_alike : (x z : Seen) → seen_eq.ghosts.eq x z ≡ true → x ≡ z
+seen_alike x z e =
+    let outer = and_parts (address_eq.ghosts.eq x.address z.address) (obs_eq.ghosts.eq x.obs z.obs) e in
+    let inner = and_parts (kind_eq.ghosts.eq x.address.kind z.address.kind) (pointwise nat_eq x.address.key z.address.key) outer.0 in
+    ap (λ k. record { address = record { kind = k; key = x.address.key }; obs = x.obs }) (kind_same _ _ inner.0)
+    ∙ (ap (λ t. record { address = record { kind = z.address.kind; key = t }; obs = x.obs }) (text_same _ _ inner.1)
+    ∙ ap (λ o. record { address = z.address; obs = o }) (obs_same _ _ outer.1))
+
+module _ (P : Seen → Type 0) where
+  front : (xs : List Seen) (z : Seen) → AllByRecursion P (xs ++ z ∷ []) → AllByRecursion P xs × P z
+  front [] z all = (tt, all.0)
+  front (x ∷ xs) z all = let rest = front xs z all.1 in ((all.0, rest.0), rest.1)
+
+  listed : (xs : List Seen) (z : Seen) → list_any (λ t. seen_eq.ghosts.eq t z) xs ≡ true → AllByRecursion P xs → P z
+  listed [] z e all = absurd (cc)
+  listed (x ∷ xs) z e all = by (seen_eq.ghosts.eq x z) refl e (λ later. listed xs z later all.1)
+    where
+      by : (b : Bool) → seen_eq.ghosts.eq x z ≡ b → (b || list_any (λ t. seen_eq.ghosts.eq t z) xs) ≡ true → (list_any (λ t. seen_eq.ghosts.eq t z) xs ≡ true → P z) → P z
+      by true is e rest = subst P (seen_alike x z is) all.0
+      by false is e rest = rest e
+
+  -- the observations before one more, and that one
+  parts : (xs : List Seen) (z : Seen) → AllByRecursion P (with_seen xs z) → AllByRecursion P xs × P z
+  parts xs z all = by (list_any (λ t. seen_eq.ghosts.eq t z) xs) refl all
+    where
+      by : (b : Bool) → list_any (λ t. seen_eq.ghosts.eq t z) xs ≡ b → AllByRecursion P (cond b xs (xs ++ z ∷ [])) → AllByRecursion P xs × P z
+      by true e all = (all, listed xs z e all)
+      by false e all = front xs z all
+
+module _ (s t : PartialState) where
+  abbrev Good : Own → Type 0
+  Good o = Agree s t o.observations
+
+  abbrev Needs : Address → Type 0
+  Needs a = ⊥
+
+  abbrev Both : {A : Type 0} → Stepping Own A → Stepping Own A → Type 0
+  Both f g = Simulates (λ o p. o ≡ p) Good Needs f g
+
+  module _ (r : ReadOp) (a : Address) (p : Progress Own) where
+    abbrev ops : List WriteOp
+    ops = at_address a p.memory.operations
+
+    abbrev seen_of : Value → Seen
+    seen_of v = record { address = a; obs = observed r ops v }
+
+    abbrev decided_step : Step Own Item
+    decided_step = answered a (Some (answer r (replay ops (default_of a.kind)), p.memory)) p
+
+    abbrev looked_step : Option Value → Step Own Item
+    looked_step v = answered a (own_value r a v p.memory) p
+
+    read_back : (b : Bool) (v : Option Value) → Fine (λ o p. o ≡ p) Good Needs (answered a (cond b (Some (answer r (replay ops (default_of a.kind)), p.memory)) (own_value r a v p.memory)) p) → Good p.memory
+    read_back true v fine = fine
+    read_back false None fine = absurd fine.0
+    read_back false (Some v) fine = (parts (AgreesOn s t) p.memory.observations (seen_of v) fine).0
+
+    read_forth : (b : Bool) (v : Option Value) → is_decided r ops ≡ b → s a ≡ v
+        → Fine (λ o p. o ≡ p) Good Needs (answered a (cond b (Some (answer r (replay ops (default_of a.kind)), p.memory)) (own_value r a v p.memory)) p)
+        → (answered a (cond b (Some (answer r (replay ops (default_of a.kind)), p.memory)) (own_value r a v p.memory)) p) ≡ (answered a (cond b (Some (answer r (replay ops (default_of a.kind)), p.memory)) (own_value r a (t a) p.memory)) p)
+    read_forth true v not_here is fine = refl
+    read_forth false None not_here is fine = absurd fine.0
+    read_forth false (Some v) not_here is fine =
+        let z = (parts (AgreesOn s t) p.memory.observations (seen_of v) fine).1 in
+        let both = z.same v is in
+        let rests = reads_rest_on_observations r ops v z.there both.0 (λ _. both.1) in
+        let alike : answer r (replay ops v) ≡ answer r (replay ops z.there) = rests.0 in
+        let same : observed r ops z.there ≡ observed r ops v = sym (rests.1 not_here) in
+        ap (λ (x : Item × _). gives x.0 (record p { memory = record p.memory { observations = with_seen p.memory.observations (record { address = a; obs = x.1 }) } })) (ap (λ (i : Item). (i, observed r ops v)) alike ∙ ap (λ o. (answer r (replay ops z.there), o)) (sym same))
+        ∙ ap (λ w. answered a (own_value r a w p.memory) p) (sym z.is)
+
+  same_step : {A : Type 0} (u v : Step Own A) (p : Progress Own) → u ≡ v → Same (λ o p. o ≡ p) Good Needs u v
+  same_step (stopped e q) v p is = (q.memory, refl, sym is)
+  same_step (gives x q) v p is = (q.memory, refl, sym is)
+
+  reads : (r : ReadOp) (a : Address) → Both (read_at (own s) r a) (read_at (own t) r a)
+  reads r a = record {
+    back = λ p. read_back r a p (is_decided r (ops r a p)) (s a);
+    forth = λ p m is fine. subst (λ m. Same (λ o p. o ≡ p) Good Needs (read_at (own s) r a p) (read_at (own t) r a (onto m p))) is
+        (same_step (read_at (own s) r a p) (read_at (own t) r a p) p (read_forth r a p (is_decided r (ops r a p)) (s a) refl refl fine));
+    bounded = λ p h. answered_bounded a (own_read s r a p.memory) p h;
+  }
+
+  writes : (a : Address) (o : WriteOp) → kind_written o ≡ a.kind → Both (write_at (own s) a o) (write_at (own t) a o)
+  writes a o k = record { back = λ p fine. fine; forth = λ p m is fine. (own_write a o m, ap (own_write a o) is, refl); bounded = λ p h. h }
+
+  abbrev AgreeRan : Ran → Type 0
+  AgreeRan (need a) = Unit {0}
+  AgreeRan (done r) = Agree s t r.observations
+
+  done_alike : (u v : Step Own Names) (r : Run) → ended u ≡ done r → AgreeRan (ended u)
+      → (Fine (λ o p. o ≡ p) Good Needs u → Same (λ o p. o ≡ p) Good Needs u v) → ended v ≡ done r
+  done_alike (gives x p) v r e agree sim = let z = sim agree in ap ended z.2 ∙ (ap (λ m. ended (gives x (onto m p))) (sym z.1) ∙ e)
+  done_alike (stopped (stop.Need a) p) v r e agree sim = absurd (cc)
+  done_alike (stopped (stop.Fail x) p) v r e agree sim = let z = sim (tt, agree) in ap ended z.2 ∙ (ap (λ m. ended (stopped (stop.Fail x) (onto m p))) (sym z.1) ∙ e)
+  done_alike (stopped stop.Spent p) v r e agree sim = let z = sim (tt, agree) in ap ended z.2 ∙ (ap (λ m. ended (stopped stop.Spent (onto m p))) (sym z.1) ∙ e)
+  done_alike (stopped stop.Big p) v r e agree sim = let z = sim (tt, agree) in ap ended z.2 ∙ (ap (λ m. ended (stopped stop.Big (onto m p))) (sym z.1) ∙ e)
+  done_alike (stopped stop.NoMemory p) v r e agree sim = let z = sim (tt, agree) in ap ended z.2 ∙ (ap (λ m. ended (stopped stop.NoMemory (onto m p))) (sym z.1) ∙ e)
+
+pub runs_are_determined : RunsAreDetermined
+unfolding exec
+runs_are_determined b s t r e agree =
+    let sim = body_simulates (λ o p. o ≡ p) (Good s t) (Needs s t) (own s) (own t) (reads s t) (writes s t) b in
+    done_alike s t (own_run b s) (own_run b t) r e (subst (AgreeRan s t) (sym e) agree) (sim.forth (begun nothing_yet) nothing_yet refl)
+
+-- each charge is within the limit
+pub runs_are_bounded : RunsAreBounded
+runs_are_bounded b s =
+    let sim = body_simulates (λ o p. o ≡ p) (Good s s) (Needs s s) (own s) (own s) (reads s s) (writes s s) b in
+    sim.bounded (begun nothing_yet) (lit≤ tt)

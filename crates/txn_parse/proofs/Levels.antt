@@ -1,0 +1,112 @@
+-- How readers go down the levels, and choose by what is ahead.
+use Rattle.std.proofs.Common.{◌≡◌, ℕ, suc, ◌-◌, ◌<◌, Bool, true, false, ◌||◌, List, [], ◌∷◌, Ok, Option, Some, None, unwrap_or, ap, sym, ◌∙◌, arith, cond}
+use Rattle.txn_trees.specs.declared.expression.Expr.{Expr}
+use Rattle.txn_trees.specs.declared.statement.Stmt.{Stmt}
+use Rattle.predictive_parsing.specs.Reading.{Reader, next, begins, is_made, and_then, pure}
+use Rattle.txn_grammar.specs.declared.form.Leaf.{Leaf}
+use Rattle.txn_grammar.specs.declared.form.Leaf.TheVariants as leaf
+use Rattle.txn_grammar.specs.declared.form.Opener.{Opener}
+use Rattle.txn_grammar.specs.declared.form.Opener.TheVariants as opener
+use Rattle.txn_grammar.specs.declared.form.Simple.{Simple}
+use Rattle.txn_grammar.specs.declared.form.Simple.TheVariants as simple
+use Rattle.txn_grammar.specs.declared.form.Nesting.{Nesting}
+use Rattle.txn_grammar.specs.declared.form.Nesting.TheVariants as nesting
+use Rattle.txn_grammar.specs.declared.token.Spot.{Spot}
+use Rattle.txn_grammar.specs.code.Forms.{of_next, leaf_at, opener_at, simple_at, nesting_at}
+use Rattle.txn_grammar.specs.code.Reader.{a_leaf, leaf_read, opened, opened_read, unary_of, negation_of, comparison_of, unary, negation, expression, arguments_read, times, after_comma, simple_stmt, simple_read, nesting_stmt, nesting_read, statement, begins_simple, begins_nesting, begins_statement}
+use Rattle.predictive_parsing.specs.Reading.{turns}
+use Rattle.predictive_parsing.proofs.Loops.{with_front, no_front}
+use Rattle.txn_parse.proofs.Heads.{begins_at}
+
+-- the leaf that is ahead
+pub leaf_chosen : (ts : List Spot) (o : Option Leaf) → o ≡ of_next leaf_at (next ts) → a_leaf ts ≡ leaf_read (unwrap_or o leaf.Name) ts
+unfolding a_leaf
+leaf_chosen ts o e = ap (λ x. leaf_read (unwrap_or x leaf.Name) ts) (sym e)
+
+module _ (u e : Reader Spot Expr) (ts : List Spot) where
+  by : (b : Bool) → begins opener_at (next ts) ≡ b → unary_of u e ts ≡ cond b (opened u e ts) (a_leaf ts)
+  unfolding unary_of
+  by b h = ap (λ x. cond x (opened u e ts) (a_leaf ts)) h
+
+  -- what is ahead opens a level
+  pub unary_opens : (b : Opener) → Some b ≡ of_next opener_at (next ts) → unary_of u e ts ≡ opened_read u e b ts
+  unfolding opened
+  unary_opens b h = by true (begins_at opener_at (next ts) ∙ ap is_made (sym h)) ∙ ap (λ x. opened_read u e (unwrap_or x opener.Read) ts) (sym h)
+
+  -- or is a leaf
+  pub unary_leaf : None ≡ of_next opener_at (next ts) → unary_of u e ts ≡ a_leaf ts
+  unary_leaf h = by false (begins_at opener_at (next ts) ∙ ap is_made (sym h))
+
+-- with no level left
+pub unary_last : (n : ℕ) (ts : List Spot) → n ≡ 0 → unary n ts ≡ a_leaf ts
+unfolding unary
+unary_last n ts e = ap (λ m. unary m ts) e
+
+pub negation_last : (n : ℕ) (ts : List Spot) → n ≡ 0 → negation n ts ≡ comparison_of (unary n) ts
+unfolding unary
+negation_last n ts e = ap (λ m. negation m ts) e ∙ ap (λ m. comparison_of (unary m) ts) (sym e)
+
+-- with one
+pub unary_deeper : (n : ℕ) (ts : List Spot) → 0 < n → unary n ts ≡ unary_of (unary (n - 1)) (expression (n - 1)) ts
+unfolding unary expression
+unary_deeper n ts some = let e : n ≡ suc (n - 1) = omega arith in ap (λ m. unary m ts) e
+
+pub negation_deeper : (n : ℕ) (ts : List Spot) → 0 < n → negation n ts ≡ negation_of (negation (n - 1)) (unary n) ts
+unfolding unary expression
+negation_deeper n ts some = let e : n ≡ suc (n - 1) = omega arith in ap (λ m. negation m ts) e ∙ ap (λ m. negation_of (negation (n - 1)) (unary m) ts) (sym e)
+
+-- as a loop over so many turns begins, nothing is found
+pub turns_begin : {I A : Type 0} (starts : Option I → Bool) (item : Reader I A) (found : List A) (n : ℕ) (ts : List I) → found ≡ [] → with_front found (turns starts item (n - 0) ts) ≡ turns starts item n ts
+turns_begin starts item found n ts e =
+    let k : n - 0 ≡ n = omega arith in
+    ap (λ xs. with_front xs (turns starts item (n - 0) ts)) e ∙ no_front (turns starts item (n - 0) ts) ∙ ap (λ m. turns starts item m ts) k
+
+-- no argument, and some
+pub arguments_none : (e : Reader Spot Expr) (n : ℕ) (ts : List Spot) → n ≡ 0 → arguments_read e n ts ≡ Ok ([], ts)
+unfolding arguments_read
+arguments_none e n ts h = ap (λ m. arguments_read e m ts) h
+
+pub arguments_some : (e : Reader Spot Expr) (n : ℕ) (ts : List Spot) → 0 < n → arguments_read e n ts ≡ and_then (e ts) (λ first us. and_then (times (after_comma e) (n - 1) us) (λ rest. pure (first ∷ rest)))
+unfolding arguments_read
+arguments_some e n ts h = let k : n ≡ suc (n - 1) = omega arith in ap (λ m. arguments_read e m ts) k
+
+-- ---- statements
+
+pub simple_chosen : (e : Reader Spot Expr) (ts : List Spot) (o : Option Simple) → o ≡ of_next simple_at (next ts) → simple_stmt e ts ≡ simple_read e (unwrap_or o simple.Emit) ts
+unfolding simple_stmt
+simple_chosen e ts o h = ap (λ x. simple_read e (unwrap_or x simple.Emit) ts) (sym h)
+
+pub nesting_chosen : (e a : Reader Spot Expr) (starts : Option Spot → Bool) (p : Reader Spot Stmt) (ts : List Spot) (o : Option Nesting) → o ≡ of_next nesting_at (next ts)
+    → nesting_stmt e a starts p ts ≡ nesting_read e a starts p (unwrap_or o nesting.Write) ts
+unfolding nesting_stmt
+nesting_chosen e a starts p ts o h = ap (λ x. nesting_read e a starts p (unwrap_or x nesting.Write) ts) (sym h)
+
+-- with no level left
+pub statement_last : (n : ℕ) (ts : List Spot) → n ≡ 0 → statement n ts ≡ simple_stmt (expression n) ts
+unfolding statement
+statement_last n ts e = ap (λ m. statement m ts) e ∙ ap (λ m. simple_stmt (expression m) ts) (sym e)
+
+pub begins_last : (n : ℕ) (h : Option Spot) → n ≡ 0 → begins_statement n h ≡ begins_simple h
+unfolding begins_statement
+begins_last n h e = ap (λ m. begins_statement m h) e
+
+-- with one
+pub begins_deeper : (n : ℕ) (h : Option Spot) → 0 < n → begins_statement n h ≡ begins_simple h || begins_nesting h
+unfolding begins_statement
+begins_deeper n h some = let e : n ≡ suc (n - 1) = omega arith in ap (λ m. begins_statement m h) e
+
+abbrev nested : ℕ → Reader Spot Stmt
+nested n = nesting_stmt (expression n) (expression (n - 1)) (begins_statement (n - 1)) (statement (n - 1))
+
+statement_by : (n : ℕ) (ts : List Spot) (b : Bool) → 0 < n → begins_simple (next ts) ≡ b → statement n ts ≡ cond b (simple_stmt (expression n) ts) (nested n ts)
+unfolding statement
+statement_by n ts b some h =
+    let e : n ≡ suc (n - 1) = omega arith in
+    ap (λ m. statement m ts) e ∙ ap (λ m. cond (begins_simple (next ts)) (simple_stmt (expression m) ts) (nesting_stmt (expression m) (expression (n - 1)) (begins_statement (n - 1)) (statement (n - 1)) ts)) (sym e)
+    ∙ ap (λ x. cond x (simple_stmt (expression n) ts) (nested n ts)) h
+
+pub statement_simple : (n : ℕ) (ts : List Spot) → 0 < n → begins_simple (next ts) ≡ true → statement n ts ≡ simple_stmt (expression n) ts
+statement_simple n ts some h = statement_by n ts true some h
+
+pub statement_nests : (n : ℕ) (ts : List Spot) → 0 < n → begins_simple (next ts) ≡ false → statement n ts ≡ nesting_stmt (expression n) (expression (n - 1)) (begins_statement (n - 1)) (statement (n - 1)) ts
+statement_nests n ts some h = statement_by n ts false some h

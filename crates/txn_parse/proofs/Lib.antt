@@ -1,0 +1,4 @@
+pub mod Heads
+pub mod Calls
+pub mod Levels
+pub mod Wholes

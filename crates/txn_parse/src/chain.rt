@@ -1,0 +1,113 @@
+//! Operands and what joins them. Each reader takes the reader of an operand as a parameter.
+
+ghost use Rattle.std.specs.Prelude.{◌≡◌};
+ghost use Rattle.predictive_parsing.specs.Reading.{Reader, many, optional};
+ghost use Rattle.predictive_parsing.specs.Reads.{Reads};
+ghost use Rattle.txn_trees.specs.declared.expression.Expr.{Expr};
+ghost use Rattle.txn_grammar.specs.declared.token.Spot.{Spot};
+ghost use Rattle.txn_grammar.specs.code.Reader as spec;
+ghost use Rattle.txn_parse.specs.code.Closures.{ReadsAs};
+
+use crate::Stop;
+use crate::token::{operator, relation, sees_operator, sees_relation};
+use crate::tree::{chained, compared};
+use plain_data::Sequence;
+use predictive_parsing::Cursor;
+use std::alloc::Global;
+use txn_grammar::{Rank, Spot};
+use txn_trees::{Expr, Operand, OperandList, Relation};
+
+/// An operator of this rank, and an operand.
+fn further<R: Fn(&mut Cursor<'_, Spot>) -> Result<Expr, Stop>>(
+    cursor: &mut Cursor<Spot>,
+    rank: Rank,
+    operand: &R,
+) -> Result<Operand, Stop>
+    requires { R.IsAlwaysCallable operand.now }
+    ensures { (reader : Reader Spot Expr) → ReadsAs R.Fn operand.now reader → Reads (spec.further rank reader cursor.old) result cursor.new }
+{
+    let (_, operator) = operator(cursor, rank)?;
+    let value = operand(cursor)?;
+    Ok(Operand { operator, value })
+}
+
+/// As many of them as there are.
+fn others<R: Fn(&mut Cursor<'_, Spot>) -> Result<Expr, Stop>>(
+    alloc: Global,
+    cursor: &mut Cursor<Spot>,
+    rank: Rank,
+    operand: &R,
+) -> Result<OperandList, Stop>
+    requires { R.IsAlwaysCallable operand.now }
+    ensures { (reader : Reader Spot Expr) → ReadsAs R.Fn operand.now reader → Reads (many (spec.begins_operator rank) (spec.further rank reader) cursor.old) result cursor.new }
+{
+    let mut found = Sequence::new(alloc);
+    for _ in 0..cursor.len() {
+        if !sees_operator(cursor, rank) {
+            return Ok(found);
+        }
+        let next = further(cursor, rank, operand)?;
+        found.push(next)?;
+    }
+    Ok(found)
+}
+
+/// Operands joined by operators of this rank.
+pub(crate) fn chain<R: Fn(&mut Cursor<'_, Spot>) -> Result<Expr, Stop>>(
+    alloc: Global,
+    cursor: &mut Cursor<Spot>,
+    rank: Rank,
+    operand: R,
+) -> Result<Expr, Stop>
+    requires { R.IsAlwaysCallable operand }
+    ensures { (reader : Reader Spot Expr) → ReadsAs R.Fn operand reader → Reads (spec.chain rank reader cursor.old) result cursor.new }
+{
+    let first = operand(cursor)?;
+    let others = others(alloc, cursor, rank, &operand)?;
+    let expr = chained(alloc, first, others)?;
+    Ok(expr)
+}
+
+/// A comparison, and its other side.
+fn other_side<R: Fn(&mut Cursor<'_, Spot>) -> Result<Expr, Stop>>(
+    cursor: &mut Cursor<Spot>,
+    side: &R,
+) -> Result<(Relation, Expr), Stop>
+    requires { R.IsAlwaysCallable side.now }
+    ensures { (reader : Reader Spot Expr) → ReadsAs R.Fn side.now reader → Reads (spec.other_side reader cursor.old) result cursor.new }
+{
+    let (_, relation) = relation(cursor)?;
+    let right = side(cursor)?;
+    Ok((relation, right))
+}
+
+/// The other side, where a comparison is ahead.
+fn any_other_side<R: Fn(&mut Cursor<'_, Spot>) -> Result<Expr, Stop>>(
+    cursor: &mut Cursor<Spot>,
+    side: &R,
+) -> Result<Option<(Relation, Expr)>, Stop>
+    requires { R.IsAlwaysCallable side.now }
+    ensures { (reader : Reader Spot Expr) → ReadsAs R.Fn side.now reader → Reads (optional spec.begins_relation (spec.other_side reader) cursor.old) result cursor.new }
+{
+    if sees_relation(cursor) {
+        let found = other_side(cursor, side)?;
+        Ok(Some(found))
+    } else {
+        Ok(None)
+    }
+}
+
+/// One side, or two that are compared.
+pub(crate) fn comparison<R: Fn(&mut Cursor<'_, Spot>) -> Result<Expr, Stop>>(
+    alloc: Global,
+    cursor: &mut Cursor<Spot>,
+    side: R,
+) -> Result<Expr, Stop>
+    requires { R.IsAlwaysCallable side }
+    ensures { (reader : Reader Spot Expr) → ReadsAs R.Fn side reader → Reads (spec.comparison reader cursor.old) result cursor.new }
+{
+    let left = side(cursor)?;
+    let other = any_other_side(cursor, &side)?;
+    let expr = compared(alloc, left, other)?;
+    Ok(expr)
+}

@@ -1,0 +1,421 @@
+//! Expressions. The readers of single rules take the reader of what stands inside a level as a parameter, so that each
+//! is proved by itself.
+
+ghost use Rattle.std.specs.Prelude.{◌≡◌, ℕ, ◌<◌, ◌-◌};
+ghost use Rattle.predictive_parsing.specs.Reading as read;
+ghost use Rattle.predictive_parsing.specs.Reads.{Reads};
+ghost use Rattle.txn_grammar.specs.declared.rank.Rank.TheVariants as rank;
+ghost use Rattle.txn_grammar.specs.declared.symbol.Symbol.TheVariants as symbol;
+ghost use Rattle.txn_grammar.specs.code.Reader as spec;
+ghost use Rattle.txn_parse.specs.code.Nests.{Nests, placed};
+
+use crate::Stop;
+use crate::chain::{chain, comparison};
+use crate::leaf::leaf;
+use crate::place::Place;
+use crate::token::{ahead, kind, read, sees, word};
+use crate::tree::{grouped, read_expr};
+use plain_data::{Boxed, Sequence};
+use predictive_parsing::Cursor;
+use std::alloc::Global;
+use txn_grammar::{Opener, Rank, Spot, Symbol, Target, opener_of};
+use txn_trees::{Expr, ExprList, ExprNode};
+
+/// The rules of expressions with so many levels left, over the reader of what stands inside one.
+#[derive(Clone, Copy)]
+pub(crate) struct Grammar<F> {
+    pub(crate) alloc: Global,
+    pub(crate) levels: u8,
+    pub(crate) inside: F,
+}
+
+impl<F: Fn(Global, &mut Cursor<'_, Spot>, u8, Place) -> Result<Expr, Stop>> Grammar<F> {
+    /// What stands at this place inside a level.
+    fn inside(&self, cursor: &mut Cursor<Spot>, place: Place) -> Result<Expr, Stop>
+        requires nests { Nests self.now.levels (F.pre self.now.inside) (F.post self.now.inside) }
+        requires some { 0 < self.now.levels }
+        ensures { Reads (placed (self.now.levels - 1) place cursor.old) result cursor.new }
+    {
+        (self.inside)(self.alloc, cursor, self.levels - 1, place)
+    }
+
+    /// `-` and an operand.
+    #[tactic(auto, unfolding(txn_grammar::specs::code::Reader::negative))]
+    fn negative(&self, cursor: &mut Cursor<Spot>) -> Result<Expr, Stop>
+        requires nests { Nests self.now.levels (F.pre self.now.inside) (F.post self.now.inside) }
+        requires some { 0 < self.now.levels }
+        ensures { Reads (spec.negative (spec.unary (self.now.levels - 1)) cursor.old) result cursor.new }
+    {
+        let column = word(cursor, Symbol::Minus)?;
+        let value = self.inside(cursor, Place::Unary)?;
+        let value = Boxed::new(self.alloc, value)?;
+        Ok(Expr {
+            column,
+            node: ExprNode::Negative(value),
+        })
+    }
+
+    /// `not` and what it turns.
+    #[tactic(auto, unfolding(txn_grammar::specs::code::Reader::not_read))]
+    fn not(&self, cursor: &mut Cursor<Spot>) -> Result<Expr, Stop>
+        requires nests { Nests self.now.levels (F.pre self.now.inside) (F.post self.now.inside) }
+        requires some { 0 < self.now.levels }
+        ensures { Reads (spec.not_read (spec.negation (self.now.levels - 1)) cursor.old) result cursor.new }
+    {
+        let column = word(cursor, Symbol::Not)?;
+        let value = self.inside(cursor, Place::Negation)?;
+        let value = Boxed::new(self.alloc, value)?;
+        Ok(Expr {
+            column,
+            node: ExprNode::Not(value),
+        })
+    }
+
+    /// An expression in parentheses, with the column of the opening one.
+    #[tactic(auto, unfolding(txn_grammar::specs::code::Reader::in_parens))]
+    fn in_parens(&self, cursor: &mut Cursor<Spot>) -> Result<(u32, Expr), Stop>
+        requires nests { Nests self.now.levels (F.pre self.now.inside) (F.post self.now.inside) }
+        requires some { 0 < self.now.levels }
+        ensures { Reads (spec.in_parens (spec.expression (self.now.levels - 1)) cursor.old) result cursor.new }
+    {
+        let column = word(cursor, Symbol::OpenParen)?;
+        let inner = self.inside(cursor, Place::Whole)?;
+        word(cursor, Symbol::CloseParen)?;
+        Ok((column, inner))
+    }
+
+    /// A group leaves no node.
+    #[tactic(auto, unfolding(txn_grammar::specs::code::Reader::group))]
+    fn group(&self, cursor: &mut Cursor<Spot>) -> Result<Expr, Stop>
+        requires nests { Nests self.now.levels (F.pre self.now.inside) (F.post self.now.inside) }
+        requires some { 0 < self.now.levels }
+        ensures { Reads (spec.group (spec.expression (self.now.levels - 1)) cursor.old) result cursor.new }
+    {
+        let (column, inner) = self.in_parens(cursor)?;
+        Ok(grouped(column, inner))
+    }
+
+    /// `len` and its argument.
+    #[tactic(auto, unfolding(txn_grammar::specs::code::Reader::len))]
+    fn len(&self, cursor: &mut Cursor<Spot>) -> Result<Expr, Stop>
+        requires nests { Nests self.now.levels (F.pre self.now.inside) (F.post self.now.inside) }
+        requires some { 0 < self.now.levels }
+        ensures { Reads (spec.len (spec.expression (self.now.levels - 1)) cursor.old) result cursor.new }
+    {
+        let column = word(cursor, Symbol::Len)?;
+        let (_, argument) = self.in_parens(cursor)?;
+        let argument = Boxed::new(self.alloc, argument)?;
+        Ok(Expr {
+            column,
+            node: ExprNode::Len(argument),
+        })
+    }
+
+    /// `str` and its argument.
+    #[tactic(auto, unfolding(txn_grammar::specs::code::Reader::str))]
+    fn str(&self, cursor: &mut Cursor<Spot>) -> Result<Expr, Stop>
+        requires nests { Nests self.now.levels (F.pre self.now.inside) (F.post self.now.inside) }
+        requires some { 0 < self.now.levels }
+        ensures { Reads (spec.str (spec.expression (self.now.levels - 1)) cursor.old) result cursor.new }
+    {
+        let column = word(cursor, Symbol::Str)?;
+        let (_, argument) = self.in_parens(cursor)?;
+        let argument = Boxed::new(self.alloc, argument)?;
+        Ok(Expr {
+            column,
+            node: ExprNode::Str(argument),
+        })
+    }
+
+    /// An expression behind a comma.
+    #[tactic(auto, unfolding(txn_grammar::specs::code::Reader::after_comma))]
+    fn after_comma(&self, cursor: &mut Cursor<Spot>) -> Result<Expr, Stop>
+        requires nests { Nests self.now.levels (F.pre self.now.inside) (F.post self.now.inside) }
+        requires some { 0 < self.now.levels }
+        ensures { Reads (spec.after_comma (spec.expression (self.now.levels - 1)) cursor.old) result cursor.new }
+    {
+        word(cursor, Symbol::Comma)?;
+        self.inside(cursor, Place::Whole)
+    }
+
+    /// As many of them as there are.
+    fn others(&self, cursor: &mut Cursor<Spot>) -> Result<ExprList, Stop>
+        requires nests { Nests self.now.levels (F.pre self.now.inside) (F.post self.now.inside) }
+        requires some { 0 < self.now.levels }
+        ensures { Reads (read.many (spec.sees symbol.Comma) (spec.after_comma (spec.expression (self.now.levels - 1))) cursor.old) result cursor.new }
+    {
+        let mut found = Sequence::new(self.alloc);
+        for _ in 0..cursor.len() {
+            if !sees(cursor, Symbol::Comma) {
+                return Ok(found);
+            }
+            let next = self.after_comma(cursor)?;
+            found.push(next)?;
+        }
+        Ok(found)
+    }
+
+    /// One element at least.
+    #[tactic(auto, unfolding(txn_grammar::specs::code::Reader::elements, predictive_parsing::specs::Reading::list))]
+    fn elements(&self, cursor: &mut Cursor<Spot>) -> Result<ExprList, Stop>
+        requires nests { Nests self.now.levels (F.pre self.now.inside) (F.post self.now.inside) }
+        requires some { 0 < self.now.levels }
+        ensures { Reads (spec.elements (spec.expression (self.now.levels - 1)) cursor.old) result cursor.new }
+    {
+        let first = self.inside(cursor, Place::Whole)?;
+        let mut found = self.others(cursor)?;
+        found.insert(0, first)?;
+        Ok(found)
+    }
+
+    /// The elements, up to the closing bracket.
+    #[tactic(auto, unfolding(txn_grammar::specs::code::Reader::any_elements))]
+    fn any_elements(&self, cursor: &mut Cursor<Spot>) -> Result<ExprList, Stop>
+        requires nests { Nests self.now.levels (F.pre self.now.inside) (F.post self.now.inside) }
+        requires some { 0 < self.now.levels }
+        ensures { Reads (spec.any_elements (spec.expression (self.now.levels - 1)) cursor.old) result cursor.new }
+    {
+        if sees(cursor, Symbol::CloseBracket) {
+            Ok(Sequence::new(self.alloc))
+        } else {
+            self.elements(cursor)
+        }
+    }
+
+    /// Elements between brackets.
+    #[tactic(auto, unfolding(txn_grammar::specs::code::Reader::texts))]
+    fn texts(&self, cursor: &mut Cursor<Spot>) -> Result<Expr, Stop>
+        requires nests { Nests self.now.levels (F.pre self.now.inside) (F.post self.now.inside) }
+        requires some { 0 < self.now.levels }
+        ensures { Reads (spec.texts (spec.expression (self.now.levels - 1)) cursor.old) result cursor.new }
+    {
+        let column = word(cursor, Symbol::OpenBracket)?;
+        let found = self.any_elements(cursor)?;
+        word(cursor, Symbol::CloseBracket)?;
+        Ok(Expr {
+            column,
+            node: ExprNode::Texts(found),
+        })
+    }
+
+    /// So many expressions, each behind a comma.
+    fn so_many(&self, cursor: &mut Cursor<Spot>, count: usize) -> Result<ExprList, Stop>
+        requires nests { Nests self.now.levels (F.pre self.now.inside) (F.post self.now.inside) }
+        requires some { 0 < self.now.levels }
+        ensures { Reads (spec.times (spec.after_comma (spec.expression (self.now.levels - 1))) count cursor.old) result cursor.new }
+    {
+        let mut found = Sequence::new(self.alloc);
+        for _ in 0..count {
+            let next = self.after_comma(cursor)?;
+            found.push(next)?;
+        }
+        Ok(found)
+    }
+
+    /// Exactly so many expressions, with a comma between each two.
+    #[tactic(auto, using(crate::proofs::Levels::arguments_none, crate::proofs::Levels::arguments_some))]
+    fn arguments(&self, cursor: &mut Cursor<Spot>, count: usize) -> Result<ExprList, Stop>
+        requires nests { Nests self.now.levels (F.pre self.now.inside) (F.post self.now.inside) }
+        requires some { 0 < self.now.levels }
+        ensures { Reads (spec.arguments_read (spec.expression (self.now.levels - 1)) count cursor.old) result cursor.new }
+    {
+        if count == 0 {
+            return Ok(Sequence::new(self.alloc));
+        }
+        let first = self.inside(cursor, Place::Whole)?;
+        let mut found = self.so_many(cursor, count - 1)?;
+        found.insert(0, first)?;
+        Ok(found)
+    }
+
+    /// The same in parentheses, with the column of the opening one.
+    #[tactic(auto, unfolding(txn_grammar::specs::code::Reader::in_parens))]
+    pub(crate) fn arguments_in_parens(
+        &self,
+        cursor: &mut Cursor<Spot>,
+        count: usize,
+    ) -> Result<(u32, ExprList), Stop>
+        requires nests { Nests self.now.levels (F.pre self.now.inside) (F.post self.now.inside) }
+        requires some { 0 < self.now.levels }
+        ensures { Reads (spec.in_parens (spec.arguments_read (spec.expression (self.now.levels - 1)) count) cursor.old) result cursor.new }
+    {
+        let column = word(cursor, Symbol::OpenParen)?;
+        let found = self.arguments(cursor, count)?;
+        word(cursor, Symbol::CloseParen)?;
+        Ok((column, found))
+    }
+
+    /// A kind, and its key in parentheses, up to the dot.
+    #[tactic(auto, unfolding(txn_grammar::specs::code::Reader::targeted))]
+    pub(crate) fn targeted(&self, cursor: &mut Cursor<Spot>) -> Result<Target, Stop>
+        requires nests { Nests self.now.levels (F.pre self.now.inside) (F.post self.now.inside) }
+        requires some { 0 < self.now.levels }
+        ensures { Reads (spec.targeted (spec.expression (self.now.levels - 1)) cursor.old) result cursor.new }
+    {
+        let (column, kind) = kind(cursor)?;
+        let (_, key) = self.in_parens(cursor)?;
+        word(cursor, Symbol::Dot)?;
+        Ok(Target { column, kind, key })
+    }
+
+    /// A target, one of its kind's reads, and so many arguments as that takes.
+    #[tactic(auto, unfolding(txn_grammar::specs::code::Reader::read))]
+    fn read(&self, cursor: &mut Cursor<Spot>) -> Result<Expr, Stop>
+        requires nests { Nests self.now.levels (F.pre self.now.inside) (F.post self.now.inside) }
+        requires some { 0 < self.now.levels }
+        ensures { Reads (spec.read (spec.expression (self.now.levels - 1)) cursor.old) result cursor.new }
+    {
+        let target = self.targeted(cursor)?;
+        let (_, operation) = read(cursor, target.kind)?;
+        let (_, arguments) = self.arguments_in_parens(cursor, operation.arguments)?;
+        let expr = read_expr(self.alloc, target, operation.word, arguments)?;
+        Ok(expr)
+    }
+
+    /// What opens a level so.
+    fn opened(&self, cursor: &mut Cursor<Spot>, opener: Opener) -> Result<Expr, Stop>
+        requires nests { Nests self.now.levels (F.pre self.now.inside) (F.post self.now.inside) }
+        requires some { 0 < self.now.levels }
+        ensures { Reads (spec.opened_read (spec.unary (self.now.levels - 1)) (spec.expression (self.now.levels - 1)) opener cursor.old) result cursor.new }
+    {
+        match opener {
+            Opener::Negative => self.negative(cursor),
+            Opener::Group => self.group(cursor),
+            Opener::Len => self.len(cursor),
+            Opener::Str => self.str(cursor),
+            Opener::Texts => self.texts(cursor),
+            Opener::Read => self.read(cursor),
+        }
+    }
+
+    /// An operand, where a level is left: it opens one, or is a leaf.
+    #[tactic(auto, using(crate::proofs::Levels::unary_opens, crate::proofs::Levels::unary_leaf))]
+    fn unary_of(&self, cursor: &mut Cursor<Spot>) -> Result<Expr, Stop>
+        requires nests { Nests self.now.levels (F.pre self.now.inside) (F.post self.now.inside) }
+        requires some { 0 < self.now.levels }
+        ensures { Reads (spec.unary_of (spec.unary (self.now.levels - 1)) (spec.expression (self.now.levels - 1)) cursor.old) result cursor.new }
+    {
+        match ahead(cursor, |spot| opener_of(&spot.token)) {
+            Some(opener) => self.opened(cursor, opener),
+            None => leaf(cursor),
+        }
+    }
+
+    /// An operand.
+    #[tactic(auto, using(crate::proofs::Levels::unary_last, crate::proofs::Levels::unary_deeper))]
+    fn unary(&self, cursor: &mut Cursor<Spot>) -> Result<Expr, Stop>
+        requires { Nests self.now.levels (F.pre self.now.inside) (F.post self.now.inside) }
+        ensures { Reads (spec.unary self.now.levels cursor.old) result cursor.new }
+    {
+        if self.levels == 0 {
+            leaf(cursor)
+        } else {
+            self.unary_of(cursor)
+        }
+    }
+
+    /// Operands joined by `*`.
+    fn product(&self, cursor: &mut Cursor<Spot>) -> Result<Expr, Stop>
+        requires { Nests self.now.levels (F.pre self.now.inside) (F.post self.now.inside) }
+        ensures { Reads (spec.chain rank.Product (spec.unary self.now.levels) cursor.old) result cursor.new }
+    {
+        chain(
+            self.alloc,
+            cursor,
+            Rank::Product,
+            |cursor| self.unary(cursor),
+        )
+    }
+
+    /// Products joined by `+` and `-`.
+    fn sum(&self, cursor: &mut Cursor<Spot>) -> Result<Expr, Stop>
+        requires { Nests self.now.levels (F.pre self.now.inside) (F.post self.now.inside) }
+        ensures { Reads (spec.chain rank.Sum (spec.chain rank.Product (spec.unary self.now.levels)) cursor.old) result cursor.new }
+    {
+        chain(self.alloc, cursor, Rank::Sum, |cursor| self.product(cursor))
+    }
+
+    /// A sum, or two that are compared.
+    #[tactic(auto, unfolding(txn_grammar::specs::code::Reader::comparison_of))]
+    fn comparison(&self, cursor: &mut Cursor<Spot>) -> Result<Expr, Stop>
+        requires { Nests self.now.levels (F.pre self.now.inside) (F.post self.now.inside) }
+        ensures { Reads (spec.comparison_of (spec.unary self.now.levels) cursor.old) result cursor.new }
+    {
+        comparison(self.alloc, cursor, |cursor| self.sum(cursor))
+    }
+
+    /// A negation or a comparison, where a level is left.
+    #[tactic(auto, unfolding(txn_grammar::specs::code::Reader::negation_of))]
+    fn negation_of(&self, cursor: &mut Cursor<Spot>) -> Result<Expr, Stop>
+        requires nests { Nests self.now.levels (F.pre self.now.inside) (F.post self.now.inside) }
+        requires some { 0 < self.now.levels }
+        ensures { Reads (spec.negation_of (spec.negation (self.now.levels - 1)) (spec.unary self.now.levels) cursor.old) result cursor.new }
+    {
+        if sees(cursor, Symbol::Not) {
+            self.not(cursor)
+        } else {
+            self.comparison(cursor)
+        }
+    }
+
+    /// A negation or a comparison.
+    #[tactic(auto, using(crate::proofs::Levels::negation_last, crate::proofs::Levels::negation_deeper))]
+    fn negation(&self, cursor: &mut Cursor<Spot>) -> Result<Expr, Stop>
+        requires { Nests self.now.levels (F.pre self.now.inside) (F.post self.now.inside) }
+        ensures { Reads (spec.negation self.now.levels cursor.old) result cursor.new }
+    {
+        if self.levels == 0 {
+            self.comparison(cursor)
+        } else {
+            self.negation_of(cursor)
+        }
+    }
+
+    /// Negations joined by `and`.
+    fn conjunction(&self, cursor: &mut Cursor<Spot>) -> Result<Expr, Stop>
+        requires { Nests self.now.levels (F.pre self.now.inside) (F.post self.now.inside) }
+        ensures { Reads (spec.chain rank.Conjunction (spec.negation self.now.levels) cursor.old) result cursor.new }
+    {
+        chain(
+            self.alloc,
+            cursor,
+            Rank::Conjunction,
+            |cursor| self.negation(cursor),
+        )
+    }
+
+    /// Conjunctions joined by `or`.
+    #[tactic(auto, unfolding(txn_grammar::specs::code::Reader::expression, txn_grammar::specs::code::Reader::expression_of))]
+    fn expression(&self, cursor: &mut Cursor<Spot>) -> Result<Expr, Stop>
+        requires { Nests self.now.levels (F.pre self.now.inside) (F.post self.now.inside) }
+        ensures { Reads (spec.expression self.now.levels cursor.old) result cursor.new }
+    {
+        chain(
+            self.alloc,
+            cursor,
+            Rank::Disjunction,
+            |cursor| self.conjunction(cursor),
+        )
+    }
+}
+
+/// What stands at this place, with so many levels left.
+pub(crate) fn placed_read(
+    alloc: Global,
+    cursor: &mut Cursor<Spot>,
+    levels: u8,
+    place: Place,
+) -> Result<Expr, Stop>
+    ensures { Reads (placed levels place cursor.old) result cursor.new }
+{
+    let grammar = Grammar {
+        alloc,
+        levels,
+        inside: placed_read,
+    };
+    match place {
+        Place::Whole => grammar.expression(cursor),
+        Place::Negation => grammar.negation(cursor),
+        Place::Unary => grammar.unary(cursor),
+    }
+}

@@ -1,0 +1,230 @@
+//! Statements that open a level, over the reader of the statements inside it, and bodies.
+
+ghost use Rattle.std.specs.Prelude.{◌≡◌, ◌<◌, ◌-◌};
+ghost use Rattle.predictive_parsing.specs.Reading as read;
+ghost use Rattle.predictive_parsing.specs.Reading.{next};
+ghost use Rattle.predictive_parsing.specs.Reads.{Reads};
+ghost use Rattle.txn_grammar.specs.declared.symbol.Symbol.TheVariants as symbol;
+ghost use Rattle.txn_grammar.specs.code.Reader as spec;
+ghost use Rattle.txn_parse.specs.code.Nests.{NestsStatements};
+
+use crate::Stop;
+use crate::grammar::{Grammar, placed_read};
+use crate::simple::{expression, simple_stmt};
+use crate::token::{ahead, begins, name, sees, word, write};
+use crate::tree::write_stmt;
+use plain_data::Sequence;
+use predictive_parsing::Cursor;
+use std::alloc::Global;
+use txn_grammar::{DEEPEST, Nesting, Spot, Symbol, nesting_of, simple_of};
+use txn_trees::{Body, Stmt, StmtList, StmtNode};
+
+/// Whether a simple statement is ahead.
+fn begins_simple(cursor: &Cursor<Spot>) -> bool
+    ensures { result ≡ spec.begins_simple (next cursor.now) }
+{
+    begins(cursor, |spot| simple_of(&spot.token))
+}
+
+/// Whether a statement that opens a level is ahead.
+fn begins_nesting(cursor: &Cursor<Spot>) -> bool
+    ensures { result ≡ spec.begins_nesting (next cursor.now) }
+{
+    begins(cursor, |spot| nesting_of(&spot.token))
+}
+
+/// Whether a statement begins here, with so many levels left.
+#[tactic(auto, using(crate::proofs::Levels::begins_last, crate::proofs::Levels::begins_deeper))]
+fn begins_statement(cursor: &Cursor<Spot>, levels: u8) -> bool
+    ensures { result ≡ spec.begins_statement levels (next cursor.now) }
+{
+    if levels == 0 {
+        begins_simple(cursor)
+    } else {
+        begins_simple(cursor) || begins_nesting(cursor)
+    }
+}
+
+/// The rules of statements with so many levels left, over the reader of the statements inside one.
+#[derive(Clone, Copy)]
+struct Statements<F> {
+    alloc: Global,
+    levels: u8,
+    inside: F,
+}
+
+impl<F: Fn(Global, &mut Cursor<'_, Spot>, u8) -> Result<Stmt, Stop>> Statements<F> {
+    /// A statement inside a level.
+    fn inside(&self, cursor: &mut Cursor<Spot>) -> Result<Stmt, Stop>
+        requires nests { NestsStatements self.now.levels (F.pre self.now.inside) (F.post self.now.inside) }
+        requires some { 0 < self.now.levels }
+        ensures { Reads (spec.statement (self.now.levels - 1) cursor.old) result cursor.new }
+    {
+        (self.inside)(self.alloc, cursor, self.levels - 1)
+    }
+
+    /// As many of them as there are.
+    fn statements(&self, cursor: &mut Cursor<Spot>) -> Result<StmtList, Stop>
+        requires nests { NestsStatements self.now.levels (F.pre self.now.inside) (F.post self.now.inside) }
+        requires some { 0 < self.now.levels }
+        ensures { Reads (read.many (spec.begins_statement (self.now.levels - 1)) (spec.statement (self.now.levels - 1)) cursor.old) result cursor.new }
+    {
+        let mut found = Sequence::new(self.alloc);
+        for _ in 0..cursor.len() {
+            if !begins_statement(cursor, self.levels - 1) {
+                return Ok(found);
+            }
+            let next = self.inside(cursor)?;
+            found.push(next)?;
+        }
+        Ok(found)
+    }
+
+    /// Statements between braces.
+    #[tactic(auto, unfolding(txn_grammar::specs::code::Reader::block))]
+    fn block(&self, cursor: &mut Cursor<Spot>) -> Result<StmtList, Stop>
+        requires nests { NestsStatements self.now.levels (F.pre self.now.inside) (F.post self.now.inside) }
+        requires some { 0 < self.now.levels }
+        ensures { Reads (spec.block (spec.begins_statement (self.now.levels - 1)) (spec.statement (self.now.levels - 1)) cursor.old) result cursor.new }
+    {
+        word(cursor, Symbol::OpenBrace)?;
+        let found = self.statements(cursor)?;
+        word(cursor, Symbol::CloseBrace)?;
+        Ok(found)
+    }
+
+    /// `else` and a block.
+    #[tactic(auto, unfolding(txn_grammar::specs::code::Reader::otherwise_read))]
+    fn otherwise(&self, cursor: &mut Cursor<Spot>) -> Result<StmtList, Stop>
+        requires nests { NestsStatements self.now.levels (F.pre self.now.inside) (F.post self.now.inside) }
+        requires some { 0 < self.now.levels }
+        ensures { Reads (spec.otherwise_read (spec.begins_statement (self.now.levels - 1)) (spec.statement (self.now.levels - 1)) cursor.old) result cursor.new }
+    {
+        word(cursor, Symbol::Else)?;
+        self.block(cursor)
+    }
+
+    /// The same, where it is ahead.
+    #[tactic(auto, unfolding(predictive_parsing::specs::Reading::optional))]
+    fn any_otherwise(&self, cursor: &mut Cursor<Spot>) -> Result<Option<StmtList>, Stop>
+        requires nests { NestsStatements self.now.levels (F.pre self.now.inside) (F.post self.now.inside) }
+        requires some { 0 < self.now.levels }
+        ensures { Reads (read.optional (spec.sees symbol.Else) (spec.otherwise_read (spec.begins_statement (self.now.levels - 1)) (spec.statement (self.now.levels - 1))) cursor.old) result cursor.new }
+    {
+        if sees(cursor, Symbol::Else) {
+            let found = self.otherwise(cursor)?;
+            Ok(Some(found))
+        } else {
+            Ok(None)
+        }
+    }
+
+    /// `if`, a condition, a block, and what runs else.
+    #[tactic(auto, unfolding(txn_grammar::specs::code::Reader::if_stmt))]
+    fn if_stmt(&self, cursor: &mut Cursor<Spot>) -> Result<Stmt, Stop>
+        requires nests { NestsStatements self.now.levels (F.pre self.now.inside) (F.post self.now.inside) }
+        requires some { 0 < self.now.levels }
+        ensures { Reads (spec.if_stmt (spec.expression self.now.levels) (spec.begins_statement (self.now.levels - 1)) (spec.statement (self.now.levels - 1)) cursor.old) result cursor.new }
+    {
+        let column = word(cursor, Symbol::If)?;
+        let condition = expression(self.alloc, cursor, self.levels)?;
+        let holds = self.block(cursor)?;
+        let otherwise = self.any_otherwise(cursor)?;
+        Ok(Stmt {
+            column,
+            node: StmtNode::If(condition, holds, otherwise),
+        })
+    }
+
+    /// `for`, a name, `in`, texts, and a block.
+    #[tactic(auto, unfolding(txn_grammar::specs::code::Reader::for_stmt))]
+    fn for_stmt(&self, cursor: &mut Cursor<Spot>) -> Result<Stmt, Stop>
+        requires nests { NestsStatements self.now.levels (F.pre self.now.inside) (F.post self.now.inside) }
+        requires some { 0 < self.now.levels }
+        ensures { Reads (spec.for_stmt (spec.expression self.now.levels) (spec.begins_statement (self.now.levels - 1)) (spec.statement (self.now.levels - 1)) cursor.old) result cursor.new }
+    {
+        let column = word(cursor, Symbol::For)?;
+        let (_, found) = name(cursor)?;
+        word(cursor, Symbol::In)?;
+        let texts = expression(self.alloc, cursor, self.levels)?;
+        let each = self.block(cursor)?;
+        Ok(Stmt {
+            column,
+            node: StmtNode::For(found, texts, each),
+        })
+    }
+
+    /// This statement that opens a level.
+    fn nesting_read(&self, cursor: &mut Cursor<Spot>, nesting: Nesting) -> Result<Stmt, Stop>
+        requires nests { NestsStatements self.now.levels (F.pre self.now.inside) (F.post self.now.inside) }
+        requires some { 0 < self.now.levels }
+        ensures { Reads (spec.nesting_read (spec.expression self.now.levels) (spec.expression (self.now.levels - 1)) (spec.begins_statement (self.now.levels - 1)) (spec.statement (self.now.levels - 1)) nesting cursor.old) result cursor.new }
+    {
+        match nesting {
+            Nesting::If => self.if_stmt(cursor),
+            Nesting::For => self.for_stmt(cursor),
+            Nesting::Write => write_stmt_read(self.alloc, cursor, self.levels),
+        }
+    }
+
+    /// The statement that is ahead, which opens a level.
+    #[tactic(auto, using(crate::proofs::Levels::nesting_chosen))]
+    fn nesting_stmt(&self, cursor: &mut Cursor<Spot>) -> Result<Stmt, Stop>
+        requires nests { NestsStatements self.now.levels (F.pre self.now.inside) (F.post self.now.inside) }
+        requires some { 0 < self.now.levels }
+        ensures { Reads (spec.nesting_stmt (spec.expression self.now.levels) (spec.expression (self.now.levels - 1)) (spec.begins_statement (self.now.levels - 1)) (spec.statement (self.now.levels - 1)) cursor.old) result cursor.new }
+    {
+        let found = ahead(cursor, |spot| nesting_of(&spot.token)).unwrap_or(Nesting::Write);
+        self.nesting_read(cursor, found)
+    }
+}
+
+/// A target, one of its kind's writes, and so many arguments as that takes.
+#[tactic(auto, unfolding(txn_grammar::specs::code::Reader::write_stmt_read))]
+fn write_stmt_read(alloc: Global, cursor: &mut Cursor<Spot>, levels: u8) -> Result<Stmt, Stop>
+    requires { 0 < levels }
+    ensures { Reads (spec.write_stmt_read (spec.expression (levels - 1)) cursor.old) result cursor.new }
+{
+    let grammar = Grammar {
+        alloc,
+        levels,
+        inside: placed_read,
+    };
+    let target = grammar.targeted(cursor)?;
+    let (_, operation) = write(cursor, target.kind)?;
+    let (_, arguments) = grammar.arguments_in_parens(cursor, operation.arguments)?;
+    word(cursor, Symbol::Semicolon)?;
+    Ok(write_stmt(target, operation.word, arguments))
+}
+
+/// A statement, with so many levels left.
+#[tactic(auto, using(crate::proofs::Levels::statement_last, crate::proofs::Levels::statement_simple, crate::proofs::Levels::statement_nests))]
+fn statement(alloc: Global, cursor: &mut Cursor<Spot>, levels: u8) -> Result<Stmt, Stop>
+    ensures { Reads (spec.statement levels cursor.old) result cursor.new }
+{
+    if levels == 0 || begins_simple(cursor) {
+        return simple_stmt(alloc, cursor, levels);
+    }
+    Statements {
+        alloc,
+        levels,
+        inside: statement,
+    }
+    .nesting_stmt(cursor)
+}
+
+/// A body: one statement at least.
+#[tactic(auto, unfolding(txn_grammar::specs::code::Reader::body, predictive_parsing::specs::Reading::list))]
+pub(crate) fn body(alloc: Global, cursor: &mut Cursor<Spot>) -> Result<Body, Stop>
+    ensures { Reads (spec.body cursor.old) result cursor.new }
+{
+    let first = statement(alloc, cursor, DEEPEST)?;
+    let outside = Statements {
+        alloc,
+        levels: DEEPEST + 1,
+        inside: statement,
+    };
+    let mut stmts = outside.statements(cursor)?;
+    stmts.insert(0, first)?;
+    Ok(Body { stmts })
+}

@@ -1,0 +1,84 @@
+//! How trees are put together.
+
+ghost use Rattle.std.specs.Prelude.{◌≡◌, IfOk};
+ghost use Rattle.txn_grammar.specs.Trees as tree;
+
+use plain_data::Boxed;
+use std::alloc::{AllocError, Global};
+use txn_grammar::Target;
+use txn_trees::{
+    Expr, ExprList, ExprNode, OperandList, ReadWord, Relation, Stmt, StmtNode, WriteWord,
+};
+
+/// What stands in parentheses, at the opening one.
+pub(crate) fn grouped(column: u32, inner: Expr) -> Expr
+    ensures { result ≡ tree.grouped column inner }
+{
+    Expr {
+        column,
+        node: inner.node,
+    }
+}
+
+/// A first operand and the others: a chain where there are others.
+pub(crate) fn chained(alloc: Global, first: Expr, others: OperandList) -> Result<Expr, AllocError>
+    ensures { IfOk result (λ expr. expr ≡ tree.chained (first, others)) }
+{
+    if others.is_empty() {
+        return Ok(first);
+    }
+    let column = first.column;
+    let first = Boxed::new(alloc, first)?;
+    Ok(Expr {
+        column,
+        node: ExprNode::Chain(first, others),
+    })
+}
+
+/// A first side, and the other where there is one.
+pub(crate) fn compared(
+    alloc: Global,
+    left: Expr,
+    other: Option<(Relation, Expr)>,
+) -> Result<Expr, AllocError>
+    ensures { IfOk result (λ expr. expr ≡ tree.compared left other) }
+{
+    let Some((relation, right)) = other else {
+        return Ok(left);
+    };
+    let column = left.column;
+    let left = Boxed::new(alloc, left)?;
+    let right = Boxed::new(alloc, right)?;
+    Ok(Expr {
+        column,
+        node: ExprNode::Compare(left, relation, right),
+    })
+}
+
+/// A read stands at its kind.
+pub(crate) fn read_expr(
+    alloc: Global,
+    target: Target,
+    word: ReadWord,
+    arguments: ExprList,
+) -> Result<Expr, AllocError>
+    ensures { IfOk result (λ expr. expr ≡ tree.read_expr target word arguments) }
+{
+    let Target { column, kind, key } = target;
+    let key = Boxed::new(alloc, key)?;
+    Ok(Expr {
+        column,
+        node: ExprNode::Read(kind, key, word, arguments),
+    })
+}
+
+/// A write stands at its kind.
+pub(crate) fn write_stmt(target: Target, word: WriteWord, arguments: ExprList) -> Stmt
+    ensures { result ≡ tree.write_stmt target word arguments }
+{
+    let Target { column, kind, key } = target;
+    Stmt {
+        column,
+        node: StmtNode::Write(kind, key, word, arguments),
+    }
+}

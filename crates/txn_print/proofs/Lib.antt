@@ -1,0 +1,12 @@
+pub mod Equations
+pub mod Erased
+pub mod Back
+pub mod Within
+pub mod Keeps
+pub mod Operations
+pub mod Productions
+pub mod Expressions
+pub mod Statements
+pub mod Lexing
+pub mod Spelled
+pub mod ReadBack

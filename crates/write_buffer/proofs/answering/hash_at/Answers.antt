@@ -1,0 +1,6 @@
+use Rattle.std.proofs.Common.{sym}
+use Rattle.write_buffer.proofs.Over.{get_none, other_hash}
+use Rattle.write_buffer.proofs.answering.hash_at.Goals as goal
+
+pub returns-in_default : goal.returns-in_default
+returns-in_default c = rw c.in-Some.is (sym (get_none _ c.args.field.now (other_hash c.in-Some.own.now c.args.value.now c.in_default.not-Hash)))
