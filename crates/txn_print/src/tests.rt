@@ -1,174 +1,199 @@
-//! Three bodies, put together by hand, and their texts.
+//! Texts, read and printed.
 
 use crate::{print, printed_reads_back, same_but_columns_is_equivalence};
-use plain_data::{Boxed, Sequence, Text};
-use rdt_types::Kind;
+use plain_data::Text;
 use std::alloc::{AllocError, Global};
-use std::test::Fail;
-use txn_trees::{
-    Body, Expr, ExprList, ExprNode, Operand, Operator, ReadWord, Stmt, StmtList, StmtNode,
-    WriteWord,
-};
+use txn_parse::parse;
 
-/// An expression. Columns aren't printed, so that any will do.
-fn expr(node: ExprNode) -> Expr {
-    Expr { column: 7, node }
+/// No test has a text as long as this.
+const SHORT: usize = 5000;
+
+/// The canonical text of the body that a text is, if it is one.
+fn canonical(alloc: Global, source: &[u8]) -> Option<Text> {
+    if source.len() > SHORT {
+        return None;
+    }
+    match parse(alloc, source) {
+        Ok(body) => print(alloc, &body).ok(),
+        Err(_) => None,
+    }
 }
 
-fn number(value: i64) -> Expr {
-    expr(ExprNode::Number(value))
+fn prints_as(alloc: Global, source: &[u8], wanted: &[u8]) -> bool {
+    match canonical(alloc, source) {
+        Some(text) => text.as_slice() == wanted,
+        None => false,
+    }
 }
 
-fn quoted(alloc: Global, bytes: &[u8]) -> Result<Expr, AllocError> {
-    let text = Text::from_slice(alloc, bytes)?;
-    Ok(expr(ExprNode::Text(text)))
-}
-
-fn name(alloc: Global, bytes: &[u8]) -> Result<Expr, AllocError> {
-    let text = Text::from_slice(alloc, bytes)?;
-    Ok(expr(ExprNode::Name(text)))
-}
-
-fn negative(alloc: Global, value: Expr) -> Result<Expr, AllocError> {
-    let value = Boxed::new(alloc, value)?;
-    Ok(expr(ExprNode::Negative(value)))
-}
-
-/// Two operands.
-fn joined(alloc: Global, first: Expr, operator: Operator, value: Expr) -> Result<Expr, AllocError> {
-    let first = Boxed::new(alloc, first)?;
-    let mut rest = Sequence::new(alloc);
-    rest.push(Operand { operator, value })?;
-    Ok(expr(ExprNode::Chain(first, rest)))
-}
-
-fn one(alloc: Global, e: Expr) -> Result<ExprList, AllocError> {
-    let mut list = Sequence::new(alloc);
-    list.push(e)?;
-    Ok(list)
-}
-
-fn two(alloc: Global, first: Expr, second: Expr) -> Result<ExprList, AllocError> {
-    let mut list = one(alloc, first)?;
-    list.push(second)?;
-    Ok(list)
-}
-
-fn stmt(node: StmtNode) -> Stmt {
-    Stmt { column: 9, node }
-}
-
-fn alone(alloc: Global, node: StmtNode) -> Result<StmtList, AllocError> {
-    let mut list = Sequence::new(alloc);
-    list.push(stmt(node))?;
-    Ok(list)
-}
-
-/// `emit (1 + 2) * 3;`
-fn product(alloc: Global) -> Result<Body, AllocError> {
-    let sum = joined(alloc, number(1), Operator::Plus, number(2))?;
-    let product = joined(alloc, sum, Operator::Times, number(3))?;
-    let stmts = alone(alloc, StmtNode::Emit(product))?;
-    Ok(Body { stmts })
-}
-
-/// `1 + --1`
-fn twice_negative(alloc: Global) -> Result<Expr, AllocError> {
-    let once = negative(alloc, number(1))?;
-    let twice = negative(alloc, once)?;
-    joined(alloc, number(1), Operator::Plus, twice)
-}
-
-/// `let x = 1 + --1;`
-fn assignment(alloc: Global) -> Result<StmtNode, AllocError> {
-    let x = Text::from_slice(alloc, b"x")?;
-    let value = twice_negative(alloc)?;
-    Ok(StmtNode::Let(x, value))
-}
-
-/// A loop, and an `if` with two empty blocks.
-fn blocks(alloc: Global) -> Result<Body, AllocError> {
-    let a = Text::from_slice(alloc, b"a")?;
-    let texts = name(alloc, b"t")?;
-    let each = alone(alloc, assignment(alloc)?)?;
-    let mut stmts = alone(alloc, StmtNode::For(a, texts, each))?;
-    let yes = expr(ExprNode::Bool(true));
-    let empty = StmtNode::If(yes, Sequence::new(alloc), Some(Sequence::new(alloc)));
-    stmts.push(stmt(empty))?;
-    Ok(Body { stmts })
-}
-
-/// `set("seats").has("A1")`
-fn has_seat(alloc: Global) -> Result<Expr, AllocError> {
-    let key = Boxed::new(alloc, quoted(alloc, b"seats")?)?;
-    let arguments = one(alloc, quoted(alloc, b"A1")?)?;
-    Ok(expr(ExprNode::Read(Kind::Set, key, ReadWord::Has, arguments)))
-}
-
-/// `set("seats").remove("A1");`
-fn seat_taken(alloc: Global) -> Result<StmtNode, AllocError> {
-    let key = quoted(alloc, b"seats")?;
-    let arguments = one(alloc, quoted(alloc, b"A1")?)?;
-    Ok(StmtNode::Write(Kind::Set, key, WriteWord::Remove, arguments))
-}
-
-/// `hash("sold").put("A1", "ann");`
-fn seat_sold(alloc: Global) -> Result<StmtNode, AllocError> {
-    let key = quoted(alloc, b"sold")?;
-    let seat = quoted(alloc, b"A1")?;
-    let arguments = two(alloc, seat, quoted(alloc, b"ann")?)?;
-    Ok(StmtNode::Write(Kind::Hash, key, WriteWord::Put, arguments))
-}
-
-/// `counter("sales").add(1);`
-fn sale_counted(alloc: Global) -> Result<StmtNode, AllocError> {
-    let key = quoted(alloc, b"sales")?;
-    let arguments = one(alloc, number(1))?;
-    Ok(StmtNode::Write(Kind::Counter, key, WriteWord::Add, arguments))
-}
-
-/// A seat sale.
-fn sale(alloc: Global) -> Result<Body, AllocError> {
-    let mut sold = alone(alloc, seat_taken(alloc)?)?;
-    sold.push(stmt(seat_sold(alloc)?))?;
-    sold.push(stmt(sale_counted(alloc)?))?;
-    sold.push(stmt(StmtNode::Emit(quoted(alloc, b"ok")?)))?;
-    let taken = alone(alloc, StmtNode::Fail(quoted(alloc, b"taken")?))?;
-    let stmts = alone(alloc, StmtNode::If(has_seat(alloc)?, sold, Some(taken)))?;
-    Ok(Body { stmts })
-}
-
-/// Whether this is the text of the body.
-fn has_text(alloc: Global, body: &Body, text: &[u8]) -> Result<bool, AllocError> {
-    let printed = print(alloc, body)?;
-    Ok(printed.as_slice() == text)
+/// Each text, and the canonical one of its body, which is its own.
+#[test]
+fn parentheses(rt: HostRuntime) {
+    let rows = [
+        ("emit(1+2)*3;", "emit (1 + 2) * 3;"),
+        ("emit (1*2)+3;", "emit 1 * 2 + 3;"),
+        ("emit 1+(2*3);", "emit 1 + 2 * 3;"),
+        ("emit 1*(2*3);", "emit 1 * (2 * 3);"),
+        ("emit 1-(2-3);", "emit 1 - (2 - 3);"),
+        ("emit (1-2)-3;", "emit (1 - 2) - 3;"),
+        ("emit 1-2-3;", "emit 1 - 2 - 3;"),
+        ("emit - - 1;", "emit --1;"),
+        ("emit -(1+2);", "emit -(1 + 2);"),
+        ("emit -(1*2);", "emit -(1 * 2);"),
+        ("emit (-1)*2;", "emit -1 * 2;"),
+        ("emit (1==2)==true;", "emit (1 == 2) == true;"),
+        ("emit (1+2)==3;", "emit 1 + 2 == 3;"),
+        ("emit 1+(2==3);", "emit 1 + (2 == 3);"),
+        ("emit not not true;", "emit not not true;"),
+        ("emit not(1==2);", "emit not 1 == 2;"),
+        ("emit (not true)==false;", "emit (not true) == false;"),
+        ("emit not(true and false);", "emit not (true and false);"),
+        ("emit (not true)and false;", "emit not true and false;"),
+        (
+            "emit(true and false)or true;",
+            "emit true and false or true;",
+        ),
+        (
+            "emit true and(false or true);",
+            "emit true and (false or true);",
+        ),
+        (
+            "emit (true or false)or true;",
+            "emit (true or false) or true;",
+        ),
+        ("emit ((1));", "emit 1;"),
+        ("emit len((\"a\"))+len([]);", "emit len(\"a\") + len([]);"),
+    ];
+    for (source, wanted) in rows {
+        assert!(rt; prints_as(rt.alloc(), source.as_bytes(), wanted.as_bytes()));
+        assert!(rt; prints_as(rt.alloc(), wanted.as_bytes(), wanted.as_bytes()));
+    }
 }
 
 #[test]
-fn prints_parentheses(rt: HostRuntime) -> Result<(), Fail> {
-    let alloc = rt.alloc();
-    let body = product(alloc)?;
-    assert!(rt; has_text(alloc, &body, b"emit (1 + 2) * 3;")?);
-    Ok(())
+fn forms(rt: HostRuntime) {
+    let rows = [
+        ("if true{}", "if true { }"),
+        ("if a{}else{}", "if a { } else { }"),
+        (
+            "if a{emit 1;}else{emit x;}",
+            "if a { emit 1; } else { emit x; }",
+        ),
+        (
+            "let y=1;for f in t{emit f;}fail\"x\";",
+            "let y = 1; for f in t { emit f; } fail \"x\";",
+        ),
+        (
+            "emit 1<2;emit 1<=2;emit 1>2;emit 1>=2;emit 1!=2;",
+            "emit 1 < 2; emit 1 <= 2; emit 1 > 2; emit 1 >= 2; emit 1 != 2;",
+        ),
+        (
+            "emit \"\\x41\\\"\\\\\\n\\x07\";",
+            "emit \"A\\\"\\\\\\n\\x07\";",
+        ),
+        (
+            "emit[\"a\",\"b\"];emit[];emit str(7);emit true;emit false;",
+            "emit [\"a\", \"b\"]; emit []; emit str(7); emit true; emit false;",
+        ),
+        (
+            "bool(\"b\").put(true);counter(\"x\").put(1);counter(\"x\").add(1);text(\"t\").put(\"a\");",
+            "bool(\"b\").put(true); counter(\"x\").put(1); counter(\"x\").add(1); text(\"t\").put(\"a\");",
+        ),
+        (
+            "set(\"s\").add(\"a\");set(\"s\").remove(\"a\");set(\"s\").clear();",
+            "set(\"s\").add(\"a\"); set(\"s\").remove(\"a\"); set(\"s\").clear();",
+        ),
+        (
+            "hash(\"h\").put(\"f\",\"v\");hash(\"h\").remove(\"f\");hash(\"h\").clear();",
+            "hash(\"h\").put(\"f\", \"v\"); hash(\"h\").remove(\"f\"); hash(\"h\").clear();",
+        ),
+        (
+            "list(\"l\").push(\"p\");list(\"l\").remove(\"p\");list(\"l\").clear();",
+            "list(\"l\").push(\"p\"); list(\"l\").remove(\"p\"); list(\"l\").clear();",
+        ),
+        (
+            "emit bool(\"b\").get();emit set(\"s\").has(\"a\");emit set(\"s\").all();",
+            "emit bool(\"b\").get(); emit set(\"s\").has(\"a\"); emit set(\"s\").all();",
+        ),
+        (
+            "emit hash(\"h\").get(\"f\");emit hash(\"h\").has(\"f\");emit hash(\"h\").fields();",
+            "emit hash(\"h\").get(\"f\"); emit hash(\"h\").has(\"f\"); emit hash(\"h\").fields();",
+        ),
+        (
+            "emit list(\"l\").at(-1);emit list(\"l\").all();",
+            "emit list(\"l\").at(-1); emit list(\"l\").all();",
+        ),
+    ];
+    for (source, wanted) in rows {
+        assert!(rt; prints_as(rt.alloc(), source.as_bytes(), wanted.as_bytes()));
+        assert!(rt; prints_as(rt.alloc(), wanted.as_bytes(), wanted.as_bytes()));
+    }
 }
 
 #[test]
-fn prints_blocks(rt: HostRuntime) -> Result<(), Fail> {
-    let alloc = rt.alloc();
-    let body = blocks(alloc)?;
-    let text = b"for a in t { let x = 1 + --1; } if true { } else { }";
-    assert!(rt; has_text(alloc, &body, text)?);
-    Ok(())
+fn bodies(rt: HostRuntime) {
+    let rows = [
+        (
+            "let t = [\"\",\"\",\"\"]; for a in t { for b in t { for c in t { let y = 1+1+1+1; } } } let x = 1+1+-1;",
+            "let t = [\"\", \"\", \"\"]; for a in t { for b in t { for c in t { let y = 1 + 1 + 1 + 1; } } } let x = 1 + 1 + -1;",
+        ),
+        (
+            "if set(\"seats\").has(\"A1\") { set(\"seats\").remove(\"A1\"); hash(\"sold\").put(\"A1\", \"ann\"); counter(\"sales\").add(1); emit \"ok\"; } else { fail \"taken\"; }",
+            "if set(\"seats\").has(\"A1\") { set(\"seats\").remove(\"A1\"); hash(\"sold\").put(\"A1\", \"ann\"); counter(\"sales\").add(1); emit \"ok\"; } else { fail \"taken\"; }",
+        ),
+        (
+            "for f in hash(\"h\").fields() { emit f + \"=\" + hash(\"h\").get(f); }",
+            "for f in hash(\"h\").fields() { emit f + \"=\" + hash(\"h\").get(f); }",
+        ),
+        (
+            "emit hash(\"sold\").get(\"A1\")+\" \"+str(counter(\"sales\").get());",
+            "emit hash(\"sold\").get(\"A1\") + \" \" + str(counter(\"sales\").get());",
+        ),
+    ];
+    for (source, wanted) in rows {
+        assert!(rt; prints_as(rt.alloc(), source.as_bytes(), wanted.as_bytes()));
+        assert!(rt; prints_as(rt.alloc(), wanted.as_bytes(), wanted.as_bytes()));
+    }
+}
+
+/// A text, and then a unit so many times, and an end.
+fn repeated(
+    alloc: Global,
+    front: &[u8],
+    unit: &[u8],
+    times: usize,
+    end: &[u8],
+) -> Result<Text, AllocError> {
+    let mut text = Text::from_slice(alloc, front)?;
+    for _ in 0..times {
+        text.extend_from_slice(unit)?;
+    }
+    text.extend_from_slice(end)?;
+    Ok(text)
+}
+
+/// Whether a body of 10,000 ticks, and one of a tick more, print with their spaces. They end as they are told.
+fn longest_prints(alloc: Global, times: usize, end: &[u8], wanted_end: &[u8]) -> bool {
+    let front =
+        b"let t = [\"\",\"\",\"\",\"\",\"\",\"\",\"\",\"\",\"\",\"\"]; for a in t { for b in t { for c in t { let y = 1+1+1+1; } } } let x = 1".as_slice();
+    let wanted_front =
+        b"let t = [\"\", \"\", \"\", \"\", \"\", \"\", \"\", \"\", \"\", \"\"]; for a in t { for b in t { for c in t { let y = 1 + 1 + 1 + 1; } } } let x = 1".as_slice();
+    match (
+        repeated(alloc, front, b"+1".as_slice(), times, end),
+        repeated(alloc, wanted_front, b" + 1".as_slice(), times, wanted_end),
+    ) {
+        (Ok(source), Ok(wanted)) => {
+            prints_as(alloc, source.as_slice(), wanted.as_slice())
+                && prints_as(alloc, wanted.as_slice(), wanted.as_slice())
+        }
+        _ => false,
+    }
 }
 
 #[test]
-fn prints_a_seat_sale(rt: HostRuntime) -> Result<(), Fail> {
-    let alloc = rt.alloc();
-    let body = sale(alloc)?;
-    let text =
-        b"if set(\"seats\").has(\"A1\") { set(\"seats\").remove(\"A1\"); hash(\"sold\").put(\"A1\", \"ann\"); counter(\"sales\").add(1); emit \"ok\"; } else { fail \"taken\"; }";
-    assert!(rt; has_text(alloc, &body, text)?);
-    Ok(())
+fn longest(rt: HostRuntime) {
+    assert!(rt; longest_prints(rt.alloc(), 327, b";".as_slice(), b";".as_slice()));
+    assert!(rt; longest_prints(rt.alloc(), 326, b"+-1;".as_slice(), b" + -1;".as_slice()));
 }
 
 #[test]
