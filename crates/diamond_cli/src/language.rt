@@ -287,7 +287,8 @@ fn line_of(alloc: Global, row: &Repeated) -> Result<Vec<u8>, Fail> {
 }
 
 /// With `+1` 327 times behind it this charges 10,000 ticks: 12 for the texts, 9,332 for the loops and 656 for the sum.
-const TICKS: &[u8] = b"0 do let t = [\"\",\"\",\"\",\"\",\"\",\"\",\"\",\"\",\"\",\"\"]; for a in t { for b in t { for c in t { let y = 1+1+1+1; } } } let x = 1";
+const TICKS: &[u8] =
+    b"0 do let t = [\"\",\"\",\"\",\"\",\"\",\"\",\"\",\"\",\"\",\"\"]; for a in t { for b in t { for c in t { let y = 1+1+1+1; } } } let x = 1";
 
 /// Lines at the limits of a run: the ticks, the length of a text, and the levels of a body.
 const LIMITS: [Repeated; 6] = [

@@ -225,14 +225,17 @@ module _ (settings : Settings) where
 pub cut_whole : (settings : Settings) (taken taken_then : Option Text) (all rest : Text) → IsPlayed settings taken taken_then all rest
     → IsCutOffBehindLine settings taken taken_then all rest
 cut_whole settings taken taken_then all rest is =
-    let out = (played settings (lines all)).output in (record {
-      raws = lines all;
-      behind = [];
-      read = sym (append-nil (lines all));
-      few = is.few;
-      place = (0, omega arith, omega arith, (omega arith, tt, is.whole));
-      count = length out;
-      within = omega arith;
-      answered = output-take settings (length (lines all) - 1) (lines all);
-      output = is.output ∙ ap (with_more taken) (sym (take_all (length out) out (omega arith)));
-    }, is.whole)
+    let out = (played settings (lines all)).output in (
+      record {
+        raws = lines all;
+        behind = [];
+        read = sym (append-nil (lines all));
+        few = is.few;
+        place = (0, omega arith, omega arith, (omega arith, tt, is.whole));
+        count = length out;
+        within = omega arith;
+        answered = output-take settings (length (lines all) - 1) (lines all);
+        output = is.output ∙ ap (with_more taken) (sym (take_all (length out) out (omega arith)));
+      },
+      is.whole,
+    )
