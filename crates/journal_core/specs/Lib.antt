@@ -1,3 +1,5 @@
 pub mod Changes
 pub mod Pairs
 pub mod Readies
+pub mod Keeping
+pub mod Journals

@@ -1,6 +1,14 @@
 //! The journal: the one list of commits, and the decision by which a transaction becomes the next of them or is refused.
 #![tactic(auto)]
 
+mod appended;
+mod keep;
+mod limits;
 mod ready;
+mod slot;
 
+pub use appended::Appended;
+pub use keep::{Keep, KeepFault, MemKeep};
+pub use limits::{FIRST_UNTOLD_CLIENT, LONGEST_BODY};
 pub use ready::{FrontList, PreparedFront, Ready};
+pub use slot::Slot;

@@ -1,0 +1,66 @@
+-- What stands in a journal, and what an append answers and leaves.
+use Rattle.std.specs.Prelude.{◌≡◌, ℕ, ◌+◌, ◌<◌, ◌≤◌, List, [], ◌∷◌, ◌++◌, length, max, Option, Some, None}
+use Rattle.dio_core.specs.Counts.{Rose}
+use Rattle.abort_witness.specs.declared.witness.Found.{Found}
+use Rattle.txn_lang.specs.declared.commit.Commit.{Commit}
+use Rattle.txn_lang.specs.States.{Journal}
+use Rattle.txn_lang.specs.Journals.{own}
+use Rattle.journal_core.specs.declared.limits.TheConstants.{LONGEST_BODY}
+use Rattle.journal_core.specs.declared.ready.Ready.{Ready}
+use Rattle.journal_core.specs.declared.slot.Slot.{Slot}
+use Rattle.journal_core.specs.declared.appended.Appended.{Appended}
+use Rattle.journal_core.specs.declared.appended.Appended.TheVariants as appended
+use Rattle.journal_core.specs.Pairs.{least_pair, past_fronts}
+use Rattle.journal_core.specs.Readies.{IsRunOf, made_of}
+
+-- what callers see of a journal: its commits, the settings it goes by, and its keeper's count of faults
+pub record Standing : Type 0 where
+  pub commits : Journal
+  pub shards : ℕ
+  pub limit : ℕ
+  pub faults : ℕ
+  -- for how many changes of a commit there is memory
+  pub room : ℕ
+
+-- ---- the decision
+
+-- The least pair past the prepared fronts, if there is one.
+abbrev pub found_past : Ready → Standing → Option Found
+found_past ready standing = least_pair (past_fronts standing.shards ready.fronts ready.based) standing.commits
+
+-- no commit past the fronts clashes with an observation, and the journal takes one more
+pub record MayAdd (ready : Ready) (standing : Standing) : Type 0 where
+  pub clear : found_past ready standing ≡ None
+  pub below : length standing.commits < standing.limit
+
+-- the journal takes no more
+pub record IsFull (ready : Ready) (standing : Standing) (limit : ℕ) : Type 0 where
+  pub clear : found_past ready standing ≡ None
+  pub limit_is : limit ≡ standing.limit
+  pub reached : standing.limit ≤ length standing.commits
+
+-- the journal with one commit more
+abbrev pub with_commit : Standing → Commit → Standing
+with_commit standing commit = record standing { commits = standing.commits ++ commit ∷ []; room = 0 }
+
+-- What an append answers and leaves. The tests stand in this order: a clash past the prepared fronts, which names the least
+-- pair; the limit; a fault of the keeper, whose count rose. What is left is the commit's number.
+abbrev pub Decides : Ready → Standing → Appended → Standing → Type 0
+Decides ready old (appended.Clash found) new = (found_past ready old ≡ Some found) × (new ≡ old)
+Decides ready old (appended.Full limit) new = IsFull ready old limit × (new ≡ old)
+Decides ready old (appended.DiskFault before after) new =
+    MayAdd ready old × (before ≡ old.faults) × Rose before after × (new ≡ record old { faults = after })
+Decides ready old (appended.Number number) new =
+    MayAdd ready old × (number ≡ length old.commits + 1) × (new ≡ with_commit old (made_of old.commits ready))
+
+-- ---- what a caller owes
+
+-- The slot was made of what is ready at the present length, there is memory for it, the run is one of the body, and the seq
+-- is the next of the client.
+pub record CanAppend (bytes_of : Commit → List ℕ) (ready : Ready) (slot : Slot) (standing : Standing) : Type 0 where
+  pub made : slot.commit ≡ made_of standing.commits ready
+  pub bytes : slot.bytes ≡ bytes_of slot.commit
+  pub room : length slot.commit.deltas < standing.room
+  pub run : IsRunOf ready.body ready.run
+  pub short : length ready.body ≤ LONGEST_BODY
+  pub next : ready.seq ≡ length (own ready.client standing.commits) + 1
