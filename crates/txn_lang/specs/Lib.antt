@@ -6,6 +6,7 @@ pub mod Items
 pub mod Rules
 pub mod Execution
 pub mod Determinacy
+pub mod Observed
 pub mod Types
 pub mod BoundNames
 pub mod Typing
