@@ -1,5 +1,5 @@
 -- A run rests on what it observed.
-use Rattle.std.proofs.Common.{lit≤, nat_eq, ◌≡◌, ℕ, pos, negsuc, Bool, true, false, not, ◌||◌, ◌&&◌, List, [], ◌∷◌, ◌++◌, length, nat_lt, Option, Some, None, refl, ap, sym, ◌∙◌, subst, cond, rules, arith, slice_get, get_or, ◌<◌}
+use Rattle.std.proofs.Common.{lit≤, nat_eq, ◌≡◌, Bool, true, false, ◌||◌, ◌&&◌, List, [], ◌∷◌, ◌++◌, Option, Some, None, refl, ap, sym, ◌∙◌, subst, cond}
 use Rattle.std.specs.List.{list_any, AllByRecursion}
 use denote.Enum.Bare.{same_true}
 use Rattle.std.specs.Cmp.Lexicographic.{pointwise}
@@ -15,25 +15,18 @@ use Rattle.rdt_types.specs.declared.operation.WriteOp.{WriteOp}
 use Rattle.rdt_types.specs.declared.outcome.Item.{Item}
 use Rattle.plain_data.specs.Texts.{Bytes}
 use Rattle.conflict_table.specs.declared.observation.Obs.TheVariants as obs
-use Rattle.std.proofs.lemmas.Bool.{ltb-true, lt-ltb, eqb-true}
-use Rattle.std.proofs.lemmas.Option.{slice_get_within, slice_get-get_or}
-use Rattle.rdt_types.specs.Values.{list_in, kind_of, kind_written, default_of}
+use Rattle.std.proofs.lemmas.Bool.{eqb-true}
+use Rattle.rdt_types.specs.Values.{kind_written, default_of}
 use Rattle.conflict_table.specs.declared.read.ReadOp.{ReadOp}
-use Rattle.conflict_table.specs.declared.read.ReadOp.TheVariants as read
-use Rattle.rdt_types.specs.declared.value.Value.TheVariants as value
-use Rattle.conflict_table.specs.Observing.{observe}
-use Rattle.conflict_table.specs.Reads.{replay, answer, is_decided, observed, whole_observed, is_list_remove}
+use Rattle.conflict_table.specs.Reads.{replay, answer, is_decided, observed}
 use Rattle.conflict_table.proofs.Resting.{reads_rest_on_observations}
-use Rattle.txn_trees.specs.declared.statement.Body.{Body}
-use Rattle.txn_lang.specs.declared.progress.Stop.{Stop}
 use Rattle.txn_lang.specs.declared.progress.Stop.TheVariants as stop
 use Rattle.txn_lang.specs.declared.progress.Progress.{Progress}
 use Rattle.txn_lang.specs.declared.run.Run.{Run}
 use Rattle.txn_lang.specs.declared.run.Seen.{Seen}
 use Rattle.txn_lang.specs.contracts.run.SeenPartialEq.TheImpl as seen_eq
-use Rattle.txn_lang.specs.Steps.{Memory, Step, stopped, gives, Stepping, answered, read_at, write_at}
+use Rattle.txn_lang.specs.Steps.{Step, stopped, gives, Stepping, answered, read_at, write_at}
 use Rattle.txn_lang.specs.Items.{Names}
-use Rattle.txn_lang.specs.Rules.{body_run}
 use Rattle.txn_lang.specs.States.{PartialState}
 use Rattle.txn_lang.specs.Own.{at_address, with_seen}
 use Rattle.txn_lang.specs.Execution.{Ran, need, done, Own, own, own_read, own_value, own_write, ended, own_run, exec, begun, nothing_yet, RunsAreBounded}

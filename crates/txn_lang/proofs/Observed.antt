@@ -1,8 +1,7 @@
 -- What a run needs is missing, and what it observed is there: the simulation of a memory by itself.
-use Rattle.std.proofs.Common.{◌≡◌, ◌<◌, ℤ, pos, negsuc, Bool, true, false, not, ◌&&◌, nat_lt, List, [], ◌∷◌, ◌++◌, length, Option, Some, None, refl, ap, sym, ◌∙◌, subst, cond}
+use Rattle.std.proofs.Common.{◌≡◌, ℤ, pos, negsuc, Bool, true, false, nat_lt, List, [], ◌∷◌, ◌++◌, length, Option, Some, None, refl, ap, sym, ◌∙◌, subst, cond}
 use Rattle.std.specs.List.{list_any, AllByRecursion}
 use Rattle.std.proofs.lemmas.Bool.{ltb-true}
-use Rattle.plain_data.specs.Texts.{Bytes}
 use Rattle.rdt_types.specs.declared.address.Address.{Address}
 use Rattle.rdt_types.specs.declared.value.Value.{Value}
 use Rattle.rdt_types.specs.declared.value.Value.TheVariants as value
@@ -12,19 +11,18 @@ use Rattle.rdt_types.specs.Values.{kind_of, kind_written, default_of, list_in}
 use Rattle.conflict_table.specs.declared.observation.Obs.TheVariants as obs
 use Rattle.conflict_table.specs.declared.read.ReadOp.{ReadOp}
 use Rattle.conflict_table.specs.declared.read.ReadOp.TheVariants as read
-use Rattle.conflict_table.specs.Observing.{kind_observed, observe, IsWithin}
+use Rattle.conflict_table.specs.Observing.{observe, IsWithin}
 use Rattle.conflict_table.specs.Reads.{replay, answer, is_decided, observed, observed_where, place_observed, whole_observed, is_list_remove}
 use Rattle.txn_trees.specs.declared.statement.Body.{Body}
-use Rattle.txn_lang.specs.declared.progress.Stop.{Stop}
 use Rattle.txn_lang.specs.declared.progress.Stop.TheVariants as stop
 use Rattle.txn_lang.specs.declared.progress.Progress.{Progress}
 use Rattle.txn_lang.specs.declared.run.Run.{Run}
 use Rattle.txn_lang.specs.declared.run.Seen.{Seen}
 use Rattle.txn_lang.specs.contracts.run.SeenPartialEq.TheImpl as seen_eq
-use Rattle.txn_lang.specs.Steps.{Memory, Step, stopped, gives, Stepping, answered, read_at, write_at}
+use Rattle.txn_lang.specs.Steps.{Step, stopped, gives, Stepping, answered, read_at, write_at}
 use Rattle.txn_lang.specs.Items.{Names}
 use Rattle.txn_lang.specs.Rules.{body_run}
-use Rattle.txn_lang.specs.States.{State, PartialState, known}
+use Rattle.txn_lang.specs.States.{PartialState, known}
 use Rattle.txn_lang.specs.Own.{at_address, with_seen}
 use Rattle.txn_lang.specs.Execution.{Ran, need, done, Own, own, own_read, own_value, own_write, ended, own_run, exec, begun, nothing_yet}
 use Rattle.txn_lang.specs.Determinacy.{AgreesOn, Agree}

@@ -1,6 +1,6 @@
 -- Runs over two memories that answer alike: one induction over the forms of the language. Its uses are determinacy, the bound
 -- on ticks, and that what the code keeps goes with the body's own operations.
-use Rattle.std.proofs.Common.{◌≡◌, ◌≤◌, ℕ, ℤ, pos, negsuc, suc, sum, ◌+◌, arith, Bool, true, false, not, ◌&&◌, nat_lt, List, [], ◌∷◌, ◌++◌, map, length, take, Option, Some, None, refl, ap, sym, ◌∙◌, subst, nat_le, cond}
+use Rattle.std.proofs.Common.{◌≡◌, ◌≤◌, ℕ, ℤ, pos, negsuc, suc, sum, ◌+◌, Bool, true, false, not, ◌&&◌, nat_lt, List, [], ◌∷◌, ◌++◌, map, length, take, Option, Some, None, refl, ap, sym, subst, nat_le, cond}
 use Rattle.rdt_types.specs.declared.address.Address.{Address}
 use Rattle.rdt_types.specs.declared.address.Kind.{Kind}
 use Rattle.rdt_types.specs.declared.address.Kind.TheVariants as kind
@@ -15,7 +15,7 @@ use Rattle.txn_trees.specs.declared.word.ReadWord.{ReadWord}
 use Rattle.txn_trees.specs.declared.word.ReadWord.TheVariants as read_word
 use Rattle.txn_trees.specs.declared.word.WriteWord.{WriteWord}
 use Rattle.txn_trees.specs.declared.word.WriteWord.TheVariants as write_word
-use Rattle.txn_trees.specs.declared.statement.Stmt.{Stmt, fold-Stmt, map-Stmt, roll-Stmt}
+use Rattle.txn_trees.specs.declared.statement.Stmt.{Stmt, map-Stmt, roll-Stmt}
 use Rattle.txn_trees.specs.declared.statement.StmtNode.{StmtNode, map-StmtNode, roll-StmtNode}
 use Rattle.txn_trees.specs.declared.statement.StmtNode.TheOpen.{StmtNode-F, Stmt-F}
 use Rattle.txn_trees.specs.declared.statement.Body.{Body}
@@ -27,19 +27,19 @@ use Rattle.txn_trees.specs.declared.word.Operator.{Operator}
 use Rattle.txn_trees.specs.declared.expression.Expr.{Expr}
 use Rattle.txn_trees.specs.declared.expression.ExprNode.{ExprNode}
 use Rattle.txn_trees.specs.declared.expression.ExprNode.TheOpen.{ExprNode-F, Expr-F, Operand-F}
-use Rattle.txn_trees.specs.declared.expression.ExprNode.TheFolds.{fold-roll-Expr, fold-roll-Operand, fold-ExprNode, fold-Operand, fold-roll-ExprNode, ind-Expr}
+use Rattle.txn_trees.specs.declared.expression.ExprNode.TheFolds.{fold-roll-Expr, fold-roll-Operand, fold-roll-ExprNode, ind-Expr}
 use Rattle.txn_trees.specs.declared.expression.ExprNode.{map-ExprNode, roll-ExprNode}
-use Rattle.txn_trees.specs.declared.expression.Expr.{fold-Expr, map-Expr, roll-Expr}
+use Rattle.txn_trees.specs.declared.expression.Expr.{map-Expr, roll-Expr}
 use Rattle.txn_trees.specs.declared.expression.Operand.{map-Operand, roll-Operand}
-use Rattle.txn_trees.specs.declared.statement.StmtNode.TheFolds.{fold-StmtNode, fold-roll-StmtNode, fold-roll-Stmt, ind-Stmt}
+use Rattle.txn_trees.specs.declared.statement.StmtNode.TheFolds.{fold-roll-StmtNode, fold-roll-Stmt, ind-Stmt}
 use Rattle.std.proofs.lemmas.Bool.{leb-true}
 use Rattle.txn_lang.specs.declared.limits.TheConstants.{TICK_LIMIT, LOAD_LIMIT}
 use Rattle.txn_lang.specs.Execution.{ticks_of}
 use Rattle.txn_lang.specs.declared.progress.Stop.{Stop}
 use Rattle.txn_lang.specs.declared.progress.Stop.TheVariants as stop
 use Rattle.txn_lang.specs.declared.progress.Progress.{Progress}
-use Rattle.txn_lang.specs.Items.{Names, named, int_in, bool_in, text_in, texts_in, size_of, is_big, decides, joined, negated, length_of, first_int, read_of, write_of, write_with, pair_write, text_write, counter_write, clear_of, text_size, elements_in, compares}
-use Rattle.txn_lang.specs.Rules.{Expression, Statement, sized, all_values, joined_with, link, chain, answer_with, address_of, of_node, of_expr, of_operand, node_run, expr_run, operand_run, body_run, all_steps, block, block_maybe, turn, turns, write_maybe, of_step, of_stmt, step_run, stmt_run}
+use Rattle.txn_lang.specs.Items.{Names, int_in, bool_in, text_in, texts_in, size_of, is_big, decides, joined, first_int, read_of, write_of, write_with, pair_write, text_write, counter_write, clear_of, text_size, elements_in}
+use Rattle.txn_lang.specs.Rules.{Expression, Statement, sized, all_values, link, chain, address_of, of_node, of_expr, of_operand, node_run, expr_run, operand_run, body_run, all_steps, block, turns, write_maybe, of_step, of_stmt, step_run, stmt_run}
 use Rattle.txn_trees.specs.declared.expression.Operand.{Operand}
 use Rattle.txn_lang.specs.Steps.{Memory, Step, stopped, gives, Stepping, and_then, ◌>>=◌, pure, stop_by, charge, carry, emit, answered, read_at, write_at}
 

@@ -8,9 +8,8 @@ pub mod Execution
 pub mod Determinacy
 pub mod Observed
 pub mod Types
-pub mod BoundNames
 pub mod Typing
-pub mod Checking
 pub mod Writes
 pub mod Tree
 pub mod Journals
+pub mod code

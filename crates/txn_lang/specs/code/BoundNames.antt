@@ -1,4 +1,5 @@
--- What the checker keeps of bound names: the type of each, found by halving, and what each binding hides.
+-- What the checker keeps of bound names: the type of each, found by halving, and what each binding hides. The clauses of
+-- `BoundNames` in src/bound_names.rt, by the lemmas of proofs/NamesKept, tie it to `type_bound` of specs/Types.
 use Rattle.std.specs.Prelude.{◌≡◌, ℕ, List, map, Option, Some, None}
 use Rattle.std.specs.FinMap as fin
 use Rattle.plain_data.specs.Texts.{Bytes, MapOf}

@@ -1,4 +1,5 @@
--- What the checker's code answers, against the rules of typing.
+-- What the checker's code answers, against what `judge` of specs/Typing finds: errors for want of memory aside it is the same.
+-- The laws `types_are_found` and `bodies_are_judged` tie `judge` to the rules of typing.
 use Rattle.std.specs.Prelude.{◌≡◌, ℕ, Bool, IsTrue, Some, Result, Ok, Err}
 use Rattle.plain_data.specs.declared.or_no_memory.OrNoMemory.{OrNoMemory}
 use Rattle.plain_data.specs.declared.or_no_memory.OrNoMemory.TheVariants.{Cause}
