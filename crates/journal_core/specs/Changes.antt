@@ -1,5 +1,5 @@
 -- The changes of a journal's commits: one change is what a commit does at one address.
-use Rattle.std.specs.Prelude.{◌≡◌, ℕ, ◌==◌, ◌&&◌, nat_lt, nat_le, List, [], ◌∷◌, ◌++◌, map, filter, codes, pos, refl}
+use Rattle.std.specs.Prelude.{◌≡◌, ℕ, ◌==◌, nat_lt, nat_le, List, [], ◌∷◌, ◌++◌, map, filter, codes, pos, refl}
 use Rattle.std.specs.BTreeMap.{is_at}
 use Rattle.rdt_types.specs.declared.address.Kind.TheVariants as kind
 use Rattle.rdt_types.specs.declared.address.Address.{Address}
@@ -20,9 +20,17 @@ abbrev pub changes : Journal → List Change
 changes [] = []
 changes (commit ∷ rest) = changes_of commit ++ changes rest
 
+-- the changes of commits past a number
+abbrev pub past : ℕ → List Change → List Change
+past from all = filter (λ change. nat_lt from change.number) all
+
+-- the changes of commits up to a number
+abbrev pub up_to : ℕ → List Change → List Change
+up_to to all = filter (λ change. nat_le change.number to) all
+
 -- the changes of commits past one number and up to another
 abbrev pub between : ℕ → ℕ → List Change → List Change
-between from to all = filter (λ change. nat_lt from change.number && nat_le change.number to) all
+between from to all = past from (up_to to all)
 
 -- the changes in one of so many shards
 abbrev pub of_shard : ℕ → ℕ → List Change → List Change

@@ -5,7 +5,9 @@ mod appended;
 mod keep;
 mod limits;
 mod ready;
+mod roomy;
 mod slot;
+mod walk;
 
 pub use appended::Appended;
 pub use keep::{Keep, KeepFault, MemKeep};
