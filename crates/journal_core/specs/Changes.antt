@@ -6,14 +6,19 @@ use Rattle.rdt_types.specs.declared.address.Address.{Address}
 use Rattle.rdt_types.specs.declared.delta.Delta.TheVariants as delta
 use Rattle.rdt_types.specs.declared.outcome.Outcome.TheVariants as outcome
 use Rattle.rdt_types.specs.Addresses.{address_cmp}
+use Rattle.rdt_types.specs.DeltaMaps.{Deltas}
 use Rattle.rdt_types.specs.Shards.{shard_of}
 use Rattle.change_feed.specs.declared.change.Change.{Change}
 use Rattle.txn_lang.specs.declared.commit.Commit.{Commit}
 use Rattle.txn_lang.specs.States.{Journal}
 
+-- the changes that the commit of a number makes by its deltas
+abbrev pub changes_by : ℕ → Deltas → List Change
+changes_by number deltas = map (λ pair. record { number = number; address = pair.0; delta = pair.1 }) deltas
+
 -- the changes of one commit, by rising address
 abbrev pub changes_of : Commit → List Change
-changes_of commit = map (λ pair. record { number = commit.number; address = pair.0; delta = pair.1 }) commit.deltas
+changes_of commit = changes_by commit.number commit.deltas
 
 -- all changes of a journal, commit after commit
 abbrev pub changes : Journal → List Change

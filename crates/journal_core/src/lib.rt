@@ -2,6 +2,7 @@
 #![tactic(auto)]
 
 mod appended;
+mod copying;
 mod keep;
 mod limits;
 mod ready;
