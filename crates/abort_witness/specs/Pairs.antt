@@ -1,5 +1,5 @@
 -- Pairs of an observation and a commit that clashes with it, and the least of them.
-use Rattle.std.specs.Prelude.{◌≡◌, ℕ, ◌+◌, ◌<◌, ◌≤◌, ◌⊎◌, Bool, true, false, ◌&&◌, if◌then◌else◌, nat_lt, List, [], ◌∷◌, slice_get, Contains}
+use Rattle.std.specs.Prelude.{◌≡◌, ℕ, ◌+◌, ◌<◌, ◌≤◌, ◌⊎◌, Bool, true, false, ◌&&◌, if◌then◌else◌, nat_lt, List, [], ◌∷◌, filter, length, slice_get}
 use Rattle.std.specs.Prelude.{Option, Some, None, option_map, MatchOption, codes, pos, refl}
 use Rattle.std.specs.BTreeMap.{is_at}
 use Rattle.rdt_types.specs.declared.address.Kind.TheVariants as kind
@@ -13,9 +13,13 @@ use Rattle.change_feed.specs.Tails.{IsTail}
 use Rattle.abort_witness.specs.declared.witness.Based.{Based}
 use Rattle.abort_witness.specs.declared.witness.Found.{Found}
 
+-- whether a change is of a commit past the base of an observation, and at its address
+abbrev pub meets : Based → Change → Bool
+meets based change = nat_lt based.base change.number && is_at (address_cmp based.address) change.address
+
 -- A change clashes with an observation where it is of a commit past its base, is at its address, and clashes by the table.
 abbrev pub clashes : Based → Change → Bool
-clashes based change = nat_lt based.base change.number && (is_at (address_cmp based.address) change.address && clash based.obs change.delta)
+clashes based change = meets based change && clash based.obs change.delta
 
 -- ---- what the least pair is
 
@@ -24,8 +28,9 @@ clashes based change = nat_lt based.base change.number && (is_at (address_cmp ba
 pub record IsPair (based : List Based) (changes : List Change) (found : Found) : Type 0 where
   pub observation : Based
   pub change : Change
+  pub index : ℕ
   pub placed : slice_get based found.place ≡ Some observation
-  pub among : Contains changes change
+  pub among : slice_get changes index ≡ Some change
   pub numbered : change.number ≡ found.number
   pub clashing : clashes observation change ≡ true
 

@@ -1,6 +1,6 @@
 //! Where the least clash of observations and changes is.
 
-ghost use Rattle.std.specs.Prelude.{◌≡◌, ◌+◌, ◌*◌, ◌<◌, ◌≤◌, ◌^◌, length};
+ghost use Rattle.std.specs.Prelude.{◌≡◌, ◌+◌, ◌*◌, ◌<◌, ◌≤◌, ◌^◌, filter, length};
 ghost use Rattle.abort_witness.specs.Pairs as pairs;
 
 use crate::witness::{Based, Found};
@@ -8,30 +8,26 @@ use change_feed::{Change, Tail};
 use conflict_table::{Steps, clash};
 use std::sync::ledger::Ledger;
 
-/// Whether a change clashes with an observation: it is past its base, at its address, and clashes by the table. It makes a
-/// step only where it is past the base and at the address.
-fn clashes<L: Ledger>(based: &Based, change: &Change, steps: &mut Steps<L>) -> bool
-    ensures clashes { result ≡ pairs.clashes based.now change.now }
-    ensures steps { steps.new ≤ steps.old + 1 }
-    ensures grown { steps.old ≤ steps.new }
+/// Whether a change is past the base of an observation, and at its address.
+fn meets(based: &Based, change: &Change) -> bool
+    ensures { result ≡ pairs.meets based.now change.now }
 {
-    based.base < change.number
-        && based.address.cmp(&change.address).is_eq()
-        && clash(&based.obs, &change.delta, steps)
+    based.base < change.number && based.address.cmp(&change.address).is_eq()
 }
 
-/// The number of the first change that clashes with an observation. It makes a step at most for each change, and takes no
-/// memory.
+/// The number of the first change that clashes with an observation. It makes a step at most for each change that is past
+/// its base and at its address, and takes no memory.
 pub fn first_clash<L: Ledger>(
     based: &Based,
     changes: &[Change],
     steps: &mut Steps<L>,
 ) -> Option<u64>
     ensures first { result ≡ pairs.first_clash based.now changes.now }
-    ensures steps { steps.new ≤ steps.old + length changes.now }
+    ensures steps { steps.new ≤ steps.old + length (filter (pairs.meets based.now) changes.now) }
+    ensures few { steps.new ≤ steps.old + length changes.now }
 {
     for change in changes {
-        if clashes(based, change, steps) {
+        if meets(based, change) && clash(&based.obs, &change.delta, steps) {
             return Some(change.number);
         }
     }

@@ -1,4 +1,5 @@
 pub mod Changes
+pub mod Rising
 pub mod Pairs
 pub mod Readies
 pub mod Keeping

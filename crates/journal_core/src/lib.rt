@@ -2,10 +2,13 @@
 #![tactic(auto)]
 
 mod appended;
+mod copying;
 mod keep;
 mod limits;
 mod ready;
+mod roomy;
 mod slot;
+mod walk;
 
 pub use appended::Appended;
 pub use keep::{Keep, KeepFault, MemKeep};
