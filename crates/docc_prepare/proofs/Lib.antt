@@ -1,0 +1,6 @@
+pub mod Each
+pub mod OfOneKind
+pub mod Missing
+pub mod Undisturbed
+pub mod Growing
+pub mod Fronts
