@@ -4,3 +4,4 @@ pub mod Missing
 pub mod Undisturbed
 pub mod Growing
 pub mod Fronts
+pub mod Lowest

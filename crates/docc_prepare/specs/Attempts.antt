@@ -1,9 +1,9 @@
 -- Attempts: what was read and prepared for a body so far, the next event, and when all that fits a journal.
 use Rattle.std.proofs.Common.{ap}
-use Rattle.std.specs.Prelude.{◌≡◌, ℕ, Bool, ◌≤◌, ◌==◌, if◌then◌else◌, List, [], ◌∷◌, map, filter, length, take, min, Option, Some, None, codes, pos, refl}
+use Rattle.std.specs.Prelude.{◌≡◌, ℕ, Bool, ◌≤◌, ◌==◌, if◌then◌else◌, List, [], ◌∷◌, ◌++◌, map, filter, length, take, min, Option, Some, None, codes, pos, refl}
 use Rattle.std.specs.List.{list_any, AllByRecursion}
 use Rattle.std.specs.Map.{lookup}
-use Rattle.std.specs.BTreeMap.{is_at}
+use Rattle.std.specs.BTreeMap.{is_at, insert_entry}
 use Rattle.rdt_types.specs.declared.address.Kind.TheVariants as kind
 use Rattle.rdt_types.specs.declared.address.Address.{Address}
 use Rattle.rdt_types.specs.declared.value.Value.TheVariants as value
@@ -18,6 +18,7 @@ use Rattle.txn_lang.specs.States.{Journal, PartialState, state}
 use Rattle.txn_lang.specs.Execution.{Ran, need, done, exec}
 use Rattle.txn_eval.specs.Running.{values_of}
 use Rattle.journal_core.specs.declared.ready.PreparedFront.{PreparedFront}
+use Rattle.journal_core.specs.declared.ready.Ready.{Ready}
 use Rattle.journal_core.specs.Pairs.{pairs}
 use Rattle.docc_prepare.specs.declared.attempt.Attempt.{Attempt}
 use Rattle.docc_prepare.specs.declared.attempt.Next.{Next}
@@ -82,6 +83,29 @@ next_of shards fronts (done run) = next_of_run run (least_unprepared shards fron
 -- address and has no front; else the append.
 abbrev pub next_event : Attempt → Next
 next_event attempt = next_of attempt.shards attempt.fronts (ran attempt)
+
+-- the next event is the preparing of this shard
+abbrev pub Prepares : Attempt → ℕ → Type 0
+Prepares attempt shard = (run : Run) × (next_event attempt ≡ next.Prepare shard run)
+
+-- ---- what it takes, and what it hands on
+
+abbrev pub with_snap : Attempt → Address → Snap → Attempt
+with_snap attempt address snap = record attempt { snaps = insert_entry address_cmp attempt.snaps address snap }
+
+abbrev pub with_front : Attempt → ℕ → ℕ → Attempt
+with_front attempt shard front = record attempt { fronts = attempt.fronts ++ record { shard = shard; front = front } ∷ [] }
+
+-- what is handed to the journal: the observations in the order of the run, with their bases, and the fronts
+abbrev pub ready_of : Attempt → Run → ℕ → ℕ → Ready
+ready_of attempt run client seq = record {
+  client = client;
+  seq = seq;
+  body = attempt.body.source;
+  run = run;
+  based = based attempt.snaps run.observations;
+  fronts = attempt.fronts;
+}
 
 -- ---- what fits a journal
 

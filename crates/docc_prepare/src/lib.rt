@@ -8,6 +8,9 @@
 
 mod attempt;
 mod laws;
+mod observed;
+mod order;
+mod stepping;
 
 pub use attempt::{Attempt, Next};
 pub use laws::{
