@@ -44,6 +44,7 @@ module _ {A : Type 0} where
 pub each-column : {A B : Type 0} (R : A → B → Type 0) (xs : List A) (ys : List B) → AllByRecursion (λ y. AllByRecursion (λ x. R x y) xs) ys
     → AllByRecursion (λ x. AllByRecursion (R x) ys) xs
 each-column R [] ys all = tt
-each-column {A} {B} R (x ∷ xs) ys all =
-    (each-more (λ y. R x y × AllByRecursion (λ x. R x y) xs) (R x) ys (λ y h. h.0) all,
-    each-column R xs ys (each-more (λ y. R x y × AllByRecursion (λ x. R x y) xs) (λ y. AllByRecursion (λ x. R x y) xs) ys (λ y h. h.1) all))
+each-column {A} {B} R (x ∷ xs) ys all = (
+  each-more (λ y. R x y × AllByRecursion (λ x. R x y) xs) (R x) ys (λ y h. h.0) all,
+  each-column R xs ys (each-more (λ y. R x y × AllByRecursion (λ x. R x y) xs) (λ y. AllByRecursion (λ x. R x y) xs) ys (λ y h. h.1) all),
+)

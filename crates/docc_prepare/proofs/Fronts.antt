@@ -99,7 +99,7 @@ module _ (journal : Journal) (shards : ℕ) (observed : List Based) where
       by : Clear (front_at fronts k) (in_shard shards k observed) → (x : Bool) → (prepared.shard == k) ≡ x → Clear (cond x prepared.front (front_at fronts k)) (in_shard shards k observed)
       by rest true is =
           subst (λ (l : ℕ). Clear prepared.front (in_shard shards l observed)) (same_shard prepared.shard k is)
-              (misses-of-pairs (in_shard shards prepared.shard observed) (take prepared.front journal) all.0.clear)
+          (misses-of-pairs (in_shard shards prepared.shard observed) (take prepared.front journal) all.0.clear)
       by rest false is = rest
 
   module _ (fronts : List PreparedFront) (numbers : AreNumberedFrom 0 journal)
@@ -111,8 +111,8 @@ module _ (journal : Journal) (shards : ℕ) (observed : List Based) where
     in_each_shard : AllByRecursion (λ commit. (k : ℕ) → commit.number ≤ front_at fronts k → AllByRecursion (MissesInShard commit k) observed) journal
     in_each_shard = each-index (λ k commit. commit.number ≤ front_at fronts k → AllByRecursion (MissesInShard commit k) observed) journal
         (λ k. numbered_first (λ commit. AllByRecursion (MissesInShard commit k) observed) (front_at fronts k) 0 (front_at fronts k) journal (omega arith) numbers
-            (each-more (λ commit. AllByRecursion (λ b. Misses b commit) (in_shard shards k observed)) (λ commit. AllByRecursion (MissesInShard commit k) observed) (take (front_at fronts k) journal)
-                (λ commit. each-passing (λ b. Misses b commit) (λ b. shard_of b.address shards == k) observed) (clear_upto fronts all k)))
+        (each-more (λ commit. AllByRecursion (λ b. Misses b commit) (in_shard shards k observed)) (λ commit. AllByRecursion (MissesInShard commit k) observed) (take (front_at fronts k) journal)
+        (λ commit. each-passing (λ b. Misses b commit) (λ b. shard_of b.address shards == k) observed) (clear_upto fronts all k)))
 
     itself : (k : ℕ) → (k == k) ≡ true
     itself k = grind (arith, nat_tests)
@@ -120,16 +120,17 @@ module _ (journal : Journal) (shards : ℕ) (observed : List Based) where
     pick : (commit : Commit) (bs : List Based) → ((k : ℕ) → commit.number ≤ front_at fronts k → AllByRecursion (MissesInShard commit k) bs)
         → AllByRecursion (λ b. hit (past_front shards fronts b) commit ≡ hit b commit) bs
     pick commit [] clear = tt
-    pick commit (b ∷ bs) clear =
-        (hit-alike b (front_at fronts (shard_of b.address shards)) commit (λ below. (clear (shard_of b.address shards) below).0 (itself (shard_of b.address shards))),
-        pick commit bs (λ k below. (clear k below).1))
+    pick commit (b ∷ bs) clear = (
+      hit-alike b (front_at fronts (shard_of b.address shards)) commit (λ below. (clear (shard_of b.address shards) below).0 (itself (shard_of b.address shards))),
+      pick commit bs (λ k below. (clear k below).1),
+    )
 
     pub spare : pairs (past_fronts shards fronts observed) journal ≡ pairs observed journal
     spare = pairs-alike (past_front shards fronts) observed journal
         (each-more (λ commit. (k : ℕ) → commit.number ≤ front_at fronts k → AllByRecursion (MissesInShard commit k) observed)
-            (λ commit. AllByRecursion (λ b. hit (past_front shards fronts b) commit ≡ hit b commit) observed) journal (λ commit. pick commit observed) in_each_shard)
+        (λ commit. AllByRecursion (λ b. hit (past_front shards fronts b) commit ≡ hit b commit) observed) journal (λ commit. pick commit observed) in_each_shard)
 
 pub fronts_spare_no_pair : FrontsSpareNoPair
 fronts_spare_no_pair journal attempt run numbers fits is =
     spare journal attempt.shards (based attempt.snaps run.observations) attempt.fronts numbers
-        (subst (FrontsFit journal attempt.shards attempt.snaps attempt.fronts) is fits.fronts)
+    (subst (FrontsFit journal attempt.shards attempt.snaps attempt.fronts) is fits.fronts)

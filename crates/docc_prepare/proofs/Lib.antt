@@ -5,3 +5,4 @@ pub mod Undisturbed
 pub mod Growing
 pub mod Fronts
 pub mod Lowest
+pub mod Sound

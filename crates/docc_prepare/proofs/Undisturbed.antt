@@ -181,10 +181,11 @@ agrees journal snaps z orderly fit there misses = record {
         let found : Some v ≡ Some there.value = sym is ∙ (ap (option_map (λ s. s.value)) (sym e) ∙ there.is) in
         let same : there.value ≡ v = sym (some-same v there.value found) in
         let kind_read : kind_of v ≡ z.address.kind = ap kind_of value_is ∙ kind-left (take snap.base journal) z.address (each-take (λ commit. AreOfTheirKinds commit.deltas) snap.base journal orderly.kinds) in
-        let within = subst (IsWithin z.obs) (same ∙ value_is) there.within in
-        (kind_read ∙ sym (kind-left journal z.address orderly.kinds),
-        ap (observe z.obs) value_is
-        ∙ sym (observed-as-left (record { address = z.address; obs = z.obs; base = snap.base }) (there.kind (ap kind_of same ∙ kind_read)) journal orderly misses within))
+        let within = subst (IsWithin z.obs) (same ∙ value_is) there.within in (
+          kind_read ∙ sym (kind-left journal z.address orderly.kinds),
+          ap (observe z.obs) value_is
+              ∙ sym (observed-as-left (record { address = z.address; obs = z.obs; base = snap.base }) (there.kind (ap kind_of same ∙ kind_read)) journal orderly misses within),
+        )
 
 agree : (journal : Journal) (snaps : SnapList) (seen : List Seen) → IsOrderly journal → AllByRecursion (SnapFits journal) snaps → AllByRecursion (IsThere (values_of snaps)) seen
     → AllByRecursion (λ b. AllByRecursion (Misses b) journal) (based snaps seen) → Agree (values_of snaps) (known (left_by journal)) seen
@@ -197,7 +198,7 @@ runs_as_it_ran journal attempt run orderly undisturbed =
     let observed = based attempt.snaps run.observations in
     let misses = each-column Misses observed journal (misses-of-pairs observed journal undisturbed.undisturbed) in
     runs_are_determined attempt.body.body (values_of attempt.snaps) (known (left_by journal)) run undisturbed.runs
-        (agree journal attempt.snaps run.observations orderly undisturbed.fits.snaps there misses)
+    (agree journal attempt.snaps run.observations orderly undisturbed.fits.snaps there misses)
 
 pub appending_stays_legal : AppendingStaysLegal
 appending_stays_legal m client journal attempt run read orderly legal undisturbed =

@@ -14,6 +14,7 @@ mod stepping;
 
 pub use attempt::{Attempt, Next};
 pub use laws::{
-    appending_stays_legal, attempts_fit_longer_journals, attempts_run_as_they_ran, fronts_spare_no_pair,
-    legal_journals_are_orderly,
+    appending_stays_legal, attempts_fit_longer_journals, attempts_run_as_they_ran,
+    events_stay_sound, every_world_is_sound, first_worlds_are_sound, fronts_spare_no_pair,
+    legal_journals_are_orderly, moves_stay_sound,
 };

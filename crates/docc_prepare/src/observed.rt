@@ -64,11 +64,11 @@ pub(crate) fn based_in(
     requires { (LEAST_SHARDS ≤ shards) × (shards ≤ MOST_SHARDS) }
     ensures { IfOk result (λ all. all ≡ spec.in_shard shards shard (spec.based snaps.now observations.now)) }
 {
-    let mut all = BasedList::new(alloc);
+    let mut inside = BasedList::new(alloc);
     for seen in observations {
         if shard_of(&seen.address, shards) == shard {
-            all.push(with_base(snaps, seen)?)?;
+            inside.push(with_base(snaps, seen)?)?;
         }
     }
-    Ok(all)
+    Ok(inside)
 }

@@ -86,13 +86,7 @@ impl Attempt {
     }
 
     /// What is handed to the journal: the run with all that it is validated by.
-    pub fn ready(
-        &self,
-        alloc: Global,
-        run: Run,
-        client: u32,
-        seq: u64,
-    ) -> Result<Ready, AllocError>
+    pub fn ready(&self, alloc: Global, run: Run, client: u32, seq: u64) -> Result<Ready, AllocError>
         requires next { spec.next_event self.now ≡ Next.Append run }
         ensures { IfOk result (λ ready. ready ≡ spec.ready_of self.now run client seq) }
     {
