@@ -1,5 +1,6 @@
 -- What stands in a journal, and what an append answers and leaves.
-use Rattle.std.specs.Prelude.{◌≡◌, ℕ, ◌+◌, ◌<◌, ◌≤◌, List, [], ◌∷◌, ◌++◌, length, max, Option, Some, None}
+use Rattle.std.specs.Prelude.{◌≡◌, ℕ, ◌+◌, ◌<◌, ◌≤◌, List, [], ◌∷◌, ◌++◌, length, max, Option, Some, None, refl}
+use Rattle.std.specs.Coded.{Coded, code_by, coded×, coded_list, coded_ℕ}
 use Rattle.dio_core.specs.Counts.{Rose}
 use Rattle.abort_witness.specs.declared.witness.Found.{Found}
 use Rattle.txn_lang.specs.declared.commit.Commit.{Commit}
@@ -21,6 +22,12 @@ pub record Standing : Type 0 where
   pub faults : ℕ
   -- for how many changes of a commit there is memory
   pub room : ℕ
+
+-- it is stored as the tuple of its fields
+abbrev pub standing_code : Coded Commit → Coded Standing
+standing_code commit =
+    code_by (Journal × ℕ × ℕ × ℕ × ℕ) (coded× (coded_list commit) (coded× coded_ℕ (coded× coded_ℕ (coded× coded_ℕ coded_ℕ))))
+    (λ s. (s.commits, s.shards, s.limit, s.faults, s.room)) (λ p. record { commits = p.0; shards = p.1; limit = p.2; faults = p.3; room = p.4 }) (λ _. refl)
 
 -- ---- the decision
 

@@ -3,11 +3,14 @@
 
 mod appended;
 mod copying;
+mod deciding;
 mod keep;
 mod limits;
+mod log;
 mod ready;
 mod roomy;
 mod slot;
+mod tails;
 mod walk;
 
 pub use appended::Appended;
