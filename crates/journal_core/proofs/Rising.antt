@@ -32,7 +32,7 @@ rises-filter p n (change ∷ rest) rises = kept (p change) (rises-filter p chang
     kept false later = rises_lower n change.number (filter p rest) rises.0 later
 
 -- the changes of one commit all have its number
-one_commit : (n : ℕ) (deltas : Deltas) (rest : List Change) → Rises n rest
+pub one_commit : (n : ℕ) (deltas : Deltas) (rest : List Change) → Rises n rest
     → Rises n (map (λ pair. record { number = n; address = pair.0; delta = pair.1 }) deltas ++ rest)
 one_commit n [] rest rises = rises
 one_commit n (pair ∷ deltas) rest rises = (omega arith, one_commit n deltas rest rises)

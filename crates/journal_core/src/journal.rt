@@ -6,12 +6,12 @@ ghost use Rattle.rdt_types.specs.declared.settings.Settings.{Settings};
 ghost use Rattle.journal_core.specs.Changes as spec;
 ghost use Rattle.journal_core.specs.Pairs.{AreNumbered, past_fronts, most_steps};
 ghost use Rattle.journal_core.specs.Tails.{HasAll};
+ghost use Rattle.journal_core.specs.Readies as readies;
 ghost use Rattle.journal_core.specs.Journals as journals;
 ghost use Rattle.journal_core.specs.Journals.{CanAppend, Decides, IsSlot, IfDiskFault};
 
 use crate::appended::Appended;
 use crate::copying::{changes_by, copied};
-use crate::deciding::least_past;
 use crate::keep::Keep;
 use crate::log::Log;
 use crate::ready::Ready;
@@ -49,6 +49,29 @@ impl<K: Keep> Model for Journal<K> {
 }
 
 impl<K: Keep> Journal<K> {
+    /// A journal of the commits that are kept already, with the settings of its store.
+    pub fn new(
+        alloc: Global,
+        settings: &Settings,
+        keeper: K,
+        kept: CommitList,
+    ) -> Result<Journal<K>, AllocError>
+        requires numbered { AreNumbered kept }
+        requires told { IfSome (K.kept keeper) (λ list. list ≡ kept) }
+        ensures commits { IfOk result (λ journal. journal.commits ≡ kept) }
+        ensures shards { IfOk result (λ journal. journal.shards ≡ settings.now.shards) }
+        ensures limit { IfOk result (λ journal. journal.limit ≡ settings.now.limit) }
+        ensures faults { IfOk result (λ journal. journal.faults ≡ K.keep_faults keeper) }
+    {
+        let log = Log::of(alloc, kept)?;
+        Ok(Journal {
+            alloc,
+            settings: *settings,
+            log,
+            keeper,
+        })
+    }
+
     /// How many commits there are.
     pub fn length(&self) -> u64
         ensures { result ≡ length self.now.commits }
@@ -82,7 +105,14 @@ impl<K: Keep> Journal<K> {
         requires within { to ≤ length self.now.commits }
         ensures { IfOk result (HasAll from to (spec.of_shard self.now.shards shard (spec.between from to (spec.changes self.now.commits)))) }
     {
-        tail_of_shard(self.alloc, self.log.changes(), self.settings.shards, shard, from, to)
+        tail_of_shard(
+            self.alloc,
+            self.log.changes(),
+            self.settings.shards,
+            shard,
+            from,
+            to,
+        )
     }
 
     /// The changes at an address, of commits past one number and up to another.
@@ -110,8 +140,8 @@ impl<K: Keep> Journal<K> {
         ensures kept { self.old.room ≤ self.new.room }
         ensures err { OnErr result (self.new ≡ self.old) }
     {
-        let number = self.length() + 1;
-        let commit = commit_of(number, ready)?;
+        let number = self.log.commits().len() as u64 + 1;
+        let commit = commit_by(number, ready)?;
         let changes = changes_by(self.alloc, number, ready.run.deltas.as_slice())?;
         let bytes = self.keeper.make(self.alloc, &commit)?;
         self.log.reserve(changes.len() + 1)?;
@@ -124,12 +154,7 @@ impl<K: Keep> Journal<K> {
 
     /// Adds the slot's commit, or says why not: by a clash past the prepared fronts, at the limit, or by a fault of the
     /// keeper. It takes no memory, and goes through no more than the changes past the fronts.
-    pub fn append<L: Ledger>(
-        &mut self,
-        ready: &Ready,
-        slot: Slot,
-        steps: &mut Steps<L>,
-    ) -> Appended
+    pub fn append<L: Ledger>(&mut self, ready: &Ready, slot: Slot, steps: &mut Steps<L>) -> Appended
         requires can_append { CanAppend K.bytes_of ready.now slot self.old }
         requires places { length ready.now.based < 2 ^ 32 }
         ensures decides { Decides ready.now self.old result self.new }
@@ -137,7 +162,10 @@ impl<K: Keep> Journal<K> {
         ensures steps { steps.new ≤ steps.old + most_steps (past_fronts self.old.shards ready.now.fronts ready.now.based) (spec.changes self.old.commits) }
     {
         let (based, fronts) = (ready.based.as_slice(), ready.fronts.as_slice());
-        if let Some(found) = least_past(based, self.log.changes(), self.settings.shards, fronts, steps) {
+        if let Some(found) = self
+            .log
+            .least_past(based, self.settings.shards, fronts, steps)
+        {
             return Appended::Clash(found);
         }
         let limit = self.settings.limit;
@@ -158,7 +186,9 @@ impl<K: Keep> Journal<K> {
             return Appended::DiskFault(before, self.keeper.keep_faults());
         }
         let Slot {
-            commit, changes, ..
+            commit,
+            changes,
+            ..
         } = slot;
         let number = commit.number;
         self.log.add(commit, changes);
@@ -167,8 +197,8 @@ impl<K: Keep> Journal<K> {
 }
 
 /// The commit of a number that is made of what is ready.
-fn commit_of(number: u64, ready: &Ready) -> Result<Commit, AllocError>
-    ensures { IfOk result (λ commit. commit ≡ journals.commit_by number ready.now) }
+fn commit_by(number: u64, ready: &Ready) -> Result<Commit, AllocError>
+    ensures { IfOk result (λ commit. commit ≡ readies.commit_by number ready.now) }
 {
     Ok(Commit {
         number,

@@ -4,6 +4,7 @@
 mod appended;
 mod copying;
 mod deciding;
+mod journal;
 mod keep;
 mod limits;
 mod log;
@@ -14,6 +15,7 @@ mod tails;
 mod walk;
 
 pub use appended::Appended;
+pub use journal::Journal;
 pub use keep::{Keep, KeepFault, MemKeep};
 pub use limits::{FIRST_UNTOLD_CLIENT, LONGEST_BODY};
 pub use ready::{FrontList, PreparedFront, Ready};

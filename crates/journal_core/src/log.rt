@@ -1,19 +1,25 @@
 //! The commits, and their changes beside them.
 
-ghost use Rattle.std.specs.Prelude.{◌≡◌, ◌+◌, ◌<◌, ◌≤◌, [], ◌∷◌, ◌++◌, length, slice_get, OnOk, OnErr, IfOk};
+ghost use Rattle.std.specs.Prelude.{◌≡◌, ◌+◌, ◌<◌, ◌≤◌, ◌^◌, [], ◌∷◌, ◌++◌, length, slice_get, OnOk, OnErr, IfOk};
 ghost use Rattle.std.specs.Option.{option_copied};
 ghost use Rattle.rdt_types.specs.declared.limits.TheConstants.{LEAST_SHARDS, MOST_SHARDS};
 ghost use Rattle.abort_witness.specs.Pairs as pairs;
 ghost use Rattle.journal_core.specs.Changes as spec;
-ghost use Rattle.journal_core.specs.Pairs.{past_fronts, AreNumbered};
+ghost use Rattle.journal_core.specs.Pairs.{past_fronts, most_steps, least_pair, AreNumbered};
 ghost use Rattle.journal_core.specs.Rising.{Rises};
 ghost use Rattle.journal_core.specs.Logs as logs;
 
+use crate::copying::changes_by;
+use crate::deciding::least_past;
+use crate::ready::PreparedFront;
 use crate::roomy::Roomy;
+use abort_witness::{Based, Found};
 use change_feed::{Change, ChangeList};
+use conflict_table::Steps;
 use plain_data::Sequence;
 use std::alloc::{AllocError, Global};
 use std::marker::Model;
+use std::sync::ledger::Ledger;
 use txn_lang::{Commit, CommitList};
 
 /// The commits of a journal. Beside them stand their changes in order, in which a number is found by halving.
@@ -37,16 +43,46 @@ impl Model for Log {
     ghost invariant = { λ l. logs.Keeps l.commits.0 l.changes.0 l.commits.1 l.changes.1 l.room };
 }
 
+/// Copies of the changes of commits.
+fn all_changes(alloc: Global, commits: &[Commit]) -> Result<Vec<Change>, AllocError>
+    ensures { IfOk result (λ all. all.items ≡ spec.changes commits.now) }
+{
+    let mut all = Vec::new(alloc);
+    for commit in commits {
+        let mut more = changes_by(alloc, commit.number, commit.deltas.as_slice())?.into_vec();
+        all.append(&mut more)?;
+    }
+    Ok(all)
+}
+
 impl Log {
-    /// No commits. It takes no memory yet.
-    pub(crate) fn new(alloc: Global) -> Log
-        ensures { result.commits ≡ [] }
+    /// These commits, with copies of their changes.
+    pub(crate) fn of(alloc: Global, commits: CommitList) -> Result<Log, AllocError>
+        requires { AreNumbered commits }
+        ensures { IfOk result (λ log. log.commits ≡ commits) }
     {
-        Log {
-            commits: Roomy::new(alloc),
-            changes: Roomy::new(alloc),
+        let changes = all_changes(alloc, commits.as_slice())?;
+        Ok(Log {
+            commits: Roomy::from_vec(commits.into_vec()),
+            changes: Roomy::from_vec(changes),
             room: 0,
-        }
+        })
+    }
+
+    /// The least pair of these observations, past what was prepared.
+    pub(crate) fn least_past<L: Ledger>(
+        &self,
+        based: &[Based],
+        shards: u8,
+        fronts: &[PreparedFront],
+        steps: &mut Steps<L>,
+    ) -> Option<Found>
+        requires shards { (LEAST_SHARDS ≤ shards) × (shards ≤ MOST_SHARDS) }
+        requires places { length based.now < 2 ^ 32 }
+        ensures least { result ≡ least_pair (past_fronts shards fronts.now based.now) self.now.commits }
+        ensures steps { steps.new ≤ steps.old + most_steps (past_fronts shards fronts.now based.now) (spec.changes self.now.commits) }
+    {
+        least_past(based, self.changes(), shards, fronts, steps)
     }
 
     /// The commits.
@@ -61,6 +97,7 @@ impl Log {
     pub(crate) fn changes(&self) -> &[Change]
         ensures changes { result.now ≡ spec.changes self.now.commits }
         ensures rises { Rises 0 (spec.changes self.now.commits) }
+        ensures numbered { AreNumbered self.now.commits }
     {
         self.changes.as_slice()
     }
