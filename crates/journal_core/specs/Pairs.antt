@@ -1,5 +1,5 @@
 -- Pairs of an observation and a commit of a journal that clashes with it, and the pairs past what was prepared.
-use Rattle.std.specs.Prelude.{◌≡◌, ℕ, ◌+◌, ◌<◌, ◌==◌, if◌then◌else◌, List, [], ◌∷◌, ◌++◌, map, max, length, take, slice_get, Option, Some, codes, refl}
+use Rattle.std.specs.Prelude.{◌≡◌, ℕ, ◌+◌, ◌<◌, ◌==◌, if◌then◌else◌, List, [], ◌∷◌, ◌++◌, map, filter, max, length, take, slice_get, Option, Some, codes, refl}
 use Rattle.std.specs.List.{list_any}
 use Rattle.rdt_types.specs.declared.address.Kind.TheVariants as kind
 use Rattle.rdt_types.specs.Shards.{shard_of}
@@ -7,7 +7,7 @@ use Rattle.conflict_table.specs.declared.observation.Obs.TheVariants as obs
 use Rattle.change_feed.specs.declared.change.Change.{Change}
 use Rattle.abort_witness.specs.declared.witness.Based.{Based}
 use Rattle.abort_witness.specs.declared.witness.Found.{Found}
-use Rattle.abort_witness.specs.Pairs.{clashes, least}
+use Rattle.abort_witness.specs.Pairs.{meets, clashes, least}
 use Rattle.txn_lang.specs.declared.commit.Commit.{Commit}
 use Rattle.txn_lang.specs.States.{Journal}
 use Rattle.journal_core.specs.declared.ready.PreparedFront.{PreparedFront}
@@ -54,6 +54,11 @@ past_front shards fronts based = record based { base = max based.base (front_at 
 
 abbrev pub past_fronts : ℕ → List PreparedFront → List Based → List Based
 past_fronts shards fronts based = map (past_front shards fronts) based
+
+-- How many pairs there are of an observation and a change past its base and at its address: more steps no decision makes.
+abbrev pub most_steps : List Based → List Change → ℕ
+most_steps [] all = 0
+most_steps (based ∷ rest) all = length (filter (meets based) all) + most_steps rest all
 
 -- ---- worked lines
 

@@ -15,13 +15,17 @@ pub record IsRunOf (text : List ℕ) (run : Run) : Type 0 where
   pub read : tree text ≡ Some body
   pub ran : exec body values ≡ done run
 
--- the commit that is made of what is ready, behind these commits
-abbrev pub made_of : Journal → Ready → Commit
-made_of before ready = record {
-  number = length before + 1;
+-- the commit of a number that is made of what is ready
+abbrev pub commit_by : ℕ → Ready → Commit
+commit_by number ready = record {
+  number = number;
   client = ready.client;
   seq = ready.seq;
   body = ready.body;
   outcome = ready.run.outcome;
   deltas = ready.run.deltas;
 }
+
+-- the commit that is made of what is ready, behind these commits
+abbrev pub made_of : Journal → Ready → Commit
+made_of before ready = commit_by (length before + 1) ready
