@@ -28,7 +28,7 @@ use Rattle.txn_lang.specs.Items.{Names}
 use Rattle.txn_lang.specs.Rules.{body_run}
 use Rattle.txn_lang.specs.Execution.{Ran, Own, own, own_read, own_value, own_write, ended, own_run, exec, begun, nothing_yet}
 use Rattle.txn_lang.proofs.Replay.{delta_at-deltas, AllOf-at_address}
-use Rattle.txn_lang.proofs.Simulation.{Simulates, Fine, Same, onto, body_simulates, answered_bounded}
+use Rattle.txn_lang.proofs.Simulation.{Suits, Simulates, Fine, Same, onto, body_simulates, answered_bounded, answered_lacking}
 use Rattle.txn_eval.specs.declared.kept.Kept.{Kept}
 use Rattle.txn_eval.specs.code.Buffering.{kept, answered_by, kept_write, nothing_kept, kept_ended, exec_over}
 
@@ -44,10 +44,10 @@ all_push (x ∷ own) w all is = (all.0, all_push own w all.1 is)
 
 module _ (s : PartialState) where
   abbrev Both : {A : Type 0} → Stepping Own A → Stepping Kept A → Type 0
-  Both f g = Simulates GoesWith (λ _. Unit {0}) (λ _. Unit {0}) f g
+  Both f g = Simulates GoesWith (λ _. Unit {0}) (λ _. Unit {0}) (λ _. Unit {0}) f g
 
   abbrev Along : {A : Type 0} → Step Own A → Step Kept A → Type 0
-  Along u v = Same GoesWith (λ _. Unit {0}) (λ _. Unit {0}) u v
+  Along u v = Same GoesWith (λ _. Unit {0}) (λ _. Unit {0}) (λ _. Unit {0}) u v
 
   module _ (r : ReadOp) (a : Address) (p : Progress Own) (all : AreOfTheirKinds p.memory.operations) where
     abbrev ops : List WriteOp
@@ -90,11 +90,12 @@ module _ (s : PartialState) where
     read_along : Along (read_at (own s) r a p) (read_at (kept s) r a (onto over p))
     read_along = subst (λ t. Along (read_at (own s) r a p) (answered a (answered_by a over t) (onto over p))) (sym (asked_is (is_decided r ops) (s a) refl refl)) (told_along (is_decided r ops) (s a))
 
-  reads : (r : ReadOp) (a : Address) → Both (read_at (own s) r a) (read_at (kept s) r a)
-  reads r a = record {
+  reads : (r : ReadOp) (a : Address) → Suits a.kind r → Both (read_at (own s) r a) (read_at (kept s) r a)
+  reads r a suits = record {
     back = λ p fine. tt;
     forth = λ p t with_it fine. subst (λ k. Along (read_at (own s) r a p) (read_at (kept s) r a (onto k p))) (sym with_it.0) (read_along r a p with_it.1);
     bounded = λ p h. answered_bounded a (own_read s r a p.memory) p h;
+    lacking = λ p. answered_lacking GoesWith (λ _. Unit {0}) (λ _. Unit {0}) (λ _. Unit {0}) a (own_read s r a p.memory) p (λ _. tt);
   }
 
   writes : (a : Address) (o : WriteOp) → kind_written o ≡ a.kind → Both (write_at (own s) a o) (write_at (kept s) a o)
@@ -110,9 +111,10 @@ module _ (s : PartialState) where
       refl,
     );
     bounded = λ p h. h;
+    lacking = λ p. tt;
   }
 
-  ended_alike : (u : Step Own Names) (v : Step Kept Names) → (Fine GoesWith (λ _. Unit {0}) (λ _. Unit {0}) u → Along u v) → ended u ≡ kept_ended v
+  ended_alike : (u : Step Own Names) (v : Step Kept Names) → (Fine GoesWith (λ _. Unit {0}) (λ _. Unit {0}) (λ _. Unit {0}) u → Along u v) → ended u ≡ kept_ended v
   ended_alike (gives x p) v sim = let z = sim tt in ap (λ b. kept_ended (gives x (onto b p))) (sym z.1.0) ∙ ap kept_ended (sym z.2)
   ended_alike (stopped (stop.Need a) p) v sim = let z = sim (tt, tt) in ap kept_ended (sym z.2)
   ended_alike (stopped (stop.Fail e) p) v sim = let z = sim (tt, tt) in ap (λ b. kept_ended (stopped (stop.Fail e) (onto b p))) (sym z.1.0) ∙ ap kept_ended (sym z.2)
@@ -124,5 +126,5 @@ module _ (s : PartialState) where
 pub exec_is_over : (b : Body) (s : PartialState) → exec b s ≡ exec_over b s
 unfolding exec exec_over
 exec_is_over b s =
-    let sim = body_simulates GoesWith (λ _. Unit {0}) (λ _. Unit {0}) (own s) (kept s) (reads s) (writes s) b in
+    let sim = body_simulates GoesWith (λ _. Unit {0}) (λ _. Unit {0}) (λ _. Unit {0}) (own s) (kept s) (reads s) (writes s) b in
     ended_alike s (own_run b s) (body_run (kept s) b (begun nothing_kept)) (sim.forth (begun nothing_yet) nothing_kept (refl, tt))

@@ -85,9 +85,9 @@ fn block(
 ) -> Result<(), Stop>
     ensures { Leaves result names.new run.new (rules.block (map (rules.stmt_run (kept (values_of snaps.now))) stmts.now) names.old run.old) }
 {
-    let count = names.len();
+    let outside = names.len();
     steps_of(alloc, snaps, names, run, stmts)?;
-    names.truncate(count);
+    names.truncate(outside);
     Ok(())
 }
 

@@ -1,5 +1,5 @@
 -- A run rests on what it observed.
-use Rattle.std.proofs.Common.{lit≤, nat_eq, ◌≡◌, ℕ, pos, negsuc, Bool, true, false, not, ◌||◌, ◌&&◌, List, [], ◌∷◌, ◌++◌, length, nat_lt, Option, Some, None, refl, ap, sym, ◌∙◌, subst, cond, rules, arith, slice_get, get_or, ◌<◌}
+use Rattle.std.proofs.Common.{lit≤, nat_eq, ◌≡◌, Bool, true, false, ◌||◌, ◌&&◌, List, [], ◌∷◌, ◌++◌, Option, Some, None, refl, ap, sym, ◌∙◌, subst, cond}
 use Rattle.std.specs.List.{list_any, AllByRecursion}
 use denote.Enum.Bare.{same_true}
 use Rattle.std.specs.Cmp.Lexicographic.{pointwise}
@@ -15,30 +15,23 @@ use Rattle.rdt_types.specs.declared.operation.WriteOp.{WriteOp}
 use Rattle.rdt_types.specs.declared.outcome.Item.{Item}
 use Rattle.plain_data.specs.Texts.{Bytes}
 use Rattle.conflict_table.specs.declared.observation.Obs.TheVariants as obs
-use Rattle.std.proofs.lemmas.Bool.{ltb-true, lt-ltb, eqb-true}
-use Rattle.std.proofs.lemmas.Option.{slice_get_within, slice_get-get_or}
-use Rattle.rdt_types.specs.Values.{list_in, kind_of, kind_written, default_of}
+use Rattle.std.proofs.lemmas.Bool.{eqb-true}
+use Rattle.rdt_types.specs.Values.{kind_written, default_of}
 use Rattle.conflict_table.specs.declared.read.ReadOp.{ReadOp}
-use Rattle.conflict_table.specs.declared.read.ReadOp.TheVariants as read
-use Rattle.rdt_types.specs.declared.value.Value.TheVariants as value
-use Rattle.conflict_table.specs.Observing.{observe}
-use Rattle.conflict_table.specs.Reads.{replay, answer, is_decided, observed, whole_observed, is_list_remove}
+use Rattle.conflict_table.specs.Reads.{replay, answer, is_decided, observed}
 use Rattle.conflict_table.proofs.Resting.{reads_rest_on_observations}
-use Rattle.txn_trees.specs.declared.statement.Body.{Body}
-use Rattle.txn_lang.specs.declared.progress.Stop.{Stop}
 use Rattle.txn_lang.specs.declared.progress.Stop.TheVariants as stop
 use Rattle.txn_lang.specs.declared.progress.Progress.{Progress}
 use Rattle.txn_lang.specs.declared.run.Run.{Run}
 use Rattle.txn_lang.specs.declared.run.Seen.{Seen}
 use Rattle.txn_lang.specs.contracts.run.SeenPartialEq.TheImpl as seen_eq
-use Rattle.txn_lang.specs.Steps.{Memory, Step, stopped, gives, Stepping, answered, read_at, write_at}
+use Rattle.txn_lang.specs.Steps.{Step, stopped, gives, Stepping, answered, read_at, write_at}
 use Rattle.txn_lang.specs.Items.{Names}
-use Rattle.txn_lang.specs.Rules.{body_run}
 use Rattle.txn_lang.specs.States.{PartialState}
 use Rattle.txn_lang.specs.Own.{at_address, with_seen}
 use Rattle.txn_lang.specs.Execution.{Ran, need, done, Own, own, own_read, own_value, own_write, ended, own_run, exec, begun, nothing_yet, RunsAreBounded}
 use Rattle.txn_lang.specs.Determinacy.{AgreesOn, Agree, RunsAreDetermined}
-use Rattle.txn_lang.proofs.Simulation.{Simulates, Fine, Same, onto, body_simulates, answered_bounded}
+use Rattle.txn_lang.proofs.Simulation.{Suits, Simulates, Fine, Same, onto, body_simulates, answered_bounded, answered_lacking}
 
 and_parts : (a b : Bool) → (a && b) ≡ true → (a ≡ true) × (b ≡ true)
 and_parts true b e = (refl, e)
@@ -101,8 +94,11 @@ module _ (s t : PartialState) where
   abbrev Needs : Address → Type 0
   Needs a = ⊥
 
+  abbrev Anything : Address → Type 0
+  Anything a = Unit {0}
+
   abbrev Both : {A : Type 0} → Stepping Own A → Stepping Own A → Type 0
-  Both f g = Simulates (λ o p. o ≡ p) Good Needs f g
+  Both f g = Simulates (λ o p. o ≡ p) Good Needs Anything f g
 
   module _ (r : ReadOp) (a : Address) (p : Progress Own) where
     abbrev ops : List WriteOp
@@ -117,13 +113,13 @@ module _ (s t : PartialState) where
     abbrev looked_step : Option Value → Step Own Item
     looked_step v = answered a (own_value r a v p.memory) p
 
-    read_back : (b : Bool) (v : Option Value) → Fine (λ o p. o ≡ p) Good Needs (answered a (cond b (Some (answer r (replay ops (default_of a.kind)), p.memory)) (own_value r a v p.memory)) p) → Good p.memory
+    read_back : (b : Bool) (v : Option Value) → Fine (λ o p. o ≡ p) Good Needs Anything (answered a (cond b (Some (answer r (replay ops (default_of a.kind)), p.memory)) (own_value r a v p.memory)) p) → Good p.memory
     read_back true v fine = fine
     read_back false None fine = absurd fine.0
     read_back false (Some v) fine = (parts (AgreesOn s t) p.memory.observations (seen_of v) fine).0
 
     read_forth : (b : Bool) (v : Option Value) → is_decided r ops ≡ b → s a ≡ v
-        → Fine (λ o p. o ≡ p) Good Needs (answered a (cond b (Some (answer r (replay ops (default_of a.kind)), p.memory)) (own_value r a v p.memory)) p)
+        → Fine (λ o p. o ≡ p) Good Needs Anything (answered a (cond b (Some (answer r (replay ops (default_of a.kind)), p.memory)) (own_value r a v p.memory)) p)
         → (answered a (cond b (Some (answer r (replay ops (default_of a.kind)), p.memory)) (own_value r a v p.memory)) p) ≡ (answered a (cond b (Some (answer r (replay ops (default_of a.kind)), p.memory)) (own_value r a (t a) p.memory)) p)
     read_forth true v not_here is fine = refl
     read_forth false None not_here is fine = absurd fine.0
@@ -136,27 +132,28 @@ module _ (s t : PartialState) where
         ap (λ (x : Item × _). gives x.0 (record p { memory = record p.memory { observations = with_seen p.memory.observations (record { address = a; obs = x.1 }) } })) (ap (λ (i : Item). (i, observed r ops v)) alike ∙ ap (λ o. (answer r (replay ops z.there), o)) (sym same))
         ∙ ap (λ w. answered a (own_value r a w p.memory) p) (sym z.is)
 
-  same_step : {A : Type 0} (u v : Step Own A) (p : Progress Own) → u ≡ v → Same (λ o p. o ≡ p) Good Needs u v
+  same_step : {A : Type 0} (u v : Step Own A) (p : Progress Own) → u ≡ v → Same (λ o p. o ≡ p) Good Needs Anything u v
   same_step (stopped e q) v p is = (q.memory, refl, sym is)
   same_step (gives x q) v p is = (q.memory, refl, sym is)
 
-  reads : (r : ReadOp) (a : Address) → Both (read_at (own s) r a) (read_at (own t) r a)
-  reads r a = record {
+  reads : (r : ReadOp) (a : Address) → Suits a.kind r → Both (read_at (own s) r a) (read_at (own t) r a)
+  reads r a suits = record {
     back = λ p. read_back r a p (is_decided r (ops r a p)) (s a);
-    forth = λ p m is fine. subst (λ m. Same (λ o p. o ≡ p) Good Needs (read_at (own s) r a p) (read_at (own t) r a (onto m p))) is
+    forth = λ p m is fine. subst (λ m. Same (λ o p. o ≡ p) Good Needs Anything (read_at (own s) r a p) (read_at (own t) r a (onto m p))) is
         (same_step (read_at (own s) r a p) (read_at (own t) r a p) p (read_forth r a p (is_decided r (ops r a p)) (s a) refl refl fine));
     bounded = λ p h. answered_bounded a (own_read s r a p.memory) p h;
+    lacking = λ p. answered_lacking (λ o p. o ≡ p) Good Needs Anything a (own_read s r a p.memory) p (λ _. tt);
   }
 
   writes : (a : Address) (o : WriteOp) → kind_written o ≡ a.kind → Both (write_at (own s) a o) (write_at (own t) a o)
-  writes a o k = record { back = λ p fine. fine; forth = λ p m is fine. (own_write a o m, ap (own_write a o) is, refl); bounded = λ p h. h }
+  writes a o k = record { back = λ p fine. fine; forth = λ p m is fine. (own_write a o m, ap (own_write a o) is, refl); bounded = λ p h. h; lacking = λ p. tt }
 
   abbrev AgreeRan : Ran → Type 0
   AgreeRan (need a) = Unit {0}
   AgreeRan (done r) = Agree s t r.observations
 
   done_alike : (u v : Step Own Names) (r : Run) → ended u ≡ done r → AgreeRan (ended u)
-      → (Fine (λ o p. o ≡ p) Good Needs u → Same (λ o p. o ≡ p) Good Needs u v) → ended v ≡ done r
+      → (Fine (λ o p. o ≡ p) Good Needs Anything u → Same (λ o p. o ≡ p) Good Needs Anything u v) → ended v ≡ done r
   done_alike (gives x p) v r e agree sim = let z = sim agree in ap ended z.2 ∙ (ap (λ m. ended (gives x (onto m p))) (sym z.1) ∙ e)
   done_alike (stopped (stop.Need a) p) v r e agree sim = absurd (cc)
   done_alike (stopped (stop.Fail x) p) v r e agree sim = let z = sim (tt, agree) in ap ended z.2 ∙ (ap (λ m. ended (stopped (stop.Fail x) (onto m p))) (sym z.1) ∙ e)
@@ -167,11 +164,11 @@ module _ (s t : PartialState) where
 pub runs_are_determined : RunsAreDetermined
 unfolding exec
 runs_are_determined b s t r e agree =
-    let sim = body_simulates (λ o p. o ≡ p) (Good s t) (Needs s t) (own s) (own t) (reads s t) (writes s t) b in
+    let sim = body_simulates (λ o p. o ≡ p) (Good s t) (Needs s t) (Anything s t) (own s) (own t) (reads s t) (writes s t) b in
     done_alike s t (own_run b s) (own_run b t) r e (subst (AgreeRan s t) (sym e) agree) (sim.forth (begun nothing_yet) nothing_yet refl)
 
 -- each charge is within the limit
 pub runs_are_bounded : RunsAreBounded
 runs_are_bounded b s =
-    let sim = body_simulates (λ o p. o ≡ p) (Good s s) (Needs s s) (own s) (own s) (reads s s) (writes s s) b in
+    let sim = body_simulates (λ o p. o ≡ p) (Good s s) (Needs s s) (Anything s s) (own s) (own s) (reads s s) (writes s s) b in
     sim.bounded (begun nothing_yet) (lit≤ tt)

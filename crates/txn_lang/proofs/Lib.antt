@@ -5,3 +5,4 @@ pub mod NamesKept
 pub mod Trees
 pub mod Simulation
 pub mod Determinacy
+pub mod Observed

@@ -14,7 +14,7 @@ use Rattle.txn_lang.specs.declared.bound_names.Binding.{Binding}
 use Rattle.txn_lang.specs.declared.item_type.Type.{«Type» as ItemType}
 use Rattle.txn_lang.specs.Types.{Names, type_bound}
 use Rattle.txn_lang.specs.Bindings.{later}
-use Rattle.txn_lang.specs.BoundNames.{names_of, type_there, Hides, Keeps}
+use Rattle.txn_lang.specs.code.BoundNames.{names_of, type_there, Hides, Keeps}
 use Rattle.std.proofs.Math.Seq.{take-append_seam}
 use Rattle.plain_data.proofs.Histories.{IsLawful-push, IsLawful-prefix, IsLawful-place}
 

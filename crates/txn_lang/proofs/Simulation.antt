@@ -1,16 +1,21 @@
 -- Runs over two memories that answer alike: one induction over the forms of the language. Its uses are determinacy, the bound
 -- on ticks, and that what the code keeps goes with the body's own operations.
-use Rattle.std.proofs.Common.{◌≡◌, ◌≤◌, ℕ, ℤ, suc, sum, ◌+◌, arith, Bool, true, false, List, [], ◌∷◌, ◌++◌, map, length, take, Option, Some, None, refl, ap, sym, ◌∙◌, subst, nat_le, cond}
+use Rattle.std.proofs.Common.{◌≡◌, ◌≤◌, ℕ, ℤ, pos, negsuc, suc, sum, ◌+◌, Bool, true, false, not, ◌&&◌, nat_lt, List, [], ◌∷◌, ◌++◌, map, length, take, Option, Some, None, refl, ap, sym, subst, nat_le, cond}
 use Rattle.rdt_types.specs.declared.address.Address.{Address}
 use Rattle.rdt_types.specs.declared.address.Kind.{Kind}
 use Rattle.rdt_types.specs.declared.address.Kind.TheVariants as kind
-use Rattle.rdt_types.specs.Values.{kind_written}
+use Rattle.rdt_types.specs.declared.value.Value.{Value}
+use Rattle.rdt_types.specs.declared.value.Value.TheVariants as value
+use Rattle.rdt_types.specs.Values.{kind_of, kind_written, list_in}
+use Rattle.conflict_table.specs.Observing.{kind_observed}
+use Rattle.conflict_table.specs.Reads.{observed_where, place_observed}
+use Rattle.conflict_table.specs.declared.observation.Obs.TheVariants as obs
 use Rattle.plain_data.specs.Texts.{Bytes}
 use Rattle.txn_trees.specs.declared.word.ReadWord.{ReadWord}
 use Rattle.txn_trees.specs.declared.word.ReadWord.TheVariants as read_word
 use Rattle.txn_trees.specs.declared.word.WriteWord.{WriteWord}
 use Rattle.txn_trees.specs.declared.word.WriteWord.TheVariants as write_word
-use Rattle.txn_trees.specs.declared.statement.Stmt.{Stmt, fold-Stmt, map-Stmt, roll-Stmt}
+use Rattle.txn_trees.specs.declared.statement.Stmt.{Stmt, map-Stmt, roll-Stmt}
 use Rattle.txn_trees.specs.declared.statement.StmtNode.{StmtNode, map-StmtNode, roll-StmtNode}
 use Rattle.txn_trees.specs.declared.statement.StmtNode.TheOpen.{StmtNode-F, Stmt-F}
 use Rattle.txn_trees.specs.declared.statement.Body.{Body}
@@ -22,19 +27,19 @@ use Rattle.txn_trees.specs.declared.word.Operator.{Operator}
 use Rattle.txn_trees.specs.declared.expression.Expr.{Expr}
 use Rattle.txn_trees.specs.declared.expression.ExprNode.{ExprNode}
 use Rattle.txn_trees.specs.declared.expression.ExprNode.TheOpen.{ExprNode-F, Expr-F, Operand-F}
-use Rattle.txn_trees.specs.declared.expression.ExprNode.TheFolds.{fold-roll-Expr, fold-roll-Operand, fold-ExprNode, fold-Operand, fold-roll-ExprNode, ind-Expr}
+use Rattle.txn_trees.specs.declared.expression.ExprNode.TheFolds.{fold-roll-Expr, fold-roll-Operand, fold-roll-ExprNode, ind-Expr}
 use Rattle.txn_trees.specs.declared.expression.ExprNode.{map-ExprNode, roll-ExprNode}
-use Rattle.txn_trees.specs.declared.expression.Expr.{fold-Expr, map-Expr, roll-Expr}
+use Rattle.txn_trees.specs.declared.expression.Expr.{map-Expr, roll-Expr}
 use Rattle.txn_trees.specs.declared.expression.Operand.{map-Operand, roll-Operand}
-use Rattle.txn_trees.specs.declared.statement.StmtNode.TheFolds.{fold-StmtNode, fold-roll-StmtNode, fold-roll-Stmt, ind-Stmt}
+use Rattle.txn_trees.specs.declared.statement.StmtNode.TheFolds.{fold-roll-StmtNode, fold-roll-Stmt, ind-Stmt}
 use Rattle.std.proofs.lemmas.Bool.{leb-true}
 use Rattle.txn_lang.specs.declared.limits.TheConstants.{TICK_LIMIT, LOAD_LIMIT}
 use Rattle.txn_lang.specs.Execution.{ticks_of}
 use Rattle.txn_lang.specs.declared.progress.Stop.{Stop}
 use Rattle.txn_lang.specs.declared.progress.Stop.TheVariants as stop
 use Rattle.txn_lang.specs.declared.progress.Progress.{Progress}
-use Rattle.txn_lang.specs.Items.{Names, named, int_in, bool_in, text_in, texts_in, size_of, is_big, decides, joined, negated, length_of, read_of, write_of, write_with, pair_write, text_write, counter_write, clear_of, text_size, elements_in, compares}
-use Rattle.txn_lang.specs.Rules.{Expression, Statement, sized, all_values, joined_with, link, chain, answer_with, address_of, of_node, of_expr, of_operand, node_run, expr_run, operand_run, body_run, all_steps, block, block_maybe, turn, turns, write_maybe, of_step, of_stmt, step_run, stmt_run}
+use Rattle.txn_lang.specs.Items.{Names, int_in, bool_in, text_in, texts_in, size_of, is_big, decides, joined, first_int, read_of, write_of, write_with, pair_write, text_write, counter_write, clear_of, text_size, elements_in}
+use Rattle.txn_lang.specs.Rules.{Expression, Statement, sized, all_values, link, chain, address_of, of_node, of_expr, of_operand, node_run, expr_run, operand_run, body_run, all_steps, block, turns, write_maybe, of_step, of_stmt, step_run, stmt_run}
 use Rattle.txn_trees.specs.declared.expression.Operand.{Operand}
 use Rattle.txn_lang.specs.Steps.{Memory, Step, stopped, gives, Stepping, and_then, ◌>>=◌, pure, stop_by, charge, carry, emit, answered, read_at, write_at}
 
@@ -86,6 +91,32 @@ write_fits k word [] = clear_fits k
 write_fits k word (i ∷ []) = one_fits k word i
 write_fits k word (i ∷ j ∷ is) = pair_fits k (text_in i) (text_in j)
 
+-- a read of values of a kind observes something of that kind
+abbrev pub Suits : Kind → ReadOp → Type 0
+Suits k r = (takes_out : Bool) (v : Value) → kind_of v ≡ k → kind_observed (observed_where r takes_out v) ≡ k
+
+place_suits : (i : ℤ) (takes_out : Bool) (items : List Bytes) → kind_observed (place_observed i takes_out items) ≡ kind.List
+place_suits (pos i) takes_out items = by (not takes_out && nat_lt i (length items))
+  where
+    by : (b : Bool) → kind_observed (cond b (obs.ListAt i) obs.ListAll) ≡ kind.List
+    by true = refl
+    by false = refl
+place_suits (negsuc i) takes_out items = refl
+
+-- the words of a kind make its reads
+pub read_suits : (k : Kind) (word : ReadWord) (is : List Item) → Suits k (read_of k word is)
+read_suits kind.Bool word is takes_out (value.Bool b) e = refl
+read_suits kind.Counter word is takes_out (value.Counter n) e = refl
+read_suits kind.Text word is takes_out (value.Text t) e = refl
+read_suits kind.Set read_word.Has is takes_out v e = refl
+read_suits kind.Set word is takes_out v e = refl
+read_suits kind.Hash read_word.Has is takes_out v e = refl
+read_suits kind.Hash read_word.Get is takes_out v e = refl
+read_suits kind.Hash word is takes_out v e = refl
+read_suits kind.List read_word.At is takes_out v e = place_suits (first_int is) takes_out (list_in v)
+read_suits kind.List word is takes_out v e = refl
+read_suits k word is takes_out v e = absurd (cc)
+
 module _ {M : Type 0} (m : Memory M) where
   abbrev pub expr_of : Expr → Expression M
   expr_of = expr_run m
@@ -122,8 +153,9 @@ pub answered_bounded : {M A : Type 0} (a : Address) (o : Option (A × M)) (p : P
 answered_bounded a None p h = h
 answered_bounded a (Some x) p h = h
 
--- the second memory goes with the first (R), as long as the first ends well (Good) and needs only some addresses (Needs)
-module _ {S T : Type 0} (R : S → T → Type 0) (Good : S → Type 0) (Needs : Address → Type 0) where
+-- The second memory goes with the first (R), as long as the first ends well (Good) and needs only some addresses (Needs).
+-- What the first needs, it lacks (Lacks).
+module _ {S T : Type 0} (R : S → T → Type 0) (Good : S → Type 0) (Needs Lacks : Address → Type 0) where
   abbrev pub Allowed : Stop → Type 0
   Allowed (stop.Need a) = Needs a
   Allowed _ = Unit {0}
@@ -136,17 +168,32 @@ module _ {S T : Type 0} (R : S → T → Type 0) (Good : S → Type 0) (Needs : 
   Same (stopped s p) u = (t : T) × R p.memory t × (u ≡ stopped s (onto t p))
   Same (gives x p) u = (t : T) × R p.memory t × (u ≡ gives x (onto t p))
 
+  abbrev pub Owes : Stop → Type 0
+  Owes (stop.Need a) = Lacks a
+  Owes _ = Unit {0}
+
+  -- a step that needs an address lacks it
+  abbrev pub Lacking : {A : Type 0} → Step S A → Type 0
+  Lacking (stopped s p) = Owes s
+  Lacking (gives x p) = Unit {0}
+
+  -- what a memory doesn't answer it lacks
+  pub answered_lacking : {A : Type 0} (a : Address) (o : Option (A × S)) (p : Progress S) → (o ≡ None → Lacks a) → Lacking (answered a o p)
+  answered_lacking a None p lacks = lacks refl
+  answered_lacking a (Some x) p lacks = tt
+
   pub record Simulates {A : Type 0} (f : Stepping S A) (g : Stepping T A) : Type 0 where
     pub back : (p : Progress S) → Fine (f p) → Good p.memory
     pub forth : (p : Progress S) (t : T) → R p.memory t → Fine (f p) → Same (f p) (g (onto t p))
     pub bounded : (p : Progress S) → p.ticks ≤ TICK_LIMIT → ticks_of (f p) ≤ TICK_LIMIT
+    pub lacking : (p : Progress S) → Lacking (f p)
 
   pure_simulates : {A : Type 0} (x : A) → Simulates (pure x) (pure x)
-  pure_simulates x = record { back = λ p fine. fine; forth = λ p t r fine. (t, r, refl); bounded = λ p h. h }
+  pure_simulates x = record { back = λ p fine. fine; forth = λ p t r fine. (t, r, refl); bounded = λ p h. h; lacking = λ p. tt }
 
   pub then_simulates : {A B : Type 0} {f : Stepping S A} {g : Stepping T A} {h : A → Stepping S B} {k : A → Stepping T B}
       → Simulates f g → ((x : A) → Simulates (h x) (k x)) → Simulates (f >>= h) (g >>= k)
-  then_simulates {A} {B} {f} {g} {h} {k} fg hk = record { back = λ p. back_by p (f p) (fg.back p); forth = λ p t r. forth_by p t (f p) (g (onto t p)) (fg.forth p t r); bounded = λ p h. bounded_by (f p) (fg.bounded p h) }
+  then_simulates {A} {B} {f} {g} {h} {k} fg hk = record { back = λ p. back_by p (f p) (fg.back p); forth = λ p t r. forth_by p t (f p) (g (onto t p)) (fg.forth p t r); bounded = λ p h. bounded_by (f p) (fg.bounded p h); lacking = λ p. lacking_by (f p) (fg.lacking p) }
     where
       back_by : (p : Progress S) (u : Step S A) → (Fine u → Good p.memory) → Fine (and_then u h) → Good p.memory
       back_by p (stopped s q) b fine = b fine
@@ -163,16 +210,20 @@ module _ {S T : Type 0} (R : S → T → Type 0) (Good : S → Type 0) (Needs : 
       bounded_by (stopped s q) b = b
       bounded_by (gives x q) b = (hk x).bounded q b
 
-  stop_simulates : {A : Type 0} (s : Stop) → Simulates {A = A} (stop_by s) (stop_by s)
-  stop_simulates s = record { back = λ p fine. fine.1; forth = λ p t r fine. (t, r, refl); bounded = λ p h. h }
+      lacking_by : (u : Step S A) → Lacking u → Lacking (and_then u h)
+      lacking_by (stopped s q) owes = owes
+      lacking_by (gives x q) owes = (hk x).lacking q
+
+  stop_simulates : {A : Type 0} (s : Stop) → Owes s → Simulates {A = A} (stop_by s) (stop_by s)
+  stop_simulates s owes = record { back = λ p fine. fine.1; forth = λ p t r fine. (t, r, refl); bounded = λ p h. h; lacking = λ p. owes }
 
   if_simulates : {A : Type 0} {f h : Stepping S A} {g k : Stepping T A} (b : Bool)
       → Simulates f g → Simulates h k → Simulates (λ p. cond b f h p) (λ p. cond b g k p)
-  if_simulates true fg hk = record { back = fg.back; forth = fg.forth; bounded = fg.bounded }
-  if_simulates false fg hk = record { back = hk.back; forth = hk.forth; bounded = hk.bounded }
+  if_simulates true fg hk = record { back = fg.back; forth = fg.forth; bounded = fg.bounded; lacking = fg.lacking }
+  if_simulates false fg hk = record { back = hk.back; forth = hk.forth; bounded = hk.bounded; lacking = hk.lacking }
 
   charge_simulates : (n : ℕ) → Simulates (charge n) (charge n)
-  charge_simulates n = record { back = λ p. back_by p (nat_le (p.ticks + n) TICK_LIMIT); forth = λ p t r. forth_by p t r (nat_le (p.ticks + n) TICK_LIMIT); bounded = λ p h. bounded_by p (nat_le (p.ticks + n) TICK_LIMIT) refl h }
+  charge_simulates n = record { back = λ p. back_by p (nat_le (p.ticks + n) TICK_LIMIT); forth = λ p t r. forth_by p t r (nat_le (p.ticks + n) TICK_LIMIT); bounded = λ p h. bounded_by p (nat_le (p.ticks + n) TICK_LIMIT) refl h; lacking = λ p. lacking_by p (nat_le (p.ticks + n) TICK_LIMIT) }
     where
       back_by : (p : Progress S) (b : Bool) → Fine (cond b (gives unit (record p { ticks = p.ticks + n })) (stopped stop.Spent p)) → Good p.memory
       back_by p true fine = fine
@@ -188,11 +239,15 @@ module _ {S T : Type 0} (R : S → T → Type 0) (Good : S → Type 0) (Needs : 
       bounded_by p true e h = leb-true (p.ticks + n) TICK_LIMIT e
       bounded_by p false e h = h
 
+      lacking_by : (p : Progress S) (b : Bool) → Lacking (cond b (gives unit (record p { ticks = p.ticks + n })) (stopped stop.Spent p))
+      lacking_by p true = tt
+      lacking_by p false = tt
+
   charge_alike : {k l : ℕ} → k ≡ l → Simulates (charge k) (charge l)
   charge_alike {k} {l} e = subst (λ j. Simulates (charge k) (charge j)) e (charge_simulates k)
 
   carry_simulates : (n : ℕ) → Simulates (carry n) (carry n)
-  carry_simulates n = record { back = λ p. back_by p (nat_le (p.load + n) LOAD_LIMIT); forth = λ p t r. forth_by p t r (nat_le (p.load + n) LOAD_LIMIT); bounded = λ p h. bounded_by p (nat_le (p.load + n) LOAD_LIMIT) h }
+  carry_simulates n = record { back = λ p. back_by p (nat_le (p.load + n) LOAD_LIMIT); forth = λ p t r. forth_by p t r (nat_le (p.load + n) LOAD_LIMIT); bounded = λ p h. bounded_by p (nat_le (p.load + n) LOAD_LIMIT) h; lacking = λ p. lacking_by p (nat_le (p.load + n) LOAD_LIMIT) }
     where
       back_by : (p : Progress S) (b : Bool) → Fine (cond b (gives unit (record p { load = p.load + n })) (stopped stop.Big p)) → Good p.memory
       back_by p true fine = fine
@@ -207,13 +262,17 @@ module _ {S T : Type 0} (R : S → T → Type 0) (Good : S → Type 0) (Needs : 
       bounded_by p true h = h
       bounded_by p false h = h
 
+      lacking_by : (p : Progress S) (b : Bool) → Lacking (cond b (gives unit (record p { load = p.load + n })) (stopped stop.Big p))
+      lacking_by p true = tt
+      lacking_by p false = tt
+
   emit_simulates : (i : Item) → Simulates (emit i) (emit i)
-  emit_simulates i = record { back = λ p fine. fine; forth = λ p t r fine. (t, r, refl); bounded = λ p h. h }
+  emit_simulates i = record { back = λ p fine. fine; forth = λ p t r fine. (t, r, refl); bounded = λ p h. h; lacking = λ p. tt }
 
   -- ---- the rules' own combinators
 
   sized_simulates : (i : Item) → Simulates (sized i) (sized i)
-  sized_simulates i = if_simulates (is_big i) (stop_simulates stop.Big) (pure_simulates i)
+  sized_simulates i = if_simulates (is_big i) (stop_simulates stop.Big tt) (pure_simulates i)
 
   -- expressions over both memories
   abbrev AsExpression : Expression S → Expression T → Type 0
@@ -223,7 +282,7 @@ module _ {S T : Type 0} (R : S → T → Type 0) (Good : S → Type 0) (Needs : 
     abbrev AsOperand : Operand → Type 0
     AsOperand o = ((operand_of m o).0 ≡ (operand_of n o).0) × AsExpression (operand_of m o).1 (operand_of n o).1
 
-    module _ (reads : (r : ReadOp) (a : Address) → Simulates (read_at m r a) (read_at n r a)) where
+    module _ (reads : (r : ReadOp) (a : Address) → Suits a.kind r → Simulates (read_at m r a) (read_at n r a)) where
       -- one layer: each child is some expression, by h, and simulates
       module _ {N E O : Type 0} (hN : N → ExprNode) (hE : E → Expr) (hO : O → Operand)
           (nodes : (x : N) → AsExpression (node_run m (hN x)) (node_run n (hN x)))
@@ -265,7 +324,7 @@ module _ {S T : Type 0} (R : S → T → Type 0) (Good : S → Type 0) (Needs : 
         layer_simulates (ExprNode-F.Chain e os) names = then_simulates (charge_alike (length_alike os)) (λ _. then_simulates (exprs e names) (λ i. chain_simulates i os names))
         layer_simulates (ExprNode-F.Read k e word es) names =
             then_simulates (charge_simulates 1) (λ _. then_simulates (exprs e names) (λ key. then_simulates (values_simulate [] es names) (λ is.
-            then_simulates (reads (read_of k word is) (address_of k key)) (λ i. then_simulates (charge_simulates (elements_in i)) (λ _. sized_simulates i)))))
+            then_simulates (reads (read_of k word is) (address_of k key) (read_suits k word is)) (λ i. then_simulates (charge_simulates (elements_in i)) (λ _. sized_simulates i)))))
 
         -- what is one layer over children that simulate does so
         node_layer : (x : ExprNode-F ExprNode Expr Operand) (y : ExprNode-F N E O) → map-ExprNode N E O ExprNode Expr Operand hN hE hO y ≡ x
@@ -331,7 +390,7 @@ module _ {S T : Type 0} (R : S → T → Type 0) (Good : S → Type 0) (Needs : 
           step_layer_simulates (StmtNode-F.Let x e) names = then_simulates (expr_simulates e names) (λ i. pure_simulates (names ++ (x, i) ∷ []))
           step_layer_simulates (StmtNode-F.Emit e) names =
               then_simulates (expr_simulates e names) (λ i. then_simulates (then_simulates (carry_simulates (8 + size_of i)) (λ _. emit_simulates i)) (λ _. pure_simulates names))
-          step_layer_simulates (StmtNode-F.Fail e) names = then_simulates (expr_simulates e names) (λ i. stop_simulates (stop.Fail (text_in i)))
+          step_layer_simulates (StmtNode-F.Fail e) names = then_simulates (expr_simulates e names) (λ i. stop_simulates (stop.Fail (text_in i)) tt)
           step_layer_simulates (StmtNode-F.If e ss None) names = then_simulates (expr_simulates e names) (λ i. if_simulates (bool_in i) (block_simulates ss names) (pure_simulates names))
           step_layer_simulates (StmtNode-F.If e ss (Some ts)) names = then_simulates (expr_simulates e names) (λ i. if_simulates (bool_in i) (block_simulates ss names) (block_simulates ts names))
           step_layer_simulates (StmtNode-F.For x e ss) names = then_simulates (expr_simulates e names) (λ i. turns_simulate x ss (texts_in i) names)

@@ -1,9 +1,7 @@
 -- The tree of a text.
-use Rattle.std.proofs.Common.{◌≡◌, Option, Some, None, Result, Ok, Err, refl, ap, sym, ◌∙◌, subst}
+use Rattle.std.proofs.Common.{◌≡◌, Option, Some, None, Ok, Err, refl, ap, ◌∙◌, subst}
 use Rattle.txn_trees.specs.declared.statement.Body.{Body}
 use Rattle.txn_grammar.specs.Characters.{Text}
-use Rattle.txn_grammar.specs.Lexer.{lex}
-use Rattle.txn_grammar.specs.Grammar.{IsBody}
 use Rattle.txn_grammar.specs.Parsed.{parsed}
 use Rattle.txn_grammar.proofs.Parses.{parsed_sound, parsed_complete}
 use Rattle.txn_lang.specs.Types.{Names}

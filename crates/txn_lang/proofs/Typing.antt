@@ -24,7 +24,7 @@ use Rattle.txn_lang.specs.declared.item_type.Type.TheVariants as type
 use Rattle.txn_lang.specs.Types.{Names, type_bound, same, has_length, may_compare, takes, may_begin, written_type, asked_type, answered_type}
 use Rattle.txn_lang.specs.Typing.{HasType, number, text, bool, name, texts, shown, negative, negation, comparison, chain, read, AreTyped, none, bind, emit, fail, branch, turns, write, IsTyped, Judged, and_then, unless, told, Typed, all_of, fits, operands_of, may_be_first, named, judge_node, judge_expr, judge_operand, typed, judged_operand, type_of, expect, in_order, block, turn, judge_write, judge_step, judge_stmt, names_after, judge, node_of, step_of, column_of, operator_of, value_of, else_of, TypesAreFound, BodiesAreJudged}
 use Rattle.txn_lang.specs.Typing as rule
-use Rattle.txn_lang.specs.Checking.{Leaves}
+use Rattle.txn_lang.specs.code.Checking.{Leaves}
 use Rattle.plain_data.specs.declared.or_no_memory.OrNoMemory.{OrNoMemory}
 use Rattle.plain_data.specs.declared.or_no_memory.OrNoMemory.TheVariants.{Cause}
 use Rattle.std.specs.Result.{MatchResult}

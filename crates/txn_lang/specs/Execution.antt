@@ -5,7 +5,6 @@ use Rattle.rdt_types.specs.declared.address.Kind.TheVariants as kind
 use Rattle.rdt_types.specs.declared.address.Address.{Address}
 use Rattle.rdt_types.specs.declared.value.Value.{Value}
 use Rattle.rdt_types.specs.declared.operation.WriteOp.{WriteOp}
-use Rattle.rdt_types.specs.declared.operation.WriteOp.TheVariants as op
 use Rattle.rdt_types.specs.declared.outcome.Item.{Item}
 use Rattle.rdt_types.specs.declared.outcome.Item.TheVariants as item
 use Rattle.rdt_types.specs.declared.outcome.Outcome.{Outcome}

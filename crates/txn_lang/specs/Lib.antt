@@ -6,10 +6,10 @@ pub mod Items
 pub mod Rules
 pub mod Execution
 pub mod Determinacy
+pub mod Observed
 pub mod Types
-pub mod BoundNames
 pub mod Typing
-pub mod Checking
 pub mod Writes
 pub mod Tree
 pub mod Journals
+pub mod code

@@ -4,7 +4,7 @@
 -- Statements run in order and operands from left to right. A tick is charged for each statement that begins, for each turn
 -- of a `for`, for each expression that begins (a chain charges one an operator, and nothing for itself), and for each
 -- element of what `all` and `fields` answer.
-use Rattle.std.specs.Prelude.{◌≡◌, ℕ, ◌+◌, pos, Bool, true, false, not, if◌then◌else◌, List, [], ◌∷◌, ◌++◌, map, sum, length, take, Option, Some, None, codes, refl}
+use Rattle.std.specs.Prelude.{◌+◌, pos, not, if◌then◌else◌, List, [], ◌∷◌, ◌++◌, map, sum, length, take, Option, Some, None}
 use Rattle.std.specs.Fmt.{signed_decimal}
 use Rattle.plain_data.specs.Texts.{Bytes}
 use Rattle.rdt_types.specs.declared.address.Kind.{Kind}
@@ -28,7 +28,7 @@ use Rattle.txn_trees.specs.declared.statement.StmtNode.{StmtNode}
 use Rattle.txn_trees.specs.declared.statement.StmtNode.TheOpen.{StmtNode-F, Stmt-F}
 use Rattle.txn_trees.specs.declared.statement.StmtNode.TheFolds.{fold-StmtNode}
 use Rattle.txn_lang.specs.declared.progress.Stop.TheVariants as stop
-use Rattle.txn_lang.specs.Steps.{Memory, Step, Stepping, ◌>>=◌, and_then, pure, stop_by, charge, carry, emit, read_at, write_at}
+use Rattle.txn_lang.specs.Steps.{Memory, Stepping, ◌>>=◌, pure, stop_by, charge, carry, emit, read_at, write_at}
 use Rattle.txn_lang.specs.Items.{Names, named, int_in, bool_in, text_in, texts_in, size_of, is_big, decides, joined, negated, length_of, read_of, write_of, text_size, elements_in, compares}
 
 -- what an expression does where names are bound

@@ -1,5 +1,5 @@
 -- Types, and which of them the operations of the language take and give.
-use Rattle.std.specs.Prelude.{◌≡◌, Bool, true, false, ◌||◌, if◌then◌else◌, List, [], ◌∷◌, fold, Option, Some, None, codes, refl}
+use Rattle.std.specs.Prelude.{Bool, true, false, ◌||◌, List, Option}
 use Rattle.plain_data.specs.Texts.{Bytes}
 use Rattle.txn_lang.specs.Bindings.{bound}
 use Rattle.rdt_types.specs.declared.address.Kind.{Kind}

@@ -33,7 +33,7 @@ pub(crate) struct BoundNames {
 
 impl Model for BoundNames {
     ghost use Rattle.txn_lang.specs.Types.{Names};
-    ghost use Rattle.txn_lang.specs.BoundNames.{names_of, Keeps};
+    ghost use Rattle.txn_lang.specs.code.BoundNames.{names_of, Keeps};
 
     ghost Value = { Names };
 

@@ -6,7 +6,7 @@ ghost use Rattle.txn_grammar.specs.Parsed.{parsed};
 ghost use Rattle.txn_lang.specs.Typing as spec;
 ghost use Rattle.txn_lang.specs.Typing.{judge as judge_of, IsTyped};
 ghost use Rattle.txn_lang.specs.Writes.{first_write as first_write_of};
-ghost use Rattle.txn_lang.specs.Checking.{Answers, Leaves, WritesAt};
+ghost use Rattle.txn_lang.specs.code.Checking.{Answers, Leaves, WritesAt};
 
 use crate::bound_names::BoundNames;
 use crate::checked::Checked;

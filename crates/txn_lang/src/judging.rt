@@ -4,7 +4,7 @@ ghost use Rattle.std.specs.Prelude.{◌≡◌, ◌≤◌, map, take, length, Non
 ghost use Rattle.std.specs.Option as Option;
 ghost use Rattle.txn_lang.specs.Types as types;
 ghost use Rattle.txn_lang.specs.Typing as spec;
-ghost use Rattle.txn_lang.specs.Checking.{Fits};
+ghost use Rattle.txn_lang.specs.code.Checking.{Fits};
 
 use crate::bound_names::BoundNames;
 use crate::item_type::Type;

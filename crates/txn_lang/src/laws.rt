@@ -4,6 +4,7 @@ ghost use Rattle.txn_lang.specs.Journals.{LegalCommitsFollow};
 ghost use Rattle.txn_lang.specs.Own.{DeltasLeaveWhatOperationsLeave};
 ghost use Rattle.txn_lang.specs.Execution.{RunsAreBounded};
 ghost use Rattle.txn_lang.specs.Determinacy.{RunsAreDetermined};
+ghost use Rattle.txn_lang.specs.Observed.{NeedsAreMissing, WholeRunsAreDone, ObservedIsThere, RunsStayDone};
 ghost use Rattle.txn_lang.specs.Tree.{TreesAreTypedBodies};
 ghost use Rattle.txn_lang.specs.Typing.{TypesAreFound, BodiesAreJudged};
 
@@ -31,6 +32,27 @@ pub fn bodies_are_judged()
 /// observed, the run on the second is the same.
 pub fn runs_are_determined()
     ensures { RunsAreDetermined }
+{}
+
+/// The law that a run needs a value only where the state has none.
+pub fn needs_are_missing()
+    ensures { NeedsAreMissing }
+{}
+
+/// The law that on a whole state every run is done.
+pub fn whole_runs_are_done()
+    ensures { WholeRunsAreDone }
+{}
+
+/// The law that the state has each value that a run which is done observed, and that each observation is of the kind of
+/// its value's address.
+pub fn observed_is_there()
+    ensures { ObservedIsThere }
+{}
+
+/// The law that a run which is done is the same on a state with more values.
+pub fn runs_stay_done()
+    ensures { RunsStayDone }
 {}
 
 /// The law that no run charges more ticks than the limit.

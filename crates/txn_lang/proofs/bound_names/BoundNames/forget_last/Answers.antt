@@ -1,5 +1,5 @@
 use Rattle.std.proofs.Common.{◌≡◌, ◌+◌, ◌-◌, ◌<◌, length, sym, ◌∙◌, ap, arith}
-use Rattle.txn_lang.specs.BoundNames.{names_of}
+use Rattle.txn_lang.specs.code.BoundNames.{names_of}
 use Rattle.txn_lang.proofs.NamesKept.{keeps-forgotten, names_of-forgot, length-names_of}
 use Rattle.txn_lang.proofs.bound_names.BoundNames.forget_last.Goals as goal
 
