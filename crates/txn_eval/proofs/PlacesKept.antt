@@ -81,8 +81,8 @@ keeps-bind places bs b keeps hides = record {
 }
 
 -- a name that is bound, as the code puts its binding together
-pub keeps-bound : (places : MapOf (Option ℕ)) (bs : List Binding) (names : Names) (x key own : Bytes) (i : Item) (hidden : Option ℕ) (place : ℕ) → Keeps places bs
-    → names_of bs ≡ names → hidden ≡ place_bound names x → key ≡ x → own ≡ x → place ≡ length bs
+pub keeps-bound : (places : MapOf (Option ℕ)) (bs : List Binding) (names : Names) (x key own : Bytes) (i : Item) (hidden : Option ℕ) (place : ℕ)
+    → Keeps places bs → names_of bs ≡ names → hidden ≡ place_bound names x → key ≡ x → own ≡ x → place ≡ length bs
     → Keeps (fin.insert places key (Some place)) (bs ++ (record { name = own; item = i; hidden = hidden }) ∷ [])
 keeps-bound places bs names x key own i hidden place keeps are hides is own_is place_is =
     let b : Binding = record { name = own; item = i; hidden = hidden } in
@@ -116,19 +116,23 @@ keeps-forget places bs b keeps = record {
 }
   where
     last_hides : Hides 0 bs b
-    last_hides = subst (λ before. Hides 0 before b) (take-append_seam bs (b ∷ [])) (IsLawful-place Hides 0 (bs ++ b ∷ []) keeps.hidden (length bs) b (item_behind bs [] b))
+    last_hides =
+        subst (λ before. Hides 0 before b) (take-append_seam bs (b ∷ []))
+        (IsLawful-place Hides 0 (bs ++ b ∷ []) keeps.hidden (length bs) b (item_behind bs [] b))
 
     by : (x : Bytes) (tied : Bool) → eq_by_cmp text_cmp x b.name ≡ tied → cond tied b.hidden (place_there (fin.get places x)) ≡ place_bound (names_of bs) x
     by x true e = last_hides ∙ sym (later-tied (placed 0 (names_of bs)) x b.name None (is_equal (text_cmp x b.name) e))
     by x false e = keeps.newest x ∙ place-push bs b x ∙ ap (λ t. cond t (Some (length bs)) (place_bound (names_of bs) x)) e
 
 -- the same, of a list whose last place is known
-pub keeps-forgotten : (places : MapOf (Option ℕ)) (bs : List Binding) (n : ℕ) (b : Binding) → Keeps places bs → n + 1 ≡ length bs → slice_get bs n ≡ Some b
+pub keeps-forgotten : (places : MapOf (Option ℕ)) (bs : List Binding) (n : ℕ) (b : Binding)
+    → Keeps places bs → n + 1 ≡ length bs → slice_get bs n ≡ Some b
     → Keeps (fin.insert places b.name b.hidden) (take n bs)
 keeps-forgotten places bs n b keeps e there = keeps-forget places (take n bs) b (subst (Keeps places) (split_last bs n b e there) keeps)
 
 -- what is left of names when the last is forgotten
-pub names_of-forgot : (bs : List Binding) (names : Names) (k : ℕ) → names_of bs ≡ names → k ≡ length bs → names_of (take (k - 1) bs) ≡ take (length names - 1) names
+pub names_of-forgot : (bs : List Binding) (names : Names) (k : ℕ) → names_of bs ≡ names → k ≡ length bs
+    → names_of (take (k - 1) bs) ≡ take (length names - 1) names
 names_of-forgot bs names k are is =
     sym (take-map (λ (b : Binding). (b.name, b.item)) (k - 1) bs)
     ∙ ap (λ n. take (n - 1) (names_of bs)) (is ∙ sym (length-names_of bs))
