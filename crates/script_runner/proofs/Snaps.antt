@@ -64,7 +64,7 @@ pub run_on_state : (body : Body) (state : State) (snaps : List (Address × Snap)
 unfolding run_on
 run_on_state body state snaps r are e =
     let on_state : done r ≡ done (whole_runs_are_done body state).0 =
-        sym (done_on_state body state snaps r are e) ∙ (whole_runs_are_done body state).1
+    sym (done_on_state body state snaps r are e) ∙ (whole_runs_are_done body state).1
     in cc
 
 -- ---- needs
