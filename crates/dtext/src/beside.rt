@@ -1,7 +1,7 @@
 //! Write parts beside an address, whose kind decides.
 
 ghost use Rattle.std.specs.Prelude.{◌≡◌};
-ghost use Rattle.predictive_parsing.specs.Reads.{Reads};
+ghost use Rattle.predictive_parsing.specs.Reads.{Reads, OnlyRefuses};
 ghost use Rattle.dtext.specs.code.Reading as spec;
 
 use crate::number::number;
@@ -16,7 +16,8 @@ use std::alloc::Global;
 /// A truth value that is put.
 #[tactic(auto, unfolding(crate::specs::code::Reading::bool_part))]
 fn bool_part(cursor: &mut Cursor<u8>) -> Result<WriteOp, OrNoMemory<Refused>>
-    ensures { Reads (spec.bool_part cursor.old) result cursor.new }
+    ensures read { Reads (spec.bool_part cursor.old) result cursor.new }
+    ensures refusal { OnlyRefuses result }
 {
     cursor.word(b"put ")?;
     Ok(WriteOp::PutBool(truth(cursor)?))
@@ -25,7 +26,8 @@ fn bool_part(cursor: &mut Cursor<u8>) -> Result<WriteOp, OrNoMemory<Refused>>
 /// A number that is put or added.
 #[tactic(auto, unfolding(crate::specs::code::Reading::counter_part))]
 fn counter_part(cursor: &mut Cursor<u8>) -> Result<WriteOp, OrNoMemory<Refused>>
-    ensures { Reads (spec.counter_part cursor.old) result cursor.new }
+    ensures read { Reads (spec.counter_part cursor.old) result cursor.new }
+    ensures refusal { OnlyRefuses result }
 {
     if cursor.sees_byte(b'p') {
         cursor.word(b"put ")?;

@@ -1,7 +1,7 @@
 //! Values that a body emits, and how bodies end.
 
 ghost use Rattle.std.specs.Prelude.{◌≡◌};
-ghost use Rattle.predictive_parsing.specs.Reads.{Reads};
+ghost use Rattle.predictive_parsing.specs.Reads.{Reads, OnlyRefuses};
 ghost use Rattle.dtext.specs.code.Reading as spec;
 
 use crate::number::{begins_number, number};
@@ -72,14 +72,16 @@ fn failed(alloc: Global, cursor: &mut Cursor<u8>) -> Result<Outcome, OrNoMemory<
 }
 
 fn spent(cursor: &mut Cursor<u8>) -> Result<Outcome, OrNoMemory<Refused>>
-    ensures { Reads (spec.spent cursor.old) result cursor.new }
+    ensures read { Reads (spec.spent cursor.old) result cursor.new }
+    ensures refusal { OnlyRefuses result }
 {
     cursor.word(b"spent")?;
     Ok(Outcome::Spent)
 }
 
 fn big(cursor: &mut Cursor<u8>) -> Result<Outcome, OrNoMemory<Refused>>
-    ensures { Reads (spec.big cursor.old) result cursor.new }
+    ensures read { Reads (spec.big cursor.old) result cursor.new }
+    ensures refusal { OnlyRefuses result }
 {
     cursor.word(b"big")?;
     Ok(Outcome::Big)

@@ -2,7 +2,7 @@
 
 ghost use Rattle.std.specs.Prelude.{◌≡◌, ◌≤◌, ◌^◌, ◌-◌, IfOk, IfSome, Ok, neg_ℤ, pos};
 ghost use Rattle.predictive_parsing.specs.Reading.{next, of, one};
-ghost use Rattle.predictive_parsing.specs.Reads.{Reads, made_of};
+ghost use Rattle.predictive_parsing.specs.Reads.{Reads, OnlyRefuses, made_of};
 ghost use Rattle.dtext.specs.code.Reading as spec;
 
 use crate::character::is_digit;
@@ -66,6 +66,7 @@ fn digits(cursor: &mut Cursor<u8>, limit: u64, first: u64) -> u64
 
 fn leading_digit(cursor: &mut Cursor<u8>) -> Result<u64, OrNoMemory<Refused>>
     ensures read { Reads (one spec.leading cursor.old) result cursor.new }
+    ensures refusal { OnlyRefuses result }
     ensures below { IfOk result (λ value. value ≤ 9) }
 {
     cursor.take(|byte| leading(*byte))
@@ -76,6 +77,7 @@ fn leading_digit(cursor: &mut Cursor<u8>) -> Result<u64, OrNoMemory<Refused>>
 pub fn next_positive(cursor: &mut Cursor<u8>, limit: u64) -> Result<u64, OrNoMemory<Refused>>
     requires { 9 ≤ limit }
     ensures read { Reads (spec.positive limit cursor.old) result cursor.new }
+    ensures refusal { OnlyRefuses result }
     ensures within { IfOk result (λ n. n ≤ limit) }
 {
     let first = leading_digit(cursor)?;
@@ -87,6 +89,7 @@ pub fn next_positive(cursor: &mut Cursor<u8>, limit: u64) -> Result<u64, OrNoMem
 pub fn next_natural(cursor: &mut Cursor<u8>, limit: u64) -> Result<u64, OrNoMemory<Refused>>
     requires { 9 ≤ limit }
     ensures read { Reads (spec.natural limit cursor.old) result cursor.new }
+    ensures refusal { OnlyRefuses result }
     ensures within { IfOk result (λ n. n ≤ limit) }
 {
     if cursor.sees_byte(b'0') {
@@ -107,7 +110,8 @@ fn below_zero(n: u64) -> i64
 
 #[tactic(auto, unfolding(crate::specs::code::Reading::negative))]
 fn negative(cursor: &mut Cursor<u8>) -> Result<i64, OrNoMemory<Refused>>
-    ensures { Reads (spec.negative cursor.old) result cursor.new }
+    ensures read { Reads (spec.negative cursor.old) result cursor.new }
+    ensures refusal { OnlyRefuses result }
 {
     cursor.byte(b'-')?;
     let n = next_positive(cursor, LEAST)?;
@@ -115,7 +119,8 @@ fn negative(cursor: &mut Cursor<u8>) -> Result<i64, OrNoMemory<Refused>>
 }
 
 fn not_negative(cursor: &mut Cursor<u8>) -> Result<i64, OrNoMemory<Refused>>
-    ensures { Reads (of pos (spec.natural MOST) cursor.old) result cursor.new }
+    ensures read { Reads (of pos (spec.natural MOST) cursor.old) result cursor.new }
+    ensures refusal { OnlyRefuses result }
 {
     let n = next_natural(cursor, MOST)?;
     Ok(n as i64)
@@ -124,7 +129,8 @@ fn not_negative(cursor: &mut Cursor<u8>) -> Result<i64, OrNoMemory<Refused>>
 /// A number, in its one form.
 #[tactic(auto, unfolding(crate::specs::code::Reading::number))]
 pub(crate) fn number(cursor: &mut Cursor<u8>) -> Result<i64, OrNoMemory<Refused>>
-    ensures { Reads (spec.number cursor.old) result cursor.new }
+    ensures read { Reads (spec.number cursor.old) result cursor.new }
+    ensures refusal { OnlyRefuses result }
 {
     if cursor.sees_byte(b'-') {
         negative(cursor)

@@ -3,7 +3,7 @@
 ghost use Rattle.std.specs.Prelude.{◌≡◌};
 ghost use Rattle.predictive_parsing.specs.Bytes.{sees};
 ghost use Rattle.predictive_parsing.specs.Reading.{optional};
-ghost use Rattle.predictive_parsing.specs.Reads.{Reads};
+ghost use Rattle.predictive_parsing.specs.Reads.{Reads, OnlyRefuses};
 ghost use Rattle.dtext.specs.code.Reading as spec;
 
 use crate::number::{begins_number, number};
@@ -148,7 +148,8 @@ fn removal(
 
 #[tactic(auto, unfolding(crate::specs::code::Reading::clearing))]
 fn clearing(kind: Kind, cursor: &mut Cursor<u8>) -> Result<WriteOp, OrNoMemory<Refused>>
-    ensures { Reads (spec.clearing kind cursor.old) result cursor.new }
+    ensures read { Reads (spec.clearing kind cursor.old) result cursor.new }
+    ensures refusal { OnlyRefuses result }
 {
     cursor.word(b"clear")?;
     Ok(cleared(kind))

@@ -33,7 +33,7 @@ fn push_bytes(out: &mut Text, bytes: &[u8]) -> Result<(), AllocError>
     Ok(())
 }
 
-/// Adds a text in quotes. Where memory runs out, `out` is of no further use, as after each call below.
+/// Adds a text in quotes.
 pub fn push_text(out: &mut Text, text: &Text) -> Result<(), AllocError>
     ensures { OnOk result (out.new ≡ out.old ++ printed.printed_text text.now) }
 {

@@ -8,6 +8,7 @@ ghost use Rattle.std.specs.Prelude.{◌≡◌, ◌≢◌, ◌<◌, ◌+◌, ◌-
 ghost use Rattle.predictive_parsing.specs.Reading as reading;
 ghost use Rattle.predictive_parsing.specs.Reading.{whole_of};
 ghost use Rattle.plain_data.specs.Texts.{Bytes};
+ghost use Rattle.plain_data.specs.declared.or_no_memory.OrNoMemory.TheVariants as stop;
 ghost use Rattle.rdt_types.specs.declared.address.Address.{Address};
 ghost use Rattle.rdt_types.specs.declared.outcome.Item.{Item};
 ghost use Rattle.rdt_types.specs.declared.outcome.Outcome.{Outcome};
@@ -45,7 +46,8 @@ pub fn finish<A: Drop>(
     length: usize,
 ) -> Result<A, TextError>
     requires { length < 2 ^ 32 - 1 }
-    ensures { (outcome : reading.Outcome ℕ A) → Reads outcome found cursor.now → result ≢ Err NoMemory → result ≡ answer (whole_of outcome) length }
+    ensures answer { (outcome : reading.Outcome ℕ A) → Reads outcome found cursor.now → found ≢ Err stop.NoMemory → result ≡ answer (whole_of outcome) length }
+    ensures memory { found ≡ Err stop.NoMemory → result ≡ Err NoMemory }
 {
     match found {
         Ok(value) => {

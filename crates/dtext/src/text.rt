@@ -2,7 +2,7 @@
 
 ghost use Rattle.std.specs.Prelude.{◌≡◌, ◌<◌, IfSome, IfOk};
 ghost use Rattle.predictive_parsing.specs.Reading.{one};
-ghost use Rattle.predictive_parsing.specs.Reads.{Reads};
+ghost use Rattle.predictive_parsing.specs.Reads.{Reads, OnlyRefuses};
 ghost use Rattle.dtext.specs.code.Reading as spec;
 ghost use Rattle.dtext.specs.Spellings as rule;
 
@@ -53,6 +53,7 @@ fn hex_value(byte: u8) -> Option<u8>
 
 fn hex_digit(cursor: &mut Cursor<u8>) -> Result<u8, OrNoMemory<Refused>>
     ensures read { Reads (one rule.hex_value cursor.old) result cursor.new }
+    ensures refusal { OnlyRefuses result }
     ensures below { IfOk result (λ value. value < 16) }
 {
     cursor.take(|byte| hex_value(*byte))
@@ -61,7 +62,8 @@ fn hex_digit(cursor: &mut Cursor<u8>) -> Result<u8, OrNoMemory<Refused>>
 /// `x` and two digits.
 #[tactic(auto, unfolding(crate::specs::code::Reading::hexadecimal))]
 fn hexadecimal(cursor: &mut Cursor<u8>) -> Result<u8, OrNoMemory<Refused>>
-    ensures { Reads (spec.hexadecimal cursor.old) result cursor.new }
+    ensures read { Reads (spec.hexadecimal cursor.old) result cursor.new }
+    ensures refusal { OnlyRefuses result }
 {
     cursor.byte(b'x')?;
     let high = hex_digit(cursor)?;
@@ -71,7 +73,8 @@ fn hexadecimal(cursor: &mut Cursor<u8>) -> Result<u8, OrNoMemory<Refused>>
 
 /// One byte behind a backslash.
 fn short_escape(cursor: &mut Cursor<u8>) -> Result<u8, OrNoMemory<Refused>>
-    ensures { Reads (one rule.short cursor.old) result cursor.new }
+    ensures read { Reads (one rule.short cursor.old) result cursor.new }
+    ensures refusal { OnlyRefuses result }
 {
     cursor.take(|byte| short(*byte))
 }
@@ -79,7 +82,8 @@ fn short_escape(cursor: &mut Cursor<u8>) -> Result<u8, OrNoMemory<Refused>>
 /// A backslash, and what it makes of the bytes behind it.
 #[tactic(auto, unfolding(crate::specs::code::Reading::escape))]
 fn escape(cursor: &mut Cursor<u8>) -> Result<u8, OrNoMemory<Refused>>
-    ensures { Reads (spec.escape cursor.old) result cursor.new }
+    ensures read { Reads (spec.escape cursor.old) result cursor.new }
+    ensures refusal { OnlyRefuses result }
 {
     cursor.byte(b'\\')?;
     if cursor.sees_byte(b'x') {
@@ -90,7 +94,8 @@ fn escape(cursor: &mut Cursor<u8>) -> Result<u8, OrNoMemory<Refused>>
 }
 
 fn plain_byte(cursor: &mut Cursor<u8>) -> Result<u8, OrNoMemory<Refused>>
-    ensures { Reads (one rule.plain cursor.old) result cursor.new }
+    ensures read { Reads (one rule.plain cursor.old) result cursor.new }
+    ensures refusal { OnlyRefuses result }
 {
     cursor.take(|byte| plain(*byte))
 }
@@ -98,7 +103,8 @@ fn plain_byte(cursor: &mut Cursor<u8>) -> Result<u8, OrNoMemory<Refused>>
 /// One byte of a text.
 #[tactic(auto, unfolding(crate::specs::code::Reading::piece))]
 fn piece(cursor: &mut Cursor<u8>) -> Result<u8, OrNoMemory<Refused>>
-    ensures { Reads (spec.piece cursor.old) result cursor.new }
+    ensures read { Reads (spec.piece cursor.old) result cursor.new }
+    ensures refusal { OnlyRefuses result }
 {
     if cursor.sees_byte(b'\\') {
         escape(cursor)

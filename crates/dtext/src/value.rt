@@ -3,7 +3,7 @@
 ghost use Rattle.std.specs.Prelude.{◌≡◌};
 ghost use Rattle.predictive_parsing.specs.Reading.{next};
 ghost use Rattle.dtext.specs.Printing.{printed_bool};
-ghost use Rattle.predictive_parsing.specs.Reads.{Reads};
+ghost use Rattle.predictive_parsing.specs.Reads.{Reads, OnlyRefuses};
 ghost use Rattle.dtext.specs.code.Reading as spec;
 
 use crate::text::next_text;
@@ -26,7 +26,8 @@ pub(crate) fn bool_word(value: bool) -> &'static [u8]
 /// A truth value: which one, the byte ahead tells.
 #[tactic(auto, unfolding(crate::specs::code::Reading::bool))]
 pub(crate) fn truth(cursor: &mut Cursor<u8>) -> Result<bool, OrNoMemory<Refused>>
-    ensures { Reads (spec.bool cursor.old) result cursor.new }
+    ensures read { Reads (spec.bool cursor.old) result cursor.new }
+    ensures refusal { OnlyRefuses result }
 {
     let value = cursor.sees_byte(b't');
     cursor.word(bool_word(value))?;
@@ -59,7 +60,8 @@ fn kind_ahead(cursor: &Cursor<u8>) -> Kind
 /// The word of a kind.
 #[tactic(auto, unfolding(crate::specs::code::Reading::kind))]
 fn kind(cursor: &mut Cursor<u8>) -> Result<Kind, OrNoMemory<Refused>>
-    ensures { Reads (spec.kind cursor.old) result cursor.new }
+    ensures read { Reads (spec.kind cursor.old) result cursor.new }
+    ensures refusal { OnlyRefuses result }
 {
     let kind = kind_ahead(cursor);
     cursor.word(kind.word())?;

@@ -1,13 +1,13 @@
 -- One of several words is read as its rule says.
-use Rattle.std.proofs.Common.{◌≡◌, ◌<◌, ◌≤◌, ◌+◌, ℕ, Bool, true, false, not, ◌&&◌, List, [], ◌∷◌, ◌++◌, length, Option, Some, None, Ok, Err, refl, ap, sym, ◌∙◌, subst, inl, inr, arith, cond, nat_eq, nat_lt, length-append, length-drop, drop, get_or, ◌⊎◌}
+use Rattle.std.proofs.Common.{◌≡◌, ◌<◌, ◌≤◌, ◌+◌, ℕ, Bool, true, false, not, ◌&&◌, List, [], ◌∷◌, ◌++◌, length, Some, None, Ok, Err, refl, ap, sym, ◌∙◌, subst, inl, inr, arith, cond, nat_eq, nat_lt, length-append, length-drop, drop, get_or, ◌⊎◌}
 use Rattle.std.proofs.lemmas.List.Sums.{common_prefix_len-drop_yes, common_prefix_len-drop_no, common_prefix_len-le}
 use Rattle.std.proofs.lemmas.Bool.Decides.{nat_tests}
 use Rattle.std.proofs.lemmas.List.{drop_more, drop_all}
 use Rattle.plain_data.specs.Texts.{Bytes}
 use Rattle.predictive_parsing.specs.Reading.{Reader, next, one, on_made, of, and_then}
-use Rattle.predictive_parsing.specs.Rules.{Rule, Word, Of, SpelledBy}
-use Rattle.predictive_parsing.specs.Fits.{Fits, Taken, Stuck, Completes, any}
-use Rattle.predictive_parsing.specs.Bytes.{IsByte, exactly, byte, word}
+use Rattle.predictive_parsing.specs.Rules.{Word, Of, SpelledBy}
+use Rattle.predictive_parsing.specs.Fits.{Fits, Taken, Stuck, any}
+use Rattle.predictive_parsing.specs.Bytes.{IsByte, byte, word}
 use Rattle.predictive_parsing.specs.Choices.{shared, closer, closest, one_of, In, begins_word, is_free, are_apart, AreWords}
 use Rattle.predictive_parsing.proofs.Basic.{bool_cases, both, not_true}
 use Rattle.predictive_parsing.proofs.Combined.{spelled_to}

@@ -1,5 +1,5 @@
 -- What a function of a reader's code ensures.
-use Rattle.std.specs.Prelude.{◌≡◌, ◌≢◌, List, [], ◌∷◌, Option, None, Result, Ok, Err}
+use Rattle.std.specs.Prelude.{◌≡◌, ◌≢◌, List, [], ◌∷◌, Option, None, Result, Ok, Err, IfErr}
 use Rattle.plain_data.specs.declared.or_no_memory.OrNoMemory.{OrNoMemory}
 use Rattle.plain_data.specs.declared.or_no_memory.OrNoMemory.TheVariants.{NoMemory}
 use Rattle.predictive_parsing.specs.declared.refused.Refused.{Refused}
@@ -10,6 +10,10 @@ use Rattle.predictive_parsing.specs.Reading.{Outcome}
 abbrev pub Reads : {I A : Type 0} → Outcome I A → Result A (OrNoMemory Refused) → List I → Type 0
 Reads outcome (Ok a) left = outcome ≡ Ok (a, left)
 Reads outcome (Err stop) left = stop ≢ NoMemory → outcome ≡ Err left
+
+-- Where it doesn't read it refuses: a reader that takes no memory never answers want of it.
+abbrev pub OnlyRefuses : {A : Type 0} → Result A (OrNoMemory Refused) → Type 0
+OnlyRefuses result = IfErr result (λ stop. stop ≢ NoMemory)
 
 -- what f makes of the first of these items
 abbrev pub made_of : {I A : Type 0} → (I → Option A) → List I → Option A

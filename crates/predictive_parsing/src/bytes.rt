@@ -3,7 +3,7 @@
 ghost use Rattle.std.specs.Prelude.{◌≡◌};
 ghost use Rattle.predictive_parsing.specs.Bytes as spec;
 ghost use Rattle.predictive_parsing.specs.Reading.{next};
-ghost use Rattle.predictive_parsing.specs.Reads.{Reads};
+ghost use Rattle.predictive_parsing.specs.Reads.{Reads, OnlyRefuses};
 
 use crate::cursor::Cursor;
 use crate::refused::Refused;
@@ -27,14 +27,16 @@ impl<'a> Cursor<'a, u8> {
     /// Takes this byte.
     #[tactic(auto, unfolding(crate::specs::Bytes::byte))]
     pub fn byte(&mut self, wanted: u8) -> Result<(), OrNoMemory<Refused>>
-        ensures { Reads (spec.byte wanted self.old) result self.new }
+        ensures reads { Reads (spec.byte wanted self.old) result self.new }
+        ensures refusal { OnlyRefuses result }
     {
         self.take(|byte| exactly(wanted, *byte))
     }
 
     /// Takes these bytes.
     pub fn word(&mut self, word: &[u8]) -> Result<(), OrNoMemory<Refused>>
-        ensures { Reads (spec.word word.now self.old) result self.new }
+        ensures reads { Reads (spec.word word.now self.old) result self.new }
+        ensures refusal { OnlyRefuses result }
     {
         for byte in word {
             self.byte(*byte)?;

@@ -3,7 +3,7 @@
 ghost use Rattle.std.specs.Prelude.{◌≡◌, ◌<◌, nat_eq, length};
 ghost use Rattle.std.specs.List.{common_prefix_len};
 ghost use Rattle.predictive_parsing.specs.Choices as spec;
-ghost use Rattle.predictive_parsing.specs.Reads.{Reads};
+ghost use Rattle.predictive_parsing.specs.Reads.{Reads, OnlyRefuses};
 
 use crate::cursor::Cursor;
 use crate::refused::Refused;
@@ -62,7 +62,8 @@ impl<'a> Cursor<'a, u8> {
     /// Takes one of some words, none of which begins another.
     #[tactic(auto, unfolding(crate::specs::Choices::one_of))]
     pub fn one_of<W: Spelled>(&mut self, first: W, others: &[W]) -> Result<W, OrNoMemory<Refused>>
-        ensures { Reads (spec.one_of W.spelled first others.now self.old) result self.new }
+        ensures reads { Reads (spec.one_of W.spelled first others.now self.old) result self.new }
+        ensures refusal { OnlyRefuses result }
     {
         let word = closest(self.as_slice(), first, others);
         self.word(word.bytes())?;

@@ -4,7 +4,7 @@ ghost use Rattle.std.specs.Prelude.{◌≡◌, Option, Bool, Ok, drop, length};
 ghost use Rattle.std.specs.Option.{option_copied};
 ghost use Rattle.std.specs.Fn.{FnOnceReturnsAt, FnReturnsAt};
 ghost use Rattle.predictive_parsing.specs.Reading.{next, ahead, one, run, run_up_to};
-ghost use Rattle.predictive_parsing.specs.Reads.{Reads, Computes};
+ghost use Rattle.predictive_parsing.specs.Reads.{Reads, OnlyRefuses, Computes};
 
 use crate::prefix::prefix_len;
 use crate::refused::Refused;
@@ -78,7 +78,8 @@ impl<'a, I> Cursor<'a, I> {
     /// Takes what `make` makes of the item ahead. Where it makes nothing of it, or there is none, this refuses.
     pub fn take<A, F: FnOnce(&I) -> Option<A>>(&mut self, make: F) -> Result<A, OrNoMemory<Refused>>
         requires { F.IsAlwaysCallable make }
-        ensures { (f : I → Option A) → Computes (FnOnceReturnsAt F.FnOnce make) f → Reads (one f self.old) result self.new }
+        ensures reads { (f : I → Option A) → Computes (FnOnceReturnsAt F.FnOnce make) f → Reads (one f self.old) result self.new }
+        ensures refusal { OnlyRefuses result }
     {
         let Some((item, behind)) = self.rest.split_first() else {
             return Err(OrNoMemory::Cause(Refused));

@@ -66,15 +66,15 @@ printed_obs obs.ListAll = codes "all"
 
 -- why a line is refused, with the column where there is one
 abbrev pub printed_why : Why → Bytes
-printed_why why.Long = codes "long"
-printed_why why.Client = codes "client"
-printed_why why.Verb = codes "verb"
-printed_why (why.Syntax column) = codes "syntax " ++ decimal column
-printed_why (why.BadType column) = codes "type " ++ decimal column
-printed_why (why.Writes column) = codes "writes " ++ decimal column
-printed_why why.Name = codes "name"
-printed_why why.Busy = codes "busy"
-printed_why why.NoAttempt = codes "none"
+printed_why why.Long = why_of reason.Long
+printed_why why.Client = why_of reason.Client
+printed_why why.Verb = why_of reason.Verb
+printed_why (why.Syntax column) = why_of reason.Syntax ++ counted (codes " ") column
+printed_why (why.BadType column) = why_of reason.BadType ++ counted (codes " ") column
+printed_why (why.Writes column) = why_of reason.Writes ++ counted (codes " ") column
+printed_why why.Name = why_of reason.Name
+printed_why why.Busy = why_of reason.Busy
+printed_why why.NoAttempt = why_of reason.NoAttempt
 
 -- what was observed, where, and at which base
 abbrev pub printed_observed : Witness → Bytes

@@ -1,7 +1,7 @@
 //! Reading replies.
 
 ghost use Rattle.std.specs.Prelude.{◌≡◌, codes};
-ghost use Rattle.predictive_parsing.specs.Reads.{Reads};
+ghost use Rattle.predictive_parsing.specs.Reads.{Reads, OnlyRefuses};
 ghost use Rattle.dtext.specs.code.Reading.{natural};
 ghost use Rattle.session_text.specs.code.Replies as spec;
 
@@ -22,7 +22,8 @@ use std::alloc::Global;
 /// A number behind a word.
 #[tactic(auto, unfolding(crate::specs::code::Replies::numbered))]
 pub(crate) fn numbered(cursor: &mut Cursor<u8>, word: &[u8]) -> Result<u64, OrNoMemory<Refused>>
-    ensures { Reads (spec.numbered word.now cursor.old) result cursor.new }
+    ensures read { Reads (spec.numbered word.now cursor.old) result cursor.new }
+    ensures refusal { OnlyRefuses result }
 {
     cursor.word(word)?;
     next_natural(cursor, LARGEST)
@@ -31,7 +32,8 @@ pub(crate) fn numbered(cursor: &mut Cursor<u8>, word: &[u8]) -> Result<u64, OrNo
 /// A column behind a space.
 #[tactic(auto, unfolding(crate::specs::code::Replies::column))]
 fn column(cursor: &mut Cursor<u8>) -> Result<u32, OrNoMemory<Refused>>
-    ensures { Reads (spec.column cursor.old) result cursor.new }
+    ensures read { Reads (spec.column cursor.old) result cursor.new }
+    ensures refusal { OnlyRefuses result }
 {
     cursor.word(b" ")?;
     Ok(next_natural(cursor, LARGEST_COLUMN)? as u32)
@@ -40,7 +42,8 @@ fn column(cursor: &mut Cursor<u8>) -> Result<u32, OrNoMemory<Refused>>
 /// A shard behind a space.
 #[tactic(auto, unfolding(crate::specs::code::Replies::shard))]
 fn shard(cursor: &mut Cursor<u8>) -> Result<u8, OrNoMemory<Refused>>
-    ensures { Reads (spec.shard cursor.old) result cursor.new }
+    ensures read { Reads (spec.shard cursor.old) result cursor.new }
+    ensures refusal { OnlyRefuses result }
 {
     cursor.word(b" ")?;
     Ok(next_natural(cursor, LARGEST_SHARD)? as u8)
@@ -110,7 +113,8 @@ fn read(alloc: Global, cursor: &mut Cursor<u8>) -> Result<Reply, OrNoMemory<Refu
 
 #[tactic(auto, unfolding(crate::specs::code::Replies::prepared))]
 fn prepared(cursor: &mut Cursor<u8>) -> Result<Reply, OrNoMemory<Refused>>
-    ensures { Reads (spec.prepared cursor.old) result cursor.new }
+    ensures read { Reads (spec.prepared cursor.old) result cursor.new }
+    ensures refusal { OnlyRefuses result }
 {
     let shard = shard(cursor)?;
     Ok(Reply::Prepared(shard, numbered(cursor, b" front ")?))
@@ -118,7 +122,8 @@ fn prepared(cursor: &mut Cursor<u8>) -> Result<Reply, OrNoMemory<Refused>>
 
 #[tactic(auto, unfolding(crate::specs::code::Replies::followed))]
 fn followed(cursor: &mut Cursor<u8>) -> Result<Reply, OrNoMemory<Refused>>
-    ensures { Reads (spec.followed cursor.old) result cursor.new }
+    ensures read { Reads (spec.followed cursor.old) result cursor.new }
+    ensures refusal { OnlyRefuses result }
 {
     let shard = shard(cursor)?;
     Ok(Reply::Followed(shard, numbered(cursor, b" front ")?))
@@ -143,7 +148,8 @@ fn ran(alloc: Global, cursor: &mut Cursor<u8>) -> Result<Reply, OrNoMemory<Refus
 
 #[tactic(auto, unfolding(crate::specs::code::Replies::late))]
 fn late(cursor: &mut Cursor<u8>) -> Result<Reply, OrNoMemory<Refused>>
-    ensures { Reads (spec.late cursor.old) result cursor.new }
+    ensures read { Reads (spec.late cursor.old) result cursor.new }
+    ensures refusal { OnlyRefuses result }
 {
     let number = numbered(cursor, b" ")?;
     Ok(Reply::Late(number, numbered(cursor, b" ")?))
@@ -151,7 +157,8 @@ fn late(cursor: &mut Cursor<u8>) -> Result<Reply, OrNoMemory<Refused>>
 
 #[tactic(auto, unfolding(crate::specs::code::Replies::ahead_of))]
 fn ahead_of(cursor: &mut Cursor<u8>) -> Result<Reply, OrNoMemory<Refused>>
-    ensures { Reads (spec.ahead_of cursor.old) result cursor.new }
+    ensures read { Reads (spec.ahead_of cursor.old) result cursor.new }
+    ensures refusal { OnlyRefuses result }
 {
     let number = numbered(cursor, b" ")?;
     Ok(Reply::Ahead(number, numbered(cursor, b" ")?))
@@ -160,7 +167,8 @@ fn ahead_of(cursor: &mut Cursor<u8>) -> Result<Reply, OrNoMemory<Refused>>
 /// What stands behind the word for why a line is refused.
 #[tactic(auto, unfolding(crate::specs::code::Replies::why_form))]
 fn why_form(word: WhyWord, cursor: &mut Cursor<u8>) -> Result<Why, OrNoMemory<Refused>>
-    ensures { Reads (spec.why_form word cursor.old) result cursor.new }
+    ensures read { Reads (spec.why_form word cursor.old) result cursor.new }
+    ensures refusal { OnlyRefuses result }
 {
     match word {
         WhyWord::Long => Ok(Why::Long),
@@ -178,7 +186,8 @@ fn why_form(word: WhyWord, cursor: &mut Cursor<u8>) -> Result<Why, OrNoMemory<Re
 /// Why a line is refused.
 #[tactic(auto, unfolding(crate::specs::code::Replies::why_read))]
 fn why_read(cursor: &mut Cursor<u8>) -> Result<Why, OrNoMemory<Refused>>
-    ensures { Reads (spec.why_read cursor.old) result cursor.new }
+    ensures read { Reads (spec.why_read cursor.old) result cursor.new }
+    ensures refusal { OnlyRefuses result }
 {
     let word = cursor.one_of(WhyWord::Long, &whys::OTHERS)?;
     why_form(word, cursor)
@@ -186,7 +195,8 @@ fn why_read(cursor: &mut Cursor<u8>) -> Result<Why, OrNoMemory<Refused>>
 
 #[tactic(auto, unfolding(crate::specs::code::Replies::refused))]
 fn refused(cursor: &mut Cursor<u8>) -> Result<Reply, OrNoMemory<Refused>>
-    ensures { Reads (spec.refused cursor.old) result cursor.new }
+    ensures read { Reads (spec.refused cursor.old) result cursor.new }
+    ensures refusal { OnlyRefuses result }
 {
     cursor.word(b" ")?;
     Ok(Reply::Refused(why_read(cursor)?))

@@ -2,7 +2,7 @@
 
 ghost use Rattle.std.specs.Prelude.{◌≡◌, ◌∷◌, Ok, IfOk};
 ghost use Rattle.predictive_parsing.specs.Reading.{passing, run, run_up_to};
-ghost use Rattle.predictive_parsing.specs.Reads.{Reads};
+ghost use Rattle.predictive_parsing.specs.Reads.{Reads, OnlyRefuses};
 ghost use Rattle.dtext.specs.Characters.{is_blank, is_letter, is_word};
 ghost use Rattle.dtext.specs.code.Reading.{positive};
 ghost use Rattle.session_text.specs.Lines.{is_solid, is_any};
@@ -47,7 +47,8 @@ fn blanks<'a>(cursor: &mut Cursor<'a, u8>) -> &'a [u8]
 /// Takes blanks, one at least.
 #[tactic(auto, unfolding(crate::specs::code::Lines::gap))]
 fn gap(cursor: &mut Cursor<u8>) -> Result<(), OrNoMemory<Refused>>
-    ensures { Reads (spec.gap cursor.old) result cursor.new }
+    ensures read { Reads (spec.gap cursor.old) result cursor.new }
+    ensures refusal { OnlyRefuses result }
 {
     cursor.take(|byte| blank(*byte))?;
     blanks(cursor);
@@ -125,7 +126,8 @@ pub(crate) fn name(alloc: Global, cursor: &mut Cursor<u8>) -> Result<Text, OrNoM
 /// What asks for this alone: nothing but blanks may follow.
 #[tactic(auto, unfolding(crate::specs::code::Lines::alone))]
 fn alone(asked: Verb, cursor: &mut Cursor<u8>) -> Result<Verb, OrNoMemory<Refused>>
-    ensures { Reads (spec.alone asked cursor.old) result cursor.new }
+    ensures read { Reads (spec.alone asked cursor.old) result cursor.new }
+    ensures refusal { OnlyRefuses result }
 {
     blanks(cursor);
     Ok(asked)
@@ -134,7 +136,8 @@ fn alone(asked: Verb, cursor: &mut Cursor<u8>) -> Result<Verb, OrNoMemory<Refuse
 /// How many attempts.
 #[tactic(auto, unfolding(dtext::specs::code::Reading::positive))]
 fn attempts(cursor: &mut Cursor<u8>) -> Result<u8, OrNoMemory<Refused>>
-    ensures { Reads (positive MOST_ATTEMPTS cursor.old) result cursor.new }
+    ensures read { Reads (positive MOST_ATTEMPTS cursor.old) result cursor.new }
+    ensures refusal { OnlyRefuses result }
 {
     Ok(next_positive(cursor, MOST_ATTEMPTS)? as u8)
 }

@@ -1,7 +1,7 @@
 //! Observations beside an address, whose kind decides.
 
 ghost use Rattle.std.specs.Prelude.{◌≡◌};
-ghost use Rattle.predictive_parsing.specs.Reads.{Reads};
+ghost use Rattle.predictive_parsing.specs.Reads.{Reads, OnlyRefuses};
 ghost use Rattle.session_text.specs.code.Replies as spec;
 
 use crate::answer::numbered;
@@ -28,7 +28,8 @@ fn whole_of(kind: Kind) -> Obs
 
 #[tactic(auto, unfolding(crate::specs::code::Replies::whole))]
 fn whole(kind: Kind, cursor: &mut Cursor<u8>) -> Result<Obs, OrNoMemory<Refused>>
-    ensures { Reads (spec.whole kind cursor.old) result cursor.new }
+    ensures read { Reads (spec.whole kind cursor.old) result cursor.new }
+    ensures refusal { OnlyRefuses result }
 {
     cursor.word(b"whole")?;
     Ok(whole_of(kind))
@@ -36,7 +37,8 @@ fn whole(kind: Kind, cursor: &mut Cursor<u8>) -> Result<Obs, OrNoMemory<Refused>
 
 #[tactic(auto, unfolding(crate::specs::code::Replies::all))]
 fn all(kind: Kind, cursor: &mut Cursor<u8>) -> Result<Obs, OrNoMemory<Refused>>
-    ensures { Reads (spec.all kind cursor.old) result cursor.new }
+    ensures read { Reads (spec.all kind cursor.old) result cursor.new }
+    ensures refusal { OnlyRefuses result }
 {
     cursor.word(b"all")?;
     Ok(whole_of(kind))
@@ -70,7 +72,8 @@ fn hash_obs(alloc: Global, cursor: &mut Cursor<u8>) -> Result<Obs, OrNoMemory<Re
 
 #[tactic(auto, unfolding(crate::specs::code::Replies::list_obs))]
 fn list_obs(cursor: &mut Cursor<u8>) -> Result<Obs, OrNoMemory<Refused>>
-    ensures { Reads (spec.list_obs cursor.old) result cursor.new }
+    ensures read { Reads (spec.list_obs cursor.old) result cursor.new }
+    ensures refusal { OnlyRefuses result }
 {
     cursor.word(b"a")?;
     if cursor.sees_byte(b't') {

@@ -7,10 +7,12 @@ ghost use Rattle.rdt_types.specs.Printed.{printed_text, printed_address};
 ghost use Rattle.session_text.specs.Printing as spec;
 
 use crate::reply::{Reply, Why};
+use crate::why_word::WhyWord;
 use abort_witness::Witness;
 use conflict_table::Obs;
 use dtext::{push_address, push_natural, push_outcome, push_part, push_text};
 use plain_data::Text;
+use predictive_parsing::Spelled;
 use rdt_types::{Address, Outcome};
 use std::alloc::{AllocError, Global};
 
@@ -42,19 +44,27 @@ fn push_obs(alloc: Global, out: &mut Text, obs: &Obs) -> Result<(), AllocError>
     }
 }
 
+/// Adds the word for why a line is refused, and a column behind it.
+fn push_placed(alloc: Global, out: &mut Text, word: WhyWord, column: u32) -> Result<(), AllocError>
+    ensures { OnOk result (out.new ≡ out.old ++ (spec.why_of word ++ spec.counted (codes " ") column)) }
+{
+    out.extend_from_slice(word.bytes())?;
+    push_counted(alloc, out, b" ", u64::from(column))
+}
+
 fn push_why(alloc: Global, out: &mut Text, why: Why) -> Result<(), AllocError>
     ensures { OnOk result (out.new ≡ out.old ++ spec.printed_why why) }
 {
     match why {
-        Why::Long => out.extend_from_slice(b"long"),
-        Why::Client => out.extend_from_slice(b"client"),
-        Why::Verb => out.extend_from_slice(b"verb"),
-        Why::Syntax(column) => push_counted(alloc, out, b"syntax ", u64::from(column)),
-        Why::BadType(column) => push_counted(alloc, out, b"type ", u64::from(column)),
-        Why::Writes(column) => push_counted(alloc, out, b"writes ", u64::from(column)),
-        Why::Name => out.extend_from_slice(b"name"),
-        Why::Busy => out.extend_from_slice(b"busy"),
-        Why::NoAttempt => out.extend_from_slice(b"none"),
+        Why::Long => out.extend_from_slice(WhyWord::Long.bytes()),
+        Why::Client => out.extend_from_slice(WhyWord::Client.bytes()),
+        Why::Verb => out.extend_from_slice(WhyWord::Verb.bytes()),
+        Why::Syntax(column) => push_placed(alloc, out, WhyWord::Syntax, column),
+        Why::BadType(column) => push_placed(alloc, out, WhyWord::BadType, column),
+        Why::Writes(column) => push_placed(alloc, out, WhyWord::Writes, column),
+        Why::Name => out.extend_from_slice(WhyWord::Name.bytes()),
+        Why::Busy => out.extend_from_slice(WhyWord::Busy.bytes()),
+        Why::NoAttempt => out.extend_from_slice(WhyWord::NoAttempt.bytes()),
     }
 }
 

@@ -3,7 +3,9 @@
 ghost use Rattle.std.specs.Prelude.{◌≡◌, ◌≢◌, ◌<◌, ◌-◌, ◌^◌, ℕ, length, IfOk, Ok, Err};
 ghost use Rattle.predictive_parsing.specs.Bytes.{IsByte};
 ghost use Rattle.predictive_parsing.specs.Columns.{IsColumn};
+ghost use Rattle.plain_data.specs.declared.or_no_memory.OrNoMemory.TheVariants as stop;
 ghost use Rattle.predictive_parsing.specs.Reading as reading;
+ghost use Rattle.predictive_parsing.specs.Reading.{whole_of};
 ghost use Rattle.predictive_parsing.specs.Reads.{Reads};
 ghost use Rattle.dtext.specs.declared.error.TextError.TheVariants.{At};
 ghost use Rattle.dtext.specs.declared.error.TextError.TheVariants as text;
@@ -28,7 +30,8 @@ fn finish_line(
     found: Result<Verb, OrNoMemory<Refused>>,
     cursor: &Cursor<u8>,
 ) -> Result<Verb, VerbError>
-    ensures { (outcome : reading.Outcome ℕ Verb) → Reads outcome found cursor.now → result ≢ Err NoMemory → result ≡ verb_answer (reading.whole_of outcome) }
+    ensures answer { (outcome : reading.Outcome ℕ Verb) → Reads outcome found cursor.now → found ≢ Err stop.NoMemory → result ≡ verb_answer (whole_of outcome) }
+    ensures memory { found ≡ Err stop.NoMemory → result ≡ Err NoMemory }
 {
     match found {
         Ok(verb) => {

@@ -75,10 +75,10 @@ drop_less zero b z h = absurd (omega arith)
 drop_less (suc n) b z h = let e : suc n - 1 ≡ n = omega arith in ap (λ k. drop k z) e
 
 -- what is behind a token: nothing where it is malformed
-abbrev behind : Lexeme → List Spot → List Spot
+abbrev pub behind : Lexeme → List Spot → List Spot
 behind found rest = cond (is_malformed found.token) [] rest
 
-at_blank : (c b : ℕ) (z : Text) (t : Bool) → is_blank b ≡ t → lex_from c 0 (b ∷ z) ≡ cond t (lex_from (c + 1) 0 z) (spot c (token_at (b ∷ z)).token ∷ behind (token_at (b ∷ z)) (lex_from (c + 1) ((token_at (b ∷ z)).len - 1) z))
+pub at_blank : (c b : ℕ) (z : Text) (t : Bool) → is_blank b ≡ t → lex_from c 0 (b ∷ z) ≡ cond t (lex_from (c + 1) 0 z) (spot c (token_at (b ∷ z)).token ∷ behind (token_at (b ∷ z)) (lex_from (c + 1) ((token_at (b ∷ z)).len - 1) z))
 at_blank c b z t e = ap (λ x. cond x (lex_from (c + 1) zero z) (spot c (token_at (b ∷ z)).token ∷ behind (token_at (b ∷ z)) (lex_from (c + 1) ((token_at (b ∷ z)).len - 1) z))) e
 
 -- the tokens from a column on, which begins with a token

@@ -6,3 +6,4 @@ pub mod StatementFits
 pub mod Parses
 pub mod Values
 pub mod Cuts
+pub mod Blanks

@@ -7,5 +7,6 @@ pub mod Tokens
 pub mod Trees
 pub mod Grammar
 pub mod Parsed
+pub mod Blanks
 pub mod code
 pub mod Examples

@@ -7,6 +7,7 @@ ghost use Rattle.txn_grammar.specs.Characters.{Text};
 ghost use Rattle.txn_grammar.specs.Lexer.{lex};
 ghost use Rattle.txn_grammar.specs.Grammar.{IsBody};
 ghost use Rattle.txn_grammar.specs.Parsed.{parsed, syntax_column, IsSyntaxColumn};
+ghost use Rattle.txn_grammar.specs.Blanks.{KeepTokens, KeepBody, KeepColumn, EndBehind};
 
 /// The function from texts finds exactly the bodies that the grammar derives, and so at most one for a text.
 pub fn parsed_is_body()
@@ -23,4 +24,14 @@ pub fn syntax_columns()
     ensures unique { (z : Text) (c d : ℕ) → IsSyntaxColumn z c → IsSyntaxColumn z d → c ≡ d }
     // The one that is computed is the one.
     ensures computed { (z : Text) → parsed z ≡ None → IsSyntaxColumn z (syntax_column z) }
+{}
+
+/// Blanks at the end of a text mean nothing.
+pub fn blanks_at_the_end()
+    ensures tokens { KeepTokens }
+    ensures same { KeepBody }
+    // The column of a token stays.
+    ensures column { KeepColumn }
+    // That of the end is the one behind the blanks.
+    ensures too_early { EndBehind }
 {}

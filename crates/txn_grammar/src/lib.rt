@@ -24,7 +24,7 @@ mod tests;
 mod token;
 
 pub use form::{Leaf, Nesting, Opener, Simple};
-pub use laws::{parsed_is_body, syntax_columns};
+pub use laws::{blanks_at_the_end, parsed_is_body, syntax_columns};
 pub use lexer::tokens;
 pub use limit::{DEEPEST, LARGEST, LONGEST_NAME};
 pub use meaning::{

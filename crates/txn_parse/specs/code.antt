@@ -1,3 +1,6 @@
 -- Definitions that mirror code. Nobody has to judge by them.
 pub mod Closures
+pub mod Ended
+pub mod Found
+pub mod Leveled
 pub mod Nests

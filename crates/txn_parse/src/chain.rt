@@ -1,12 +1,9 @@
 //! Operands and what joins them. Each reader takes the reader of an operand as a parameter.
 
 ghost use Rattle.std.specs.Prelude.{◌≡◌};
-ghost use Rattle.predictive_parsing.specs.Reading.{Reader, many, optional};
-ghost use Rattle.predictive_parsing.specs.Reads.{Reads};
-ghost use Rattle.txn_trees.specs.declared.expression.Expr.{Expr};
-ghost use Rattle.txn_grammar.specs.declared.token.Spot.{Spot};
+ghost use Rattle.predictive_parsing.specs.Reading.{many, optional};
 ghost use Rattle.txn_grammar.specs.code.Reader as spec;
-ghost use Rattle.txn_parse.specs.code.Closures.{ReadsAs};
+ghost use Rattle.txn_parse.specs.code.Closures.{ReadsOver};
 
 use crate::Stop;
 use crate::token::{operator, relation, sees_operator, sees_relation};
@@ -24,7 +21,7 @@ fn further<R: Fn(&mut Cursor<'_, Spot>) -> Result<Expr, Stop>>(
     operand: &R,
 ) -> Result<Operand, Stop>
     requires { R.IsAlwaysCallable operand.now }
-    ensures { (reader : Reader Spot Expr) → ReadsAs R.Fn operand.now reader → Reads (spec.further rank reader cursor.old) result cursor.new }
+    ensures { ReadsOver R.Fn operand.now (spec.further rank) cursor.old result cursor.new }
 {
     let (_, operator) = operator(cursor, rank)?;
     let value = operand(cursor)?;
@@ -39,7 +36,7 @@ fn others<R: Fn(&mut Cursor<'_, Spot>) -> Result<Expr, Stop>>(
     operand: &R,
 ) -> Result<OperandList, Stop>
     requires { R.IsAlwaysCallable operand.now }
-    ensures { (reader : Reader Spot Expr) → ReadsAs R.Fn operand.now reader → Reads (many (spec.begins_operator rank) (spec.further rank reader) cursor.old) result cursor.new }
+    ensures { ReadsOver R.Fn operand.now (λ reader. many (spec.begins_operator rank) (spec.further rank reader)) cursor.old result cursor.new }
 {
     let mut found = Sequence::new(alloc);
     for _ in 0..cursor.len() {
@@ -60,7 +57,7 @@ pub(crate) fn chain<R: Fn(&mut Cursor<'_, Spot>) -> Result<Expr, Stop>>(
     operand: R,
 ) -> Result<Expr, Stop>
     requires { R.IsAlwaysCallable operand }
-    ensures { (reader : Reader Spot Expr) → ReadsAs R.Fn operand reader → Reads (spec.chain rank reader cursor.old) result cursor.new }
+    ensures { ReadsOver R.Fn operand (spec.chain rank) cursor.old result cursor.new }
 {
     let first = operand(cursor)?;
     let others = others(alloc, cursor, rank, &operand)?;
@@ -74,7 +71,7 @@ fn other_side<R: Fn(&mut Cursor<'_, Spot>) -> Result<Expr, Stop>>(
     side: &R,
 ) -> Result<(Relation, Expr), Stop>
     requires { R.IsAlwaysCallable side.now }
-    ensures { (reader : Reader Spot Expr) → ReadsAs R.Fn side.now reader → Reads (spec.other_side reader cursor.old) result cursor.new }
+    ensures { ReadsOver R.Fn side.now spec.other_side cursor.old result cursor.new }
 {
     let (_, relation) = relation(cursor)?;
     let right = side(cursor)?;
@@ -87,7 +84,7 @@ fn any_other_side<R: Fn(&mut Cursor<'_, Spot>) -> Result<Expr, Stop>>(
     side: &R,
 ) -> Result<Option<(Relation, Expr)>, Stop>
     requires { R.IsAlwaysCallable side.now }
-    ensures { (reader : Reader Spot Expr) → ReadsAs R.Fn side.now reader → Reads (optional spec.begins_relation (spec.other_side reader) cursor.old) result cursor.new }
+    ensures { ReadsOver R.Fn side.now (λ reader. optional spec.begins_relation (spec.other_side reader)) cursor.old result cursor.new }
 {
     if sees_relation(cursor) {
         let found = other_side(cursor, side)?;
@@ -104,7 +101,7 @@ pub(crate) fn comparison<R: Fn(&mut Cursor<'_, Spot>) -> Result<Expr, Stop>>(
     side: R,
 ) -> Result<Expr, Stop>
     requires { R.IsAlwaysCallable side }
-    ensures { (reader : Reader Spot Expr) → ReadsAs R.Fn side reader → Reads (spec.comparison reader cursor.old) result cursor.new }
+    ensures { ReadsOver R.Fn side spec.comparison cursor.old result cursor.new }
 {
     let left = side(cursor)?;
     let other = any_other_side(cursor, &side)?;

@@ -1,12 +1,11 @@
 //! Statements that open a level, over the reader of the statements inside it, and bodies.
 
 ghost use Rattle.std.specs.Prelude.{◌≡◌, ◌<◌, ◌-◌};
-ghost use Rattle.predictive_parsing.specs.Reading as read;
 ghost use Rattle.predictive_parsing.specs.Reading.{next};
 ghost use Rattle.predictive_parsing.specs.Reads.{Reads};
-ghost use Rattle.txn_grammar.specs.declared.symbol.Symbol.TheVariants as symbol;
 ghost use Rattle.txn_grammar.specs.code.Reader as spec;
 ghost use Rattle.txn_parse.specs.code.Nests.{NestsStatements};
+ghost use Rattle.txn_parse.specs.code.Leveled as leveled;
 
 use crate::Stop;
 use crate::grammar::{Grammar, placed_read};
@@ -67,7 +66,7 @@ impl<F: Fn(Global, &mut Cursor<'_, Spot>, u8) -> Result<Stmt, Stop>> Statements<
     fn statements(&self, cursor: &mut Cursor<Spot>) -> Result<StmtList, Stop>
         requires nests { NestsStatements self.now.levels (F.pre self.now.inside) (F.post self.now.inside) }
         requires some { 0 < self.now.levels }
-        ensures { Reads (read.many (spec.begins_statement (self.now.levels - 1)) (spec.statement (self.now.levels - 1)) cursor.old) result cursor.new }
+        ensures { Reads (leveled.statements self.now.levels cursor.old) result cursor.new }
     {
         let mut found = Sequence::new(self.alloc);
         for _ in 0..cursor.len() {
@@ -85,7 +84,7 @@ impl<F: Fn(Global, &mut Cursor<'_, Spot>, u8) -> Result<Stmt, Stop>> Statements<
     fn block(&self, cursor: &mut Cursor<Spot>) -> Result<StmtList, Stop>
         requires nests { NestsStatements self.now.levels (F.pre self.now.inside) (F.post self.now.inside) }
         requires some { 0 < self.now.levels }
-        ensures { Reads (spec.block (spec.begins_statement (self.now.levels - 1)) (spec.statement (self.now.levels - 1)) cursor.old) result cursor.new }
+        ensures { Reads (leveled.block self.now.levels cursor.old) result cursor.new }
     {
         word(cursor, Symbol::OpenBrace)?;
         let found = self.statements(cursor)?;
@@ -98,7 +97,7 @@ impl<F: Fn(Global, &mut Cursor<'_, Spot>, u8) -> Result<Stmt, Stop>> Statements<
     fn otherwise(&self, cursor: &mut Cursor<Spot>) -> Result<StmtList, Stop>
         requires nests { NestsStatements self.now.levels (F.pre self.now.inside) (F.post self.now.inside) }
         requires some { 0 < self.now.levels }
-        ensures { Reads (spec.otherwise_read (spec.begins_statement (self.now.levels - 1)) (spec.statement (self.now.levels - 1)) cursor.old) result cursor.new }
+        ensures { Reads (leveled.otherwise self.now.levels cursor.old) result cursor.new }
     {
         word(cursor, Symbol::Else)?;
         self.block(cursor)
@@ -109,7 +108,7 @@ impl<F: Fn(Global, &mut Cursor<'_, Spot>, u8) -> Result<Stmt, Stop>> Statements<
     fn any_otherwise(&self, cursor: &mut Cursor<Spot>) -> Result<Option<StmtList>, Stop>
         requires nests { NestsStatements self.now.levels (F.pre self.now.inside) (F.post self.now.inside) }
         requires some { 0 < self.now.levels }
-        ensures { Reads (read.optional (spec.sees symbol.Else) (spec.otherwise_read (spec.begins_statement (self.now.levels - 1)) (spec.statement (self.now.levels - 1))) cursor.old) result cursor.new }
+        ensures { Reads (leveled.any_otherwise self.now.levels cursor.old) result cursor.new }
     {
         if sees(cursor, Symbol::Else) {
             let found = self.otherwise(cursor)?;
@@ -124,7 +123,7 @@ impl<F: Fn(Global, &mut Cursor<'_, Spot>, u8) -> Result<Stmt, Stop>> Statements<
     fn if_stmt(&self, cursor: &mut Cursor<Spot>) -> Result<Stmt, Stop>
         requires nests { NestsStatements self.now.levels (F.pre self.now.inside) (F.post self.now.inside) }
         requires some { 0 < self.now.levels }
-        ensures { Reads (spec.if_stmt (spec.expression self.now.levels) (spec.begins_statement (self.now.levels - 1)) (spec.statement (self.now.levels - 1)) cursor.old) result cursor.new }
+        ensures { Reads (leveled.if_stmt self.now.levels cursor.old) result cursor.new }
     {
         let column = word(cursor, Symbol::If)?;
         let condition = expression(self.alloc, cursor, self.levels)?;
@@ -141,7 +140,7 @@ impl<F: Fn(Global, &mut Cursor<'_, Spot>, u8) -> Result<Stmt, Stop>> Statements<
     fn for_stmt(&self, cursor: &mut Cursor<Spot>) -> Result<Stmt, Stop>
         requires nests { NestsStatements self.now.levels (F.pre self.now.inside) (F.post self.now.inside) }
         requires some { 0 < self.now.levels }
-        ensures { Reads (spec.for_stmt (spec.expression self.now.levels) (spec.begins_statement (self.now.levels - 1)) (spec.statement (self.now.levels - 1)) cursor.old) result cursor.new }
+        ensures { Reads (leveled.for_stmt self.now.levels cursor.old) result cursor.new }
     {
         let column = word(cursor, Symbol::For)?;
         let (_, found) = name(cursor)?;
@@ -158,7 +157,7 @@ impl<F: Fn(Global, &mut Cursor<'_, Spot>, u8) -> Result<Stmt, Stop>> Statements<
     fn nesting_read(&self, cursor: &mut Cursor<Spot>, nesting: Nesting) -> Result<Stmt, Stop>
         requires nests { NestsStatements self.now.levels (F.pre self.now.inside) (F.post self.now.inside) }
         requires some { 0 < self.now.levels }
-        ensures { Reads (spec.nesting_read (spec.expression self.now.levels) (spec.expression (self.now.levels - 1)) (spec.begins_statement (self.now.levels - 1)) (spec.statement (self.now.levels - 1)) nesting cursor.old) result cursor.new }
+        ensures { Reads (leveled.nesting_read self.now.levels nesting cursor.old) result cursor.new }
     {
         match nesting {
             Nesting::If => self.if_stmt(cursor),
@@ -172,7 +171,7 @@ impl<F: Fn(Global, &mut Cursor<'_, Spot>, u8) -> Result<Stmt, Stop>> Statements<
     fn nesting_stmt(&self, cursor: &mut Cursor<Spot>) -> Result<Stmt, Stop>
         requires nests { NestsStatements self.now.levels (F.pre self.now.inside) (F.post self.now.inside) }
         requires some { 0 < self.now.levels }
-        ensures { Reads (spec.nesting_stmt (spec.expression self.now.levels) (spec.expression (self.now.levels - 1)) (spec.begins_statement (self.now.levels - 1)) (spec.statement (self.now.levels - 1)) cursor.old) result cursor.new }
+        ensures { Reads (leveled.nesting_stmt self.now.levels cursor.old) result cursor.new }
     {
         let found = ahead(cursor, |spot| nesting_of(&spot.token)).unwrap_or(Nesting::Write);
         self.nesting_read(cursor, found)

@@ -21,138 +21,106 @@ fn refused_at(alloc: Global, source: &[u8]) -> Option<u32> {
     }
 }
 
-/// Whether each text is refused at its column; 0 stands for a body.
-fn all_refused_at(alloc: Global, rows: &[(&[u8], u32)]) -> bool {
-    for (source, column) in rows {
-        if refused_at(alloc, source) != Some(*column) {
-            return false;
-        }
+/// Texts, each with the column at which it is refused; 0 stands for a body.
+const TEXTS: [(&[u8], u32); 81] = [
+    // where texts end
+    (b"emit 1 + true;", 0),
+    (b"emit 1", 7),
+    (b"", 1),
+    (b" \t\r", 4),
+    (b"emit 1  ", 9),
+    (b"emit 1; 2", 9),
+    (b"emit 1;emit 2;", 0),
+    (b"\temit\r1\r;\r", 0),
+    (b"emit\n1;", 5),
+    // malformed tokens
+    (b"emit \"a;", 6),
+    (b"emit \"\\q\";", 6),
+    (b"emit \"a\x7f\";", 6),
+    (b"emit abcdefghijklmnopqrstuvwxyz_12345;", 0),
+    (b"emit abcdefghijklmnopqrstuvwxyz_123456;", 6),
+    (b"emit 9223372036854775807;", 0),
+    (b"emit 9223372036854775808;", 6),
+    (b"emit -9223372036854775808;", 7),
+    (b"emit 01;", 6),
+    (b"emit 1a;", 7),
+    (b"emit 1 $", 8),
+    (b"emit\"a\";", 0),
+    (b"emit 1and 2;", 0),
+    // simple statements
+    (b"let x = 1;", 0),
+    (b"let = 1;", 5),
+    (b"let x 1;", 7),
+    (b"let x = ;", 9),
+    (b"let x = 1", 10),
+    (b"let put = 1;", 0),
+    (b"let peak = 1;", 5),
+    (b"emit ;", 6),
+    (b"fail \"no\";", 0),
+    (b"fail ;", 6),
+    (b"fail \"no\"}", 10),
+    (b"x = 1;", 1),
+    (b"peak(\"x\").get();", 1),
+    // statements that open a level
+    (b"if true { emit 1; } else { }", 0),
+    (b"if true { } emit 2;", 0),
+    (b"if { }", 4),
+    (b"if true emit 1;", 9),
+    (b"if true { 1 }", 11),
+    (b"if true { } else emit 1;", 18),
+    (b"if true { } else { } else { }", 22),
+    (b"else { }", 1),
+    (b"for x in [] { emit x; }", 0),
+    (b"for in [] { }", 5),
+    (b"for x [] { }", 7),
+    (b"for x in { }", 10),
+    (b"for x in [] ;", 13),
+    (b"for x in [] { } }", 17),
+    // operations
+    (b"hash(\"h\").put(\"f\", \"v\");", 0),
+    (b"hash(\"h\").put(\"f\");", 18),
+    (b"set(\"s\").clear();", 0),
+    (b"set(\"s\").clear(1);", 16),
+    (b"counter(\"x\").get();", 14),
+    (b"emit list(\"l\").at();", 19),
+    (b"emit list(\"l\").at(0);", 0),
+    (b"emit counter(\"x\").add(1);", 19),
+    (b"counter\"x\").add(1);", 8),
+    (b"counter().add(1);", 9),
+    (b"counter(\"x\".add(1);", 12),
+    (b"counter(\"x\")add(1);", 13),
+    (b"counter(\"x\").add 1;", 18),
+    (b"counter(\"x\").add(1;", 19),
+    (b"counter(\"x\").add(1)", 20),
+    // expressions
+    (b"emit not true and (1 < 2 or x);", 0),
+    (b"emit 1 == 2 == 3;", 13),
+    (b"emit 1 + not true;", 10),
+    (b"emit 1 + ;", 10),
+    (b"emit 1 2;", 8),
+    (b"emit (1;", 8),
+    (b"emit ();", 7),
+    (b"emit len 1;", 10),
+    (b"emit str();", 10),
+    (b"emit [\"a\", \"b\"];", 0),
+    (b"emit [\"a\" \"b\"];", 11),
+    (b"emit [\"a\",];", 11),
+    (b"emit [,];", 7),
+    (b"emit - -1 * 2;", 0),
+    (b"emit and;", 6),
+    // the first of two errors
+    (b"emit ; emit 01;", 6),
+    (b"emit 01; emit ;", 6),
+];
+
+#[test]
+fn texts_with_their_columns(rt: HostRuntime) {
+    for (source, column) in &TEXTS {
+        assert!(rt; refused_at(rt.alloc(), source) == Some(*column));
     }
-    true
 }
 
-#[test]
-fn ends(rt: HostRuntime) {
-    let rows = [
-        (b"emit 1 + true;".as_slice(), 0),
-        (b"emit 1".as_slice(), 7),
-        (b"".as_slice(), 1),
-        (b" \t\r".as_slice(), 4),
-        (b"emit 1  ".as_slice(), 9),
-        (b"emit 1; 2".as_slice(), 9),
-        (b"emit 1;emit 2;".as_slice(), 0),
-        (b"\temit\r1\r;\r".as_slice(), 0),
-        (b"emit\n1;".as_slice(), 5),
-    ];
-    assert!(rt; all_refused_at(rt.alloc(), &rows));
-}
-
-#[test]
-fn malformed_tokens(rt: HostRuntime) {
-    let rows = [
-        (b"emit \"a;".as_slice(), 6),
-        (b"emit \"\\q\";".as_slice(), 6),
-        (b"emit \"a\x7f\";".as_slice(), 6),
-        (b"emit abcdefghijklmnopqrstuvwxyz_12345;".as_slice(), 0),
-        (b"emit abcdefghijklmnopqrstuvwxyz_123456;".as_slice(), 6),
-        (b"emit 9223372036854775807;".as_slice(), 0),
-        (b"emit 9223372036854775808;".as_slice(), 6),
-        (b"emit -9223372036854775808;".as_slice(), 7),
-        (b"emit 01;".as_slice(), 6),
-        (b"emit 1a;".as_slice(), 7),
-        (b"emit 1 $".as_slice(), 8),
-        (b"emit\"a\";".as_slice(), 0),
-        (b"emit 1and 2;".as_slice(), 0),
-    ];
-    assert!(rt; all_refused_at(rt.alloc(), &rows));
-}
-
-#[test]
-fn simple_statements(rt: HostRuntime) {
-    let rows = [
-        (b"let x = 1;".as_slice(), 0),
-        (b"let = 1;".as_slice(), 5),
-        (b"let x 1;".as_slice(), 7),
-        (b"let x = ;".as_slice(), 9),
-        (b"let x = 1".as_slice(), 10),
-        (b"let put = 1;".as_slice(), 0),
-        (b"let peak = 1;".as_slice(), 5),
-        (b"emit ;".as_slice(), 6),
-        (b"fail \"no\";".as_slice(), 0),
-        (b"fail ;".as_slice(), 6),
-        (b"fail \"no\"}".as_slice(), 10),
-        (b"x = 1;".as_slice(), 1),
-        (b"peak(\"x\").get();".as_slice(), 1),
-    ];
-    assert!(rt; all_refused_at(rt.alloc(), &rows));
-}
-
-#[test]
-fn nesting_statements(rt: HostRuntime) {
-    let rows = [
-        (b"if true { emit 1; } else { }".as_slice(), 0),
-        (b"if true { } emit 2;".as_slice(), 0),
-        (b"if { }".as_slice(), 4),
-        (b"if true emit 1;".as_slice(), 9),
-        (b"if true { 1 }".as_slice(), 11),
-        (b"if true { } else emit 1;".as_slice(), 18),
-        (b"if true { } else { } else { }".as_slice(), 22),
-        (b"else { }".as_slice(), 1),
-        (b"for x in [] { emit x; }".as_slice(), 0),
-        (b"for in [] { }".as_slice(), 5),
-        (b"for x [] { }".as_slice(), 7),
-        (b"for x in { }".as_slice(), 10),
-        (b"for x in [] ;".as_slice(), 13),
-        (b"for x in [] { } }".as_slice(), 17),
-    ];
-    assert!(rt; all_refused_at(rt.alloc(), &rows));
-}
-
-#[test]
-fn operations(rt: HostRuntime) {
-    let rows = [
-        (b"hash(\"h\").put(\"f\", \"v\");".as_slice(), 0),
-        (b"hash(\"h\").put(\"f\");".as_slice(), 18),
-        (b"set(\"s\").clear();".as_slice(), 0),
-        (b"set(\"s\").clear(1);".as_slice(), 16),
-        (b"counter(\"x\").get();".as_slice(), 14),
-        (b"emit list(\"l\").at();".as_slice(), 19),
-        (b"emit list(\"l\").at(0);".as_slice(), 0),
-        (b"emit counter(\"x\").add(1);".as_slice(), 19),
-        (b"counter\"x\").add(1);".as_slice(), 8),
-        (b"counter().add(1);".as_slice(), 9),
-        (b"counter(\"x\".add(1);".as_slice(), 12),
-        (b"counter(\"x\")add(1);".as_slice(), 13),
-        (b"counter(\"x\").add 1;".as_slice(), 18),
-        (b"counter(\"x\").add(1;".as_slice(), 19),
-        (b"counter(\"x\").add(1)".as_slice(), 20),
-    ];
-    assert!(rt; all_refused_at(rt.alloc(), &rows));
-}
-
-#[test]
-fn expressions(rt: HostRuntime) {
-    let rows = [
-        (b"emit not true and (1 < 2 or x);".as_slice(), 0),
-        (b"emit 1 == 2 == 3;".as_slice(), 13),
-        (b"emit 1 + not true;".as_slice(), 10),
-        (b"emit 1 + ;".as_slice(), 10),
-        (b"emit 1 2;".as_slice(), 8),
-        (b"emit (1;".as_slice(), 8),
-        (b"emit ();".as_slice(), 7),
-        (b"emit len 1;".as_slice(), 10),
-        (b"emit str();".as_slice(), 10),
-        (b"emit [\"a\", \"b\"];".as_slice(), 0),
-        (b"emit [\"a\" \"b\"];".as_slice(), 11),
-        (b"emit [\"a\",];".as_slice(), 11),
-        (b"emit [,];".as_slice(), 7),
-        (b"emit - -1 * 2;".as_slice(), 0),
-        (b"emit and;".as_slice(), 6),
-    ];
-    assert!(rt; all_refused_at(rt.alloc(), &rows));
-}
-
-/// A text that opens so many levels, all alike.
+/// A text that opens so many levels, all alike, and the column at which it is refused.
 #[derive(Clone, Copy)]
 struct Nested {
     before: &'static [u8],
@@ -160,10 +128,11 @@ struct Nested {
     inside: &'static [u8],
     closer: &'static [u8],
     after: &'static [u8],
+    column: u32,
 }
 
 impl Nested {
-    fn text(self, alloc: Global, levels: usize) -> Result<Text, AllocError> {
+    fn text(&self, alloc: Global, levels: usize) -> Result<Text, AllocError> {
         let mut source = Text::from_slice(alloc, self.before)?;
         for _ in 0..levels {
             source.extend_from_slice(self.opener)?;
@@ -177,7 +146,7 @@ impl Nested {
     }
 
     /// Where it is refused; 0 for a body.
-    fn refused_at(self, alloc: Global, levels: usize) -> Option<u32> {
+    fn refused_at(&self, alloc: Global, levels: usize) -> Option<u32> {
         match self.text(alloc, levels) {
             Ok(source) => refused_at(alloc, source.as_slice()),
             Err(_) => None,
@@ -185,132 +154,162 @@ impl Nested {
     }
 }
 
-/// An expression that is emitted.
-fn emitted(opener: &'static [u8], inside: &'static [u8], closer: &'static [u8]) -> Nested {
+/// Each opener, with the column at which the 33rd of them is refused.
+const OPENERS: [Nested; 9] = [
     Nested {
-        before: b"emit ".as_slice(),
-        opener,
-        inside,
-        closer,
-        after: b";".as_slice(),
-    }
-}
-
-/// A statement alone.
-fn alone(opener: &'static [u8], inside: &'static [u8], closer: &'static [u8]) -> Nested {
+        before: b"emit ",
+        opener: b"(",
+        inside: b"1",
+        closer: b")",
+        after: b";",
+        column: 38,
+    },
     Nested {
-        before: b"".as_slice(),
-        opener,
-        inside,
-        closer,
-        after: b"".as_slice(),
-    }
-}
+        before: b"emit ",
+        opener: b"[",
+        inside: b"",
+        closer: b"]",
+        after: b";",
+        column: 38,
+    },
+    Nested {
+        before: b"emit ",
+        opener: b"-",
+        inside: b"1",
+        closer: b"",
+        after: b";",
+        column: 38,
+    },
+    Nested {
+        before: b"emit ",
+        opener: b"not ",
+        inside: b"x",
+        closer: b"",
+        after: b";",
+        column: 134,
+    },
+    Nested {
+        before: b"emit ",
+        opener: b"len(",
+        inside: b"x",
+        closer: b")",
+        after: b";",
+        column: 134,
+    },
+    Nested {
+        before: b"emit ",
+        opener: b"str(",
+        inside: b"1",
+        closer: b")",
+        after: b";",
+        column: 134,
+    },
+    Nested {
+        before: b"emit ",
+        opener: b"list(\"l\").at(",
+        inside: b"0",
+        closer: b")",
+        after: b";",
+        column: 422,
+    },
+    Nested {
+        before: b"",
+        opener: b"if 1{",
+        inside: b"emit 1;",
+        closer: b"}",
+        after: b"",
+        column: 161,
+    },
+    Nested {
+        before: b"",
+        opener: b"for x in y{",
+        inside: b"",
+        closer: b"}",
+        after: b"",
+        column: 353,
+    },
+];
 
 #[test]
 fn deepest(rt: HostRuntime) {
-    let rows = [
-        (
-            emitted(b"(".as_slice(), b"1".as_slice(), b")".as_slice()),
-            38,
-        ),
-        (
-            emitted(b"[".as_slice(), b"".as_slice(), b"]".as_slice()),
-            38,
-        ),
-        (
-            emitted(b"-".as_slice(), b"1".as_slice(), b"".as_slice()),
-            38,
-        ),
-        (
-            emitted(b"not ".as_slice(), b"x".as_slice(), b"".as_slice()),
-            134,
-        ),
-        (
-            emitted(b"len(".as_slice(), b"x".as_slice(), b")".as_slice()),
-            134,
-        ),
-        (
-            emitted(b"str(".as_slice(), b"1".as_slice(), b")".as_slice()),
-            134,
-        ),
-        (
-            emitted(
-                b"list(\"l\").at(".as_slice(),
-                b"0".as_slice(),
-                b")".as_slice(),
-            ),
-            422,
-        ),
-        (
-            alone(b"if 1{".as_slice(), b"emit 1;".as_slice(), b"}".as_slice()),
-            161,
-        ),
-        (
-            alone(b"for x in y{".as_slice(), b"".as_slice(), b"}".as_slice()),
-            353,
-        ),
-    ];
-    for (nested, column) in rows {
+    for nested in &OPENERS {
         assert!(rt; nested.refused_at(rt.alloc(), 32) == Some(0));
-        assert!(rt; nested.refused_at(rt.alloc(), 33) == Some(column));
+        assert!(rt; nested.refused_at(rt.alloc(), 33) == Some(nested.column));
     }
 }
 
+/// What could only go on with one level more, behind 32.
+const ONE_MORE: [Nested; 8] = [
+    Nested {
+        before: b"emit ",
+        opener: b"(",
+        inside: b"len(x)",
+        closer: b")",
+        after: b";",
+        column: 38,
+    },
+    Nested {
+        before: b"emit ",
+        opener: b"(",
+        inside: b"str(1)",
+        closer: b")",
+        after: b";",
+        column: 38,
+    },
+    Nested {
+        before: b"emit ",
+        opener: b"(",
+        inside: b"text(\"t\").get()",
+        closer: b")",
+        after: b";",
+        column: 38,
+    },
+    Nested {
+        before: b"emit ",
+        opener: b"(",
+        inside: b"1 + -1",
+        closer: b")",
+        after: b";",
+        column: 42,
+    },
+    Nested {
+        before: b"",
+        opener: b"if 1{",
+        inside: b"if 1{}",
+        closer: b"}",
+        after: b"",
+        column: 161,
+    },
+    Nested {
+        before: b"",
+        opener: b"if 1{",
+        inside: b"for x in y{}",
+        closer: b"}",
+        after: b"",
+        column: 161,
+    },
+    Nested {
+        before: b"",
+        opener: b"if 1{",
+        inside: b"set(\"s\").clear();",
+        closer: b"}",
+        after: b"",
+        column: 161,
+    },
+    Nested {
+        before: b"",
+        opener: b"if 1{",
+        inside: b"emit (1);",
+        closer: b"}",
+        after: b"",
+        column: 166,
+    },
+];
+
 #[test]
 fn no_level_left(rt: HostRuntime) {
-    let rows = [
-        (
-            emitted(b"(".as_slice(), b"len(x)".as_slice(), b")".as_slice()),
-            38,
-        ),
-        (
-            emitted(b"(".as_slice(), b"str(1)".as_slice(), b")".as_slice()),
-            38,
-        ),
-        (
-            emitted(
-                b"(".as_slice(),
-                b"text(\"t\").get()".as_slice(),
-                b")".as_slice(),
-            ),
-            38,
-        ),
-        (
-            emitted(b"(".as_slice(), b"1 + -1".as_slice(), b")".as_slice()),
-            42,
-        ),
-        (
-            alone(b"if 1{".as_slice(), b"if 1{}".as_slice(), b"}".as_slice()),
-            161,
-        ),
-        (
-            alone(
-                b"if 1{".as_slice(),
-                b"for x in y{}".as_slice(),
-                b"}".as_slice(),
-            ),
-            161,
-        ),
-        (
-            alone(
-                b"if 1{".as_slice(),
-                b"set(\"s\").clear();".as_slice(),
-                b"}".as_slice(),
-            ),
-            161,
-        ),
-        (
-            alone(
-                b"if 1{".as_slice(),
-                b"emit (1);".as_slice(),
-                b"}".as_slice(),
-            ),
-            166,
-        ),
-    ];
-    for (nested, column) in rows {
-        assert!(rt; nested.refused_at(rt.alloc(), 32) == Some(column));
+    for nested in &ONE_MORE {
+        assert!(rt; nested.refused_at(rt.alloc(), 32) == Some(nested.column));
     }
 }
 

@@ -4,11 +4,12 @@ ghost use Rattle.std.specs.Prelude.{◌≡◌, ℕ, List, Option};
 ghost use Rattle.std.specs.Option.{option_map};
 ghost use Rattle.std.specs.Fn.{FnOnceReturnsAt};
 ghost use Rattle.predictive_parsing.specs.Reading as read;
-ghost use Rattle.predictive_parsing.specs.Reads.{Reads, made_of, Computes};
+ghost use Rattle.predictive_parsing.specs.Reads.{Reads, OnlyRefuses, made_of, Computes};
 ghost use Rattle.txn_grammar.specs.declared.token.Spot.{Spot};
 ghost use Rattle.txn_grammar.specs.Tokens as spec;
 ghost use Rattle.txn_grammar.specs.code.Forms.{of_next};
 ghost use Rattle.txn_grammar.specs.code.Reader as reader;
+ghost use Rattle.txn_parse.specs.code.Found.{lent};
 
 use plain_data::{OrNoMemory, Text};
 use predictive_parsing::{Cursor, Refused};
@@ -91,21 +92,24 @@ fn at<A: Copy>(spot: &Spot, made: Option<A>) -> Option<(u32, A)>
 /// Takes this symbol, and answers its column.
 #[tactic(auto, unfolding(txn_grammar::specs::code::Reader::word))]
 pub(crate) fn word(cursor: &mut Cursor<Spot>, symbol: Symbol) -> Result<u32, OrNoMemory<Refused>>
-    ensures { Reads (reader.word symbol cursor.old) result cursor.new }
+    ensures reads { Reads (reader.word symbol cursor.old) result cursor.new }
+    ensures refusal { OnlyRefuses result }
 {
     cursor.take(|spot| symbol_at(symbol, spot))
 }
 
 /// Takes a number, with its column.
 pub(crate) fn number(cursor: &mut Cursor<Spot>) -> Result<(u32, i64), OrNoMemory<Refused>>
-    ensures { Reads (read.one (spec.at spec.number) cursor.old) result cursor.new }
+    ensures reads { Reads (read.one (spec.at spec.number) cursor.old) result cursor.new }
+    ensures refusal { OnlyRefuses result }
 {
     cursor.take(|spot| at(spot, number_of(&spot.token)))
 }
 
 /// Takes a truth value, with its column.
 pub(crate) fn truth(cursor: &mut Cursor<Spot>) -> Result<(u32, bool), OrNoMemory<Refused>>
-    ensures { Reads (read.one (spec.at (spec.of_symbol spec.truth_of)) cursor.old) result cursor.new }
+    ensures reads { Reads (read.one (spec.at (spec.of_symbol spec.truth_of)) cursor.old) result cursor.new }
+    ensures refusal { OnlyRefuses result }
 {
     cursor.take(|spot| at(spot, truth_at(&spot.token)))
 }
@@ -115,21 +119,24 @@ pub(crate) fn operator(
     cursor: &mut Cursor<Spot>,
     rank: Rank,
 ) -> Result<(u32, Operator), OrNoMemory<Refused>>
-    ensures { Reads (read.one (spec.at (spec.of_symbol (spec.operator_of rank))) cursor.old) result cursor.new }
+    ensures reads { Reads (read.one (spec.at (spec.of_symbol (spec.operator_of rank))) cursor.old) result cursor.new }
+    ensures refusal { OnlyRefuses result }
 {
     cursor.take(|spot| operator_spot(rank, spot))
 }
 
 /// Takes a comparison, with its column.
 pub(crate) fn relation(cursor: &mut Cursor<Spot>) -> Result<(u32, Relation), OrNoMemory<Refused>>
-    ensures { Reads (read.one (spec.at (spec.of_symbol spec.relation_of)) cursor.old) result cursor.new }
+    ensures reads { Reads (read.one (spec.at (spec.of_symbol spec.relation_of)) cursor.old) result cursor.new }
+    ensures refusal { OnlyRefuses result }
 {
     cursor.take(|spot| at(spot, relation_at(&spot.token)))
 }
 
 /// Takes the word of a kind, with its column.
 pub(crate) fn kind(cursor: &mut Cursor<Spot>) -> Result<(u32, Kind), OrNoMemory<Refused>>
-    ensures { Reads (read.one (spec.at (spec.of_symbol spec.kind_of)) cursor.old) result cursor.new }
+    ensures reads { Reads (read.one (spec.at (spec.of_symbol spec.kind_of)) cursor.old) result cursor.new }
+    ensures refusal { OnlyRefuses result }
 {
     cursor.take(|spot| at(spot, kind_at(&spot.token)))
 }
@@ -139,7 +146,8 @@ pub(crate) fn write(
     cursor: &mut Cursor<Spot>,
     kind: Kind,
 ) -> Result<(u32, Operation<WriteWord>), OrNoMemory<Refused>>
-    ensures { Reads (read.one (spec.at (spec.write_of kind)) cursor.old) result cursor.new }
+    ensures reads { Reads (read.one (spec.at (spec.write_of kind)) cursor.old) result cursor.new }
+    ensures refusal { OnlyRefuses result }
 {
     cursor.take(|spot| at(spot, write_at(kind, &spot.token)))
 }
@@ -149,14 +157,15 @@ pub(crate) fn read(
     cursor: &mut Cursor<Spot>,
     kind: Kind,
 ) -> Result<(u32, Operation<ReadWord>), OrNoMemory<Refused>>
-    ensures { Reads (read.one (spec.at (spec.read_of kind)) cursor.old) result cursor.new }
+    ensures reads { Reads (read.one (spec.at (spec.read_of kind)) cursor.old) result cursor.new }
+    ensures refusal { OnlyRefuses result }
 {
     cursor.take(|spot| at(spot, read_at(kind, &spot.token)))
 }
 
 /// The name ahead, lent, with its column.
 fn name_ahead<'a>(cursor: &Cursor<'a, Spot>) -> Option<(u32, &'a Text)>
-    ensures { option_map (λ found. (found.0, found.1.now)) result ≡ made_of (spec.at spec.name) cursor.now }
+    ensures { lent result ≡ made_of (spec.at spec.name) cursor.now }
 {
     let spot = cursor.peek()?;
     match &spot.token {
@@ -167,7 +176,7 @@ fn name_ahead<'a>(cursor: &Cursor<'a, Spot>) -> Option<(u32, &'a Text)>
 
 /// The text ahead, lent, with its column.
 fn text_ahead<'a>(cursor: &Cursor<'a, Spot>) -> Option<(u32, &'a Text)>
-    ensures { option_map (λ found. (found.0, found.1.now)) result ≡ made_of (spec.at spec.text) cursor.now }
+    ensures { lent result ≡ made_of (spec.at spec.text) cursor.now }
 {
     let spot = cursor.peek()?;
     match &spot.token {
@@ -181,7 +190,7 @@ fn take_copy(
     cursor: &mut Cursor<Spot>,
     found: Option<(u32, &Text)>,
 ) -> Result<(u32, Text), OrNoMemory<Refused>>
-    ensures { (f : Spot → Option (ℕ × List ℕ)) → option_map (λ found. (found.0, found.1.now)) found.entry ≡ made_of f cursor.old → Reads (read.one f cursor.old) result cursor.new }
+    ensures { (f : Spot → Option (ℕ × List ℕ)) → lent found.entry ≡ made_of f cursor.old → Reads (read.one f cursor.old) result cursor.new }
 {
     let Some((column, text)) = found else {
         return Err(OrNoMemory::Cause(Refused));

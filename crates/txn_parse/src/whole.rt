@@ -6,7 +6,9 @@ ghost use Rattle.txn_grammar.specs.Lexer.{lex};
 ghost use Rattle.txn_grammar.specs.Grammar.{IsBody};
 ghost use Rattle.txn_grammar.specs.Parsed.{parsed, first_column, IsSyntaxColumn};
 ghost use Rattle.txn_parse.specs.declared.whole.ParseError.TheVariants.{Syntax, NoMemory};
+ghost use Rattle.txn_parse.specs.code.Ended as code;
 
+use crate::Stop;
 use crate::statement::body;
 use plain_data::OrNoMemory;
 use predictive_parsing::Cursor;
@@ -44,6 +46,24 @@ fn column_ahead(cursor: &Cursor<Spot>, end: u32) -> u32
     }
 }
 
+/// What the call answers, by what was read and what is left.
+fn ended(found: Result<Body, Stop>, cursor: &Cursor<Spot>, end: u32) -> Result<Body, ParseError>
+    ensures { result ≡ code.ended end found cursor.now }
+{
+    match found {
+        Ok(body) => {
+            let is_done = cursor.len() == 0;
+            if is_done {
+                Ok(body)
+            } else {
+                Err(ParseError::Syntax(column_ahead(cursor, end)))
+            }
+        }
+        Err(OrNoMemory::Cause(_)) => Err(ParseError::Syntax(column_ahead(cursor, end))),
+        Err(OrNoMemory::NoMemory) => Err(ParseError::NoMemory),
+    }
+}
+
 /// Reads a body. It is Ok exactly on the bodies of the grammar, each by its one tree with its columns, want of memory
 /// aside.
 pub fn parse(alloc: Global, source: &[u8]) -> Result<Body, ParseError>
@@ -60,15 +80,6 @@ pub fn parse(alloc: Global, source: &[u8]) -> Result<Body, ParseError>
     let spots = tokens(alloc, source)?;
     let end = source.len() as u32 + 1;
     let mut cursor = Cursor::new(spots.as_slice());
-    match body(alloc, &mut cursor) {
-        Ok(found) => {
-            if cursor.len() == 0 {
-                Ok(found)
-            } else {
-                Err(ParseError::Syntax(column_ahead(&cursor, end)))
-            }
-        }
-        Err(OrNoMemory::Cause(_)) => Err(ParseError::Syntax(column_ahead(&cursor, end))),
-        Err(OrNoMemory::NoMemory) => Err(ParseError::NoMemory),
-    }
+    let found = body(alloc, &mut cursor);
+    ended(found, &cursor, end)
 }

@@ -67,7 +67,8 @@ module _ (e : Expr) where
   pub at_text : (bytes : Bytes) → node_of e ≡ made.Text bytes → shown e ≡ shown_as place.Unary (spaced (t.Text bytes) ∷ [])
   unfolding shown
   at_text bytes h =
-      by_node (made.Text bytes) h ∙ (fold_out-ExprNode Shown Shown (Operator × Shown) show_node expr_step operand_step (made.Text bytes) ∙ rw made.outs-Text refl)
+      by_node (made.Text bytes) h
+      ∙ (fold_out-ExprNode Shown Shown (Operator × Shown) show_node expr_step operand_step (made.Text bytes) ∙ rw made.outs-Text refl)
 
   pub at_bool : (b : Bool) → node_of e ≡ made.Bool b → shown e ≡ shown_as place.Unary (word (truth b) ∷ [])
   unfolding shown
@@ -92,7 +93,8 @@ module _ (e : Expr) where
   pub at_negative : (a : Expr) → node_of e ≡ made.Negative a → shown e ≡ shown_as place.Unary (opening s.Minus ∷ at place.Unary (shown a))
   unfolding shown
   at_negative a h =
-      by_node (made.Negative a) h ∙ (fold_out-ExprNode Shown Shown (Operator × Shown) show_node expr_step operand_step (made.Negative a) ∙ rw made.outs-Negative refl)
+      by_node (made.Negative a) h
+      ∙ (fold_out-ExprNode Shown Shown (Operator × Shown) show_node expr_step operand_step (made.Negative a) ∙ rw made.outs-Negative refl)
 
   pub at_not : (a : Expr) → node_of e ≡ made.Not a → shown e ≡ shown_as place.Negation (word s.Not ∷ at place.Negation (shown a))
   unfolding shown
@@ -103,7 +105,8 @@ module _ (e : Expr) where
       → shown e ≡ shown_as place.Comparison (at place.Sum (shown l) ++ word (comparison r) ∷ at place.Sum (shown a))
   unfolding shown
   at_compare l r a h =
-      by_node (made.Compare l r a) h ∙ (fold_out-ExprNode Shown Shown (Operator × Shown) show_node expr_step operand_step (made.Compare l r a) ∙ rw made.outs-Compare refl)
+      by_node (made.Compare l r a) h
+      ∙ (fold_out-ExprNode Shown Shown (Operator × Shown) show_node expr_step operand_step (made.Compare l r a) ∙ rw made.outs-Compare refl)
 
   pub at_texts : (es : List Expr) → node_of e ≡ made.Texts es
       → shown e ≡ shown_as place.Unary (opening s.OpenBracket ∷ (separated (map expression es) ++ closing s.CloseBracket ∷ []))
@@ -167,7 +170,8 @@ module _ (x : Stmt) where
   at_if e holds None h =
       stmt_by_node (stmt.If e holds None) h ∙ (fold_out-StmtNode (List Piece) (List Piece) show_stmt stmt_step (stmt.If e holds None) ∙ rw stmt.outs-If refl)
   at_if e holds (Some ss) h =
-      stmt_by_node (stmt.If e holds (Some ss)) h ∙ (fold_out-StmtNode (List Piece) (List Piece) show_stmt stmt_step (stmt.If e holds (Some ss)) ∙ rw stmt.outs-If refl)
+      stmt_by_node (stmt.If e holds (Some ss)) h
+      ∙ (fold_out-StmtNode (List Piece) (List Piece) show_stmt stmt_step (stmt.If e holds (Some ss)) ∙ rw stmt.outs-If refl)
 
   pub at_for : (name : Bytes) (e : Expr) (each : List Stmt) → (out-Stmt x).node ≡ stmt.For name e each
       → shown_stmt x ≡ word s.For ∷ spaced (t.Name name) ∷ word s.In ∷ (expression e ++ block (map shown_stmt each))
@@ -179,4 +183,5 @@ module _ (x : Stmt) where
       → shown_stmt x ≡ ended (operation kind (expression key) (write_name done) (map expression es))
   unfolding shown_stmt
   at_write kind key done es h =
-      stmt_by_node (stmt.Write kind key done es) h ∙ (fold_out-StmtNode (List Piece) (List Piece) show_stmt stmt_step (stmt.Write kind key done es) ∙ rw stmt.outs-Write refl)
+      stmt_by_node (stmt.Write kind key done es) h
+      ∙ (fold_out-StmtNode (List Piece) (List Piece) show_stmt stmt_step (stmt.Write kind key done es) ∙ rw stmt.outs-Write refl)

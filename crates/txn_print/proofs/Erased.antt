@@ -57,63 +57,80 @@ module _ (c : ℕ) where
   pub bared_number : (n : ℤ) → bare (expr c (made.Number n)) ≡ expr 0 (made.Number n)
   unfolding bare
   bared_number n =
-      bared c (made.Number n) ∙ ap (expr 0) (fold_out-ExprNode ExprNode Expr Operand node_step expr_step operand_step (made.Number n) ∙ rw made.outs-Number (made.rolls-Number n))
+      bared c (made.Number n)
+      ∙ ap (expr 0) (fold_out-ExprNode ExprNode Expr Operand node_step expr_step operand_step (made.Number n) ∙ rw made.outs-Number (made.rolls-Number n))
 
   pub bared_text : (bytes : Bytes) → bare (expr c (made.Text bytes)) ≡ expr 0 (made.Text bytes)
   unfolding bare
   bared_text bytes =
-      bared c (made.Text bytes) ∙ ap (expr 0) (fold_out-ExprNode ExprNode Expr Operand node_step expr_step operand_step (made.Text bytes) ∙ rw made.outs-Text (made.rolls-Text bytes))
+      bared c (made.Text bytes)
+      ∙ ap (expr 0) (fold_out-ExprNode ExprNode Expr Operand node_step expr_step operand_step (made.Text bytes) ∙ rw made.outs-Text (made.rolls-Text bytes))
 
   pub bared_bool : (b : Bool) → bare (expr c (made.Bool b)) ≡ expr 0 (made.Bool b)
   unfolding bare
   bared_bool b =
-      bared c (made.Bool b) ∙ ap (expr 0) (fold_out-ExprNode ExprNode Expr Operand node_step expr_step operand_step (made.Bool b) ∙ rw made.outs-Bool (made.rolls-Bool b))
+      bared c (made.Bool b)
+      ∙ ap (expr 0) (fold_out-ExprNode ExprNode Expr Operand node_step expr_step operand_step (made.Bool b) ∙ rw made.outs-Bool (made.rolls-Bool b))
 
   pub bared_name : (name : Bytes) → bare (expr c (made.Name name)) ≡ expr 0 (made.Name name)
   unfolding bare
   bared_name name =
-      bared c (made.Name name) ∙ ap (expr 0) (fold_out-ExprNode ExprNode Expr Operand node_step expr_step operand_step (made.Name name) ∙ rw made.outs-Name (made.rolls-Name name))
+      bared c (made.Name name)
+      ∙ ap (expr 0) (fold_out-ExprNode ExprNode Expr Operand node_step expr_step operand_step (made.Name name) ∙ rw made.outs-Name (made.rolls-Name name))
 
   pub bared_texts : (es : List Expr) → bare (expr c (made.Texts es)) ≡ expr 0 (made.Texts (map bare es))
   unfolding bare
   bared_texts es =
-      bared c (made.Texts es) ∙ ap (expr 0) (fold_out-ExprNode ExprNode Expr Operand node_step expr_step operand_step (made.Texts es) ∙ rw made.outs-Texts (made.rolls-Texts (map bare es)))
+      bared c (made.Texts es)
+      ∙ ap (expr 0) (fold_out-ExprNode ExprNode Expr Operand node_step expr_step operand_step (made.Texts es)
+      ∙ rw made.outs-Texts (made.rolls-Texts (map bare es)))
 
   pub bared_len : (a : Expr) → bare (expr c (made.Len a)) ≡ expr 0 (made.Len (bare a))
   unfolding bare
   bared_len a =
-      bared c (made.Len a) ∙ ap (expr 0) (fold_out-ExprNode ExprNode Expr Operand node_step expr_step operand_step (made.Len a) ∙ rw made.outs-Len (made.rolls-Len (bare a)))
+      bared c (made.Len a)
+      ∙ ap (expr 0) (fold_out-ExprNode ExprNode Expr Operand node_step expr_step operand_step (made.Len a) ∙ rw made.outs-Len (made.rolls-Len (bare a)))
 
   pub bared_str : (a : Expr) → bare (expr c (made.Str a)) ≡ expr 0 (made.Str (bare a))
   unfolding bare
   bared_str a =
-      bared c (made.Str a) ∙ ap (expr 0) (fold_out-ExprNode ExprNode Expr Operand node_step expr_step operand_step (made.Str a) ∙ rw made.outs-Str (made.rolls-Str (bare a)))
+      bared c (made.Str a)
+      ∙ ap (expr 0) (fold_out-ExprNode ExprNode Expr Operand node_step expr_step operand_step (made.Str a) ∙ rw made.outs-Str (made.rolls-Str (bare a)))
 
   pub bared_negative : (a : Expr) → bare (expr c (made.Negative a)) ≡ expr 0 (made.Negative (bare a))
   unfolding bare
   bared_negative a =
-      bared c (made.Negative a) ∙ ap (expr 0) (fold_out-ExprNode ExprNode Expr Operand node_step expr_step operand_step (made.Negative a) ∙ rw made.outs-Negative (made.rolls-Negative (bare a)))
+      bared c (made.Negative a)
+      ∙ ap (expr 0) (fold_out-ExprNode ExprNode Expr Operand node_step expr_step operand_step (made.Negative a)
+      ∙ rw made.outs-Negative (made.rolls-Negative (bare a)))
 
   pub bared_not : (a : Expr) → bare (expr c (made.Not a)) ≡ expr 0 (made.Not (bare a))
   unfolding bare
   bared_not a =
-      bared c (made.Not a) ∙ ap (expr 0) (fold_out-ExprNode ExprNode Expr Operand node_step expr_step operand_step (made.Not a) ∙ rw made.outs-Not (made.rolls-Not (bare a)))
+      bared c (made.Not a)
+      ∙ ap (expr 0) (fold_out-ExprNode ExprNode Expr Operand node_step expr_step operand_step (made.Not a) ∙ rw made.outs-Not (made.rolls-Not (bare a)))
 
   pub bared_compare : (l : Expr) (r : Relation) (a : Expr) → bare (expr c (made.Compare l r a)) ≡ expr 0 (made.Compare (bare l) r (bare a))
   unfolding bare
   bared_compare l r a =
-      bared c (made.Compare l r a) ∙ ap (expr 0) (fold_out-ExprNode ExprNode Expr Operand node_step expr_step operand_step (made.Compare l r a) ∙ rw made.outs-Compare (made.rolls-Compare (bare l) r (bare a)))
+      bared c (made.Compare l r a)
+      ∙ ap (expr 0) (fold_out-ExprNode ExprNode Expr Operand node_step expr_step operand_step (made.Compare l r a)
+      ∙ rw made.outs-Compare (made.rolls-Compare (bare l) r (bare a)))
 
   pub bared_chain : (f : Expr) (os : List Operand) → bare (expr c (made.Chain f os)) ≡ expr 0 (made.Chain (bare f) (map bare_operand os))
   unfolding bare
   bared_chain f os =
-      bared c (made.Chain f os) ∙ ap (expr 0) (fold_out-ExprNode ExprNode Expr Operand node_step expr_step operand_step (made.Chain f os) ∙ rw made.outs-Chain (made.rolls-Chain (bare f) (map operand_bare os) ∙ ap (λ xs. made.Chain (bare f) xs) (operands os)))
+      bared c (made.Chain f os)
+      ∙ ap (expr 0) (fold_out-ExprNode ExprNode Expr Operand node_step expr_step operand_step (made.Chain f os)
+      ∙ rw made.outs-Chain (made.rolls-Chain (bare f) (map operand_bare os) ∙ ap (λ xs. made.Chain (bare f) xs) (operands os)))
 
   pub bared_read : (kind : Kind) (key : Expr) (asked : ReadWord) (es : List Expr)
       → bare (expr c (made.Read kind key asked es)) ≡ expr 0 (made.Read kind (bare key) asked (map bare es))
   unfolding bare
   bared_read kind key asked es =
-      bared c (made.Read kind key asked es) ∙ ap (expr 0) (fold_out-ExprNode ExprNode Expr Operand node_step expr_step operand_step (made.Read kind key asked es) ∙ rw made.outs-Read (made.rolls-Read kind (bare key) asked (map bare es)))
+      bared c (made.Read kind key asked es)
+      ∙ ap (expr 0) (fold_out-ExprNode ExprNode Expr Operand node_step expr_step operand_step (made.Read kind key asked es)
+      ∙ rw made.outs-Read (made.rolls-Read kind (bare key) asked (map bare es)))
 
 -- ---- statements
 
@@ -149,7 +166,8 @@ module _ (c : ℕ) where
   bared_if e holds None =
       bared_at c (stmt.If e holds None) ∙ ap (stmt_at 0) (fold_out-StmtNode StmtNode Stmt bare_node stmt_step (stmt.If e holds None) ∙ rw stmt.outs-If refl)
   bared_if e holds (Some ss) =
-      bared_at c (stmt.If e holds (Some ss)) ∙ ap (stmt_at 0) (fold_out-StmtNode StmtNode Stmt bare_node stmt_step (stmt.If e holds (Some ss)) ∙ rw stmt.outs-If refl)
+      bared_at c (stmt.If e holds (Some ss))
+      ∙ ap (stmt_at 0) (fold_out-StmtNode StmtNode Stmt bare_node stmt_step (stmt.If e holds (Some ss)) ∙ rw stmt.outs-If refl)
 
   pub bared_for : (name : Bytes) (e : Expr) (each : List Stmt)
       → bare_stmt (stmt_at c (stmt.For name e each)) ≡ stmt_at 0 (stmt.For name (bare e) (map bare_stmt each))
@@ -161,4 +179,5 @@ module _ (c : ℕ) where
       → bare_stmt (stmt_at c (stmt.Write kind key done es)) ≡ stmt_at 0 (stmt.Write kind (bare key) done (map bare es))
   unfolding bare_stmt
   bared_write kind key done es =
-      bared_at c (stmt.Write kind key done es) ∙ ap (stmt_at 0) (fold_out-StmtNode StmtNode Stmt bare_node stmt_step (stmt.Write kind key done es) ∙ rw stmt.outs-Write refl)
+      bared_at c (stmt.Write kind key done es)
+      ∙ ap (stmt_at 0) (fold_out-StmtNode StmtNode Stmt bare_node stmt_step (stmt.Write kind key done es) ∙ rw stmt.outs-Write refl)

@@ -76,7 +76,8 @@ module _ (Good : Piece → Type 0) (goods : Productions.Goods Good) where
   anywhere n q shown w b true h =
       within Good bare (rule_at (suc n) place.Unary) (rule_at (suc n) q) (grouped shown.pieces) w (looser_at (suc n) place.Unary q (tightest q))
       (within Good bare (Group (Expression n)) (Unary (suc n)) (grouped shown.pieces) w (λ ts us e x. inl (inr (inl x)))
-      (Productions.group_back Good goods (Expression n) shown.pieces w (within Good bare (rule_at n shown.rank) (Expression n) shown.pieces w (looser_at n shown.rank place.Disjunction (omega arith)) b)))
+      (Productions.group_back Good goods (Expression n) shown.pieces w
+      (within Good bare (rule_at n shown.rank) (Expression n) shown.pieces w (looser_at n shown.rank place.Disjunction (omega arith)) b)))
     where
       tightest : (q : Place) → tightness q ≤ tightness place.Unary
       tightest place.Disjunction = omega arith
@@ -87,7 +88,8 @@ module _ (Good : Piece → Type 0) (goods : Productions.Goods Good) where
       tightest place.Product = omega arith
       tightest place.Unary = omega arith
   anywhere n q shown w b false h =
-      within Good bare (rule_at (suc n) shown.rank) (rule_at (suc n) q) shown.pieces w (looser_at (suc n) shown.rank q (ltb-false (tightness shown.rank) (tightness q) h))
+      within Good bare (rule_at (suc n) shown.rank) (rule_at (suc n) q) shown.pieces w
+      (looser_at (suc n) shown.rank q (ltb-false (tightness shown.rank) (tightness q) h))
       (within Good bare (rule_at n shown.rank) (rule_at (suc n) shown.rank) shown.pieces w (deeper n shown.rank) b)
 
   -- what stood in parentheses
@@ -148,22 +150,28 @@ module _ (Good : Piece → Type 0) (goods : Productions.Goods Good) where
   leaf_fine : (n : ℕ) → Within LeafRule (Unary n) → AllFine n place.Unary LeafRule
   leaf_fine n f ts us e (inl r) g =
       let c = r.value.0 in let v = r.value.1 in
-      let good = subst (λ x. is_malformed x ≡ false → Good (spaced x)) (number_is _ v (made_at number ts r.middle r.value r.first)) (good_taken (at number) ts r.middle r.value r.first g) refl in
+      let good = subst (λ x. is_malformed x ≡ false → Good (spaced x)) (number_is _ v (made_at number ts r.middle r.value r.first))
+      (good_taken (at number) ts r.middle r.value r.first g) refl in
       moved n place.Unary e (expr c (made.Number v)) r.second.is
-      (closed n NumberLeaf (λ xs ys x q. f xs ys x (inl q)) (expr c (made.Number v)) _ _ (at_number (expr c (made.Number v)) v refl) (bared_number c v) (Productions.number_back Good v good))
+      (closed n NumberLeaf (λ xs ys x q. f xs ys x (inl q)) (expr c (made.Number v)) _ _ (at_number (expr c (made.Number v)) v refl)
+      (bared_number c v) (Productions.number_back Good v good))
   leaf_fine n f ts us e (inr (inl r)) g =
       let c = r.value.0 in let v = r.value.1 in
-      let good = subst (λ x. is_malformed x ≡ false → Good (spaced x)) (text_is _ v (made_at text ts r.middle r.value r.first)) (good_taken (at text) ts r.middle r.value r.first g) refl in
+      let good = subst (λ x. is_malformed x ≡ false → Good (spaced x)) (text_is _ v (made_at text ts r.middle r.value r.first))
+      (good_taken (at text) ts r.middle r.value r.first g) refl in
       moved n place.Unary e (expr c (made.Text v)) r.second.is
-      (closed n TextLeaf (λ xs ys x q. f xs ys x (inr (inl q))) (expr c (made.Text v)) _ _ (at_text (expr c (made.Text v)) v refl) (bared_text c v) (Productions.text_back Good v good))
+      (closed n TextLeaf (λ xs ys x q. f xs ys x (inr (inl q))) (expr c (made.Text v)) _ _ (at_text (expr c (made.Text v)) v refl) (bared_text c v)
+      (Productions.text_back Good v good))
   leaf_fine n f ts us e (inr (inr (inl r))) g =
       let c = r.value.0 in let v = r.value.1 in
       moved n place.Unary e (expr c (made.Bool v)) r.second.is
-      (closed n TruthLeaf (λ xs ys x q. f xs ys x (inr (inr (inl q)))) (expr c (made.Bool v)) _ _ (at_bool (expr c (made.Bool v)) v refl) (bared_bool c v) (Productions.truth_back Good v (goods.words (truth v))))
+      (closed n TruthLeaf (λ xs ys x q. f xs ys x (inr (inr (inl q)))) (expr c (made.Bool v)) _ _ (at_bool (expr c (made.Bool v)) v refl)
+      (bared_bool c v) (Productions.truth_back Good v (goods.words (truth v))))
   leaf_fine n f ts us e (inr (inr (inr r))) g =
       let c = r.value.0 in let v = r.value.1 in
       moved n place.Unary e (expr c (made.Name v)) r.second.is
-      (closed n NameLeaf (λ xs ys x q. f xs ys x (inr (inr (inr q)))) (expr c (made.Name v)) _ _ (at_name (expr c (made.Name v)) v refl) (bared_name c v) (Productions.name_back Good v (good_name ts r.middle r.value r.first g)))
+      (closed n NameLeaf (λ xs ys x q. f xs ys x (inr (inr (inr q)))) (expr c (made.Name v)) _ _ (at_name (expr c (made.Name v)) v refl)
+      (bared_name c v) (Productions.name_back Good v (good_name ts r.middle r.value r.first g)))
 
   -- ---- parts in parentheses
 
@@ -203,7 +211,8 @@ module _ (Good : Piece → Type 0) (goods : Productions.Goods Good) where
     times_shown (suc count) ts us es r g =
         let x = r.first in
         let here = shows x.middle r.middle r.value x.second (keep_one G _ ts x.middle x.value x.first g) in
-        let rest = times_shown count r.middle r.second.middle r.second.value r.second.first (keep_after_comma G _ (keep_expression G n) ts r.middle r.value x g) in
+        let rest = times_shown count r.middle r.second.middle r.second.value r.second.first
+        (keep_after_comma G _ (keep_expression G n) ts r.middle r.value x g) in
         subst (λ xs. Shown_list xs (suc count)) (sym r.second.second.is) (record { each = (here, rest.each); length = ap (λ m. suc m) rest.length })
 
     pub arguments_shown : (count : ℕ) (ts us : List Spot) (es : List Expr) → Arguments (Expression n) count ts es us → Each G ts
@@ -216,8 +225,11 @@ module _ (Good : Piece → Type 0) (goods : Productions.Goods Good) where
 
     commas_shown : (ts us : List Spot) (es : List Expr) → Many (AfterComma (Expression n)) ts es us → Each G ts → Each Shows es
     commas_shown ts us es (none ts') g = tt
-    commas_shown ts us es (more ts' us' vs' e rest r rs) g =
-        (shows r.middle us' e r.second (keep_one G _ ts r.middle r.value r.first g), commas_shown us' us rest rs (keep_after_comma G _ (keep_expression G n) ts us' e r g))
+    commas_shown ts us es (more ts' us' vs' e rest r rs) g = (
+      shows r.middle us' e r.second (keep_one G _ ts r.middle r.value r.first g),
+      commas_shown us' us rest rs
+          (keep_after_comma G _ (keep_expression G n) ts us' e r g),
+    )
 
     elements_shown : (ts us : List Spot) (es : List Expr) → Or (Elements (Expression n)) (Pure []) ts es us → Each G ts → Each Shows es
     elements_shown ts us es (inl r) g =
@@ -240,7 +252,8 @@ module _ (Good : Piece → Type 0) (goods : Productions.Goods Good) where
       kind = r.value.1;
       key = r.second.value.1;
       is = r.second.second.second.is;
-      shown = shows_inside r.second.value.1 (inside_parens (Expression n) r.middle r.second.middle r.second.value r.second.first (keep_one G _ ts r.middle r.value r.first g));
+      shown = shows_inside r.second.value.1
+          (inside_parens (Expression n) r.middle r.second.middle r.second.value r.second.first (keep_one G _ ts r.middle r.value r.first g));
     }
 
     read_word : (k : Kind) (x : Token) (op : Operation ReadWord) → read_of k x ≡ Some op → read_named k (read_name op.word) ≡ Some op
@@ -259,7 +272,8 @@ module _ (Good : Piece → Type 0) (goods : Productions.Goods Good) where
           let c = r.value in let v = r.second.value in
           let f = unary_fine r.middle r.second.middle v r.second.first (keep_one G _ ts r.middle c r.first g) in
           moved (suc n) place.Unary e (expr c (made.Negative v)) r.second.second.is
-          (closed (suc n) (Negative (Unary n)) (λ xs ys x q. up xs ys x (inl q)) (expr c (made.Negative v)) _ _ (at_negative (expr c (made.Negative v)) v refl) (bared_negative c v)
+          (closed (suc n) (Negative (Unary n)) (λ xs ys x q. up xs ys x (inl q)) (expr c (made.Negative v)) _ _
+          (at_negative (expr c (made.Negative v)) v refl) (bared_negative c v)
           (Productions.negative_back Good goods (Unary n) _ _ (f.here place.Unary (omega arith))))
       opened_fine ts us e (inr (inl r)) g =
           let c = r.value.0 in let v = r.value.1 in
@@ -271,19 +285,22 @@ module _ (Good : Piece → Type 0) (goods : Productions.Goods Good) where
           let c = r.value in let v = r.second.value.1 in
           let b = shows_inside v (inside_parens (Expression n) r.middle r.second.middle r.second.value r.second.first (keep_one G _ ts r.middle c r.first g)) in
           moved (suc n) place.Unary e (expr c (made.Len v)) r.second.second.is
-          (closed (suc n) (Len (Expression n)) (λ xs ys x q. up xs ys x (inr (inr (inl q)))) (expr c (made.Len v)) _ _ (at_len (expr c (made.Len v)) v refl) (bared_len c v)
+          (closed (suc n) (Len (Expression n)) (λ xs ys x q. up xs ys x (inr (inr (inl q)))) (expr c (made.Len v)) _ _
+          (at_len (expr c (made.Len v)) v refl) (bared_len c v)
           (Productions.len_back Good goods (Expression n) _ _ b))
       opened_fine ts us e (inr (inr (inr (inl r)))) g =
           let c = r.value in let v = r.second.value.1 in
           let b = shows_inside v (inside_parens (Expression n) r.middle r.second.middle r.second.value r.second.first (keep_one G _ ts r.middle c r.first g)) in
           moved (suc n) place.Unary e (expr c (made.Str v)) r.second.second.is
-          (closed (suc n) (Str (Expression n)) (λ xs ys x q. up xs ys x (inr (inr (inr (inl q))))) (expr c (made.Str v)) _ _ (at_str (expr c (made.Str v)) v refl) (bared_str c v)
+          (closed (suc n) (Str (Expression n)) (λ xs ys x q. up xs ys x (inr (inr (inr (inl q))))) (expr c (made.Str v)) _ _
+          (at_str (expr c (made.Str v)) v refl) (bared_str c v)
           (Productions.str_back Good goods (Expression n) _ _ b))
       opened_fine ts us e (inr (inr (inr (inr (inl r))))) g =
           let c = r.value in let es = r.second.value in
           let each = elements_shown r.middle r.second.middle es r.second.first (keep_one G _ ts r.middle c r.first g) in
           moved (suc n) place.Unary e (expr c (made.Texts es)) r.second.second.second.is
-          (closed (suc n) (Texts (Expression n)) (λ xs ys x q. up xs ys x (inr (inr (inr (inr (inl q)))))) (expr c (made.Texts es)) _ _ (at_texts (expr c (made.Texts es)) es refl) (bared_texts c es)
+          (closed (suc n) (Texts (Expression n)) (λ xs ys x q. up xs ys x (inr (inr (inr (inr (inl q)))))) (expr c (made.Texts es)) _ _
+          (at_texts (expr c (made.Texts es)) es refl) (bared_texts c es)
           (Productions.texts_back Good goods (Expression n) es each))
       opened_fine ts us e (inr (inr (inr (inr (inr r))))) g = read_fine ts us e r g
         where
@@ -298,10 +315,13 @@ module _ (Good : Piece → Type 0) (goods : Productions.Goods Good) where
               let i = inside_parens (Arguments (Expression n) op.arguments) r.second.middle r.second.second.middle r.second.second.value r.second.second.first
               (keep_one G _ r.middle r.second.middle r.second.value r.second.first behind) in
               let all = arguments_shown op.arguments i.from i.to es i.derived i.good in
-              let is : e ≡ expr aim.column (made.Read aim.kind aim.key op.word es) = r.second.second.second.is ∙ ap (λ (x : Target). read_expr x op.word es) aim.is in
+              let is : e ≡ expr aim.column (made.Read aim.kind aim.key op.word es) = r.second.second.second.is
+              ∙ ap (λ (x : Target). read_expr x op.word es) aim.is in
               moved (suc n) place.Unary e (expr aim.column (made.Read aim.kind aim.key op.word es)) is
-              (closed (suc n) (Read (Expression n)) (λ xs ys x q. up xs ys x (inr (inr (inr (inr (inr q)))))) (expr aim.column (made.Read aim.kind aim.key op.word es)) _ _
-              (at_read (expr aim.column (made.Read aim.kind aim.key op.word es)) aim.kind aim.key op.word es refl) (bared_read aim.column aim.kind aim.key op.word es)
+              (closed (suc n) (Read (Expression n)) (λ xs ys x q. up xs ys x (inr (inr (inr (inr (inr q))))))
+              (expr aim.column (made.Read aim.kind aim.key op.word es)) _ _
+              (at_read (expr aim.column (made.Read aim.kind aim.key op.word es)) aim.kind aim.key op.word es refl)
+              (bared_read aim.column aim.kind aim.key op.word es)
               (Productions.read_back Good goods (Expression n) aim.kind op (expression aim.key) (bare aim.key) es aim.shown found (sym all.length) all.each))
 
   -- ---- chains
@@ -350,7 +370,8 @@ module _ (Good : Piece → Type 0) (goods : Productions.Goods Good) where
     many_operands : (os : List Operand) → Each Joined os
         → Back Good (map bare_operand) (Many (Further r (rule_at n q))) (flat_map further (map shown_operand os)) (map bare_operand os)
     many_operands os h =
-        subst (λ ps. Back Good (map bare_operand) (Many (Further r (rule_at n q))) ps (map bare_operand os)) (sym (Productions.flat-map Good goods shown_operand further os))
+        subst (λ ps. Back Good (map bare_operand) (Many (Further r (rule_at n q))) ps (map bare_operand os))
+        (sym (Productions.flat-map Good goods shown_operand further os))
         (many_back Good bare_operand (Further r (rule_at n q)) (λ a. further (shown_operand a)) os (backs os h))
 
     chain_with : (f : Expr) (os : List Operand) → Fine n q (canon.shown f) (bare f) → Each Joined os
@@ -366,7 +387,8 @@ module _ (Good : Piece → Type 0) (goods : Productions.Goods Good) where
         as_shown n p e (shown_as p ps) (bare e) is refl
         (own n p p ps (bare e) (omega arith)
         (within Good bare (Chain r (rule_at n q)) (rule_at n p) ps (bare e) up
-        (Productions.chain_back Good goods r (rule_at n q) (canon.at q (canon.shown f)) (flat_map further (map shown_operand (o ∷ os))) f (o ∷ os) (b.here q (omega arith)) (many_operands (o ∷ os) h))))
+        (Productions.chain_back Good goods r (rule_at n q) (canon.at q (canon.shown f)) (flat_map further (map shown_operand (o ∷ os))) f (o ∷ os)
+        (b.here q (omega arith)) (many_operands (o ∷ os) h))))
 
     pub chain_fine : AllFine n p (Chain r (rule_at n q))
     chain_fine ts us e x g =
@@ -405,7 +427,8 @@ module _ (Good : Piece → Type 0) (goods : Productions.Goods Good) where
 
   module _ (n : ℕ) (fine : AllFine n place.Sum (rule_at n place.Sum)) (keep : Keeps G (rule_at n place.Sum)) where
     compare_with : (l : Expr) (m : Option (Relation × Expr)) → Fine n place.Sum (canon.shown l) (bare l)
-        → ((x : Relation × Expr) → m ≡ Some x → Fine n place.Sum (canon.shown x.1) (bare x.1)) → Fine n place.Comparison (canon.shown (compared l m)) (bare (compared l m))
+        → ((x : Relation × Expr) → m ≡ Some x → Fine n place.Sum (canon.shown x.1) (bare x.1))
+        → Fine n place.Comparison (canon.shown (compared l m)) (bare (compared l m))
     compare_with l None b h = looser n place.Sum place.Comparison (canon.shown l) (bare l) (omega arith) b
     compare_with l (Some x) b h =
         let e = compared l (Some x) in
@@ -451,7 +474,8 @@ module _ (Good : Piece → Type 0) (goods : Productions.Goods Good) where
 
     disjunction_fine : AllFine n place.Disjunction (Expression n)
     disjunction_fine =
-        chain_fine n rank.Disjunction place.Disjunction place.Conjunction (omega arith) (λ ts us e r. r) or_signs conjunction_fine (keep_chain G rank.Conjunction _ (keep_negation G n))
+        chain_fine n rank.Disjunction place.Disjunction place.Conjunction (omega arith) (λ ts us e r. r) or_signs conjunction_fine
+        (keep_chain G rank.Conjunction _ (keep_negation G n))
 
   -- ---- level by level
 
@@ -477,7 +501,8 @@ module _ (Good : Piece → Type 0) (goods : Productions.Goods Good) where
       moved (suc n) place.Negation e (expr c (made.Not v)) r.second.second.is
       (as_shown (suc n) place.Negation (expr c (made.Not v)) _ _ (at_not (expr c (made.Not v)) v refl) (bared_not c v)
       (own (suc n) place.Negation place.Negation _ _ (omega arith)
-      (within Good bare (Not (Negation n)) (Negation (suc n)) _ _ (λ xs ys x q. inl q) (Productions.not_back Good goods (Negation n) _ _ (f.here place.Negation (omega arith))))))
+      (within Good bare (Not (Negation n)) (Negation (suc n)) _ _ (λ xs ys x q. inl q)
+      (Productions.not_back Good goods (Negation n) _ _ (f.here place.Negation (omega arith))))))
   negation_at n fine others ts us e (inr r) g = others ts us e r g
 
   unary_zero : AllFine zero place.Unary (Unary zero)

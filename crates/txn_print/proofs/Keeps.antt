@@ -134,9 +134,11 @@ module _ (G : Spot → Type 0) where
 
   keep_nesting : (E A : Rule Spot Expr) (S : Rule Spot Stmt) → Keeps E → Keeps A → Keeps S → Keeps (NestingStmt E A S)
   keep_nesting E A S f g h =
-      keep_or _ _ (worded _ _ (λ c. keep_then _ _ f (λ e. keep_then _ _ (keep_block S h) (λ b. mapped _ _ (keep_optional _ (worded _ _ (λ d. keep_block S h)))))))
+      keep_or _ _ (worded _ _
+      (λ c. keep_then _ _ f (λ e. keep_then _ _ (keep_block S h) (λ b. mapped _ _ (keep_optional _ (worded _ _ (λ d. keep_block S h)))))))
       (keep_or _ _ (worded _ _ (λ c. keep_then _ _ (keep_one _) (λ x. worded _ _ (λ i. keep_then _ _ f (λ e. mapped _ _ (keep_block S h))))))
-      (keep_then _ _ (keep_targeted A g) (λ t. keep_then _ _ (keep_one _) (λ o. keep_then _ _ (keep_parens _ (keep_arguments A g o.1.arguments)) (λ as_. worded _ _ (λ s. keep_pure _))))))
+      (keep_then _ _ (keep_targeted A g)
+      (λ t. keep_then _ _ (keep_one _) (λ o. keep_then _ _ (keep_parens _ (keep_arguments A g o.1.arguments)) (λ as_. worded _ _ (λ s. keep_pure _))))))
 
   pub keep_statement : (n : ℕ) → Keeps (Statement n)
   unfolding Statement

@@ -41,7 +41,8 @@ module _ {W : Type 0} (name : W → Bytes) (all : List (Row W)) where
   again_by row rows k n op h others true t f =
       let is : operation row.2 row.3 ≡ op = cc in
       let kind : row.0 ≡ k = same_is row.0 k (both_true _ _ t) in
-      subst (λ (o : Operation W). operation_in all k (name o.word) ≡ Some o) is (subst (λ (x : Kind). operation_in all x (name row.2) ≡ Some (operation row.2 row.3)) kind h)
+      subst (λ (o : Operation W). operation_in all k (name o.word) ≡ Some o) is
+      (subst (λ (x : Kind). operation_in all x (name row.2) ≡ Some (operation row.2 row.3)) kind h)
   again_by row rows k n op h others false t f = others f
 
   again_in : (rows : List (Row W)) (k : Kind) (n : Bytes) (op : Operation W) → Each Again rows → operation_in rows k n ≡ Some op

@@ -120,10 +120,12 @@ module _ (Good : Piece → Type 0) where
         → Back Good e P ps w → Back Good (λ (a : ℕ × A). e a.1) (InParens P) (before ∷ (ps ++ closing s.CloseParen ∷ [])) w
     parens_back {A} {B} e P before ps w g h b =
         let seen : ℕ × A → B = λ a. e a.1 in
-        then_back Good no_column seen (Word s.OpenParen) (λ c. P >>= λ a. Word s.CloseParen >>= λ d. Pure (c, a)) (before ∷ []) (ps ++ closing s.CloseParen ∷ []) tt w
+        then_back Good no_column seen (Word s.OpenParen) (λ c. P >>= λ a. Word s.CloseParen >>= λ d. Pure (c, a)) (before ∷ [])
+        (ps ++ closing s.CloseParen ∷ []) tt w
         (word_back s.OpenParen before g h)
         (λ c i. then_back Good e seen P (λ a. Word s.CloseParen >>= λ d. Pure (c, a)) ps (closing s.CloseParen ∷ []) w w b
-        (λ a j. mapped_back Good no_column seen (Word s.CloseParen) (λ d. (c, a)) (closing s.CloseParen ∷ []) tt w (word_back s.CloseParen (closing s.CloseParen) goods.close_paren refl) (λ d k. j)))
+        (λ a j. mapped_back Good no_column seen (Word s.CloseParen) (λ d. (c, a)) (closing s.CloseParen ∷ []) tt w
+        (word_back s.CloseParen (closing s.CloseParen) goods.close_paren refl) (λ d k. j)))
 
     pub given_back : {A B : Type 0} (e : A → B) (P : Rule Spot A) (ps : List Piece) (w : B) → Back Good e P ps w
         → Back Good (λ (a : ℕ × A). e a.1) (InParens P) (given ps) w
@@ -153,14 +155,16 @@ module _ (Good : Piece → Type 0) where
     len_back E ps w b =
         then_back Good no_column bare (Word s.Len) (λ c. InParens E >>= λ a. Pure (expr c (made.Len a.1))) (word s.Len ∷ []) (given ps) tt _
         (word_back s.Len (word s.Len) (goods.words s.Len) refl)
-        (λ c i. mapped_back Good (λ (a : ℕ × Expr). bare a.1) bare (InParens E) (λ a. expr c (made.Len a.1)) (given ps) w _ (given_back bare E ps w b) (λ a h. bared_len c a.1 ∙ ap (λ x. expr 0 (made.Len x)) h))
+        (λ c i. mapped_back Good (λ (a : ℕ × Expr). bare a.1) bare (InParens E) (λ a. expr c (made.Len a.1)) (given ps) w _
+        (given_back bare E ps w b) (λ a h. bared_len c a.1 ∙ ap (λ x. expr 0 (made.Len x)) h))
 
     pub str_back : (E : Rule Spot Expr) (ps : List Piece) (w : Expr) → Back Good bare E ps w
         → Back Good bare (Str E) (word s.Str ∷ given ps) (expr 0 (made.Str w))
     str_back E ps w b =
         then_back Good no_column bare (Word s.Str) (λ c. InParens E >>= λ a. Pure (expr c (made.Str a.1))) (word s.Str ∷ []) (given ps) tt _
         (word_back s.Str (word s.Str) (goods.words s.Str) refl)
-        (λ c i. mapped_back Good (λ (a : ℕ × Expr). bare a.1) bare (InParens E) (λ a. expr c (made.Str a.1)) (given ps) w _ (given_back bare E ps w b) (λ a h. bared_str c a.1 ∙ ap (λ x. expr 0 (made.Str x)) h))
+        (λ c i. mapped_back Good (λ (a : ℕ × Expr). bare a.1) bare (InParens E) (λ a. expr c (made.Str a.1)) (given ps) w _
+        (given_back bare E ps w b) (λ a h. bared_str c a.1 ∙ ap (λ x. expr 0 (made.Str x)) h))
 
     -- ---- comparisons
 
@@ -178,7 +182,8 @@ module _ (Good : Piece → Type 0) where
         then_back Good bare bare S (λ a. Optional (OtherSide S) >>= λ m. Pure (compared a m)) ls (word (comparison r) ∷ rs) l _ b
         (λ a h. mapped_back Good (option_map bare_side) bare (Optional (OtherSide S)) (λ m. compared a m) (word (comparison r) ∷ rs) (Some (r, w)) _
         (within Good (option_map bare_side) (OtherSide S >>= λ x. Pure (Some x)) (Optional (OtherSide S)) _ _ (λ ts us x y. inl y)
-        (mapped_back Good bare_side (option_map bare_side) (OtherSide S) (λ x. Some x) (word (comparison r) ∷ rs) (r, w) (Some (r, w)) side (λ x i. ap (λ y. Some y) i)))
+        (mapped_back Good bare_side (option_map bare_side) (OtherSide S) (λ x. Some x) (word (comparison r) ∷ rs) (r, w) (Some (r, w)) side
+        (λ x i. ap (λ y. Some y) i)))
         (λ m i. both a m h i))
       where
         side : Back Good bare_side (OtherSide S) (word (comparison r) ∷ rs) (r, w)
@@ -216,7 +221,8 @@ module _ (Good : Piece → Type 0) where
         (λ x i. mapped_back Good bare bare_operand P (λ v. operand x.1 v) ps (bare e) _ b (λ v j. ap (λ y. operand y (bare v)) i ∙ ap (λ y. operand o y) j))
 
     pub chain_back : (r : Rank) (P : Rule Spot Expr) (fs rs : List Piece) (f : Expr) (os : List Operand)
-        → Back Good bare P fs (bare f) → Back Good (map bare_operand) (Many (Further r P)) rs (map bare_operand os) → Back Good bare (Chain r P) (fs ++ rs) (bare (chained (f, os)))
+        → Back Good bare P fs (bare f) → Back Good (map bare_operand) (Many (Further r P)) rs (map bare_operand os)
+        → Back Good bare (Chain r P) (fs ++ rs) (bare (chained (f, os)))
     chain_back r P fs rs f os b m =
         mapped_back Good bare_list bare (ListOf P (Further r P)) chained (fs ++ rs) (bare f, map bare_operand os) _
         (then_back Good bare bare_list P (λ a. Many (Further r P) >>= λ rest. Pure (a, rest)) fs rs (bare f) _ b
@@ -239,7 +245,8 @@ module _ (Good : Piece → Type 0) where
         then_back Good bare (map bare) (AfterComma E) (λ a. Times (AfterComma E) (length es) >>= λ rest. Pure (a ∷ rest))
         (after_comma (expression e)) (flat_map after_comma (map expression es)) (bare e) (map bare (e ∷ es))
         (comma_back E (expression e) (bare e) h.0)
-        (λ a i. mapped_back Good (map bare) (map bare) (Times (AfterComma E) (length es)) (λ rest. a ∷ rest) (flat_map after_comma (map expression es)) (map bare es) _
+        (λ a i. mapped_back Good (map bare) (map bare) (Times (AfterComma E) (length es)) (λ rest. a ∷ rest)
+        (flat_map after_comma (map expression es)) (map bare es) _
         (times_back E es h.1) (λ rest j. ap (λ x. x ∷ map bare rest) i ∙ ap (λ xs. bare e ∷ xs) j))
 
     -- as many arguments as there are
@@ -249,7 +256,8 @@ module _ (Good : Piece → Type 0) where
     arguments_back E (e ∷ es) h =
         then_back Good bare (map bare) E (λ a. Times (AfterComma E) (length es) >>= λ rest. Pure (a ∷ rest))
         (expression e) (flat_map after_comma (map expression es)) (bare e) (map bare (e ∷ es)) h.0
-        (λ a i. mapped_back Good (map bare) (map bare) (Times (AfterComma E) (length es)) (λ rest. a ∷ rest) (flat_map after_comma (map expression es)) (map bare es) _
+        (λ a i. mapped_back Good (map bare) (map bare) (Times (AfterComma E) (length es)) (λ rest. a ∷ rest)
+        (flat_map after_comma (map expression es)) (map bare es) _
         (times_back E es h.1) (λ rest j. ap (λ x. x ∷ map bare rest) i ∙ ap (λ xs. bare e ∷ xs) j))
 
     commas_back : (E : Rule Spot Expr) (es : List Expr) → Each (λ e. Back Good bare E (expression e) (bare e)) es
@@ -267,7 +275,8 @@ module _ (Good : Piece → Type 0) where
     elements_back E e es h =
         let seen : Expr × List Expr → Expr × List Expr = λ l. (bare l.0, map bare l.1) in
         mapped_back Good seen (map bare) (ListOf E (AfterComma E)) (λ l. l.0 ∷ l.1) (separated (map expression (e ∷ es))) (bare e, map bare es) _
-        (then_back Good bare seen E (λ a. Many (AfterComma E) >>= λ rest. Pure (a, rest)) (expression e) (flat_map after_comma (map expression es)) (bare e) _ h.0
+        (then_back Good bare seen E (λ a. Many (AfterComma E) >>= λ rest. Pure (a, rest)) (expression e) (flat_map after_comma (map expression es))
+        (bare e) _ h.0
         (λ a i. mapped_back Good (map bare) seen (Many (AfterComma E)) (λ rest. (a, rest)) (flat_map after_comma (map expression es)) (map bare es) _
         (subst (λ ps. Back Good (map bare) (Many (AfterComma E)) ps (map bare es)) (sym (flat-map expression after_comma es))
         (many_back Good bare (AfterComma E) (λ x. after_comma (expression x)) es (commas_back E es h.1)))
@@ -288,7 +297,8 @@ module _ (Good : Piece → Type 0) where
         then_back Good no_column bare (Word s.OpenBracket) (λ c. Or (Elements E) (Pure []) >>= λ xs. Word s.CloseBracket >>= λ d. Pure (expr c (made.Texts xs)))
         (opening s.OpenBracket ∷ []) (separated (map expression es) ++ closing s.CloseBracket ∷ []) tt _
         (word_back s.OpenBracket (opening s.OpenBracket) goods.open_bracket refl)
-        (λ c i. then_back Good (map bare) bare (Or (Elements E) (Pure [])) (λ xs. Word s.CloseBracket >>= λ d. Pure (expr c (made.Texts xs))) (separated (map expression es)) (closing s.CloseBracket ∷ []) (map bare es) _
+        (λ c i. then_back Good (map bare) bare (Or (Elements E) (Pure [])) (λ xs. Word s.CloseBracket >>= λ d. Pure (expr c (made.Texts xs)))
+        (separated (map expression es)) (closing s.CloseBracket ∷ []) (map bare es) _
         (inside_back E es h)
         (λ xs j. mapped_back Good no_column bare (Word s.CloseBracket) (λ d. expr c (made.Texts xs)) (closing s.CloseBracket ∷ []) tt _
         (word_back s.CloseBracket (closing s.CloseBracket) goods.close_bracket refl) (λ d k. bared_texts c xs ∙ ap (λ ys. expr 0 (made.Texts ys)) j)))
@@ -306,34 +316,47 @@ module _ (Good : Piece → Type 0) where
     pub targeted_back : (E : Rule Spot Expr) (k : Kind) (ps : List Piece) (w : Expr) → Back Good bare E ps w
         → Back Good bare_target (Targeted E) (target k ps) (k, w)
     targeted_back E k ps w b =
-        then_back Good value_of bare_target (One (at (of_symbol kind_of))) (λ x. InParens E >>= λ key. Word s.Dot >>= λ d. Pure (target_of x key.1)) (word (kind_symbol k) ∷ []) (given ps ++ joining s.Dot ∷ []) k _
+        then_back Good value_of bare_target (One (at (of_symbol kind_of))) (λ x. InParens E >>= λ key. Word s.Dot >>= λ d. Pure (target_of x key.1))
+        (word (kind_symbol k) ∷ []) (given ps ++ joining s.Dot ∷ []) k _
         (at_back (of_symbol kind_of) (word (kind_symbol k)) k (goods.words (kind_symbol k)) (kind-symbol k))
-        (λ x i. then_back Good (λ (a : ℕ × Expr). bare a.1) bare_target (InParens E) (λ key. Word s.Dot >>= λ d. Pure (target_of x key.1)) (given ps) (joining s.Dot ∷ []) w _
+        (λ x i. then_back Good (λ (a : ℕ × Expr). bare a.1) bare_target (InParens E) (λ key. Word s.Dot >>= λ d. Pure (target_of x key.1)) (given ps)
+        (joining s.Dot ∷ []) w _
         (given_back bare E ps w b)
-        (λ key j. mapped_back Good no_column bare_target (Word s.Dot) (λ d. target_of x key.1) (joining s.Dot ∷ []) tt _ (word_back s.Dot (joining s.Dot) goods.dot refl)
+        (λ key j. mapped_back Good no_column bare_target (Word s.Dot) (λ d. target_of x key.1) (joining s.Dot ∷ []) tt _
+        (word_back s.Dot (joining s.Dot) goods.dot refl)
         (λ d m. ap (λ y. (y, bare key.1)) i ∙ ap (λ y. (k, y)) j)))
 
     -- the word of an operation, as many arguments as it takes, and what follows
-    pub request_then : {W A B : Type 0} (find : Kind → Token → Option (Operation W)) (k : Kind) (op : Operation W) (n : Bytes) (E : Rule Spot Expr) (es : List Expr)
+    pub request_then : {W A B : Type 0} (find : Kind → Token → Option (Operation W)) (k : Kind) (op : Operation W) (n : Bytes) (E : Rule Spot Expr)
+        (es : List Expr)
         → Good (spaced (t.Name n)) → find k (t.Name n) ≡ Some op → op.arguments ≡ length es → Each (λ e. Back Good bare E (expression e) (bare e)) es
-        → (e : A → B) (K : Operation W → List Expr → Rule Spot A) (qs : List Piece) (w : B) → ((as_ : List Expr) → map bare as_ ≡ map bare es → Back Good e (K op as_) qs w)
+        → (e : A → B) (K : Operation W → List Expr → Rule Spot A) (qs : List Piece) (w : B)
+        → ((as_ : List Expr) → map bare as_ ≡ map bare es → Back Good e (K op as_) qs w)
         → Back Good e (One (at (find k)) >>= λ x. InParens (Arguments E x.1.arguments) >>= λ as_. K x.1 as_.1) (request n (map expression es) ++ qs) w
     request_then {W} find k op n E es g h count each e K qs w same =
-        then_back Good value_of e (One (at (find k))) (λ x. InParens (Arguments E x.1.arguments) >>= λ as_. K x.1 as_.1) (spaced (t.Name n) ∷ []) (given (separated (map expression es)) ++ qs) op w
+        then_back Good value_of e (One (at (find k))) (λ x. InParens (Arguments E x.1.arguments) >>= λ as_. K x.1 as_.1) (spaced (t.Name n) ∷ [])
+        (given (separated (map expression es)) ++ qs) op w
         (at_back (find k) (spaced (t.Name n)) op g h)
-        (λ x i. subst (λ (o : Operation W). Back Good e (InParens (Arguments E o.arguments) >>= λ as_. K o as_.1) (given (separated (map expression es)) ++ qs) w) (sym i)
-        (then_back Good (λ (a : ℕ × List Expr). map bare a.1) e (InParens (Arguments E op.arguments)) (λ as_. K op as_.1) (given (separated (map expression es))) qs (map bare es) w
+        (λ x i. subst (λ (o : Operation W). Back Good e (InParens (Arguments E o.arguments) >>= λ as_. K o as_.1)
+        (given (separated (map expression es)) ++ qs) w) (sym i)
+        (then_back Good (λ (a : ℕ × List Expr). map bare a.1) e (InParens (Arguments E op.arguments)) (λ as_. K op as_.1)
+        (given (separated (map expression es))) qs (map bare es) w
         (given_back (map bare) (Arguments E op.arguments) (separated (map expression es)) (map bare es)
         (subst (λ m. Back Good (map bare) (Arguments E m) (separated (map expression es)) (map bare es)) (sym count) (arguments_back E es each)))
         (λ a j. same a.1 j)))
 
     pub read_back : (E : Rule Spot Expr) (k : Kind) (op : Operation ReadWord) (ps : List Piece) (w : Expr) (es : List Expr)
-        → Back Good bare E ps w → read_named k (read_name op.word) ≡ Some op → op.arguments ≡ length es → Each (λ e. Back Good bare E (expression e) (bare e)) es
+        → Back Good bare E ps w → read_named k (read_name op.word) ≡ Some op → op.arguments ≡ length es
+        → Each (λ e. Back Good bare E (expression e) (bare e)) es
         → Back Good bare (Read E) (target k ps ++ request (read_name op.word) (map expression es)) (expr 0 (made.Read k w op.word (map bare es)))
     read_back E k op ps w es b h count each =
-        subst (λ qs. Back Good bare (Read E) (target k ps ++ qs) (expr 0 (made.Read k w op.word (map bare es)))) (append-nil (request (read_name op.word) (map expression es)))
-        (then_back Good bare_target bare (Targeted E) (λ x. One (at (read_of x.kind)) >>= λ o. InParens (Arguments E o.1.arguments) >>= λ as_. Pure (read_expr x o.1.word as_.1))
+        subst (λ qs. Back Good bare (Read E) (target k ps ++ qs) (expr 0 (made.Read k w op.word (map bare es))))
+        (append-nil (request (read_name op.word) (map expression es)))
+        (then_back Good bare_target bare (Targeted E)
+        (λ x. One (at (read_of x.kind)) >>= λ o. InParens (Arguments E o.1.arguments) >>= λ as_. Pure (read_expr x o.1.word as_.1))
         (target k ps) (request (read_name op.word) (map expression es) ++ []) (k, w) _ (targeted_back E k ps w b)
         (λ x i. request_then read_of x.kind op (read_name op.word) E es (goods.reads op.word) (ap (λ y. read_named y.0 (read_name op.word)) i ∙ h) count each
         bare (λ o as_. Pure (read_expr x o.word as_)) [] _
-        (λ as_ j. pure_back Good bare (read_expr x op.word as_) _ (bared_read x.column x.kind x.key op.word as_ ∙ ap (λ (y : Kind × Expr). expr 0 (made.Read y.0 y.1 op.word (map bare as_))) i ∙ ap (λ ys. expr 0 (made.Read k w op.word ys)) j))))
+        (λ as_ j. pure_back Good bare (read_expr x op.word as_) _
+        (bared_read x.column x.kind x.key op.word as_ ∙ ap (λ (y : Kind × Expr). expr 0 (made.Read y.0 y.1 op.word (map bare as_))) i
+        ∙ ap (λ ys. expr 0 (made.Read k w op.word ys)) j))))

@@ -70,7 +70,8 @@ word_cut : (b : ℕ) (w z : Bytes) → is_letter b ≡ true → AllPass is_word 
 unfolding token_at word_at
 word_cut b w z e all h =
     let len = prefix_len-front is_word (b ∷ w) z all (word_ends z h) in
-    ap (λ t. cond t (word_at (b ∷ (w ++ z))) (cond (is_digit b) (number_at (b ∷ (w ++ z))) (cond (b == 34) (text_at (b ∷ (w ++ z))) (mark_at (b ∷ (w ++ z)))))) e
+    ap (λ t. cond t (word_at (b ∷ (w ++ z)))
+    (cond (is_digit b) (number_at (b ∷ (w ++ z))) (cond (b == 34) (text_at (b ∷ (w ++ z))) (mark_at (b ∷ (w ++ z)))))) e
     ∙ ap (λ n. lexeme (word_token (take n (b ∷ (w ++ z)))) n) len
     ∙ ap (λ xs. lexeme (word_token xs) (suc (length w))) (take-append_seam (b ∷ w) z)
 
@@ -145,11 +146,14 @@ word_symbol s.Unequal = two_bytes s.Unequal 33 61 refl refl (λ z. refl) refl
 word_symbol s.AtMost = two_bytes s.AtMost 60 61 refl refl (λ z. refl) refl
 word_symbol s.AtLeast = two_bytes s.AtLeast 62 61 refl refl (λ z. refl) refl
 word_symbol s.Less =
-    one_byte s.Less true true 60 refl refl (λ e. absurd (cc)) (λ z. refl) refl (λ d h. by_gap (λ x. mark (60 ∷ x ∷ []) ≡ None) refl refl refl refl refl refl refl d (h refl))
+    one_byte s.Less true true 60 refl refl (λ e. absurd (cc)) (λ z. refl) refl
+    (λ d h. by_gap (λ x. mark (60 ∷ x ∷ []) ≡ None) refl refl refl refl refl refl refl d (h refl))
 word_symbol s.Greater =
-    one_byte s.Greater true true 62 refl refl (λ e. absurd (cc)) (λ z. refl) refl (λ d h. by_gap (λ x. mark (62 ∷ x ∷ []) ≡ None) refl refl refl refl refl refl refl d (h refl))
+    one_byte s.Greater true true 62 refl refl (λ e. absurd (cc)) (λ z. refl) refl
+    (λ d h. by_gap (λ x. mark (62 ∷ x ∷ []) ≡ None) refl refl refl refl refl refl refl d (h refl))
 word_symbol s.Assign =
-    one_byte s.Assign true true 61 refl refl (λ e. absurd (cc)) (λ z. refl) refl (λ d h. by_gap (λ x. mark (61 ∷ x ∷ []) ≡ None) refl refl refl refl refl refl refl d (h refl))
+    one_byte s.Assign true true 61 refl refl (λ e. absurd (cc)) (λ z. refl) refl
+    (λ d h. by_gap (λ x. mark (61 ∷ x ∷ []) ≡ None) refl refl refl refl refl refl refl d (h refl))
 word_symbol s.Plus = one_byte s.Plus true true 43 refl refl (λ e. absurd (cc)) (λ z. refl) refl (λ d h. refl)
 word_symbol s.Minus = one_byte s.Minus true true 45 refl refl (λ e. absurd (cc)) (λ z. refl) refl (λ d h. refl)
 word_symbol s.Times = one_byte s.Times true true 42 refl refl (λ e. absurd (cc)) (λ z. refl) refl (λ d h. refl)
@@ -379,7 +383,8 @@ abbrev pub Source : Spot → Type 0
 Source spot = is_malformed spot.token ≡ false → Good (spaced spot.token)
 
 lex_step : (column b : ℕ) (z : Bytes) (blank bad : Bool) → ((left c : ℕ) → Each Source (lex_from c left z))
-    → Each Source (cond blank (lex_from (column + 1) 0 z) (spot column (token_at (b ∷ z)).token ∷ cond bad [] (lex_from (column + 1) ((token_at (b ∷ z)).len - 1) z)))
+    → Each Source (cond blank (lex_from (column + 1) 0 z)
+    (spot column (token_at (b ∷ z)).token ∷ cond bad [] (lex_from (column + 1) ((token_at (b ∷ z)).len - 1) z)))
 lex_step column b z true bad h = h 0 (column + 1)
 lex_step column b z false true h = (token_good b z, tt)
 lex_step column b z false false h = (token_good b z, h ((token_at (b ∷ z)).len - 1) (column + 1))

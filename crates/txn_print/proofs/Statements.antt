@@ -50,25 +50,30 @@ module _ (Good : Piece → Type 0) (goods : Goods Good) where
   let_back : (E : Rule Spot Expr) (n : Bytes) (ps : List Piece) (w : Expr) → Good (spaced (t.Name n)) → Back Good bare E ps w
       → Back Good bare_stmt (LetStmt E) (word s.Let ∷ spaced (t.Name n) ∷ word s.Assign ∷ ended ps) (stmt_at 0 (stmt.Let n w))
   let_back E n ps w g b =
-      then_back Good no_column bare_stmt (Word s.Let) (λ c. One (at name) >>= λ x. Word s.Assign >>= λ a. E >>= λ e. Word s.Semicolon >>= λ d. Pure (stmt_at c (stmt.Let x.1 e)))
+      then_back Good no_column bare_stmt (Word s.Let)
+      (λ c. One (at name) >>= λ x. Word s.Assign >>= λ a. E >>= λ e. Word s.Semicolon >>= λ d. Pure (stmt_at c (stmt.Let x.1 e)))
       (word s.Let ∷ []) (spaced (t.Name n) ∷ word s.Assign ∷ ended ps) tt _ (word_back Good s.Let (word s.Let) (goods.words s.Let) refl)
-      (λ c i. then_back Good value_of bare_stmt (One (at name)) (λ x. Word s.Assign >>= λ a. E >>= λ e. Word s.Semicolon >>= λ d. Pure (stmt_at c (stmt.Let x.1 e)))
+      (λ c i. then_back Good value_of bare_stmt (One (at name))
+      (λ x. Word s.Assign >>= λ a. E >>= λ e. Word s.Semicolon >>= λ d. Pure (stmt_at c (stmt.Let x.1 e)))
       (spaced (t.Name n) ∷ []) (word s.Assign ∷ ended ps) n _ (at_back Good name (spaced (t.Name n)) n g refl)
       (λ x j. then_back Good no_column bare_stmt (Word s.Assign) (λ a. E >>= λ e. Word s.Semicolon >>= λ d. Pure (stmt_at c (stmt.Let x.1 e)))
       (word s.Assign ∷ []) (ended ps) tt _ (word_back Good s.Assign (word s.Assign) (goods.words s.Assign) refl)
-      (λ a k. ended_back E (λ e. stmt_at c (stmt.Let x.1 e)) ps w _ b (λ e h. bared_let c x.1 e ∙ ap (λ y. stmt_at 0 (stmt.Let y (bare e))) j ∙ ap (λ y. stmt_at 0 (stmt.Let n y)) h))))
+      (λ a k. ended_back E (λ e. stmt_at c (stmt.Let x.1 e)) ps w _ b
+      (λ e h. bared_let c x.1 e ∙ ap (λ y. stmt_at 0 (stmt.Let y (bare e))) j ∙ ap (λ y. stmt_at 0 (stmt.Let n y)) h))))
 
   emit_back : (E : Rule Spot Expr) (ps : List Piece) (w : Expr) → Back Good bare E ps w
       → Back Good bare_stmt (EmitStmt E) (word s.Emit ∷ ended ps) (stmt_at 0 (stmt.Emit w))
   emit_back E ps w b =
-      then_back Good no_column bare_stmt (Word s.Emit) (λ c. E >>= λ e. Word s.Semicolon >>= λ d. Pure (stmt_at c (stmt.Emit e))) (word s.Emit ∷ []) (ended ps) tt _
+      then_back Good no_column bare_stmt (Word s.Emit) (λ c. E >>= λ e. Word s.Semicolon >>= λ d. Pure (stmt_at c (stmt.Emit e))) (word s.Emit ∷ [])
+      (ended ps) tt _
       (word_back Good s.Emit (word s.Emit) (goods.words s.Emit) refl)
       (λ c i. ended_back E (λ e. stmt_at c (stmt.Emit e)) ps w _ b (λ e h. bared_emit c e ∙ ap (λ y. stmt_at 0 (stmt.Emit y)) h))
 
   fail_back : (E : Rule Spot Expr) (ps : List Piece) (w : Expr) → Back Good bare E ps w
       → Back Good bare_stmt (FailStmt E) (word s.Fail ∷ ended ps) (stmt_at 0 (stmt.Fail w))
   fail_back E ps w b =
-      then_back Good no_column bare_stmt (Word s.Fail) (λ c. E >>= λ e. Word s.Semicolon >>= λ d. Pure (stmt_at c (stmt.Fail e))) (word s.Fail ∷ []) (ended ps) tt _
+      then_back Good no_column bare_stmt (Word s.Fail) (λ c. E >>= λ e. Word s.Semicolon >>= λ d. Pure (stmt_at c (stmt.Fail e))) (word s.Fail ∷ [])
+      (ended ps) tt _
       (word_back Good s.Fail (word s.Fail) (goods.words s.Fail) refl)
       (λ c i. ended_back E (λ e. stmt_at c (stmt.Fail e)) ps w _ b (λ e h. bared_fail c e ∙ ap (λ y. stmt_at 0 (stmt.Fail y)) h))
 
@@ -80,10 +85,13 @@ module _ (Good : Piece → Type 0) (goods : Goods Good) where
       → Back Good (map bare_stmt) (Block S) (block (map shown_stmt ss)) (map bare_stmt ss)
   block_back S ss h =
       let ps = flat_map (λ (p : List Piece). p) (map shown_stmt ss) in
-      then_back Good no_column (map bare_stmt) (Word s.OpenBrace) (λ c. Many S >>= λ xs. Word s.CloseBrace >>= λ d. Pure xs) (word s.OpenBrace ∷ []) (ps ++ word s.CloseBrace ∷ []) tt _
+      then_back Good no_column (map bare_stmt) (Word s.OpenBrace) (λ c. Many S >>= λ xs. Word s.CloseBrace >>= λ d. Pure xs) (word s.OpenBrace ∷ [])
+      (ps ++ word s.CloseBrace ∷ []) tt _
       (word_back Good s.OpenBrace (word s.OpenBrace) (goods.words s.OpenBrace) refl)
-      (λ c i. then_back Good (map bare_stmt) (map bare_stmt) (Many S) (λ xs. Word s.CloseBrace >>= λ d. Pure xs) ps (word s.CloseBrace ∷ []) (map bare_stmt ss) _
-      (subst (λ qs. Back Good (map bare_stmt) (Many S) qs (map bare_stmt ss)) (sym (flat-map Good goods shown_stmt (λ (p : List Piece). p) ss)) (many_back Good bare_stmt S shown_stmt ss h))
+      (λ c i. then_back Good (map bare_stmt) (map bare_stmt) (Many S) (λ xs. Word s.CloseBrace >>= λ d. Pure xs) ps (word s.CloseBrace ∷ [])
+      (map bare_stmt ss) _
+      (subst (λ qs. Back Good (map bare_stmt) (Many S) qs (map bare_stmt ss)) (sym (flat-map Good goods shown_stmt (λ (p : List Piece). p) ss))
+      (many_back Good bare_stmt S shown_stmt ss h))
       (λ xs j. mapped_back Good no_column (map bare_stmt) (Word s.CloseBrace) (λ d. xs) (word s.CloseBrace ∷ []) tt _
       (word_back Good s.CloseBrace (word s.CloseBrace) (goods.words s.CloseBrace) refl) (λ d k. j)))
 
@@ -95,7 +103,8 @@ module _ (Good : Piece → Type 0) (goods : Goods Good) where
   otherwise_back : (S : Rule Spot Stmt) (other : Option (List Stmt)) → ReadsOther S other
       → Back Good (option_map (map bare_stmt)) (Optional (Otherwise S)) (otherwise (option_map (map shown_stmt) other)) (option_map (map bare_stmt) other)
   otherwise_back S None h =
-      within Good (option_map (map bare_stmt)) (Pure None) (Optional (Otherwise S)) [] None (λ ts us a x. inr x) (pure_back Good (option_map (map bare_stmt)) None None refl)
+      within Good (option_map (map bare_stmt)) (Pure None) (Optional (Otherwise S)) [] None (λ ts us a x. inr x)
+      (pure_back Good (option_map (map bare_stmt)) None None refl)
   otherwise_back S (Some ss) h =
       within Good (option_map (map bare_stmt)) (Otherwise S >>= λ x. Pure (Some x)) (Optional (Otherwise S)) _ _ (λ ts us a x. inl x)
       (mapped_back Good (map bare_stmt) (option_map (map bare_stmt)) (Otherwise S) (λ x. Some x) (word s.Else ∷ block (map shown_stmt ss)) (map bare_stmt ss) _
@@ -105,15 +114,19 @@ module _ (Good : Piece → Type 0) (goods : Goods Good) where
 
   if_back : (E : Rule Spot Expr) (S : Rule Spot Stmt) (ps : List Piece) (w : Expr) (ss : List Stmt) (other : Option (List Stmt))
       → Back Good bare E ps w → Reads S ss → ReadsOther S other
-      → Back Good bare_stmt (IfStmt E S) (word s.If ∷ (ps ++ (block (map shown_stmt ss) ++ otherwise (option_map (map shown_stmt) other)))) (stmt_at 0 (stmt.If w (map bare_stmt ss) (option_map (map bare_stmt) other)))
+      → Back Good bare_stmt (IfStmt E S) (word s.If ∷ (ps ++ (block (map shown_stmt ss) ++ otherwise (option_map (map shown_stmt) other))))
+      (stmt_at 0 (stmt.If w (map bare_stmt ss) (option_map (map bare_stmt) other)))
   if_back E S ps w ss other b h k =
       let qs = block (map shown_stmt ss) in
       let rs = otherwise (option_map (map shown_stmt) other) in
-      then_back Good no_column bare_stmt (Word s.If) (λ c. E >>= λ e. Block S >>= λ xs. Optional (Otherwise S) >>= λ m. Pure (stmt_at c (stmt.If e xs m))) (word s.If ∷ []) (ps ++ (qs ++ rs)) tt _
+      then_back Good no_column bare_stmt (Word s.If)
+      (λ c. E >>= λ e. Block S >>= λ xs. Optional (Otherwise S) >>= λ m. Pure (stmt_at c (stmt.If e xs m))) (word s.If ∷ []) (ps ++ (qs ++ rs)) tt _
       (word_back Good s.If (word s.If) (goods.words s.If) refl)
       (λ c i. then_back Good bare bare_stmt E (λ e. Block S >>= λ xs. Optional (Otherwise S) >>= λ m. Pure (stmt_at c (stmt.If e xs m))) ps (qs ++ rs) w _ b
-      (λ e j. then_back Good (map bare_stmt) bare_stmt (Block S) (λ xs. Optional (Otherwise S) >>= λ m. Pure (stmt_at c (stmt.If e xs m))) qs rs (map bare_stmt ss) _ (block_back S ss h)
-      (λ xs l. mapped_back Good (option_map (map bare_stmt)) bare_stmt (Optional (Otherwise S)) (λ m. stmt_at c (stmt.If e xs m)) rs (option_map (map bare_stmt) other) _ (otherwise_back S other k)
+      (λ e j. then_back Good (map bare_stmt) bare_stmt (Block S) (λ xs. Optional (Otherwise S) >>= λ m. Pure (stmt_at c (stmt.If e xs m))) qs rs
+      (map bare_stmt ss) _ (block_back S ss h)
+      (λ xs l. mapped_back Good (option_map (map bare_stmt)) bare_stmt (Optional (Otherwise S)) (λ m. stmt_at c (stmt.If e xs m)) rs
+      (option_map (map bare_stmt) other) _ (otherwise_back S other k)
       (λ m q. bared_if c e xs m
       ∙ ap (λ y. stmt_at 0 (stmt.If y (map bare_stmt xs) (option_map (map bare_stmt) m))) j
       ∙ ap (λ y. stmt_at 0 (stmt.If w y (option_map (map bare_stmt) m))) l
@@ -121,10 +134,12 @@ module _ (Good : Piece → Type 0) (goods : Goods Good) where
 
   for_back : (E : Rule Spot Expr) (S : Rule Spot Stmt) (n : Bytes) (ps : List Piece) (w : Expr) (ss : List Stmt) → Good (spaced (t.Name n))
       → Back Good bare E ps w → Reads S ss
-      → Back Good bare_stmt (ForStmt E S) (word s.For ∷ spaced (t.Name n) ∷ word s.In ∷ (ps ++ block (map shown_stmt ss))) (stmt_at 0 (stmt.For n w (map bare_stmt ss)))
+      → Back Good bare_stmt (ForStmt E S) (word s.For ∷ spaced (t.Name n) ∷ word s.In ∷ (ps ++ block (map shown_stmt ss)))
+      (stmt_at 0 (stmt.For n w (map bare_stmt ss)))
   for_back E S n ps w ss g b h =
       let qs = block (map shown_stmt ss) in
-      then_back Good no_column bare_stmt (Word s.For) (λ c. One (at name) >>= λ x. Word s.In >>= λ a. E >>= λ e. Block S >>= λ xs. Pure (stmt_at c (stmt.For x.1 e xs)))
+      then_back Good no_column bare_stmt (Word s.For)
+      (λ c. One (at name) >>= λ x. Word s.In >>= λ a. E >>= λ e. Block S >>= λ xs. Pure (stmt_at c (stmt.For x.1 e xs)))
       (word s.For ∷ []) (spaced (t.Name n) ∷ word s.In ∷ (ps ++ qs)) tt _ (word_back Good s.For (word s.For) (goods.words s.For) refl)
       (λ c i. then_back Good value_of bare_stmt (One (at name)) (λ x. Word s.In >>= λ a. E >>= λ e. Block S >>= λ xs. Pure (stmt_at c (stmt.For x.1 e xs)))
       (spaced (t.Name n) ∷ []) (word s.In ∷ (ps ++ qs)) n _ (at_back Good name (spaced (t.Name n)) n g refl)
@@ -138,19 +153,23 @@ module _ (Good : Piece → Type 0) (goods : Goods Good) where
       ∙ ap (λ y. stmt_at 0 (stmt.For n w y)) q)))))
 
   write_back : (E : Rule Spot Expr) (k : Kind) (op : Operation WriteWord) (ps : List Piece) (w : Expr) (es : List Expr)
-      → Back Good bare E ps w → write_named k (write_name op.word) ≡ Some op → op.arguments ≡ length es → Each (λ e. Back Good bare E (expression e) (bare e)) es
+      → Back Good bare E ps w → write_named k (write_name op.word) ≡ Some op → op.arguments ≡ length es
+      → Each (λ e. Back Good bare E (expression e) (bare e)) es
       → Back Good bare_stmt (WriteStmt E) (ended (operation k ps (write_name op.word) (map expression es))) (stmt_at 0 (stmt.Write k w op.word (map bare es)))
   write_back E k op ps w es b h count each =
       let rs = request (write_name op.word) (map expression es) in
-      subst (λ qs. Back Good bare_stmt (WriteStmt E) qs (stmt_at 0 (stmt.Write k w op.word (map bare es)))) (sym (append_assoc (target k ps) rs (closing s.Semicolon ∷ [])))
+      subst (λ qs. Back Good bare_stmt (WriteStmt E) qs (stmt_at 0 (stmt.Write k w op.word (map bare es))))
+      (sym (append_assoc (target k ps) rs (closing s.Semicolon ∷ [])))
       (then_back Good bare_target bare_stmt (Targeted E)
       (λ x. One (at (write_of x.kind)) >>= λ o. InParens (Arguments E o.1.arguments) >>= λ as_. Word s.Semicolon >>= λ d. Pure (write_stmt x o.1.word as_.1))
       (target k ps) (rs ++ closing s.Semicolon ∷ []) (k, w) _ (targeted_back Good goods E k ps w b)
-      (λ x i. request_then Good goods write_of x.kind op (write_name op.word) E es (goods.writes op.word) (ap (λ y. write_named y.0 (write_name op.word)) i ∙ h) count each
+      (λ x i. request_then Good goods write_of x.kind op (write_name op.word) E es (goods.writes op.word)
+      (ap (λ y. write_named y.0 (write_name op.word)) i ∙ h) count each
       bare_stmt (λ o as_. Word s.Semicolon >>= λ d. Pure (write_stmt x o.word as_)) (closing s.Semicolon ∷ []) _
       (λ as_ j. mapped_back Good no_column bare_stmt (Word s.Semicolon) (λ d. write_stmt x op.word as_) (closing s.Semicolon ∷ []) tt _
       (word_back Good s.Semicolon (closing s.Semicolon) goods.semicolon refl)
-      (λ d q. bared_write x.column x.kind x.key op.word as_ ∙ ap (λ (y : Kind × Expr). stmt_at 0 (stmt.Write y.0 y.1 op.word (map bare as_))) i ∙ ap (λ ys. stmt_at 0 (stmt.Write k w op.word ys)) j))))
+      (λ d q. bared_write x.column x.kind x.key op.word as_ ∙ ap (λ (y : Kind × Expr). stmt_at 0 (stmt.Write y.0 y.1 op.word (map bare as_))) i
+      ∙ ap (λ ys. stmt_at 0 (stmt.Write k w op.word ys)) j))))
 
   -- ---- what the grammar derives
 
@@ -171,8 +190,10 @@ module _ (Good : Piece → Type 0) (goods : Goods Good) where
       let named = keep_one G _ ts r.middle c r.first g in
       let a = r.second.second in
       let e = a.second.value in
-      let b = shows Good goods n (expression_fine Good goods n) a.middle a.second.middle e a.second.first (keep_one G _ r.second.middle a.middle a.value a.first (keep_one G _ r.middle r.second.middle r.second.value r.second.first named)) in
-      moved (SimpleStmt (Expression n)) x (stmt_at c (stmt.Let v e)) _ _ a.second.second.second.is (at_let (stmt_at c (stmt.Let v e)) v e refl) (bared_let c v e)
+      let b = shows Good goods n (expression_fine Good goods n) a.middle a.second.middle e a.second.first
+      (keep_one G _ r.second.middle a.middle a.value a.first (keep_one G _ r.middle r.second.middle r.second.value r.second.first named)) in
+      moved (SimpleStmt (Expression n)) x (stmt_at c (stmt.Let v e)) _ _ a.second.second.second.is (at_let (stmt_at c (stmt.Let v e)) v e refl)
+      (bared_let c v e)
       (within Good bare_stmt (LetStmt (Expression n)) (SimpleStmt (Expression n)) _ _ (λ xs ys y q. inl q)
       (let_back (Expression n) v _ _ (good_name Good goods r.middle r.second.middle r.second.value r.second.first named) b))
   simple_read n ts us x (inr (inl r)) g =
@@ -195,7 +216,8 @@ module _ (Good : Piece → Type 0) (goods : Goods Good) where
 
     block_read : (ts us : List Spot) (ss : List Stmt) → Block S ts ss us → Each G ts → Reads S ss
     block_read ts us ss r g =
-        subst (λ xs. Reads S xs) (sym r.second.second.second.is) (all_read r.middle r.second.middle r.second.value r.second.first (keep_one G _ ts r.middle r.value r.first g))
+        subst (λ xs. Reads S xs) (sym r.second.second.second.is)
+        (all_read r.middle r.second.middle r.second.value r.second.first (keep_one G _ ts r.middle r.value r.first g))
 
     other_read : (ts us : List Spot) (m : Option (List Stmt)) → Optional (Otherwise S) ts m us → Each G ts → ReadsOther S m
     other_read ts us m (inl r) g =
@@ -238,7 +260,8 @@ module _ (Good : Piece → Type 0) (goods : Goods Good) where
         let good = good_name Good goods r.middle r.second.middle r.second.value r.second.first named in
         let third = keep_one G _ r.second.middle a.middle a.value a.first (keep_one G _ r.middle r.second.middle r.second.value r.second.first named) in
         let b = shows Good goods (suc n) (expression_fine Good goods (suc n)) a.middle a.second.middle e a.second.first third in
-        let h = block_read a.second.middle a.second.second.middle ss a.second.second.first (keep_expression G (suc n) a.middle a.second.middle e a.second.first third) in
+        let h = block_read a.second.middle a.second.second.middle ss a.second.second.first
+        (keep_expression G (suc n) a.middle a.second.middle e a.second.first third) in
         moved Nested x (stmt_at c (stmt.For v e ss)) _ _ a.second.second.second.is (at_for (stmt_at c (stmt.For v e ss)) v e ss refl) (bared_for c v e ss)
         (within Good bare_stmt (ForStmt (Expression (suc n)) S) Nested _ _ (λ xs ys y q. inr (inl q)) (for_back (Expression (suc n)) S v _ _ ss good b h))
 
@@ -250,8 +273,10 @@ module _ (Good : Piece → Type 0) (goods : Goods Good) where
         let es = r.second.second.value.1 in
         let behind = keep_targeted G _ (keep_expression G n) ts r.middle r.value r.first g in
         let found = subst (λ (y : Target). write_named y.kind (write_name op.word) ≡ Some op) aim.is
-        (write_word r.value.kind r.second.first.item.token op (made_at Good goods (write_of r.value.kind) r.middle r.second.middle r.second.value r.second.first)) in
-        let i = inside_parens Good goods (Arguments (Expression n) op.arguments) r.second.middle r.second.second.middle r.second.second.value r.second.second.first
+        (write_word r.value.kind r.second.first.item.token op
+        (made_at Good goods (write_of r.value.kind) r.middle r.second.middle r.second.value r.second.first)) in
+        let i = inside_parens Good goods
+        (Arguments (Expression n) op.arguments) r.second.middle r.second.second.middle r.second.second.value r.second.second.first
         (keep_one G _ r.middle r.second.middle r.second.value r.second.first behind) in
         let all = arguments_shown Good goods n (expression_fine Good goods n) op.arguments i.from i.to es i.derived i.good in
         let to = stmt_at aim.column (stmt.Write aim.kind aim.key op.word es) in
@@ -287,7 +312,8 @@ module _ (Good : Piece → Type 0) (goods : Goods Good) where
       let seen : Stmt × List Stmt → Stmt × List Stmt = λ l. (bare_stmt l.0, map bare_stmt l.1) in
       mapped_back Good seen without_columns (ListOf S S) (λ l. body_of l) (flat_map shown_stmt (x ∷ ss)) (bare_stmt x, map bare_stmt ss) _
       (then_back Good bare_stmt seen S (λ a. Many S >>= λ rest. Pure (a, rest)) (shown_stmt x) (flat_map shown_stmt ss) (bare_stmt x) _ h.0
-      (λ a i. mapped_back Good (map bare_stmt) seen (Many S) (λ rest. (a, rest)) (flat_map shown_stmt ss) (map bare_stmt ss) _ (many_back Good bare_stmt S shown_stmt ss h.1)
+      (λ a i. mapped_back Good (map bare_stmt) seen (Many S) (λ rest. (a, rest)) (flat_map shown_stmt ss) (map bare_stmt ss) _
+      (many_back Good bare_stmt S shown_stmt ss h.1)
       (λ rest j. ap (λ y. (y, map bare_stmt rest)) i ∙ ap (λ y. (bare_stmt x, y)) j)))
       (λ l i. ap (λ (p : Stmt × List Stmt). record { stmts = p.0 ∷ p.1 }) i)
 
@@ -299,7 +325,8 @@ module _ (Good : Piece → Type 0) (goods : Goods Good) where
       let l = r.first in
       let h : Reads (Statement DEEPEST) (l.value ∷ l.second.value) = (
         statement_read DEEPEST ts l.middle l.value l.first g,
-        all_read DEEPEST S (statement_read DEEPEST) (keep_statement G DEEPEST) l.middle l.second.middle l.second.value l.second.first (keep_statement G DEEPEST ts l.middle l.value l.first g),
+        all_read DEEPEST S (statement_read DEEPEST) (keep_statement G DEEPEST) l.middle l.second.middle l.second.value l.second.first
+            (keep_statement G DEEPEST ts l.middle l.value l.first g),
       ) in
       let is : b ≡ body_of (l.value, l.second.value) = r.second.is ∙ ap (λ (p : Stmt × List Stmt). body_of p) l.second.second.is in
       subst (λ x. Back Good without_columns BodyRule (shown_body x) (without_columns x)) (sym is) (bodies S l.value l.second.value h)

@@ -141,7 +141,13 @@ pub alone : (r : Rank) (P : Rule Spot Expr) → Within P (Chain r P)
 alone r P ts us e x = record {
   value = (e, []);
   middle = us;
-  first = record { value = e; middle = us; first = x; second = record { value = []; middle = us; first = none us; second = record { is = refl; here = refl } } };
+  first = record {
+    value = e;
+    middle = us;
+    first = x;
+    second = record
+        { value = []; middle = us; first = none us; second = record { is = refl; here = refl } };
+  };
   second = record { is = refl; here = refl };
 }
 

@@ -12,7 +12,8 @@ use Rattle.txn_trees.specs.declared.statement.Body.{Body}
 -- the expression with every column 0
 unfoldable pub bare : Expr → Expr
 bare =
-    fold-Expr ExprNode Expr Operand (λ n. roll-ExprNode n) (λ e. roll-Expr (record { column = 0; node = e.node })) (λ o. roll-Operand (record { operator = o.operator; value = o.value }))
+    fold-Expr ExprNode Expr Operand (λ n. roll-ExprNode n) (λ e. roll-Expr (record { column = 0; node = e.node }))
+    (λ o. roll-Operand (record { operator = o.operator; value = o.value }))
 
 -- the statement with every column 0, those of its expressions too
 abbrev pub bare_node : StmtNode-F StmtNode Stmt → StmtNode

@@ -150,7 +150,8 @@ no-elements : text (whole (show_node (node.Texts []))) ≡ codes "[]"
 unfolding spelling same_symbol
 no-elements = refl
 
-field : text (whole (joined (show_node (node.Read kind.Hash (quoted (codes "h")) read.Get (quoted (codes "f") ∷ []))) operator.Plus (show_node (node.Read kind.Text (quoted (codes "t")) read.Get []))))
+field : text (whole (joined (show_node (node.Read kind.Hash (quoted (codes "h")) read.Get (quoted (codes "f") ∷ []))) operator.Plus
+    (show_node (node.Read kind.Text (quoted (codes "t")) read.Get []))))
     ≡ codes "hash(\"h\").get(\"f\") + text(\"t\").get()"
 unfolding spelling same_symbol
 field = refl

@@ -17,5 +17,12 @@ pub record ReturnsAtMut {F T R : Type 0} (g : Shared F (MutBor T × Unit {0}) (R
   pub leaves : left.now ≡ new
 
 -- The closure reads as this reader does: whatever a call may answer of some tokens, and leave of them, is what it gives.
-abbrev pub ReadsAs : {F A : Type 0} → Shared F (MutBor (List Spot) × Unit {0}) (Result A (OrNoMemory Refused) × (MutBor (List Spot) × Unit {0})) → F → Reader Spot A → Type 0
+abbrev pub ReadsAs : {F A : Type 0}
+    → Shared F (MutBor (List Spot) × Unit {0}) (Result A (OrNoMemory Refused) × (MutBor (List Spot) × Unit {0})) → F → Reader Spot A → Type 0
 ReadsAs {F} {A} g f reader = (old new : List Spot) (r : Result A (OrNoMemory Refused)) → ReturnsAtMut g f old r new → Reads (reader old) r new
+
+-- What was read is what the rule reads, over whatever reader the closure's is.
+abbrev pub ReadsOver : {F A B : Type 0}
+    → Shared F (MutBor (List Spot) × Unit {0}) (Result A (OrNoMemory Refused) × (MutBor (List Spot) × Unit {0})) → F
+    → (Reader Spot A → Reader Spot B) → List Spot → Result B (OrNoMemory Refused) → List Spot → Type 0
+ReadsOver {F} {A} {B} g f rule old r new = (reader : Reader Spot A) → ReadsAs g f reader → Reads (rule reader old) r new

@@ -8,5 +8,7 @@ use Rattle.dtext.proofs.read.read_outcome.Goals as goal
 
 pub returns : goal.returns
 returns c =
-    let k = promised spec.outcome OutcomeRule no_more outcome_fits refl c.args.bytes.now c.new-cursor.result c.finish.result c.new-cursor.ensures (λ n. c.finish.ensures (spec.outcome c.new-cursor.result) c.next_outcome-found.ensures n) in
+    let k = promised spec.outcome OutcomeRule no_more outcome_fits refl c.args.bytes.now c.new-cursor.result c.finish.result c.new-cursor.ensures
+    (λ n. c.finish.ensures.answer (spec.outcome c.new-cursor.result) c.next_outcome-found.ensures (λ e. n (c.finish.ensures.memory e)))
+    in
     record { read = k.read; spellings = k.spellings; refused = k.refused }

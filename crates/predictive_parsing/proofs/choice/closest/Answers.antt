@@ -1,4 +1,4 @@
-use Rattle.std.proofs.Common.{◌<◌, ◌∙◌, ap, drop, length, arith, ◌+◌}
+use Rattle.std.proofs.Common.{◌∙◌, ap, drop, arith, ◌+◌}
 use Rattle.predictive_parsing.specs.Choices.{closest}
 use Rattle.predictive_parsing.proofs.Choices.{closest_on, closest_end}
 use Rattle.predictive_parsing.proofs.choice.closest.Goals as goal

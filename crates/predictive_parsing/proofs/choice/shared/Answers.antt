@@ -1,4 +1,4 @@
-use Rattle.std.proofs.Common.{◌≡◌, ◌<◌, ◌≤◌, length, nat_eq, get_or, false, arith, inl, inr}
+use Rattle.std.proofs.Common.{◌≡◌, length, arith, inl, inr}
 use Rattle.std.proofs.lemmas.Bool.Decides.{nat_tests}
 use Rattle.predictive_parsing.proofs.Choices.{shared_on, shared_stop, shared_end}
 use Rattle.predictive_parsing.proofs.choice.shared.Goals as goal

@@ -8,5 +8,7 @@ use Rattle.session_text.proofs.read.read_reply.Goals as goal
 
 pub returns : goal.returns
 returns c =
-    let k = promised spec.reply_read ReplyRule no_more reply_fits refl c.args.bytes.now c.new-cursor.result c.finish.result c.new-cursor.ensures (λ n. c.finish.ensures (spec.reply_read c.new-cursor.result) c.reply-found.ensures n) in
+    let k = promised spec.reply_read ReplyRule no_more reply_fits refl c.args.bytes.now c.new-cursor.result c.finish.result c.new-cursor.ensures
+    (λ n. c.finish.ensures.answer (spec.reply_read c.new-cursor.result) c.reply-found.ensures (λ e. n (c.finish.ensures.memory e)))
+    in
     record { read = k.read; spellings = k.spellings; refused = k.refused }

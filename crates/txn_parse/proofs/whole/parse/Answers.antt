@@ -1,31 +1,29 @@
-use Rattle.std.proofs.Common.{◌≡◌, Ok, ap, sym, ◌∙◌, rules, arith}
-use Rattle.txn_parse.proofs.Wholes.{whole_tree, whole_body, whole_only, left_column, stopped_column, left_no_body, stopped_no_body}
+use Rattle.std.proofs.Common.{IfOk, sym, subst, ◌∙◌, rules}
+use Rattle.txn_grammar.specs.Lexer.{lex}
+use Rattle.txn_grammar.specs.Grammar.{IsBody}
+use Rattle.txn_grammar.specs.Parsed.{parsed}
+use Rattle.std.specs.Prelude.{◌≡◌, Some}
+use Rattle.txn_parse.proofs.Wholes.{ended_tree, ended_body, ended_all, ended_column}
 use Rattle.txn_parse.proofs.whole.parse.Goals as goal
 
-pub returns-then-len-eq0-clause-read : goal.returns-then-len-eq0-clause-read
-returns-then-len-eq0-clause-read c =
-    whole_body c.args.source.now c.new-cursor.result c.body.new.cursor (search rules) c.in-Ok.found (search rules) (omega arith)
+pub returns-clause-read : goal.returns-clause-read
+returns-clause-read c =
+    let z = c.args.source.now in
+    let h = ended_body z c.new-cursor.result c.body-found.new.cursor (search rules) c.body-found.result c.body-found.ensures in
+    subst (λ r. IfOk r (λ b. IsBody (lex z) b)) (sym c.ended.ensures) h
 
-pub returns-then-len-eq0-clause-tree : goal.returns-then-len-eq0-clause-tree
-returns-then-len-eq0-clause-tree c =
-    whole_tree c.args.source.now c.new-cursor.result c.body.new.cursor (search rules) c.in-Ok.found (search rules) (omega arith)
+pub returns-clause-tree : goal.returns-clause-tree
+returns-clause-tree c =
+    let z = c.args.source.now in
+    let h = ended_tree z c.new-cursor.result c.body-found.new.cursor (search rules) c.body-found.result c.body-found.ensures in
+    subst (λ r. IfOk r (λ b. parsed z ≡ Some b)) (sym c.ended.ensures) h
 
-pub returns-then-len-eq0-clause-bodies : goal.returns-then-len-eq0-clause-bodies
-returns-then-len-eq0-clause-bodies c = λ other r n.
-    ap (λ b. Ok b) (whole_only c.args.source.now c.new-cursor.result c.body.new.cursor (search rules) c.in-Ok.found other (search rules) (omega arith) r)
+pub returns-clause-bodies : goal.returns-clause-bodies
+returns-clause-bodies c = λ other r n.
+    let h = ended_all c.args.source.now c.new-cursor.result c.body-found.new.cursor (search rules) c.body-found.result c.body-found.ensures in
+    c.ended.ensures ∙ h other r (λ k. n (c.ended.ensures ∙ k))
 
-pub returns-in-Ok-clause-bodies : goal.returns-in-Ok-clause-bodies
-returns-in-Ok-clause-bodies c = λ other r n.
-    absurd (left_no_body c.args.source.now c.new-cursor.result c.body.new.cursor (search rules) c.in-Ok.found other (search rules) (λ h. omega arith) r)
-
-pub returns-in-Ok-clause-refused : goal.returns-in-Ok-clause-refused
-returns-in-Ok-clause-refused c = λ column e.
-    left_column c.args.source.now c.new-cursor.result c.body.new.cursor (search rules) c.in-Ok.found column (search rules) (λ h. omega arith) (let k : c.column_ahead.result ≡ column = cc in sym k ∙ c.column_ahead.ensures)
-
-pub returns-in-Err-Cause-clause-bodies : goal.returns-in-Err-Cause-clause-bodies
-returns-in-Err-Cause-clause-bodies c = λ other r n.
-    absurd (stopped_no_body c.args.source.now c.new-cursor.result c.body.new.cursor (search rules) other (search rules) r)
-
-pub returns-in-Err-Cause-clause-refused : goal.returns-in-Err-Cause-clause-refused
-returns-in-Err-Cause-clause-refused c = λ column e.
-    stopped_column c.args.source.now c.new-cursor.result c.body.new.cursor (search rules) column (search rules) (let k : c.column_ahead-in-Err-Cause.result ≡ column = cc in sym k ∙ c.column_ahead-in-Err-Cause.ensures)
+pub returns-clause-refused : goal.returns-clause-refused
+returns-clause-refused c = λ column e.
+    let h = ended_column c.args.source.now c.new-cursor.result c.body-found.new.cursor (search rules) c.body-found.result c.body-found.ensures in
+    h column (sym c.ended.ensures ∙ e)

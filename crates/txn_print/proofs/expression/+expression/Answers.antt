@@ -31,10 +31,14 @@ pub push_bare-returns-in_ok-word-in-Not : goal.push_bare-returns-in_ok-word-in-N
 push_bare-returns-in_ok-word-in-Not t c = let e = at_not c.args.e.now c.in-Not.value c.in-Not.is in grind (arith, common_steps, e)
 
 pub push_bare-returns-in_ok-word-in-Compare : goal.push_bare-returns-in_ok-word-in-Compare
-push_bare-returns-in_ok-word-in-Compare t c = let e = at_compare c.args.e.now c.in-Compare.left c.in-Compare.relation c.in-Compare.right c.in-Compare.is in grind (arith, common_steps, e)
+push_bare-returns-in_ok-word-in-Compare t c =
+    let e = at_compare c.args.e.now c.in-Compare.left c.in-Compare.relation c.in-Compare.right c.in-Compare.is in
+    grind (arith, common_steps, e)
 
 pub push_bare-returns-in_ok-push_expr-in-Chain : goal.push_bare-returns-in_ok-push_expr-in-Chain
 push_bare-returns-in_ok-push_expr-in-Chain t c = let e = at_chain c.args.e.now c.in-Chain.first c.in-Chain.rest c.in-Chain.is in grind (arith, common_steps, e)
 
 pub push_bare-returns-in_ok-push_target-in-Read : goal.push_bare-returns-in_ok-push_target-in-Read
-push_bare-returns-in_ok-push_target-in-Read t c = let e = at_read c.args.e.now c.in-Read.kind c.in-Read.key c.in-Read.word c.in-Read.arguments c.in-Read.is in grind (arith, common_steps, e)
+push_bare-returns-in_ok-push_target-in-Read t c =
+    let e = at_read c.args.e.now c.in-Read.kind c.in-Read.key c.in-Read.word c.in-Read.arguments c.in-Read.is in
+    grind (arith, common_steps, e)

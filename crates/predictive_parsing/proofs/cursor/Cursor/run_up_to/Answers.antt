@@ -1,5 +1,4 @@
-use Rattle.std.proofs.Common.{rules, arith}
-use Rattle.std.proofs.lemmas.Grind.{common_steps}
+use Rattle.std.proofs.Common.{rules}
 use Rattle.predictive_parsing.proofs.Cursors.{run_up_to_is}
 use Rattle.predictive_parsing.proofs.cursor.Cursor.run_up_to.Goals as goal
 
