@@ -1,3 +1,3 @@
-pub mod Slots
 pub mod Registered
+pub mod Places
 pub mod Standing

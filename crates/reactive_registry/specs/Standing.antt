@@ -1,30 +1,28 @@
 -- What a registry stands for: changes of a journal.
-use Rattle.std.specs.Prelude.{◌≡◌, ℕ, ◌≤◌, pos, nat_le, nat_lt, true, false, List, [], ◌∷◌, filter, Option, Some, None, codes, refl}
+use Rattle.std.specs.Prelude.{◌≡◌, ℕ, ◌≤◌, pos, nat_lt, true, false, List, [], ◌∷◌, filter, if◌then◌else◌, Option, Some, None, codes, refl}
 use Rattle.std.specs.List.{AllByRecursion}
 use Rattle.rdt_types.specs.declared.address.Kind.TheVariants as kind
 use Rattle.rdt_types.specs.declared.address.Address.{Address}
 use Rattle.rdt_types.specs.declared.delta.Delta.TheVariants as delta
 use Rattle.change_feed.specs.declared.change.Change.{Change}
-use Rattle.change_feed.specs.Pending.{pending}
-use Rattle.reactive_registry.specs.Registered.{Registered, taken_of, is_subscribed, pending_of}
+use Rattle.change_feed.specs.Pending.{deltas_at, pending}
+use Rattle.reactive_registry.specs.Registered.{Kept, Registered, kept_of, is_address}
 
 -- the changes of commits past a number
 abbrev pub since : ℕ → List Change → List Change
 since n changes = filter (λ change. nat_lt n change.number) changes
 
--- the changes of commits up to a number
-abbrev pub up_to : ℕ → List Change → List Change
-up_to n changes = filter (λ change. nat_le change.number n) changes
+-- What is kept of a subscriber stands for changes: at each of its addresses the deltas that it hasn't taken are those of
+-- the changes past the number taken last, and there are none elsewhere.
+pub record KeptFor (changes : List Change) (front : ℕ) (kept : Kept) : Type 0 where
+  pub taken : kept.taken ≤ front
+  pub deltas : (address : Address)
+      → deltas_at address kept.changes ≡ (if is_address kept address then deltas_at address (since kept.taken changes) else [])
 
--- A registry stands for changes: all are of commits up to its front, nobody has taken more than that, and what is pending
--- for a subscriber at one of its addresses is what its changes past the number taken last come to.
+-- A registry stands for changes: all are of commits up to its front, and what it keeps of each subscriber stands for them.
 pub record StandsFor (changes : List Change) (registry : Registered) : Type 0 where
   pub followed : AllByRecursion (λ change. change.number ≤ registry.front) changes
-  pub taken : (subscriber n : ℕ) → taken_of registry subscriber ≡ Some n → n ≤ registry.front
-  pub pending : (subscriber n : ℕ) (address : Address) → taken_of registry subscriber ≡ Some n
-      → is_subscribed registry subscriber address ≡ true → pending_of registry subscriber address ≡ pending address (since n changes)
-  pub nothing : (subscriber : ℕ) (address : Address) → is_subscribed registry subscriber address ≡ false
-      → pending_of registry subscriber address ≡ None
+  pub kept : (subscriber : ℕ) (kept : Kept) → kept_of registry subscriber ≡ Some kept → KeptFor changes registry.front kept
 
 abbrev counter : List ℕ → Address
 counter key = record { kind = kind.Counter; key = key }

@@ -5,6 +5,10 @@
 //! stands for the journal's changes).
 #![tactic(auto)]
 
-mod slot;
+mod copies;
+mod maps;
+mod places;
+mod registry;
+mod subscriber;
 
-pub use slot::Slot;
+pub use registry::Registry;
