@@ -38,7 +38,7 @@ value_at-set_value : (q address : Address) (w : Value) (values : Values) → IsS
     → value_at (set_value (is_at (address_cmp address)) values w) q ≡ cond (is_eq (address_cmp address q)) (Some w) (value_at values q)
 value_at-set_value q address w values some =
     lookup-set_value (eq_by_cmp_equiv order.total-law) (is_at (address_cmp address))
-      (λ x y e. ap is_eq (order.total-law.congr address x y (equal (address_cmp address x) e))) q w values some
+    (λ x y e. ap is_eq (order.total-law.congr address x y (equal (address_cmp address x) e))) q w values some
 
 -- where nothing is held nothing is put
 pub nothing_put : (test : Address → Bool) (values : Values) (w : Value) → lookup test values ≡ None → set_value test values w ≡ values
@@ -74,9 +74,10 @@ agree-set_value : (values now : Values) (address : Address) (w : Value) (address
     → AllByRecursion (λ y. address_cmp address y ≡ Less) addresses → Agree values now addresses
     → Agree values (set_value (is_at (address_cmp address)) now w) addresses
 agree-set_value values now address w [] some below same = tt
-agree-set_value values now address w (b ∷ addresses) some below same =
-    (value_at-set_value b address w now some ∙ ap (λ r. cond (is_eq r) (Some w) (value_at now b)) below.0 ∙ same.0,
-      agree-set_value values now address w addresses some below.1 same.1)
+agree-set_value values now address w (b ∷ addresses) some below same = (
+  value_at-set_value b address w now some ∙ ap (λ r. cond (is_eq r) (Some w) (value_at now b)) below.0 ∙ same.0,
+  agree-set_value values now address w addresses some below.1 same.1,
+)
 
 -- a delta where nothing is held changes nothing
 without : (values now : Values) (change : Address × Delta) (changes : Deltas) (a : Address) → value_at values change.0 ≡ None
@@ -129,7 +130,7 @@ all_after values now (change ∷ changes) a rising same =
     by (Some v) e rest =
         let some : IsSome (value_at now change.0) = ap is_some (same.0 ∙ e) in
         rest (set_value (is_at (address_cmp change.0)) now (apply change.1 v))
-          (agree-set_value values now change.0 (apply change.1 v) (keys_of changes) some rising.0 same.1)
+        (agree-set_value values now change.0 (apply change.1 v) (keys_of changes) some rising.0 same.1)
         ∙ within values now change changes a v e some rising.0
 
 -- a list has the same as itself

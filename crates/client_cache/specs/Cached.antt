@@ -58,7 +58,7 @@ counter key = record { kind = kind.Counter; key = key }
 -- of two changed counters the one that is held has 4 added
 after_feed-example :
     after_feed (record { to = 2; changes = (counter (codes "x"), delta.AddCounter (pos 4)) ∷ (counter (codes "y"), delta.PutCounter (pos 9)) ∷ [] })
-      (counter (codes "x")) (held (filled (empty 1) (counter (codes "x")) (value.Counter (pos 3))) (counter (codes "x")))
+    (counter (codes "x")) (held (filled (empty 1) (counter (codes "x")) (value.Counter (pos 3))) (counter (codes "x")))
     ≡ Some (value.Counter (pos 7))
 after_feed-example = refl
 

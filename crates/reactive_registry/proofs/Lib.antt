@@ -1,1 +1,5 @@
 pub mod Links
+pub mod Pairs
+pub mod Subscribing
+pub mod Pending
+pub mod Standing

@@ -1,3 +1,4 @@
 pub mod Registered
 pub mod Places
 pub mod Standing
+pub mod Laws

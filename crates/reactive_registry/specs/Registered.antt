@@ -31,7 +31,7 @@ pub record Registered : Type 0 where
 abbrev pub kept_code : Coded Address → Coded Change → Coded Kept
 kept_code address change =
     code_by (ℕ × (List Address × List Change)) (coded× coded_ℕ (coded× (coded_list address) (coded_list change)))
-      (λ k. (k.taken, (k.addresses, k.changes))) (λ p. record { taken = p.0; addresses = p.1.0; changes = p.1.1 }) (λ _. refl)
+    (λ k. (k.taken, (k.addresses, k.changes))) (λ p. record { taken = p.0; addresses = p.1.0; changes = p.1.1 }) (λ _. refl)
 
 abbrev pub registered_code : Coded Kept → Coded Registered
 registered_code kept =
@@ -81,8 +81,8 @@ changes_elsewhere address changes = filter (λ change. not (is_at (address_cmp a
 abbrev pub subscribed : Address → List Change → Kept → Kept
 subscribed address missed kept =
     if is_address kept address
-      then kept
-      else (record kept { addresses = insert_key address_cmp kept.addresses address; changes = kept.changes ++ changes_at address missed })
+    then kept
+    else (record kept { addresses = insert_key address_cmp kept.addresses address; changes = kept.changes ++ changes_at address missed })
 
 -- it unsubscribes: nothing of the address is to be taken any longer
 abbrev pub unsubscribed : Address → Kept → Kept

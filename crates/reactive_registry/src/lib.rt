@@ -6,9 +6,11 @@
 #![tactic(auto)]
 
 mod copies;
+mod laws;
 mod maps;
 mod places;
 mod registry;
 mod subscriber;
 
+pub use laws::{entries_stand, follows_stand, pending_is_since, takes_stand};
 pub use registry::Registry;

@@ -62,6 +62,7 @@ fn subscribe_pair(
 ) -> Result<(), AllocError>
     requires { links places.old address.now subscriber ≡ is_address kept.old address.now }
     ensures kept { OnOk result (kept.new ≡ spec.subscribed address.now missed.now kept.old) }
+    ensures has { OnOk result ((a : Address) → is_address kept.new a ≡ (if is_at (address_cmp address.now) a then true else is_address kept.old a)) }
     ensures places { OnOk result ((a : Address) (s : ℕ) → links places.new a s ≡ (if is_at (address_cmp address.now) a && is_at (nat_cmp subscriber) s then true else links places.old a s)) }
     ensures as_kept { OnErr result (kept.new ≡ kept.old) }
     ensures as_placed { OnErr result ((a : Address) (s : ℕ) → links places.new a s ≡ links places.old a s) }
@@ -193,13 +194,11 @@ impl Registry {
         ensures ok { OnOk result ((s : ℕ) → kept_of self.new s ≡ with_kept self.old subscriber (option_map (spec.emptied self.old.front) (kept_of self.old subscriber)) s) }
         ensures err { OnErr result ((s : ℕ) → kept_of self.new s ≡ kept_of self.old s) }
     {
-        match self.subscribers.get_mut(&subscriber) {
-            None => Ok(Feed::new(self.alloc, self.front)),
-            Some(kept) => {
-                let feed = kept.feed(self.alloc, self.front)?;
-                kept.empty(self.front);
-                Ok(feed)
-            }
-        }
+        let Some(kept) = self.subscribers.get_mut(&subscriber) else {
+            return Ok(Feed::new(self.alloc, self.front));
+        };
+        let feed = kept.feed(self.alloc, self.front)?;
+        kept.empty(self.front);
+        Ok(feed)
     }
 }

@@ -1,12 +1,14 @@
 //! What is kept of one subscriber.
 
-ghost use Rattle.std.specs.Prelude.{◌≡◌, ◌++◌, ◌∷◌, [], not, nat_le, filter, take, length, IfOk, OnOk, OnErr};
+ghost use Rattle.std.specs.Prelude.{◌≡◌, ◌++◌, ◌∷◌, [], not, nat_le, filter, take, length, true, false, if◌then◌else◌, IfOk, OnOk, OnErr};
 ghost use Rattle.std.specs.Set.{remove_key};
 ghost use Rattle.std.specs.BTreeMap.{is_at};
-ghost use Rattle.std.specs.BTreeSet.{insert_key};
+ghost use Rattle.std.specs.BTreeSet.{insert_key, contains};
+ghost use Rattle.rdt_types.specs.declared.address.Address.{Address};
 ghost use Rattle.rdt_types.specs.Addresses.{address_cmp};
-ghost use Rattle.change_feed.specs.Feeds.{with_changes};
-ghost use Rattle.reactive_registry.specs.Registered.{is_address, entered, emptied, unsubscribed, changes_at, changes_elsewhere};
+ghost use Rattle.rdt_types.specs.DeltaMaps.{delta_at};
+ghost use Rattle.change_feed.specs.Pending.{pending};
+ghost use Rattle.reactive_registry.specs.Registered.{is_address, pending_for, entered, emptied, unsubscribed, changes_at, changes_elsewhere};
 
 use crate::copies::copied;
 use change_feed::{Change, Feed};
@@ -36,7 +38,11 @@ impl Model for Subscriber {
 }
 
 /// Adds copies of the changes at an address. For want of memory some of them may be there.
-fn push_at(changes: &mut Vec<Change>, address: &Address, missed: &[Change]) -> Result<(), AllocError>
+fn push_at(
+    changes: &mut Vec<Change>,
+    address: &Address,
+    missed: &[Change],
+) -> Result<(), AllocError>
     ensures ok { OnOk result (changes.new.items ≡ changes.old.items ++ changes_at address.now missed.now) }
     ensures begun { take (length changes.old.items) changes.new.items ≡ changes.old.items }
 {
@@ -65,7 +71,7 @@ fn drop_past(changes: &mut Vec<Change>, front: u64)
 /// A feed up to a number of changes.
 fn feed_of(alloc: Global, to: u64, changes: &[Change]) -> Result<Feed, AllocError>
     ensures to { IfOk result (λ feed. feed.to ≡ to) }
-    ensures changes { IfOk result (λ feed. feed.changes ≡ with_changes [] changes.now) }
+    ensures pending { IfOk result (λ feed. (a : Address) → delta_at feed.changes a ≡ pending a changes.now) }
 {
     let mut feed = Feed::new(alloc, to);
     for change in changes {
@@ -125,6 +131,7 @@ impl Subscriber {
 
     /// Adds an address, and the changes there that were missed.
     pub fn subscribe(&mut self, address: &Address, missed: &[Change]) -> Result<(), AllocError>
+        ensures has { OnOk result ((a : Address) → is_address self.new a ≡ (if is_at (address_cmp address.now) a then true else is_address self.old a)) }
         ensures ok { OnOk result (self.new ≡ record self.old { addresses = insert_key address_cmp self.old.addresses address.now; changes = self.old.changes ++ changes_at address.now missed.now }) }
         ensures err { OnErr result (self.new ≡ self.old) }
     {
@@ -138,7 +145,8 @@ impl Subscriber {
 
     /// Takes an address out, and what was kept of it. It takes no memory.
     pub fn unsubscribe(&mut self, address: &Address)
-        ensures { self.new ≡ unsubscribed address.now self.old }
+        ensures has { (a : Address) → is_address self.new a ≡ (if is_at (address_cmp address.now) a then false else is_address self.old a) }
+        ensures kept { self.new ≡ unsubscribed address.now self.old }
     {
         self.addresses.remove(address);
         drop_at(&mut self.changes, address);
@@ -147,7 +155,7 @@ impl Subscriber {
     /// A feed up to a number of what it hasn't taken.
     pub fn feed(&self, alloc: Global, to: u64) -> Result<Feed, AllocError>
         ensures to { IfOk result (λ feed. feed.to ≡ to) }
-        ensures changes { IfOk result (λ feed. feed.changes ≡ with_changes [] self.now.changes) }
+        ensures pending { IfOk result (λ feed. (a : Address) → delta_at feed.changes a ≡ pending_for self.now a) }
     {
         feed_of(alloc, to, self.changes.as_slice())
     }
@@ -168,6 +176,7 @@ fn add_address(
     address: &Address,
     missed: &[Change],
 ) -> Result<(), AllocError>
+    ensures has { OnOk result ((a : Address) → contains address_cmp addresses.new a ≡ (if is_at (address_cmp address.now) a then true else contains address_cmp addresses.old a)) }
     ensures ok { OnOk result ((addresses.new.keys ≡ insert_key address_cmp addresses.old.keys address.now) × (changes.new.items ≡ changes.old.items ++ changes_at address.now missed.now)) }
     ensures err { OnErr result (addresses.new.keys ≡ addresses.old.keys) }
     ensures begun { take (length changes.old.items) changes.new.items ≡ changes.old.items }

@@ -15,15 +15,15 @@ returns-in-Some c =
     let s = c.args.subscriber in
     let set = c.remove.new.self in
     linked (contains nat_cmp) (get address_cmp m) (get address_cmp (c.get_mut.follows.lender set)) k s false set
-      (((c.get_mut.follows.holds set).3 (ap is_some (sym c.in-Some.ensures.value))).0)
-      (λ a e t. c.remove.ensures.updates.0 t
-        ∙ ap (λ o. cond (is_at (nat_cmp s) t) false (stands (contains nat_cmp) o t))
-          (c.in-Some.ensures.value ∙ lookup-alike address_cmp order.total-law k a m.entries (equal _ e)))
+    (((c.get_mut.follows.holds set).3 (ap is_some (sym c.in-Some.ensures.value))).0)
+    (λ a e t. c.remove.ensures.updates.0 t
+    ∙ ap (λ o. cond (is_at (nat_cmp s) t) false (stands (contains nat_cmp) o t))
+    (c.in-Some.ensures.value ∙ lookup-alike address_cmp order.total-law k a m.entries (equal _ e)))
 
 pub returns-in_default : goal.returns-in_default
 returns-in_default c =
     let m = c.args.self.now.sets in
     let k = c.args.address.now in
     unlinked_nowhere (contains nat_cmp) (get address_cmp m) (get address_cmp c.get_mut.follows.lender-at-none) k c.args.subscriber
-      (λ a. ap (λ n. get address_cmp n a) c.get_mut.follows.holds-at-none)
-      (λ a e. sym (lookup-alike address_cmp order.total-law k a m.entries (equal _ e)) ∙ sym c.in_default.ensures.value)
+    (λ a. ap (λ n. get address_cmp n a) c.get_mut.follows.holds-at-none)
+    (λ a e. sym (lookup-alike address_cmp order.total-law k a m.entries (equal _ e)) ∙ sym c.in_default.ensures.value)
