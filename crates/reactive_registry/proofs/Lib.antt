@@ -3,3 +3,4 @@ pub mod Pairs
 pub mod Subscribing
 pub mod Pending
 pub mod Standing
+pub mod Told

@@ -11,6 +11,7 @@ mod maps;
 mod places;
 mod registry;
 mod subscriber;
+mod telling;
 
 pub use laws::{entries_stand, follows_stand, pending_is_since, takes_stand};
 pub use registry::Registry;

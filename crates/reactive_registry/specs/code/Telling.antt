@@ -1,0 +1,31 @@
+-- How the code follows: it walks over changes and the subscribers of their addresses. `proofs/Told` ties this to `told`
+-- of specs/Registered.
+use Rattle.std.specs.Prelude.{◌≡◌, ℕ, ◌<◌, nat_le, Bool, List, [], ◌∷◌, ◌++◌, filter, if◌then◌else◌, Option, option_map}
+use Rattle.std.specs.List.{AllByRecursion, list_any}
+use Rattle.change_feed.specs.declared.change.Change.{Change}
+use Rattle.reactive_registry.specs.declared.places.Places.{Places}
+use Rattle.reactive_registry.specs.Registered.{Kept}
+use Rattle.reactive_registry.specs.Places.{links}
+
+-- one more change
+abbrev pub pushed : Change → Kept → Kept
+pushed change kept = record kept { changes = kept.changes ++ change ∷ [] }
+
+-- without the changes past a front
+abbrev pub cut : ℕ → Kept → Kept
+cut front kept = record kept { changes = filter (λ change. nat_le change.number front) kept.changes }
+
+-- where a test holds, something is done to what is kept
+abbrev pub done_where : Bool → (Kept → Kept) → Option Kept → Option Kept
+done_where test does kept = if test then option_map does kept else kept
+
+-- the changes at addresses where a subscriber stands
+abbrev pub linked_changes : Places → ℕ → List Change → List Change
+linked_changes places subscriber changes = filter (λ change. links places change.address subscriber) changes
+
+abbrev pub is_linked : Places → ℕ → List Change → Bool
+is_linked places subscriber changes = list_any (λ change. links places change.address subscriber) changes
+
+-- all changes are past a front
+abbrev pub ArePast : ℕ → List Change → Type 0
+ArePast front changes = AllByRecursion (λ change. front < change.number) changes
