@@ -1,5 +1,5 @@
-//! Who is subscribed to which addresses, and what is pending for whom. A [`Registry`] follows the journal and gives each
-//! subscriber, at each take, what its addresses' changes since its last take come to. It stands on `change_feed`.
+//! Who is subscribed to which addresses, and what is pending for whom. A [`Registry`] gives each subscriber, at each take,
+//! what its addresses' changes since its last take come to. It doesn't follow a journal yet. It stands on `change_feed`.
 //!
 //! Read first `specs/Registered.antt` (what a registry keeps of a subscriber) and `specs/Standing.antt` (what that means: it
 //! stands for the journal's changes).
