@@ -1,5 +1,5 @@
 -- What subscribers keep, one after another.
-use Rattle.std.proofs.Common.{◌≡◌, ℕ, ◌<◌, ◌≤◌, Bool, true, false, cond, List, [], ◌∷◌, ◌++◌, filter, Option, Some, None, option_map, refl, sym, ap, subst, ◌||◌, ◌∙◌}
+use Rattle.std.proofs.Common.{◌≡◌, ℕ, ◌<◌, nat_le, Bool, true, false, cond, List, [], ◌∷◌, ◌++◌, filter, Option, Some, None, option_map, refl, sym, ap, subst, ◌||◌, ◌∙◌, arith}
 use Rattle.std.specs.List.{AllByRecursion, list_any}
 use Rattle.std.specs.List.Sorted.{IsStrictlySortedBy}
 use Rattle.std.specs.Cmp.{nat_cmp_total}
@@ -7,8 +7,9 @@ use Rattle.std.specs.Ordering.{nat_cmp, is_eq, ordering_reverse}
 use Rattle.std.specs.declared.cmp.Ordering.{Ordering}
 use Rattle.std.specs.declared.cmp.Ordering.TheVariants.{Less, Equal, Greater}
 use Rattle.std.specs.BTreeMap.{is_at}
+use Rattle.change_feed.specs.declared.change.Change.{Change}
 use Rattle.reactive_registry.specs.Registered.{Kept, kept_in}
-use Rattle.reactive_registry.specs.code.Telling.{done_where}
+use Rattle.reactive_registry.specs.code.Telling.{done_where, pushed, cut}
 use Rattle.reactive_registry.proofs.Pairs.{same_number}
 
 -- what is put in the place of what was kept of one is what was done to it
@@ -69,3 +70,58 @@ done_next all rest s q does o o' split rising is =
 pub rising_next : (all rest : List ℕ) (s : ℕ) → all ≡ s ∷ rest → IsStrictlySortedBy nat_cmp all → IsStrictlySortedBy nat_cmp rest
 unfolding IsStrictlySortedBy
 rising_next all rest s split rising = (subst (IsStrictlySortedBy nat_cmp) split rising).1
+
+-- ---- what a set was told, as far as it was
+
+module _ (all rest keys : List ℕ) (s q : ℕ) (split : all ≡ s ∷ rest) where
+  -- those that are left are of the set
+  pub within_next : (list_any (is_at (nat_cmp q)) all ≡ true → list_any (is_at (nat_cmp q)) keys ≡ true)
+      → list_any (is_at (nat_cmp q)) rest ≡ true → list_any (is_at (nat_cmp q)) keys ≡ true
+  within_next within e = within (ap (λ (l : List ℕ). list_any (is_at (nat_cmp q)) l) split ∙ ap (λ b. is_at (nat_cmp q) s || b) e ∙ by (is_at (nat_cmp q) s))
+    where
+      by : (b : Bool) → b || true ≡ true
+      by true = refl
+      by false = refl
+
+  -- one that isn't of the set isn't the next
+  pub next_apart : (list_any (is_at (nat_cmp q)) all ≡ true → list_any (is_at (nat_cmp q)) keys ≡ true)
+      → list_any (is_at (nat_cmp q)) keys ≡ false → is_at (nat_cmp s) q ≡ false
+  next_apart within out = by (is_at (nat_cmp s) q) refl
+    where
+      by : (b : Bool) → is_at (nat_cmp s) q ≡ b → b ≡ false
+      by true e =
+          let first : list_any (is_at (nat_cmp q)) all ≡ true =
+            ap (λ (l : List ℕ). list_any (is_at (nat_cmp q)) l) split ∙ ap (λ b. b || list_any (is_at (nat_cmp q)) rest) (sym (turned_number s q) ∙ e)
+          in
+          let inside = within first in
+          absurd (cc)
+      by false e = refl
+
+-- a change past a front is cut away
+cut_last : (front : ℕ) (change : Change) (changes : List Change) → front < change.number
+    → filter (λ c. nat_le c.number front) (changes ++ change ∷ []) ≡ filter (λ c. nat_le c.number front) changes
+cut_last front change [] past = by (nat_le change.number front) refl
+  where
+    by : (b : Bool) → nat_le change.number front ≡ b → cond b (change ∷ []) [] ≡ []
+    by true e = absurd (grind (arith, past))
+    by false e = refl
+cut_last front change (c ∷ changes) past = by (nat_le c.number front) (cut_last front change changes past)
+  where
+    kept : List Change → List Change
+    kept l = filter (λ c. nat_le c.number front) l
+
+    by : (b : Bool) → kept (changes ++ change ∷ []) ≡ kept changes
+        → cond b (c ∷ kept (changes ++ change ∷ [])) (kept (changes ++ change ∷ [])) ≡ cond b (c ∷ kept changes) (kept changes)
+    by true e = ap (λ l. c ∷ l) e
+    by false e = e
+
+-- so what was told of it is told no longer
+pub cut_pushed : (front : ℕ) (change : Change) (b : Bool) (o : Option Kept) → front < change.number
+    → option_map (cut front) (done_where b (pushed change) o) ≡ option_map (cut front) o
+cut_pushed front change true None past = refl
+cut_pushed front change true (Some kept) past = ap (λ l. Some (record kept { changes = l })) (cut_last front change kept.changes past)
+cut_pushed front change false o past = refl
+
+pub not_done : (b : Bool) (does : Kept → Kept) (o : Option Kept) → b ≡ false → done_where b does o ≡ o
+not_done true does o e = absurd (cc)
+not_done false does o e = refl
