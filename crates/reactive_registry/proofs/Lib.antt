@@ -3,4 +3,5 @@ pub mod Pairs
 pub mod Subscribing
 pub mod Pending
 pub mod Standing
+pub mod Undone
 pub mod Told

@@ -14,6 +14,7 @@ ghost use Rattle.reactive_registry.specs.Places.{links};
 use crate::maps::put;
 use crate::places::Places;
 use crate::subscriber::Subscriber;
+use crate::telling::tell_or_undo;
 use change_feed::{Change, Feed, Tail};
 use rdt_types::Address;
 use std::alloc::{AllocError, Global};
@@ -183,6 +184,21 @@ impl Registry {
                 was
             }
         }
+    }
+
+    /// Follows the journal from the front to where a tail goes: each subscriber has the tail's changes at its addresses to
+    /// take, after those that it had. The cost is that of the changes times the subscribers of their addresses.
+    pub fn follow(&mut self, tail: &Tail) -> Result<(), AllocError>
+        requires { tail.now.from ≡ self.old.front }
+        ensures front { OnOk result (self.new.front ≡ tail.now.to) }
+        ensures ok { OnOk result ((s : ℕ) → kept_of self.new s ≡ option_map (spec.told tail.now.changes) (kept_of self.old s)) }
+        ensures as_before { OnErr result (self.new.front ≡ self.old.front) }
+        ensures err { OnErr result ((s : ℕ) → kept_of self.new s ≡ kept_of self.old s) }
+    {
+        let changes = tail.changes.as_slice();
+        tell_or_undo(&mut self.subscribers, &self.places, changes, self.front)?;
+        self.front = tail.to;
+        Ok(())
     }
 
     /// What is pending for a subscriber up to the front, which counts as taken then.
