@@ -4,4 +4,5 @@ pub mod Subscribing
 pub mod Pending
 pub mod Standing
 pub mod Undone
+pub mod Clients
 pub mod Told

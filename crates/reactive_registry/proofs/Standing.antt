@@ -17,7 +17,7 @@ pending_is_since changes front kept address stands is =
     ap (composed_after None) (stands.deltas address ∙ ap (λ b. cond b (deltas_at address (since kept.taken changes)) []) is)
 
 -- nothing of changes up to a front is past it
-since-front : (changes : List Change) (front : ℕ) → AllByRecursion (λ c. c.number ≤ front) changes → since front changes ≡ []
+pub since-front : (changes : List Change) (front : ℕ) → AllByRecursion (λ c. c.number ≤ front) changes → since front changes ≡ []
 since-front [] front all = refl
 since-front (c ∷ changes) front all = by (nat_lt front c.number) refl (since-front changes front all.1)
   where
@@ -53,7 +53,7 @@ deltas-append a (c ∷ changes) later = by (is_at (address_cmp a) c.address) (de
     by false e = e
 
 -- all later changes are past a number that isn't past the front
-since-append : (changes later : List Change) (n front : ℕ) → n ≤ front → AllByRecursion (λ c. front < c.number) later
+pub since-append : (changes later : List Change) (n front : ℕ) → n ≤ front → AllByRecursion (λ c. front < c.number) later
     → since n (changes ++ later) ≡ since n changes ++ later
 since-append [] [] n front le all = refl
 since-append [] (c ∷ later) n front le all = by (nat_lt n c.number) refl (since-append [] later n front le all.1)

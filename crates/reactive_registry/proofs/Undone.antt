@@ -79,7 +79,7 @@ told_each places q changes (Some kept) are = told_one_by_one places q kept chang
 
 -- ---- both directions afterwards
 
-up_to-more : (front to : ℕ) (changes : List Change) → front ≤ to → IsUpTo front changes → IsUpTo to changes
+pub up_to-more : (front to : ℕ) (changes : List Change) → front ≤ to → IsUpTo front changes → IsUpTo to changes
 up_to-more front to [] le all = tt
 up_to-more front to (c ∷ changes) le all = (omega (arith, all.0), up_to-more front to changes le all.1)
 

@@ -13,5 +13,7 @@ mod registry;
 mod subscriber;
 mod telling;
 
-pub use laws::{entries_stand, follows_stand, pending_is_since, takes_stand};
+pub use laws::{
+    all_stand, clients_follow, entries_stand, follows_stand, one_stands, pending_is_since, takes_stand,
+};
 pub use registry::Registry;
