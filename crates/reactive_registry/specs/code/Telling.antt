@@ -1,5 +1,5 @@
--- How the code follows: it walks over changes and the subscribers of their addresses. `proofs/Told` ties this to `told`
--- of specs/Registered.
+-- How the code follows: it walks over changes and the subscribers of their addresses. `told_each` and `undone` of
+-- proofs/Undone tie this to `told` of specs/Registered.
 use Rattle.std.specs.Prelude.{ℕ, ◌<◌, ◌≤◌, nat_le, Bool, List, [], ◌∷◌, ◌++◌, fold, filter, if◌then◌else◌, Option, option_map}
 use Rattle.std.specs.List.{AllByRecursion, list_any}
 use Rattle.change_feed.specs.declared.change.Change.{Change}
