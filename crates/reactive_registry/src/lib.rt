@@ -17,3 +17,6 @@ pub use laws::{
     all_stand, clients_follow, entries_stand, follows_stand, one_stands, pending_is_since, takes_stand,
 };
 pub use registry::Registry;
+
+#[cfg(test)]
+mod tests;
