@@ -1,5 +1,5 @@
 -- What a pair of a subscriber and an address, come or gone, leaves of the two directions.
-use Rattle.std.proofs.Common.{◌≡◌, ℕ, ◌≤◌, Bool, true, false, cond, ◌&&◌, ◌||◌, ◌<◌, suc, List, [], ◌∷◌, ◌++◌, filter, length, Option, Some, None, refl, sym, ap, subst, ◌∙◌, arith}
+use Rattle.std.proofs.Common.{◌≡◌, ℕ, ◌≤◌, Bool, true, false, cond, ◌&&◌, ◌||◌, ◌<◌, suc, List, [], ◌∷◌, ◌++◌, filter, Some, refl, sym, ap, subst, ◌∙◌, arith}
 use Rattle.std.specs.List.{All, AllByRecursion}
 use Rattle.std.specs.Option.{option_map_or}
 use Rattle.std.specs.Ordering.{nat_cmp, is_eq, ordering_reverse}
@@ -15,7 +15,7 @@ use Rattle.rdt_types.proofs.Addresses.{address_cmp-equal}
 use Rattle.change_feed.specs.declared.change.Change.{Change}
 use Rattle.change_feed.specs.Tails.{IsTail}
 use Rattle.reactive_registry.specs.declared.places.Places.{Places}
-use Rattle.reactive_registry.specs.Registered.{Kept, kept_in, is_in, is_address}
+use Rattle.reactive_registry.specs.Registered.{Kept, kept_in, is_address}
 use Rattle.reactive_registry.specs.Places.{links, AreLinked}
 
 -- equal addresses are equal either way round

@@ -91,7 +91,7 @@ module _ (all rest keys : List ℕ) (s q : ℕ) (split : all ≡ s ∷ rest) whe
       by : (b : Bool) → is_at (nat_cmp s) q ≡ b → b ≡ false
       by true e =
           let first : list_any (is_at (nat_cmp q)) all ≡ true =
-            ap (λ (l : List ℕ). list_any (is_at (nat_cmp q)) l) split ∙ ap (λ b. b || list_any (is_at (nat_cmp q)) rest) (sym (turned_number s q) ∙ e)
+          ap (λ (l : List ℕ). list_any (is_at (nat_cmp q)) l) split ∙ ap (λ b. b || list_any (is_at (nat_cmp q)) rest) (sym (turned_number s q) ∙ e)
           in
           let inside = within first in
           absurd (cc)

@@ -1,6 +1,6 @@
 -- What is left of changes that were told and taken back, and what telling them one by one comes to.
-use Rattle.std.proofs.Common.{◌≡◌, ℕ, ◌<◌, ◌≤◌, nat_le, Bool, true, false, cond, suc, List, [], ◌∷◌, ◌++◌, filter, length, Option, Some, None, option_map, refl, sym, ap, subst, ◌||◌, ◌∙◌, arith}
-use Rattle.std.specs.List.{All, AllByRecursion}
+use Rattle.std.proofs.Common.{◌≡◌, ℕ, ◌<◌, ◌≤◌, nat_le, Bool, true, false, cond, suc, List, [], ◌∷◌, ◌++◌, filter, Option, Some, None, option_map, refl, sym, ap, subst, ◌||◌, ◌∙◌, arith}
+use Rattle.std.specs.List.{All}
 use Rattle.std.specs.Option.{option_map_or}
 use Rattle.std.proofs.lemmas.List.{append_assoc, append-nil}
 use Rattle.rdt_types.specs.declared.address.Address.{Address}
@@ -108,5 +108,5 @@ module _ (from to : ℕ) (changes : List Change) (tail : IsTail from to changes)
       all (Some k) up_to kept e =
           let is : told changes k ≡ kept = cc in
           subst (λ (x : Kept). IsUpTo to x.changes) is
-            (up_to-append to k.changes (filter (λ c. is_address k c.address) changes) (up_to-more from to k.changes tail.rises (up_to k refl))
-              (up_to-filter to (λ c. is_address k c.address) changes (up_to-tail from to changes tail)))
+          (up_to-append to k.changes (filter (λ c. is_address k c.address) changes) (up_to-more from to k.changes tail.rises (up_to k refl))
+          (up_to-filter to (λ c. is_address k c.address) changes (up_to-tail from to changes tail)))

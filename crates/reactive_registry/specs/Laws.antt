@@ -1,10 +1,10 @@
 -- The laws of registries: what each call does to what is kept of one subscriber keeps that standing for changes.
-use Rattle.std.specs.Prelude.{◌≡◌, ℕ, ◌≤◌, ◌<◌, true, List, [], ◌∷◌, ◌++◌, Option, Some, None, option_map}
+use Rattle.std.specs.Prelude.{◌≡◌, ℕ, ◌≤◌, ◌<◌, true, List, ◌++◌, Option, Some, option_map}
 use Rattle.std.specs.List.{AllByRecursion}
 use Rattle.rdt_types.specs.declared.address.Address.{Address}
 use Rattle.change_feed.specs.declared.change.Change.{Change}
 use Rattle.rdt_types.specs.DeltaMaps.{delta_at}
-use Rattle.change_feed.specs.Pending.{deltas_at, pending}
+use Rattle.change_feed.specs.Pending.{pending}
 use Rattle.change_feed.specs.Feeds.{Fed, AreOfTheirKinds}
 use Rattle.change_feed.specs.Tails.{IsTail}
 use Rattle.client_cache.specs.Cached.{Cached, Advances}

@@ -1,5 +1,5 @@
 -- What a registry stands for: changes of a journal.
-use Rattle.std.specs.Prelude.{◌≡◌, ℕ, ◌≤◌, pos, nat_lt, true, false, List, [], ◌∷◌, filter, if◌then◌else◌, Option, Some, None, codes, refl}
+use Rattle.std.specs.Prelude.{◌≡◌, ℕ, ◌≤◌, pos, nat_lt, List, [], ◌∷◌, filter, if◌then◌else◌, Some, codes, refl}
 use Rattle.std.specs.List.{AllByRecursion}
 use Rattle.rdt_types.specs.declared.address.Kind.TheVariants as kind
 use Rattle.rdt_types.specs.declared.address.Address.{Address}

@@ -14,7 +14,8 @@ mod subscriber;
 mod telling;
 
 pub use laws::{
-    all_stand, clients_follow, entries_stand, follows_stand, one_stands, pending_is_since, takes_stand,
+    all_stand, clients_follow, entries_stand, follows_stand, one_stands, pending_is_since,
+    takes_stand,
 };
 pub use registry::Registry;
 

@@ -56,7 +56,11 @@ fn watch(registry: &mut Registry, alloc: Global, subscriber: u32) -> Result<(), 
 }
 
 /// The addition that a subscriber takes, if there is one.
-fn take(registry: &mut Registry, alloc: Global, subscriber: u32) -> Result<Option<i64>, AllocError> {
+fn take(
+    registry: &mut Registry,
+    alloc: Global,
+    subscriber: u32,
+) -> Result<Option<i64>, AllocError> {
     if registry.taken(subscriber).is_none() {
         return Ok(None);
     }

@@ -1,4 +1,4 @@
-use Rattle.std.proofs.Common.{◌≡◌, true, false, cond, ◌&&◌, sym, ap, ◌∙◌}
+use Rattle.std.proofs.Common.{true, false, cond, ◌&&◌, sym, ap, ◌∙◌}
 use Rattle.std.specs.Ordering.{nat_cmp}
 use Rattle.std.specs.BTreeMap.{is_at}
 use Rattle.rdt_types.specs.Addresses.{address_cmp}

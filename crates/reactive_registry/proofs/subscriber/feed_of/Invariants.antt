@@ -1,4 +1,4 @@
-use Rattle.std.proofs.Common.{◌≡◌, drop, [], refl}
+use Rattle.std.proofs.Common.{◌≡◌, drop, []}
 use Rattle.change_feed.specs.Feeds.{with_changes}
 use Rattle.reactive_registry.proofs.subscriber.feed_of.Given as goal
 

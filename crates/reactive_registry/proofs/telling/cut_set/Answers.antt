@@ -13,6 +13,6 @@ loop-subscriber-preserved c =
       rising = rising_next all rest s c.in-Some.ensures.steps c.loop-subscriber.invariant.rising;
       all = λ q.
           done_next all rest s q (cut c.args.front) (kept_in c.loop-subscriber.subscribers.entries q) (kept_in c.cut_one.new.subscribers.entries q)
-            c.in-Some.ensures.steps c.loop-subscriber.invariant.rising (c.cut_one.ensures q)
+          c.in-Some.ensures.steps c.loop-subscriber.invariant.rising (c.cut_one.ensures q)
           ∙ c.loop-subscriber.invariant.all q;
     }

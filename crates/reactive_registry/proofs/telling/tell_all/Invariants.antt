@@ -1,4 +1,4 @@
-use Rattle.std.proofs.Common.{◌≡◌, ℕ, false, drop, ◌<◌, option_map, length}
+use Rattle.std.proofs.Common.{◌≡◌, ℕ, false, drop, option_map}
 use Rattle.reactive_registry.specs.Registered.{kept_in}
 use Rattle.reactive_registry.specs.code.Telling.{cut, told_along, is_linked, ArePast}
 use Rattle.reactive_registry.proofs.telling.tell_all.Given as goal

@@ -1,6 +1,5 @@
-use Rattle.std.proofs.Common.{◌∙◌, option_map}
+use Rattle.std.proofs.Common.{◌∙◌}
 use Rattle.reactive_registry.specs.Registered.{kept_in}
-use Rattle.reactive_registry.specs.code.Telling.{cut}
 use Rattle.reactive_registry.proofs.Links.{on_err}
 use Rattle.reactive_registry.proofs.Undone.{kept_up_to, undone}
 use Rattle.reactive_registry.proofs.telling.tell_or_undo.Goals as goal
@@ -13,7 +12,7 @@ returns-then-is_err-clause-err c =
     let front = c.args.front in
     on_err c.tell_all-told.result _
     (λ q.
-      let up_to = kept_up_to front (kept_in old q) (c.requires.followed q) in
-      c.cut_all.ensures q
-      ∙ undone c.args.places.now q front c.args.changes.now (kept_in mid q) (kept_in old q)
-        (c.tell_all-told.ensures.behind front c.requires.past q ∙ up_to) up_to (c.tell_all-told.ensures.elsewhere q))
+    let up_to = kept_up_to front (kept_in old q) (c.requires.followed q) in
+    c.cut_all.ensures q
+    ∙ undone c.args.places.now q front c.args.changes.now (kept_in mid q) (kept_in old q)
+    (c.tell_all-told.ensures.behind front c.requires.past q ∙ up_to) up_to (c.tell_all-told.ensures.elsewhere q))

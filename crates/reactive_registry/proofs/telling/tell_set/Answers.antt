@@ -20,7 +20,7 @@ loop-subscriber-preserved c =
       within = λ q e. within_next all rest keys s q split (kept.within q) e;
       ok = λ q.
           done_next all rest s q (pushed c.args.change.now) (kept_in c.loop-subscriber.subscribers.entries q)
-            (kept_in c.tell_one.new.subscribers.entries q) split kept.rising (told q)
+          (kept_in c.tell_one.new.subscribers.entries q) split kept.rising (told q)
           ∙ kept.ok q;
       behind = λ front past q.
           ap (option_map (cut front)) (told q)
@@ -29,6 +29,6 @@ loop-subscriber-preserved c =
       elsewhere = λ q out.
           told q
           ∙ not_done (is_at (nat_cmp s) q) (pushed c.args.change.now) (kept_in c.loop-subscriber.subscribers.entries q)
-            (next_apart all rest keys s q split (kept.within q) out)
+          (next_apart all rest keys s q split (kept.within q) out)
           ∙ kept.elsewhere q out;
     }

@@ -14,11 +14,11 @@ invariant_of-self-2 c =
     let tail = c.args.tail.now in
     let from : tail.from ≡ inside.front = c.requires ∙ sym (ap (λ (r : Registered). r.front) c.self.view_is) in
     linked_told inside.front tail.to tail.changes (subst (λ n. IsTail n tail.to tail.changes) from tail.in_order) es
-      c.tell_or_undo.new.subscribers.entries inside.places c.self.invariant
-      (λ q.
-        c.in_ok-tell_or_undo.ensures.ok q
-        ∙ ap (λ (l : List Change). told_along inside.places q l (kept_in es q)) c.as_slice-changes.ensures
-        ∙ told_each inside.places q tail.changes (kept_in es q) (c.self.invariant.both_ways q))
+    c.tell_or_undo.new.subscribers.entries inside.places c.self.invariant
+    (λ q.
+    c.in_ok-tell_or_undo.ensures.ok q
+    ∙ ap (λ (l : List Change). told_along inside.places q l (kept_in es q)) c.as_slice-changes.ensures
+    ∙ told_each inside.places q tail.changes (kept_in es q) (c.self.invariant.both_ways q))
 
 pub returns-clause-ok : goal.returns-clause-ok
 returns-clause-ok c s =

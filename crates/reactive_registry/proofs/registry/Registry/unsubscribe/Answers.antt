@@ -1,4 +1,4 @@
-use Rattle.std.proofs.Common.{◌≡◌, false, not, is_some, sym, ap, ◌∙◌, subst}
+use Rattle.std.proofs.Common.{false, not, is_some, sym, ap, subst}
 use Rattle.std.specs.BTreeMap.{is_at}
 use Rattle.rdt_types.specs.Addresses.{address_cmp}
 use Rattle.reactive_registry.specs.Registered.{Kept}
