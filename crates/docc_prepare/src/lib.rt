@@ -18,3 +18,6 @@ pub use laws::{
     events_stay_sound, every_world_is_sound, first_worlds_are_sound, fronts_spare_no_pair,
     legal_journals_are_orderly, moves_stay_sound,
 };
+
+#[cfg(test)]
+mod tests;

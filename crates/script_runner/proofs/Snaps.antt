@@ -1,5 +1,5 @@
 -- A run on some values of a state is the run on the whole state, and each value that it needs is a new one.
-use Rattle.std.proofs.Common.{◌≡◌, ◌≢◌, ◌+◌, Bool, true, false, cond, List, [], ◌∷◌, length, Option, Some, None, refl, ap, sym, ◌∙◌, subst, arith}
+use Rattle.std.proofs.Common.{◌≡◌, ◌+◌, Bool, true, false, cond, List, [], ◌∷◌, length, Option, Some, None, refl, ap, sym, ◌∙◌, arith}
 use Rattle.std.specs.Option.{option_map}
 use Rattle.std.specs.Ordering.{is_eq, match_ordering}
 use Rattle.std.specs.declared.cmp.Ordering.{Ordering}
@@ -8,7 +8,6 @@ use Rattle.std.specs.Map.{lookup}
 use Rattle.std.specs.BTreeMap.{is_at, insert_entry}
 use Rattle.plain_data.proofs.Entries.{lookup-insert_entry, equal}
 use Rattle.rdt_types.specs.declared.address.Address.{Address}
-use Rattle.rdt_types.specs.declared.value.Value.{Value}
 use Rattle.rdt_types.specs.contracts.address.AddressOrd.TheImpl.Laws as order
 use Rattle.rdt_types.specs.Addresses.{address_cmp}
 use Rattle.rdt_types.specs.Values.{kind_of}
@@ -64,7 +63,7 @@ pub run_on_state : (body : Body) (state : State) (snaps : List (Address × Snap)
 unfolding run_on
 run_on_state body state snaps r are e =
     let on_state : done r ≡ done (whole_runs_are_done body state).0 =
-        sym (done_on_state body state snaps r are e) ∙ (whole_runs_are_done body state).1
+    sym (done_on_state body state snaps r are e) ∙ (whole_runs_are_done body state).1
     in cc
 
 -- ---- needs

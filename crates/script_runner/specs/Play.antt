@@ -58,22 +58,18 @@ refused reason = early.Built (reply.Refused reason)
 
 -- ---- the body of a verb
 
--- Where a text stops being a body it has a column. Blanks at its end mean nothing, but where it only ends too early the
--- column is the one behind them.
-abbrev pub column_in : Text → ℕ → ℕ
-column_in text column = if nat_le column (length (trimmed_end text)) then column else length text + 1
-
 abbrev pub if_typed : Body → Judged Names → Result Body Why
 if_typed body (Ok names) = Ok body
 if_typed body (Err column) = Err (why.BadType column)
 
 abbrev pub if_parsed : Text → Option Body → Result Body Why
-if_parsed text None = Err (why.Syntax (column_in text (syntax_column (trimmed_end text))))
+if_parsed text None = Err (why.Syntax (syntax_column text))
 if_parsed text (Some body) = if_typed body (judge body)
 
--- the body that a text is, or why it is refused
+-- The body that a text is, or why it is refused. Blanks at its end mean nothing; where it only ends too early its column is
+-- the one behind them.
 unfoldable pub body_of : Text → Result Body Why
-body_of text = if_parsed text (parsed (trimmed_end text))
+body_of text = if_parsed text (parsed text)
 
 -- ---- what one verb does
 

@@ -34,7 +34,7 @@ module _ {M V : Type 0} (left : M → Option V) where
       ∙ ap (λ u. found_after left (map.get d.marks x) u) (begun d.cleared m x ∙ ap (λ c. cond c None (map.get m x)) is)
       ∙ ap (λ p. found_after left p (cond b None (map.get m x))) marked
 
-added-is : (b : Bool) → is_some (added b) ≡ b
+pub added-is : (b : Bool) → is_some (added b) ≡ b
 added-is true = refl
 added-is false = refl
 

@@ -13,8 +13,9 @@ ghost use Rattle.conflict_table.specs.Composed as composed;
 ghost use Rattle.conflict_table.specs.Reads as reads;
 ghost use Rattle.write_buffer.specs.code.Kept.{kept_from};
 
+use crate::keys::{key_set, keys_of, keys_over};
 use conflict_table::ReadOp;
-use plain_data::{ExactClone, Text, TextMap, TextSet};
+use plain_data::{ExactClone, Text, TextSet};
 use rdt_types::{Delta, HashDelta, Item, ListDelta, Mark, SetDelta, TextList, Value};
 use std::alloc::{AllocError, Global};
 
@@ -142,28 +143,6 @@ fn text_or_empty(alloc: Global, text: Option<&Text>) -> Result<Text, AllocError>
     }
 }
 
-/// Copies of a map's keys, in order.
-fn keys_of<V>(alloc: Global, map: &TextMap<V>) -> Result<TextList, AllocError>
-    ensures { IfOk result (λ keys. keys ≡ fin.keys map.now) }
-{
-    let mut keys = TextList::new(alloc);
-    for entry in map.as_slice() {
-        keys.push(entry.0.clone()?)?;
-    }
-    Ok(keys)
-}
-
-/// A map's keys, in order, in their own memory.
-fn into_keys<V: Drop>(alloc: Global, map: TextMap<V>) -> Result<TextList, AllocError>
-    ensures { IfOk result (λ keys. keys ≡ fin.keys map) }
-{
-    let mut keys = TextList::new(alloc);
-    for (key, _) in map.into_vec() {
-        keys.push(key)?;
-    }
-    Ok(keys)
-}
-
 /// The elements of a set.
 fn elements(alloc: Global, value: &Value) -> Result<TextList, AllocError>
     ensures { IfOk result (λ xs. xs ≡ fin.keys (values.set_in value.now)) }
@@ -174,13 +153,13 @@ fn elements(alloc: Global, value: &Value) -> Result<TextList, AllocError>
     }
 }
 
-/// The set after a delta.
-fn set_over(alloc: Global, d: &SetDelta, value: &Value) -> Result<TextSet, AllocError>
-    ensures { IfOk result (λ set. set ≡ keyed.applied marks.added d.now (values.set_in value.now)) }
+/// The elements of a set after a delta.
+fn set_over(alloc: Global, d: &SetDelta, value: &Value) -> Result<TextList, AllocError>
+    ensures { IfOk result (λ xs. xs ≡ fin.keys (keyed.applied marks.added d.now (values.set_in value.now))) }
 {
     match value {
-        Value::Set(set) => d.applied(alloc, set),
-        _ => d.applied(alloc, &TextSet::new(alloc)),
+        Value::Set(set) => keys_over(alloc, d, set),
+        _ => keys_over(alloc, d, &TextSet::new(alloc)),
     }
 }
 
@@ -191,7 +170,7 @@ fn set_all(alloc: Global, own: Option<&Delta>, value: &Value) -> Result<TextList
     match own {
         None => elements(alloc, value),
         Some(own) => match own {
-            Delta::Set(d) => into_keys(alloc, set_over(alloc, d, value)?),
+            Delta::Set(d) => set_over(alloc, d, value),
             _ => Ok(TextList::new(alloc)),
         },
     }
@@ -207,13 +186,13 @@ fn fields(alloc: Global, value: &Value) -> Result<TextList, AllocError>
     }
 }
 
-/// The hash after a delta.
-fn hash_over(alloc: Global, d: &HashDelta, value: &Value) -> Result<TextMap<Text>, AllocError>
-    ensures { IfOk result (λ hash. hash ≡ keyed.applied marks.put_by d.now (values.hash_in value.now)) }
+/// The fields of a hash after a delta.
+fn hash_over(alloc: Global, d: &HashDelta, value: &Value) -> Result<TextList, AllocError>
+    ensures { IfOk result (λ xs. xs ≡ fin.keys (keyed.applied marks.put_by d.now (values.hash_in value.now))) }
 {
     match value {
-        Value::Hash(hash) => d.applied(alloc, hash),
-        _ => d.applied(alloc, &TextMap::new(alloc)),
+        Value::Hash(hash) => keys_over(alloc, d, &key_set(alloc, hash)?),
+        _ => keys_over(alloc, d, &TextSet::new(alloc)),
     }
 }
 
@@ -224,7 +203,7 @@ fn hash_fields(alloc: Global, own: Option<&Delta>, value: &Value) -> Result<Text
     match own {
         None => fields(alloc, value),
         Some(own) => match own {
-            Delta::Hash(d) => into_keys(alloc, hash_over(alloc, d, value)?),
+            Delta::Hash(d) => hash_over(alloc, d, value),
             _ => Ok(TextList::new(alloc)),
         },
     }

@@ -4,7 +4,7 @@ use conflict_table::Obs;
 use rdt_types::Item;
 
 /// What a read of a body comes to.
-#[derive(Debug, Drop)]
+#[derive(Debug, Drop, PartialEq, Eq)]
 pub enum Asked {
     /// Its answer, and what was observed of the value for it, if anything was.
     Answered(Item, Option<Obs>),

@@ -8,6 +8,7 @@
 mod answering;
 mod asked;
 mod buffer;
+mod keys;
 mod observing;
 
 pub use asked::Asked;

@@ -1,5 +1,0 @@
-use Rattle.std.proofs.Common.{◌≡◌, map, take}
-use Rattle.write_buffer.proofs.answering.into_keys.Given as goal
-
-abbrev pub invariant-loop-key : goal.invariant-loop-key
-invariant-loop-key g l = l.keys ≡ map (λ e. e.0) l.yielded
