@@ -1,12 +1,16 @@
-//! Witnesses of aborts: what a commit saw, and which earlier commit changed it. So far the types alone, which replies
-//! print. It stands on `conflict_table`, whose observations it holds beside their addresses.
+//! Witnesses of aborts: what a commit saw, and which earlier commit changed it. It stands on `conflict_table`, whose
+//! observations it holds beside their addresses, and on `change_feed`, whose changes it looks through.
 //!
-//! Read first [`Based`] (what was seen, and at which number) and [`Witness`] (the commit that clashes with it); that the
-//! parts of each are of one kind is `specs/Kinds`.
+//! Read first [`Based`] (what was seen, and at which number) and `specs/Pairs` (when a change clashes with it, and which
+//! clash is the least); `specs/Naming` says what a [`Witness`] names, and `specs/Kinds` that its parts are of one kind.
 #![tactic(auto)]
 
+mod finding;
+mod naming;
 mod witness;
 
+pub use finding::{first_clash, least, lesser};
+pub use naming::name;
 pub use witness::{Based, BasedList, Found, FoundList, Witness, WitnessList};
 
 #[cfg(test)]

@@ -13,14 +13,15 @@ use Rattle.txn_trees.specs.declared.statement.Body.{Body}
 use Rattle.txn_grammar.specs.Characters.{Text}
 use Rattle.txn_lang.specs.declared.run.Run.{Run}
 use Rattle.txn_lang.specs.States.{Journal, known, left_by}
-use Rattle.txn_lang.specs.Execution.{Ran, need, done, exec}
+use Rattle.txn_lang.specs.Execution.{done, exec}
 use Rattle.txn_lang.specs.Tree.{tree}
 use Rattle.txn_lang.specs.Journals.{IsLegal, MayFollow, commit_of}
 use Rattle.txn_lang.proofs.Journals.{legal-push}
+use Rattle.txn_lang.proofs.Observed.{whole_runs_are_done}
 use Rattle.script_runner.specs.declared.reply.Early.TheVariants as early
 use Rattle.script_runner.specs.Words.{trimmed_start, trimmed_end, first_word, after_word, is_quiet, client_named}
 use Rattle.script_runner.specs.Verbs.{asked}
-use Rattle.script_runner.specs.Play.{body_of, ended, ran, of_verb, of_asked, tells, client_line, line_of_client, text_line, does, Played, one_more, play, nothing_played}
+use Rattle.script_runner.specs.Play.{body_of, committed, run_on, ran, of_verb, of_asked, tells, client_line, line_of_client, text_line, does, Played, one_more, play, nothing_played}
 use Rattle.script_runner.proofs.Bodies.{tree_there}
 
 -- the journal of an answer is legal
@@ -41,15 +42,17 @@ follows journal client body b run read is-run = record {
 }
 
 module _ (limit : ℕ) (journal : Journal) (legal : IsLegal 0 journal) where
-  commits : (client : ℕ) (body : Text) (b : Body) → tree body ≡ Some b → (r : Ran) → exec b (known (left_by journal)) ≡ r → Keeps (ended limit journal client body r)
-  commits client body b read (need a) e = legal
-  commits client body b read (done run) e =
+  commits : (client : ℕ) (body : Text) (b : Body) → tree body ≡ Some b → Keeps (committed limit journal client body (run_on b (left_by journal)))
+  unfolding run_on
+  commits client body b read =
+      let run = run_on b (left_by journal) in
       keeps_either (nat_le limit (length journal)) (journal, early.Built (reply.Full limit))
-      (journal ++ commit_of journal client body run ∷ [], _) legal (legal-push 0 journal _ legal (follows journal client body b run read e))
+      (journal ++ commit_of journal client body run ∷ [], _) legal
+      (legal-push 0 journal _ legal (follows journal client body b run read (whole_runs_are_done b (left_by journal)).1))
 
   runs : (client : ℕ) (text : Text) (read : Result Body Why) → body_of text ≡ read → Keeps (ran limit journal client text read)
   runs client text (Err reason) e = legal
-  runs client text (Ok b) e = commits client (trimmed_end text) b (tree_there text b e) (exec b (known (left_by journal))) refl
+  runs client text (Ok b) e = commits client (trimmed_end text) b (tree_there text b e)
 
   of_form : (client : ℕ) (v : Verb) → Keeps (of_verb limit journal client v)
   of_form client (verb.Do text) = runs client text (body_of text) refl

@@ -1,7 +1,11 @@
 -- What a run of a script promises at each of its ends.
-use Rattle.std.proofs.Common.{◌≡◌, ◌≤◌, ◌∷◌, length, Option, Some, None, refl, ap, sym, subst, inl, inr, arith, length-append}
+use Rattle.std.proofs.Common.{◌≡◌, ℕ, ◌≤◌, ◌⊎◌, Bool, true, false, [], ◌∷◌, length, Option, Some, None, Result, Ok, Err, refl, ap, sym, ◌∙◌, subst, inl, inr, arith, length-append}
+use Rattle.std.specs.Prelude.{◌==◌, IsTrue}
+use Rattle.std.specs.List.{list_any}
+use Rattle.plain_data.specs.declared.or_no_memory.OrNoMemory.{OrNoMemory}
+use Rattle.plain_data.specs.declared.or_no_memory.OrNoMemory.TheVariants as stop
 use Rattle.dio_core.specs.Told.{WhereTold}
-use Rattle.dio_core.specs.Counts.{Rose}
+use Rattle.dio_core.specs.Counts.{Rose, IsCounted}
 use Rattle.dio_core.specs.Lines.{lines}
 use Rattle.dio_core.specs.Sinks.{IsPassedOn}
 use Rattle.dio_core.proofs.Told.{WhereTold-map}
@@ -9,7 +13,10 @@ use Rattle.rdt_types.specs.declared.settings.Settings.{Settings}
 use Rattle.txn_grammar.specs.Characters.{Text}
 use Rattle.script_runner.specs.declared.status.TheConstants.{WHOLE, READ_FAULT, WRITE_FAULT, NO_MEMORY, TOO_MANY_LINES}
 use Rattle.script_runner.specs.declared.stop.TheConstants.{MOST_LINES}
+use Rattle.script_runner.specs.declared.stop.Cause.{Cause}
+use Rattle.script_runner.specs.declared.stop.Cause.TheVariants as cause
 use Rattle.script_runner.specs.Script.{Reading, Writing, IsPlayed, IsBrokenOff, HasTooManyLines, IsCutOff, IsCutOffBehindLine, TriesFlush, KeepsPromises}
+use Rattle.script_runner.specs.code.Turns.{read_stopped, write_stopped, Ends, Closes}
 use Rattle.script_runner.proofs.Plays.{cut_whole}
 use Rattle.script_runner.proofs.Legality.{played_is_legal}
 
@@ -30,103 +37,81 @@ told_too_many settings taken taken_then (Some bytes) (Some rest) many all is few
     let same : bytes ≡ all = cc in
     too_many-lines settings taken taken_then bytes rest many (subst (λ (b : Text). length (lines b) ≤ MOST_LINES) (sym same) few)
 
+-- one of two facts, by a test
+abbrev Choice : Bool → Type 0 → Type 0 → Type 0
+Choice true A B = A
+Choice false A B = B
+
 module _ (settings : Settings) (r : Reading) (w : Writing) where
-  -- the input was read to its end, and the flush succeeded
-  pub promises-whole : WhereTold (IsPlayed settings w.taken w.taken_then) r.left r.left_then → IsPassedOn w.taken_then w.passed_then
-      → r.faults_then ≡ r.faults → w.faults_then ≡ w.faults → KeepsPromises settings WHOLE r w
-  promises-whole played passed reads writes = record {
-    statuses = refl;
-    whole = λ _. played;
-    flushed = λ _. passed;
+  -- what a status says of the two streams, counts of reads aside
+  abbrev Says : ℕ → Type 0
+  Says status =
+      Choice (status == WHOLE) (WhereTold (IsPlayed settings w.taken w.taken_then) r.left r.left_then
+      × IsPassedOn w.taken_then w.passed_then × (w.faults_then ≡ w.faults))
+      (Choice (status == READ_FAULT) (WhereTold (IsBrokenOff settings w.taken w.taken_then) r.left r.left_then × TriesFlush w)
+      (Choice (status == WRITE_FAULT) (WhereTold (IsCutOffBehindLine settings w.taken w.taken_then) r.left r.left_then
+      × Rose w.faults w.faults_then)
+      (Choice (status == NO_MEMORY) (WhereTold (IsCutOff settings w.taken w.taken_then) r.left r.left_then
+      × (w.faults_then ≡ w.faults))
+      (WhereTold (HasTooManyLines settings w.taken w.taken_then) r.left r.left_then × TriesFlush w))))
+
+  -- with at most the most lines and no count that rose, the status is 0 or 5
+  abbrev Completes : ℕ → Type 0
+  Completes status = (all : Text) → r.left ≡ Some all → length (lines all) ≤ MOST_LINES → ¬ (Rose r.faults r.faults_then)
+      → ¬ (Rose w.faults w.faults_then) → (status ≡ WHOLE) ⊎ (status ≡ NO_MEMORY)
+
+  -- so a run keeps its promises: each speaks of statuses at which what is said has it
+  promises : (status : ℕ) → IsTrue (list_any (λ s. s == status) (WHOLE ∷ READ_FAULT ∷ WRITE_FAULT ∷ NO_MEMORY ∷ TOO_MANY_LINES ∷ []))
+      → Says status → IsCounted (status == READ_FAULT) r.faults r.faults_then → Completes status → KeepsPromises settings status r w
+  promises status one says reads completes = record {
+    statuses = one;
+    whole = λ is. (at WHOLE is).0;
+    flushed = λ is. (at WHOLE is).1;
     legal = played_is_legal settings r.left;
-    broken_off = λ is. absurd (omega (arith, is));
-    too_many = λ is. absurd (omega (arith, is));
-    unwritten = λ is. absurd (omega (arith, is));
-    wanting = λ is. absurd (omega (arith, is));
+    broken_off = λ is. (at READ_FAULT is).0;
+    too_many = λ is. (at TOO_MANY_LINES is).0;
+    unwritten = λ is. (at WRITE_FAULT is).0;
+    wanting = λ is. (at NO_MEMORY is).0;
     reads = reads;
-    write_fault = λ is. absurd (omega (arith, is));
-    no_write_fault = λ _. writes;
-    tried = λ is. absurd (elim is [ inl e ↦ omega (arith, e) | inr e ↦ omega (arith, e) ]);
-    completes = λ all is few reads_well writes_well. inl refl;
+    write_fault = λ is. (at WRITE_FAULT is).1;
+    no_write_fault = λ is. elim is [ inl e ↦ (at WHOLE e).2 | inr e ↦ (at NO_MEMORY e).1 ];
+    tried = λ is. elim is [ inl e ↦ (at READ_FAULT e).1 | inr e ↦ (at TOO_MANY_LINES e).1 ];
+    completes = completes;
   }
+    where
+      at : (s : ℕ) → status ≡ s → Says s
+      at s is = subst Says is says
 
-  -- a write failed, or the flush at the end
-  pub promises-write_fault : WhereTold (IsCutOffBehindLine settings w.taken w.taken_then) r.left r.left_then
-      → r.faults_then ≡ r.faults → Rose w.faults w.faults_then → KeepsPromises settings WRITE_FAULT r w
-  promises-write_fault cut reads rose = record {
-    statuses = refl;
-    whole = λ is. absurd (omega (arith, is));
-    flushed = λ is. absurd (omega (arith, is));
-    legal = played_is_legal settings r.left;
-    broken_off = λ is. absurd (omega (arith, is));
-    too_many = λ is. absurd (omega (arith, is));
-    unwritten = λ _. cut;
-    wanting = λ is. absurd (omega (arith, is));
-    reads = reads;
-    write_fault = λ _. rose;
-    no_write_fault = λ is. absurd (elim is [ inl e ↦ omega (arith, e) | inr e ↦ omega (arith, e) ]);
-    tried = λ is. absurd (elim is [ inl e ↦ omega (arith, e) | inr e ↦ omega (arith, e) ]);
-    completes = λ all is few reads_well writes_well. absurd (writes_well rose);
-  }
+  -- how the lines ended and what the end of the run then did, from what had been taken and counted after the lines
+  abbrev Closed : Result (Unit {0}) (OrNoMemory Cause) → ℕ → Option Text → ℕ → Type 0
+  Closed ended status taken faults = Closes ended status (record w { taken = taken; faults = faults })
 
-  -- the input was read to its end, and the flush failed
-  pub promises-unflushed : WhereTold (IsPlayed settings w.taken w.taken_then) r.left r.left_then
-      → r.faults_then ≡ r.faults → Rose w.faults w.faults_then → KeepsPromises settings WRITE_FAULT r w
-  promises-unflushed played = promises-write_fault (WhereTold-map r.left r.left_then (cut_whole settings w.taken w.taken_then) played)
-
-  -- memory was wanting
-  pub promises-no_memory : WhereTold (IsCutOff settings w.taken w.taken_then) r.left r.left_then
-      → r.faults_then ≡ r.faults → w.faults_then ≡ w.faults → KeepsPromises settings NO_MEMORY r w
-  promises-no_memory cut reads writes = record {
-    statuses = refl;
-    whole = λ is. absurd (omega (arith, is));
-    flushed = λ is. absurd (omega (arith, is));
-    legal = played_is_legal settings r.left;
-    broken_off = λ is. absurd (omega (arith, is));
-    too_many = λ is. absurd (omega (arith, is));
-    unwritten = λ is. absurd (omega (arith, is));
-    wanting = λ _. cut;
-    reads = reads;
-    write_fault = λ is. absurd (omega (arith, is));
-    no_write_fault = λ _. writes;
-    tried = λ is. absurd (elim is [ inl e ↦ omega (arith, e) | inr e ↦ omega (arith, e) ]);
-    completes = λ all is few reads_well writes_well. inr refl;
-  }
-
-  -- a read failed
-  pub promises-read_fault : WhereTold (IsBrokenOff settings w.taken w.taken_then) r.left r.left_then
-      → Rose r.faults r.faults_then → TriesFlush w → KeepsPromises settings READ_FAULT r w
-  promises-read_fault off rose tried = record {
-    statuses = refl;
-    whole = λ is. absurd (omega (arith, is));
-    flushed = λ is. absurd (omega (arith, is));
-    legal = played_is_legal settings r.left;
-    broken_off = λ _. off;
-    too_many = λ is. absurd (omega (arith, is));
-    unwritten = λ is. absurd (omega (arith, is));
-    wanting = λ is. absurd (omega (arith, is));
-    reads = rose;
-    write_fault = λ is. absurd (omega (arith, is));
-    no_write_fault = λ is. absurd (elim is [ inl e ↦ omega (arith, e) | inr e ↦ omega (arith, e) ]);
-    tried = λ _. tried;
-    completes = λ all is few reads_well writes_well. absurd (reads_well rose);
-  }
-
-  -- there is a line too many
-  pub promises-too_many : WhereTold (HasTooManyLines settings w.taken w.taken_then) r.left r.left_then
-      → r.faults_then ≡ r.faults → TriesFlush w → KeepsPromises settings TOO_MANY_LINES r w
-  promises-too_many many reads tried = record {
-    statuses = refl;
-    whole = λ is. absurd (omega (arith, is));
-    flushed = λ is. absurd (omega (arith, is));
-    legal = played_is_legal settings r.left;
-    broken_off = λ is. absurd (omega (arith, is));
-    too_many = λ _. many;
-    unwritten = λ is. absurd (omega (arith, is));
-    wanting = λ is. absurd (omega (arith, is));
-    reads = reads;
-    write_fault = λ is. absurd (omega (arith, is));
-    no_write_fault = λ is. absurd (elim is [ inl e ↦ omega (arith, e) | inr e ↦ omega (arith, e) ]);
-    tried = λ _. tried;
-    completes = λ all is few reads_well writes_well. absurd (told_too_many settings w.taken w.taken_then r.left r.left_then many all is few);
-  }
+  -- A run keeps its promises, however its lines ended.
+  pub keeps_promises : (ended : Result (Unit {0}) (OrNoMemory Cause)) (status : ℕ) (taken : Option Text) (faults : ℕ)
+      → WhereTold (Ends settings ended w.taken w.taken_then) r.left r.left_then
+      → IsCounted (read_stopped ended) r.faults r.faults_then → IsCounted (write_stopped ended) w.faults faults
+      → Closed ended status taken faults → KeepsPromises settings status r w
+  keeps_promises (Ok done) status taken faults ends reads writes (inl closed) =
+      subst (λ s. KeepsPromises settings s r w) (sym closed.0)
+      (promises WHOLE refl (ends, closed.2, closed.1 ∙ writes) reads (λ all is few well written. inl refl))
+  keeps_promises (Ok done) status taken faults ends reads writes (inr closed) =
+      let rose = subst (λ n. Rose n w.faults_then) writes closed.1 in
+      subst (λ s. KeepsPromises settings s r w) (sym closed.0)
+      (promises WRITE_FAULT refl (WhereTold-map r.left r.left_then (cut_whole settings w.taken w.taken_then) ends, rose) reads
+      (λ all is few well written. absurd (written rose)))
+  keeps_promises (Err stop.NoMemory) status taken faults ends reads writes closed =
+      subst (λ s. KeepsPromises settings s r w) (sym closed.0)
+      (promises NO_MEMORY refl (ends, closed.1 ∙ writes) reads (λ all is few well written. inr refl))
+  keeps_promises (Err (stop.Cause cause.WriteFault)) status taken faults ends reads writes closed =
+      let rose = subst (λ n. Rose w.faults n) (sym closed.1) writes in
+      subst (λ s. KeepsPromises settings s r w) (sym closed.0)
+      (promises WRITE_FAULT refl (ends, rose) reads (λ all is few well written. absurd (written rose)))
+  keeps_promises (Err (stop.Cause cause.ReadFault)) status taken faults ends reads writes closed =
+      let tried = subst (λ n. TriesFlush (record w { faults = n })) writes closed.1 in
+      subst (λ s. KeepsPromises settings s r w) (sym closed.0)
+      (promises READ_FAULT refl (ends, tried) reads (λ all is few well written. absurd (well reads)))
+  keeps_promises (Err (stop.Cause cause.TooManyLines)) status taken faults ends reads writes closed =
+      let tried = subst (λ n. TriesFlush (record w { faults = n })) writes closed.1 in
+      subst (λ s. KeepsPromises settings s r w) (sym closed.0)
+      (promises TOO_MANY_LINES refl (ends, tried) reads
+      (λ all is few well written. absurd (told_too_many settings w.taken w.taken_then r.left r.left_then ends all is few)))

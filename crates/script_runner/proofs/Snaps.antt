@@ -1,12 +1,13 @@
--- A run on some values of a state is the run on the whole state.
-use Rattle.std.proofs.Common.{◌≡◌, ◌≢◌, Bool, true, false, cond, List, [], ◌∷◌, Option, Some, None, refl, ap, sym, ◌∙◌, subst}
+-- A run on some values of a state is the run on the whole state, and each value that it needs is a new one.
+use Rattle.std.proofs.Common.{◌≡◌, ◌+◌, Bool, true, false, cond, List, [], ◌∷◌, length, Option, Some, None, refl, ap, sym, ◌∙◌, arith}
 use Rattle.std.specs.Option.{option_map}
-use Rattle.std.specs.Ordering.{is_eq}
+use Rattle.std.specs.Ordering.{is_eq, match_ordering}
+use Rattle.std.specs.declared.cmp.Ordering.{Ordering}
+use Rattle.std.specs.declared.cmp.Ordering.TheVariants.{Less, Equal, Greater}
 use Rattle.std.specs.Map.{lookup}
 use Rattle.std.specs.BTreeMap.{is_at, insert_entry}
 use Rattle.plain_data.proofs.Entries.{lookup-insert_entry, equal}
 use Rattle.rdt_types.specs.declared.address.Address.{Address}
-use Rattle.rdt_types.specs.declared.value.Value.{Value}
 use Rattle.rdt_types.specs.contracts.address.AddressOrd.TheImpl.Laws as order
 use Rattle.rdt_types.specs.Addresses.{address_cmp}
 use Rattle.rdt_types.specs.Values.{kind_of}
@@ -17,10 +18,12 @@ use Rattle.txn_lang.specs.declared.run.Run.{Run}
 use Rattle.txn_lang.specs.declared.run.Seen.{Seen}
 use Rattle.txn_lang.specs.declared.snaps.Snap.{Snap}
 use Rattle.txn_lang.specs.States.{State, known}
-use Rattle.txn_lang.specs.Execution.{exec, done}
+use Rattle.txn_lang.specs.Execution.{exec, need, done}
 use Rattle.txn_lang.specs.Determinacy.{Agree}
 use Rattle.txn_lang.proofs.Determinacy.{runs_are_determined}
+use Rattle.txn_lang.proofs.Observed.{needs_are_missing, whole_runs_are_done}
 use Rattle.txn_eval.specs.Running.{values_of}
+use Rattle.script_runner.specs.Play.{run_on}
 use Rattle.script_runner.specs.Snaps.{AreOf}
 
 -- no values are those of any state
@@ -53,3 +56,36 @@ agree state snaps are (z ∷ seen) = (
 pub done_on_state : (body : Body) (state : State) (snaps : List (Address × Snap)) (r : Run) → AreOf state snaps
     → exec body (values_of snaps) ≡ done r → exec body (known state) ≡ done r
 done_on_state body state snaps r are e = runs_are_determined body (values_of snaps) (known state) r e (agree state snaps are r.observations)
+
+-- and that is the run on the state
+pub run_on_state : (body : Body) (state : State) (snaps : List (Address × Snap)) (r : Run) → AreOf state snaps
+    → exec body (values_of snaps) ≡ done r → r ≡ run_on body state
+unfolding run_on
+run_on_state body state snaps r are e =
+    let on_state : done r ≡ done (whole_runs_are_done body state).0 =
+    sym (done_on_state body state snaps r are e) ∙ (whole_runs_are_done body state).1
+    in cc
+
+-- ---- needs
+
+-- a value at a new key makes one entry more
+pub one_longer : (snaps : List (Address × Snap)) (k : Address) (snap : Snap) → lookup (is_at (address_cmp k)) snaps ≡ None
+    → length (insert_entry address_cmp snaps k snap) ≡ length snaps + 1
+one_longer [] k snap none = refl
+one_longer (e ∷ snaps) k snap none = by (address_cmp k e.0) none (one_longer snaps k snap)
+  where
+    by : (r : Ordering) → cond (is_eq r) (Some e.1) (lookup (is_at (address_cmp k)) snaps) ≡ None
+        → (lookup (is_at (address_cmp k)) snaps ≡ None → length (insert_entry address_cmp snaps k snap) ≡ length snaps + 1)
+        → length (match_ordering r ((k, snap) ∷ e ∷ snaps) ((e.0, snap) ∷ snaps) (e ∷ insert_entry address_cmp snaps k snap)) ≡ length (e ∷ snaps) + 1
+    by Less none later = omega arith
+    by Equal none later = absurd (cc)
+    by Greater none later = omega (arith, later none)
+
+-- What a run needs isn't among the values so far: a run needs a value only where there is none.
+pub need_is_new : (body : Body) (snaps : List (Address × Snap)) (a : Address) → exec body (values_of snaps) ≡ need a
+    → lookup (is_at (address_cmp a)) snaps ≡ None
+need_is_new body snaps a e = unmapped (lookup (is_at (address_cmp a)) snaps) (needs_are_missing body (values_of snaps) a e)
+  where
+    unmapped : (o : Option Snap) → option_map (λ s. s.value) o ≡ None → o ≡ None
+    unmapped None none = refl
+    unmapped (Some s) none = absurd (cc)

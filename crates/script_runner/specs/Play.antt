@@ -21,11 +21,11 @@ use Rattle.txn_trees.specs.declared.statement.Body.{Body}
 use Rattle.txn_grammar.specs.Characters.{Text}
 use Rattle.txn_grammar.specs.Parsed.{parsed, syntax_column}
 use Rattle.txn_lang.specs.declared.run.Run.{Run}
-use Rattle.txn_lang.specs.States.{Journal, known, left_by}
+use Rattle.txn_lang.specs.States.{State, Journal, left_by}
 use Rattle.txn_lang.specs.Types.{Names}
 use Rattle.txn_lang.specs.Typing.{Judged, judge}
-use Rattle.txn_lang.specs.Execution.{Ran, need, done, exec}
 use Rattle.txn_lang.specs.Journals.{commit_of}
+use Rattle.txn_lang.proofs.Observed.{whole_runs_are_done}
 use Rattle.script_runner.specs.declared.reply.Early.{Early}
 use Rattle.script_runner.specs.declared.reply.Early.TheVariants as early
 use Rattle.script_runner.specs.declared.reply.Told.{Told}
@@ -58,22 +58,18 @@ refused reason = early.Built (reply.Refused reason)
 
 -- ---- the body of a verb
 
--- Where a text stops being a body it has a column. Blanks at its end mean nothing, but where it only ends too early the
--- column is the one behind them.
-abbrev pub column_in : Text → ℕ → ℕ
-column_in text column = if nat_le column (length (trimmed_end text)) then column else length text + 1
-
 abbrev pub if_typed : Body → Judged Names → Result Body Why
 if_typed body (Ok names) = Ok body
 if_typed body (Err column) = Err (why.BadType column)
 
 abbrev pub if_parsed : Text → Option Body → Result Body Why
-if_parsed text None = Err (why.Syntax (column_in text (syntax_column (trimmed_end text))))
+if_parsed text None = Err (why.Syntax (syntax_column text))
 if_parsed text (Some body) = if_typed body (judge body)
 
--- the body that a text is, or why it is refused
+-- The body that a text is, or why it is refused. Blanks at its end mean nothing; where it only ends too early its column is
+-- the one behind them.
 unfoldable pub body_of : Text → Result Body Why
-body_of text = if_parsed text (parsed (trimmed_end text))
+body_of text = if_parsed text (parsed text)
 
 -- ---- what one verb does
 
@@ -87,15 +83,15 @@ committed limit journal client body run =
     if nat_le limit (length journal) then (journal, early.Built (reply.Full limit))
     else (journal ++ commit_of journal client body run ∷ [], early.Built (reply.Commit (length journal + 1) run.outcome))
 
--- A whole state has each value that a run may need.
-abbrev pub ended : ℕ → Journal → ℕ → Text → Ran → Answer
-ended limit journal client body (need a) = (journal, early.Unbuilt)
-ended limit journal client body (done run) = committed limit journal client body run
+-- The run of a body on a state. A state has every value that a run may need, so by the law `whole_runs_are_done` each run
+-- on it is done; this is the run of which the law speaks.
+unfoldable pub run_on : Body → State → Run
+run_on body state = (whole_runs_are_done body state).0
 
 -- A body runs on the state that the journal leaves, and is committed without the blanks at its end.
 abbrev pub ran : ℕ → Journal → ℕ → Text → Result Body Why → Answer
 ran limit journal client text (Err reason) = (journal, refused reason)
-ran limit journal client text (Ok body) = ended limit journal client (trimmed_end text) (exec body (known (left_by journal)))
+ran limit journal client text (Ok body) = committed limit journal client (trimmed_end text) (run_on body (left_by journal))
 
 -- what is said of the body of a verb that isn't built
 abbrev pub only_read : Result Body Why → Early

@@ -13,35 +13,19 @@ use std::alloc::Global;
 use txn_lang::{CheckError, Checked, check};
 use txn_parse::{ParseError, parse};
 
-/// A column of a text, where the blanks at its end count.
-fn column_in(text: &[u8], column: u32) -> u32
-    requires { length text.now ≤ LONGEST_LINE }
-    ensures { result ≡ spec.column_in text.now column }
-{
-    if column as usize <= trimmed_end(text).len() {
-        column
-    } else {
-        text.len() as u32 + 1
-    }
-}
-
-/// The body that a text is, which may write, or why it is refused.
+/// The body that a text is, which may write, or why it is refused. Its source is the text without the blanks at its end.
 #[tactic(auto, unfolding(crate::specs::Play::body_of))]
 pub fn body_of(alloc: Global, text: &[u8]) -> Result<Checked, OrNoMemory<Why>>
     requires { length text.now ≤ LONGEST_LINE }
     ensures reads { ReadsBody result (spec.body_of text.now) }
     ensures source { IfOk result (λ checked. checked.source ≡ without_end text.now) }
 {
-    let source = trimmed_end(text);
-    let body = match parse(alloc, source) {
+    let body = match parse(alloc, text) {
         Ok(body) => body,
-        Err(ParseError::Syntax(column)) => {
-            let column = column_in(text, column);
-            return Err(OrNoMemory::Cause(Why::Syntax(column)));
-        }
+        Err(ParseError::Syntax(column)) => return Err(OrNoMemory::Cause(Why::Syntax(column))),
         Err(ParseError::NoMemory) => return Err(OrNoMemory::NoMemory),
     };
-    let source = Text::from_slice(alloc, source)?;
+    let source = Text::from_slice(alloc, trimmed_end(text))?;
     match check(alloc, body, source, false) {
         Ok(checked) => Ok(checked),
         Err(CheckError::BadType(column)) => Err(OrNoMemory::Cause(Why::BadType(column))),

@@ -5,7 +5,7 @@ ghost use Rattle.dio_core.specs.Counts.{IsCounted};
 ghost use Rattle.dio_core.specs.Lines.{TakesLine, IsShort};
 ghost use Rattle.script_runner.specs.Worlds.{Keeps};
 ghost use Rattle.script_runner.specs.Script.{reading, writing, TriesFlush, KeepsPromises};
-ghost use Rattle.script_runner.specs.code.Turns.{moment, read_stopped, write_stopped, StopsReading, Turns, Ran};
+ghost use Rattle.script_runner.specs.code.Turns.{moment, read_stopped, write_stopped, StopsReading, Turns, Ran, Closes};
 
 use crate::lines::answer;
 use crate::status::{NO_MEMORY, READ_FAULT, TOO_MANY_LINES, WHOLE, WRITE_FAULT};
@@ -94,7 +94,16 @@ pub fn run_script<S: Source, W: Sink>(
     ensures { KeepsPromises settings.now result (reading S.left S.read_faults source.old source.new)
         (writing W.taken W.passed W.write_faults sink.old sink.new) }
 {
-    match run_lines(alloc, settings, source, sink) {
+    let ended = run_lines(alloc, settings, source, sink);
+    close(sink, ended)
+}
+
+/// Ends a run whose lines ended so: it flushes the sink, unless a write or memory has failed, and answers the status.
+fn close<W: Sink>(sink: &mut W, ended: Result<(), Stop>) -> u8
+    ensures taken { W.taken sink.new ≡ W.taken sink.old }
+    ensures closes { Closes ended result (writing W.taken W.passed W.write_faults sink.old sink.new) }
+{
+    match ended {
         Ok(()) => { if sink.flush() { WHOLE } else { WRITE_FAULT } }
         Err(OrNoMemory::NoMemory) => NO_MEMORY,
         Err(OrNoMemory::Cause(Cause::WriteFault)) => WRITE_FAULT,

@@ -1,6 +1,6 @@
 //! The values at all addresses.
 
-ghost use Rattle.std.specs.Prelude.{◌≡◌, IfOk, OnOk};
+ghost use Rattle.std.specs.Prelude.{◌≡◌, IfOk, OnOk, OnErr};
 ghost use Rattle.txn_lang.specs.States.{after};
 ghost use Rattle.script_runner.specs.Values.{state_in, with_written};
 ghost use Rattle.rdt_types.specs.Values.{default_of};
@@ -42,7 +42,8 @@ impl Values {
         address: &Address,
         delta: &Delta,
     ) -> Result<(), AllocError>
-        ensures { OnOk result ((a : Address) → state_in self.new a ≡ with_written (state_in self.old) (address.now, delta.now) a) }
+        ensures ok { OnOk result ((a : Address) → state_in self.new a ≡ with_written (state_in self.old) (address.now, delta.now) a) }
+        ensures err { OnErr result ((a : Address) → state_in self.new a ≡ state_in self.old a) }
     {
         let value = apply(alloc, delta, &self.value_at(alloc, address)?)?;
         let address = address.clone()?;
@@ -50,7 +51,7 @@ impl Values {
         Ok(())
     }
 
-    /// Writes what the deltas of a commit make of the values. For want of memory some may be written and others not.
+    /// Writes what the deltas of a commit make of the values. After want of memory the values are of no use.
     pub fn write(&mut self, alloc: Global, deltas: &DeltaMap) -> Result<(), AllocError>
         ensures { OnOk result ((a : Address) → state_in self.new a ≡ after deltas.now a (state_in self.old a)) }
     {

@@ -2,41 +2,20 @@
 
 ghost use Rattle.std.specs.Prelude.{◌≡◌, ◌≤◌, length, IfSome};
 ghost use Rattle.std.specs.List.{prefix_len};
-ghost use Rattle.txn_grammar.specs.Characters.{is_blank};
 ghost use Rattle.script_runner.specs.Words as spec;
+
+use dtext::is_blank;
+use predictive_parsing::prefix_len;
 
 /// The last client of a script. The first is 0.
 pub const LAST_CLIENT: u32 = 63;
-
-/// Space, tab and CR separate words.
-fn is_blank(byte: u8) -> bool
-    ensures { result ≡ is_blank byte }
-{
-    byte == b' ' || byte == b'\t' || byte == b'\r'
-}
-
-/// How many bytes at the beginning are blanks.
-fn blanks_len(text: &[u8]) -> usize
-    ensures value { result ≡ prefix_len is_blank text.now }
-    ensures within { result ≤ length text.now }
-{
-    let mut len = 0;
-    while len < text.len() && is_blank(text[len]) {
-        len += 1;
-    }
-    len
-}
 
 /// How many bytes the first word has.
 fn word_len(text: &[u8]) -> usize
     ensures value { result ≡ prefix_len spec.is_solid text.now }
     ensures within { result ≤ length text.now }
 {
-    let mut len = 0;
-    while len < text.len() && !is_blank(text[len]) {
-        len += 1;
-    }
-    len
+    prefix_len(text, |byte| !is_blank(*byte))
 }
 
 /// The text without the blanks at its beginning.
@@ -44,7 +23,7 @@ pub fn trimmed_start(text: &[u8]) -> &[u8]
     ensures value { result.now ≡ spec.trimmed_start text.now }
     ensures shorter { length result.now ≤ length text.now }
 {
-    &text[blanks_len(text)..]
+    &text[prefix_len(text, |byte| is_blank(*byte))..]
 }
 
 /// The text without the blanks at its end.

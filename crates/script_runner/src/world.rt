@@ -1,10 +1,13 @@
 //! The journal of a script, and what is kept beside it so that no line goes through the journal: the values that it
 //! leaves, and each client's last seq.
 
-ghost use Rattle.std.specs.Prelude.{◌≡◌, ◌<◌, ◌^◌, [], ◌∷◌, ◌++◌, length, IfOk, OnOk};
-ghost use Rattle.txn_lang.specs.States.{known, left_by};
-ghost use Rattle.txn_lang.specs.Execution.{exec, done};
+ghost use Rattle.std.specs.Prelude.{◌≡◌, ◌<◌, ◌^◌, ◌+◌, [], ◌∷◌, ◌++◌, None, length, IfOk, OnOk};
+ghost use Rattle.std.specs.Map.{lookup};
+ghost use Rattle.std.specs.BTreeMap.{is_at};
+ghost use Rattle.rdt_types.specs.Addresses.{address_cmp};
+ghost use Rattle.txn_lang.specs.States.{left_by};
 ghost use Rattle.txn_lang.specs.Journals.{commit_of};
+ghost use Rattle.script_runner.specs.Play.{run_on};
 ghost use Rattle.script_runner.specs.Worlds.{Keeps};
 ghost use Rattle.script_runner.specs.Snaps.{AreOf};
 
@@ -37,11 +40,13 @@ impl World {
         }
     }
 
-    /// Adds the value at an address to those that a run may rest on.
+    /// Adds the value at a new address to those that a run may rest on.
     fn snap(&self, alloc: Global, snaps: &mut Snaps, address: Address) -> Result<(), AllocError>
         requires keeps { Keeps self.now }
         requires values { AreOf (left_by self.now.journal) snaps.old }
-        ensures { OnOk result (AreOf (left_by self.now.journal) snaps.new) }
+        requires new { lookup (is_at (address_cmp address)) snaps.old ≡ None }
+        ensures values { OnOk result (AreOf (left_by self.now.journal) snaps.new) }
+        ensures longer { OnOk result (length snaps.new ≡ length snaps.old + 1) }
     {
         let value = self.values.value_at(alloc, &address)?;
         let base = self.journal.len() as u64;
@@ -49,20 +54,20 @@ impl World {
         Ok(())
     }
 
-    /// The run of a body on the state that the journal leaves. It runs anew each time that it needs one more value, and
-    /// so many values as it may need here are in no memory.
+    /// The run of a body on the state that the journal leaves. It runs anew each time that it needs one more value, which
+    /// is always a new one, so this ends.
     pub fn run(&self, alloc: Global, body: &Checked) -> Result<Run, AllocError>
         requires { Keeps self.now }
-        ensures { IfOk result (λ r. exec body.now.body (known (left_by self.now.journal)) ≡ done r) }
+        ensures { IfOk result (λ run. run ≡ run_on body.now.body (left_by self.now.journal)) }
     {
         let mut snaps = Snaps::new(alloc);
-        for _ in 0..usize::MAX {
+        loop {
+            let _held = snaps.len();
             match run(alloc, body, &snaps)? {
                 Step::Done(run) => return Ok(run),
                 Step::Need(address) => self.snap(alloc, &mut snaps, address)?,
             }
         }
-        Err(AllocError)
     }
 
     /// Adds the commit of a run. After want of memory the world is of no use.

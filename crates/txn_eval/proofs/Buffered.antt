@@ -1,32 +1,28 @@
 -- What the code keeps goes with the body's own operations.
 use Rattle.std.proofs.Common.{◌≡◌, Bool, true, false, List, [], ◌∷◌, ◌++◌, Option, Some, None, refl, ap, sym, ◌∙◌, subst, cond}
-use Rattle.std.specs.List.{AllByRecursion}
 use Rattle.std.proofs.lemmas.List.Sums.{fold-append}
 use Rattle.rdt_types.specs.declared.address.Address.{Address}
 use Rattle.rdt_types.specs.declared.value.Value.{Value}
-use Rattle.rdt_types.specs.declared.delta.Delta.{Delta}
 use Rattle.rdt_types.specs.declared.operation.WriteOp.{WriteOp}
-use Rattle.rdt_types.specs.declared.outcome.Item.{Item}
 use Rattle.rdt_types.specs.Values.{kind_written, default_of}
 use Rattle.rdt_types.specs.Deltas.{delta_of}
-use Rattle.rdt_types.specs.DeltaMaps.{delta_at, with_delta}
+use Rattle.rdt_types.specs.DeltaMaps.{with_delta}
 use Rattle.conflict_table.specs.declared.read.ReadOp.{ReadOp}
 use Rattle.conflict_table.specs.Reads.{replay, answer, is_decided, observed}
-use Rattle.conflict_table.specs.Composed.{composed_of, left_by, is_decided_by, observed_by}
+use Rattle.conflict_table.specs.Composed.{composed_of, left_by, observed_by}
 use Rattle.conflict_table.proofs.Composing.{reads_go_by_compositions}
 use Rattle.txn_trees.specs.declared.statement.Body.{Body}
 use Rattle.write_buffer.specs.declared.asked.Asked.{Asked}
 use Rattle.write_buffer.specs.declared.asked.Asked.TheVariants.{Answered, Need}
 use Rattle.write_buffer.specs.Asking.{asked, asked_over, with_value}
-use Rattle.txn_lang.specs.declared.limits.TheConstants.{TICK_LIMIT}
 use Rattle.txn_lang.specs.declared.progress.Stop.TheVariants as stop
 use Rattle.txn_lang.specs.declared.progress.Progress.{Progress}
 use Rattle.txn_lang.specs.States.{PartialState}
 use Rattle.txn_lang.specs.Own.{Operations, at_address, with_seen, deltas_of, AreOfTheirKinds}
-use Rattle.txn_lang.specs.Steps.{Memory, Step, stopped, gives, Stepping, answered, read_at, write_at}
+use Rattle.txn_lang.specs.Steps.{Step, stopped, gives, Stepping, answered, read_at, write_at}
 use Rattle.txn_lang.specs.Items.{Names}
 use Rattle.txn_lang.specs.Rules.{body_run}
-use Rattle.txn_lang.specs.Execution.{Ran, Own, own, own_read, own_value, own_write, ended, own_run, exec, begun, nothing_yet}
+use Rattle.txn_lang.specs.Execution.{Own, own, own_read, own_value, ended, own_run, exec, begun, nothing_yet}
 use Rattle.txn_lang.proofs.Replay.{delta_at-deltas, AllOf-at_address}
 use Rattle.txn_lang.proofs.Simulation.{Suits, Simulates, Fine, Same, onto, body_simulates, answered_bounded, answered_lacking}
 use Rattle.txn_eval.specs.declared.kept.Kept.{Kept}

@@ -1,8 +1,8 @@
 -- How a run over deltas ends.
-use Rattle.std.proofs.Common.{◌≡◌, ◌≢◌, [], Result, Ok, Err, refl, ap, sym, ◌∙◌}
+use Rattle.std.proofs.Common.{◌≡◌, Result, Ok, Err, ap, sym, ◌∙◌}
 use Rattle.txn_lang.specs.declared.progress.Stop.{Stop}
 use Rattle.txn_lang.specs.declared.progress.Progress.{Progress}
-use Rattle.txn_lang.specs.Steps.{Step, stopped, gives}
+use Rattle.txn_lang.specs.Steps.{Step}
 use Rattle.txn_lang.specs.Items.{Names}
 use Rattle.txn_lang.specs.Execution.{Ran}
 use Rattle.txn_eval.specs.declared.kept.Kept.{Kept}

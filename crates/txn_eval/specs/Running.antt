@@ -1,5 +1,5 @@
 -- What a run comes to, and on which values it rests.
-use Rattle.std.specs.Prelude.{◌≡◌, List, Option, refl}
+use Rattle.std.specs.Prelude.{List}
 use Rattle.std.specs.Option.{option_map}
 use Rattle.std.specs.Map.{lookup}
 use Rattle.std.specs.BTreeMap.{is_at}

@@ -9,18 +9,19 @@ ghost use Rattle.txn_eval.specs.code.Lengths.{length_run};
 ghost use Rattle.txn_eval.specs.Running.{values_of};
 
 use crate::charging::charge;
+use crate::environment::Environment;
 use crate::items::{
     bool_in, compares, decides, elements_in, int_in, into_text, joined, length_item, negated,
     shown_int, texts_of,
 };
 use crate::kept::Kept;
 use crate::memory::read_at;
-use crate::naming::{bound_to, named};
+use crate::naming::named;
 use crate::sizes::sized;
 use crate::words::read_of;
 use rdt_types::{Address, Item, ItemList, Kind};
 use std::alloc::Global;
-use txn_lang::{NameList, Progress, Snaps, Stop};
+use txn_lang::{Progress, Snaps, Stop};
 use txn_trees::{Expr, ExprNode, Operand, ReadWord};
 
 /// Does one further operand of a chain, unless the item so far decides.
@@ -28,7 +29,7 @@ use txn_trees::{Expr, ExprNode, Operand, ReadWord};
 fn link(
     alloc: Global,
     snaps: &Snaps,
-    names: &NameList,
+    names: &Environment,
     run: &mut Progress<Kept>,
     item: Item,
     operand: &Operand,
@@ -48,7 +49,7 @@ fn link(
 fn chain(
     alloc: Global,
     snaps: &Snaps,
-    names: &NameList,
+    names: &Environment,
     run: &mut Progress<Kept>,
     first: Item,
     operands: &[Operand],
@@ -67,7 +68,7 @@ fn chain(
 pub(crate) fn values_of(
     alloc: Global,
     snaps: &Snaps,
-    names: &NameList,
+    names: &Environment,
     run: &mut Progress<Kept>,
     exprs: &[Expr],
 ) -> Result<ItemList, Stop>
@@ -107,7 +108,7 @@ fn read(
 fn length_in(
     alloc: Global,
     snaps: &Snaps,
-    names: &NameList,
+    names: &Environment,
     run: &mut Progress<Kept>,
     expr: &Expr,
 ) -> Result<Item, Stop>
@@ -116,7 +117,7 @@ fn length_in(
     match &expr.node {
         ExprNode::Name(name) => {
             charge(run, 1)?;
-            match bound_to(names.as_slice(), name) {
+            match names.item_of(name) {
                 Some(item) => Ok(length_item(item)?),
                 None => Ok(Item::Int(0)),
             }
@@ -133,7 +134,7 @@ fn length_in(
 pub fn value_of(
     alloc: Global,
     snaps: &Snaps,
-    names: &NameList,
+    names: &Environment,
     run: &mut Progress<Kept>,
     expr: &Expr,
 ) -> Result<Item, Stop>
@@ -171,7 +172,7 @@ pub fn value_of(
         }
         ExprNode::Name(name) => {
             charge(run, 1)?;
-            Ok(named(names.as_slice(), name)?)
+            Ok(named(names, name)?)
         }
         ExprNode::Texts(elements) => {
             charge(run, 1)?;

@@ -6,6 +6,7 @@
 #![tactic(auto)]
 
 mod charging;
+mod environment;
 mod expression;
 mod items;
 mod kept;

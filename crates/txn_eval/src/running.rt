@@ -6,12 +6,13 @@ ghost use Rattle.txn_eval.specs.Running.{ran_of, values_of};
 ghost use Rattle.txn_eval.specs.code.Answers.{EndsAs};
 ghost use Rattle.txn_eval.specs.code.Buffering.{exec_over};
 
+use crate::environment::Environment;
 use crate::kept::Kept;
 use crate::statement::steps_of;
 use plain_data::Sequence;
 use rdt_types::{Address, DeltaMap, ItemList, Outcome};
 use std::alloc::{AllocError, Global};
-use txn_lang::{Checked, NameList, Progress, Run, Snaps, Stop};
+use txn_lang::{Checked, Progress, Run, Snaps, Stop};
 use txn_trees::Body;
 use write_buffer::Buffer;
 
@@ -85,7 +86,7 @@ fn ended(alloc: Global, run: Progress<Kept>, ran: Result<(), Stop>) -> Result<St
 fn run_body(alloc: Global, snaps: &Snaps, body: &Body) -> Result<Step, AllocError>
     ensures { IfOk result (λ step. ran_of step ≡ exec_over body.now (values_of snaps.now)) }
 {
-    let mut names = NameList::new(alloc);
+    let mut names = Environment::new(alloc);
     let mut run = Progress {
         memory: Kept {
             buffer: Buffer::new(alloc),

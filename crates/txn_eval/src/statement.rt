@@ -8,16 +8,18 @@ ghost use Rattle.txn_eval.specs.code.Buffering.{kept};
 ghost use Rattle.txn_eval.specs.Running.{values_of};
 
 use crate::charging::{carry, charge};
+use crate::environment::Environment;
 use crate::expression::{value_of, values_of};
 use crate::items::{bool_in, into_text, into_texts};
 use crate::kept::Kept;
 use crate::loads::{emit_size, write_size};
 use crate::memory::write_at;
+use crate::naming::forget;
 use crate::words::write_of;
 use plain_data::Text;
 use rdt_types::{Address, Item, Kind};
 use std::alloc::Global;
-use txn_lang::{NameList, Progress, Snaps, Stop};
+use txn_lang::{Progress, Snaps, Stop};
 use txn_trees::{Stmt, StmtNode, WriteWord};
 
 /// Emits an item.
@@ -62,7 +64,7 @@ fn write(
 pub(crate) fn steps_of(
     alloc: Global,
     snaps: &Snaps,
-    names: &mut NameList,
+    names: &mut Environment,
     run: &mut Progress<Kept>,
     stmts: &[Stmt],
 ) -> Result<(), Stop>
@@ -79,7 +81,7 @@ pub(crate) fn steps_of(
 fn block(
     alloc: Global,
     snaps: &Snaps,
-    names: &mut NameList,
+    names: &mut Environment,
     run: &mut Progress<Kept>,
     stmts: &[Stmt],
 ) -> Result<(), Stop>
@@ -87,7 +89,7 @@ fn block(
 {
     let outside = names.len();
     steps_of(alloc, snaps, names, run, stmts)?;
-    names.truncate(outside);
+    forget(names, outside)?;
     Ok(())
 }
 
@@ -96,7 +98,7 @@ fn block(
 fn turn(
     alloc: Global,
     snaps: &Snaps,
-    names: &mut NameList,
+    names: &mut Environment,
     run: &mut Progress<Kept>,
     name: &Text,
     text: &Text,
@@ -106,10 +108,10 @@ fn turn(
 {
     charge(run, 1)?;
     let count = names.len();
-    let bound = (name.clone()?, Item::Text(text.clone()?));
-    names.push(bound)?;
+    let text = text.clone()?;
+    names.bind(name, Item::Text(text))?;
     steps_of(alloc, snaps, names, run, stmts)?;
-    names.truncate(count);
+    forget(names, count)?;
     Ok(())
 }
 
@@ -118,7 +120,7 @@ fn turn(
 fn turns(
     alloc: Global,
     snaps: &Snaps,
-    names: &mut NameList,
+    names: &mut Environment,
     run: &mut Progress<Kept>,
     name: &Text,
     texts: &[Text],
@@ -137,7 +139,7 @@ fn turns(
 fn step(
     alloc: Global,
     snaps: &Snaps,
-    names: &mut NameList,
+    names: &mut Environment,
     run: &mut Progress<Kept>,
     stmt: &Stmt,
 ) -> Result<(), Stop>
@@ -147,8 +149,7 @@ fn step(
     match &stmt.node {
         StmtNode::Let(name, expr) => {
             let item = value_of(alloc, snaps, names, run, expr)?;
-            let name = name.clone()?;
-            names.push((name, item))?;
+            names.bind(name, item)?;
             Ok(())
         }
         StmtNode::Emit(expr) => {

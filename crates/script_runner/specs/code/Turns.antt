@@ -1,18 +1,20 @@
--- What the loop of a run knows: of one line, and of those so far. The laws of proofs/Turns.antt and proofs/Plays.antt tie
--- it to the ways in which a run may end.
+-- What the loop of a run knows: of one line, of those so far, and of the end. The laws of proofs/Turns.antt,
+-- proofs/Plays.antt and proofs/Promises.antt tie it to what a run promises.
 use Rattle.std.specs.Prelude.{◌≡◌, ℕ, ◌⊎◌, Bool, true, false, List, [], ◌∷◌, ◌++◌, length, Option, Result, Ok, Err}
 use Rattle.plain_data.specs.declared.or_no_memory.OrNoMemory.{OrNoMemory}
 use Rattle.plain_data.specs.declared.or_no_memory.OrNoMemory.TheVariants as stop
 use Rattle.dio_core.specs.Told.{WhereTold}
+use Rattle.dio_core.specs.Counts.{Rose}
 use Rattle.dio_core.specs.Lines.{lines, BreaksOff}
-use Rattle.dio_core.specs.Sinks.{with_more, TakesPrefix}
+use Rattle.dio_core.specs.Sinks.{with_more, TakesPrefix, IsPassedOn}
 use Rattle.rdt_types.specs.declared.settings.Settings.{Settings}
 use Rattle.txn_grammar.specs.Characters.{Text}
 use Rattle.txn_lang.specs.States.{Journal}
+use Rattle.script_runner.specs.declared.status.TheConstants.{WHOLE, READ_FAULT, WRITE_FAULT, NO_MEMORY, TOO_MANY_LINES}
 use Rattle.script_runner.specs.declared.stop.Cause.{Cause}
 use Rattle.script_runner.specs.declared.stop.Cause.TheVariants as cause
 use Rattle.script_runner.specs.Play.{ScriptWorld, world_of, played, world_after, reply_to}
-use Rattle.script_runner.specs.Script.{IsPlayed, IsBrokenOff, HasTooManyLines, IsCutOff, IsCutOffBehindLine}
+use Rattle.script_runner.specs.Script.{Writing, IsPlayed, IsBrokenOff, HasTooManyLines, IsCutOff, IsCutOffBehindLine, TriesFlush}
 
 -- What a run has at a moment: its world, what the source has left, and what the sink has taken.
 pub record Moment : Type 0 where
@@ -97,3 +99,19 @@ Ends settings (Err stop.NoMemory) taken taken_then = IsCutOff settings taken tak
 -- what a run did, of a source that may not tell what it has left
 abbrev pub Ran : Settings → Result (Unit {0}) (OrNoMemory Cause) → Moment → Moment → Type 0
 Ran settings result start now = WhereTold (Ends settings result start.taken now.taken) start.left now.left
+
+-- ---- the end
+
+-- all lines were read: a flush passed on what was taken, or it failed and was counted
+abbrev pub ClosesWhole : ℕ → Writing → Type 0
+ClosesWhole status w =
+    ((status ≡ WHOLE) × (w.faults_then ≡ w.faults) × IsPassedOn w.taken_then w.passed_then)
+    ⊎ ((status ≡ WRITE_FAULT) × Rose w.faults w.faults_then)
+
+-- The status that a run answers whose lines ended so. A flush is tried unless a write failed or memory was wanting.
+abbrev pub Closes : Result (Unit {0}) (OrNoMemory Cause) → ℕ → Writing → Type 0
+Closes (Ok done) status w = ClosesWhole status w
+Closes (Err (stop.Cause cause.ReadFault)) status w = (status ≡ READ_FAULT) × TriesFlush w
+Closes (Err (stop.Cause cause.TooManyLines)) status w = (status ≡ TOO_MANY_LINES) × TriesFlush w
+Closes (Err (stop.Cause cause.WriteFault)) status w = (status ≡ WRITE_FAULT) × (w.faults_then ≡ w.faults)
+Closes (Err stop.NoMemory) status w = (status ≡ NO_MEMORY) × (w.faults_then ≡ w.faults)

@@ -4,7 +4,6 @@ use Rattle.txn_lang.specs.declared.progress.Stop.{Stop}
 use Rattle.txn_lang.specs.declared.progress.Stop.TheVariants as stop
 use Rattle.txn_lang.specs.declared.progress.Progress.{Progress}
 use Rattle.txn_lang.specs.Steps.{Step, stopped, gives}
-use Rattle.txn_lang.specs.Items.{Names}
 use Rattle.txn_lang.specs.Execution.{Ran}
 use Rattle.txn_eval.specs.declared.kept.Kept.{Kept}
 use Rattle.txn_eval.specs.code.Buffering.{kept_ended}

@@ -1,5 +1,5 @@
 -- The code's memory: deltas in place of operations. The lemma `exec_is_over` of proofs/Buffered ties a run over it to `exec`.
-use Rattle.std.specs.Prelude.{◌≡◌, List, [], Option, Some, None}
+use Rattle.std.specs.Prelude.{[], Option, Some, None}
 use Rattle.rdt_types.specs.declared.address.Address.{Address}
 use Rattle.rdt_types.specs.declared.operation.WriteOp.{WriteOp}
 use Rattle.rdt_types.specs.declared.outcome.Item.{Item}
@@ -7,7 +7,6 @@ use Rattle.rdt_types.specs.declared.outcome.Outcome.TheVariants as outcome
 use Rattle.rdt_types.specs.Deltas.{delta_of}
 use Rattle.rdt_types.specs.DeltaMaps.{with_delta}
 use Rattle.conflict_table.specs.declared.observation.Obs.{Obs}
-use Rattle.conflict_table.specs.declared.read.ReadOp.{ReadOp}
 use Rattle.txn_trees.specs.declared.statement.Body.{Body}
 use Rattle.write_buffer.specs.declared.asked.Asked.{Asked}
 use Rattle.write_buffer.specs.declared.asked.Asked.TheVariants.{Answered, Need}

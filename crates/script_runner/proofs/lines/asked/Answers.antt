@@ -1,4 +1,4 @@
-use Rattle.std.proofs.Common.{Option, refl, ap, sym, ◌∙◌, subst}
+use Rattle.std.proofs.Common.{Option, ap, sym, ◌∙◌, subst}
 use Rattle.dio_core.specs.declared.line.TheConstants.{LONGEST_LINE}
 use Rattle.session_text.specs.declared.verb.Verb.{Verb}
 use Rattle.script_runner.specs.Play.{of_asked}

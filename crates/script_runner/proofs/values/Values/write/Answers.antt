@@ -11,7 +11,7 @@ loop-address-preserved c a =
     let i = c.loop-address.address-index in
     let item = c.loop-address-item.result in
     let longer = take_more items i item (omega arith) ∙ ap (λ d. take i items ++ d ∷ []) (sym c.loop-address-item.is) in
-    c.in_ok-write_one.ensures a
+    c.in_ok-write_one.ensures.ok a
     ∙ (with_written-alike (state_in c.loop-address.self) (written (take i items) m) item a c.loop-address.invariant
     ∙ (sym (written-push (take i items) item m a)
     ∙ ap (λ ds. written ds m a) (sym longer)))

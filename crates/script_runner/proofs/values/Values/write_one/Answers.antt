@@ -6,8 +6,8 @@ use Rattle.script_runner.specs.Values.{state_in}
 use Rattle.script_runner.proofs.Writes.{found-written}
 use Rattle.script_runner.proofs.values.Values.write_one.Goals as goal
 
-pub returns : goal.returns
-returns c a =
+pub returns-clause-ok : goal.returns-clause-ok
+returns-clause-ok c a =
     let m = state_in c.args.self.now in
     let same : c.in_ok-address.address ≡ c.args.address.now = search rules in
     let value = c.in_ok-value.ensures ∙ ap (apply c.args.delta.now) c.in_ok-value_at.ensures in

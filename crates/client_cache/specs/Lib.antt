@@ -1,0 +1,4 @@
+pub mod Histories
+pub mod Cached
+pub mod Laws
+pub mod code

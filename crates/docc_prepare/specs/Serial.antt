@@ -1,0 +1,59 @@
+-- Serializability, without any code. The journal is a serial order: each commit has the outcome and the writes that its body
+-- has when it runs alone on what the commits before it leave, though it ran earlier, on values that it read at fronts of
+-- their own. These are the laws by which this is so.
+use Rattle.std.specs.Prelude.{◌≡◌, ℕ, List, [], ◌∷◌, ◌++◌, Some}
+use Rattle.std.specs.List.{AllByRecursion}
+use Rattle.rdt_types.specs.Deltas.{kind_changed}
+use Rattle.rdt_types.specs.DeltaMaps.{Deltas}
+use Rattle.txn_lang.specs.declared.commit.Commit.{Commit}
+use Rattle.txn_lang.specs.declared.run.Run.{Run}
+use Rattle.txn_lang.specs.States.{Journal, known, left_by}
+use Rattle.txn_lang.specs.Execution.{done, exec}
+use Rattle.txn_lang.specs.Journals.{IsLegal, commit_of}
+use Rattle.txn_lang.specs.Tree.{tree}
+use Rattle.journal_core.specs.Pairs.{pairs, past_fronts, AreNumbered}
+use Rattle.docc_prepare.specs.declared.attempt.Attempt.{Attempt}
+use Rattle.docc_prepare.specs.Attempts.{ran, based, Fits}
+
+-- each delta is of the kind of its address
+abbrev pub AreOfTheirKinds : Deltas → Type 0
+AreOfTheirKinds deltas = AllByRecursion (λ pair. kind_changed pair.1 ≡ pair.0.kind) deltas
+
+-- A journal that is read commit by commit: they are numbered from 1, and their deltas are of the kinds of their addresses.
+pub record IsOrderly (journal : Journal) : Type 0 where
+  pub numbered : AreNumbered journal
+  pub kinds : AllByRecursion (λ commit. AreOfTheirKinds commit.deltas) journal
+
+-- A legal journal of which nothing is taken on trust is orderly.
+abbrev pub LegalIsOrderly : Type 0
+LegalIsOrderly = (journal : Journal) → IsLegal 0 journal → IsOrderly journal
+
+-- What fits a journal fits it when it has grown.
+abbrev pub FitsStays : Type 0
+FitsStays = (journal later : Journal) (attempt : Attempt) → Fits journal attempt → Fits (journal ++ later) attempt
+
+-- An attempt has run, and no commit of the journal clashes with what it observed, past the bases of that.
+pub record RanUndisturbed (journal : Journal) (attempt : Attempt) (run : Run) : Type 0 where
+  pub fits : Fits journal attempt
+  pub runs : ran attempt ≡ done run
+  pub undisturbed : pairs (based attempt.snaps run.observations) journal ≡ []
+
+-- The heart: such an attempt runs on what the whole journal leaves exactly as it ran on what it read.
+abbrev pub RunsAsItRan : Type 0
+RunsAsItRan =
+    (journal : Journal) (attempt : Attempt) (run : Run) → IsOrderly journal → RanUndisturbed journal attempt run
+    → exec attempt.body.body (known (left_by journal)) ≡ done run
+
+-- So its commit may follow the journal: the journal's order stays a serial order with the same outcomes.
+abbrev pub AppendingStaysLegal : Type 0
+AppendingStaysLegal =
+    (m client : ℕ) (journal : Journal) (attempt : Attempt) (run : Run) → tree attempt.body.source ≡ Some attempt.body.body
+    → IsOrderly journal → IsLegal m journal → RanUndisturbed journal attempt run
+    → IsLegal m (journal ++ commit_of journal client attempt.body.source run ∷ [])
+
+-- What was prepared need not be looked at again: to look past the fronts alone is to look at all pairs.
+abbrev pub FrontsSpareNoPair : Type 0
+FrontsSpareNoPair =
+    (journal : Journal) (attempt : Attempt) (run : Run) → AreNumbered journal → Fits journal attempt → ran attempt ≡ done run
+    → pairs (past_fronts attempt.shards attempt.fronts (based attempt.snaps run.observations)) journal
+    ≡ pairs (based attempt.snaps run.observations) journal

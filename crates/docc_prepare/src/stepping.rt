@@ -1,0 +1,103 @@
+//! Attempts step by step: the next event, and what is taken of its answer.
+
+ghost use Rattle.std.specs.Prelude.{◌≡◌, ◌≤◌, [], IfOk, OnOk, OnErr};
+ghost use Rattle.rdt_types.specs.declared.limits.TheConstants.{LEAST_SHARDS, MOST_SHARDS};
+ghost use Rattle.txn_lang.specs.Execution.{done};
+ghost use Rattle.docc_prepare.specs.Attempts as spec;
+ghost use Rattle.docc_prepare.specs.Attempts.{Prepares};
+
+use crate::attempt::{Attempt, Next};
+use crate::observed;
+use crate::order::least_unprepared;
+use abort_witness::BasedList;
+use journal_core::{FrontList, PreparedFront, Ready};
+use plain_data::OrderedMap;
+use rdt_types::Address;
+use std::alloc::{AllocError, Global};
+use txn_eval::{Step, run};
+use txn_lang::{Checked, Run, Snap};
+use version_shard::Prepared;
+
+impl Attempt {
+    /// An attempt at a body, of which nothing was read or prepared. It takes no memory yet.
+    pub fn begin(alloc: Global, body: Checked, shards: u8) -> Attempt
+        requires shards { (LEAST_SHARDS ≤ shards) × (shards ≤ MOST_SHARDS) }
+        ensures body { result.body ≡ body }
+        ensures shards { result.shards ≡ shards }
+        ensures unread { result.snaps ≡ [] }
+        ensures unprepared { result.fronts ≡ [] }
+    {
+        Attempt {
+            body,
+            shards,
+            snaps: OrderedMap::new(alloc),
+            fronts: FrontList::new(alloc),
+        }
+    }
+
+    /// What comes next where the run is done.
+    fn after_run(&self, run: Run) -> Next
+        ensures { result ≡ spec.next_of self.now.shards self.now.fronts (done run) }
+    {
+        let observations = run.observations.as_slice();
+        match least_unprepared(self.shards, self.fronts.as_slice(), observations) {
+            Some(shard) => Next::Prepare(shard, run),
+            None => Next::Append(run),
+        }
+    }
+
+    /// The next event. The body is run from its start.
+    pub fn next(&self, alloc: Global) -> Result<Next, AllocError>
+        ensures { IfOk result (λ next. next ≡ spec.next_event self.now) }
+    {
+        match run(alloc, &self.body, &self.snaps)? {
+            Step::Need(address) => Ok(Next::Read(address)),
+            Step::Done(run) => Ok(self.after_run(run)),
+        }
+    }
+
+    /// Takes the value that was read at an address, with the front at which it was.
+    pub fn take_snap(&mut self, address: Address, snap: Snap) -> Result<(), AllocError>
+        requires next { spec.next_event self.old ≡ Next.Read address }
+        ensures ok { OnOk result (self.new ≡ spec.with_snap self.old address snap) }
+        ensures err { OnErr result (self.new ≡ self.old) }
+    {
+        self.snaps.insert(address, snap)
+    }
+
+    /// Takes the front at which a shard was prepared.
+    pub fn take_prepared(&mut self, prepared: Prepared) -> Result<(), AllocError>
+        requires next { Prepares self.old prepared.shard }
+        ensures ok { OnOk result (self.new ≡ spec.with_front self.old prepared.shard prepared.front) }
+        ensures err { OnErr result (self.new ≡ self.old) }
+    {
+        self.fronts.push(PreparedFront {
+            shard: prepared.shard,
+            front: prepared.front,
+        })
+    }
+
+    /// What a run observed in a shard, with the bases at which it was read.
+    pub fn based(&self, alloc: Global, run: &Run, shard: u8) -> Result<BasedList, AllocError>
+        ensures { IfOk result (λ all. all ≡ spec.in_shard self.now.shards shard (spec.based self.now.snaps run.now.observations)) }
+    {
+        let observations = run.observations.as_slice();
+        observed::based_in(alloc, &self.snaps, observations, self.shards, shard)
+    }
+
+    /// What is handed to the journal: the run with all that it is validated by.
+    pub fn ready(&self, alloc: Global, run: Run, client: u32, seq: u64) -> Result<Ready, AllocError>
+        requires next { spec.next_event self.now ≡ Next.Append run }
+        ensures { IfOk result (λ ready. ready ≡ spec.ready_of self.now run client seq) }
+    {
+        let based = observed::based(alloc, &self.snaps, run.observations.as_slice())?;
+        Ok(Ready {
+            client,
+            seq,
+            body: self.body.source.clone()?,
+            run,
+            based,
+            fronts: self.fronts.clone()?,
+        })
+    }
+}

@@ -1,0 +1,152 @@
+//! Attempts stepped through by hand. Shard numbers were worked out apart from the code, by the rule of the printed address.
+
+use crate::{Attempt, Next};
+use abort_witness::Based;
+use conflict_table::Obs;
+use journal_core::Ready;
+use plain_data::{Sequence, Text};
+use rdt_types::Value;
+use std::alloc::{AllocError, Global};
+use std::test::Fail;
+use txn_lang::{CheckError, Checked, Snap, check};
+use txn_parse::parse;
+use version_shard::Prepared;
+
+/// A body that is read and checked.
+fn checked(alloc: Global, source: &[u8]) -> Result<Checked, CheckError> {
+    if source.len() > 4096 {
+        return Err(CheckError::NoMemory);
+    }
+    let Ok(body) = parse(alloc, source) else {
+        return Err(CheckError::NoMemory);
+    };
+    let Ok(text) = Text::from_slice(alloc, source) else {
+        return Err(CheckError::NoMemory);
+    };
+    check(alloc, body, text, false)
+}
+
+/// The shards that an attempt prepares, in order. Each address is read as 0, at a base, and each shard is prepared there.
+fn stepped(
+    alloc: Global,
+    body: Checked,
+    shards: u8,
+    base: u64,
+) -> Result<Sequence<u8>, AllocError> {
+    if shards < 1 || shards > 16 {
+        return Err(AllocError);
+    }
+    let mut attempt = Attempt::begin(alloc, body, shards);
+    let mut prepared = Sequence::new(alloc);
+    for _ in 0..40 {
+        match attempt.next(alloc)? {
+            Next::Read(address) => {
+                let value = Value::Counter(0);
+                attempt.take_snap(address, Snap { base, value })?;
+            }
+            Next::Prepare(shard, _) => {
+                prepared.push(shard)?;
+                attempt.take_prepared(Prepared { shard, front: base })?;
+            }
+            Next::Append(_) => return Ok(prepared),
+        }
+    }
+    Err(AllocError)
+}
+
+/// Whether these shards are prepared for a body, in this order.
+fn prepares(alloc: Global, source: &[u8], shards: u8, wanted: &[u8]) -> bool {
+    let Ok(body) = checked(alloc, source) else {
+        return false;
+    };
+    match stepped(alloc, body, shards, 3) {
+        Ok(prepared) => prepared.as_slice() == wanted,
+        Err(_) => false,
+    }
+}
+
+#[test]
+fn shards_are_prepared_in_rising_order(rt: HostRuntime) -> Result<(), Fail> {
+    let alloc = rt.alloc();
+    let update = b"counter(\"x\").put(counter(\"x\").get() + 1);";
+    let skew = b"if counter(\"y\").get() == 0 { counter(\"x\").put(1); }";
+    let mixed = b"emit counter(\"y\").get(); emit counter(\"x\").get();";
+    let blind = b"counter(\"x\").add(2);";
+    assert!(&rt; prepares(alloc, update, 4, &[1]));
+    assert!(&rt; prepares(alloc, skew, 4, &[2]));
+    assert!(&rt; prepares(alloc, mixed, 4, &[1, 2]));
+    assert!(&rt; prepares(alloc, blind, 4, &[]));
+    Ok(())
+}
+
+#[test]
+fn all_shards_are_prepared(rt: HostRuntime) -> Result<(), Fail> {
+    let body =
+        b"for k in [\"a\",\"b\",\"c\",\"d\",\"e\",\"f\",\"g\",\"h\",\"i\",\"j\",\"k\",\"l\",\"m\",\"n\",\"o\",\"p\"] { emit counter(k).get(); }";
+    let all = [0, 1, 2, 3, 4, 5, 6, 7, 8, 9, 10, 11, 12, 13, 14, 15];
+    assert!(&rt; prepares(rt.alloc(), body, 16, &all));
+    Ok(())
+}
+
+/// What an attempt hands on that reads all counters as 0 at a base and is prepared there, with what it observed in a shard.
+fn handed_on(
+    alloc: Global,
+    body: Checked,
+    shard: u8,
+    base: u64,
+) -> Result<(usize, Ready), AllocError> {
+    let mut attempt = Attempt::begin(alloc, body, 4);
+    for _ in 0..40 {
+        match attempt.next(alloc)? {
+            Next::Read(address) => {
+                let value = Value::Counter(0);
+                attempt.take_snap(address, Snap { base, value })?;
+            }
+            Next::Prepare(shard, _) => attempt.take_prepared(Prepared { shard, front: base })?,
+            Next::Append(run) => {
+                let inside = attempt.based(alloc, &run, shard)?.len();
+                let ready = attempt.ready(alloc, run, 7, 1)?;
+                return Ok((inside, ready));
+            }
+        }
+    }
+    Err(AllocError)
+}
+
+/// Whether a counter was observed at a base.
+fn is_read(based: Option<&Based>, key: &[u8], base: u64) -> bool {
+    match based {
+        Some(found) => {
+            found.obs == Obs::CounterIs && found.address.key.as_slice() == key && found.base == base
+        }
+        None => false,
+    }
+}
+
+/// Whether a body hands on, in the order of its run, that it observed y and then x at 3, one of them in shard 1.
+fn hands_on(alloc: Global, source: &[u8]) -> bool {
+    let Ok(body) = checked(alloc, source) else {
+        return false;
+    };
+    match handed_on(alloc, body, 1, 3) {
+        Ok((inside, ready)) => {
+            let based = ready.based.as_slice();
+            inside == 1
+                && ready.client == 7
+                && ready.seq == 1
+                && ready.body.as_slice() == source
+                && based.len() == 2
+                && is_read(based.first(), b"y", 3)
+                && is_read(based.last(), b"x", 3)
+                && ready.fronts.as_slice().len() == 2
+        }
+        Err(_) => false,
+    }
+}
+
+#[test]
+fn observations_are_handed_on_in_order(rt: HostRuntime) -> Result<(), Fail> {
+    let body = b"emit counter(\"y\").get(); emit counter(\"x\").get();";
+    assert!(&rt; hands_on(rt.alloc(), body));
+    Ok(())
+}

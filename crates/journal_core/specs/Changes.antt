@@ -1,0 +1,70 @@
+-- The changes of a journal's commits: one change is what a commit does at one address.
+use Rattle.std.specs.Prelude.{◌≡◌, ℕ, ◌==◌, nat_lt, nat_le, List, [], ◌∷◌, ◌++◌, map, filter, codes, pos, refl}
+use Rattle.std.specs.BTreeMap.{is_at}
+use Rattle.rdt_types.specs.declared.address.Kind.TheVariants as kind
+use Rattle.rdt_types.specs.declared.address.Address.{Address}
+use Rattle.rdt_types.specs.declared.delta.Delta.TheVariants as delta
+use Rattle.rdt_types.specs.declared.outcome.Outcome.TheVariants as outcome
+use Rattle.rdt_types.specs.Addresses.{address_cmp}
+use Rattle.rdt_types.specs.DeltaMaps.{Deltas}
+use Rattle.rdt_types.specs.Shards.{shard_of}
+use Rattle.change_feed.specs.declared.change.Change.{Change}
+use Rattle.txn_lang.specs.declared.commit.Commit.{Commit}
+use Rattle.txn_lang.specs.States.{Journal}
+
+-- the changes that the commit of a number makes by its deltas
+abbrev pub changes_by : ℕ → Deltas → List Change
+changes_by number deltas = map (λ pair. record { number = number; address = pair.0; delta = pair.1 }) deltas
+
+-- the changes of one commit, by rising address
+abbrev pub changes_of : Commit → List Change
+changes_of commit = changes_by commit.number commit.deltas
+
+-- all changes of a journal, commit after commit
+abbrev pub changes : Journal → List Change
+changes [] = []
+changes (commit ∷ rest) = changes_of commit ++ changes rest
+
+-- the changes of commits past a number
+abbrev pub past : ℕ → List Change → List Change
+past from all = filter (λ change. nat_lt from change.number) all
+
+-- the changes of commits up to a number
+abbrev pub up_to : ℕ → List Change → List Change
+up_to to all = filter (λ change. nat_le change.number to) all
+
+-- the changes of commits past one number and up to another
+abbrev pub between : ℕ → ℕ → List Change → List Change
+between from to all = past from (up_to to all)
+
+-- the changes in one of so many shards
+abbrev pub of_shard : ℕ → ℕ → List Change → List Change
+of_shard shards shard all = filter (λ change. shard_of change.address shards == shard) all
+
+-- the changes at one address
+abbrev pub of_address : Address → List Change → List Change
+of_address address all = filter (λ change. is_at (address_cmp address) change.address) all
+
+-- ---- worked lines
+
+abbrev counter : List ℕ → Address
+counter key = record { kind = kind.Counter; key = key }
+
+-- a commit that adds to the counter of a key
+abbrev pub adding : ℕ → List ℕ → Commit
+adding number key = record {
+  number = number;
+  client = 0;
+  seq = number;
+  body = [];
+  outcome = outcome.Ok [];
+  deltas = (counter key, delta.AddCounter (pos 1)) ∷ [];
+}
+
+-- past 1 and up to 2 there is the second commit's change alone
+between-example : between 1 2 (changes (adding 1 (codes "x") ∷ adding 2 (codes "y") ∷ adding 3 (codes "x") ∷ [])) ≡ changes_of (adding 2 (codes "y"))
+between-example = refl
+
+-- among four shards, the counter x is in shard 1
+of_shard-example : of_shard 4 1 (changes (adding 1 (codes "x") ∷ [])) ≡ changes_of (adding 1 (codes "x"))
+of_shard-example = refl

@@ -1,0 +1,44 @@
+-- What a keeper keeps: a list of commits, which it may tell or not.
+use Rattle.std.specs.Prelude.{◌≡◌, ℕ, ◌+◌, ◌<◌, ◌≤◌, if◌then◌else◌, nat_lt, List, [], ◌∷◌, ◌++◌, length, Option, Some, None, IfSome, refl}
+use Rattle.txn_lang.specs.declared.commit.Commit.{Commit}
+use Rattle.txn_lang.specs.declared.run.Run.{Run}
+use Rattle.txn_lang.specs.States.{Journal}
+use Rattle.txn_lang.specs.Journals.{own}
+use Rattle.journal_core.specs.declared.limits.TheConstants.{LONGEST_BODY, FIRST_UNTOLD_CLIENT}
+use Rattle.journal_core.specs.Changes.{adding}
+use Rattle.journal_core.specs.Readies.{IsRunOf}
+
+-- the commit has the next number, and the next seq of its client
+pub record IsNext (before : Journal) (commit : Commit) : Type 0 where
+  pub number : commit.number ≡ length before + 1
+  pub seq : commit.seq ≡ length (own commit.client before) + 1
+
+-- the commit is one of a run, with a body of no more bytes than a line has
+pub record IsOfRun (commit : Commit) : Type 0 where
+  pub run : Run
+  pub ran : IsRunOf commit.body run
+  pub outcome : commit.outcome ≡ run.outcome
+  pub deltas : commit.deltas ≡ run.deltas
+  pub short : length commit.body ≤ LONGEST_BODY
+
+-- The bytes stand for this commit, which may be kept behind the list that is told.
+pub record StandsFor (bytes_of : Commit → List ℕ) (told : Option Journal) (bytes : List ℕ) (commit : Commit) : Type 0 where
+  pub made : bytes ≡ bytes_of commit
+  pub of_run : IsOfRun commit
+  pub next : IfSome told (λ list. IsNext list commit)
+
+abbrev pub CanKeep : (Commit → List ℕ) → Option Journal → List ℕ → Type 0
+CanKeep bytes_of told bytes = (commit : Commit) × StandsFor bytes_of told bytes commit
+
+-- The list with one commit more. It is told only as long as each client in it is below a number.
+abbrev pub kept_after : Option Journal → Commit → Option Journal
+kept_after None commit = None
+kept_after (Some list) commit = if nat_lt commit.client FIRST_UNTOLD_CLIENT then Some (list ++ commit ∷ []) else None
+
+-- what is told goes up by the commit that the bytes stand for
+abbrev pub Keeps : (Commit → List ℕ) → List ℕ → Option Journal → Option Journal → Type 0
+Keeps bytes_of bytes old new = (commit : Commit) → StandsFor bytes_of old bytes commit → new ≡ kept_after old commit
+
+-- a commit of the client 0 is told
+kept_after-example : kept_after (Some []) (adding 1 []) ≡ Some (adding 1 [] ∷ [])
+kept_after-example = refl

@@ -1,0 +1,8 @@
+-- Lists of changes in the order of their commits. The law `changes-rise` says that the changes of a journal are one.
+use Rattle.std.specs.Prelude.{ℕ, ◌≤◌, List, [], ◌∷◌}
+use Rattle.change_feed.specs.declared.change.Change.{Change}
+
+-- the numbers don't fall, from a number on
+abbrev pub Rises : ℕ → List Change → Type 0
+Rises from [] = Unit {0}
+Rises from (change ∷ rest) = (from ≤ change.number) × Rises change.number rest

@@ -1,0 +1,211 @@
+//! The journal, and the decision by which a transaction becomes its next commit or is refused.
+
+ghost use Rattle.std.specs.Prelude.{◌≡◌, ◌+◌, ◌<◌, ◌≤◌, ◌^◌, true, length, slice_get, Option, OnErr, IfOk, IfSome};
+ghost use Rattle.std.specs.Option.{option_copied};
+ghost use Rattle.rdt_types.specs.declared.settings.Settings.{Settings};
+ghost use Rattle.journal_core.specs.Changes as spec;
+ghost use Rattle.journal_core.specs.Pairs.{AreNumbered, past_fronts, most_steps};
+ghost use Rattle.journal_core.specs.Tails.{HasAll};
+ghost use Rattle.journal_core.specs.Readies as readies;
+ghost use Rattle.journal_core.specs.Journals as journals;
+ghost use Rattle.journal_core.specs.Journals.{CanAppend, Decides, IsSlot, IfDiskFault};
+
+use crate::appended::Appended;
+use crate::copying::{changes_by, copied};
+use crate::keep::Keep;
+use crate::log::Log;
+use crate::ready::Ready;
+use crate::slot::Slot;
+use crate::tails::{tail_of_address, tail_of_all, tail_of_shard};
+use change_feed::Tail;
+use conflict_table::Steps;
+use rdt_types::{Address, Settings};
+use std::alloc::{AllocError, Global};
+use std::marker::Model;
+use std::sync::ledger::Ledger;
+use txn_lang::{Commit, CommitList};
+
+/// The commits, numbered from 1, and the keeper behind them. Where the keeper tells, its list is the commits.
+#[derive(Drop)]
+pub struct Journal<K: Keep> {
+    alloc: Global,
+    settings: Settings,
+    log: Log,
+    keeper: K,
+}
+
+impl<K: Keep> Model for Journal<K> {
+    ghost use Rattle.std.specs.Prelude.{◌≡◌, IfSome};
+    ghost use Rattle.txn_lang.specs.contracts.commit.Commit as commit;
+    ghost use Rattle.journal_core.specs.Journals as journals;
+
+    ghost Value = { journals.Standing };
+
+    ghost coded = { journals.standing_code commit.the_row.coded };
+
+    ghost view = { λ j. record { commits = j.log.commits; shards = j.settings.shards; limit = j.settings.limit; faults = K.keep_faults j.keeper; room = j.log.room } };
+
+    ghost invariant = { λ j. IfSome (K.kept j.keeper) (λ list. list ≡ j.log.commits) };
+}
+
+impl<K: Keep> Journal<K> {
+    /// A journal of the commits that are kept already, with the settings of its store.
+    pub fn new(
+        alloc: Global,
+        settings: &Settings,
+        keeper: K,
+        kept: CommitList,
+    ) -> Result<Journal<K>, AllocError>
+        requires numbered { AreNumbered kept }
+        requires told { IfSome (K.kept keeper) (λ list. list ≡ kept) }
+        ensures commits { IfOk result (λ journal. journal.commits ≡ kept) }
+        ensures shards { IfOk result (λ journal. journal.shards ≡ settings.now.shards) }
+        ensures limit { IfOk result (λ journal. journal.limit ≡ settings.now.limit) }
+        ensures faults { IfOk result (λ journal. journal.faults ≡ K.keep_faults keeper) }
+    {
+        let log = Log::of(alloc, kept)?;
+        Ok(Journal {
+            alloc,
+            settings: *settings,
+            log,
+            keeper,
+        })
+    }
+
+    /// How many commits there are.
+    pub fn length(&self) -> u64
+        ensures { result ≡ length self.now.commits }
+    {
+        self.log.commits().len() as u64
+    }
+
+    /// The commit of a number, if there is one.
+    pub fn commit(&self, number: u64) -> Option<&Commit>
+        ensures { option_copied result ≡ journals.commit_at self.now.commits number }
+    {
+        if number == 0 {
+            return None;
+        }
+        self.log.commits().get(number as usize - 1)
+    }
+
+    /// The keeper, and the commits. It takes no memory.
+    pub fn close(self) -> (K, CommitList)
+        ensures commits { result.1 ≡ self.commits }
+        ensures faults { K.keep_faults result.0 ≡ self.faults }
+        ensures kept { IfSome (K.kept result.0) (λ list. list ≡ self.commits) }
+    {
+        let Journal { keeper, log, .. } = self;
+        (keeper, log.into_commits())
+    }
+
+    /// The changes in a shard, of commits past one number and up to another.
+    pub fn tail(&self, shard: u8, from: u64, to: u64) -> Result<Tail, AllocError>
+        requires order { from ≤ to }
+        requires within { to ≤ length self.now.commits }
+        ensures { IfOk result (HasAll from to (spec.of_shard self.now.shards shard (spec.between from to (spec.changes self.now.commits)))) }
+    {
+        tail_of_shard(
+            self.alloc,
+            self.log.changes(),
+            self.settings.shards,
+            shard,
+            from,
+            to,
+        )
+    }
+
+    /// The changes at an address, of commits past one number and up to another.
+    pub fn tail_of(&self, address: &Address, from: u64, to: u64) -> Result<Tail, AllocError>
+        requires order { from ≤ to }
+        requires within { to ≤ length self.now.commits }
+        ensures { IfOk result (HasAll from to (spec.of_address address.now (spec.between from to (spec.changes self.now.commits)))) }
+    {
+        tail_of_address(self.alloc, self.log.changes(), address, from, to)
+    }
+
+    /// All changes of commits past one number and up to another.
+    pub fn tail_all(&self, from: u64, to: u64) -> Result<Tail, AllocError>
+        requires order { from ≤ to }
+        requires within { to ≤ length self.now.commits }
+        ensures { IfOk result (HasAll from to (spec.between from to (spec.changes self.now.commits))) }
+    {
+        tail_of_all(self.alloc, self.log.changes(), from, to)
+    }
+
+    /// A slot with the commit that is made of what is ready, and memory for it.
+    pub fn reserve(&mut self, ready: &Ready) -> Result<Slot, AllocError>
+        ensures slot { IfOk result (IsSlot K.bytes_of ready.now self.new) }
+        ensures same { self.new ≡ record self.old { room = self.new.room } }
+        ensures kept { self.old.room ≤ self.new.room }
+        ensures err { OnErr result (self.new ≡ self.old) }
+    {
+        let number = self.log.commits().len() as u64 + 1;
+        let commit = commit_by(number, ready)?;
+        let changes = changes_by(self.alloc, number, ready.run.deltas.as_slice())?;
+        let bytes = self.keeper.make(self.alloc, &commit)?;
+        self.log.reserve(changes.len() + 1)?;
+        Ok(Slot {
+            commit,
+            bytes,
+            changes,
+        })
+    }
+
+    /// Adds the slot's commit, or says why not: by a clash past the prepared fronts, at the limit, or by a fault of the
+    /// keeper. It takes no memory, and goes through no more than the changes past the fronts.
+    pub fn append<L: Ledger>(&mut self, ready: &Ready, slot: Slot, steps: &mut Steps<L>) -> Appended
+        requires can_append { CanAppend K.bytes_of ready.now slot self.old }
+        requires places { length ready.now.based < 2 ^ 32 }
+        ensures decides { Decides ready.now self.old result self.new }
+        ensures may_fail { IfDiskFault result (K.may_fail ≡ true) }
+        ensures steps { steps.new ≤ steps.old + most_steps (past_fronts self.old.shards ready.now.fronts ready.now.based) (spec.changes self.old.commits) }
+    {
+        let (based, fronts) = (ready.based.as_slice(), ready.fronts.as_slice());
+        if let Some(found) = self
+            .log
+            .least_past(based, self.settings.shards, fronts, steps)
+        {
+            return Appended::Clash(found);
+        }
+        let limit = self.settings.limit;
+        if self.length() >= limit as u64 {
+            return Appended::Full(limit);
+        }
+        self.add(slot)
+    }
+
+    /// Adds the slot's commit unless the keeper fails.
+    fn add(&mut self, slot: Slot) -> Appended
+        requires { journals.CanAdd K.bytes_of slot self.old }
+        ensures adds { journals.Adds slot.commit self.old result self.new }
+        ensures may_fail { IfDiskFault result (K.may_fail ≡ true) }
+    {
+        let before = self.keeper.keep_faults();
+        if self.keeper.keep(&slot.bytes).is_err() {
+            return Appended::DiskFault(before, self.keeper.keep_faults());
+        }
+        let Slot {
+            commit,
+            changes,
+            ..
+        } = slot;
+        let number = commit.number;
+        self.log.add(commit, changes);
+        Appended::Number(number)
+    }
+}
+
+/// The commit of a number that is made of what is ready.
+fn commit_by(number: u64, ready: &Ready) -> Result<Commit, AllocError>
+    ensures { IfOk result (λ commit. commit ≡ readies.commit_by number ready.now) }
+{
+    Ok(Commit {
+        number,
+        client: ready.client,
+        seq: ready.seq,
+        body: copied(&ready.body)?,
+        outcome: copied(&ready.run.outcome)?,
+        deltas: copied(&ready.run.deltas)?,
+    })
+}

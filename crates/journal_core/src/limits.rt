@@ -1,0 +1,7 @@
+//! How large things may be.
+
+/// The bytes of a body, at most. It binds what is kept: a longer body comes from no line.
+pub const LONGEST_BODY: usize = 4096;
+
+/// The first client number that no kept list tells of.
+pub const FIRST_UNTOLD_CLIENT: u32 = 4_000_000_000;

@@ -1,0 +1,137 @@
+//! The commits, and their changes beside them.
+
+ghost use Rattle.std.specs.Prelude.{◌≡◌, ◌+◌, ◌<◌, ◌≤◌, ◌^◌, [], ◌∷◌, ◌++◌, length, slice_get, OnOk, OnErr, IfOk};
+ghost use Rattle.std.specs.Option.{option_copied};
+ghost use Rattle.rdt_types.specs.declared.limits.TheConstants.{LEAST_SHARDS, MOST_SHARDS};
+ghost use Rattle.abort_witness.specs.Pairs as pairs;
+ghost use Rattle.journal_core.specs.Changes as spec;
+ghost use Rattle.journal_core.specs.Pairs.{past_fronts, most_steps, least_pair, AreNumbered};
+ghost use Rattle.journal_core.specs.Rising.{Rises};
+ghost use Rattle.journal_core.specs.Logs as logs;
+
+use crate::copying::changes_by;
+use crate::deciding::least_past;
+use crate::ready::PreparedFront;
+use crate::roomy::Roomy;
+use abort_witness::{Based, Found};
+use change_feed::{Change, ChangeList};
+use conflict_table::Steps;
+use plain_data::Sequence;
+use std::alloc::{AllocError, Global};
+use std::marker::Model;
+use std::sync::ledger::Ledger;
+use txn_lang::{Commit, CommitList};
+
+/// The commits of a journal. Beside them stand their changes in order, in which a number is found by halving.
+#[derive(Debug, Drop)]
+pub(crate) struct Log {
+    commits: Roomy<Commit>,
+    changes: Roomy<Change>,
+    room: usize,
+}
+
+impl Model for Log {
+    ghost use Rattle.journal_core.specs.Logs as logs;
+    ghost use Rattle.txn_lang.specs.contracts.commit.Commit as commit;
+
+    ghost Value = { logs.Log };
+
+    ghost coded = { logs.log_code commit.the_row.coded };
+
+    ghost view = { λ l. record { commits = l.commits.0; room = l.room } };
+
+    ghost invariant = { λ l. logs.Keeps l.commits.0 l.changes.0 l.commits.1 l.changes.1 l.room };
+}
+
+/// Copies of the changes of commits.
+fn all_changes(alloc: Global, commits: &[Commit]) -> Result<Vec<Change>, AllocError>
+    ensures { IfOk result (λ all. all.items ≡ spec.changes commits.now) }
+{
+    let mut all = Vec::new(alloc);
+    for commit in commits {
+        let mut more = changes_by(alloc, commit.number, commit.deltas.as_slice())?.into_vec();
+        all.append(&mut more)?;
+    }
+    Ok(all)
+}
+
+impl Log {
+    /// These commits, with copies of their changes.
+    pub(crate) fn of(alloc: Global, commits: CommitList) -> Result<Log, AllocError>
+        requires { AreNumbered commits }
+        ensures { IfOk result (λ log. log.commits ≡ commits) }
+    {
+        let changes = all_changes(alloc, commits.as_slice())?;
+        Ok(Log {
+            commits: Roomy::from_vec(commits.into_vec()),
+            changes: Roomy::from_vec(changes),
+            room: 0,
+        })
+    }
+
+    /// The least pair of these observations, past what was prepared.
+    pub(crate) fn least_past<L: Ledger>(
+        &self,
+        based: &[Based],
+        shards: u8,
+        fronts: &[PreparedFront],
+        steps: &mut Steps<L>,
+    ) -> Option<Found>
+        requires shards { (LEAST_SHARDS ≤ shards) × (shards ≤ MOST_SHARDS) }
+        requires places { length based.now < 2 ^ 32 }
+        ensures least { result ≡ least_pair (past_fronts shards fronts.now based.now) self.now.commits }
+        ensures steps { steps.new ≤ steps.old + most_steps (past_fronts shards fronts.now based.now) (spec.changes self.now.commits) }
+    {
+        least_past(based, self.changes(), shards, fronts, steps)
+    }
+
+    /// The commits.
+    pub(crate) fn commits(&self) -> &[Commit]
+        ensures commits { result.now ≡ self.now.commits }
+        ensures numbered { AreNumbered self.now.commits }
+    {
+        self.commits.as_slice()
+    }
+
+    /// Their changes, in order.
+    pub(crate) fn changes(&self) -> &[Change]
+        ensures changes { result.now ≡ spec.changes self.now.commits }
+        ensures rises { Rises 0 (spec.changes self.now.commits) }
+        ensures numbered { AreNumbered self.now.commits }
+    {
+        self.changes.as_slice()
+    }
+
+    /// The commits as a list. It takes no memory.
+    pub(crate) fn into_commits(self) -> CommitList
+        ensures { result ≡ self.commits }
+    {
+        let Log { commits, .. } = self;
+        Sequence::from_vec(commits.into_vec())
+    }
+
+    /// Takes memory for one commit more and so many changes of it, fewer than the number.
+    pub(crate) fn reserve(&mut self, room: usize) -> Result<(), AllocError>
+        ensures commits { self.new.commits ≡ self.old.commits }
+        ensures kept { self.old.room ≤ self.new.room }
+        ensures ok { OnOk result (room ≤ self.new.room) }
+        ensures err { OnErr result (self.new ≡ self.old) }
+    {
+        self.commits.reserve(room)?;
+        self.changes.reserve(room)?;
+        self.room = self.room.max(room);
+        Ok(())
+    }
+
+    /// Adds the next commit, with its changes, for which there is memory.
+    pub(crate) fn add(&mut self, commit: Commit, changes: ChangeList)
+        requires number { commit.number ≡ length self.old.commits + 1 }
+        requires changes { changes ≡ spec.changes_of commit }
+        requires room { length changes < self.old.room }
+        ensures { self.new ≡ record { commits = self.old.commits ++ commit ∷ []; room = 0 } }
+    {
+        self.room = 0;
+        self.commits.push(commit);
+        self.changes.append(changes.into_vec());
+    }
+}

@@ -1,0 +1,5 @@
+pub mod Registered
+pub mod Places
+pub mod Standing
+pub mod Laws
+pub mod code

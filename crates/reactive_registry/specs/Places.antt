@@ -1,0 +1,21 @@
+-- Who is subscribed to an address: the other direction.
+use Rattle.std.specs.Prelude.{◌≡◌, ℕ, ◌≤◌, Bool, false, List, Some}
+use Rattle.std.specs.List.{AllByRecursion}
+use Rattle.std.specs.Option.{option_map_or}
+use Rattle.std.specs.Ordering.{nat_cmp}
+use Rattle.std.specs.BTreeMap.{get}
+use Rattle.std.specs.BTreeSet.{contains}
+use Rattle.rdt_types.specs.declared.address.Address.{Address}
+use Rattle.rdt_types.specs.Addresses.{address_cmp}
+use Rattle.reactive_registry.specs.declared.places.Places.{Places}
+use Rattle.reactive_registry.specs.Registered.{Kept, kept_in, is_in}
+
+-- whether a subscriber stands at an address
+abbrev pub links : Places → Address → ℕ → Bool
+links places address subscriber = option_map_or (λ set. contains nat_cmp set subscriber) (get address_cmp places.sets address) false
+
+-- The two directions have the same pairs, and no kept change is past the front.
+pub record AreLinked (front : ℕ) (subscribers : List (ℕ × Kept)) (places : Places) : Type 0 where
+  pub both_ways : (subscriber : ℕ) (address : Address) → links places address subscriber ≡ is_in subscribers subscriber address
+  pub followed : (subscriber : ℕ) (kept : Kept) → kept_in subscribers subscriber ≡ Some kept
+      → AllByRecursion (λ change. change.number ≤ front) kept.changes

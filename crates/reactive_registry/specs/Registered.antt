@@ -1,0 +1,119 @@
+-- What a registry keeps of each subscriber.
+use Rattle.std.specs.Prelude.{◌≡◌, ℕ, Bool, false, not, List, [], ◌∷◌, ◌++◌, filter, if◌then◌else◌, Option, Some, None, option_and_then, codes, pos, refl}
+use Rattle.std.specs.Coded.{Coded, code_by, coded×, coded_list, coded_ℕ}
+use Rattle.std.specs.List.{list_any}
+use Rattle.std.specs.Option.{option_map_or}
+use Rattle.std.specs.Ordering.{nat_cmp}
+use Rattle.std.specs.Map.{lookup}
+use Rattle.std.specs.Set.{remove_key}
+use Rattle.std.specs.BTreeMap.{is_at}
+use Rattle.std.specs.BTreeSet.{insert_key}
+use Rattle.rdt_types.specs.declared.address.Kind.TheVariants as kind
+use Rattle.rdt_types.specs.declared.address.Address.{Address}
+use Rattle.rdt_types.specs.declared.delta.Delta.{Delta}
+use Rattle.rdt_types.specs.declared.delta.Delta.TheVariants as delta
+use Rattle.rdt_types.specs.Addresses.{address_cmp}
+use Rattle.change_feed.specs.declared.change.Change.{Change}
+use Rattle.change_feed.specs.Pending.{pending}
+
+-- of a subscriber: the number up to which it has taken, its addresses, and the changes there that it hasn't taken yet
+pub record Kept : Type 0 where
+  pub taken : ℕ
+  pub addresses : List Address
+  pub changes : List Change
+
+-- a registry: the number up to which it has followed the journal, and each subscriber that has entered, by rising number
+pub record Registered : Type 0 where
+  pub front : ℕ
+  pub subscribers : List (ℕ × Kept)
+
+-- they are stored as the tuples of their fields
+abbrev pub kept_code : Coded Address → Coded Change → Coded Kept
+kept_code address change =
+    code_by (ℕ × (List Address × List Change)) (coded× coded_ℕ (coded× (coded_list address) (coded_list change)))
+    (λ k. (k.taken, (k.addresses, k.changes))) (λ p. record { taken = p.0; addresses = p.1.0; changes = p.1.1 }) (λ _. refl)
+
+abbrev pub registered_code : Coded Kept → Coded Registered
+registered_code kept =
+    code_by (ℕ × List (ℕ × Kept)) (coded× coded_ℕ (coded_list (coded× coded_ℕ kept))) (λ r. (r.front, r.subscribers)) (λ p. record { front = p.0; subscribers = p.1 }) (λ _. refl)
+
+-- nobody has entered
+abbrev pub empty : ℕ → Registered
+empty front = record { front = front; subscribers = [] }
+
+-- what is kept of a subscriber; nothing exactly where it isn't entered
+abbrev pub kept_in : List (ℕ × Kept) → ℕ → Option Kept
+kept_in subscribers subscriber = lookup (is_at (nat_cmp subscriber)) subscribers
+
+abbrev pub kept_of : Registered → ℕ → Option Kept
+kept_of registry subscriber = kept_in registry.subscribers subscriber
+
+-- whether an address is a subscriber's
+abbrev pub is_address : Kept → Address → Bool
+is_address kept address = list_any (is_at (address_cmp address)) kept.addresses
+
+abbrev pub is_in : List (ℕ × Kept) → ℕ → Address → Bool
+is_in subscribers subscriber address = option_map_or (λ kept. is_address kept address) (kept_in subscribers subscriber) false
+
+-- whether a subscriber is entered and subscribed to an address
+abbrev pub is_subscribed : Registered → ℕ → Address → Bool
+is_subscribed registry subscriber address = is_in registry.subscribers subscriber address
+
+-- what is kept of a subscriber in the place of what was kept before; the others are as before
+abbrev pub with_kept : Registered → ℕ → Option Kept → ℕ → Option Kept
+with_kept registry subscriber kept other = if is_at (nat_cmp subscriber) other then kept else kept_of registry other
+
+-- ---- what calls do to what is kept of one subscriber
+
+-- it enters at a front: no address, and all up to the front counts as taken
+abbrev pub entered : ℕ → Kept
+entered front = record { taken = front; addresses = []; changes = [] }
+
+-- the changes at an address, and those elsewhere
+abbrev pub changes_at : Address → List Change → List Change
+changes_at address changes = filter (λ change. is_at (address_cmp address) change.address) changes
+
+abbrev pub changes_elsewhere : Address → List Change → List Change
+changes_elsewhere address changes = filter (λ change. not (is_at (address_cmp address) change.address)) changes
+
+-- it subscribes to an address, of which it missed changes: they are to be taken with the others. Where it is subscribed,
+-- nothing changes
+abbrev pub subscribed : Address → List Change → Kept → Kept
+subscribed address missed kept =
+    if is_address kept address
+    then kept
+    else (record kept { addresses = insert_key address_cmp kept.addresses address; changes = kept.changes ++ changes_at address missed })
+
+-- it unsubscribes: nothing of the address is to be taken any longer
+abbrev pub unsubscribed : Address → Kept → Kept
+unsubscribed address kept =
+    record kept { addresses = remove_key (is_at (address_cmp address)) kept.addresses; changes = changes_elsewhere address kept.changes }
+
+-- it is told of changes: those at its addresses are to be taken
+abbrev pub told : List Change → Kept → Kept
+told changes kept = record kept { changes = kept.changes ++ filter (λ change. is_address kept change.address) changes }
+
+-- it takes all up to a front
+abbrev pub emptied : ℕ → Kept → Kept
+emptied front kept = record kept { taken = front; changes = [] }
+
+-- what is pending for it at an address: what the changes there that it hasn't taken come to
+abbrev pub pending_for : Kept → Address → Option Delta
+pending_for kept address = pending address kept.changes
+
+abbrev pub pending_of : Registered → ℕ → Address → Option Delta
+pending_of registry subscriber address = option_and_then (λ kept. pending_for kept address) (kept_of registry subscriber)
+
+abbrev counter : List ℕ → Address
+counter key = record { kind = kind.Counter; key = key }
+
+abbrev addition : ℕ → Change
+addition n = record { number = n; address = counter (codes "x"); delta = delta.AddCounter (pos 2) }
+
+-- one that subscribes after a missed addition of 2, and is told of another, has an addition of 4 pending
+pending-example : pending_for (told (addition 5 ∷ []) (subscribed (counter (codes "x")) (addition 4 ∷ []) (entered 3))) (counter (codes "x")) ≡ Some (delta.AddCounter (pos 4))
+pending-example = refl
+
+-- one that isn't subscribed is told nothing
+told-nothing : pending_for (told (addition 5 ∷ []) (entered 3)) (counter (codes "x")) ≡ None
+told-nothing = refl

@@ -1,0 +1,23 @@
+//! Who is subscribed to which addresses, and what is pending for whom. A [`Registry`] gives each subscriber, at each take,
+//! what its addresses' changes since its last take come to. It doesn't follow a journal yet. It stands on `change_feed`.
+//!
+//! Read first `specs/Registered.antt` (what a registry keeps of a subscriber) and `specs/Standing.antt` (what that means: it
+//! stands for the journal's changes).
+#![tactic(auto)]
+
+mod copies;
+mod laws;
+mod maps;
+mod places;
+mod registry;
+mod subscriber;
+mod telling;
+
+pub use laws::{
+    all_stand, clients_follow, entries_stand, follows_stand, one_stands, pending_is_since,
+    takes_stand,
+};
+pub use registry::Registry;
+
+#[cfg(test)]
+mod tests;

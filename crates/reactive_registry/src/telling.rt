@@ -1,0 +1,143 @@
+//! The walk over changes and the subscribers of their addresses.
+
+ghost use Rattle.std.specs.Prelude.{◌≡◌, ℕ, ◌<◌, false, Some, option_map, OnOk, OnErr};
+ghost use Rattle.std.specs.Ordering.{nat_cmp};
+ghost use Rattle.std.specs.BTreeMap.{is_at};
+ghost use Rattle.std.specs.BTreeSet.{contains};
+ghost use Rattle.reactive_registry.specs.Registered.{Kept, kept_in};
+ghost use Rattle.reactive_registry.specs.Places.{links};
+ghost use Rattle.reactive_registry.specs.code.Telling.{pushed, cut, done_where, told_along, cut_along, is_linked, ArePast, IsUpTo};
+
+use crate::places::Places;
+use crate::subscriber::Subscriber;
+use change_feed::Change;
+use std::alloc::AllocError;
+use std::collections::{BTreeMap, BTreeSet};
+
+/// Tells one subscriber of a change.
+fn tell_one(
+    subscribers: &mut BTreeMap<u32, Subscriber>,
+    subscriber: u32,
+    change: &Change,
+) -> Result<(), AllocError>
+    ensures ok { OnOk result ((q : ℕ) → kept_in subscribers.new.entries q ≡ done_where (is_at (nat_cmp subscriber) q) (pushed change.now) (kept_in subscribers.old.entries q)) }
+    ensures err { OnErr result ((q : ℕ) → kept_in subscribers.new.entries q ≡ kept_in subscribers.old.entries q) }
+{
+    match subscribers.get_mut(&subscriber) {
+        Some(kept) => kept.push(change),
+        None => Ok(()),
+    }
+}
+
+/// Forgets the changes past a front that one subscriber was told.
+fn cut_one(subscribers: &mut BTreeMap<u32, Subscriber>, subscriber: u32, front: u64)
+    ensures { (q : ℕ) → kept_in subscribers.new.entries q ≡ done_where (is_at (nat_cmp subscriber) q) (cut front) (kept_in subscribers.old.entries q) }
+{
+    if let Some(kept) = subscribers.get_mut(&subscriber) {
+        kept.cut(front);
+    }
+}
+
+/// Tells each subscriber of a set of a change. For want of memory some may be told and others not.
+fn tell_set(
+    subscribers: &mut BTreeMap<u32, Subscriber>,
+    set: &BTreeSet<u32>,
+    change: &Change,
+) -> Result<(), AllocError>
+    ensures ok { OnOk result ((q : ℕ) → kept_in subscribers.new.entries q ≡ done_where (contains nat_cmp set.now q) (pushed change.now) (kept_in subscribers.old.entries q)) }
+    ensures behind { (front : ℕ) → front < change.now.number → (q : ℕ) → option_map (cut front) (kept_in subscribers.new.entries q) ≡ option_map (cut front) (kept_in subscribers.old.entries q) }
+    ensures elsewhere { (q : ℕ) → contains nat_cmp set.now q ≡ false → kept_in subscribers.new.entries q ≡ kept_in subscribers.old.entries q }
+{
+    for subscriber in set {
+        tell_one(subscribers, *subscriber, change)?;
+    }
+    Ok(())
+}
+
+/// Forgets the changes past a front that the subscribers of a set were told.
+fn cut_set(subscribers: &mut BTreeMap<u32, Subscriber>, set: &BTreeSet<u32>, front: u64)
+    ensures { (q : ℕ) → kept_in subscribers.new.entries q ≡ done_where (contains nat_cmp set.now q) (cut front) (kept_in subscribers.old.entries q) }
+{
+    for subscriber in set {
+        cut_one(subscribers, *subscriber, front);
+    }
+}
+
+/// Tells the subscribers of a change's address of it. For want of memory some may be told and others not.
+fn tell_linked(
+    subscribers: &mut BTreeMap<u32, Subscriber>,
+    places: &Places,
+    change: &Change,
+) -> Result<(), AllocError>
+    ensures ok { OnOk result ((q : ℕ) → kept_in subscribers.new.entries q ≡ done_where (links places.now change.now.address q) (pushed change.now) (kept_in subscribers.old.entries q)) }
+    ensures behind { (front : ℕ) → front < change.now.number → (q : ℕ) → option_map (cut front) (kept_in subscribers.new.entries q) ≡ option_map (cut front) (kept_in subscribers.old.entries q) }
+    ensures elsewhere { (q : ℕ) → links places.now change.now.address q ≡ false → kept_in subscribers.new.entries q ≡ kept_in subscribers.old.entries q }
+{
+    match places.at(&change.address) {
+        Some(set) => tell_set(subscribers, set, change),
+        None => Ok(()),
+    }
+}
+
+/// Forgets the changes past a front that the subscribers of a change's address were told.
+fn cut_linked(
+    subscribers: &mut BTreeMap<u32, Subscriber>,
+    places: &Places,
+    change: &Change,
+    front: u64,
+)
+    ensures { (q : ℕ) → kept_in subscribers.new.entries q ≡ done_where (links places.now change.now.address q) (cut front) (kept_in subscribers.old.entries q) }
+{
+    if let Some(set) = places.at(&change.address) {
+        cut_set(subscribers, set, front);
+    }
+}
+
+/// Tells each subscriber of the changes at its addresses. For want of memory some may be told and others not.
+fn tell_all(
+    subscribers: &mut BTreeMap<u32, Subscriber>,
+    places: &Places,
+    changes: &[Change],
+) -> Result<(), AllocError>
+    ensures ok { OnOk result ((q : ℕ) → kept_in subscribers.new.entries q ≡ told_along places.now q changes.now (kept_in subscribers.old.entries q)) }
+    ensures behind { (front : ℕ) → ArePast front changes.now → (q : ℕ) → option_map (cut front) (kept_in subscribers.new.entries q) ≡ option_map (cut front) (kept_in subscribers.old.entries q) }
+    ensures elsewhere { (q : ℕ) → is_linked places.now q changes.now ≡ false → kept_in subscribers.new.entries q ≡ kept_in subscribers.old.entries q }
+{
+    for change in changes {
+        tell_linked(subscribers, places, change)?;
+    }
+    Ok(())
+}
+
+/// Forgets the changes past a front that the subscribers of some changes' addresses were told.
+fn cut_all(
+    subscribers: &mut BTreeMap<u32, Subscriber>,
+    places: &Places,
+    changes: &[Change],
+    front: u64,
+)
+    ensures { (q : ℕ) → kept_in subscribers.new.entries q ≡ cut_along places.now q front changes.now (kept_in subscribers.old.entries q) }
+{
+    for change in changes {
+        cut_linked(subscribers, places, change, front);
+    }
+}
+
+/// Tells each subscriber of the changes at its addresses, all past a front. For want of memory all is as before.
+pub(crate) fn tell_or_undo(
+    subscribers: &mut BTreeMap<u32, Subscriber>,
+    places: &Places,
+    changes: &[Change],
+    front: u64,
+) -> Result<(), AllocError>
+    requires past { ArePast front changes.now }
+    requires followed { (q : ℕ) (kept : Kept) → kept_in subscribers.old.entries q ≡ Some kept → IsUpTo front kept.changes }
+    ensures ok { OnOk result ((q : ℕ) → kept_in subscribers.new.entries q ≡ told_along places.now q changes.now (kept_in subscribers.old.entries q)) }
+    ensures err { OnErr result ((q : ℕ) → kept_in subscribers.new.entries q ≡ kept_in subscribers.old.entries q) }
+{
+    let told = tell_all(subscribers, places, changes);
+    if told.is_err() {
+        cut_all(subscribers, places, changes, front);
+    }
+    told
+}
