@@ -267,3 +267,39 @@ fn comparisons_at_the_ends(rt: HostRuntime) {
     assert!(rt; says(alloc, holding, 1));
     assert!(rt; says(alloc, failing, 1));
 }
+
+/// The list of so many empty texts.
+fn many(alloc: Global, count: u32) -> Result<Value, AllocError> {
+    let mut texts = TextList::new(alloc);
+    for _ in 0..count {
+        texts.push(Text::new(alloc))?;
+    }
+    Ok(Value::List(texts))
+}
+
+/// Whether the run of a body on a value has no tick left, and observed the whole list before.
+fn is_spent(
+    alloc: Global,
+    source: &[u8],
+    value: Result<Value, AllocError>,
+) -> Result<bool, AllocError> {
+    let Some(done) = ran(alloc, source, value?)? else {
+        return Ok(false);
+    };
+    Ok(match done.observations.as_slice() {
+        [seen] => done.outcome == Outcome::Spent && seen.obs == Obs::ListAll,
+        _ => false,
+    })
+}
+
+/// A `for` over n items that it reads charges 3 ticks, n for the items and n for its turns.
+#[test]
+fn turns_of_a_for(rt: HostRuntime) -> Result<(), Fail> {
+    let alloc = rt.alloc();
+    let turns = b"for a in list(\"k\").all() { }".as_slice();
+    assert!(rt; is_ok(alloc, turns, many(alloc, 0))?);
+    assert!(rt; is_ok(alloc, turns, many(alloc, 4998))?);
+    assert!(rt; is_spent(alloc, turns, many(alloc, 4999))?);
+    assert!(rt; is_spent(alloc, turns, many(alloc, 10_000))?);
+    Ok(())
+}
