@@ -1,5 +1,7 @@
 //! Worked runs.
 
+mod limits;
+
 use crate::running::{Step, run};
 use plain_data::Text;
 use rdt_types::{Address, Item, Kind, Outcome, Value};
