@@ -10,7 +10,7 @@ use Rattle.abort_witness.specs.Pairs.{meets, clashes, first_clash}
 use Rattle.journal_core.specs.Changes.{past}
 
 -- the observation as if it was made later
-abbrev moved : Based → ℕ → Based
+abbrev pub moved : Based → ℕ → Based
 moved based from = record based { base = from }
 
 -- what is past a number is past each lesser one

@@ -1,5 +1,5 @@
 -- Changes kept by shard: the list at a place has those in the shard of that number, in the journal's order. What a place
--- past the lists has is nothing. The law `by_shard-more` ties them to the changes of a journal.
+-- past the lists has is nothing. The law `keeps-more` ties them to the changes of a journal.
 use Rattle.std.specs.Prelude.{◌≡◌, ◌≢◌, ℕ, ◌+◌, ◌<◌, ◌≤◌, List, [], ◌∷◌, ◌++◌, length, get_or}
 use Rattle.change_feed.specs.declared.change.Change.{Change}
 use Rattle.journal_core.specs.Changes.{of_shard}

@@ -2,6 +2,7 @@ use Rattle.std.proofs.Common.{◌≡◌, ◌≤◌, ◌+◌, filter, length, sym
 use Rattle.rdt_types.specs.Shards.{shard_of}
 use Rattle.abort_witness.specs.Pairs.{first_clash, meets}
 use Rattle.journal_core.specs.Changes.{changes, of_shard}
+use Rattle.journal_core.specs.Pairs.{past_front}
 use Rattle.journal_core.proofs.Passing.{moved, first_clash-past, meets-past}
 use Rattle.journal_core.proofs.ByShard.{first_clash-in_shard, meets-in_shard}
 use Rattle.journal_core.proofs.deciding.clash_past.Goals as goal
@@ -17,7 +18,7 @@ returns-clause-first g c =
     ∙ first_clash-past based from c.in_shard-here.result.now c.counts_from-from.ensures.base
     ∙ ap (first_clash (moved based from)) (c.in_shard-here.ensures.changes ∙ ap (λ s. of_shard shards s all) shard)
     ∙ first_clash-in_shard (moved based from) shards all
-    ∙ ap (λ n. first_clash (moved based n) all) (rw (← c.shards.ensures.shards) c.counts_from-from.ensures.from)
+    ∙ ap (λ n. first_clash (moved based n) all) (c.counts_from-from.ensures.from ∙ ap (λ n. (past_front n c.args.fronts.now based).base) c.shards.ensures.shards)
 
 pub returns-clause-steps : goal.returns-clause-steps
 returns-clause-steps g c =
@@ -30,5 +31,5 @@ returns-clause-steps g c =
         ∙ meets-past based from c.in_shard-here.result.now c.counts_from-from.ensures.base
         ∙ ap (filter (meets (moved based from))) (c.in_shard-here.ensures.changes ∙ ap (λ s. of_shard shards s all) shard)
         ∙ meets-in_shard (moved based from) shards all
-        ∙ ap (λ n. filter (meets (moved based n)) all) (rw (← c.shards.ensures.shards) c.counts_from-from.ensures.from) in
+        ∙ ap (λ n. filter (meets (moved based n)) all) (c.counts_from-from.ensures.from ∙ ap (λ n. (past_front n c.args.fronts.now based).base) c.shards.ensures.shards) in
     rw (sym same) c.first_clash.ensures.steps
