@@ -19,6 +19,7 @@ use Rattle.txn_lang.specs.States.{Journal}
 use Rattle.journal_core.specs.Changes.{changes, changes_of, changes_by, past, up_to, between, of_shard, of_address}
 use Rattle.journal_core.specs.Pairs.{AreNumberedFrom}
 use Rattle.journal_core.specs.Logs.{Keeps}
+use Rattle.journal_core.proofs.Passing.{moved, first_clash-past, meets-past}
 use Rattle.journal_core.proofs.Rising.{changes-more, numbered-more}
 use Rattle.journal_core.specs.ByShard.{list_at, room_at, HasRoom, AreByShard, HasGrown, HasPut, HasAdded}
 
@@ -75,6 +76,18 @@ meets-in_shard based shards (change ∷ rest) =
     by later true here = rw here (ap (λ o. cond (meets based change) (change ∷ o) o) later)
     by later false here =
         rw here (rw (elsewhere based.address change.address shards here) (rw (apart_one (nat_lt based.base change.number)) later))
+
+-- past a number, the first clash in the list of its shard is that of the observation as if it was made there
+pub first_clash-here : (based : Based) (from shards : ℕ) (here all : List Change) → based.base ≤ from
+    → here ≡ of_shard shards (shard_of based.address shards) all → first_clash based (past from here) ≡ first_clash (moved based from) all
+first_clash-here based from shards here all within same =
+    first_clash-past based from here within ∙ ap (first_clash (moved based from)) same ∙ first_clash-in_shard (moved based from) shards all
+
+-- and as many may be met
+pub meets-here : (based : Based) (from shards : ℕ) (here all : List Change) → based.base ≤ from
+    → here ≡ of_shard shards (shard_of based.address shards) all → filter (meets based) (past from here) ≡ filter (meets (moved based from)) all
+meets-here based from shards here all within same =
+    meets-past based from here within ∙ ap (filter (meets (moved based from))) same ∙ meets-in_shard (moved based from) shards all
 
 -- and all that is at an address
 pub of_address-in_shard : (address : Address) (shards : ℕ) (all : List Change)
