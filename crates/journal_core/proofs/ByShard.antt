@@ -1,8 +1,7 @@
 -- Changes kept by shard.
-use Rattle.std.proofs.Common.{◌≡◌, ◌≢◌, ℕ, ◌+◌, ◌<◌, ◌≤◌, ◌==◌, ◌&&◌, Bool, true, false, nat_lt, nat_le, List, [], ◌∷◌, ◌++◌, filter, length, take, drop, refl, sym, ap, ◌∙◌, arith, cond, Option, Some}
+use Rattle.std.proofs.Common.{◌≡◌, ℕ, ◌+◌, ◌<◌, ◌≤◌, ◌==◌, ◌&&◌, Bool, true, false, nat_lt, nat_le, List, [], ◌∷◌, ◌++◌, filter, length, take, drop, refl, sym, ap, ◌∙◌, arith, cond, Some}
 use Rattle.std.specs.BTreeMap.{is_at}
-use Rattle.std.proofs.Common.{append_assoc, append-nil, rules, zero, suc}
-use Rattle.std.proofs.lemmas.Grind.{common_steps}
+use Rattle.std.proofs.Common.{zero, suc}
 use Rattle.std.proofs.lemmas.List.Elements.{filter-append}
 use Rattle.rdt_types.specs.declared.address.Address.{Address}
 use Rattle.rdt_types.specs.Addresses.{address_cmp}
@@ -21,7 +20,7 @@ use Rattle.journal_core.specs.Pairs.{AreNumberedFrom}
 use Rattle.journal_core.specs.Logs.{Keeps}
 use Rattle.journal_core.proofs.Passing.{moved, first_clash-past, meets-past}
 use Rattle.journal_core.proofs.Rising.{changes-more, numbered-more}
-use Rattle.journal_core.specs.ByShard.{list_at, room_at, HasRoom, AreByShard, HasGrown, HasPut, HasAdded}
+use Rattle.journal_core.specs.ByShard.{HasGrown, HasAdded}
 
 -- a number is itself
 itself : (n : ℕ) → (n == n) ≡ true
@@ -219,7 +218,7 @@ keeps-grown commits shards old new m n room kept more grown = record {
   theirs = record { as_many = grown.as_many ∙ kept.theirs.as_many; theirs = λ shard. grown.same shard ∙ kept.theirs.theirs shard };
   one_more = more;
   some_more = λ place within.
-    let before = kept.some_more place (rw (← grown.as_many) within) in let after = grown.kept place in omega (arith, before, after);
+      let before = kept.some_more place (rw (← grown.as_many) within) in let after = grown.kept place in omega (arith, before, after);
 }
 
 -- one commit more, with its changes, keeps all in order; the memory for it is used up
@@ -232,9 +231,9 @@ keeps-more old shards lists commit new after m n room kept number added more = r
   theirs = record {
     as_many = more.as_many ∙ kept.theirs.as_many;
     theirs = λ shard.
-      more.added shard ∙ ap (λ list. list ++ of_shard shards shard (changes_of commit)) (kept.theirs.theirs shard)
-      ∙ sym (filter-append (λ change. shard_of change.address shards == shard) (changes old) (changes_of commit))
-      ∙ ap (of_shard shards shard) (sym (changes-more old commit) ∙ ap changes (sym added));
+        more.added shard ∙ ap (λ list. list ++ of_shard shards shard (changes_of commit)) (kept.theirs.theirs shard)
+        ∙ sym (filter-append (λ change. shard_of change.address shards == shard) (changes old) (changes_of commit))
+        ∙ ap (of_shard shards shard) (sym (changes-more old commit) ∙ ap changes (sym added));
   };
   one_more = omega arith;
   some_more = λ place within. omega arith;

@@ -1,4 +1,4 @@
-use Rattle.std.proofs.Common.{◌≡◌, ap, ◌∙◌, sym}
+use Rattle.std.proofs.Common.{ap, ◌∙◌, sym}
 use Rattle.rdt_types.specs.Shards.{shard_of}
 use Rattle.journal_core.specs.Changes.{changes, between, of_shard, of_address}
 use Rattle.journal_core.proofs.ByShard.{of_address-in_shard}

@@ -1,6 +1,4 @@
-use Rattle.std.proofs.Common.{◌≡◌, ◌+◌, ◌∷◌, List, length, sym, ap, ◌∙◌}
-use Rattle.change_feed.specs.declared.change.Change.{Change}
-use Rattle.journal_core.specs.ByShard.{HasAdded}
+use Rattle.std.proofs.Common.{◌+◌, length, sym, ap, ◌∙◌}
 use Rattle.journal_core.proofs.ByShard.{keeps-more}
 use Rattle.journal_core.proofs.log.Log.add.Goals as goal
 
