@@ -1,17 +1,15 @@
 -- The least pair among changes is the first of the journal's pairs.
 use Rattle.std.proofs.Common.{◌≡◌, ℕ, ◌+◌, ◌<◌, ◌≤◌, Bool, true, false, nat_lt, ◌||◌, List, [], ◌∷◌, ◌++◌, Option, Some, None, slice_get, refl, sym, ap, ◌∙◌, arith, cond}
 use Rattle.std.specs.List.{list_any}
-use Rattle.std.specs.Option.{option_or}
-use Rattle.std.proofs.lemmas.Grind.{common_steps}
 use Rattle.rdt_types.specs.DeltaMaps.{Deltas}
 use Rattle.change_feed.specs.declared.change.Change.{Change}
 use Rattle.abort_witness.specs.declared.witness.Based.{Based}
 use Rattle.abort_witness.specs.declared.witness.Found.{Found}
-use Rattle.abort_witness.specs.Pairs.{clashes, first_clash, found_at, lesser, least_from, least}
+use Rattle.abort_witness.specs.Pairs.{clashes, first_clash, found_at, lesser, least_from}
 use Rattle.txn_lang.specs.declared.commit.Commit.{Commit}
 use Rattle.txn_lang.specs.States.{Journal}
 use Rattle.journal_core.specs.Changes.{changes_by, changes_of, changes}
-use Rattle.journal_core.specs.Pairs.{hits_from, pairs, least_pair, AreNumberedFrom, LeastIsFirst}
+use Rattle.journal_core.specs.Pairs.{hits_from, pairs, AreNumberedFrom, LeastIsFirst}
 use Rattle.journal_core.specs.Rising.{Rises}
 use Rattle.journal_core.proofs.Rising.{rises_lower, one_commit}
 

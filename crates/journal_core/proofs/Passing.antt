@@ -1,16 +1,15 @@
 -- Changes past a number, for an observation that is based at it or before it.
-use Rattle.std.proofs.Common.{◌≡◌, ℕ, ◌+◌, ◌<◌, ◌≤◌, Bool, true, false, ◌&&◌, nat_lt, List, [], ◌∷◌, filter, length, refl, sym, ap, ◌∙◌, arith, cond, Some}
+use Rattle.std.proofs.Common.{◌≡◌, ℕ, ◌≤◌, Bool, true, false, ◌&&◌, nat_lt, List, [], ◌∷◌, filter, refl, ap, arith, cond, Some}
 use Rattle.std.specs.BTreeMap.{is_at}
-use Rattle.std.proofs.lemmas.Grind.{common_steps}
 use Rattle.rdt_types.specs.Addresses.{address_cmp}
 use Rattle.conflict_table.specs.Clashes.{clash}
 use Rattle.change_feed.specs.declared.change.Change.{Change}
 use Rattle.abort_witness.specs.declared.witness.Based.{Based}
-use Rattle.abort_witness.specs.Pairs.{meets, clashes, first_clash}
+use Rattle.abort_witness.specs.Pairs.{meets, first_clash}
 use Rattle.journal_core.specs.Changes.{past}
 
 -- the observation as if it was made later
-abbrev moved : Based → ℕ → Based
+abbrev pub moved : Based → ℕ → Based
 moved based from = record based { base = from }
 
 -- what is past a number is past each lesser one

@@ -1,6 +1,5 @@
 -- Lists of changes in the order of their commits.
 use Rattle.std.proofs.Common.{◌≡◌, ℕ, ◌+◌, ◌-◌, ◌<◌, ◌≤◌, zero, suc, Bool, true, false, not, nat_lt, nat_le, List, [], ◌∷◌, ◌++◌, map, filter, length, take, drop, get_or, refl, sym, ap, ◌∙◌, arith, cond}
-use Rattle.std.specs.List.{AllWithin}
 use Rattle.std.specs.List.Sorted.{IsPartitionPoint, IsPartitionedBy, IsNonDecreasingBy}
 use Rattle.std.proofs.lemmas.Grind.{common_steps}
 use Rattle.std.specs.List.{All}
@@ -15,7 +14,6 @@ use Rattle.txn_lang.specs.declared.commit.Commit.{Commit}
 use Rattle.journal_core.specs.Changes.{changes, changes_of, past, up_to}
 use Rattle.journal_core.specs.Pairs.{AreNumberedFrom}
 use Rattle.journal_core.specs.Rising.{Rises}
-use Rattle.journal_core.specs.Logs.{Keeps}
 
 -- what rises from a number rises from a lesser one
 pub rises_lower : (m n : ℕ) (all : List Change) → m ≤ n → Rises n all → Rises m all
@@ -110,17 +108,6 @@ pub numbered-more : (n : ℕ) (journal : Journal) (commit : Commit) → AreNumbe
     → AreNumberedFrom n (journal ++ commit ∷ [])
 numbered-more n [] commit numbered is = (omega (arith, is), tt)
 numbered-more n (first ∷ rest) commit numbered is = (numbered.0, numbered-more (n + 1) rest commit numbered.1 (omega (arith, is)))
-
--- one commit more, with its changes, keeps all in order; the memory for it is used up
-pub keeps-more : (old : Journal) (beside : List Change) (commit : Commit) (new : Journal) (after : List Change) (m n : ℕ)
-    → AreNumberedFrom 0 old → beside ≡ changes old → commit.number ≡ length old + 1
-    → new ≡ old ++ commit ∷ [] → after ≡ beside ++ changes_of commit → Keeps new after m n 0
-keeps-more old beside commit new after m n numbered theirs number added more = record {
-  numbered = rw added (numbered-more 0 old commit numbered (omega (arith, number)));
-  theirs = more ∙ ap (λ all. all ++ changes_of commit) theirs ∙ sym (changes-more old commit) ∙ ap changes (sym added);
-  one_more = omega arith;
-  some_more = omega arith;
-}
 
 -- what passes a test passes it
 all_pass : {X : Type 0} (p : X → Bool) (xs : List X) → All (λ x. p x ≡ true) (filter p xs)

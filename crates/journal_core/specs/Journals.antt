@@ -1,5 +1,5 @@
 -- What stands in a journal, and what an append answers and leaves.
-use Rattle.std.specs.Prelude.{◌≡◌, ◌==◌, ℕ, ◌+◌, ◌-◌, ◌<◌, ◌≤◌, if◌then◌else◌, slice_get, List, [], ◌∷◌, ◌++◌, length, max, Option, Some, None, refl}
+use Rattle.std.specs.Prelude.{◌≡◌, ◌==◌, ℕ, ◌+◌, ◌-◌, ◌<◌, ◌≤◌, if◌then◌else◌, slice_get, List, [], ◌∷◌, ◌++◌, length, Option, Some, None, refl}
 use Rattle.std.specs.Coded.{Coded, code_by, coded×, coded_list, coded_ℕ}
 use Rattle.dio_core.specs.Counts.{Rose}
 use Rattle.abort_witness.specs.declared.witness.Found.{Found}

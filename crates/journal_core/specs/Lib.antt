@@ -1,6 +1,7 @@
 pub mod Changes
 pub mod Rising
 pub mod Pairs
+pub mod ByShard
 pub mod Logs
 pub mod Tails
 pub mod Readies

@@ -1,5 +1,5 @@
 -- Pairs of an observation and a commit of a journal that clashes with it, and the pairs past what was prepared.
-use Rattle.std.specs.Prelude.{◌≡◌, ℕ, ◌+◌, ◌<◌, ◌==◌, if◌then◌else◌, List, [], ◌∷◌, ◌++◌, map, filter, max, length, take, slice_get, Option, Some, codes, refl}
+use Rattle.std.specs.Prelude.{◌≡◌, ℕ, ◌+◌, ◌==◌, if◌then◌else◌, List, [], ◌∷◌, ◌++◌, map, filter, max, length, slice_get, Option, codes, refl}
 use Rattle.std.specs.List.{list_any}
 use Rattle.rdt_types.specs.declared.address.Kind.TheVariants as kind
 use Rattle.rdt_types.specs.Shards.{shard_of}

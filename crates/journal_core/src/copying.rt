@@ -1,39 +1,20 @@
 //! Copies of changes.
 
 ghost use Rattle.std.specs.Prelude.{◌≡◌, ◌≤◌, IfOk};
-ghost use Rattle.rdt_types.specs.declared.limits.TheConstants.{LEAST_SHARDS, MOST_SHARDS};
 ghost use Rattle.rdt_types.specs.DeltaMaps.{Deltas};
 ghost use Rattle.journal_core.specs.Changes as spec;
 
 use change_feed::{Change, ChangeList};
 use plain_data::ExactClone;
-use rdt_types::{Address, Delta, shard_of};
+use rdt_types::{Address, Delta};
 use std::alloc::{AllocError, Global};
+use txn_lang::Commit;
 
 /// A copy, which equals its original.
 pub(crate) fn copied<T: ExactClone>(original: &T) -> Result<T, AllocError>
     ensures { IfOk result (λ copy. copy ≡ original.now) }
 {
     original.clone()
-}
-
-/// Copies of the changes in a shard.
-pub(crate) fn copies_of_shard(
-    alloc: Global,
-    changes: &[Change],
-    shards: u8,
-    shard: u8,
-) -> Result<ChangeList, AllocError>
-    requires { (LEAST_SHARDS ≤ shards) × (shards ≤ MOST_SHARDS) }
-    ensures { IfOk result (λ list. list ≡ spec.of_shard shards shard changes.now) }
-{
-    let mut list = ChangeList::new(alloc);
-    for change in changes {
-        if shard_of(&change.address, shards) == shard {
-            list.push(copied(change)?)?;
-        }
-    }
-    Ok(list)
 }
 
 /// Copies of the changes at an address.
@@ -79,4 +60,16 @@ pub(crate) fn changes_by(
         })?;
     }
     Ok(list)
+}
+
+/// Copies of the changes of commits.
+pub(crate) fn all_changes(alloc: Global, commits: &[Commit]) -> Result<Vec<Change>, AllocError>
+    ensures { IfOk result (λ all. all.items ≡ spec.changes commits.now) }
+{
+    let mut all = Vec::new(alloc);
+    for commit in commits {
+        let mut more = changes_by(alloc, commit.number, commit.deltas.as_slice())?.into_vec();
+        all.append(&mut more)?;
+    }
+    Ok(all)
 }

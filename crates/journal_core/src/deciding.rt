@@ -4,12 +4,12 @@ ghost use Rattle.std.specs.Prelude.{◌≡◌, ◌+◌, ◌<◌, ◌≤◌, ◌^
 ghost use Rattle.rdt_types.specs.declared.limits.TheConstants.{LEAST_SHARDS, MOST_SHARDS};
 ghost use Rattle.abort_witness.specs.Pairs as pairs;
 ghost use Rattle.journal_core.specs.Pairs as spec;
-ghost use Rattle.journal_core.specs.Rising.{Rises};
+ghost use Rattle.journal_core.specs.Changes.{changes};
 
+use crate::log::Log;
 use crate::ready::PreparedFront;
 use crate::walk::past;
 use abort_witness::{Based, Found, first_clash, lesser};
-use change_feed::Change;
 use conflict_table::Steps;
 use rdt_types::shard_of;
 use std::sync::ledger::Ledger;
@@ -36,40 +36,35 @@ fn counts_from(based: &Based, shards: u8, fronts: &[PreparedFront]) -> u64
     based.base.max(front)
 }
 
-/// The number of the first change past what was prepared that clashes with an observation.
+/// The number of the first change past what was prepared that clashes with an observation. It looks only into its shard.
 fn clash_past<L: Ledger>(
     based: &Based,
-    all: &[Change],
-    shards: u8,
+    log: &Log,
     fronts: &[PreparedFront],
     steps: &mut Steps<L>,
 ) -> Option<u64>
-    requires rises { Rises 0 all.now }
-    requires shards { (LEAST_SHARDS ≤ shards) × (shards ≤ MOST_SHARDS) }
-    ensures first { result ≡ pairs.first_clash (spec.past_front shards fronts.now based.now) all.now }
-    ensures steps { steps.new ≤ steps.old + length (filter (pairs.meets (spec.past_front shards fronts.now based.now)) all.now) }
+    ensures first { result ≡ pairs.first_clash (spec.past_front log.now.shards fronts.now based.now) (changes log.now.commits) }
+    ensures steps { steps.new ≤ steps.old + length (filter (pairs.meets (spec.past_front log.now.shards fronts.now based.now)) (changes log.now.commits)) }
 {
-    let from = counts_from(based, shards, fronts);
-    first_clash(based, past(all, from), steps)
+    let from = counts_from(based, log.shards(), fronts);
+    let here = log.in_shard(shard_of(&based.address, log.shards()));
+    first_clash(based, past(here, from), steps)
 }
 
 /// The least pair past what was prepared.
 pub(crate) fn least_past<L: Ledger>(
     based: &[Based],
-    all: &[Change],
-    shards: u8,
+    log: &Log,
     fronts: &[PreparedFront],
     steps: &mut Steps<L>,
 ) -> Option<Found>
-    requires rises { Rises 0 all.now }
-    requires shards { (LEAST_SHARDS ≤ shards) × (shards ≤ MOST_SHARDS) }
     requires places { length based.now < 2 ^ 32 }
-    ensures least { result ≡ pairs.least (spec.past_fronts shards fronts.now based.now) all.now }
-    ensures steps { steps.new ≤ steps.old + spec.most_steps (spec.past_fronts shards fronts.now based.now) all.now }
+    ensures least { result ≡ pairs.least (spec.past_fronts log.now.shards fronts.now based.now) (changes log.now.commits) }
+    ensures steps { steps.new ≤ steps.old + spec.most_steps (spec.past_fronts log.now.shards fronts.now based.now) (changes log.now.commits) }
 {
     let mut found = None;
     for (place, based) in based.iter().enumerate() {
-        let number = clash_past(based, all, shards, fronts, steps);
+        let number = clash_past(based, log, fronts, steps);
         found = lesser(found, place as u32, number);
     }
     found

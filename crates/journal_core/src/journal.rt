@@ -43,7 +43,7 @@ impl<K: Keep> Model for Journal<K> {
 
     ghost coded = { journals.standing_code commit.the_row.coded };
 
-    ghost view = { λ j. record { commits = j.log.commits; shards = j.settings.shards; limit = j.settings.limit; faults = K.keep_faults j.keeper; room = j.log.room } };
+    ghost view = { λ j. record { commits = j.log.commits; shards = j.log.shards; limit = j.settings.limit; faults = K.keep_faults j.keeper; room = j.log.room } };
 
     ghost invariant = { λ j. IfSome (K.kept j.keeper) (λ list. list ≡ j.log.commits) };
 }
@@ -63,7 +63,7 @@ impl<K: Keep> Journal<K> {
         ensures limit { IfOk result (λ journal. journal.limit ≡ settings.now.limit) }
         ensures faults { IfOk result (λ journal. journal.faults ≡ K.keep_faults keeper) }
     {
-        let log = Log::of(alloc, kept)?;
+        let log = Log::of(alloc, kept, settings.shards)?;
         Ok(Journal {
             alloc,
             settings: *settings,
@@ -105,14 +105,7 @@ impl<K: Keep> Journal<K> {
         requires within { to ≤ length self.now.commits }
         ensures { IfOk result (HasAll from to (spec.of_shard self.now.shards shard (spec.between from to (spec.changes self.now.commits)))) }
     {
-        tail_of_shard(
-            self.alloc,
-            self.log.changes(),
-            self.settings.shards,
-            shard,
-            from,
-            to,
-        )
+        tail_of_shard(self.alloc, &self.log, shard, from, to)
     }
 
     /// The changes at an address, of commits past one number and up to another.
@@ -121,7 +114,7 @@ impl<K: Keep> Journal<K> {
         requires within { to ≤ length self.now.commits }
         ensures { IfOk result (HasAll from to (spec.of_address address.now (spec.between from to (spec.changes self.now.commits)))) }
     {
-        tail_of_address(self.alloc, self.log.changes(), address, from, to)
+        tail_of_address(self.alloc, &self.log, address, from, to)
     }
 
     /// All changes of commits past one number and up to another.
@@ -130,7 +123,7 @@ impl<K: Keep> Journal<K> {
         requires within { to ≤ length self.now.commits }
         ensures { IfOk result (HasAll from to (spec.between from to (spec.changes self.now.commits))) }
     {
-        tail_of_all(self.alloc, self.log.changes(), from, to)
+        tail_of_all(self.alloc, &self.log, from, to)
     }
 
     /// A slot with the commit that is made of what is ready, and memory for it.
@@ -153,7 +146,8 @@ impl<K: Keep> Journal<K> {
     }
 
     /// Adds the slot's commit, or says why not: by a clash past the prepared fronts, at the limit, or by a fault of the
-    /// keeper. It takes no memory, and goes through no more than the changes past the fronts.
+    /// keeper. It takes no memory, and goes through no more than the changes past the fronts in
+    /// the shards of the observations.
     pub fn append<L: Ledger>(&mut self, ready: &Ready, slot: Slot, steps: &mut Steps<L>) -> Appended
         requires can_append { CanAppend K.bytes_of ready.now slot self.old }
         requires places { length ready.now.based < 2 ^ 32 }
@@ -162,10 +156,7 @@ impl<K: Keep> Journal<K> {
         ensures steps { steps.new ≤ steps.old + most_steps (past_fronts self.old.shards ready.now.fronts ready.now.based) (spec.changes self.old.commits) }
     {
         let (based, fronts) = (ready.based.as_slice(), ready.fronts.as_slice());
-        if let Some(found) = self
-            .log
-            .least_past(based, self.settings.shards, fronts, steps)
-        {
+        if let Some(found) = self.log.least_past(based, fronts, steps) {
             return Appended::Clash(found);
         }
         let limit = self.settings.limit;

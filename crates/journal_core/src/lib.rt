@@ -7,6 +7,7 @@
 #![tactic(auto)]
 
 mod appended;
+mod by_shard;
 mod copying;
 mod deciding;
 mod journal;

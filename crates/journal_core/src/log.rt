@@ -9,7 +9,7 @@ ghost use Rattle.journal_core.specs.Pairs.{past_fronts, most_steps, least_pair, 
 ghost use Rattle.journal_core.specs.Rising.{Rises};
 ghost use Rattle.journal_core.specs.Logs as logs;
 
-use crate::copying::changes_by;
+use crate::by_shard::{add_each, in_shard, lists_of, reserve_each};
 use crate::deciding::least_past;
 use crate::ready::PreparedFront;
 use crate::roomy::Roomy;
@@ -22,11 +22,13 @@ use std::marker::Model;
 use std::sync::ledger::Ledger;
 use txn_lang::{Commit, CommitList};
 
-/// The commits of a journal. Beside them stand their changes in order, in which a number is found by halving.
+/// The commits of a journal. Beside them stand their changes, a list for each shard in order, in which a number is found by
+/// halving.
 #[derive(Debug, Drop)]
 pub(crate) struct Log {
     commits: Roomy<Commit>,
-    changes: Roomy<Change>,
+    lists: Vec<Roomy<Change>>,
+    shards: u8,
     room: usize,
 }
 
@@ -38,33 +40,24 @@ impl Model for Log {
 
     ghost coded = { logs.log_code commit.the_row.coded };
 
-    ghost view = { λ l. record { commits = l.commits.0; room = l.room } };
+    ghost view = { λ l. record { commits = l.commits.0; shards = l.shards; room = l.room } };
 
-    ghost invariant = { λ l. logs.Keeps l.commits.0 l.changes.0 l.commits.1 l.changes.1 l.room };
-}
-
-/// Copies of the changes of commits.
-fn all_changes(alloc: Global, commits: &[Commit]) -> Result<Vec<Change>, AllocError>
-    ensures { IfOk result (λ all. all.items ≡ spec.changes commits.now) }
-{
-    let mut all = Vec::new(alloc);
-    for commit in commits {
-        let mut more = changes_by(alloc, commit.number, commit.deltas.as_slice())?.into_vec();
-        all.append(&mut more)?;
-    }
-    Ok(all)
+    ghost invariant = { λ l. logs.Keeps l.commits.0 l.shards l.lists.items l.commits.1 l.room };
 }
 
 impl Log {
-    /// These commits, with copies of their changes.
-    pub(crate) fn of(alloc: Global, commits: CommitList) -> Result<Log, AllocError>
-        requires { AreNumbered commits }
-        ensures { IfOk result (λ log. log.commits ≡ commits) }
+    /// These commits, with copies of their changes by so many shards.
+    pub(crate) fn of(alloc: Global, commits: CommitList, shards: u8) -> Result<Log, AllocError>
+        requires numbered { AreNumbered commits }
+        requires few { (LEAST_SHARDS ≤ shards) × (shards ≤ MOST_SHARDS) }
+        ensures commits { IfOk result (λ log. log.commits ≡ commits) }
+        ensures shards { IfOk result (λ log. log.shards ≡ shards) }
     {
-        let changes = all_changes(alloc, commits.as_slice())?;
+        let lists = lists_of(alloc, commits.as_slice(), shards)?;
         Ok(Log {
             commits: Roomy::from_vec(commits.into_vec()),
-            changes: Roomy::from_vec(changes),
+            lists,
+            shards,
             room: 0,
         })
     }
@@ -73,16 +66,17 @@ impl Log {
     pub(crate) fn least_past<L: Ledger>(
         &self,
         based: &[Based],
-        shards: u8,
         fronts: &[PreparedFront],
         steps: &mut Steps<L>,
     ) -> Option<Found>
-        requires shards { (LEAST_SHARDS ≤ shards) × (shards ≤ MOST_SHARDS) }
         requires places { length based.now < 2 ^ 32 }
-        ensures least { result ≡ least_pair (past_fronts shards fronts.now based.now) self.now.commits }
-        ensures steps { steps.new ≤ steps.old + most_steps (past_fronts shards fronts.now based.now) (spec.changes self.now.commits) }
+        ensures least { result ≡ least_pair (past_fronts self.now.shards fronts.now based.now) self.now.commits }
+        ensures steps { steps.new ≤ steps.old + most_steps (past_fronts self.now.shards fronts.now based.now) (spec.changes self.now.commits) }
     {
-        least_past(based, self.changes(), shards, fronts, steps)
+        if self.commits().is_empty() {
+            return None;
+        }
+        least_past(based, self, fronts, steps)
     }
 
     /// The commits.
@@ -93,13 +87,21 @@ impl Log {
         self.commits.as_slice()
     }
 
-    /// Their changes, in order.
-    pub(crate) fn changes(&self) -> &[Change]
-        ensures changes { result.now ≡ spec.changes self.now.commits }
-        ensures rises { Rises 0 (spec.changes self.now.commits) }
+    /// By how many shards the changes are kept.
+    pub(crate) fn shards(&self) -> u8
+        ensures shards { result ≡ self.now.shards }
+        ensures few { (LEAST_SHARDS ≤ result) × (result ≤ MOST_SHARDS) }
+    {
+        self.shards
+    }
+
+    /// The changes in a shard, in order.
+    pub(crate) fn in_shard(&self, shard: u8) -> &[Change]
+        ensures changes { result.now ≡ spec.of_shard self.now.shards shard (spec.changes self.now.commits) }
+        ensures rises { Rises 0 result.now }
         ensures numbered { AreNumbered self.now.commits }
     {
-        self.changes.as_slice()
+        in_shard(self.lists.as_slice(), shard)
     }
 
     /// The commits as a list. It takes no memory.
@@ -113,12 +115,13 @@ impl Log {
     /// Takes memory for one commit more and so many changes of it, fewer than the number.
     pub(crate) fn reserve(&mut self, room: usize) -> Result<(), AllocError>
         ensures commits { self.new.commits ≡ self.old.commits }
+        ensures shards { self.new.shards ≡ self.old.shards }
         ensures kept { self.old.room ≤ self.new.room }
         ensures ok { OnOk result (room ≤ self.new.room) }
         ensures err { OnErr result (self.new ≡ self.old) }
     {
         self.commits.reserve(room)?;
-        self.changes.reserve(room)?;
+        reserve_each(&mut self.lists, room)?;
         self.room = self.room.max(room);
         Ok(())
     }
@@ -128,10 +131,10 @@ impl Log {
         requires number { commit.number ≡ length self.old.commits + 1 }
         requires changes { changes ≡ spec.changes_of commit }
         requires room { length changes < self.old.room }
-        ensures { self.new ≡ record { commits = self.old.commits ++ commit ∷ []; room = 0 } }
+        ensures { self.new ≡ record self.old { commits = self.old.commits ++ commit ∷ []; room = 0 } }
     {
         self.room = 0;
         self.commits.push(commit);
-        self.changes.append(changes.into_vec());
+        add_each(&mut self.lists, self.shards, changes.into_vec());
     }
 }

@@ -72,15 +72,4 @@ impl<T: Drop> Roomy<T> {
         let pushed = self.items.push(item);
         prove!(pushed.is_ok());
     }
-
-    /// Adds items for which there is memory.
-    pub(crate) fn append(&mut self, more: Vec<T>)
-        requires { length more.items ≤ self.old.1 }
-        ensures items { self.new.0 ≡ self.old.0 ++ more.items }
-        ensures room { self.old.1 ≤ self.new.1 + length more.items }
-    {
-        let mut more = more;
-        let appended = self.items.append(&mut more);
-        prove!(appended.is_ok());
-    }
 }

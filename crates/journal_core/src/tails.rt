@@ -1,17 +1,19 @@
-//! Tails of a list of changes whose numbers don't fall.
+//! Tails of a journal's changes.
 
-ghost use Rattle.std.specs.Prelude.{◌≡◌, ◌≤◌, IfOk};
-ghost use Rattle.rdt_types.specs.declared.limits.TheConstants.{LEAST_SHARDS, MOST_SHARDS};
+ghost use Rattle.std.specs.Prelude.{◌≡◌, ◌≤◌, length, take, drop, IfOk};
 ghost use Rattle.change_feed.specs.Tails.{IsTail};
 ghost use Rattle.journal_core.specs.Changes as spec;
-ghost use Rattle.journal_core.specs.Rising.{Rises};
+ghost use Rattle.journal_core.specs.Pairs.{AreNumbered};
 ghost use Rattle.journal_core.specs.Tails.{HasAll};
 
-use crate::copying::{copies, copies_of_address, copies_of_shard};
+use crate::copying::{all_changes, copies, copies_of_address};
+use crate::log::Log;
 use crate::walk::between;
 use change_feed::{Change, ChangeList, Tail};
-use rdt_types::Address;
+use plain_data::Sequence;
+use rdt_types::{Address, shard_of};
 use std::alloc::{AllocError, Global};
+use txn_lang::Commit;
 
 /// The changes as a tail.
 fn as_tail(from: u64, to: u64, changes: ChangeList) -> Tail
@@ -21,51 +23,87 @@ fn as_tail(from: u64, to: u64, changes: ChangeList) -> Tail
     Tail { from, to, changes }
 }
 
-/// The tail of all changes.
-pub(crate) fn tail_of_all(
+/// The commits past one number and up to another.
+fn commits_between(log: &Log, from: u64, to: u64) -> &[Commit]
+    requires order { from ≤ to }
+    requires within { to ≤ length log.now.commits }
+    ensures numbered { AreNumbered log.now.commits }
+    ensures commits { result.now ≡ drop from (take to log.now.commits) }
+{
+    let up_to = &log.commits()[..to as usize];
+    &up_to[from as usize..]
+}
+
+/// Copies of the changes between two numbers.
+fn changes_between(alloc: Global, log: &Log, from: u64, to: u64) -> Result<ChangeList, AllocError>
+    requires order { from ≤ to }
+    requires within { to ≤ length log.now.commits }
+    ensures numbered { AreNumbered log.now.commits }
+    ensures changes { IfOk result (λ list. list ≡ spec.between from to (spec.changes log.now.commits)) }
+{
+    let changes = all_changes(alloc, commits_between(log, from, to))?;
+    Ok(Sequence::from_vec(changes))
+}
+
+/// The changes in a shard between two numbers.
+fn between_in_shard(log: &Log, shard: u8, from: u64, to: u64) -> &[Change]
+    ensures numbered { AreNumbered log.now.commits }
+    ensures changes { result.now ≡ spec.of_shard log.now.shards shard (spec.between from to (spec.changes log.now.commits)) }
+{
+    between(log.in_shard(shard), from, to)
+}
+
+/// Copies of the changes at an address between two numbers.
+fn between_at(
     alloc: Global,
-    all: &[Change],
+    log: &Log,
+    address: &Address,
     from: u64,
     to: u64,
-) -> Result<Tail, AllocError>
-    requires rises { Rises 0 all.now }
-    requires order { from ≤ to }
-    ensures { IfOk result (HasAll from to (spec.between from to all.now)) }
+) -> Result<ChangeList, AllocError>
+    ensures numbered { AreNumbered log.now.commits }
+    ensures changes { IfOk result (λ list. list ≡ spec.of_address address.now (spec.between from to (spec.changes log.now.commits))) }
 {
-    let changes = copies(alloc, between(all, from, to))?;
+    let shard = shard_of(address, log.shards());
+    copies_of_address(alloc, between_in_shard(log, shard, from, to), address)
+}
+
+/// The tail of all changes.
+pub(crate) fn tail_of_all(alloc: Global, log: &Log, from: u64, to: u64) -> Result<Tail, AllocError>
+    requires order { from ≤ to }
+    requires within { to ≤ length log.now.commits }
+    ensures { IfOk result (HasAll from to (spec.between from to (spec.changes log.now.commits))) }
+{
+    let changes = changes_between(alloc, log, from, to)?;
     Ok(as_tail(from, to, changes))
 }
 
 /// The tail of the changes in a shard.
 pub(crate) fn tail_of_shard(
     alloc: Global,
-    all: &[Change],
-    shards: u8,
+    log: &Log,
     shard: u8,
     from: u64,
     to: u64,
 ) -> Result<Tail, AllocError>
-    requires rises { Rises 0 all.now }
-    requires order { from ≤ to }
-    requires shards { (LEAST_SHARDS ≤ shards) × (shards ≤ MOST_SHARDS) }
-    ensures { IfOk result (HasAll from to (spec.of_shard shards shard (spec.between from to all.now))) }
+    requires { from ≤ to }
+    ensures { IfOk result (HasAll from to (spec.of_shard log.now.shards shard (spec.between from to (spec.changes log.now.commits)))) }
 {
-    let changes = copies_of_shard(alloc, between(all, from, to), shards, shard)?;
+    let changes = copies(alloc, between_in_shard(log, shard, from, to))?;
     Ok(as_tail(from, to, changes))
 }
 
 /// The tail of the changes at an address.
 pub(crate) fn tail_of_address(
     alloc: Global,
-    all: &[Change],
+    log: &Log,
     address: &Address,
     from: u64,
     to: u64,
 ) -> Result<Tail, AllocError>
-    requires rises { Rises 0 all.now }
-    requires order { from ≤ to }
-    ensures { IfOk result (HasAll from to (spec.of_address address.now (spec.between from to all.now))) }
+    requires { from ≤ to }
+    ensures { IfOk result (HasAll from to (spec.of_address address.now (spec.between from to (spec.changes log.now.commits)))) }
 {
-    let changes = copies_of_address(alloc, between(all, from, to), address)?;
+    let changes = between_at(alloc, log, address, from, to)?;
     Ok(as_tail(from, to, changes))
 }

@@ -1,5 +1,4 @@
-use Rattle.std.proofs.Common.{◌≡◌, ℕ, ◌-◌, Bool, true, false, not, nat_lt, nat_le, length, take, drop, sym, ◌∙◌, arith, rules, length-drop}
-use Rattle.std.proofs.lemmas.Grind.{common_steps}
+use Rattle.std.proofs.Common.{nat_lt, nat_le, sym, ◌∙◌, rules}
 use Rattle.std.proofs.lemmas.List.Sorted.{IsPartitionPoint-from_clause}
 use Rattle.journal_core.proofs.Rising.{partitioned, filter-back, later, all_behind}
 use Rattle.journal_core.proofs.walk.past.Goals as goal

@@ -1,5 +1,4 @@
-use Rattle.std.proofs.Common.{ap, ◌∙◌}
-use Rattle.abort_witness.specs.Pairs.{least}
+use Rattle.std.proofs.Common.{◌∙◌}
 use Rattle.journal_core.specs.Pairs.{past_fronts}
 use Rattle.journal_core.proofs.Ordering.{least-is-first}
 use Rattle.journal_core.proofs.log.Log.least_past.Goals as goal
@@ -7,5 +6,5 @@ use Rattle.journal_core.proofs.log.Log.least_past.Goals as goal
 -- the least pair in the changes is the first pair of the commits
 pub returns-clause-least : goal.returns-clause-least
 returns-clause-least g c =
-    let based = past_fronts c.args.shards c.args.fronts.now c.args.based.now in
-    c.least_past.ensures.least ∙ ap (least based) c.changes.ensures.changes ∙ least-is-first based c.args.self.now.commits c.changes.ensures.numbered
+    let based = past_fronts c.args.self.now.shards c.args.fronts.now c.args.based.now in
+    c.least_past.ensures.least ∙ least-is-first based c.args.self.now.commits c.commits.ensures.numbered

@@ -1,0 +1,240 @@
+-- Changes kept by shard.
+use Rattle.std.proofs.Common.{◌≡◌, ℕ, ◌+◌, ◌<◌, ◌≤◌, ◌==◌, ◌&&◌, Bool, true, false, nat_lt, nat_le, List, [], ◌∷◌, ◌++◌, filter, length, take, drop, refl, sym, ap, ◌∙◌, arith, cond, Some}
+use Rattle.std.specs.BTreeMap.{is_at}
+use Rattle.std.proofs.Common.{zero, suc}
+use Rattle.std.proofs.lemmas.List.Elements.{filter-append}
+use Rattle.rdt_types.specs.declared.address.Address.{Address}
+use Rattle.rdt_types.specs.Addresses.{address_cmp}
+use Rattle.plain_data.proofs.Entries.{equal}
+use Rattle.rdt_types.proofs.Addresses.{address_cmp-equal}
+use Rattle.rdt_types.specs.Shards.{shard_of}
+use Rattle.rdt_types.specs.DeltaMaps.{Deltas}
+use Rattle.conflict_table.specs.Clashes.{clash}
+use Rattle.change_feed.specs.declared.change.Change.{Change}
+use Rattle.abort_witness.specs.declared.witness.Based.{Based}
+use Rattle.abort_witness.specs.Pairs.{meets, clashes, first_clash}
+use Rattle.txn_lang.specs.declared.commit.Commit.{Commit}
+use Rattle.txn_lang.specs.States.{Journal}
+use Rattle.journal_core.specs.Changes.{changes, changes_of, changes_by, past, up_to, between, of_shard, of_address}
+use Rattle.journal_core.specs.Pairs.{AreNumberedFrom}
+use Rattle.journal_core.specs.Logs.{Keeps}
+use Rattle.journal_core.proofs.Passing.{moved, first_clash-past, meets-past}
+use Rattle.journal_core.proofs.Rising.{changes-more, numbered-more}
+use Rattle.journal_core.specs.ByShard.{HasGrown, HasAdded}
+
+-- a number is itself
+itself : (n : ℕ) → (n == n) ≡ true
+itself n = grind arith
+
+-- what is at an address is in its shard
+at_address : (address other : Address) (shards : ℕ) → is_at (address_cmp address) other ≡ true → (shard_of other shards == shard_of address shards) ≡ true
+at_address address other shards here = rw (sym (address_cmp-equal address other (equal (address_cmp address other) here))) (itself (shard_of address shards))
+
+-- what is in another shard is at another address
+elsewhere : (address other : Address) (shards : ℕ) → (shard_of other shards == shard_of address shards) ≡ false → is_at (address_cmp address) other ≡ false
+elsewhere address other shards apart = by (is_at (address_cmp address) other) refl
+  where
+    by : (b : Bool) → is_at (address_cmp address) other ≡ b → is_at (address_cmp address) other ≡ false
+    by false here = here
+    by true here = absurd (let also = at_address address other shards here in cc)
+
+-- what is at another address doesn't meet
+apart_all : (a c : Bool) → ((a && false) && c) ≡ false
+apart_all true c = refl
+apart_all false c = refl
+
+apart_one : (a : Bool) → (a && false) ≡ false
+apart_one true = refl
+apart_one false = refl
+
+-- the first clash is among the changes of its shard
+pub first_clash-in_shard : (based : Based) (shards : ℕ) (all : List Change)
+    → first_clash based (of_shard shards (shard_of based.address shards) all) ≡ first_clash based all
+first_clash-in_shard based shards [] = refl
+first_clash-in_shard based shards (change ∷ rest) =
+    by (first_clash-in_shard based shards rest) (shard_of change.address shards == shard_of based.address shards) refl
+  where
+    by : first_clash based (of_shard shards (shard_of based.address shards) rest) ≡ first_clash based rest → (b : Bool)
+        → (shard_of change.address shards == shard_of based.address shards) ≡ b
+        → first_clash based (of_shard shards (shard_of based.address shards) (change ∷ rest)) ≡ first_clash based (change ∷ rest)
+    by later true here = rw here (ap (λ o. cond (clashes based change) (Some change.number) o) later)
+    by later false here =
+        rw here (rw (elsewhere based.address change.address shards here)
+        (rw (apart_all (nat_lt based.base change.number) (clash based.obs change.delta)) later))
+
+-- and so is all that it may meet
+pub meets-in_shard : (based : Based) (shards : ℕ) (all : List Change)
+    → filter (meets based) (of_shard shards (shard_of based.address shards) all) ≡ filter (meets based) all
+meets-in_shard based shards [] = refl
+meets-in_shard based shards (change ∷ rest) =
+    by (meets-in_shard based shards rest) (shard_of change.address shards == shard_of based.address shards) refl
+  where
+    by : filter (meets based) (of_shard shards (shard_of based.address shards) rest) ≡ filter (meets based) rest → (b : Bool)
+        → (shard_of change.address shards == shard_of based.address shards) ≡ b
+        → filter (meets based) (of_shard shards (shard_of based.address shards) (change ∷ rest)) ≡ filter (meets based) (change ∷ rest)
+    by later true here = rw here (ap (λ o. cond (meets based change) (change ∷ o) o) later)
+    by later false here =
+        rw here (rw (elsewhere based.address change.address shards here) (rw (apart_one (nat_lt based.base change.number)) later))
+
+-- past a number, the first clash in the list of its shard is that of the observation as if it was made there
+pub first_clash-here : (based : Based) (from shards : ℕ) (here all : List Change) → based.base ≤ from
+    → here ≡ of_shard shards (shard_of based.address shards) all → first_clash based (past from here) ≡ first_clash (moved based from) all
+first_clash-here based from shards here all within same =
+    first_clash-past based from here within ∙ ap (first_clash (moved based from)) same ∙ first_clash-in_shard (moved based from) shards all
+
+-- and as many may be met
+pub meets-here : (based : Based) (from shards : ℕ) (here all : List Change) → based.base ≤ from
+    → here ≡ of_shard shards (shard_of based.address shards) all → filter (meets based) (past from here) ≡ filter (meets (moved based from)) all
+meets-here based from shards here all within same =
+    meets-past based from here within ∙ ap (filter (meets (moved based from))) same ∙ meets-in_shard (moved based from) shards all
+
+-- and all that is at an address
+pub of_address-in_shard : (address : Address) (shards : ℕ) (all : List Change)
+    → of_address address (of_shard shards (shard_of address shards) all) ≡ of_address address all
+of_address-in_shard address shards [] = refl
+of_address-in_shard address shards (change ∷ rest) =
+    by (of_address-in_shard address shards rest) (shard_of change.address shards == shard_of address shards) refl
+  where
+    by : of_address address (of_shard shards (shard_of address shards) rest) ≡ of_address address rest → (b : Bool)
+        → (shard_of change.address shards == shard_of address shards) ≡ b
+        → of_address address (of_shard shards (shard_of address shards) (change ∷ rest)) ≡ of_address address (change ∷ rest)
+    by later true here = rw here (ap (λ o. cond (is_at (address_cmp address) change.address) (change ∷ o) o) later)
+    by later false here = rw here (rw (elsewhere address change.address shards here) later)
+
+-- two tests may change places
+swapped : {X : Type 0} (p q : X → Bool) (xs : List X) → filter p (filter q xs) ≡ filter q (filter p xs)
+swapped p q [] = refl
+swapped p q (x ∷ xs) = by (p x) refl (q x) refl (swapped p q xs)
+  where
+    by : (a : Bool) → p x ≡ a → (b : Bool) → q x ≡ b → filter p (filter q xs) ≡ filter q (filter p xs)
+        → filter p (filter q (x ∷ xs)) ≡ filter q (filter p (x ∷ xs))
+    by true s true t later = rw t (rw s (rw t (ap (λ o. x ∷ o) later)))
+    by true s false t later = rw t (rw s (rw t later))
+    by false s true t later = rw t (rw s later)
+    by false s false t later = rw t (rw s later)
+
+-- between two numbers of a shard is what is in the shard between them
+pub between-in_shard : (first last shards shard : ℕ) (all : List Change)
+    → between first last (of_shard shards shard all) ≡ of_shard shards shard (between first last all)
+between-in_shard first last shards shard all =
+    let here : Change → Bool = λ change. shard_of change.address shards == shard in
+    ap (past first) (swapped (λ change. nat_le change.number last) here all)
+    ∙ swapped (λ change. nat_lt first change.number) here (up_to last all)
+
+-- ---- the changes of commits are found by their places
+
+-- the changes of one commit pass a test of its number together
+all_of : (p : ℕ → Bool) (n : ℕ) (deltas : Deltas) → p n ≡ true → filter (λ change. p change.number) (changes_by n deltas) ≡ changes_by n deltas
+all_of p n [] here = refl
+all_of p n (pair ∷ deltas) here = rw here (ap (λ more. record { number = n; address = pair.0; delta = pair.1 } ∷ more) (all_of p n deltas here))
+
+none_of : (p : ℕ → Bool) (n : ℕ) (deltas : Deltas) → p n ≡ false → filter (λ change. p change.number) (changes_by n deltas) ≡ []
+none_of p n [] here = refl
+none_of p n (pair ∷ deltas) here = rw here (none_of p n deltas here)
+
+-- the commit passes, and then what passes of the rest
+passing : (p : ℕ → Bool) (commit : Commit) (rest : Journal) (more : List Change) → p commit.number ≡ true
+    → filter (λ change. p change.number) (changes rest) ≡ more → filter (λ change. p change.number) (changes (commit ∷ rest)) ≡ changes_of commit ++ more
+passing p commit rest more here later =
+    filter-append (λ change. p change.number) (changes_of commit) (changes rest)
+    ∙ ap (λ front. front ++ filter (λ change. p change.number) (changes rest)) (all_of p commit.number commit.deltas here)
+    ∙ ap (λ back. changes_of commit ++ back) later
+
+-- the commit doesn't pass
+failing : (p : ℕ → Bool) (commit : Commit) (rest : Journal) (more : List Change) → p commit.number ≡ false
+    → filter (λ change. p change.number) (changes rest) ≡ more → filter (λ change. p change.number) (changes (commit ∷ rest)) ≡ more
+failing p commit rest more here later =
+    filter-append (λ change. p change.number) (changes_of commit) (changes rest)
+    ∙ ap (λ front. front ++ filter (λ change. p change.number) (changes rest)) (none_of p commit.number commit.deltas here)
+    ∙ later
+
+-- how numbers compare
+is_up_to : (k m : ℕ) → k ≤ m → nat_le k m ≡ true
+is_up_to k m order = grind (arith, order)
+
+isnt_up_to : (k m : ℕ) → m < k → nat_le k m ≡ false
+isnt_up_to k m order = grind (arith, order)
+
+is_past : (k m : ℕ) → m < k → nat_lt m k ≡ true
+is_past k m order = grind (arith, order)
+
+isnt_past : (k m : ℕ) → k ≤ m → nat_lt m k ≡ false
+isnt_past k m order = grind (arith, order)
+
+-- none of the commits past a number is up to it
+none_up_to : (m n : ℕ) (journal : Journal) → m ≤ n → AreNumberedFrom n journal → up_to m (changes journal) ≡ []
+none_up_to m n [] order numbered = refl
+none_up_to m n (commit ∷ rest) order numbered =
+    failing (λ k. nat_le k m) commit rest [] (isnt_up_to commit.number m (omega (arith, order, numbered.0)))
+    (none_up_to m (n + 1) rest (omega (arith, order)) numbered.1)
+
+-- all of them are past it
+all_past : (m n : ℕ) (journal : Journal) → m ≤ n → AreNumberedFrom n journal → past m (changes journal) ≡ changes journal
+all_past m n [] order numbered = refl
+all_past m n (commit ∷ rest) order numbered =
+    passing (λ k. nat_lt m k) commit rest (changes rest) (is_past commit.number m (omega (arith, order, numbered.0)))
+    (all_past m (n + 1) rest (omega (arith, order)) numbered.1)
+
+-- the changes up to a number are those of so many commits
+changes-up_to : (m n t : ℕ) (journal : Journal) → m ≡ n + t → AreNumberedFrom n journal → up_to m (changes journal) ≡ changes (take t journal)
+changes-up_to m n zero [] is numbered = refl
+changes-up_to m n (suc t) [] is numbered = refl
+changes-up_to m n zero (commit ∷ rest) is numbered = none_up_to m n (commit ∷ rest) (omega (arith, is)) numbered
+changes-up_to m n (suc t) (commit ∷ rest) is numbered =
+    passing (λ k. nat_le k m) commit rest (changes (take t rest)) (is_up_to commit.number m (omega (arith, is, numbered.0)))
+    (changes-up_to m (n + 1) t rest (omega (arith, is)) numbered.1)
+
+-- the changes past a number are those of the others
+changes-past : (m n t : ℕ) (journal : Journal) → m ≡ n + t → AreNumberedFrom n journal → past m (changes journal) ≡ changes (drop t journal)
+changes-past m n zero [] is numbered = refl
+changes-past m n (suc t) [] is numbered = refl
+changes-past m n zero (commit ∷ rest) is numbered = all_past m n (commit ∷ rest) (omega (arith, is)) numbered
+changes-past m n (suc t) (commit ∷ rest) is numbered =
+    failing (λ k. nat_lt m k) commit rest (changes (drop t rest)) (isnt_past commit.number m (omega (arith, is, numbered.0)))
+    (changes-past m (n + 1) t rest (omega (arith, is)) numbered.1)
+
+-- the first commits are numbered too
+numbered-take : (n t : ℕ) (journal : Journal) → AreNumberedFrom n journal → AreNumberedFrom n (take t journal)
+numbered-take n zero [] numbered = tt
+numbered-take n (suc t) [] numbered = tt
+numbered-take n zero (commit ∷ rest) numbered = tt
+numbered-take n (suc t) (commit ∷ rest) numbered = (numbered.0, numbered-take (n + 1) t rest numbered.1)
+
+-- the changes between two numbers are those of the commits between them
+pub changes-between : (first last : ℕ) (journal : Journal) → AreNumberedFrom 0 journal
+    → changes (drop first (take last journal)) ≡ between first last (changes journal)
+changes-between first last journal numbered =
+    sym (ap (past first) (changes-up_to last 0 last journal (omega arith) numbered)
+    ∙ changes-past first 0 first (take last journal) (omega arith) (numbered-take 0 last journal numbered))
+
+-- ---- one commit more
+
+-- the same lists with more memory keep what they keep
+pub keeps-grown : (commits : Journal) (shards : ℕ) (old new : List (List Change × ℕ)) (m n room : ℕ)
+    → Keeps commits shards old m room → room ≤ n → HasGrown old new → Keeps commits shards new n room
+keeps-grown commits shards old new m n room kept more grown = record {
+  numbered = kept.numbered;
+  few = kept.few;
+  theirs = record { as_many = grown.as_many ∙ kept.theirs.as_many; theirs = λ shard. grown.same shard ∙ kept.theirs.theirs shard };
+  one_more = more;
+  some_more = λ place within.
+      let before = kept.some_more place (rw (← grown.as_many) within) in let after = grown.kept place in omega (arith, before, after);
+}
+
+-- one commit more, with its changes, keeps all in order; the memory for it is used up
+pub keeps-more : (old : Journal) (shards : ℕ) (lists : List (List Change × ℕ)) (commit : Commit) (new : Journal) (after : List (List Change × ℕ)) (m n room : ℕ)
+    → Keeps old shards lists m room → commit.number ≡ length old + 1
+    → new ≡ old ++ commit ∷ [] → HasAdded shards (changes_of commit) lists after → Keeps new shards after n 0
+keeps-more old shards lists commit new after m n room kept number added more = record {
+  numbered = rw added (numbered-more 0 old commit kept.numbered (omega (arith, number)));
+  few = kept.few;
+  theirs = record {
+    as_many = more.as_many ∙ kept.theirs.as_many;
+    theirs = λ shard.
+        more.added shard ∙ ap (λ list. list ++ of_shard shards shard (changes_of commit)) (kept.theirs.theirs shard)
+        ∙ sym (filter-append (λ change. shard_of change.address shards == shard) (changes old) (changes_of commit))
+        ∙ ap (of_shard shards shard) (sym (changes-more old commit) ∙ ap changes (sym added));
+  };
+  one_more = omega arith;
+  some_more = λ place within. omega arith;
+}
