@@ -1,5 +1,6 @@
 //! Who is subscribed to which addresses, and what is pending for whom. A [`Registry`] gives each subscriber, at each take,
-//! what its addresses' changes since its last take come to. It doesn't follow a journal yet. It stands on `change_feed`.
+//! what its addresses' changes since its last take come to; it follows a journal by its tails. It stands on `change_feed`,
+//! and for its law on clients on `client_cache`.
 //!
 //! Read first `specs/Registered.antt` (what a registry keeps of a subscriber) and `specs/Standing.antt` (what that means: it
 //! stands for the journal's changes).
