@@ -40,7 +40,8 @@ impl Places {
 
     /// Puts a subscriber at an address.
     pub fn link(&mut self, address: &Address, subscriber: u32) -> Result<(), AllocError>
-        ensures ok { OnOk result ((a : Address) (s : ℕ) → links self.new a s ≡ (if is_at (address_cmp address.now) a && is_at (nat_cmp subscriber) s then true else links self.old a s)) }
+        ensures ok { OnOk result ((a : Address) (s : ℕ) → links self.new a s
+            ≡ (if is_at (address_cmp address.now) a && is_at (nat_cmp subscriber) s then true else links self.old a s)) }
         ensures err { OnErr result ((a : Address) (s : ℕ) → links self.new a s ≡ links self.old a s) }
     {
         if let Some(set) = self.sets.get_mut(address) {
@@ -55,7 +56,8 @@ impl Places {
 
     /// Takes a subscriber from an address. It takes no memory.
     pub fn unlink(&mut self, address: &Address, subscriber: u32)
-        ensures { (a : Address) (s : ℕ) → links self.new a s ≡ (if is_at (address_cmp address.now) a && is_at (nat_cmp subscriber) s then false else links self.old a s) }
+        ensures { (a : Address) (s : ℕ) → links self.new a s
+            ≡ (if is_at (address_cmp address.now) a && is_at (nat_cmp subscriber) s then false else links self.old a s) }
     {
         if let Some(set) = self.sets.get_mut(address) {
             set.remove(&subscriber);

@@ -46,7 +46,8 @@ impl Model for Registry {
 
 /// Takes a subscriber from all of some addresses.
 fn unlink_all(places: &mut Places, addresses: &BTreeSet<Address>, subscriber: u32)
-    ensures { (a : Address) (s : ℕ) → links places.new a s ≡ (if contains address_cmp addresses.now a && is_at (nat_cmp subscriber) s then false else links places.old a s) }
+    ensures { (a : Address) (s : ℕ) → links places.new a s
+        ≡ (if contains address_cmp addresses.now a && is_at (nat_cmp subscriber) s then false else links places.old a s) }
 {
     for address in addresses {
         places.unlink(address, subscriber);
@@ -64,7 +65,8 @@ fn subscribe_pair(
     requires { links places.old address.now subscriber ≡ is_address kept.old address.now }
     ensures kept { OnOk result (kept.new ≡ spec.subscribed address.now missed.now kept.old) }
     ensures has { OnOk result ((a : Address) → is_address kept.new a ≡ (if is_at (address_cmp address.now) a then true else is_address kept.old a)) }
-    ensures places { OnOk result ((a : Address) (s : ℕ) → links places.new a s ≡ (if is_at (address_cmp address.now) a && is_at (nat_cmp subscriber) s then true else links places.old a s)) }
+    ensures places { OnOk result ((a : Address) (s : ℕ) → links places.new a s
+        ≡ (if is_at (address_cmp address.now) a && is_at (nat_cmp subscriber) s then true else links places.old a s)) }
     ensures as_kept { OnErr result (kept.new ≡ kept.old) }
     ensures as_placed { OnErr result ((a : Address) (s : ℕ) → links places.new a s ≡ links places.old a s) }
 {
@@ -153,7 +155,8 @@ impl Registry {
         requires entered { IsSome (kept_of self.old subscriber) }
         requires missed { missed.now.to ≡ self.old.front }
         ensures front { self.new.front ≡ self.old.front }
-        ensures ok { OnOk result ((s : ℕ) → kept_of self.new s ≡ with_kept self.old subscriber (option_map (spec.subscribed address.now missed.now.changes) (kept_of self.old subscriber)) s) }
+        ensures ok { OnOk result ((s : ℕ) → kept_of self.new s
+            ≡ with_kept self.old subscriber (option_map (spec.subscribed address.now missed.now.changes) (kept_of self.old subscriber)) s) }
         ensures err { OnErr result ((s : ℕ) → kept_of self.new s ≡ kept_of self.old s) }
     {
         match self.subscribers.get_mut(&subscriber) {
@@ -173,7 +176,8 @@ impl Registry {
     pub fn unsubscribe(&mut self, subscriber: u32, address: &Address) -> bool
         ensures answer { result ≡ is_subscribed self.old subscriber address.now }
         ensures front { self.new.front ≡ self.old.front }
-        ensures gone { (s : ℕ) → kept_of self.new s ≡ with_kept self.old subscriber (option_map (spec.unsubscribed address.now) (kept_of self.old subscriber)) s }
+        ensures gone { (s : ℕ) → kept_of self.new s
+            ≡ with_kept self.old subscriber (option_map (spec.unsubscribed address.now) (kept_of self.old subscriber)) s }
     {
         match self.subscribers.get_mut(&subscriber) {
             None => false,
@@ -207,7 +211,8 @@ impl Registry {
         ensures to { IfOk result (λ feed. feed.to ≡ self.old.front) }
         ensures pending { IfOk result (λ feed. (a : Address) → delta_at feed.changes a ≡ pending_of self.old subscriber a) }
         ensures front { self.new.front ≡ self.old.front }
-        ensures ok { OnOk result ((s : ℕ) → kept_of self.new s ≡ with_kept self.old subscriber (option_map (spec.emptied self.old.front) (kept_of self.old subscriber)) s) }
+        ensures ok { OnOk result ((s : ℕ) → kept_of self.new s
+            ≡ with_kept self.old subscriber (option_map (spec.emptied self.old.front) (kept_of self.old subscriber)) s) }
         ensures err { OnErr result ((s : ℕ) → kept_of self.new s ≡ kept_of self.old s) }
     {
         let Some(kept) = self.subscribers.get_mut(&subscriber) else {

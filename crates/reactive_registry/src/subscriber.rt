@@ -132,7 +132,8 @@ impl Subscriber {
     /// Adds an address, and the changes there that were missed.
     pub fn subscribe(&mut self, address: &Address, missed: &[Change]) -> Result<(), AllocError>
         ensures has { OnOk result ((a : Address) → is_address self.new a ≡ (if is_at (address_cmp address.now) a then true else is_address self.old a)) }
-        ensures ok { OnOk result (self.new ≡ record self.old { addresses = insert_key address_cmp self.old.addresses address.now; changes = self.old.changes ++ changes_at address.now missed.now }) }
+        ensures ok { OnOk result (self.new
+            ≡ record self.old { addresses = insert_key address_cmp self.old.addresses address.now; changes = self.old.changes ++ changes_at address.now missed.now }) }
         ensures err { OnErr result (self.new ≡ self.old) }
     {
         let count = self.changes.len();
@@ -176,8 +177,10 @@ fn add_address(
     address: &Address,
     missed: &[Change],
 ) -> Result<(), AllocError>
-    ensures has { OnOk result ((a : Address) → contains address_cmp addresses.new a ≡ (if is_at (address_cmp address.now) a then true else contains address_cmp addresses.old a)) }
-    ensures ok { OnOk result ((addresses.new.keys ≡ insert_key address_cmp addresses.old.keys address.now) × (changes.new.items ≡ changes.old.items ++ changes_at address.now missed.now)) }
+    ensures has { OnOk result ((a : Address) → contains address_cmp addresses.new a
+        ≡ (if is_at (address_cmp address.now) a then true else contains address_cmp addresses.old a)) }
+    ensures ok { OnOk result ((addresses.new.keys ≡ insert_key address_cmp addresses.old.keys address.now) × (changes.new.items
+        ≡ changes.old.items ++ changes_at address.now missed.now)) }
     ensures err { OnErr result (addresses.new.keys ≡ addresses.old.keys) }
     ensures begun { take (length changes.old.items) changes.new.items ≡ changes.old.items }
 {

@@ -20,7 +20,8 @@ fn tell_one(
     subscriber: u32,
     change: &Change,
 ) -> Result<(), AllocError>
-    ensures ok { OnOk result ((q : ℕ) → kept_in subscribers.new.entries q ≡ done_where (is_at (nat_cmp subscriber) q) (pushed change.now) (kept_in subscribers.old.entries q)) }
+    ensures ok { OnOk result ((q : ℕ) → kept_in subscribers.new.entries q
+        ≡ done_where (is_at (nat_cmp subscriber) q) (pushed change.now) (kept_in subscribers.old.entries q)) }
     ensures err { OnErr result ((q : ℕ) → kept_in subscribers.new.entries q ≡ kept_in subscribers.old.entries q) }
 {
     match subscribers.get_mut(&subscriber) {
@@ -44,8 +45,10 @@ fn tell_set(
     set: &BTreeSet<u32>,
     change: &Change,
 ) -> Result<(), AllocError>
-    ensures ok { OnOk result ((q : ℕ) → kept_in subscribers.new.entries q ≡ done_where (contains nat_cmp set.now q) (pushed change.now) (kept_in subscribers.old.entries q)) }
-    ensures behind { (front : ℕ) → front < change.now.number → (q : ℕ) → option_map (cut front) (kept_in subscribers.new.entries q) ≡ option_map (cut front) (kept_in subscribers.old.entries q) }
+    ensures ok { OnOk result ((q : ℕ) → kept_in subscribers.new.entries q
+        ≡ done_where (contains nat_cmp set.now q) (pushed change.now) (kept_in subscribers.old.entries q)) }
+    ensures behind { (front : ℕ) → front < change.now.number → (q : ℕ) → option_map (cut front) (kept_in subscribers.new.entries q)
+        ≡ option_map (cut front) (kept_in subscribers.old.entries q) }
     ensures elsewhere { (q : ℕ) → contains nat_cmp set.now q ≡ false → kept_in subscribers.new.entries q ≡ kept_in subscribers.old.entries q }
 {
     for subscriber in set {
@@ -69,8 +72,10 @@ fn tell_linked(
     places: &Places,
     change: &Change,
 ) -> Result<(), AllocError>
-    ensures ok { OnOk result ((q : ℕ) → kept_in subscribers.new.entries q ≡ done_where (links places.now change.now.address q) (pushed change.now) (kept_in subscribers.old.entries q)) }
-    ensures behind { (front : ℕ) → front < change.now.number → (q : ℕ) → option_map (cut front) (kept_in subscribers.new.entries q) ≡ option_map (cut front) (kept_in subscribers.old.entries q) }
+    ensures ok { OnOk result ((q : ℕ) → kept_in subscribers.new.entries q
+        ≡ done_where (links places.now change.now.address q) (pushed change.now) (kept_in subscribers.old.entries q)) }
+    ensures behind { (front : ℕ) → front < change.now.number → (q : ℕ) → option_map (cut front) (kept_in subscribers.new.entries q)
+        ≡ option_map (cut front) (kept_in subscribers.old.entries q) }
     ensures elsewhere { (q : ℕ) → links places.now change.now.address q ≡ false → kept_in subscribers.new.entries q ≡ kept_in subscribers.old.entries q }
 {
     match places.at(&change.address) {
@@ -100,7 +105,8 @@ fn tell_all(
     changes: &[Change],
 ) -> Result<(), AllocError>
     ensures ok { OnOk result ((q : ℕ) → kept_in subscribers.new.entries q ≡ told_along places.now q changes.now (kept_in subscribers.old.entries q)) }
-    ensures behind { (front : ℕ) → ArePast front changes.now → (q : ℕ) → option_map (cut front) (kept_in subscribers.new.entries q) ≡ option_map (cut front) (kept_in subscribers.old.entries q) }
+    ensures behind { (front : ℕ) → ArePast front changes.now → (q : ℕ) → option_map (cut front) (kept_in subscribers.new.entries q)
+        ≡ option_map (cut front) (kept_in subscribers.old.entries q) }
     ensures elsewhere { (q : ℕ) → is_linked places.now q changes.now ≡ false → kept_in subscribers.new.entries q ≡ kept_in subscribers.old.entries q }
 {
     for change in changes {
