@@ -7,12 +7,14 @@
 #![tactic(auto)]
 
 mod attempt;
+mod backend;
 mod laws;
 mod observed;
 mod order;
 mod stepping;
 
 pub use attempt::{Attempt, Next};
+pub use backend::{AppendError, Backend, PrepareError, ReadAtError, StoreError};
 pub use laws::{
     appending_stays_legal, attempts_fit_longer_journals, attempts_run_as_they_ran,
     events_stay_sound, every_world_is_sound, first_worlds_are_sound, fronts_spare_no_pair,

@@ -7,6 +7,7 @@ pub mod Rules
 pub mod Execution
 pub mod Determinacy
 pub mod Observed
+pub mod Short
 pub mod Types
 pub mod Typing
 pub mod Writes

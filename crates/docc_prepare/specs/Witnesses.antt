@@ -1,0 +1,41 @@
+-- The witness of the least pair of observations and a journal's commits.
+use Rattle.std.specs.Prelude.{◌≡◌, ℕ, if◌then◌else◌, List, [], ◌∷◌, Option, Some, None, slice_get, codes, pos, refl}
+use Rattle.std.specs.Option.{option_and_then}
+use Rattle.rdt_types.specs.declared.operation.WriteOp.{WriteOp}
+use Rattle.rdt_types.specs.declared.operation.WriteOp.TheVariants as op
+use Rattle.conflict_table.specs.Parts.{named}
+use Rattle.change_feed.specs.declared.change.Change.{Change}
+use Rattle.abort_witness.specs.declared.witness.Based.{Based}
+use Rattle.abort_witness.specs.declared.witness.Found.{Found}
+use Rattle.abort_witness.specs.declared.witness.Witness.{Witness}
+use Rattle.abort_witness.specs.Pairs.{clashes}
+use Rattle.txn_lang.specs.States.{Journal}
+use Rattle.journal_core.specs.Changes.{changes_of, adding}
+use Rattle.journal_core.specs.Journals.{commit_at}
+use Rattle.journal_core.specs.Pairs.{least_pair, read}
+
+-- the witness of an observation and a change, of which a part clashes with it
+abbrev pub witness_by : Based → Change → Option WriteOp → Option Witness
+witness_by based change None = None
+witness_by based change (Some part) =
+    Some (record { address = based.address; obs = based.obs; base = based.base; part = part; number = change.number })
+
+-- the witness of an observation and the change of a commit that clashes with it
+abbrev pub witness_in : Based → List Change → Option Witness
+witness_in based [] = None
+witness_in based (change ∷ rest) = if clashes based change then witness_by based change (named based.obs change.delta) else witness_in based rest
+
+-- the witness of a pair: the observation at its place, and the commit of its number
+abbrev pub witness_of : List Based → Journal → Found → Option Witness
+witness_of based journal found =
+    option_and_then (λ b. option_and_then (λ commit. witness_in b (changes_of commit)) (commit_at journal found.number)) (slice_get based found.place)
+
+-- The witness of the least pair, if there is a pair.
+abbrev pub least_witness : List Based → Journal → Option Witness
+least_witness based journal = option_and_then (witness_of based journal) (least_pair based journal)
+
+-- of three commits the second and the third change what was read at 1: the second is named, with its addition
+least_witness-example :
+    least_witness (read (codes "x") ∷ read (codes "y") ∷ []) (adding 1 (codes "x") ∷ adding 2 (codes "y") ∷ adding 3 (codes "x") ∷ [])
+    ≡ witness_by (read (codes "y")) (record { number = 2; address = (read (codes "y")).address; delta = _ }) (Some (op.AddCounter (pos 1)))
+least_witness-example = refl
