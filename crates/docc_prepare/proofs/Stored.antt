@@ -3,7 +3,7 @@ use Rattle.std.proofs.Common.{◌≡◌, ℕ, zero, suc, ◌+◌, ◌-◌, ◌�
 use Rattle.std.specs.Prelude.{nat_le, ◌==◌, replicate, slice_get}
 use Rattle.std.specs.Option.{option_and_then}
 use Rattle.std.specs.List.{AllByRecursion}
-use Rattle.std.proofs.lemmas.List.{length-append, length-set, length-replicate}
+use Rattle.std.proofs.lemmas.List.{append-nil, length-append, length-set, length-replicate}
 use Rattle.std.proofs.lemmas.Bool.Decides.{nat_tests}
 use Rattle.rdt_types.specs.declared.address.Address.{Address}
 use Rattle.rdt_types.specs.Shards.{shard_of}
@@ -229,6 +229,43 @@ module _ (s : Store) (c : ℕ) (sound : IsSound s) where
   followed-sound shard =
       let n = sound.seen c in
       saw-sound (moved s shard (length s.journal)) c (max (seen_by s c) (length s.journal)) (moved-sound s shard (length s.journal) sound (omega arith)) (omega arith)
+
+-- ---- what steps leave as it was
+
+-- The journal may have grown, and fronts may have risen.
+pub record Grown (s t : Store) : Type 0 where
+  pub shards : t.shards ≡ s.shards
+  pub more : Journal
+  pub journal : t.journal ≡ s.journal ++ more
+  pub risen : (shard : ℕ) → front_of s shard ≤ front_of t shard
+
+same-grown : (s t : Store) → t.shards ≡ s.shards → t.journal ≡ s.journal → ((shard : ℕ) → front_of s shard ≤ front_of t shard) → Grown s t
+same-grown s t shards journal risen = record { shards = shards; more = []; journal = journal ∙ sym (append-nil s.journal); risen = risen }
+
+decided-grows : (s : Store) (c : ℕ) (ready : Ready) (w : Option Witness) (full : Bool) → Grown s (decided s c ready w full).0
+decided-grows s c ready (Some w) full = same-grown s (saw s c (length s.journal)) refl refl (λ i. omega arith)
+decided-grows s c ready None true = same-grown s (saw s c (length s.journal)) refl refl (λ i. omega arith)
+decided-grows s c ready None false = record { shards = refl; more = made_of s.journal ready ∷ []; journal = refl; risen = λ i. omega arith }
+
+pub step-grows : (s : Store) (c : ℕ) (call : Call) → Grown s (step s c call).0
+step-grows s c Call.refresh = same-grown s (step s c Call.refresh).0 refl refl (λ i. omega arith)
+step-grows s c (Call.read a) =
+    let f = max (front_of s (shard_of a s.shards)) (seen_by s c) in
+    same-grown s (step s c (Call.read a)).0 refl refl (λ i. rises s.fronts (shard_of a s.shards) f i (omega arith))
+step-grows s c (Call.prepare shard based) = same-grown s (step s c (Call.prepare shard based)).0 refl refl (λ i. omega arith)
+step-grows s c (Call.append ready) = decided-grows s c ready (witness_past s ready) (nat_le s.limit (length s.journal))
+step-grows s c (Call.read_at a n) =
+    let f = max (front_of s (shard_of a s.shards)) n in
+    same-grown s (step s c (Call.read_at a n)).0 refl refl (λ i. rises s.fronts (shard_of a s.shards) f i (omega arith))
+step-grows s c (Call.subscribe a) = same-grown s (telling s c a true) refl refl (λ i. omega arith)
+step-grows s c (Call.unsubscribe a) = same-grown s (telling s c a false) refl refl (λ i. omega arith)
+step-grows s c Call.take = same-grown s (step s c Call.take).0 refl refl (λ i. omega arith)
+step-grows s c Call.wait = same-grown s s refl refl (λ i. omega arith)
+
+pub followed-grows : (s : Store) (c shard : ℕ) → IsSound s → Grown s (followed s c shard)
+followed-grows s c shard sound =
+    let r = sound.reached shard in
+    same-grown s (followed s c shard) refl refl (λ i. rises s.fronts shard (length s.journal) i r)
 
 -- ---- what a call may leave
 
