@@ -40,12 +40,9 @@ use Rattle.docc_prepare.proofs.Missing.{none-of-least}
 use Rattle.docc_prepare.proofs.Nexts.{appends}
 use Rattle.docc_prepare.proofs.Witnessed.{none-of-witness, witness-within, orderly-front, witness-of-front}
 use Rattle.docc_prepare.proofs.Feeding.{fed-is-pending, kinds-of-changes, kinds-fed}
-use Rattle.docc_prepare.proofs.Stored.{rises, IsOf, one-kinds, found-is, all-clear, commits-legally, StepsSoundly, step-sound, with_fronts, stalled-sound, does-one}
+use Rattle.docc_prepare.proofs.Stored.{IsOf, one-kinds, found-is, all-clear, commits-legally, StepsSoundly, step-sound, with_fronts, stalled-sound, Grown, step-grows, stalled-grows, same-client, kept-given, does-one}
 
 -- ---- tests
-
-pub still-reached : (a b n : ℕ) → a ≤ b → nat_le n a ≡ true → nat_le n b ≡ true
-still-reached a b n h e = grind (arith, nat_tests)
 
 is-reached : (n front : ℕ) → front ≡ n → nat_le n front ≡ true
 is-reached n front e = grind (arith, nat_tests)
@@ -155,12 +152,22 @@ module _ (s : Store) (sound : IsSound s) (c : ℕ) (ours : c < CLIENTS) where
   abbrev Says : Store → Call → Answer → Type 0
   Says t call a = Shows k (known_by t c) call a × Row k (known_by t c) s.journal s.journal call a × OwnRow c s.journal s.journal call a
 
+  keeps-of : (t : Store) (call : Call) → Grown s t → Keeps call k (known_by t c)
+  keeps-of t (Call.append ready) grown = tt
+  keeps-of t Call.refresh grown = kept-given s t c grown
+  keeps-of t (Call.read a) grown = kept-given s t c grown
+  keeps-of t (Call.prepare shard based) grown = kept-given s t c grown
+  keeps-of t (Call.read_at a n) grown = kept-given s t c grown
+  keeps-of t (Call.subscribe a) grown = kept-given s t c grown
+  keeps-of t (Call.unsubscribe a) grown = kept-given s t c grown
+  keeps-of t Call.take grown = kept-given s t c grown
+  keeps-of t Call.wait grown = kept-given s t c grown
+
   -- the clause of a call that adds nothing to the journal
-  answered : (t : Store) (call : Call) (a : Answer) → IsSameClient k (known_by t c) → s.journal ≡ t.journal → seen_by s c ≤ seen_by t c
-      → seen_by t c ≤ length s.journal → Quiet t call a → Keeps call k (known_by t c) → Gives call a (known_by t c) → Says t call a
-      → IsAnswered k call a (known_by t c)
-  answered t call a same e rose within quiet keeps gives says = record {
-    client = same;
+  answered : (t : Store) (call : Call) (a : Answer) → Grown s t → s.journal ≡ t.journal → seen_by s c ≤ seen_by t c → seen_by t c ≤ length s.journal
+      → Quiet t call a → Gives call a (known_by t c) → Says t call a → IsAnswered k call a (known_by t c)
+  answered t call a grown e rose within quiet gives says = record {
+    client = same-client s t c grown;
     goes_on = record {
       seen = rose;
       draws = omega arith;
@@ -171,7 +178,7 @@ module _ (s : Store) (sound : IsSound s) (c : ℕ) (ours : c < CLIENTS) where
       denied = quiet.3;
       denials = quiet.4;
     };
-    keeps = keeps;
+    keeps = keeps-of t call grown;
     gives = gives;
     shows = says.0;
     told = subst (λ (j : Journal). SaysOfJournal k (known_by t c) call a s.journal j) e
@@ -182,23 +189,17 @@ module _ (s : Store) (sound : IsSound s) (c : ℕ) (ours : c < CLIENTS) where
   refreshed =
       let e = seen-set (length s.journal) in
       let n = sound.seen c in
-      answered (saw s c (length s.journal)) Call.refresh (Answer.number (length s.journal)) (record { client = refl; trusted = refl; shards = refl; window = refl; limit = refl }) refl
-      (omega arith) (omega arith) (refl, (λ a. refl), refl, refl, omega arith) (record { bases = λ a b h. h; fronts = λ i bs f h. h }) tt (sym e, e, refl)
+      answered (saw s c (length s.journal)) Call.refresh (Answer.number (length s.journal)) (step-grows s c Call.refresh) refl (omega arith) (omega arith)
+      (refl, (λ a. refl), refl, refl, omega arith) tt (sym e, e, refl)
 
   -- ---- reads
-
-  -- where a shard has followed, what was given is given
-  gave-on : (i f : ℕ) → front_of s i ≤ f → (a : Address) (base : ℕ) → nat_le base (front_of s (shard_of a s.shards)) ≡ true
-      → nat_le base (front_of (moved s i f) (shard_of a s.shards)) ≡ true
-  gave-on i f up a base h =
-      still-reached (front_of s (shard_of a s.shards)) (front_of (moved s i f) (shard_of a s.shards)) base (rises s.fronts i f (shard_of a s.shards) up) h
 
   kind-of-state : (n : ℕ) (a : Address) → kind_of (state s.journal n a) ≡ a.kind
   kind-of-state n a = kind-left (take n s.journal) a (each-take (λ (commit : Commit). AreOfTheirKinds commit.deltas) n s.journal orderly.kinds)
 
-  read-answered : (a : Address) (f : ℕ) → f ≡ max (front_of s (shard_of a s.shards)) (seen_by s c)
+  read-answered : (a : Address) (f : ℕ) → f ≡ max (front_of s (shard_of a s.shards)) (seen_by s c) → Grown s (saw (moved s (shard_of a s.shards) f) c f)
       → IsAnswered k (Call.read a) (Answer.snap (record { base = f; value = state s.journal f a })) (known_by (saw (moved s (shard_of a s.shards) f) c f) c)
-  read-answered a f is =
+  read-answered a f is grown =
       let i = shard_of a s.shards in
       let e = seen-set f in
       let n = sound.seen c in
@@ -206,31 +207,25 @@ module _ (s : Store) (sound : IsSound s) (c : ℕ) (ours : c < CLIENTS) where
       let some = sound.some in
       let all = sound.all_shards in
       let here = get_or-set_same s.fronts i f 0 (omega arith) in
-      answered (saw (moved s i f) c f) (Call.read a) (Answer.snap (record { base = f; value = state s.journal f a }))
-      (record { client = refl; trusted = refl; shards = refl; window = refl; limit = refl }) refl (omega arith) (omega arith) (refl, (λ b. refl), refl, refl, omega arith)
-      (record { bases = gave-on i f (omega arith); fronts = λ j bs g h. h }) (is-reached f (get_or (set s.fronts i f) i 0) here)
-      ((sym e, kind-of-state f a), refl, refl)
+      answered (saw (moved s i f) c f) (Call.read a) (Answer.snap (record { base = f; value = state s.journal f a })) grown refl (omega arith) (omega arith)
+      (refl, (λ b. refl), refl, refl, omega arith) (is-reached f (get_or (set s.fronts i f) i 0) here) ((sym e, kind-of-state f a), refl, refl)
 
-  read-back : (a : Address) (n f : ℕ) → n ≤ seen_by s c → f ≡ max (front_of s (shard_of a s.shards)) n
+  read-back : (a : Address) (n f : ℕ) → n ≤ seen_by s c → f ≡ max (front_of s (shard_of a s.shards)) n → Grown s (moved s (shard_of a s.shards) f)
       → IsAnswered k (Call.read_at a n) (read_back s a n f).1 (known_by (read_back s a n f).0 c)
-  read-back a n f seen is = by (nat_lt n (f - s.window)) refl
+  read-back a n f seen is grown = by (nat_lt n (f - s.window)) refl
     where
       by : (t : Bool) → nat_lt n (f - s.window) ≡ t
           → IsAnswered k (Call.read_at a n) (cond t (Answer.late n (f - s.window)) (Answer.value (state s.journal n a))) (known_by (moved s (shard_of a s.shards) f) c)
       by true e =
-          let i = shard_of a s.shards in
           let l = below-is n (f - s.window) e in
           let m = sound.seen c in
           let r = sound.reached (shard_of a s.shards) in
-          answered (moved s i f) (Call.read_at a n) (Answer.late n (f - s.window)) (record { client = refl; trusted = refl; shards = refl; window = refl; limit = refl }) refl
-          (omega arith) m (refl, (λ b. refl), refl, refl, omega arith) (record { bases = gave-on i f (omega arith); fronts = λ j bs g h. h }) tt
-          ((refl, refl), record { below = l; behind = omega arith }, refl)
+          answered (moved s (shard_of a s.shards) f) (Call.read_at a n) (Answer.late n (f - s.window)) grown refl (omega arith) m
+          (refl, (λ b. refl), refl, refl, omega arith) tt ((refl, refl), record { below = l; behind = omega arith }, refl)
       by false e =
-          let i = shard_of a s.shards in
           let m = sound.seen c in
-          answered (moved s i f) (Call.read_at a n) (Answer.value (state s.journal n a)) (record { client = refl; trusted = refl; shards = refl; window = refl; limit = refl }) refl
-          (omega arith) m (refl, (λ b. refl), refl, refl, omega arith) (record { bases = gave-on i f (omega arith); fronts = λ j bs g h. h }) tt
-          ((refl, kind-of-state n a), refl, refl)
+          answered (moved s (shard_of a s.shards) f) (Call.read_at a n) (Answer.value (state s.journal n a)) grown refl (omega arith) m
+          (refl, (λ b. refl), refl, refl, omega arith) tt ((refl, kind-of-state n a), refl, refl)
 
   -- ---- preparings
   module _ (shard : ℕ) (based : List Based) (can : CanPrepare k shard based) where
@@ -255,8 +250,8 @@ module _ (s : Store) (sound : IsSound s) (c : ℕ) (ours : c < CLIENTS) where
         let e = seen-set (max (seen_by s c) front) in
         let n = sound.seen c in
         let r = sound.reached shard in
-        answered t (Call.prepare shard based) a (record { client = refl; trusted = refl; shards = refl; window = refl; limit = refl }) refl (omega arith) (omega arith)
-        (counted, told, taken, denied, denials) (record { bases = λ b n h. h; fronts = λ i bs f h. h }) gives says
+        answered t (Call.prepare shard based) a (step-grows s c (Call.prepare shard based)) refl (omega arith) (omega arith)
+        (counted, told, taken, denied, denials) gives says
 
     validated-by : (late : Option ℕ) (w : Option Witness) → late_base (front - s.window) (least_base based) ≡ late → least_witness based (take front s.journal) ≡ w
         → IsAnswered k (Call.prepare shard based) (validated shard front (front - s.window) late w) (known_by t c)
@@ -292,8 +287,7 @@ module _ (s : Store) (sound : IsSound s) (c : ℕ) (ours : c < CLIENTS) where
     refused a counted told taken denied denials gives says =
         let e = seen-set (length s.journal) in
         let n = sound.seen c in
-        answered u (Call.append ready) a (record { client = refl; trusted = refl; shards = refl; window = refl; limit = refl }) refl (omega arith) (omega arith)
-        (counted, told, taken, denied, denials) tt gives says
+        answered u (Call.append ready) a (step-grows s c Call.refresh) refl (omega arith) (omega arith) (counted, told, taken, denied, denials) gives says
 
     added : witness_past s ready ≡ None
         → IsAnswered k (Call.append ready) (Answer.number (length s.journal + 1)) (known_by (saw (committed s ready) c (length s.journal + 1)) c)
@@ -368,66 +362,55 @@ module _ (s : Store) (sound : IsSound s) (c : ℕ) (ours : c < CLIENTS) where
   took-answered =
       let e = seen-set (length s.journal) in
       let n = sound.seen c in
-      answered (took (saw s c (length s.journal)) c (length s.journal)) Call.take (Answer.feed (feed_for s c))
-      (record { client = refl; trusted = refl; shards = refl; window = refl; limit = refl }) refl (omega arith) (omega arith)
-      (refl, (λ a. refl), ap (λ b. cond b (length s.journal) (s.taken c)) (itself c), refl, omega arith) (record { bases = λ a b h. h; fronts = λ i bs f h. h }) tt
+      answered (took (saw s c (length s.journal)) c (length s.journal)) Call.take (Answer.feed (feed_for s c)) (step-grows s c Call.take) refl (omega arith) (omega arith)
+      (refl, (λ a. refl), ap (λ b. cond b (length s.journal) (s.taken c)) (itself c), refl, omega arith) tt
       ((sym e, kinds-told), taken-is (seen_by (saw s c (length s.journal)) c) e, refl)
 
   subscribed-answered : (a : Address) → IsAnswered k (Call.subscribe a) Answer.done (known_by (telling s c a true) c)
   subscribed-answered a =
-      answered (telling s c a true) (Call.subscribe a) Answer.done (record { client = refl; trusted = refl; shards = refl; window = refl; limit = refl }) refl
-      (omega arith) (sound.seen c) (refl, (λ b. told-now (c == c) (is_at (address_cmp a) b) (s.subscribed c b) (itself c)), refl, refl, omega arith)
-      (record { bases = λ a b h. h; fronts = λ i bs f h. h }) tt (refl, tt, refl)
+      answered (telling s c a true) (Call.subscribe a) Answer.done (step-grows s c (Call.subscribe a)) refl (omega arith) (sound.seen c)
+      (refl, (λ b. told-now (c == c) (is_at (address_cmp a) b) (s.subscribed c b) (itself c)), refl, refl, omega arith) tt (refl, tt, refl)
 
   unsubscribed-answered : (a : Address) → IsAnswered k (Call.unsubscribe a) Answer.done (known_by (telling s c a false) c)
   unsubscribed-answered a =
-      answered (telling s c a false) (Call.unsubscribe a) Answer.done (record { client = refl; trusted = refl; shards = refl; window = refl; limit = refl }) refl
-      (omega arith) (sound.seen c) (refl, (λ b. untold-now (c == c) (is_at (address_cmp a) b) (s.subscribed c b) (itself c)), refl, refl, omega arith)
-      (record { bases = λ a b h. h; fronts = λ i bs f h. h }) tt (refl, tt, refl)
+      answered (telling s c a false) (Call.unsubscribe a) Answer.done (step-grows s c (Call.unsubscribe a)) refl (omega arith) (sound.seen c)
+      (refl, (λ b. untold-now (c == c) (is_at (address_cmp a) b) (s.subscribed c b) (itself c)), refl, refl, omega arith) tt (refl, tt, refl)
 
   -- ---- failures
 
-  -- what is owed where nothing was done
+  -- what is said where nothing was done
   abbrev Failing : Store → Call → Type 0
-  Failing t call =
-      Quiet t call (Answer.failed false) × Keeps call k (known_by t c) × Gives call (Answer.failed false) (known_by t c) × Says t call (Answer.failed false)
+  Failing t call = Quiet t call (Answer.failed false) × Gives call (Answer.failed false) (known_by t c) × Says t call (Answer.failed false)
 
   module _ (fronts : List ℕ) (risen : (i : ℕ) → front_of s i ≤ get_or fronts i 0) where
     abbrev v : Store
     v = with_fronts s fronts
 
-    given-on : KeepsGiven k (known_by v c)
-    given-on = record {
-      bases = λ a b h. still-reached (front_of s (shard_of a s.shards)) (front_of v (shard_of a s.shards)) b (risen (shard_of a s.shards)) h;
-      fronts = λ i bs f h. h;
-    }
-
     failing : (call : Call) → Failing v call
-    failing Call.refresh = ((refl, (λ a. refl), refl, refl, omega arith), given-on, tt, (tt, tt, refl))
-    failing (Call.read a) = ((refl, (λ b. refl), refl, refl, omega arith), given-on, tt, (tt, tt, refl))
-    failing (Call.prepare shard based) = ((refl, (λ b. refl), refl, refl, omega arith), given-on, tt, (tt, tt, refl))
-    failing (Call.append ready) = ((refl, (λ b. refl), refl, refl, omega arith), tt, tt, (tt, tt, refl))
-    failing (Call.read_at a n) = ((refl, (λ b. refl), refl, refl, omega arith), given-on, tt, (tt, tt, refl))
-    failing (Call.subscribe a) = ((refl, (λ b. refl), refl, refl, omega arith), given-on, tt, (tt, tt, refl))
-    failing (Call.unsubscribe a) = ((refl, (λ b. refl), refl, refl, omega arith), given-on, tt, (tt, tt, refl))
-    failing Call.take = ((refl, (λ b. refl), refl, refl, omega arith), given-on, tt, (tt, tt, refl))
-    failing Call.wait = ((refl, (λ b. refl), refl, refl, omega arith), given-on, tt, (tt, tt, refl))
+    failing Call.refresh = ((refl, (λ a. refl), refl, refl, omega arith), tt, (tt, tt, refl))
+    failing (Call.read a) = ((refl, (λ b. refl), refl, refl, omega arith), tt, (tt, tt, refl))
+    failing (Call.prepare shard based) = ((refl, (λ b. refl), refl, refl, omega arith), tt, (tt, tt, refl))
+    failing (Call.append ready) = ((refl, (λ b. refl), refl, refl, omega arith), tt, (tt, tt, refl))
+    failing (Call.read_at a n) = ((refl, (λ b. refl), refl, refl, omega arith), tt, (tt, tt, refl))
+    failing (Call.subscribe a) = ((refl, (λ b. refl), refl, refl, omega arith), tt, (tt, tt, refl))
+    failing (Call.unsubscribe a) = ((refl, (λ b. refl), refl, refl, omega arith), tt, (tt, tt, refl))
+    failing Call.take = ((refl, (λ b. refl), refl, refl, omega arith), tt, (tt, tt, refl))
+    failing Call.wait = ((refl, (λ b. refl), refl, refl, omega arith), tt, (tt, tt, refl))
 
     failed-answered : (call : Call) → IsAnswered k call (Answer.failed false) (known_by v c)
     failed-answered call =
         let parts = failing call in
-        answered v call (Answer.failed false) (record { client = refl; trusted = refl; shards = refl; window = refl; limit = refl }) refl (omega arith) (sound.seen c)
-        parts.0 parts.1 parts.2 parts.3
+        answered v call (Answer.failed false) (stalled-grows s fronts risen) refl (omega arith) (sound.seen c) parts.0 parts.1 parts.2
 
   -- ---- the step
 
   step-answered : (call : Call) → CanCall k call → IsAnswered k call (step s c call).1 (known_by (step s c call).0 c)
   step-answered Call.refresh can = refreshed
-  step-answered (Call.read a) can = read-answered a (max (front_of s (shard_of a s.shards)) (seen_by s c)) refl
+  step-answered (Call.read a) can = read-answered a (max (front_of s (shard_of a s.shards)) (seen_by s c)) refl (step-grows s c (Call.read a))
   step-answered (Call.prepare shard based) can =
       validated-by shard based can (late_base (front_of s shard - s.window) (least_base based)) (least_witness based (take (front_of s shard) s.journal)) refl refl
   step-answered (Call.append ready) can = decided-by ready can (witness_past s ready) (nat_le s.limit (length s.journal)) refl refl
-  step-answered (Call.read_at a n) can = read-back a n (max (front_of s (shard_of a s.shards)) n) can.1 refl
+  step-answered (Call.read_at a n) can = read-back a n (max (front_of s (shard_of a s.shards)) n) can.1 refl (step-grows s c (Call.read_at a n))
   step-answered (Call.subscribe a) can = subscribed-answered a
   step-answered (Call.unsubscribe a) can = unsubscribed-answered a
   step-answered Call.take can = took-answered

@@ -23,7 +23,8 @@ use Rattle.docc_prepare.specs.Attempts.{ran, based, ready_of, Fits}
 use Rattle.docc_prepare.specs.Serial.{IsOrderly}
 use Rattle.docc_prepare.specs.Witnesses.{witness_of}
 use Rattle.docc_prepare.specs.Calls.{Call, Answer}
-use Rattle.docc_prepare.specs.Stores.{Store, CLIENTS, first_store, front_of, seen_by, saw, moved, committed, telling, took, found_past, witness_past, decided, step, followed, HasStalled, Does, IsSound, FirstStoreIsSound}
+use Rattle.docc_prepare.specs.Backends.{IsSameClient, KeepsGiven}
+use Rattle.docc_prepare.specs.Stores.{Store, CLIENTS, first_store, front_of, seen_by, saw, moved, committed, telling, took, found_past, witness_past, decided, step, followed, HasStalled, Does, IsSound, known_by, FirstStoreIsSound}
 use Rattle.docc_prepare.proofs.Missing.{none-of-least}
 use Rattle.docc_prepare.proofs.Undisturbed.{appending_stays_legal, observed_of_one_kind}
 use Rattle.docc_prepare.proofs.Growing.{legal_is_orderly}
@@ -230,42 +231,77 @@ module _ (s : Store) (c : ℕ) (sound : IsSound s) where
       let n = sound.seen c in
       saw-sound (moved s shard (length s.journal)) c (max (seen_by s c) (length s.journal)) (moved-sound s shard (length s.journal) sound (omega arith)) (omega arith)
 
--- ---- what steps leave as it was
+-- ---- what goes on
 
--- The journal may have grown, and fronts may have risen.
+-- The settings stay, the journal may have grown, and fronts may have risen.
 pub record Grown (s t : Store) : Type 0 where
   pub shards : t.shards ≡ s.shards
+  pub window : t.window ≡ s.window
+  pub limit : t.limit ≡ s.limit
   pub more : Journal
   pub journal : t.journal ≡ s.journal ++ more
   pub risen : (shard : ℕ) → front_of s shard ≤ front_of t shard
 
-same-grown : (s t : Store) → t.shards ≡ s.shards → t.journal ≡ s.journal → ((shard : ℕ) → front_of s shard ≤ front_of t shard) → Grown s t
-same-grown s t shards journal risen = record { shards = shards; more = []; journal = journal ∙ sym (append-nil s.journal); risen = risen }
+module _ (s : Store) where
+  -- the same journal, over fronts that may have risen
+  risen-grown : (fronts : List ℕ) (seens : List ℕ) (subscribed : ℕ → Address → Bool) (taken : ℕ → ℕ) → ((shard : ℕ) → front_of s shard ≤ get_or fronts shard 0)
+      → Grown s (record s { fronts = fronts; seens = seens; subscribed = subscribed; taken = taken })
+  risen-grown fronts seens subscribed taken risen =
+      record { shards = refl; window = refl; limit = refl; more = []; journal = sym (append-nil s.journal); risen = risen }
 
-decided-grows : (s : Store) (c : ℕ) (ready : Ready) (w : Option Witness) (full : Bool) → Grown s (decided s c ready w full).0
-decided-grows s c ready (Some w) full = same-grown s (saw s c (length s.journal)) refl refl (λ i. omega arith)
-decided-grows s c ready None true = same-grown s (saw s c (length s.journal)) refl refl (λ i. omega arith)
-decided-grows s c ready None false = record { shards = refl; more = made_of s.journal ready ∷ []; journal = refl; risen = λ i. omega arith }
+  -- the same journal over the same fronts
+  same-grown : (seens : List ℕ) (subscribed : ℕ → Address → Bool) (taken : ℕ → ℕ) → Grown s (record s { seens = seens; subscribed = subscribed; taken = taken })
+  same-grown seens subscribed taken = risen-grown s.fronts seens subscribed taken (λ i. omega arith)
 
-pub step-grows : (s : Store) (c : ℕ) (call : Call) → Grown s (step s c call).0
-step-grows s c Call.refresh = same-grown s (step s c Call.refresh).0 refl refl (λ i. omega arith)
-step-grows s c (Call.read a) =
-    let f = max (front_of s (shard_of a s.shards)) (seen_by s c) in
-    same-grown s (step s c (Call.read a)).0 refl refl (λ i. rises s.fronts (shard_of a s.shards) f i (omega arith))
-step-grows s c (Call.prepare shard based) = same-grown s (step s c (Call.prepare shard based)).0 refl refl (λ i. omega arith)
-step-grows s c (Call.append ready) = decided-grows s c ready (witness_past s ready) (nat_le s.limit (length s.journal))
-step-grows s c (Call.read_at a n) =
-    let f = max (front_of s (shard_of a s.shards)) n in
-    same-grown s (step s c (Call.read_at a n)).0 refl refl (λ i. rises s.fronts (shard_of a s.shards) f i (omega arith))
-step-grows s c (Call.subscribe a) = same-grown s (telling s c a true) refl refl (λ i. omega arith)
-step-grows s c (Call.unsubscribe a) = same-grown s (telling s c a false) refl refl (λ i. omega arith)
-step-grows s c Call.take = same-grown s (step s c Call.take).0 refl refl (λ i. omega arith)
-step-grows s c Call.wait = same-grown s s refl refl (λ i. omega arith)
+  module _ (c : ℕ) where
+    saw-grown : (n : ℕ) → Grown s (saw s c n)
+    saw-grown n = same-grown (set s.seens c n) s.subscribed s.taken
 
-pub followed-grows : (s : Store) (c shard : ℕ) → IsSound s → Grown s (followed s c shard)
-followed-grows s c shard sound =
-    let r = sound.reached shard in
-    same-grown s (followed s c shard) refl refl (λ i. rises s.fronts shard (length s.journal) i r)
+    decided-grows : (ready : Ready) (w : Option Witness) (full : Bool) → Grown s (decided s c ready w full).0
+    decided-grows ready (Some w) full = saw-grown (length s.journal)
+    decided-grows ready None true = saw-grown (length s.journal)
+    decided-grows ready None false =
+        record { shards = refl; window = refl; limit = refl; more = made_of s.journal ready ∷ []; journal = refl; risen = λ i. omega arith }
+
+    moved-grown : (i f : ℕ) (seens : List ℕ) → front_of s i ≤ f → Grown s (record s { fronts = set s.fronts i f; seens = seens })
+    moved-grown i f seens up = risen-grown (set s.fronts i f) seens s.subscribed s.taken (λ j. rises s.fronts i f j up)
+
+    pub step-grows : (call : Call) → Grown s (step s c call).0
+    step-grows Call.refresh = saw-grown (length s.journal)
+    step-grows (Call.read a) =
+        let f = max (front_of s (shard_of a s.shards)) (seen_by s c) in
+        moved-grown (shard_of a s.shards) (max (front_of s (shard_of a s.shards)) (seen_by s c)) (set s.seens c f) (omega arith)
+    step-grows (Call.prepare shard based) = saw-grown (max (seen_by s c) (front_of s shard))
+    step-grows (Call.append ready) = decided-grows ready (witness_past s ready) (nat_le s.limit (length s.journal))
+    step-grows (Call.read_at a n) = moved-grown (shard_of a s.shards) (max (front_of s (shard_of a s.shards)) n) s.seens (omega arith)
+    step-grows (Call.subscribe a) = same-grown s.seens (telling s c a true).subscribed s.taken
+    step-grows (Call.unsubscribe a) = same-grown s.seens (telling s c a false).subscribed s.taken
+    step-grows Call.take = same-grown (set s.seens c (length s.journal)) s.subscribed (step s c Call.take).0.taken
+    step-grows Call.wait = same-grown s.seens s.subscribed s.taken
+
+    pub followed-grows : (shard : ℕ) → IsSound s → Grown s (followed s c shard)
+    followed-grows shard sound =
+        moved-grown shard (length s.journal) (set s.seens c (max (seen_by s c) (length s.journal))) (sound.reached shard)
+
+  pub stalled-grows : (fronts : List ℕ) → ((shard : ℕ) → front_of s shard ≤ get_or fronts shard 0) → Grown s (with_fronts s fronts)
+  stalled-grows fronts risen = risen-grown fronts s.seens s.subscribed s.taken risen
+
+-- ---- what clients know of it
+
+still-reached : (a b n : ℕ) → a ≤ b → nat_le n a ≡ true → nat_le n b ≡ true
+still-reached a b n h e = grind (arith, nat_tests)
+
+module _ (s t : Store) (d : ℕ) (grown : Grown s t) where
+  pub same-client : IsSameClient (known_by s d) (known_by t d)
+  same-client = record { client = refl; trusted = refl; shards = grown.shards; window = grown.window; limit = grown.limit }
+
+  -- what was given is given
+  pub kept-given : KeepsGiven (known_by s d) (known_by t d)
+  kept-given = record {
+    bases = λ a b h. subst (λ (n : ℕ). nat_le b (front_of t (shard_of a n)) ≡ true) (sym grown.shards)
+        (still-reached (front_of s (shard_of a s.shards)) (front_of t (shard_of a s.shards)) b (grown.risen (shard_of a s.shards)) h);
+    fronts = λ i bs f h. h;
+  }
 
 -- ---- what a call may leave
 
