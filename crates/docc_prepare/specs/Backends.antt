@@ -1,6 +1,6 @@
 -- What each call of a backend promises, whoever stands behind it: a world of one thread, a pass on a store that threads
 -- share, a link to a server. What is said of the journal is said of those that tell it.
-use Rattle.std.specs.Prelude.{◌≡◌, ◌⊎◌, ℕ, ◌+◌, ◌≤◌, ◌<◌, ◌^◌, ◌||◌, ◌&&◌, not, max, Bool, true, false, if◌then◌else◌, List, [], ◌∷◌, ◌++◌, length, take, slice_get, Option, Some, None, IfSome, refl}
+use Rattle.std.specs.Prelude.{◌≡◌, ◌⊎◌, ℕ, ◌+◌, ◌≤◌, ◌<◌, ◌^◌, ◌||◌, ◌&&◌, not, max, Bool, true, false, if◌then◌else◌, List, [], ◌∷◌, ◌++◌, length, take, slice_get, Option, Some, None, IfSome, codes, refl}
 use Rattle.std.specs.List.{AllByRecursion}
 use Rattle.std.specs.BTreeMap.{is_at}
 use Rattle.dio_core.specs.Counts.{one_more, Rose, IsCounted}
@@ -22,7 +22,7 @@ use Rattle.txn_lang.specs.Short.{IsShortAddress, IsShortObservation}
 use Rattle.txn_lang.specs.Tree.{tree}
 use Rattle.journal_core.specs.declared.limits.TheConstants.{LONGEST_BODY}
 use Rattle.journal_core.specs.declared.ready.Ready.{Ready}
-use Rattle.journal_core.specs.Changes.{changes, between}
+use Rattle.journal_core.specs.Changes.{changes, between, adding}
 use Rattle.journal_core.specs.Pairs.{pairs}
 use Rattle.journal_core.specs.Readies.{made_of}
 use Rattle.version_shard.specs.declared.prepared.Prepared.{Prepared}
@@ -274,3 +274,9 @@ pub record IsLater (k l : Known) : Type 0 where
   pub looks : k.looks ≤ l.looks
   pub faults : l.faults ≡ k.faults
   pub told : WhereTold (HasGrown k) k.journal l.journal
+
+-- ---- worked lines
+
+-- a journal of one commit, and of two
+prefix-example : IsPrefix (adding 1 (codes "x") ∷ []) (adding 1 (codes "x") ∷ adding 2 (codes "y") ∷ [])
+prefix-example = refl

@@ -1,7 +1,8 @@
 -- The world of one thread: its store, and each client's open attempt. An event of a client is one call of the store, of which
 -- its attempt takes the answer.
-use Rattle.std.specs.Prelude.{◌≡◌, ℕ, ◌+◌, ◌≤◌, ◌<◌, List, [], ◌∷◌, length, get_or, set, replicate, Option, Some, None}
+use Rattle.std.specs.Prelude.{◌≡◌, ℕ, ◌+◌, ◌≤◌, ◌<◌, List, [], ◌∷◌, length, get_or, set, replicate, Option, Some, None, codes, refl}
 use Rattle.std.specs.List.{AllByRecursion}
+use Rattle.rdt_types.specs.declared.address.Kind.TheVariants as kind
 use Rattle.rdt_types.specs.declared.address.Address.{Address}
 use Rattle.rdt_types.specs.Shards.{shard_of}
 use Rattle.abort_witness.specs.declared.witness.Based.{Based}
@@ -180,3 +181,21 @@ abbrev pub EveryWorldIsSound : Type 0
 EveryWorldIsSound =
     (shards window limit : ℕ) (turns : List Turn) → 0 < shards → AreTurns (first_world shards window limit) turns
     → IsSound (after_turns (first_world shards window limit) turns)
+
+-- ---- worked lines
+
+abbrev counter : List ℕ → Address
+counter key = record { kind = kind.Counter; key = key }
+
+-- a read without an open attempt asks for nothing
+no-attempt : step (first_world 4 2 100) 5 (Event.read (counter (codes "x"))) ≡ (first_world 4 2 100, None)
+no-attempt = refl
+
+-- an attempt takes what was read
+taking-example : (attempt : Attempt) (taken : Snap)
+    → taking (Call.read (counter (codes "x"))) (Answer.snap taken) (Some attempt) ≡ Some (with_snap attempt (counter (codes "x")) taken)
+taking-example attempt taken = refl
+
+-- and stays as it is where a front is late
+taking-late : (attempt : Attempt) → taking (Call.prepare 1 []) (Answer.late 2 3) (Some attempt) ≡ Some attempt
+taking-late attempt = refl
