@@ -5,7 +5,7 @@ use Rattle.std.specs.Cmp.{eq_by_cmp_equiv, tied_itself}
 use Rattle.std.specs.Ordering.{is_eq, eq_by_cmp}
 use Rattle.std.proofs.lemmas.Bool.{false≢true, or_parts}
 use Rattle.std.proofs.lemmas.List.{length-map}
-use Rattle.std.proofs.lemmas.Map.Keys.{IsDistinct-nil, IsDistinct-cons}
+use Rattle.std.proofs.lemmas.Map.Keys.{IsDistinct-cons}
 use Rattle.std.proofs.lemmas.Map.Made.{length-le_from_is_member}
 use Rattle.plain_data.proofs.Entries.{equal}
 use Rattle.rdt_types.specs.declared.address.Address.{Address}
@@ -18,7 +18,7 @@ use Rattle.rdt_types.specs.Values.{kind_of, kind_written, default_of}
 use Rattle.rdt_types.proofs.Addresses.{address_cmp-equal}
 use Rattle.conflict_table.specs.declared.read.ReadOp.{ReadOp}
 use Rattle.conflict_table.specs.Observing.{observe}
-use Rattle.conflict_table.specs.Reads.{replay, answer, is_decided}
+use Rattle.conflict_table.specs.Reads.{replay, answer, is_decided, observed}
 use Rattle.txn_trees.specs.declared.statement.Body.{Body}
 use Rattle.txn_lang.specs.declared.limits.TheConstants.{TICK_LIMIT, LOAD_LIMIT}
 use Rattle.txn_lang.specs.declared.progress.Stop.TheVariants as stop
@@ -62,7 +62,7 @@ then_paid : (A B : Type 0) (c d : ℕ) (P : A → Type 0) (f : Stepping Own A) (
 then_paid A B c d P f h p (stopped s q) is e more = omega (arith, e)
 then_paid A B c d P f h p (gives x q) is e more = omega (arith, e, more x is q)
 
-charged : (n : ℕ) (p : Progress Own) (b : Bool) → Step Own (Unit {0})
+abbrev charged : (n : ℕ) (p : Progress Own) (b : Bool) → Step Own (Unit {0})
 charged n p b = cond b (gives unit (record p { ticks = p.ticks + n })) (stopped stop.Spent p)
 
 tick_paid : (A : Type 0) (f : Stepping Own A) → Paid 1 A f f → (p : Progress Own) (b : Bool)
@@ -81,7 +81,7 @@ carry_paid n p true = omega arith
 carry_paid n p false = omega arith
 
 -- the relation is of the first run alone
-ticks_pay : Keeps (λ owed A f g. Paid owed A f f)
+ticks_pay : Keeps {S = Own} {T = Own} (λ owed A f g. Paid owed A f f)
 ticks_pay = record {
   pure_kept = λ A x p. omega arith;
   then_kept = λ A B c d P f g h k given fg hk p. then_paid A B c d P f h p (f p) (given p) (fg p) hk;
@@ -109,7 +109,7 @@ module _ (s : PartialState) where
     read_paid : (b : Bool) (v : Option Value) → seen_by (at b v) + p.ticks ≤ length p.memory.observations + ticks_of (at b v) + 1
     read_paid true v = omega arith
     read_paid false None = omega arith
-    read_paid false (Some v) = omega (arith, length-with_seen p.memory.observations _)
+    read_paid false (Some v) = omega (arith, length-with_seen p.memory.observations (record { address = a; obs = observed r (at_address a p.memory.operations) v }))
 
   reads : (r : ReadOp) (a : Address) → Suits a.kind r → IsShortRead a r → Paid 1 Item (read_at (own s) r a) (read_at (own s) r a)
   reads r a suits short p = read_paid r a p (is_decided r (at_address a p.memory.operations)) (s a)
@@ -150,7 +150,7 @@ same-itself : (a : Address) → same a a ≡ true
 same-itself a = ap is_eq (tied_itself order.total-law a)
 
 abbrev is_among : List Address → Address → Bool
-is_among as q = list_any (same q) as
+is_among list q = list_any (same q) list
 
 -- the address was needed on the way to a state that has a value there now
 pub record WasNeeded (b : Body) (t : PartialState) (a : Address) : Type 0 where
@@ -187,8 +187,12 @@ another b s t next a was = by (same next.address a) refl
     by false e = refl
     by true e = absurd (no_value (subst (λ q. s q ≡ None) (same-is next.address a e) (needs_are_missing b s next.address next.needed)) was.there)
 
+none_distinct : IsDistinct same []
+unfolding IsDistinct
+none_distinct = tt
+
 needed_in_turn : (b : Body) (n : ℕ) (t : PartialState) → AreReadInTurn b n t → Needed b n t
-needed_in_turn b zero t turn = record { addresses = []; all = refl; each = tt; once = IsDistinct-nil same }
+needed_in_turn b zero t turn = record { addresses = []; all = refl; each = tt; once = none_distinct }
 needed_in_turn b (suc n) t turn = go (needed_in_turn b n turn.0 turn.1)
   where
     go : Needed b n turn.0 → Needed b (suc n) t
@@ -241,8 +245,8 @@ module _ (b : Body) (t : PartialState) where
       }
 
   -- what was needed is observed by the run on the whole state, since without it the run would need it
-  observed : (r : Run) → exec b (known filled) ≡ done r → (a : Address) → WasNeeded b t a → is_among (map (λ z. z.address) r.observations) a ≡ true
-  observed r ran a was = by (is_among (map (λ z. z.address) r.observations) a) refl
+  needed_is_observed : (r : Run) → exec b (known filled) ≡ done r → (a : Address) → WasNeeded b t a → is_among (map (λ z. z.address) r.observations) a ≡ true
+  needed_is_observed r ran a was = by (is_among (map (λ z. z.address) r.observations) a) refl
     where
       needs : exec b (without a) ≡ need a
       needs = needs_stay b was.before (without a) a (extends-without a was) was.needed (without-itself a)
@@ -253,14 +257,14 @@ module _ (b : Body) (t : PartialState) where
           let twice : need a ≡ done r = sym needs ∙ runs_are_determined b (known filled) (without a) r ran (agree-without a r.observations e) in
           absurd (cc)
 
-  among_observed : (r : Run) → exec b (known filled) ≡ done r → (as : List Address) → AllByRecursion (WasNeeded b t) as
-      → (q : Address) → is_among as q ≡ true → is_among (map (λ z. z.address) r.observations) q ≡ true
+  among_observed : (r : Run) → exec b (known filled) ≡ done r → (list : List Address) → AllByRecursion (WasNeeded b t) list
+      → (q : Address) → is_among list q ≡ true → is_among (map (λ z. z.address) r.observations) q ≡ true
   among_observed r ran [] each q e = absurd (false≢true e)
-  among_observed r ran (a ∷ as) each q e = by (same q a) refl e (among_observed r ran as each.1 q)
+  among_observed r ran (a ∷ list) each q e = by (same q a) refl e (among_observed r ran list each.1 q)
     where
-      by : (c : Bool) → same q a ≡ c → (c || is_among as q) ≡ true → (is_among as q ≡ true → is_among (map (λ z. z.address) r.observations) q ≡ true)
+      by : (c : Bool) → same q a ≡ c → (c || is_among list q) ≡ true → (is_among list q ≡ true → is_among (map (λ z. z.address) r.observations) q ≡ true)
           → is_among (map (λ z. z.address) r.observations) q ≡ true
-      by true is e rest = subst (λ x. is_among (map (λ z. z.address) r.observations) x ≡ true) (sym (same-is q a is)) (observed r ran a each.0)
+      by true is e rest = subst (λ x. is_among (map (λ z. z.address) r.observations) x ≡ true) (sym (same-is q a is)) (needed_is_observed r ran a each.0)
       by false is e rest = rest e
 
 pub reads_are_few : ReadsAreFew
