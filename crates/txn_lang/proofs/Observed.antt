@@ -105,12 +105,14 @@ module _ (s : PartialState) where
     unanswered false (Some v) e = absurd (cc)
 
     -- a read observes what is there
-    along : (b : Bool) (v : Option Value) → s a ≡ v → AllByRecursion (IsThere s) p.memory.observations → Along (answered a (step_of b v) p) (answered a (step_of b v) p)
+    along : (b : Bool) (v : Option Value) → s a ≡ v → AllByRecursion (IsThere s) p.memory.observations
+        → Along (answered a (step_of b v) p) (answered a (step_of b v) p)
     along true v is all = (p.memory, (refl, all), refl)
     along false None is all = (p.memory, (refl, all), refl)
     along false (Some v) is all =
         let takes_out = list_any is_list_remove ops in
-        let there : IsThere s (record { address = a; obs = observed r ops v }) = record { value = v; is = is; within = observed_within r takes_out v; kind = suits takes_out v } in
+        let there : IsThere s (record { address = a; obs = observed r ops v }) =
+        record { value = v; is = is; within = observed_within r takes_out v; kind = suits takes_out v } in
         (_, (refl, with_one (IsThere s) p.memory.observations _ all there), refl)
 
   reads : (r : ReadOp) (a : Address) → Suits a.kind r → Both (read_at (own s) r a) (read_at (own s) r a)
@@ -123,7 +125,14 @@ module _ (s : PartialState) where
   }
 
   writes : (a : Address) (o : WriteOp) → kind_written o ≡ a.kind → Both (write_at (own s) a o) (write_at (own s) a o)
-  writes a o k = record { back = λ p fine. tt; forth = λ p m with_it fine. (own_write a o m, (ap (own_write a o) with_it.0, with_it.1), refl); bounded = λ p h. h; lacking = λ p. tt }
+  writes a o k =
+      record {
+        back = λ p fine. tt;
+        forth = λ p m with_it fine.
+            (own_write a o m, (ap (own_write a o) with_it.0, with_it.1), refl);
+        bounded = λ p h. h;
+        lacking = λ p. tt;
+      }
 
   run_simulates : (b : Body) → Both (body_run (own s) b) (body_run (own s) b)
   run_simulates b = body_simulates Always Good Needs Lacks (own s) (own s) reads writes b
@@ -142,7 +151,9 @@ module _ (s : PartialState) where
   told_by (stopped stop.NoMemory p) v lacks sim = (sim (tt, tt)).1.1
 
   told : (b : Body) → Told (ended (own_run b s))
-  told b = told_by (own_run b s) (own_run b s) ((run_simulates b).lacking (begun nothing_yet)) ((run_simulates b).forth (begun nothing_yet) nothing_yet (refl, tt))
+  told b =
+      told_by (own_run b s) (own_run b s) ((run_simulates b).lacking (begun nothing_yet))
+      ((run_simulates b).forth (begun nothing_yet) nothing_yet (refl, tt))
 
 pub needs_are_missing : NeedsAreMissing
 unfolding exec

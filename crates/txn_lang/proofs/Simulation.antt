@@ -1,6 +1,7 @@
 -- Runs over two memories that answer alike: one induction over the forms of the language. Its uses are determinacy, the bound
 -- on ticks, and that what the code keeps goes with the body's own operations.
-use Rattle.std.proofs.Common.{◌≡◌, ◌≤◌, ℕ, ℤ, pos, negsuc, suc, sum, ◌+◌, Bool, true, false, not, ◌&&◌, nat_lt, List, [], ◌∷◌, ◌++◌, map, length, take, Option, Some, None, refl, ap, sym, subst, nat_le, cond}
+use Rattle.std.proofs.Common.{◌≡◌, ◌≤◌, ℕ, ℤ, pos, negsuc, suc, sum, ◌+◌, Bool, true, false, not, ◌&&◌, nat_lt, List}
+use Rattle.std.proofs.Common.{[], ◌∷◌, ◌++◌, map, length, take, Option, Some, None, refl, ap, sym, subst, nat_le, cond}
 use Rattle.rdt_types.specs.declared.address.Address.{Address}
 use Rattle.rdt_types.specs.declared.address.Kind.{Kind}
 use Rattle.rdt_types.specs.declared.address.Kind.TheVariants as kind
@@ -38,8 +39,12 @@ use Rattle.txn_lang.specs.Execution.{ticks_of}
 use Rattle.txn_lang.specs.declared.progress.Stop.{Stop}
 use Rattle.txn_lang.specs.declared.progress.Stop.TheVariants as stop
 use Rattle.txn_lang.specs.declared.progress.Progress.{Progress}
-use Rattle.txn_lang.specs.Items.{Names, int_in, bool_in, text_in, texts_in, size_of, is_big, decides, joined, first_int, read_of, write_of, write_with, pair_write, text_write, counter_write, clear_of, text_size, elements_in}
-use Rattle.txn_lang.specs.Rules.{Expression, Statement, sized, all_values, link, chain, address_of, of_node, of_expr, of_operand, node_run, expr_run, operand_run, body_run, all_steps, block, turns, write_maybe, of_step, of_stmt, step_run, stmt_run}
+use Rattle.txn_lang.specs.Items.{Names, int_in, bool_in, text_in, texts_in, size_of, is_big, decides, joined, first_int}
+use Rattle.txn_lang.specs.Items.{read_of, write_of, write_with, pair_write, text_write, counter_write, clear_of}
+use Rattle.txn_lang.specs.Items.{text_size, elements_in}
+use Rattle.txn_lang.specs.Rules.{Expression, Statement, sized, all_values, link, chain, address_of, of_node, of_expr}
+use Rattle.txn_lang.specs.Rules.{of_operand, node_run, expr_run, operand_run, body_run, all_steps, block, turns}
+use Rattle.txn_lang.specs.Rules.{write_maybe, of_step, of_stmt, step_run, stmt_run}
 use Rattle.txn_trees.specs.declared.expression.Operand.{Operand}
 use Rattle.txn_lang.specs.Steps.{Memory, Step, stopped, gives, Stepping, and_then, ◌>>=◌, pure, stop_by, charge, carry, emit, answered, read_at, write_at}
 
@@ -193,7 +198,13 @@ module _ {S T : Type 0} (R : S → T → Type 0) (Good : S → Type 0) (Needs La
 
   pub then_simulates : {A B : Type 0} {f : Stepping S A} {g : Stepping T A} {h : A → Stepping S B} {k : A → Stepping T B}
       → Simulates f g → ((x : A) → Simulates (h x) (k x)) → Simulates (f >>= h) (g >>= k)
-  then_simulates {A} {B} {f} {g} {h} {k} fg hk = record { back = λ p. back_by p (f p) (fg.back p); forth = λ p t r. forth_by p t (f p) (g (onto t p)) (fg.forth p t r); bounded = λ p h. bounded_by (f p) (fg.bounded p h); lacking = λ p. lacking_by (f p) (fg.lacking p) }
+  then_simulates {A} {B} {f} {g} {h} {k} fg hk =
+      record {
+        back = λ p. back_by p (f p) (fg.back p);
+        forth = λ p t r. forth_by p t (f p) (g (onto t p)) (fg.forth p t r);
+        bounded = λ p h. bounded_by (f p) (fg.bounded p h);
+        lacking = λ p. lacking_by (f p) (fg.lacking p);
+      }
     where
       back_by : (p : Progress S) (u : Step S A) → (Fine u → Good p.memory) → Fine (and_then u h) → Good p.memory
       back_by p (stopped s q) b fine = b fine
@@ -223,14 +234,23 @@ module _ {S T : Type 0} (R : S → T → Type 0) (Good : S → Type 0) (Needs La
   if_simulates false fg hk = record { back = hk.back; forth = hk.forth; bounded = hk.bounded; lacking = hk.lacking }
 
   charge_simulates : (n : ℕ) → Simulates (charge n) (charge n)
-  charge_simulates n = record { back = λ p. back_by p (nat_le (p.ticks + n) TICK_LIMIT); forth = λ p t r. forth_by p t r (nat_le (p.ticks + n) TICK_LIMIT); bounded = λ p h. bounded_by p (nat_le (p.ticks + n) TICK_LIMIT) refl h; lacking = λ p. lacking_by p (nat_le (p.ticks + n) TICK_LIMIT) }
+  charge_simulates n =
+      record {
+        back = λ p. back_by p (nat_le (p.ticks + n) TICK_LIMIT);
+        forth = λ p t r. forth_by p t r (nat_le (p.ticks + n) TICK_LIMIT);
+        bounded =
+            λ p h. bounded_by p (nat_le (p.ticks + n) TICK_LIMIT) refl h;
+        lacking =
+            λ p. lacking_by p (nat_le (p.ticks + n) TICK_LIMIT);
+      }
     where
       back_by : (p : Progress S) (b : Bool) → Fine (cond b (gives unit (record p { ticks = p.ticks + n })) (stopped stop.Spent p)) → Good p.memory
       back_by p true fine = fine
       back_by p false fine = fine.1
 
       forth_by : (p : Progress S) (t : T) → R p.memory t → (b : Bool) → Fine (cond b (gives unit (record p { ticks = p.ticks + n })) (stopped stop.Spent p))
-          → Same (cond b (gives unit (record p { ticks = p.ticks + n })) (stopped stop.Spent p)) (cond b (gives unit (record (onto t p) { ticks = p.ticks + n })) (stopped stop.Spent (onto t p)))
+          → Same (cond b (gives unit (record p { ticks = p.ticks + n })) (stopped stop.Spent p))
+          (cond b (gives unit (record (onto t p) { ticks = p.ticks + n })) (stopped stop.Spent (onto t p)))
       forth_by p t r true fine = (t, r, refl)
       forth_by p t r false fine = (t, r, refl)
 
@@ -247,18 +267,27 @@ module _ {S T : Type 0} (R : S → T → Type 0) (Good : S → Type 0) (Needs La
   charge_alike {k} {l} e = subst (λ j. Simulates (charge k) (charge j)) e (charge_simulates k)
 
   carry_simulates : (n : ℕ) → Simulates (carry n) (carry n)
-  carry_simulates n = record { back = λ p. back_by p (nat_le (p.load + n) LOAD_LIMIT); forth = λ p t r. forth_by p t r (nat_le (p.load + n) LOAD_LIMIT); bounded = λ p h. bounded_by p (nat_le (p.load + n) LOAD_LIMIT) h; lacking = λ p. lacking_by p (nat_le (p.load + n) LOAD_LIMIT) }
+  carry_simulates n =
+      record {
+        back = λ p. back_by p (nat_le (p.load + n) LOAD_LIMIT);
+        forth = λ p t r. forth_by p t r (nat_le (p.load + n) LOAD_LIMIT);
+        bounded =
+            λ p h. bounded_by p (nat_le (p.load + n) LOAD_LIMIT) h;
+        lacking = λ p. lacking_by p (nat_le (p.load + n) LOAD_LIMIT);
+      }
     where
       back_by : (p : Progress S) (b : Bool) → Fine (cond b (gives unit (record p { load = p.load + n })) (stopped stop.Big p)) → Good p.memory
       back_by p true fine = fine
       back_by p false fine = fine.1
 
       forth_by : (p : Progress S) (t : T) → R p.memory t → (b : Bool) → Fine (cond b (gives unit (record p { load = p.load + n })) (stopped stop.Big p))
-          → Same (cond b (gives unit (record p { load = p.load + n })) (stopped stop.Big p)) (cond b (gives unit (record (onto t p) { load = p.load + n })) (stopped stop.Big (onto t p)))
+          → Same (cond b (gives unit (record p { load = p.load + n })) (stopped stop.Big p))
+          (cond b (gives unit (record (onto t p) { load = p.load + n })) (stopped stop.Big (onto t p)))
       forth_by p t r true fine = (t, r, refl)
       forth_by p t r false fine = (t, r, refl)
 
-      bounded_by : (p : Progress S) (b : Bool) → p.ticks ≤ TICK_LIMIT → ticks_of (cond b (gives unit (record p { load = p.load + n })) (stopped stop.Big p)) ≤ TICK_LIMIT
+      bounded_by : (p : Progress S) (b : Bool) → p.ticks ≤ TICK_LIMIT
+          → ticks_of (cond b (gives unit (record p { load = p.load + n })) (stopped stop.Big p)) ≤ TICK_LIMIT
       bounded_by p true h = h
       bounded_by p false h = h
 
@@ -310,21 +339,29 @@ module _ {S T : Type 0} (R : S → T → Type 0) (Good : S → Type 0) (Needs La
         length_alike (o ∷ os) = ap (λ k. suc k) (length_alike os)
 
         layer_simulates : (y : ExprNode-F N E O)
-            → AsExpression (of_node m (deep m (map-ExprNode N E O ExprNode Expr Operand hN hE hO y))) (of_node n (deep n (map-ExprNode N E O ExprNode Expr Operand hN hE hO y)))
+            → AsExpression (of_node m (deep m (map-ExprNode N E O ExprNode Expr Operand hN hE hO y)))
+            (of_node n (deep n (map-ExprNode N E O ExprNode Expr Operand hN hE hO y)))
         layer_simulates (ExprNode-F.Number k) names = then_simulates (charge_simulates 1) (λ _. pure_simulates _)
         layer_simulates (ExprNode-F.Text t) names = then_simulates (charge_simulates 1) (λ _. sized_simulates (item.Text t))
         layer_simulates (ExprNode-F.Bool b) names = then_simulates (charge_simulates 1) (λ _. pure_simulates _)
         layer_simulates (ExprNode-F.Name x) names = then_simulates (charge_simulates 1) (λ _. pure_simulates _)
-        layer_simulates (ExprNode-F.Texts es) names = then_simulates (charge_simulates 1) (λ _. then_simulates (values_simulate [] es names) (λ is. sized_simulates (item.Texts (map text_in is))))
+        layer_simulates (ExprNode-F.Texts es) names =
+            then_simulates (charge_simulates 1)
+            (λ _. then_simulates (values_simulate [] es names) (λ is. sized_simulates (item.Texts (map text_in is))))
         layer_simulates (ExprNode-F.Len e) names = then_simulates (charge_simulates 1) (λ _. then_simulates (exprs e names) (λ i. pure_simulates _))
         layer_simulates (ExprNode-F.Str e) names = then_simulates (charge_simulates 1) (λ _. then_simulates (exprs e names) (λ i. pure_simulates _))
         layer_simulates (ExprNode-F.Negative e) names = then_simulates (charge_simulates 1) (λ _. then_simulates (exprs e names) (λ i. pure_simulates _))
         layer_simulates (ExprNode-F.Not e) names = then_simulates (charge_simulates 1) (λ _. then_simulates (exprs e names) (λ i. pure_simulates _))
-        layer_simulates (ExprNode-F.Compare e r f) names = then_simulates (charge_simulates 1) (λ _. then_simulates (exprs e names) (λ i. then_simulates (exprs f names) (λ j. pure_simulates _)))
-        layer_simulates (ExprNode-F.Chain e os) names = then_simulates (charge_alike (length_alike os)) (λ _. then_simulates (exprs e names) (λ i. chain_simulates i os names))
+        layer_simulates (ExprNode-F.Compare e r f) names =
+            then_simulates (charge_simulates 1)
+            (λ _. then_simulates (exprs e names) (λ i. then_simulates (exprs f names) (λ j. pure_simulates _)))
+        layer_simulates (ExprNode-F.Chain e os) names =
+            then_simulates (charge_alike (length_alike os))
+            (λ _. then_simulates (exprs e names) (λ i. chain_simulates i os names))
         layer_simulates (ExprNode-F.Read k e word es) names =
             then_simulates (charge_simulates 1) (λ _. then_simulates (exprs e names) (λ key. then_simulates (values_simulate [] es names) (λ is.
-            then_simulates (reads (read_of k word is) (address_of k key) (read_suits k word is)) (λ i. then_simulates (charge_simulates (elements_in i)) (λ _. sized_simulates i)))))
+            then_simulates (reads (read_of k word is) (address_of k key) (read_suits k word is))
+            (λ i. then_simulates (charge_simulates (elements_in i)) (λ _. sized_simulates i)))))
 
         -- what is one layer over children that simulate does so
         node_layer : (x : ExprNode-F ExprNode Expr Operand) (y : ExprNode-F N E O) → map-ExprNode N E O ExprNode Expr Operand hN hE hO y ≡ x
@@ -343,12 +380,14 @@ module _ {S T : Type 0} (R : S → T → Type 0) (Good : S → Type 0) (Needs La
             (subst (λ f. AsExpression f (expr_of n (roll-Expr z))) (sym (expr_rolled m z))
             (subst (λ g. AsExpression (node_run m (hN y.node)) g) (sym (expr_rolled n z)) (nodes y.node)))
 
-        operand_layer : (x : Operand-F ExprNode Expr Operand) (y : Operand-F N E O) → map-Operand N E O ExprNode Expr Operand hN hE hO y ≡ x → AsOperand (roll-Operand x)
+        operand_layer : (x : Operand-F ExprNode Expr Operand) (y : Operand-F N E O)
+            → map-Operand N E O ExprNode Expr Operand hN hE hO y ≡ x → AsOperand (roll-Operand x)
         operand_layer x y is =
             let z = map-Operand N E O ExprNode Expr Operand hN hE hO y in
             subst (λ w. AsOperand (roll-Operand w)) is
             (subst (λ f. (f.0 ≡ (operand_of n (roll-Operand z)).0) × AsExpression f.1 (operand_of n (roll-Operand z)).1) (sym (operand_rolled m z))
-            (subst (λ (g : Operator × Expression T). (y.operator ≡ g.0) × AsExpression (expr_of m (hE y.value)) g.1) (sym (operand_rolled n z)) (refl, exprs y.value)))
+            (subst (λ (g : Operator × Expression T). (y.operator ≡ g.0) × AsExpression (expr_of m (hE y.value)) g.1)
+            (sym (operand_rolled n z)) (refl, exprs y.value)))
 
       expr_simulates : (e : Expr) → AsExpression (expr_of m e) (expr_of n e)
       expr_simulates = ind-Expr (λ x. AsExpression (node_run m x) (node_run n x)) (λ e. AsExpression (expr_of m e) (expr_of n e)) AsOperand
@@ -383,20 +422,32 @@ module _ {S T : Type 0} (R : S → T → Type 0) (Good : S → Type 0) (Needs La
               → AsStatement (turns x (map (stmt_of m) (map hS ss)) ts) (turns x (map (stmt_of n) (map hS ss)) ts)
           turns_simulate x ss [] names = pure_simulates names
           turns_simulate x ss (t ∷ ts) names =
-              then_simulates (then_simulates (charge_simulates 1) (λ _. then_simulates (all_simulate ss (names ++ (x, item.Text t) ∷ [])) (λ after. pure_simulates (take (length names) after))))
+              then_simulates (then_simulates (charge_simulates 1)
+              (λ _. then_simulates (all_simulate ss (names ++ (x, item.Text t) ∷ []))
+              (λ after. pure_simulates (take (length names) after))))
               (λ after. turns_simulate x ss ts after)
 
-          step_layer_simulates : (y : StmtNode-F N X) → AsStatement (of_step m (deep_step m (map-StmtNode N X StmtNode Stmt hN hS y))) (of_step n (deep_step n (map-StmtNode N X StmtNode Stmt hN hS y)))
+          step_layer_simulates : (y : StmtNode-F N X)
+              → AsStatement (of_step m (deep_step m (map-StmtNode N X StmtNode Stmt hN hS y)))
+              (of_step n (deep_step n (map-StmtNode N X StmtNode Stmt hN hS y)))
           step_layer_simulates (StmtNode-F.Let x e) names = then_simulates (expr_simulates e names) (λ i. pure_simulates (names ++ (x, i) ∷ []))
           step_layer_simulates (StmtNode-F.Emit e) names =
-              then_simulates (expr_simulates e names) (λ i. then_simulates (then_simulates (carry_simulates (8 + size_of i)) (λ _. emit_simulates i)) (λ _. pure_simulates names))
+              then_simulates (expr_simulates e names)
+              (λ i. then_simulates (then_simulates (carry_simulates (8 + size_of i)) (λ _. emit_simulates i))
+              (λ _. pure_simulates names))
           step_layer_simulates (StmtNode-F.Fail e) names = then_simulates (expr_simulates e names) (λ i. stop_simulates (stop.Fail (text_in i)) tt)
-          step_layer_simulates (StmtNode-F.If e ss None) names = then_simulates (expr_simulates e names) (λ i. if_simulates (bool_in i) (block_simulates ss names) (pure_simulates names))
-          step_layer_simulates (StmtNode-F.If e ss (Some ts)) names = then_simulates (expr_simulates e names) (λ i. if_simulates (bool_in i) (block_simulates ss names) (block_simulates ts names))
+          step_layer_simulates (StmtNode-F.If e ss None) names =
+              then_simulates (expr_simulates e names)
+              (λ i. if_simulates (bool_in i) (block_simulates ss names) (pure_simulates names))
+          step_layer_simulates (StmtNode-F.If e ss (Some ts)) names =
+              then_simulates (expr_simulates e names)
+              (λ i. if_simulates (bool_in i) (block_simulates ss names) (block_simulates ts names))
           step_layer_simulates (StmtNode-F.For x e ss) names = then_simulates (expr_simulates e names) (λ i. turns_simulate x ss (texts_in i) names)
           step_layer_simulates (StmtNode-F.Write k e word es) names =
               then_simulates (expr_simulates e names) (λ key. then_simulates (plain_values [] es names) (λ is.
-              then_simulates (then_simulates (carry_simulates (8 + length (text_in key) + sum (map text_size is))) (λ _. write_simulates (address_of k key) (write_of k word is) (write_fits k word is))) (λ _. pure_simulates names)))
+              then_simulates (then_simulates (carry_simulates (8 + length (text_in key) + sum (map text_size is)))
+              (λ _. write_simulates (address_of k key) (write_of k word is) (write_fits k word is)))
+              (λ _. pure_simulates names)))
 
           step_layer : (x : StmtNode-F StmtNode Stmt) (y : StmtNode-F N X) → map-StmtNode N X StmtNode Stmt hN hS y ≡ x
               → AsStatement (step_run m (roll-StmtNode x)) (step_run n (roll-StmtNode x))
@@ -415,7 +466,8 @@ module _ {S T : Type 0} (R : S → T → Type 0) (Good : S → Type 0) (Needs La
               let z = map-Stmt N X StmtNode Stmt hN hS y in
               subst (λ w. AsStatement (stmt_of m (roll-Stmt w)) (stmt_of n (roll-Stmt w))) is
               (subst (λ f. AsStatement f (stmt_of n (roll-Stmt z))) (sym (stmt_rolled m z))
-              (subst (λ g. AsStatement (ticked (step_run m (hN y.node))) g) (sym (stmt_rolled n z)) (λ names. then_simulates (charge_simulates 1) (λ _. nodes y.node names))))
+              (subst (λ g. AsStatement (ticked (step_run m (hN y.node))) g) (sym (stmt_rolled n z))
+              (λ names. then_simulates (charge_simulates 1) (λ _. nodes y.node names))))
 
         stmt_simulates : (s : Stmt) → AsStatement (stmt_run m s) (stmt_run n s)
         stmt_simulates = ind-Stmt (λ x. AsStatement (step_run m x) (step_run n x)) (λ s. AsStatement (stmt_of m s) (stmt_of n s))
