@@ -1,3 +1,4 @@
+pub mod Blocks
 pub mod Buffered
 pub mod Ending
 pub mod PlacesKept

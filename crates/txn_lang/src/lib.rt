@@ -29,7 +29,7 @@ pub use laws::{
     whole_runs_are_done,
 };
 pub use limits::{LOAD_LIMIT, TEXT_LIMIT, TEXTS_LIMIT, TICK_LIMIT};
-pub use progress::{NameList, Progress, Stop};
+pub use progress::{Progress, Stop};
 pub use run::{Run, Seen, SeenList};
 pub use snaps::{Snap, Snaps};
 
