@@ -1,5 +1,5 @@
 -- Each observation is paid for by a tick; so observations are few, and so are the values that a run is given one by one.
-use Rattle.std.proofs.Common.{◌≡◌, ◌≤◌, ℕ, zero, suc, ◌+◌, Bool, true, false, ◌||◌, nat_le, List, [], ◌∷◌, ◌++◌, map, length, length-append, Option, Some, None, unwrap_or, refl, ap, sym, ◌∙◌, subst, cond, arith, le_trans}
+use Rattle.std.proofs.Common.{◌≡◌, ◌≤◌, ℕ, zero, suc, ◌+◌, Bool, true, false, ◌||◌, nat_le, List, [], ◌∷◌, ◌++◌, map, length, length-append, Option, Some, None, unwrap_or, refl, ap, sym, ◌∙◌, subst, cond, arith}
 use Rattle.std.specs.List.{list_any, AllByRecursion, IsDistinct}
 use Rattle.std.specs.Cmp.{eq_by_cmp_equiv, tied_itself}
 use Rattle.std.specs.Ordering.{is_eq, eq_by_cmp}
@@ -26,12 +26,11 @@ use Rattle.txn_lang.specs.declared.progress.Progress.{Progress}
 use Rattle.txn_lang.specs.declared.run.Run.{Run}
 use Rattle.txn_lang.specs.declared.run.Seen.{Seen}
 use Rattle.txn_lang.specs.contracts.run.SeenPartialEq.TheImpl as seen_eq
-use Rattle.txn_lang.specs.Steps.{Step, stopped, gives, Stepping, and_then, charge, answered, read_at, write_at}
+use Rattle.txn_lang.specs.Steps.{Step, stopped, gives, Stepping, and_then, answered, read_at, write_at}
 use Rattle.txn_lang.specs.Items.{Names}
-use Rattle.txn_lang.specs.Rules.{body_run}
 use Rattle.txn_lang.specs.States.{State, PartialState, known}
 use Rattle.txn_lang.specs.Own.{at_address, with_seen}
-use Rattle.txn_lang.specs.Execution.{Ran, need, done, Own, own, own_read, own_value, ended, own_run, exec, begun, nothing_yet, ticks_of}
+use Rattle.txn_lang.specs.Execution.{Ran, need, done, Own, own, own_value, ended, own_run, exec, begun, nothing_yet, ticks_of}
 use Rattle.txn_lang.specs.Determinacy.{AgreesOn, Agree}
 use Rattle.txn_lang.specs.Observed.{Extends}
 use Rattle.txn_lang.specs.Few.{IsReadNext, AreReadInTurn, ObservationsAreFew, ReadsAreFew}
@@ -109,7 +108,9 @@ module _ (s : PartialState) where
     read_paid : (b : Bool) (v : Option Value) → seen_by (at b v) + p.ticks ≤ length p.memory.observations + ticks_of (at b v) + 1
     read_paid true v = omega arith
     read_paid false None = omega arith
-    read_paid false (Some v) = omega (arith, length-with_seen p.memory.observations (record { address = a; obs = observed r (at_address a p.memory.operations) v }))
+    read_paid false (Some v) =
+        let z : Seen = record { address = a; obs = observed r (at_address a p.memory.operations) v } in
+        omega (arith, length-with_seen p.memory.observations z)
 
   reads : (r : ReadOp) (a : Address) → Suits a.kind r → IsShortRead a r → Paid 1 Item (read_at (own s) r a) (read_at (own s) r a)
   reads r a suits short p = read_paid r a p (is_decided r (at_address a p.memory.operations)) (s a)
@@ -146,7 +147,7 @@ same = eq_by_cmp address_cmp
 same-is : (a b : Address) → same a b ≡ true → a ≡ b
 same-is a b e = address_cmp-equal a b (equal (address_cmp a b) e)
 
-same-itself : (a : Address) → same a a ≡ true
+pub same-itself : (a : Address) → same a a ≡ true
 same-itself a = ap is_eq (tied_itself order.total-law a)
 
 abbrev is_among : List Address → Address → Bool
@@ -177,7 +178,7 @@ needed_on b s t next a was = record {
   others = λ c v is. next.others c v (was.others c v is);
 }
 
-no_value : {v : Value} {o : Option Value} → o ≡ None → o ≡ Some v → ⊥
+pub no_value : {v : Value} {o : Option Value} → o ≡ None → o ≡ Some v → ⊥
 no_value none some = let e : None ≡ Some _ = sym none ∙ some in absurd (cc)
 
 another : (b : Body) (s t : PartialState) (next : IsReadNext b s t) (a : Address) → WasNeeded b s a → same next.address a ≡ false
@@ -201,7 +202,8 @@ needed_in_turn b (suc n) t turn = go (needed_in_turn b n turn.0 turn.1)
       all = ap suc before.all;
       each = (
         record { before = turn.0; needed = turn.2.needed; value = turn.2.value; there = turn.2.there; others = turn.2.others },
-        each-more (WasNeeded b turn.0) (WasNeeded b t) before.addresses (needed_on b turn.0 t turn.2) before.each);
+        each-more (WasNeeded b turn.0) (WasNeeded b t) before.addresses (needed_on b turn.0 t turn.2) before.each,
+      );
       once = IsDistinct-cons same turn.2.address before.addresses
           (each-more (WasNeeded b turn.0) (λ a. same turn.2.address a ≡ false) before.addresses (another b turn.0 t turn.2) before.each) before.once;
     }
@@ -273,5 +275,5 @@ reads_are_few b n t turn = few (needed_in_turn b n t turn) (whole_runs_are_done 
     few : Needed b n t → (r : Run) × (exec b (known (filled b t)) ≡ done r) → n ≤ TICK_LIMIT
     few needed run =
         let within = length-le_from_is_member (eq_by_cmp_equiv order.total-law) needed.addresses (map (λ z. z.address) run.0.observations) needed.once
-            (among_observed b t run.0 run.1 needed.addresses needed.each) in
+        (among_observed b t run.0 run.1 needed.addresses needed.each) in
         omega (arith, within, needed.all, length-map run.0.observations (λ z. z.address), observations_are_few b (known (filled b t)) run.0 run.1)

@@ -11,3 +11,4 @@ pub mod Simulation
 pub mod Determinacy
 pub mod Observed
 pub mod Few
+pub mod Given

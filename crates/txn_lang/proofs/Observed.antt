@@ -127,12 +127,14 @@ module _ (s : PartialState) where
     unanswered false (Some v) e = absurd (cc)
 
     -- a read observes what is there
-    along : (b : Bool) (v : Option Value) → s a ≡ v → AllByRecursion IsSeen p.memory.observations → Along (answered a (step_of b v) p) (answered a (step_of b v) p)
+    along : (b : Bool) (v : Option Value) → s a ≡ v → AllByRecursion IsSeen p.memory.observations
+        → Along (answered a (step_of b v) p) (answered a (step_of b v) p)
     along true v is all = (p.memory, (refl, all), refl)
     along false None is all = (p.memory, (refl, all), refl)
     along false (Some v) is all =
         let takes_out = list_any is_list_remove ops in
-        let there : IsThere s (record { address = a; obs = observed r ops v }) = record { value = v; is = is; within = observed_within r takes_out v; kind = suits takes_out v } in
+        let there : IsThere s (record { address = a; obs = observed r ops v }) =
+        record { value = v; is = is; within = observed_within r takes_out v; kind = suits takes_out v } in
         let brief : IsShortObservation a (observed r ops v) = record { key = short.0; text = observed_short r takes_out v short.1 } in
         (_, (refl, with_one IsSeen p.memory.observations _ all (there, brief)), refl)
 
@@ -147,7 +149,12 @@ module _ (s : PartialState) where
   }
 
   writes : (a : Address) (o : WriteOp) → kind_written o ≡ a.kind → Both (write_at (own s) a o) (write_at (own s) a o)
-  writes a o k = record { back = λ p fine. tt; forth = λ p m with_it fine. (own_write a o m, (ap (own_write a o) with_it.0, with_it.1), refl); bounded = λ p h. h; lacking = λ p. tt }
+  writes a o k = record {
+    back = λ p fine. tt;
+    forth = λ p m with_it fine. (own_write a o m, (ap (own_write a o) with_it.0, with_it.1), refl);
+    bounded = λ p h. h;
+    lacking = λ p. tt;
+  }
 
   run_simulates : (b : Body) → Both (body_run (own s) b) (body_run (own s) b)
   run_simulates b = short_reads_simulate Always Good Needs Lacks (own s) (own s) reads writes b
@@ -166,7 +173,8 @@ module _ (s : PartialState) where
   told_by (stopped stop.NoMemory p) v lacks sim = (sim (tt, tt)).1.1
 
   told : (b : Body) → Told (ended (own_run b s))
-  told b = told_by (own_run b s) (own_run b s) ((run_simulates b).lacking (begun nothing_yet)) ((run_simulates b).forth (begun nothing_yet) nothing_yet (refl, tt))
+  told b =
+      told_by (own_run b s) (own_run b s) ((run_simulates b).lacking (begun nothing_yet)) ((run_simulates b).forth (begun nothing_yet) nothing_yet (refl, tt))
 
 needed : (b : Body) (s : PartialState) (a : Address) → exec b s ≡ need a → Lacks s a
 unfolding exec
@@ -220,6 +228,12 @@ module _ (s t : PartialState) (more : Extends s t) where
   abbrev Missing : Address → Type 0
   Missing a = t a ≡ None
 
+  abbrev Onward : {A : Type 0} → Stepping Own A → Stepping Own A → Type 0
+  Onward f g = Simulates (λ o p. o ≡ p) (Good s) Missing (Needs s) f g
+
+  abbrev Fit : {A : Type 0} → Step Own A → Type 0
+  Fit u = Fine (λ o p. o ≡ p) (Good s) Missing (Needs s) u
+
   abbrev Alike : {A : Type 0} → Step Own A → Step Own A → Type 0
   Alike u v = Same (λ o p. o ≡ p) (Good s) Missing (Needs s) u v
 
@@ -231,12 +245,12 @@ module _ (s t : PartialState) (more : Extends s t) where
     abbrev at : Bool → Option Value → Step Own Item
     at b v = answered a (cond b (Some (answer r (replay (at_address a p.memory.operations) (default_of a.kind)), p.memory)) (own_value r a v p.memory)) p
 
-    read_alike : (b : Bool) (v : Option Value) → s a ≡ v → Fine (λ o p. o ≡ p) (Good s) Missing (Needs s) (at b v) → at b v ≡ at b (t a)
+    read_alike : (b : Bool) (v : Option Value) → s a ≡ v → Fit (at b v) → at b v ≡ at b (t a)
     read_alike true v is fine = refl
     read_alike false None is fine = ap (at false) (sym fine.0)
     read_alike false (Some v) is fine = ap (at false) (sym (more a v is))
 
-  reads_on : (r : ReadOp) (a : Address) → Suits a.kind r → Simulates (λ o p. o ≡ p) (Good s) Missing (Needs s) (read_at (own s) r a) (read_at (own t) r a)
+  reads_on : (r : ReadOp) (a : Address) → Suits a.kind r → Onward (read_at (own s) r a) (read_at (own t) r a)
   reads_on r a suits = record {
     back = λ p fine. tt;
     forth = λ p m is fine. subst (λ m. Alike (read_at (own s) r a p) (read_at (own t) r a (onto m p))) is
@@ -245,10 +259,10 @@ module _ (s t : PartialState) (more : Extends s t) where
     lacking = λ p. answered_lacking (λ o p. o ≡ p) (Good s) Missing (Needs s) a (own_read s r a p.memory) p (λ e. tt);
   }
 
-  writes_on : (a : Address) (o : WriteOp) → kind_written o ≡ a.kind → Simulates (λ o p. o ≡ p) (Good s) Missing (Needs s) (write_at (own s) a o) (write_at (own t) a o)
+  writes_on : (a : Address) (o : WriteOp) → kind_written o ≡ a.kind → Onward (write_at (own s) a o) (write_at (own t) a o)
   writes_on a o k = record { back = λ p fine. tt; forth = λ p m is fine. (own_write a o m, ap (own_write a o) is, refl); bounded = λ p h. h; lacking = λ p. tt }
 
-  need_alike : (u v : Step Own Names) (a : Address) → ended u ≡ need a → t a ≡ None → (Fine (λ o p. o ≡ p) (Good s) Missing (Needs s) u → Alike u v) → ended v ≡ need a
+  need_alike : (u v : Step Own Names) (a : Address) → ended u ≡ need a → t a ≡ None → (Fit u → Alike u v) → ended v ≡ need a
   need_alike (stopped (stop.Need c) p) v a e none sim = let is : c ≡ a = cc in ap ended (sim (subst Missing (sym is) none, tt)).2 ∙ e
   need_alike (gives x p) v a e none sim = absurd (cc)
   need_alike (stopped (stop.Fail x) p) v a e none sim = absurd (cc)

@@ -2,7 +2,6 @@
 -- code keeps goes with the body's own operations.
 use Rattle.std.proofs.Common.{◌≡◌, ◌≤◌, ℕ, ◌+◌, Bool, true, false, nat_le, Option, Some, None, refl, ap, sym, subst, cond}
 use Rattle.std.proofs.lemmas.Bool.{leb-true}
-use Rattle.plain_data.specs.Texts.{Bytes}
 use Rattle.rdt_types.specs.declared.address.Address.{Address}
 use Rattle.rdt_types.specs.declared.operation.WriteOp.{WriteOp}
 use Rattle.rdt_types.specs.declared.outcome.Item.{Item}
@@ -83,7 +82,8 @@ module _ {S T : Type 0} (R : S → T → Type 0) (Good : S → Type 0) (Needs La
       back_by p (stopped s q) is b fine = b fine
       back_by p (gives x q) is b fine = b ((hk x is).back q fine)
 
-      forth_by : (p : Progress S) (t : T) (u : Step S A) → Gave P u → (v : Step T A) → (Fine u → Same u v) → Fine (and_then u h) → Same (and_then u h) (and_then v k)
+      forth_by : (p : Progress S) (t : T) (u : Step S A) → Gave P u → (v : Step T A) → (Fine u → Same u v) → Fine (and_then u h)
+          → Same (and_then u h) (and_then v k)
       forth_by p t (stopped s q) is v e fine = let z : Same (stopped s q) v = e fine in (z.0, z.1, ap (λ w. and_then w k) z.2)
       forth_by p t (gives x q) is v e fine =
           let z : Same (gives x q) v = e ((hk x is).back q fine) in
@@ -102,14 +102,20 @@ module _ {S T : Type 0} (R : S → T → Type 0) (Good : S → Type 0) (Needs La
   stop_simulates s owes = record { back = λ p fine. fine.1; forth = λ p t r fine. (t, r, refl); bounded = λ p h. h; lacking = λ p. owes }
 
   charge_simulates : (n : ℕ) → Simulates (charge n) (charge n)
-  charge_simulates n = record { back = λ p. back_by p (nat_le (p.ticks + n) TICK_LIMIT); forth = λ p t r. forth_by p t r (nat_le (p.ticks + n) TICK_LIMIT); bounded = λ p h. bounded_by p (nat_le (p.ticks + n) TICK_LIMIT) refl h; lacking = λ p. lacking_by p (nat_le (p.ticks + n) TICK_LIMIT) }
+  charge_simulates n = record {
+    back = λ p. back_by p (nat_le (p.ticks + n) TICK_LIMIT);
+    forth = λ p t r. forth_by p t r (nat_le (p.ticks + n) TICK_LIMIT);
+    bounded = λ p h. bounded_by p (nat_le (p.ticks + n) TICK_LIMIT) refl h;
+    lacking = λ p. lacking_by p (nat_le (p.ticks + n) TICK_LIMIT);
+  }
     where
       back_by : (p : Progress S) (b : Bool) → Fine (cond b (gives unit (record p { ticks = p.ticks + n })) (stopped stop.Spent p)) → Good p.memory
       back_by p true fine = fine
       back_by p false fine = fine.1
 
       forth_by : (p : Progress S) (t : T) → R p.memory t → (b : Bool) → Fine (cond b (gives unit (record p { ticks = p.ticks + n })) (stopped stop.Spent p))
-          → Same (cond b (gives unit (record p { ticks = p.ticks + n })) (stopped stop.Spent p)) (cond b (gives unit (record (onto t p) { ticks = p.ticks + n })) (stopped stop.Spent (onto t p)))
+          → Same (cond b (gives unit (record p { ticks = p.ticks + n })) (stopped stop.Spent p))
+          (cond b (gives unit (record (onto t p) { ticks = p.ticks + n })) (stopped stop.Spent (onto t p)))
       forth_by p t r true fine = (t, r, refl)
       forth_by p t r false fine = (t, r, refl)
 
@@ -123,18 +129,25 @@ module _ {S T : Type 0} (R : S → T → Type 0) (Good : S → Type 0) (Needs La
       lacking_by p false = tt
 
   carry_simulates : (n : ℕ) → Simulates (carry n) (carry n)
-  carry_simulates n = record { back = λ p. back_by p (nat_le (p.load + n) LOAD_LIMIT); forth = λ p t r. forth_by p t r (nat_le (p.load + n) LOAD_LIMIT); bounded = λ p h. bounded_by p (nat_le (p.load + n) LOAD_LIMIT) h; lacking = λ p. lacking_by p (nat_le (p.load + n) LOAD_LIMIT) }
+  carry_simulates n = record {
+    back = λ p. back_by p (nat_le (p.load + n) LOAD_LIMIT);
+    forth = λ p t r. forth_by p t r (nat_le (p.load + n) LOAD_LIMIT);
+    bounded = λ p h. bounded_by p (nat_le (p.load + n) LOAD_LIMIT) h;
+    lacking = λ p. lacking_by p (nat_le (p.load + n) LOAD_LIMIT);
+  }
     where
       back_by : (p : Progress S) (b : Bool) → Fine (cond b (gives unit (record p { load = p.load + n })) (stopped stop.Big p)) → Good p.memory
       back_by p true fine = fine
       back_by p false fine = fine.1
 
       forth_by : (p : Progress S) (t : T) → R p.memory t → (b : Bool) → Fine (cond b (gives unit (record p { load = p.load + n })) (stopped stop.Big p))
-          → Same (cond b (gives unit (record p { load = p.load + n })) (stopped stop.Big p)) (cond b (gives unit (record (onto t p) { load = p.load + n })) (stopped stop.Big (onto t p)))
+          → Same (cond b (gives unit (record p { load = p.load + n })) (stopped stop.Big p))
+          (cond b (gives unit (record (onto t p) { load = p.load + n })) (stopped stop.Big (onto t p)))
       forth_by p t r true fine = (t, r, refl)
       forth_by p t r false fine = (t, r, refl)
 
-      bounded_by : (p : Progress S) (b : Bool) → p.ticks ≤ TICK_LIMIT → ticks_of (cond b (gives unit (record p { load = p.load + n })) (stopped stop.Big p)) ≤ TICK_LIMIT
+      bounded_by : (p : Progress S) (b : Bool) → p.ticks ≤ TICK_LIMIT
+          → ticks_of (cond b (gives unit (record p { load = p.load + n })) (stopped stop.Big p)) ≤ TICK_LIMIT
       bounded_by p true h = h
       bounded_by p false h = h
 
@@ -144,6 +157,7 @@ module _ {S T : Type 0} (R : S → T → Type 0) (Good : S → Type 0) (Needs La
 
   emit_simulates : (i : Item) → Simulates (emit i) (emit i)
   emit_simulates i = record { back = λ p fine. fine; forth = λ p t r fine. (t, r, refl); bounded = λ p h. h; lacking = λ p. tt }
+
   -- the rules' own steps keep it
   simulations_keep : Keeps (λ owed A f g. Simulates f g)
   simulations_keep = record {

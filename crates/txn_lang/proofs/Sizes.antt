@@ -1,5 +1,5 @@
 -- What expressions make is within the limits, so what a read asks for is short.
-use Rattle.std.proofs.Common.{◌≡◌, ℕ, zero, suc, ◌+◌, ◌-◌, ◌≤◌, ◌%◌, ◌/◌, ◌==◌, ℤ, pos, negsuc, Bool, true, false, nat_lt, ◌||◌, cond, List, [], ◌∷◌, ◌++◌, length, take, fold, Option, Some, None, unwrap_or, refl, lit≤, arith}
+use Rattle.std.proofs.Common.{◌≡◌, ℕ, zero, suc, ◌+◌, ◌-◌, ◌≤◌, ◌%◌, ◌/◌, ◌==◌, ℤ, pos, negsuc, Bool, true, false, nat_lt, ◌||◌, cond, List, [], ◌∷◌, length, fold, Option, Some, None, unwrap_or, refl, lit≤, arith}
 use Rattle.std.specs.List.{AllByRecursion}
 use Rattle.std.specs.Fmt.{digits, digits_onto, digit_glyph, decimal, signed_decimal}
 use Rattle.std.specs.Ordering.{eq_by_cmp}
@@ -73,7 +73,8 @@ length-digits_onto zero base upper n rest = omega arith
 length-digits_onto (suc k) base upper n rest = by (n / base == 0) (length-digits_onto k base upper (n / base) (digit_glyph upper (n % base) ∷ rest))
   where
     by : (last : Bool) → length (digits_onto k base upper (n / base) (digit_glyph upper (n % base) ∷ rest)) ≤ k + length (digit_glyph upper (n % base) ∷ rest)
-        → length (cond last (digit_glyph upper (n % base) ∷ rest) (digits_onto k base upper (n / base) (digit_glyph upper (n % base) ∷ rest))) ≤ suc k + length rest
+        → length (cond last (digit_glyph upper (n % base) ∷ rest) (digits_onto k base upper (n / base) (digit_glyph upper (n % base) ∷ rest)))
+        ≤ suc k + length rest
     by true h = omega arith
     by false h = omega (arith, h)
 

@@ -1,6 +1,6 @@
 -- One induction over the forms of the language: a relation of runs over two memories that the rules' own steps keep relates the
 -- runs of every body. On the way it shows that what expressions give is small, so that each read asks for short texts.
-use Rattle.std.proofs.Common.{◌≡◌, ℕ, suc, sum, ◌+◌, Bool, true, false, nat_le, List, [], ◌∷◌, ◌++◌, map, length, take, Option, Some, None, refl, ap, sym, subst, cond}
+use Rattle.std.proofs.Common.{◌≡◌, ℕ, suc, sum, ◌+◌, Bool, true, false, List, [], ◌∷◌, ◌++◌, map, length, take, Option, Some, None, refl, ap, sym, subst, cond}
 use Rattle.std.specs.List.{AllByRecursion}
 use Rattle.plain_data.specs.Texts.{Bytes}
 use Rattle.rdt_types.specs.declared.address.Address.{Address}
@@ -20,7 +20,6 @@ use Rattle.txn_trees.specs.declared.statement.StmtNode.{StmtNode, map-StmtNode, 
 use Rattle.txn_trees.specs.declared.statement.StmtNode.TheOpen.{StmtNode-F, Stmt-F}
 use Rattle.txn_trees.specs.declared.statement.StmtNode.TheFolds.{fold-roll-StmtNode, fold-roll-Stmt, ind-Stmt}
 use Rattle.txn_trees.specs.declared.statement.Body.{Body}
-use Rattle.txn_lang.specs.declared.limits.TheConstants.{TICK_LIMIT, LOAD_LIMIT}
 use Rattle.txn_lang.specs.declared.progress.Progress.{Progress}
 use Rattle.txn_lang.specs.declared.progress.Stop.TheVariants as stop
 use Rattle.txn_lang.specs.Steps.{Memory, Step, stopped, gives, Stepping, and_then, ◌>>=◌, pure, stop_by, charge, carry, emit, read_at, write_at}
@@ -63,6 +62,7 @@ module _ {M : Type 0} (m : Memory M) where
 
   stmt_rolled : (z : Stmt-F StmtNode Stmt) → stmt_of (roll-Stmt z) ≡ of_stmt (map-Stmt StmtNode Stmt (Statement M) (Statement M) (step_run m) stmt_of z)
   stmt_rolled z = fold-roll-Stmt (Statement M) (Statement M) (of_step m) of_stmt z
+
 -- ---- what is carried along
 
 module _ {S : Type 0} where
@@ -105,7 +105,10 @@ module _ {S T : Type 0} (Rel : ℕ → (A : Type 0) → Stepping S A → Steppin
 
   then_owing : {A B : Type 0} (c d : ℕ) {P : A → Type 0} {Q : B → Type 0} {f : Stepping S A} {g : Stepping T A} {h : A → Stepping S B} {k : A → Stepping T B}
       → Goes c P f g → ((x : A) → P x → Goes d Q (h x) (k x)) → Goes (c + d) Q (f >>= h) (g >>= k)
-  then_owing {A} {B} c d {P} {Q} {f} {g} {h} {k} fg hk = record { related = keeps.then_kept A B c d P f g h k fg.given fg.related (λ x is. (hk x is).related); given = λ p. by (f p) (fg.given p) }
+  then_owing {A} {B} c d {P} {Q} {f} {g} {h} {k} fg hk = record {
+    related = keeps.then_kept A B c d P f g h k fg.given fg.related (λ x is. (hk x is).related);
+    given = λ p. by (f p) (fg.given p);
+  }
     where
       by : (u : Step S A) → Gave P u → Gave Q (and_then u h)
       by (gives x q) is = (hk x is).given q
@@ -134,7 +137,8 @@ module _ {S T : Type 0} (Rel : ℕ → (A : Type 0) → Stepping S A → Steppin
   emit_goes : (i : Item) → Goes 0 Any (emit i) (emit i)
   emit_goes i = record { related = keeps.emit_kept i; given = λ p. tt }
 
-  if_goes : {A : Type 0} {P : A → Type 0} {f h : Stepping S A} {g k : Stepping T A} (b : Bool) → Goes 0 P f g → Goes 0 P h k → Goes 0 P (λ p. cond b f h p) (λ p. cond b g k p)
+  if_goes : {A : Type 0} {P : A → Type 0} {f h : Stepping S A} {g k : Stepping T A} (b : Bool)
+      → Goes 0 P f g → Goes 0 P h k → Goes 0 P (λ p. cond b f h p) (λ p. cond b g k p)
   if_goes true fg hk = record { related = fg.related; given = fg.given }
   if_goes false fg hk = record { related = hk.related; given = hk.given }
 
@@ -167,7 +171,8 @@ module _ {S T : Type 0} (Rel : ℕ → (A : Type 0) → Stepping S A → Steppin
         values_go : (is : List Item) → AllSmall is → (es : List E) (names : Names) → AreSmall names
             → Goes 0 AllSmall (all_values is (map (expr_of m) (map hE es)) names) (all_values is (map (expr_of n) (map hE es)) names)
         values_go is all [] names small = pure_goes AllSmall is all
-        values_go is all (e ∷ es) names small = then_goes (exprs e names small) (λ i one. values_go (is ++ i ∷ []) (each-push IsSmall is i all one) es names small)
+        values_go is all (e ∷ es) names small =
+            then_goes (exprs e names small) (λ i one. values_go (is ++ i ∷ []) (each-push IsSmall is i all one) es names small)
 
         link_goes : (i : Item) → IsSmall i → (o : O) (names : Names) → AreSmall names
             → Goes 0 IsSmall (link (operand_of m (hO o)).0 i (operand_of m (hO o)).1 names) (link (operand_of n (hO o)).0 i (operand_of n (hO o)).1 names)
@@ -186,7 +191,8 @@ module _ {S T : Type 0} (Rel : ℕ → (A : Type 0) → Stepping S A → Steppin
         length_alike (o ∷ os) = ap (λ k. suc k) (length_alike os)
 
         layer_goes : (y : ExprNode-F N E O)
-            → AsExpression (of_node m (deep m (map-ExprNode N E O ExprNode Expr Operand hN hE hO y))) (of_node n (deep n (map-ExprNode N E O ExprNode Expr Operand hN hE hO y)))
+            → AsExpression (of_node m (deep m (map-ExprNode N E O ExprNode Expr Operand hN hE hO y)))
+            (of_node n (deep n (map-ExprNode N E O ExprNode Expr Operand hN hE hO y)))
         layer_goes (ExprNode-F.Number k) names small = then_goes (charge_goes 1) (λ _ _. pure_goes IsSmall (item.Int k) tt)
         layer_goes (ExprNode-F.Text t) names small = then_goes (charge_goes 1) (λ _ _. sized_goes (item.Text t))
         layer_goes (ExprNode-F.Bool b) names small = then_goes (charge_goes 1) (λ _ _. pure_goes IsSmall (item.Bool b) tt)
@@ -194,7 +200,8 @@ module _ {S T : Type 0} (Rel : ℕ → (A : Type 0) → Stepping S A → Steppin
         layer_goes (ExprNode-F.Texts es) names small =
             then_goes (charge_goes 1) (λ _ _. then_goes (values_go [] tt es names small) (λ is _. sized_goes (item.Texts (map text_in is))))
         layer_goes (ExprNode-F.Len e) names small = then_goes (charge_goes 1) (λ _ _. then_goes (exprs e names small) (λ i _. pure_goes IsSmall _ tt))
-        layer_goes (ExprNode-F.Str e) names small = then_goes (charge_goes 1) (λ _ _. then_goes (exprs e names small) (λ i _. pure_goes IsSmall _ (small_decimal _)))
+        layer_goes (ExprNode-F.Str e) names small =
+            then_goes (charge_goes 1) (λ _ _. then_goes (exprs e names small) (λ i _. pure_goes IsSmall _ (small_decimal _)))
         layer_goes (ExprNode-F.Negative e) names small = then_goes (charge_goes 1) (λ _ _. then_goes (exprs e names small) (λ i _. pure_goes IsSmall _ tt))
         layer_goes (ExprNode-F.Not e) names small = then_goes (charge_goes 1) (λ _ _. then_goes (exprs e names small) (λ i _. pure_goes IsSmall _ tt))
         layer_goes (ExprNode-F.Compare e r f) names small =
@@ -223,12 +230,14 @@ module _ {S T : Type 0} (Rel : ℕ → (A : Type 0) → Stepping S A → Steppin
             (subst (λ f. AsExpression f (expr_of n (roll-Expr z))) (sym (expr_rolled m z))
             (subst (λ g. AsExpression (node_run m (hN y.node)) g) (sym (expr_rolled n z)) (nodes y.node)))
 
-        operand_layer : (x : Operand-F ExprNode Expr Operand) (y : Operand-F N E O) → map-Operand N E O ExprNode Expr Operand hN hE hO y ≡ x → AsOperand (roll-Operand x)
+        operand_layer : (x : Operand-F ExprNode Expr Operand) (y : Operand-F N E O) → map-Operand N E O ExprNode Expr Operand hN hE hO y ≡ x
+            → AsOperand (roll-Operand x)
         operand_layer x y is =
             let z = map-Operand N E O ExprNode Expr Operand hN hE hO y in
             subst (λ w. AsOperand (roll-Operand w)) is
             (subst (λ f. (f.0 ≡ (operand_of n (roll-Operand z)).0) × AsExpression f.1 (operand_of n (roll-Operand z)).1) (sym (operand_rolled m z))
-            (subst (λ (g : Operator × Expression T). (y.operator ≡ g.0) × AsExpression (expr_of m (hE y.value)) g.1) (sym (operand_rolled n z)) (refl, exprs y.value)))
+            (subst (λ (g : Operator × Expression T). (y.operator ≡ g.0) × AsExpression (expr_of m (hE y.value)) g.1) (sym (operand_rolled n z))
+            (refl, exprs y.value)))
 
       expr_goes : (e : Expr) → AsExpression (expr_of m e) (expr_of n e)
       expr_goes = ind-Expr (λ x. AsExpression (node_run m x) (node_run n x)) (λ e. AsExpression (expr_of m e) (expr_of n e)) AsOperand
@@ -243,7 +252,8 @@ module _ {S T : Type 0} (Rel : ℕ → (A : Type 0) → Stepping S A → Steppin
         plain_values : (is : List Item) → AllSmall is → (es : List Expr) (names : Names) → AreSmall names
             → Goes 0 AllSmall (all_values is (map (expr_run m) es) names) (all_values is (map (expr_run n) es) names)
         plain_values is all [] names small = pure_goes AllSmall is all
-        plain_values is all (e ∷ es) names small = then_goes (expr_goes e names small) (λ i one. plain_values (is ++ i ∷ []) (each-push IsSmall is i all one) es names small)
+        plain_values is all (e ∷ es) names small =
+            then_goes (expr_goes e names small) (λ i one. plain_values (is ++ i ∷ []) (each-push IsSmall is i all one) es names small)
 
         write_goes : (a : Address) (w : Option WriteOp) → IsOfKind a.kind w → Goes 0 Any (write_maybe m a w) (write_maybe n a w)
         write_goes a None of = pure_goes Any unit tt
@@ -270,22 +280,29 @@ module _ {S T : Type 0} (Rel : ℕ → (A : Type 0) → Stepping S A → Steppin
               → AsStatement (turns x (map (stmt_of m) (map hS ss)) ts) (turns x (map (stmt_of n) (map hS ss)) ts)
           turns_go x ss [] short names small = pure_goes AreSmall names small
           turns_go x ss (t ∷ ts) short names small =
-              then_goes (then_goes (charge_goes 1) (λ _ _. then_goes (all_go ss (names ++ (x, item.Text t) ∷ []) (bind_small names x (item.Text t) small short.0)) (λ after all. forget_goes names after all)))
+              then_goes (then_goes (charge_goes 1) (λ _ _. then_goes (all_go ss (names ++ (x, item.Text t) ∷ []) (bind_small names x (item.Text t) small short.0))
+              (λ after all. forget_goes names after all)))
               (λ after all. turns_go x ss ts short.1 after all)
 
-          step_layer_goes : (y : StmtNode-F N X) → AsStatement (of_step m (deep_step m (map-StmtNode N X StmtNode Stmt hN hS y))) (of_step n (deep_step n (map-StmtNode N X StmtNode Stmt hN hS y)))
-          step_layer_goes (StmtNode-F.Let x e) names small = then_goes (expr_goes e names small) (λ i one. pure_goes AreSmall (names ++ (x, i) ∷ []) (bind_small names x i small one))
+          step_layer_goes : (y : StmtNode-F N X)
+              → AsStatement (of_step m (deep_step m (map-StmtNode N X StmtNode Stmt hN hS y))) (of_step n (deep_step n (map-StmtNode N X StmtNode Stmt hN hS y)))
+          step_layer_goes (StmtNode-F.Let x e) names small =
+              then_goes (expr_goes e names small) (λ i one. pure_goes AreSmall (names ++ (x, i) ∷ []) (bind_small names x i small one))
           step_layer_goes (StmtNode-F.Emit e) names small =
-              then_goes (expr_goes e names small) (λ i _. then_goes (then_goes (carry_goes (8 + size_of i)) (λ _ _. emit_goes i)) (λ _ _. pure_goes AreSmall names small))
-          step_layer_goes (StmtNode-F.Fail e) names small = then_goes (expr_goes e names small) (λ i _. record { related = keeps.fail_kept Names (text_in i); given = λ p. tt })
+              then_goes (expr_goes e names small) (λ i _.
+              then_goes (then_goes (carry_goes (8 + size_of i)) (λ _ _. emit_goes i)) (λ _ _. pure_goes AreSmall names small))
+          step_layer_goes (StmtNode-F.Fail e) names small =
+              then_goes (expr_goes e names small) (λ i _. record { related = keeps.fail_kept Names (text_in i); given = λ p. tt })
           step_layer_goes (StmtNode-F.If e ss None) names small =
               then_goes (expr_goes e names small) (λ i _. if_goes (bool_in i) (block_goes ss names small) (pure_goes AreSmall names small))
           step_layer_goes (StmtNode-F.If e ss (Some ts)) names small =
               then_goes (expr_goes e names small) (λ i _. if_goes (bool_in i) (block_goes ss names small) (block_goes ts names small))
-          step_layer_goes (StmtNode-F.For x e ss) names small = then_goes (expr_goes e names small) (λ i one. turns_go x ss (texts_in i) (small_texts i one) names small)
+          step_layer_goes (StmtNode-F.For x e ss) names small =
+              then_goes (expr_goes e names small) (λ i one. turns_go x ss (texts_in i) (small_texts i one) names small)
           step_layer_goes (StmtNode-F.Write k e word es) names small =
               then_goes (expr_goes e names small) (λ key _. then_goes (plain_values [] tt es names small) (λ is _.
-              then_goes (then_goes (carry_goes (8 + length (text_in key) + sum (map text_size is))) (λ _ _. write_goes (address_of k key) (write_of k word is) (write_fits k word is)))
+              then_goes (then_goes (carry_goes (8 + length (text_in key) + sum (map text_size is)))
+              (λ _ _. write_goes (address_of k key) (write_of k word is) (write_fits k word is)))
               (λ _ _. pure_goes AreSmall names small)))
 
           step_layer : (x : StmtNode-F StmtNode Stmt) (y : StmtNode-F N X) → map-StmtNode N X StmtNode Stmt hN hS y ≡ x
@@ -305,7 +322,8 @@ module _ {S T : Type 0} (Rel : ℕ → (A : Type 0) → Stepping S A → Steppin
               let z = map-Stmt N X StmtNode Stmt hN hS y in
               subst (λ w. AsStatement (stmt_of m (roll-Stmt w)) (stmt_of n (roll-Stmt w))) is
               (subst (λ f. AsStatement f (stmt_of n (roll-Stmt z))) (sym (stmt_rolled m z))
-              (subst (λ g. AsStatement (ticked (step_run m (hN y.node))) g) (sym (stmt_rolled n z)) (λ names small. then_goes (charge_goes 1) (λ _ _. nodes y.node names small))))
+              (subst (λ g. AsStatement (ticked (step_run m (hN y.node))) g) (sym (stmt_rolled n z))
+              (λ names small. then_goes (charge_goes 1) (λ _ _. nodes y.node names small))))
 
         stmt_goes : (s : Stmt) → AsStatement (stmt_run m s) (stmt_run n s)
         stmt_goes = ind-Stmt (λ x. AsStatement (step_run m x) (step_run n x)) (λ s. AsStatement (stmt_of m s) (stmt_of n s))
