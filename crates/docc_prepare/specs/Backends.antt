@@ -1,6 +1,6 @@
 -- What each call of a backend promises, whoever stands behind it: a world of one thread, a pass on a store that threads
 -- share, a link to a server. What is said of the journal is said of those that tell it.
-use Rattle.std.specs.Prelude.{◌≡◌, ◌⊎◌, ℕ, ◌+◌, ◌≤◌, ◌<◌, ◌^◌, ◌||◌, ◌&&◌, not, max, Bool, true, false, if◌then◌else◌, List, [], ◌∷◌, ◌++◌, length, take, slice_get, Option, Some, None, IfSome, codes, refl}
+use Rattle.std.specs.Prelude.{◌≡◌, ℕ, ◌+◌, ◌≤◌, ◌<◌, ◌^◌, ◌||◌, ◌&&◌, not, max, Bool, true, if◌then◌else◌, List, [], ◌∷◌, ◌++◌, length, take, slice_get, Some, None, IfSome, codes, refl}
 use Rattle.std.specs.List.{AllByRecursion}
 use Rattle.std.specs.BTreeMap.{is_at}
 use Rattle.dio_core.specs.Counts.{one_more, Rose, IsCounted}
@@ -25,7 +25,6 @@ use Rattle.journal_core.specs.declared.ready.Ready.{Ready}
 use Rattle.journal_core.specs.Changes.{changes, between, adding}
 use Rattle.journal_core.specs.Pairs.{pairs}
 use Rattle.journal_core.specs.Readies.{made_of}
-use Rattle.version_shard.specs.declared.prepared.Prepared.{Prepared}
 use Rattle.docc_prepare.specs.declared.attempt.Attempt.{Attempt}
 use Rattle.docc_prepare.specs.declared.attempt.Next.TheVariants as next
 use Rattle.docc_prepare.specs.Attempts.{in_shard, next_event, ready_of, Fits}
