@@ -152,14 +152,7 @@ module _ (s : Store) (sound : IsSound s) (c : ℕ) (ours : c < CLIENTS) where
 
   keeps-of : (t : Store) (call : Call) → Grown s t → Keeps call k (known_by t c)
   keeps-of t (Call.append ready) grown = tt
-  keeps-of t Call.refresh grown = kept-given s t c grown
-  keeps-of t (Call.read a) grown = kept-given s t c grown
-  keeps-of t (Call.prepare shard based) grown = kept-given s t c grown
-  keeps-of t (Call.read_at a n) grown = kept-given s t c grown
-  keeps-of t (Call.subscribe a) grown = kept-given s t c grown
-  keeps-of t (Call.unsubscribe a) grown = kept-given s t c grown
-  keeps-of t Call.take grown = kept-given s t c grown
-  keeps-of t Call.wait grown = kept-given s t c grown
+  keeps-of t call grown = kept-given s t c grown
 
   -- the clause of a call that adds nothing to the journal
   answered : (t : Store) (call : Call) (a : Answer) → Grown s t → s.journal ≡ t.journal → seen_by s c ≤ seen_by t c → seen_by t c ≤ length s.journal
@@ -393,14 +386,7 @@ module _ (s : Store) (sound : IsSound s) (c : ℕ) (ours : c < CLIENTS) where
 
     failing : (call : Call) → Failing v call
     failing Call.refresh = ((refl, (λ a. refl), refl, refl, omega arith), tt, (tt, tt, refl))
-    failing (Call.read a) = ((refl, (λ b. refl), refl, refl, omega arith), tt, (tt, tt, refl))
-    failing (Call.prepare shard based) = ((refl, (λ b. refl), refl, refl, omega arith), tt, (tt, tt, refl))
-    failing (Call.append ready) = ((refl, (λ b. refl), refl, refl, omega arith), tt, (tt, tt, refl))
-    failing (Call.read_at a n) = ((refl, (λ b. refl), refl, refl, omega arith), tt, (tt, tt, refl))
-    failing (Call.subscribe a) = ((refl, (λ b. refl), refl, refl, omega arith), tt, (tt, tt, refl))
-    failing (Call.unsubscribe a) = ((refl, (λ b. refl), refl, refl, omega arith), tt, (tt, tt, refl))
-    failing Call.take = ((refl, (λ b. refl), refl, refl, omega arith), tt, (tt, tt, refl))
-    failing Call.wait = ((refl, (λ b. refl), refl, refl, omega arith), tt, (tt, tt, refl))
+    failing call = ((refl, (λ a. refl), refl, refl, omega arith), tt, (tt, tt, refl))
 
     failed-answered : (call : Call) → IsAnswered k call (Answer.failed false) (known_by v c)
     failed-answered call =
@@ -424,15 +410,9 @@ module _ (s : Store) (sound : IsSound s) (c : ℕ) (ours : c < CLIENTS) where
 
 -- what a client owes makes the step sound
 pub owed-soundly : (s : Store) (sound : IsSound s) (c : ℕ) (call : Call) → CanCall (known_by s c) call → StepsSoundly s c call
-owed-soundly s sound c Call.refresh can = tt
-owed-soundly s sound c (Call.read a) can = tt
-owed-soundly s sound c (Call.prepare shard based) can = tt
 owed-soundly s sound c (Call.append ready) can = commits-legally s sound c ready can.attempt (of-append s c ready can)
 owed-soundly s sound c (Call.read_at a n) can = can.1
-owed-soundly s sound c (Call.subscribe a) can = tt
-owed-soundly s sound c (Call.unsubscribe a) can = tt
-owed-soundly s sound c Call.take can = tt
-owed-soundly s sound c Call.wait can = tt
+owed-soundly s sound c call can = tt
 
 -- what a call leaves is sound
 pub does-sound : (s t : Store) (c : ℕ) (call : Call) (a : Answer) → IsSound s → CanCall (known_by s c) call → Does s c call a t → IsSound t

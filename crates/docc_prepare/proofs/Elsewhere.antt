@@ -100,15 +100,8 @@ module _ (s : Store) (sound : IsSound s) (c d : ℕ) (others : d ≢ c) where
   later-by Call.wait ours now grows = later s now grows refl (λ a. refl) refl ungrown
 
   owed-ours : (call : Call) → CanCall (known_by s c) call → IsOurs call
-  owed-ours Call.refresh can = tt
-  owed-ours (Call.read a) can = tt
-  owed-ours (Call.prepare shard based) can = tt
   owed-ours (Call.append ready) can = ap (λ (r : Ready). r.client) can.made
-  owed-ours (Call.read_at a n) can = tt
-  owed-ours (Call.subscribe a) can = tt
-  owed-ours (Call.unsubscribe a) can = tt
-  owed-ours Call.take can = tt
-  owed-ours Call.wait can = tt
+  owed-ours call can = tt
 
   step-later : (call : Call) → CanCall (known_by s c) call → IsLater k (known_by (step s c call).0 d)
   step-later call can = later-by call (owed-ours call can) (step-sound s c sound call (owed-soundly s sound c call can)) (step-grows s c call)

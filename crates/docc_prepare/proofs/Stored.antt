@@ -310,16 +310,7 @@ module _ (s t : Store) (d : ℕ) (grown : Grown s t) where
 -- a call failed for want of memory, or went by the step
 pub does-one : (s t : Store) (c : ℕ) (call : Call) (a : Answer) → Does s c call a t → ((a ≡ Answer.failed false) × HasStalled s t) ⊎ ((t, a) ≡ step s c call)
 does-one s t c call (Answer.failed by_fault) does = inl (ap (λ (b : Bool). Answer.failed b) does.0, does.1)
-does-one s t c call (Answer.number n) does = inr does
-does-one s t c call (Answer.snap snap) does = inr does
-does-one s t c call (Answer.prepared p) does = inr does
-does-one s t c call (Answer.value v) does = inr does
-does-one s t c call (Answer.feed f) does = inr does
-does-one s t c call Answer.done does = inr does
-does-one s t c call (Answer.late n h) does = inr does
-does-one s t c call (Answer.clash w) does = inr does
-does-one s t c call (Answer.full l) does = inr does
-does-one s t c call Answer.disk does = inr does
+does-one s t c call a does = inr does
 
 pub first_store_is_sound : FirstStoreIsSound
 first_store_is_sound shards window limit some = record {

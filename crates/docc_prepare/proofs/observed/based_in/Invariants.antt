@@ -6,4 +6,4 @@ use Rattle.docc_prepare.proofs.observed.based_in.Given as goal
 abbrev pub invariant-loop-seen : goal.invariant-loop-seen
 invariant-loop-seen l =
     l.inside ++ in_shard l.fn.shards l.fn.shard (based l.fn.snaps (drop l.seen-index l.observations)) ≡ in_shard l.fn.shards l.fn.shard
-        (based l.fn.snaps l.fn.observations)
+    (based l.fn.snaps l.fn.observations)
