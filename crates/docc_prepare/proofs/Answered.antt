@@ -1,6 +1,6 @@
 -- Each step of a store meets the clause of every call.
-use Rattle.std.proofs.Common.{◌≡◌, ℕ, zero, suc, ◌+◌, ◌-◌, ◌≤◌, ◌<◌, ◌%◌, Bool, true, false, cond, min, max, ◌&&◌, ◌||◌, not, List, [], ◌∷◌, ◌++◌, length, take, get_or, set, Option, Some, None, ◌⊎◌, inl, inr, refl, sym, ap, ◌∙◌, subst, arith}
-use Rattle.std.specs.Prelude.{nat_lt, nat_le, ◌==◌, slice_get}
+use Rattle.std.proofs.Common.{◌≡◌, ℕ, zero, suc, ◌+◌, ◌-◌, ◌≤◌, ◌<◌, Bool, true, false, cond, min, max, ◌&&◌, ◌||◌, not, List, [], ◌∷◌, length, take, get_or, set, Option, Some, None, ◌⊎◌, inl, inr, refl, sym, ap, ◌∙◌, subst, arith}
+use Rattle.std.specs.Prelude.{nat_lt, nat_le, ◌==◌}
 use Rattle.std.specs.List.{AllByRecursion}
 use Rattle.std.specs.Option.{option_and_then}
 use Rattle.std.specs.BTreeMap.{is_at}
@@ -13,25 +13,22 @@ use Rattle.rdt_types.specs.Addresses.{address_cmp}
 use Rattle.rdt_types.specs.Shards.{shard_of}
 use Rattle.rdt_types.specs.Values.{kind_of}
 use Rattle.rdt_types.specs.Deltas.{kind_changed}
-use Rattle.rdt_types.specs.DeltaMaps.{delta_at}
 use Rattle.change_feed.specs.declared.change.Change.{Change}
-use Rattle.change_feed.specs.Feeds as feeds
 use Rattle.change_feed.specs.Pending.{pending}
 use Rattle.abort_witness.specs.declared.witness.Based.{Based}
 use Rattle.abort_witness.specs.declared.witness.Witness.{Witness}
 use Rattle.abort_witness.specs.Kinds.{IsBasedOfOneKind}
 use Rattle.txn_lang.specs.declared.commit.Commit.{Commit}
 use Rattle.txn_lang.specs.States.{Journal, state}
-use Rattle.txn_lang.specs.Journals.{own}
 use Rattle.journal_core.specs.declared.ready.Ready.{Ready}
-use Rattle.journal_core.specs.Changes.{changes, past, up_to, between}
-use Rattle.journal_core.specs.Pairs.{pairs, least_pair}
+use Rattle.journal_core.specs.Changes.{changes, up_to, between}
+use Rattle.journal_core.specs.Pairs.{pairs}
 use Rattle.journal_core.specs.Readies.{made_of}
 use Rattle.docc_prepare.specs.Attempts.{lesser}
 use Rattle.docc_prepare.specs.Serial.{AreOfTheirKinds, IsOrderly}
 use Rattle.docc_prepare.specs.Witnesses.{witness_of, least_witness}
 use Rattle.docc_prepare.specs.Calls.{Known, Call, Answer, is_fault}
-use Rattle.docc_prepare.specs.Backends.{CanValidate, CanPrepare, CanAppend, CanCall, IsLeastBase, IsTaken, Row, OwnRow, SaysOfJournal, Shows, IsSameClient, KeepsGiven, Keeps, Gives, subscribed_after, taken_after, denied_after, KnowsDenials, IsAnswered}
+use Rattle.docc_prepare.specs.Backends.{CanValidate, CanPrepare, CanAppend, CanCall, IsLeastBase, IsTaken, Row, OwnRow, SaysOfJournal, Shows, Keeps, Gives, subscribed_after, taken_after, denied_after, KnowsDenials, IsAnswered}
 use Rattle.docc_prepare.specs.Stores.{Store, CLIENTS, front_of, seen_by, saw, moved, committed, telling, took, least_base, late_base, validated, witness_past, decided, read_back, feed_for, step, HasStalled, Does, IsSound, known_by, StepsAreAnswered}
 use Rattle.docc_prepare.proofs.Each.{each-more, each-take, each-filter}
 use Rattle.docc_prepare.proofs.OfOneKind.{kind-left}
@@ -98,7 +95,8 @@ least-is (b ∷ bs) base e = by (least_base bs) refl e (λ m h. least-is bs m h)
           least = (omega arith, lower m (omega arith) r.least);
         }
 
-    by : (o : Option ℕ) → least_base bs ≡ o → Some (lesser b.base o) ≡ Some base → ((m : ℕ) → least_base bs ≡ Some m → IsLeastBase bs m) → IsLeastBase (b ∷ bs) base
+    by : (o : Option ℕ) → least_base bs ≡ o → Some (lesser b.base o) ≡ Some base → ((m : ℕ) → least_base bs ≡ Some m → IsLeastBase bs m)
+        → IsLeastBase (b ∷ bs) base
     by None is e rest =
         let same : b.base ≡ base = cc in record {
           place = zero;
@@ -154,14 +152,7 @@ module _ (s : Store) (sound : IsSound s) (c : ℕ) (ours : c < CLIENTS) where
 
   keeps-of : (t : Store) (call : Call) → Grown s t → Keeps call k (known_by t c)
   keeps-of t (Call.append ready) grown = tt
-  keeps-of t Call.refresh grown = kept-given s t c grown
-  keeps-of t (Call.read a) grown = kept-given s t c grown
-  keeps-of t (Call.prepare shard based) grown = kept-given s t c grown
-  keeps-of t (Call.read_at a n) grown = kept-given s t c grown
-  keeps-of t (Call.subscribe a) grown = kept-given s t c grown
-  keeps-of t (Call.unsubscribe a) grown = kept-given s t c grown
-  keeps-of t Call.take grown = kept-given s t c grown
-  keeps-of t Call.wait grown = kept-given s t c grown
+  keeps-of t call grown = kept-given s t c grown
 
   -- the clause of a call that adds nothing to the journal
   answered : (t : Store) (call : Call) (a : Answer) → Grown s t → s.journal ≡ t.journal → seen_by s c ≤ seen_by t c → seen_by t c ≤ length s.journal
@@ -215,7 +206,8 @@ module _ (s : Store) (sound : IsSound s) (c : ℕ) (ours : c < CLIENTS) where
   read-back a n f seen is grown = by (nat_lt n (f - s.window)) refl
     where
       by : (t : Bool) → nat_lt n (f - s.window) ≡ t
-          → IsAnswered k (Call.read_at a n) (cond t (Answer.late n (f - s.window)) (Answer.value (state s.journal n a))) (known_by (moved s (shard_of a s.shards) f) c)
+          → IsAnswered k (Call.read_at a n) (cond t (Answer.late n (f - s.window)) (Answer.value (state s.journal n a)))
+          (known_by (moved s (shard_of a s.shards) f) c)
       by true e =
           let l = below-is n (f - s.window) e in
           let m = sound.seen c in
@@ -244,7 +236,8 @@ module _ (s : Store) (sound : IsSound s) (c : ℕ) (ours : c < CLIENTS) where
         (λ b h. subst (λ (i : ℕ). b.base ≤ front_of s i) h.here (reached-is b.base (front_of s (shard_of b.address s.shards)) h.given.1)) can.each
 
     validation : (a : Answer) → IsCounted (is_fault a) 0 0 → ((b : Address) → s.subscribed c b ≡ subscribed_after k (Call.prepare shard based) a b)
-        → (s.taken c ≡ taken_after k (Call.prepare shard based) a) → (0 ≡ denied_after k (Call.prepare shard based) a) → KnowsDenials k (known_by t c) (Call.prepare shard based) a
+        → (s.taken c ≡ taken_after k (Call.prepare shard based) a) → (0 ≡ denied_after k (Call.prepare shard based) a)
+        → KnowsDenials k (known_by t c) (Call.prepare shard based) a
         → Gives (Call.prepare shard based) a (known_by t c) → Says t (Call.prepare shard based) a → IsAnswered k (Call.prepare shard based) a (known_by t c)
     validation a counted told taken denied denials gives says =
         let e = seen-set (max (seen_by s c) front) in
@@ -253,7 +246,8 @@ module _ (s : Store) (sound : IsSound s) (c : ℕ) (ours : c < CLIENTS) where
         answered t (Call.prepare shard based) a (step-grows s c (Call.prepare shard based)) refl (omega arith) (omega arith)
         (counted, told, taken, denied, denials) gives says
 
-    validated-by : (late : Option ℕ) (w : Option Witness) → late_base (front - s.window) (least_base based) ≡ late → least_witness based (take front s.journal) ≡ w
+    validated-by : (late : Option ℕ) (w : Option Witness) → late_base (front - s.window) (least_base based) ≡ late
+        → least_witness based (take front s.journal) ≡ w
         → IsAnswered k (Call.prepare shard based) (validated shard front (front - s.window) late w) (known_by t c)
     validated-by (Some base) w el ew =
         let l = late-is (front - s.window) (least_base based) base el in
@@ -354,15 +348,19 @@ module _ (s : Store) (sound : IsSound s) (c : ℕ) (ours : c < CLIENTS) where
   kinds-told =
       let all = changes s.journal in
       kinds-fed _ []
-      (each-filter (λ (change : Change). kind_changed change.delta ≡ change.address.kind) (λ change. s.subscribed c change.address) (between (s.taken c) (length s.journal) all)
-      (each-filter (λ (change : Change). kind_changed change.delta ≡ change.address.kind) (λ change. nat_lt (s.taken c) change.number) (up_to (length s.journal) all)
-      (each-filter (λ (change : Change). kind_changed change.delta ≡ change.address.kind) (λ change. nat_le change.number (length s.journal)) all (kinds-of-changes s.journal orderly.kinds)))) tt
+      (each-filter (λ (change : Change). kind_changed change.delta ≡ change.address.kind) (λ change. s.subscribed c change.address)
+      (between (s.taken c) (length s.journal) all)
+      (each-filter (λ (change : Change). kind_changed change.delta ≡ change.address.kind) (λ change. nat_lt (s.taken c) change.number)
+      (up_to (length s.journal) all)
+      (each-filter (λ (change : Change). kind_changed change.delta ≡ change.address.kind) (λ change. nat_le change.number (length s.journal)) all
+      (kinds-of-changes s.journal orderly.kinds)))) tt
 
   took-answered : IsAnswered k Call.take (Answer.feed (feed_for s c)) (known_by (took (saw s c (length s.journal)) c (length s.journal)) c)
   took-answered =
       let e = seen-set (length s.journal) in
       let n = sound.seen c in
-      answered (took (saw s c (length s.journal)) c (length s.journal)) Call.take (Answer.feed (feed_for s c)) (step-grows s c Call.take) refl (omega arith) (omega arith)
+      answered (took (saw s c (length s.journal)) c (length s.journal)) Call.take (Answer.feed (feed_for s c)) (step-grows s c Call.take) refl
+      (omega arith) (omega arith)
       (refl, (λ a. refl), ap (λ b. cond b (length s.journal) (s.taken c)) (itself c), refl, omega arith) tt
       ((sym e, kinds-told), taken-is (seen_by (saw s c (length s.journal)) c) e, refl)
 
@@ -388,14 +386,7 @@ module _ (s : Store) (sound : IsSound s) (c : ℕ) (ours : c < CLIENTS) where
 
     failing : (call : Call) → Failing v call
     failing Call.refresh = ((refl, (λ a. refl), refl, refl, omega arith), tt, (tt, tt, refl))
-    failing (Call.read a) = ((refl, (λ b. refl), refl, refl, omega arith), tt, (tt, tt, refl))
-    failing (Call.prepare shard based) = ((refl, (λ b. refl), refl, refl, omega arith), tt, (tt, tt, refl))
-    failing (Call.append ready) = ((refl, (λ b. refl), refl, refl, omega arith), tt, (tt, tt, refl))
-    failing (Call.read_at a n) = ((refl, (λ b. refl), refl, refl, omega arith), tt, (tt, tt, refl))
-    failing (Call.subscribe a) = ((refl, (λ b. refl), refl, refl, omega arith), tt, (tt, tt, refl))
-    failing (Call.unsubscribe a) = ((refl, (λ b. refl), refl, refl, omega arith), tt, (tt, tt, refl))
-    failing Call.take = ((refl, (λ b. refl), refl, refl, omega arith), tt, (tt, tt, refl))
-    failing Call.wait = ((refl, (λ b. refl), refl, refl, omega arith), tt, (tt, tt, refl))
+    failing call = ((refl, (λ a. refl), refl, refl, omega arith), tt, (tt, tt, refl))
 
     failed-answered : (call : Call) → IsAnswered k call (Answer.failed false) (known_by v c)
     failed-answered call =
@@ -408,7 +399,8 @@ module _ (s : Store) (sound : IsSound s) (c : ℕ) (ours : c < CLIENTS) where
   step-answered Call.refresh can = refreshed
   step-answered (Call.read a) can = read-answered a (max (front_of s (shard_of a s.shards)) (seen_by s c)) refl (step-grows s c (Call.read a))
   step-answered (Call.prepare shard based) can =
-      validated-by shard based can (late_base (front_of s shard - s.window) (least_base based)) (least_witness based (take (front_of s shard) s.journal)) refl refl
+      validated-by shard based can (late_base (front_of s shard - s.window) (least_base based))
+      (least_witness based (take (front_of s shard) s.journal)) refl refl
   step-answered (Call.append ready) can = decided-by ready can (witness_past s ready) (nat_le s.limit (length s.journal)) refl refl
   step-answered (Call.read_at a n) can = read-back a n (max (front_of s (shard_of a s.shards)) n) can.1 refl (step-grows s c (Call.read_at a n))
   step-answered (Call.subscribe a) can = subscribed-answered a
@@ -418,15 +410,9 @@ module _ (s : Store) (sound : IsSound s) (c : ℕ) (ours : c < CLIENTS) where
 
 -- what a client owes makes the step sound
 pub owed-soundly : (s : Store) (sound : IsSound s) (c : ℕ) (call : Call) → CanCall (known_by s c) call → StepsSoundly s c call
-owed-soundly s sound c Call.refresh can = tt
-owed-soundly s sound c (Call.read a) can = tt
-owed-soundly s sound c (Call.prepare shard based) can = tt
 owed-soundly s sound c (Call.append ready) can = commits-legally s sound c ready can.attempt (of-append s c ready can)
 owed-soundly s sound c (Call.read_at a n) can = can.1
-owed-soundly s sound c (Call.subscribe a) can = tt
-owed-soundly s sound c (Call.unsubscribe a) can = tt
-owed-soundly s sound c Call.take can = tt
-owed-soundly s sound c Call.wait can = tt
+owed-soundly s sound c call can = tt
 
 -- what a call leaves is sound
 pub does-sound : (s t : Store) (c : ℕ) (call : Call) (a : Answer) → IsSound s → CanCall (known_by s c) call → Does s c call a t → IsSound t

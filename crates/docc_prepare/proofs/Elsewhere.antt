@@ -1,6 +1,6 @@
 -- What one client's calls do to the others: to each it is as if others had been at work.
-use Rattle.std.proofs.Common.{◌≡◌, ◌≢◌, ℕ, ◌+◌, ◌≤◌, ◌<◌, ◌%◌, Bool, true, false, cond, max, ◌&&◌, List, [], ◌∷◌, ◌++◌, length, get_or, set, Option, Some, None, ◌⊎◌, inl, inr, refl, sym, ap, ◌∙◌, subst, arith}
-use Rattle.std.specs.Prelude.{nat_le, ◌==◌, filter}
+use Rattle.std.proofs.Common.{◌≡◌, ◌≢◌, ℕ, ◌+◌, Bool, true, false, cond, max, ◌&&◌, [], ◌∷◌, ◌++◌, length, get_or, set, Option, Some, None, ◌⊎◌, inl, inr, refl, sym, ap, ◌∙◌, subst, arith}
+use Rattle.std.specs.Prelude.{nat_le, ◌==◌}
 use Rattle.std.specs.BTreeMap.{is_at}
 use Rattle.std.proofs.Math.Seq.{take-length, take-append_seam}
 use Rattle.std.proofs.lemmas.List.{append-nil, get_or-set_same, get_or-set_other}
@@ -16,8 +16,8 @@ use Rattle.txn_lang.specs.Journals.{own}
 use Rattle.journal_core.specs.declared.ready.Ready.{Ready}
 use Rattle.journal_core.specs.Readies.{made_of}
 use Rattle.docc_prepare.specs.Calls.{Known, Call, Answer}
-use Rattle.docc_prepare.specs.Backends.{CanCall, IsSameClient, KeepsGiven, HasGrown, IsLater}
-use Rattle.docc_prepare.specs.Stores.{Store, CLIENTS, front_of, seen_by, saw, moved, committed, telling, took, witness_past, decided, read_back, step, followed, HasStalled, Does, IsSound, known_by, StepsLeaveOthers, HasFollowed, IsFollowed, ShardsFollow}
+use Rattle.docc_prepare.specs.Backends.{CanCall, HasGrown, IsLater}
+use Rattle.docc_prepare.specs.Stores.{Store, front_of, seen_by, saw, committed, telling, witness_past, decided, step, followed, HasStalled, IsSound, known_by, StepsLeaveOthers, ShardsFollow}
 use Rattle.docc_prepare.proofs.Stored.{step-sound, followed-sound, with_fronts, stalled-sound, Grown, step-grows, followed-grows, stalled-grows, same-client, kept-given, does-one}
 use Rattle.docc_prepare.proofs.Answered.{owed-soundly}
 
@@ -65,7 +65,8 @@ module _ (s : Store) (sound : IsSound s) (c d : ℕ) (others : d ≢ c) where
   not-mine : (d == c) ≡ false
   not-mine = not-equal d c (λ e. others (sym e))
 
-  decided-later : (ready : Ready) (w : Option Witness) (full : Bool) → ready.client ≡ c → IsSound (decided s c ready w full).0 → Grown s (decided s c ready w full).0
+  decided-later : (ready : Ready) (w : Option Witness) (full : Bool) → ready.client ≡ c → IsSound (decided s c ready w full).0
+      → Grown s (decided s c ready w full).0
       → IsLater k (known_by (decided s c ready w full).0 d)
   decided-later ready (Some w) full ours now grows = later (saw s c (length s.journal)) now grows (unseen (length s.journal)) (λ a. refl) refl ungrown
   decided-later ready None true ours now grows = later (saw s c (length s.journal)) now grows (unseen (length s.journal)) (λ a. refl) refl ungrown
@@ -99,15 +100,8 @@ module _ (s : Store) (sound : IsSound s) (c d : ℕ) (others : d ≢ c) where
   later-by Call.wait ours now grows = later s now grows refl (λ a. refl) refl ungrown
 
   owed-ours : (call : Call) → CanCall (known_by s c) call → IsOurs call
-  owed-ours Call.refresh can = tt
-  owed-ours (Call.read a) can = tt
-  owed-ours (Call.prepare shard based) can = tt
   owed-ours (Call.append ready) can = ap (λ (r : Ready). r.client) can.made
-  owed-ours (Call.read_at a n) can = tt
-  owed-ours (Call.subscribe a) can = tt
-  owed-ours (Call.unsubscribe a) can = tt
-  owed-ours Call.take can = tt
-  owed-ours Call.wait can = tt
+  owed-ours call can = tt
 
   step-later : (call : Call) → CanCall (known_by s c) call → IsLater k (known_by (step s c call).0 d)
   step-later call can = later-by call (owed-ours call can) (step-sound s c sound call (owed-soundly s sound c call can)) (step-grows s c call)
@@ -115,11 +109,13 @@ module _ (s : Store) (sound : IsSound s) (c d : ℕ) (others : d ≢ c) where
   stalled-later : (t : Store) → HasStalled s t → IsLater k (known_by t d)
   stalled-later t stalled =
       subst (λ (x : Store). IsLater k (known_by x d)) (sym stalled.same)
-      (later (with_fronts s t.fronts) (subst IsSound stalled.same (stalled-sound s t sound stalled)) (stalled-grows s t.fronts stalled.risen) refl (λ a. refl) refl ungrown)
+      (later (with_fronts s t.fronts) (subst IsSound stalled.same (stalled-sound s t sound stalled)) (stalled-grows s t.fronts stalled.risen) refl
+      (λ a. refl) refl ungrown)
 
   follow-later : (shard : ℕ) → IsLater k (known_by (followed s c shard) d)
   follow-later shard =
-      later (followed s c shard) (followed-sound s c sound shard) (followed-grows s c shard sound) (unseen (max (seen_by s c) (length s.journal))) (λ a. refl) refl ungrown
+      later (followed s c shard) (followed-sound s c sound shard) (followed-grows s c shard sound) (unseen (max (seen_by s c) (length s.journal)))
+      (λ a. refl) refl ungrown
 
 pub steps_leave_others : StepsLeaveOthers
 steps_leave_others s t c d call a sound others can does = by (does-one s t c call a does)

@@ -1,5 +1,5 @@
 -- Stores step by step: each step leaves a sound store, where its call is in place.
-use Rattle.std.proofs.Common.{◌≡◌, ℕ, zero, suc, ◌+◌, ◌-◌, ◌≤◌, ◌<◌, ◌%◌, Bool, true, false, cond, min, max, List, [], ◌∷◌, ◌++◌, length, take, get_or, set, Option, Some, None, ◌⊎◌, inl, inr, refl, sym, ap, ◌∙◌, subst, arith}
+use Rattle.std.proofs.Common.{◌≡◌, ℕ, zero, suc, ◌+◌, ◌≤◌, Bool, true, false, cond, max, List, [], ◌∷◌, ◌++◌, length, get_or, set, Option, Some, None, ◌⊎◌, inl, inr, refl, sym, ap, ◌∙◌, subst, arith}
 use Rattle.std.specs.Prelude.{nat_le, ◌==◌, replicate, slice_get}
 use Rattle.std.specs.Option.{option_and_then}
 use Rattle.std.specs.List.{AllByRecursion}
@@ -24,7 +24,7 @@ use Rattle.docc_prepare.specs.Serial.{IsOrderly}
 use Rattle.docc_prepare.specs.Witnesses.{witness_of}
 use Rattle.docc_prepare.specs.Calls.{Call, Answer}
 use Rattle.docc_prepare.specs.Backends.{IsSameClient, KeepsGiven}
-use Rattle.docc_prepare.specs.Stores.{Store, CLIENTS, first_store, front_of, seen_by, saw, moved, committed, telling, took, found_past, witness_past, decided, step, followed, HasStalled, Does, IsSound, known_by, FirstStoreIsSound}
+use Rattle.docc_prepare.specs.Stores.{Store, CLIENTS, front_of, seen_by, saw, moved, committed, telling, took, found_past, witness_past, decided, step, followed, HasStalled, Does, IsSound, known_by, FirstStoreIsSound}
 use Rattle.docc_prepare.proofs.Missing.{none-of-least}
 use Rattle.docc_prepare.proofs.Undisturbed.{appending_stays_legal, observed_of_one_kind}
 use Rattle.docc_prepare.proofs.Growing.{legal_is_orderly}
@@ -184,7 +184,8 @@ module _ (s : Store) (sound : IsSound s) (client : ℕ) (ready : Ready) (attempt
   commits-legally none =
       let undisturbed = ap (λ (bs : List Based). pairs bs s.journal) (sym based-is) ∙ all-clear none in
       subst (λ commit. IsLegal 0 (s.journal ++ commit ∷ [])) (sym made-is)
-      (appending_stays_legal 0 client s.journal attempt ready.run of.text orderly sound.legal (record { fits = of.fits; runs = of.runs; undisturbed = undisturbed }))
+      (appending_stays_legal 0 client s.journal attempt ready.run of.text orderly sound.legal
+      (record { fits = of.fits; runs = of.runs; undisturbed = undisturbed }))
 
 -- ---- the steps
 
@@ -229,7 +230,8 @@ module _ (s : Store) (c : ℕ) (sound : IsSound s) where
   pub followed-sound : (shard : ℕ) → IsSound (followed s c shard)
   followed-sound shard =
       let n = sound.seen c in
-      saw-sound (moved s shard (length s.journal)) c (max (seen_by s c) (length s.journal)) (moved-sound s shard (length s.journal) sound (omega arith)) (omega arith)
+      saw-sound (moved s shard (length s.journal)) c (max (seen_by s c) (length s.journal)) (moved-sound s shard (length s.journal) sound (omega arith))
+      (omega arith)
 
 -- ---- what goes on
 
@@ -254,7 +256,7 @@ module _ (s : Store) where
   same-grown seens subscribed taken = risen-grown s.fronts seens subscribed taken (λ i. omega arith)
 
   module _ (c : ℕ) where
-    saw-grown : (n : ℕ) → Grown s (saw s c n)
+    pub saw-grown : (n : ℕ) → Grown s (saw s c n)
     saw-grown n = same-grown (set s.seens c n) s.subscribed s.taken
 
     decided-grows : (ready : Ready) (w : Option Witness) (full : Bool) → Grown s (decided s c ready w full).0
@@ -308,16 +310,7 @@ module _ (s t : Store) (d : ℕ) (grown : Grown s t) where
 -- a call failed for want of memory, or went by the step
 pub does-one : (s t : Store) (c : ℕ) (call : Call) (a : Answer) → Does s c call a t → ((a ≡ Answer.failed false) × HasStalled s t) ⊎ ((t, a) ≡ step s c call)
 does-one s t c call (Answer.failed by_fault) does = inl (ap (λ (b : Bool). Answer.failed b) does.0, does.1)
-does-one s t c call (Answer.number n) does = inr does
-does-one s t c call (Answer.snap snap) does = inr does
-does-one s t c call (Answer.prepared p) does = inr does
-does-one s t c call (Answer.value v) does = inr does
-does-one s t c call (Answer.feed f) does = inr does
-does-one s t c call Answer.done does = inr does
-does-one s t c call (Answer.late n h) does = inr does
-does-one s t c call (Answer.clash w) does = inr does
-does-one s t c call (Answer.full l) does = inr does
-does-one s t c call Answer.disk does = inr does
+does-one s t c call a does = inr does
 
 pub first_store_is_sound : FirstStoreIsSound
 first_store_is_sound shards window limit some = record {

@@ -5,7 +5,6 @@ use Rattle.std.specs.List.{list_any, AllByRecursion}
 use Rattle.std.specs.Option.{option_map, option_or, option_and_then}
 use Rattle.std.specs.Bool.{then_some}
 use Rattle.std.specs.BTreeMap.{is_at}
-use Rattle.std.specs.Ordering.{is_eq}
 use Rattle.std.specs.FinMap as map
 use Rattle.std.proofs.lemmas.Bool.Decides.{nat_tests}
 use Rattle.std.proofs.lemmas.List.{take-append-drop}
@@ -239,7 +238,8 @@ first-hit place [] commit found e = absurd (cc)
 first-hit place (b ∷ bs) commit found e = by (first-hit (place + 1) bs commit found) (hit b commit) refl e
   where
     by : (slice_get (hits_from (place + 1) bs commit) 0 ≡ Some found → HitAt (place + 1) bs commit found) → (x : Bool) → hit b commit ≡ x
-        → slice_get (cond x (record { place = place; number = commit.number } ∷ hits_from (place + 1) bs commit) (hits_from (place + 1) bs commit)) 0 ≡ Some found
+        → slice_get (cond x (record { place = place; number = commit.number } ∷ hits_from (place + 1) bs commit) (hits_from (place + 1) bs commit)) 0
+        ≡ Some found
         → HitAt place (b ∷ bs) commit found
     by rest true is e =
         let same : record { place = place; number = commit.number } ≡ found = cc in
@@ -371,7 +371,8 @@ pair-of-witness bs journal witness orderly each is = by (least_pair bs journal) 
 
 pairs-append : (bs : List Based) (xs ys : Journal) → pairs bs (xs ++ ys) ≡ pairs bs xs ++ pairs bs ys
 pairs-append bs [] ys = refl
-pairs-append bs (x ∷ xs) ys = ap (λ found. hits_from 0 bs x ++ found) (pairs-append bs xs ys) ∙ sym (append_assoc (hits_from 0 bs x) (pairs bs xs) (pairs bs ys))
+pairs-append bs (x ∷ xs) ys = ap (λ found. hits_from 0 bs x ++ found) (pairs-append bs xs ys)
+    ∙ sym (append_assoc (hits_from 0 bs x) (pairs bs xs) (pairs bs ys))
 
 first-append : {A : Type 0} (xs ys : List A) (x : A) → slice_get xs 0 ≡ Some x → slice_get (xs ++ ys) 0 ≡ Some x
 first-append [] ys x e = absurd (cc)
@@ -425,7 +426,8 @@ witness-of-front bs journal f witness orderly each is =
     let p = pair-of-witness bs (take f journal) witness (orderly-front f journal orderly) each is in
     let found = p.0 in
     let first = first-append (pairs bs (take f journal)) (pairs bs (drop f journal)) found p.1 in
-    let least = ap (λ (xs : Journal). least_pair bs xs) (sym (take-append-drop f journal)) ∙ ap (λ (all : List Found). slice_get all 0) (pairs-append bs (take f journal) (drop f journal)) ∙ first in
+    let least = ap (λ (xs : Journal). least_pair bs xs) (sym (take-append-drop f journal))
+    ∙ ap (λ (all : List Found). slice_get all 0) (pairs-append bs (take f journal) (drop f journal)) ∙ first in
     let commit = front-commit journal f found.number p.2.commit p.2.there ∙ sym p.2.there in
     ap (option_and_then (witness_of bs journal)) least
     ∙ ap (λ o. option_and_then (λ b. option_and_then (λ commit. witness_in b (changes_of commit)) o) (slice_get bs found.place)) commit

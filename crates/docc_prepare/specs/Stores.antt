@@ -10,7 +10,6 @@ use Rattle.rdt_types.specs.declared.value.Value.TheVariants as value
 use Rattle.rdt_types.specs.Addresses.{address_cmp}
 use Rattle.rdt_types.specs.Shards.{shard_of}
 use Rattle.conflict_table.specs.declared.observation.Obs.TheVariants as obs
-use Rattle.change_feed.specs.declared.change.Change.{Change}
 use Rattle.change_feed.specs.Feeds.{Fed, with_changes}
 use Rattle.abort_witness.specs.declared.witness.Based.{Based}
 use Rattle.abort_witness.specs.declared.witness.Found.{Found}

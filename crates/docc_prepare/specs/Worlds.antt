@@ -1,6 +1,6 @@
 -- The world of one thread: its store, and each client's open attempt. An event of a client is one call of the store, of which
 -- its attempt takes the answer.
-use Rattle.std.specs.Prelude.{◌≡◌, ℕ, ◌+◌, ◌≤◌, ◌<◌, List, [], ◌∷◌, length, get_or, set, replicate, Option, Some, None, codes, refl}
+use Rattle.std.specs.Prelude.{◌≡◌, ℕ, ◌+◌, ◌≤◌, ◌<◌, List, [], ◌∷◌, length, get_or, set, replicate, Option, Some, None, IfSome, codes, refl}
 use Rattle.std.specs.List.{AllByRecursion}
 use Rattle.rdt_types.specs.declared.address.Kind.TheVariants as kind
 use Rattle.rdt_types.specs.declared.address.Address.{Address}
@@ -17,7 +17,7 @@ use Rattle.docc_prepare.specs.declared.attempt.Next.TheVariants as next
 use Rattle.docc_prepare.specs.Attempts.{ran, based, in_shard, next_event, Prepares, with_snap, with_front, ready_of, Fits}
 use Rattle.docc_prepare.specs.Calls.{Call, Answer}
 use Rattle.docc_prepare.specs.Stores as stores
-use Rattle.docc_prepare.specs.Stores.{Store, CLIENTS, first_store, seen_by, followed}
+use Rattle.docc_prepare.specs.Stores.{Store, CLIENTS, first_store, front_of, seen_by, followed}
 
 -- the store, and of each client its open attempt, if it has one
 pub record World : Type 0 where
@@ -101,20 +101,16 @@ step w client event = called w client (call_of client w.store.journal event (att
 -- ---- sound worlds
 
 -- An open attempt fits the journal, its bases are at most their shards' fronts, and its text has its body as its tree.
-pub record Held (journal : Journal) (shards : ℕ) (fronts : List ℕ) (attempt : Attempt) : Type 0 where
-  pub fits : Fits journal attempt
-  pub same_shards : attempt.shards ≡ shards
-  pub bases : AllByRecursion (λ (read : Address × Snap). read.1.base ≤ get_or fronts (shard_of read.0 attempt.shards) 0) attempt.snaps
+pub record IsHeld (s : Store) (attempt : Attempt) : Type 0 where
+  pub fits : Fits s.journal attempt
+  pub same_shards : attempt.shards ≡ s.shards
+  pub bases : AllByRecursion (λ (read : Address × Snap). read.1.base ≤ front_of s (shard_of read.0 attempt.shards)) attempt.snaps
   pub text : tree attempt.body.source ≡ Some attempt.body.body
-
-abbrev pub HeldMaybe : Journal → ℕ → List ℕ → Option Attempt → Type 0
-HeldMaybe journal shards fronts None = Unit {0}
-HeldMaybe journal shards fronts (Some attempt) = Held journal shards fronts attempt
 
 -- The store is sound, and each open attempt is held.
 pub record IsSound (w : World) : Type 0 where
   pub stored : stores.IsSound w.store
-  pub held : (client : ℕ) → HeldMaybe w.store.journal w.store.shards w.store.fronts (attempt_of w client)
+  pub held : (client : ℕ) → IfSome (attempt_of w client) (IsHeld w.store)
 
 -- An event is in place where the client may ask for it: a read, a preparing or an append where it is the next event of its
 -- open attempt, and a read at a number where that is among what it has seen.
