@@ -1,5 +1,5 @@
 -- Stores step by step: each step leaves a sound store, where its call is in place.
-use Rattle.std.proofs.Common.{◌≡◌, ℕ, zero, suc, ◌+◌, ◌≤◌, Bool, true, false, cond, max, List, [], ◌∷◌, ◌++◌, length, get_or, set, Option, Some, None, ◌⊎◌, inl, inr, refl, sym, ap, ◌∙◌, subst, arith}
+use Rattle.std.proofs.Common.{◌≡◌, ℕ, zero, suc, ◌+◌, ◌≤◌, ◌<◌, Bool, true, false, cond, max, List, [], ◌∷◌, ◌++◌, length, get_or, set, Option, Some, None, ◌⊎◌, inl, inr, refl, sym, ap, ◌∙◌, subst, arith}
 use Rattle.std.specs.Prelude.{nat_le, ◌==◌, replicate, slice_get}
 use Rattle.std.specs.Option.{option_and_then}
 use Rattle.std.specs.List.{AllByRecursion}
@@ -59,6 +59,7 @@ all_alike P (suc n) (suc j) x h = all_alike P n j x h
 pub saw-sound : (s : Store) (c n : ℕ) → IsSound s → n ≤ length s.journal → IsSound (saw s c n)
 saw-sound s c n sound h = record {
   legal = sound.legal;
+  few = sound.few;
   some = sound.some;
   all_shards = sound.all_shards;
   all_clients = length-set s.seens c n ∙ sound.all_clients;
@@ -70,6 +71,7 @@ saw-sound s c n sound h = record {
 pub moved-sound : (s : Store) (k f : ℕ) → IsSound s → f ≤ length s.journal → IsSound (moved s k f)
 moved-sound s k f sound h = record {
   legal = sound.legal;
+  few = sound.few;
   some = sound.some;
   all_shards = length-set s.fronts k f ∙ sound.all_shards;
   all_clients = sound.all_clients;
@@ -78,10 +80,11 @@ moved-sound s k f sound h = record {
   taken = sound.taken;
 }
 
-committed-sound : (s : Store) (ready : Ready) → IsSound s → IsLegal 0 (committed s ready).journal → IsSound (committed s ready)
-committed-sound s ready sound legal =
+committed-sound : (s : Store) (ready : Ready) → IsSound s → length s.journal < s.limit → IsLegal 0 (committed s ready).journal → IsSound (committed s ready)
+committed-sound s ready sound room legal =
     let l = length-append s.journal (made_of s.journal ready ∷ []) in record {
       legal = legal;
+      few = omega arith;
       some = sound.some;
       all_shards = sound.all_shards;
       all_clients = sound.all_clients;
@@ -93,6 +96,7 @@ committed-sound s ready sound legal =
 telling-sound : (s : Store) (c : ℕ) (address : Address) (told : Bool) → IsSound s → IsSound (telling s c address told)
 telling-sound s c address told sound = record {
   legal = sound.legal;
+  few = sound.few;
   some = sound.some;
   all_shards = sound.all_shards;
   all_clients = sound.all_clients;
@@ -104,6 +108,7 @@ telling-sound s c address told sound = record {
 took-sound : (s : Store) (c n : ℕ) → IsSound s → n ≤ length s.journal → IsSound (took s c n)
 took-sound s c n sound h = record {
   legal = sound.legal;
+  few = sound.few;
   some = sound.some;
   all_shards = sound.all_shards;
   all_clients = sound.all_clients;
@@ -126,6 +131,7 @@ stalled-sound s t sound stalled = subst IsSound (sym stalled.same) now
     now : IsSound (with_fronts s t.fronts)
     now = record {
       legal = sound.legal;
+      few = sound.few;
       some = sound.some;
       all_shards = stalled.all_shards ∙ sound.all_shards;
       all_clients = sound.all_clients;
@@ -197,12 +203,15 @@ StepsSoundly s c (Call.read_at address number) = number ≤ seen_by s c
 StepsSoundly s c call = Unit {0}
 
 module _ (s : Store) (c : ℕ) (sound : IsSound s) where
-  decided-sound : (ready : Ready) (o : Option Witness) (full : Bool) → (o ≡ None → IsLegal 0 (committed s ready).journal) → IsSound (decided s c ready o full).0
-  decided-sound ready (Some w) full legal = saw-sound s c (length s.journal) sound (omega arith)
-  decided-sound ready None true legal = saw-sound s c (length s.journal) sound (omega arith)
-  decided-sound ready None false legal =
+  decided-sound : (ready : Ready) (o : Option Witness) (full : Bool) → nat_le s.limit (length s.journal) ≡ full
+      → (o ≡ None → IsLegal 0 (committed s ready).journal)
+      → IsSound (decided s c ready o full).0
+  decided-sound ready (Some w) full e legal = saw-sound s c (length s.journal) sound (omega arith)
+  decided-sound ready None true e legal = saw-sound s c (length s.journal) sound (omega arith)
+  decided-sound ready None false e legal =
+      let room : length s.journal < s.limit = grind (arith, nat_tests) in
       let l = length-append s.journal (made_of s.journal ready ∷ []) in
-      saw-sound (committed s ready) c (length s.journal + 1) (committed-sound s ready sound (legal refl)) (omega arith)
+      saw-sound (committed s ready) c (length s.journal + 1) (committed-sound s ready sound room (legal refl)) (omega arith)
 
   pub step-sound : (call : Call) → StepsSoundly s c call → IsSound (step s c call).0
   step-sound Call.refresh h = saw-sound s c (length s.journal) sound (omega arith)
@@ -216,7 +225,7 @@ module _ (s : Store) (c : ℕ) (sound : IsSound s) where
       let r = sound.reached shard in
       let n = sound.seen c in
       saw-sound s c (max (seen_by s c) (front_of s shard)) sound (omega arith)
-  step-sound (Call.append ready) h = decided-sound ready (witness_past s ready) (nat_le s.limit (length s.journal)) h
+  step-sound (Call.append ready) h = decided-sound ready (witness_past s ready) (nat_le s.limit (length s.journal)) refl h
   step-sound (Call.read_at address number) h =
       let k = shard_of address s.shards in
       let r = sound.reached k in
@@ -315,6 +324,7 @@ does-one s t c call a does = inr does
 pub first_store_is_sound : FirstStoreIsSound
 first_store_is_sound shards window limit some = record {
   legal = tt;
+  few = omega arith;
   some = some;
   all_shards = length-replicate {A = ℕ} shards 0;
   all_clients = length-replicate {A = ℕ} CLIENTS 0;

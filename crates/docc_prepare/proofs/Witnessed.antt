@@ -80,54 +80,31 @@ of-whole (delta.PutBool b) = refl
 of-whole (delta.PutCounter n) = refl
 of-whole (delta.AddCounter n) = refl
 of-whole (delta.PutText text) = refl
-of-whole (delta.Set d) = tt
-of-whole (delta.Hash d) = tt
-of-whole (delta.List d) = tt
+of-whole d = tt
 
 of-clear : (d : Delta) → OfKind (kind_changed d) (clear_part d)
-of-clear (delta.PutBool b) = tt
-of-clear (delta.PutCounter n) = tt
-of-clear (delta.AddCounter n) = tt
-of-clear (delta.PutText text) = tt
 of-clear (delta.Set d) = of-cleared kinds.Set d.cleared op.SetClear refl
 of-clear (delta.Hash d) = of-cleared kinds.Hash d.cleared op.HashClear refl
 of-clear (delta.List d) = of-cleared kinds.List d.cleared op.ListClear refl
+of-clear d = tt
 
 of-mark : (x : Bytes) (d : Delta) → OfKind (kind_changed d) (mark_part x d)
-of-mark x (delta.PutBool b) = tt
-of-mark x (delta.PutCounter n) = tt
-of-mark x (delta.AddCounter n) = tt
-of-mark x (delta.PutText text) = tt
 of-mark x (delta.Set d) = of-mapped kinds.Set (set_part x) (map.get d.marks x) (set-kind x)
 of-mark x (delta.Hash d) = of-mapped kinds.Hash (hash_part x) (map.get d.marks x) (hash-kind x)
-of-mark x (delta.List d) = tt
+of-mark x d = tt
 
 of-first : (d : Delta) → OfKind (kind_changed d) (first_mark d)
-of-first (delta.PutBool b) = tt
-of-first (delta.PutCounter n) = tt
-of-first (delta.AddCounter n) = tt
-of-first (delta.PutText text) = tt
 of-first (delta.Set d) = of-mapped kinds.Set (λ e. set_part e.0 e.1) (slice_get (map.entries d.marks) 0) (λ e. set-kind e.0 e.1)
 of-first (delta.Hash d) = of-mapped kinds.Hash (λ e. hash_part e.0 e.1) (slice_get (map.entries d.marks) 0) (λ e. hash-kind e.0 e.1)
-of-first (delta.List d) = tt
+of-first d = tt
 
 of-removed : (d : Delta) → OfKind (kind_changed d) (first_removed d)
-of-removed (delta.PutBool b) = tt
-of-removed (delta.PutCounter n) = tt
-of-removed (delta.AddCounter n) = tt
-of-removed (delta.PutText text) = tt
-of-removed (delta.Set d) = tt
-of-removed (delta.Hash d) = tt
 of-removed (delta.List d) = of-mapped kinds.List (λ e. op.ListRemove e.0) (slice_get (map.entries d.removed) 0) (λ e. refl)
+of-removed d = tt
 
 of-pushed : (d : Delta) → OfKind (kind_changed d) (first_pushed d)
-of-pushed (delta.PutBool b) = tt
-of-pushed (delta.PutCounter n) = tt
-of-pushed (delta.AddCounter n) = tt
-of-pushed (delta.PutText text) = tt
-of-pushed (delta.Set d) = tt
-of-pushed (delta.Hash d) = tt
 of-pushed (delta.List d) = of-mapped kinds.List (λ item. op.ListPush item) (slice_get d.pushed 0) (λ item. refl)
+of-pushed d = tt
 
 of-named : (o : Obs) (d : Delta) → OfKind (kind_changed d) (named o d)
 of-named obs.BoolIs d = of-whole d

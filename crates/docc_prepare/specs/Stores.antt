@@ -177,6 +177,7 @@ Does s client c answer t = (t, answer) ≡ step s client c
 -- The journal is legal and no longer than its limit, and what was reached, seen and taken is within it.
 pub record IsSound (s : Store) : Type 0 where
   pub legal : IsLegal 0 s.journal
+  pub few : length s.journal ≤ s.limit
   pub some : 0 < s.shards
   pub all_shards : length s.fronts ≡ s.shards
   pub all_clients : length s.seens ≡ CLIENTS
