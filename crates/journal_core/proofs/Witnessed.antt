@@ -148,14 +148,14 @@ first-pair n based (commit ∷ rest) found numbered e = by (first-pair (n + 1) b
     of_commit hit =
         let at = hit.at in let number = hit.number in let own = numbered.0 in
         let place : hit.ahead ≡ found.place = omega (arith, at) in record {
-      ahead = zero;
-      observation = hit.observation;
-      commit = commit;
-      number = omega (arith, number, own);
-      is = refl;
-      placed = subst (λ p. slice_get based p ≡ Some hit.observation) place hit.placed;
-      clashing = hit.clashing;
-    }
+          ahead = zero;
+          observation = hit.observation;
+          commit = commit;
+          number = omega (arith, number, own);
+          is = refl;
+          placed = subst (λ p. slice_get based p ≡ Some hit.observation) place hit.placed;
+          clashing = hit.clashing;
+        }
 
     of_rest : PairIn (n + 1) based rest found → PairIn n based (commit ∷ rest) found
     of_rest pair = let number = pair.number in record {
@@ -227,14 +227,14 @@ least-hits shards fronts based journal found numbered e =
     let pair = first-pair 0 (past_fronts shards fronts based) journal found numbered e in
     let seen = before shards fronts based found.place pair.observation pair.placed in
     let from = max seen.observation.base (front_at fronts (shard_of seen.observation.address shards)) in record {
-  observation = seen.observation;
-  commit = pair.commit;
-  placed = seen.placed;
-  numbered = at-number journal found.number pair.ahead pair.commit pair.number pair.is;
-  clashing =
-      any-moved seen.observation from (changes_of pair.commit) (omega arith)
-      (subst (λ b. list_any (clashes b) (changes_of pair.commit) ≡ true) (sym seen.same) pair.clashing);
-}
+      observation = seen.observation;
+      commit = pair.commit;
+      placed = seen.placed;
+      numbered = at-number journal found.number pair.ahead pair.commit pair.number pair.is;
+      clashing =
+          any-moved seen.observation from (changes_of pair.commit) (omega arith)
+          (subst (λ b. list_any (clashes b) (changes_of pair.commit) ≡ true) (sym seen.same) pair.clashing);
+    }
 
 -- ---- places within their lists
 

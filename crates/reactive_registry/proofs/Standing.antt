@@ -39,7 +39,7 @@ takes_stand changes front kept all = record {
 }
 
 -- the deltas of changes and then of others
-deltas-append : (a : Address) (changes later : List Change) → deltas_at a (changes ++ later) ≡ deltas_at a changes ++ deltas_at a later
+pub deltas-append : (a : Address) (changes later : List Change) → deltas_at a (changes ++ later) ≡ deltas_at a changes ++ deltas_at a later
 deltas-append a [] later = refl
 deltas-append a (c ∷ changes) later = by (is_at (address_cmp a) c.address) (deltas-append a changes later)
   where
