@@ -1,4 +1,3 @@
-pub mod Blocks
 pub mod Buffered
 pub mod Ending
 pub mod PlacesKept

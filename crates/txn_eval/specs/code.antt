@@ -1,5 +1,4 @@
 pub mod Buffering
 pub mod Answers
 pub mod Lengths
-pub mod Loops
 pub mod Places

@@ -47,16 +47,6 @@ pub(crate) fn into_texts(alloc: Global, item: Item) -> TextList
     }
 }
 
-/// The texts, lent.
-pub(crate) fn texts_lent(item: &Item) -> &[Text]
-    ensures { result.now ≡ spec.texts_in item.now }
-{
-    match item {
-        Item::Texts(texts) => texts.as_slice(),
-        _ => &[],
-    }
-}
-
 /// A length, as an item. No list in memory has one that doesn't fit.
 fn counted(length: usize) -> Result<Item, AllocError>
     ensures { IfOk result (λ i. i ≡ Item.Int (pos length)) }

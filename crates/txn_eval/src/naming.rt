@@ -4,7 +4,6 @@ ghost use Rattle.std.specs.Prelude.{◌≡◌, IfOk, OnOk, take};
 ghost use Rattle.txn_lang.specs.Items as spec;
 
 use crate::environment::Environment;
-use crate::items::texts_lent;
 use plain_data::{ExactClone, Text};
 use rdt_types::Item;
 use std::alloc::AllocError;
@@ -16,16 +15,6 @@ pub(crate) fn named(names: &Environment, name: &Text) -> Result<Item, AllocError
     match names.item_of(name) {
         Some(item) => item.clone(),
         None => Ok(Item::Int(0)),
-    }
-}
-
-/// The texts that a name stands for, lent.
-pub(crate) fn listed<'a>(names: &'a Environment, name: &Text) -> &'a [Text]
-    ensures { result.now ≡ spec.texts_in (spec.named names.now name.now) }
-{
-    match names.item_of(name) {
-        Some(item) => texts_lent(item),
-        None => &[],
     }
 }
 

@@ -1,12 +1,10 @@
 //! What statements do.
 
-ghost use Rattle.std.specs.Prelude.{◌≡◌, ◌+◌, map, length, take, OnOk, []};
-ghost use Rattle.txn_lang.specs.Items.{named, texts_in};
-ghost use Rattle.txn_lang.specs.Rules as rules;
+ghost use Rattle.std.specs.Prelude.{◌≡◌, ◌+◌, map, []};
 ghost use Rattle.txn_lang.specs.Steps as steps;
+ghost use Rattle.txn_lang.specs.Rules as rules;
 ghost use Rattle.txn_eval.specs.code.Answers.{Answers, Leaves};
 ghost use Rattle.txn_eval.specs.code.Buffering.{kept};
-ghost use Rattle.txn_eval.specs.code.Loops.{looped};
 ghost use Rattle.txn_eval.specs.Running.{values_of};
 
 use crate::charging::{carry, charge};
@@ -16,13 +14,13 @@ use crate::items::{bool_in, into_text, into_texts};
 use crate::kept::Kept;
 use crate::loads::{emit_size, write_size};
 use crate::memory::write_at;
-use crate::naming::{forget, listed};
+use crate::naming::forget;
 use crate::words::write_of;
 use plain_data::Text;
 use rdt_types::{Address, Item, Kind};
 use std::alloc::Global;
 use txn_lang::{Progress, Snaps, Stop};
-use txn_trees::{Expr, ExprNode, Stmt, StmtNode, WriteWord};
+use txn_trees::{Stmt, StmtNode, WriteWord};
 
 /// Emits an item.
 fn emit(run: &mut Progress<Kept>, item: Item) -> Result<(), Stop>
@@ -70,9 +68,7 @@ pub(crate) fn steps_of(
     run: &mut Progress<Kept>,
     stmts: &[Stmt],
 ) -> Result<(), Stop>
-    ensures ran { Leaves result names.new run.new (rules.all_steps (map (rules.stmt_run (kept (values_of snaps.now))) stmts.now) names.old run.old) }
-    // The names before them are the first ones behind them.
-    ensures more { OnOk result (take (length names.old) names.new ≡ names.old) }
+    ensures { Leaves result names.new run.new (rules.all_steps (map (rules.stmt_run (kept (values_of snaps.now))) stmts.now) names.old run.old) }
 {
     for stmt in stmts {
         step(alloc, snaps, names, run, stmt)?;
@@ -89,8 +85,7 @@ fn block(
     run: &mut Progress<Kept>,
     stmts: &[Stmt],
 ) -> Result<(), Stop>
-    ensures ran { Leaves result names.new run.new (rules.block (map (rules.stmt_run (kept (values_of snaps.now))) stmts.now) names.old run.old) }
-    ensures same { OnOk result (names.new ≡ names.old) }
+    ensures { Leaves result names.new run.new (rules.block (map (rules.stmt_run (kept (values_of snaps.now))) stmts.now) names.old run.old) }
 {
     let outside = names.len();
     steps_of(alloc, snaps, names, run, stmts)?;
@@ -106,14 +101,14 @@ fn turn(
     names: &mut Environment,
     run: &mut Progress<Kept>,
     name: &Text,
-    text: Text,
+    text: &Text,
     stmts: &[Stmt],
 ) -> Result<(), Stop>
-    ensures ran { Leaves result names.new run.new (rules.turn name.now (map (rules.stmt_run (kept (values_of snaps.now))) stmts.now) text names.old run.old) }
-    ensures same { OnOk result (names.new ≡ names.old) }
+    ensures { Leaves result names.new run.new (rules.turn name.now (map (rules.stmt_run (kept (values_of snaps.now))) stmts.now) text.now names.old run.old) }
 {
     charge(run, 1)?;
     let count = names.len();
+    let text = text.clone()?;
     names.bind(name, Item::Text(text))?;
     steps_of(alloc, snaps, names, run, stmts)?;
     forget(names, count)?;
@@ -131,63 +126,12 @@ fn turns(
     texts: &[Text],
     stmts: &[Stmt],
 ) -> Result<(), Stop>
-    ensures ran { Leaves result names.new run.new (rules.turns name.now (map (rules.stmt_run (kept (values_of snaps.now))) stmts.now) texts.now names.old run.old) }
-    ensures same { OnOk result (names.new ≡ names.old) }
+    ensures { Leaves result names.new run.new (rules.turns name.now (map (rules.stmt_run (kept (values_of snaps.now))) stmts.now) texts.now names.old run.old) }
 {
     for text in texts {
-        let text = text.clone()?;
         turn(alloc, snaps, names, run, name, text, stmts)?;
     }
     Ok(())
-}
-
-/// The turns of a loop over what a name stands for. Its list stays where it is, and a turn copies one text of it.
-#[cycle(step)]
-fn turns_over(
-    alloc: Global,
-    snaps: &Snaps,
-    names: &mut Environment,
-    run: &mut Progress<Kept>,
-    name: &Text,
-    list: &Text,
-    stmts: &[Stmt],
-) -> Result<(), Stop>
-    ensures ran { Leaves result names.new run.new (rules.turns name.now (map (rules.stmt_run (kept (values_of snaps.now))) stmts.now) (texts_in (named names.old list.now)) names.old run.old) }
-    ensures same { OnOk result (names.new ≡ names.old) }
-{
-    let count = listed(names, list).len();
-    for at in 0..count {
-        let text = listed(names, list)[at].clone()?;
-        turn(alloc, snaps, names, run, name, text, stmts)?;
-    }
-    Ok(())
-}
-
-/// A loop over what an expression gives.
-#[cycle(step)]
-fn each(
-    alloc: Global,
-    snaps: &Snaps,
-    names: &mut Environment,
-    run: &mut Progress<Kept>,
-    name: &Text,
-    expr: &Expr,
-    stmts: &[Stmt],
-) -> Result<(), Stop>
-    ensures ran { Leaves result names.new run.new (looped (kept (values_of snaps.now)) name.now expr.now (map (rules.stmt_run (kept (values_of snaps.now))) stmts.now) names.old run.old) }
-    ensures same { OnOk result (names.new ≡ names.old) }
-{
-    match &expr.node {
-        ExprNode::Name(list) => {
-            charge(run, 1)?;
-            turns_over(alloc, snaps, names, run, name, list, stmts)
-        }
-        _ => {
-            let item = value_of(alloc, snaps, names, run, expr)?;
-            let texts = into_texts(alloc, item);
-            turns(alloc, snaps, names, run, name, texts.as_slice(), stmts)
-        }
-    }
 }
 
 /// A statement.
@@ -199,8 +143,7 @@ fn step(
     run: &mut Progress<Kept>,
     stmt: &Stmt,
 ) -> Result<(), Stop>
-    ensures ran { Leaves result names.new run.new (rules.stmt_run (kept (values_of snaps.now)) stmt.now names.old run.old) }
-    ensures more { OnOk result (take (length names.old) names.new ≡ names.old) }
+    ensures { Leaves result names.new run.new (rules.stmt_run (kept (values_of snaps.now)) stmt.now names.old run.old) }
 {
     charge(run, 1)?;
     match &stmt.node {
@@ -229,7 +172,17 @@ fn step(
             }
         }
         StmtNode::For(name, expr, stmts) => {
-            each(alloc, snaps, names, run, name, expr, stmts.as_slice())
+            let item = value_of(alloc, snaps, names, run, expr)?;
+            let texts = into_texts(alloc, item);
+            turns(
+                alloc,
+                snaps,
+                names,
+                run,
+                name,
+                texts.as_slice(),
+                stmts.as_slice(),
+            )
         }
         StmtNode::Write(kind, key, word, arguments) => {
             let key = value_of(alloc, snaps, names, run, key)?;
