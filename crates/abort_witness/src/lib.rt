@@ -10,7 +10,7 @@ mod naming;
 mod witness;
 
 pub use finding::{first_clash, least, lesser};
-pub use naming::name;
+pub use naming::{name, name_delta};
 pub use witness::{Based, BasedList, Found, FoundList, Witness, WitnessList};
 
 #[cfg(test)]

@@ -4,11 +4,13 @@ ghost use Rattle.std.specs.Prelude.{◌≡◌, true, IfOk};
 ghost use Rattle.conflict_table.specs.Observing.{kind_observed};
 ghost use Rattle.rdt_types.specs.Deltas.{kind_changed};
 ghost use Rattle.conflict_table.specs.Clashes.{clash};
-ghost use Rattle.abort_witness.specs.Naming.{Names};
+ghost use Rattle.abort_witness.specs.Naming.{Names, NamesDelta};
 
 use crate::witness::{Based, Witness};
 use change_feed::Change;
 use conflict_table::{copy_part, part};
+use plain_data::ExactClone;
+use rdt_types::Delta;
 use std::alloc::AllocError;
 
 /// Why a commit is refused: the observation with its base, and the part of the change that it clashes with.
@@ -18,12 +20,28 @@ pub fn name(based: &Based, change: &Change) -> Result<Witness, AllocError>
     requires clash { clash based.now.obs change.now.delta ≡ true }
     ensures { IfOk result (Names based.now change.now) }
 {
-    let named = part(&based.obs, &change.delta);
+    name_delta(based, change.number, &change.delta)
+}
+
+/// The same of what the commit of a number did at the observation's address.
+pub fn name_delta(based: &Based, number: u64, delta: &Delta) -> Result<Witness, AllocError>
+    requires kind { kind_observed based.now.obs ≡ kind_changed delta.now }
+    requires clash { clash based.now.obs delta.now ≡ true }
+    ensures { IfOk result (NamesDelta based.now number delta.now) }
+{
+    let named = part(&based.obs, delta);
     Ok(Witness {
-        address: based.address.clone()?,
-        obs: based.obs.clone()?,
+        address: copied(&based.address)?,
+        obs: copied(&based.obs)?,
         base: based.base,
         part: copy_part(&named)?,
-        number: change.number,
+        number,
     })
+}
+
+/// A copy, which equals its original.
+fn copied<T: ExactClone>(original: &T) -> Result<T, AllocError>
+    ensures { IfOk result (λ copy. copy ≡ original.now) }
+{
+    original.clone()
 }
