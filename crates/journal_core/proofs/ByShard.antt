@@ -178,7 +178,7 @@ all_past m n (commit ∷ rest) order numbered =
     (all_past m (n + 1) rest (omega (arith, order)) numbered.1)
 
 -- the changes up to a number are those of so many commits
-changes-up_to : (m n t : ℕ) (journal : Journal) → m ≡ n + t → AreNumberedFrom n journal → up_to m (changes journal) ≡ changes (take t journal)
+pub changes-up_to : (m n t : ℕ) (journal : Journal) → m ≡ n + t → AreNumberedFrom n journal → up_to m (changes journal) ≡ changes (take t journal)
 changes-up_to m n zero [] is numbered = refl
 changes-up_to m n (suc t) [] is numbered = refl
 changes-up_to m n zero (commit ∷ rest) is numbered = none_up_to m n (commit ∷ rest) (omega (arith, is)) numbered
@@ -196,7 +196,7 @@ changes-past m n (suc t) (commit ∷ rest) is numbered =
     (changes-past m (n + 1) t rest (omega (arith, is)) numbered.1)
 
 -- the first commits are numbered too
-numbered-take : (n t : ℕ) (journal : Journal) → AreNumberedFrom n journal → AreNumberedFrom n (take t journal)
+pub numbered-take : (n t : ℕ) (journal : Journal) → AreNumberedFrom n journal → AreNumberedFrom n (take t journal)
 numbered-take n zero [] numbered = tt
 numbered-take n (suc t) [] numbered = tt
 numbered-take n zero (commit ∷ rest) numbered = tt
