@@ -6,3 +6,4 @@ pub mod Standing
 pub mod Undone
 pub mod Clients
 pub mod Told
+pub mod Coming
