@@ -1,5 +1,6 @@
 -- What holds of each item of a list.
-use Rattle.std.proofs.Common.{◌≡◌, Bool, true, false, cond, ℕ, zero, suc, List, [], ◌∷◌, ◌++◌, take, filter, refl}
+use Rattle.std.proofs.Common.{◌≡◌, Bool, true, false, cond, ℕ, zero, suc, List, [], ◌∷◌, ◌++◌, take, filter, Option, Some, refl, subst}
+use Rattle.std.specs.Prelude.{slice_get}
 use Rattle.std.specs.List.{AllByRecursion}
 
 module _ {A : Type 0} where
@@ -24,6 +25,12 @@ module _ {A : Type 0} where
   each-take P zero (x ∷ xs) all = tt
   each-take P (suc n) [] all = tt
   each-take P (suc n) (x ∷ xs) all = (all.0, each-take P n xs all.1)
+
+  -- it holds of the item at a place
+  pub each-at : (P : A → Type 0) (xs : List A) (i : ℕ) (x : A) → AllByRecursion P xs → slice_get xs i ≡ Some x → P x
+  each-at P [] i x all e = absurd (cc)
+  each-at P (y ∷ ys) zero x all e = let same : y ≡ x = cc in subst P same all.0
+  each-at P (y ∷ ys) (suc i) x all e = each-at P ys i x all.1 e
 
   -- it holds of one item more
   pub each-push : (P : A → Type 0) (xs : List A) (x : A) → AllByRecursion P xs → P x → AllByRecursion P (xs ++ x ∷ [])

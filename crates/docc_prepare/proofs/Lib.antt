@@ -5,4 +5,6 @@ pub mod Undisturbed
 pub mod Growing
 pub mod Fronts
 pub mod Lowest
+pub mod Witnessed
+pub mod Stored
 pub mod Sound

@@ -25,12 +25,14 @@ use Rattle.conflict_table.specs.Clashes.{clash}
 use Rattle.conflict_table.proofs.Rows.{no_clash_no_change}
 use Rattle.abort_witness.specs.declared.witness.Based.{Based}
 use Rattle.abort_witness.specs.Pairs.{clashes}
+use Rattle.abort_witness.specs.Kinds.{IsBasedOfOneKind}
 use Rattle.change_feed.specs.declared.change.Change.{Change}
 use Rattle.txn_lang.specs.declared.commit.Commit.{Commit}
 use Rattle.txn_lang.specs.declared.run.Run.{Run}
 use Rattle.txn_lang.specs.declared.run.Seen.{Seen}
 use Rattle.txn_lang.specs.declared.snaps.Snap.{Snap}
 use Rattle.txn_lang.specs.States.{Journal, after, apply_maybe, known, left_by, state}
+use Rattle.txn_lang.specs.Execution.{done}
 use Rattle.txn_lang.specs.Determinacy.{AgreesOn, Agree}
 use Rattle.txn_lang.specs.Observed.{IsThere}
 use Rattle.txn_lang.specs.Journals.{IsLegal, commit_of}
@@ -39,7 +41,8 @@ use Rattle.txn_lang.proofs.Observed.{observed_is_there}
 use Rattle.txn_lang.proofs.Journals.{legal-push}
 use Rattle.txn_eval.specs.Running.{values_of}
 use Rattle.journal_core.specs.Pairs.{pairs, AreNumberedFrom}
-use Rattle.docc_prepare.specs.Attempts.{SnapList, base_in, with_base, based, SnapFits}
+use Rattle.docc_prepare.specs.declared.attempt.Attempt.{Attempt}
+use Rattle.docc_prepare.specs.Attempts.{SnapList, ran, base_in, with_base, based, SnapFits, Fits}
 use Rattle.docc_prepare.specs.Serial.{AreOfTheirKinds, IsOrderly, RanUndisturbed, RunsAsItRan, AppendingStaysLegal}
 use Rattle.docc_prepare.proofs.Each.{each-take, each-column}
 use Rattle.docc_prepare.proofs.OfOneKind.{kind-at, kind-left}
@@ -161,6 +164,31 @@ snap-at journal (pair ∷ snaps) a snap all e = by (snap-at journal snaps a snap
 
 some-same : {A : Type 0} (x y : A) → Some x ≡ Some y → x ≡ y
 some-same x y e = cc
+
+-- what a run observed is of the kind of its address
+observed-kind : (journal : Journal) (snaps : SnapList) (z : Seen) → IsOrderly journal → AllByRecursion (SnapFits journal) snaps → IsThere (values_of snaps) z
+    → IsBasedOfOneKind (with_base snaps z)
+observed-kind journal snaps z orderly fit there = record { observed = by (lookup (is_at (address_cmp z.address)) snaps) refl there.is }
+  where
+    by : (o : Option Snap) → lookup (is_at (address_cmp z.address)) snaps ≡ o → option_map (λ snap. snap.value) o ≡ Some there.value → kind_observed z.obs ≡ z.address.kind
+    by None e is = absurd (cc)
+    by (Some snap) e is =
+        let same = some-same snap.value there.value is in
+        let value_is = snap-at journal snaps z.address snap fit e in
+        there.kind (ap kind_of (sym same ∙ value_is)
+        ∙ kind-left (take snap.base journal) z.address (each-take (λ (commit : Commit). AreOfTheirKinds commit.deltas) snap.base journal orderly.kinds))
+
+observed-kinds : (journal : Journal) (snaps : SnapList) (seen : List Seen) → IsOrderly journal → AllByRecursion (SnapFits journal) snaps
+    → AllByRecursion (IsThere (values_of snaps)) seen → AllByRecursion IsBasedOfOneKind (based snaps seen)
+observed-kinds journal snaps [] orderly fit there = tt
+observed-kinds journal snaps (z ∷ seen) orderly fit there =
+    (observed-kind journal snaps z orderly fit there.0, observed-kinds journal snaps seen orderly fit there.1)
+
+-- so each observation of an attempt that fits is
+pub observed_of_one_kind : (journal : Journal) (attempt : Attempt) (run : Run) → IsOrderly journal → Fits journal attempt → ran attempt ≡ done run
+    → AllByRecursion IsBasedOfOneKind (based attempt.snaps run.observations)
+observed_of_one_kind journal attempt run orderly fits is =
+    observed-kinds journal attempt.snaps run.observations orderly fits.snaps (observed_is_there attempt.body.body (values_of attempt.snaps) run is)
 
 -- what was read and no commit disturbed agrees with what the journal leaves
 agrees : (journal : Journal) (snaps : SnapList) (z : Seen) → IsOrderly journal → AllByRecursion (SnapFits journal) snaps → IsThere (values_of snaps) z

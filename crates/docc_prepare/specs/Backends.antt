@@ -74,6 +74,16 @@ pub record CanAppend (k : Known) (ready : Ready) : Type 0 where
   pub few : length ready.based < 2 ^ 32
   pub told : IfSome k.journal (FitsNext k attempt ready)
 
+-- What a client owes at each call.
+abbrev pub CanCall : Known → Call → Type 0
+CanCall k (Call.read address) = IsShortAddress address
+CanCall k (Call.prepare shard based) = CanPrepare k shard based
+CanCall k (Call.append ready) = CanAppend k ready
+CanCall k (Call.read_at address number) = IsShortAddress address × (number ≤ k.seen)
+CanCall k (Call.subscribe address) = IsShortAddress address
+CanCall k (Call.unsubscribe address) = IsShortAddress address
+CanCall k c = Unit {0}
+
 -- ---- what answers say of the journal, a row a call
 
 -- the least pair is named, and the client has seen its commit
@@ -259,4 +269,8 @@ pub record IsLater (k l : Known) : Type 0 where
   pub subscribed : (address : Address) → l.subscribed address ≡ k.subscribed address
   pub taken : l.taken ≡ k.taken
   pub denied : l.denied ≡ k.denied
+  pub denials : k.denials ≤ l.denials
+  pub draws : k.draws ≤ l.draws
+  pub looks : k.looks ≤ l.looks
+  pub faults : l.faults ≡ k.faults
   pub told : WhereTold (HasGrown k) k.journal l.journal

@@ -1,5 +1,5 @@
 -- The store of one thread, behind each client's backend: each call of a client is one step of it, which gives an answer.
-use Rattle.std.specs.Prelude.{◌≡◌, ℕ, ◌+◌, ◌-◌, ◌≤◌, ◌<◌, ◌==◌, Bool, true, false, ◌||◌, ◌&&◌, not, min, max, nat_lt, nat_le, if◌then◌else◌, List, [], ◌∷◌, ◌++◌, filter, length, take, get_or, set, replicate, Option, Some, None}
+use Rattle.std.specs.Prelude.{◌≡◌, ◌≢◌, ℕ, ◌+◌, ◌-◌, ◌≤◌, ◌<◌, ◌==◌, Bool, true, false, ◌&&◌, min, max, nat_lt, nat_le, if◌then◌else◌, List, [], ◌∷◌, ◌++◌, filter, length, take, get_or, set, replicate, Option, Some, None, IfSome}
 use Rattle.std.specs.BTreeMap.{is_at}
 use Rattle.std.specs.Option.{option_and_then}
 use Rattle.rdt_types.specs.declared.address.Address.{Address}
@@ -18,6 +18,7 @@ use Rattle.journal_core.specs.Pairs.{least_pair, past_fronts}
 use Rattle.journal_core.specs.Readies.{made_of}
 use Rattle.docc_prepare.specs.Witnesses.{witness_of, least_witness}
 use Rattle.docc_prepare.specs.Calls.{Known, Call, Answer}
+use Rattle.docc_prepare.specs.Backends.{CanCall, IsAnswered, IsLater, IsSameClient, KeepsGiven}
 
 -- the journal, the front of each shard, and of each client what it has seen, what it is told of, and up to where it has
 -- taken that
@@ -114,9 +115,12 @@ decided s client ready (Some witness) full = (saw s client (length s.journal), A
 decided s client ready None true = (saw s client (length s.journal), Answer.full s.limit)
 decided s client ready None false = (saw (committed s ready) client (length s.journal + 1), Answer.number (length s.journal + 1))
 
+-- the witness of that pair
+abbrev pub witness_past : Store → Ready → Option Witness
+witness_past s ready = option_and_then (witness_of ready.based s.journal) (found_past s ready)
+
 abbrev pub append_to : Store → ℕ → Ready → Store × Answer
-append_to s client ready =
-    decided s client ready (option_and_then (witness_of ready.based s.journal) (found_past s ready)) (nat_le s.limit (length s.journal))
+append_to s client ready = decided s client ready (witness_past s ready) (nat_le s.limit (length s.journal))
 
 -- a read at a number lets its shard follow to it
 abbrev pub read_back : Store → Address → ℕ → ℕ → Store × Answer
@@ -193,3 +197,44 @@ known_by s client = record {
   gave = λ address base. nat_le base (front_of s (shard_of address s.shards));
   fronted = λ shard based front. true;
 }
+
+-- ---- laws
+
+-- The first store is sound.
+abbrev pub FirstStoreIsSound : Type 0
+FirstStoreIsSound = (shards window limit : ℕ) → 0 < shards → IsSound (first_store shards window limit)
+
+-- Each call of a client is answered within the clause of every call, and leaves a sound store.
+abbrev pub StepsAreAnswered : Type 0
+StepsAreAnswered =
+    (s t : Store) (client : ℕ) (c : Call) (a : Answer) → IsSound s → client < CLIENTS → CanCall (known_by s client) c → Does s client c a t
+    → IsAnswered (known_by s client) c a (known_by t client) × IsSound t
+
+-- To each other client it is as if others had been at work.
+abbrev pub StepsLeaveOthers : Type 0
+StepsLeaveOthers =
+    (s t : Store) (client other : ℕ) (c : Call) (a : Answer) → IsSound s → other ≢ client → CanCall (known_by s client) c → Does s client c a t
+    → IsLater (known_by s other) (known_by t other)
+
+-- What a client knows once it has let a shard follow: of the same journal it has seen all.
+pub record HasFollowed (k l : Known) : Type 0 where
+  pub client : IsSameClient k l
+  pub journal : l.journal ≡ k.journal
+  pub seen : k.seen ≤ l.seen
+  pub all_seen : IfSome k.journal (λ journal. l.seen ≡ length journal)
+  pub keeps : KeepsGiven k l
+  pub subscribed : (address : Address) → l.subscribed address ≡ k.subscribed address
+  pub taken : l.taken ≡ k.taken
+  pub denied : l.denied ≡ k.denied
+
+-- A shard has followed to the journal's end.
+pub record IsFollowed (s : Store) (client shard : ℕ) (t : Store) : Type 0 where
+  pub sound : IsSound t
+  pub front : front_of t shard ≡ length s.journal
+  pub mine : HasFollowed (known_by s client) (known_by t client)
+  pub others : (other : ℕ) → other ≢ client → IsLater (known_by s other) (known_by t other)
+
+-- By `follow` the shard has followed, and what fits the journal fits it still, which is the same.
+abbrev pub ShardsFollow : Type 0
+ShardsFollow =
+    (s : Store) (client shard : ℕ) → IsSound s → client < CLIENTS → shard < s.shards → IsFollowed s client shard (followed s client shard)

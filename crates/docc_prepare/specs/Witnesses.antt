@@ -1,18 +1,25 @@
 -- The witness of the least pair of observations and a journal's commits.
-use Rattle.std.specs.Prelude.{◌≡◌, ℕ, if◌then◌else◌, List, [], ◌∷◌, Option, Some, None, slice_get, codes, pos, refl}
+use Rattle.std.specs.Prelude.{◌≡◌, ℕ, true, if◌then◌else◌, List, [], ◌∷◌, Option, Some, None, slice_get, codes, pos, refl}
+use Rattle.std.specs.List.{AllByRecursion}
 use Rattle.std.specs.Option.{option_and_then}
+use Rattle.rdt_types.specs.declared.address.Kind.TheVariants as kind
 use Rattle.rdt_types.specs.declared.operation.WriteOp.{WriteOp}
 use Rattle.rdt_types.specs.declared.operation.WriteOp.TheVariants as op
+use Rattle.conflict_table.specs.declared.observation.Obs.TheVariants as obs
 use Rattle.conflict_table.specs.Parts.{named}
 use Rattle.change_feed.specs.declared.change.Change.{Change}
 use Rattle.abort_witness.specs.declared.witness.Based.{Based}
 use Rattle.abort_witness.specs.declared.witness.Found.{Found}
 use Rattle.abort_witness.specs.declared.witness.Witness.{Witness}
-use Rattle.abort_witness.specs.Pairs.{clashes}
+use Rattle.abort_witness.specs.Pairs.{clashes, IsLeast}
+use Rattle.abort_witness.specs.Naming.{Names}
+use Rattle.abort_witness.specs.Kinds.{IsBasedOfOneKind, IsOfOneKind}
+use Rattle.txn_lang.specs.declared.commit.Commit.{Commit}
 use Rattle.txn_lang.specs.States.{Journal}
-use Rattle.journal_core.specs.Changes.{changes_of, adding}
+use Rattle.journal_core.specs.Changes.{changes_of, changes, adding}
 use Rattle.journal_core.specs.Journals.{commit_at}
-use Rattle.journal_core.specs.Pairs.{least_pair, read}
+use Rattle.journal_core.specs.Pairs.{least_pair}
+use Rattle.docc_prepare.specs.Serial.{IsOrderly}
 
 -- the witness of an observation and a change, of which a part clashes with it
 abbrev pub witness_by : Based → Change → Option WriteOp → Option Witness
@@ -34,8 +41,35 @@ witness_of based journal found =
 abbrev pub least_witness : List Based → Journal → Option Witness
 least_witness based journal = option_and_then (witness_of based journal) (least_pair based journal)
 
+-- A witness names both: the observation at the pair's place, and of the commit that has the pair's number a change that clashes
+-- with it, with the part of it that does. Its parts are of one kind.
+pub record IsNamed (based : List Based) (journal : Journal) (found : Found) (witness : Witness) : Type 0 where
+  pub observation : Based
+  pub commit : Commit
+  pub change : Change
+  pub index : ℕ
+  pub placed : slice_get based found.place ≡ Some observation
+  pub there : commit_at journal found.number ≡ Some commit
+  pub among : slice_get (changes_of commit) index ≡ Some change
+  pub clashing : clashes observation change ≡ true
+  pub names : Names observation change witness
+  pub number : witness.number ≡ found.number
+  pub one_kind : IsOfOneKind witness
+
+-- A law: the least pair of a journal, and of observations of their addresses' kinds, has a witness, which names both.
+abbrev pub WitnessIsNamed : Type 0
+WitnessIsNamed =
+    (based : List Based) (journal : Journal) (found : Found) → IsOrderly journal → AllByRecursion IsBasedOfOneKind based → IsLeast based (changes journal) found
+    → (witness : Witness) × (least_witness based journal ≡ Some witness) × IsNamed based journal found witness
+
+-- ---- a worked line
+
+-- a counter that was read at 1
+abbrev counted : List ℕ → Based
+counted key = record { address = record { kind = kind.Counter; key = key }; obs = obs.CounterIs; base = 1 }
+
 -- of three commits the second and the third change what was read at 1: the second is named, with its addition
 least_witness-example :
-    least_witness (read (codes "x") ∷ read (codes "y") ∷ []) (adding 1 (codes "x") ∷ adding 2 (codes "y") ∷ adding 3 (codes "x") ∷ [])
-    ≡ witness_by (read (codes "y")) (record { number = 2; address = (read (codes "y")).address; delta = _ }) (Some (op.AddCounter (pos 1)))
+    least_witness (counted (codes "x") ∷ counted (codes "y") ∷ []) (adding 1 (codes "x") ∷ adding 2 (codes "y") ∷ adding 3 (codes "x") ∷ [])
+    ≡ Some (record { address = (counted (codes "y")).address; obs = obs.CounterIs; base = 1; part = op.AddCounter (pos 1); number = 2 })
 least_witness-example = refl

@@ -1,0 +1,366 @@
+-- The least pair of a journal has a witness, which names both.
+use Rattle.std.proofs.Common.{◌≡◌, ℕ, zero, suc, ◌+◌, ◌-◌, Bool, true, false, cond, ◌&&◌, ◌||◌, List, [], ◌∷◌, ◌++◌, Option, Some, None, refl, sym, ap, ◌∙◌, subst, arith}
+use Rattle.std.specs.Prelude.{nat_lt, ◌==◌, slice_get, is_some}
+use Rattle.std.specs.List.{list_any, AllByRecursion}
+use Rattle.std.specs.Option.{option_map, option_or, option_and_then}
+use Rattle.std.specs.Bool.{then_some}
+use Rattle.std.specs.BTreeMap.{is_at}
+use Rattle.std.specs.Ordering.{is_eq}
+use Rattle.std.specs.FinMap as map
+use Rattle.std.proofs.lemmas.Bool.Decides.{nat_tests}
+use Rattle.plain_data.specs.Texts.{Bytes}
+use Rattle.plain_data.proofs.Entries.{equal}
+use Rattle.rdt_types.specs.declared.address.Kind.{Kind}
+use Rattle.rdt_types.specs.declared.address.Kind.TheVariants as kinds
+use Rattle.rdt_types.specs.declared.address.Address.{Address}
+use Rattle.rdt_types.specs.declared.mark.Mark.{Mark}
+use Rattle.rdt_types.specs.declared.mark.Mark.TheVariants as mark
+use Rattle.rdt_types.specs.declared.operation.WriteOp.{WriteOp}
+use Rattle.rdt_types.specs.declared.operation.WriteOp.TheVariants as op
+use Rattle.rdt_types.specs.declared.delta.Delta.{Delta}
+use Rattle.rdt_types.specs.declared.delta.Delta.TheVariants as delta
+use Rattle.rdt_types.specs.Addresses.{address_cmp}
+use Rattle.rdt_types.specs.Values.{kind_written}
+use Rattle.rdt_types.specs.Deltas.{kind_changed}
+use Rattle.rdt_types.specs.DeltaMaps.{Deltas}
+use Rattle.rdt_types.proofs.Addresses.{address_cmp-equal}
+use Rattle.conflict_table.specs.declared.observation.Obs.{Obs}
+use Rattle.conflict_table.specs.declared.observation.Obs.TheVariants as obs
+use Rattle.conflict_table.specs.Observing.{kind_observed}
+use Rattle.conflict_table.specs.Clashes.{clash}
+use Rattle.conflict_table.specs.Parts.{set_part, hash_part, whole_part, clear_part, mark_part, first_mark, first_removed, first_pushed, named}
+use Rattle.conflict_table.proofs.Named.{clashes_have_parts}
+use Rattle.change_feed.specs.declared.change.Change.{Change}
+use Rattle.abort_witness.specs.declared.witness.Based.{Based}
+use Rattle.abort_witness.specs.declared.witness.Found.{Found}
+use Rattle.abort_witness.specs.declared.witness.Witness.{Witness}
+use Rattle.abort_witness.specs.Pairs.{clashes}
+use Rattle.abort_witness.specs.Naming.{Names}
+use Rattle.abort_witness.specs.Kinds.{IsBasedOfOneKind, IsOfOneKind}
+use Rattle.txn_lang.specs.declared.commit.Commit.{Commit}
+use Rattle.txn_lang.specs.States.{Journal}
+use Rattle.journal_core.specs.Changes.{changes_by, changes_of}
+use Rattle.journal_core.specs.Journals.{commit_at}
+use Rattle.journal_core.specs.Pairs.{hits_from, pairs, least_pair, AreNumberedFrom}
+use Rattle.docc_prepare.specs.Serial.{AreOfTheirKinds, IsOrderly}
+use Rattle.docc_prepare.specs.Witnesses.{witness_by, witness_in, witness_of, least_witness, IsNamed}
+use Rattle.docc_prepare.proofs.Each.{each-at}
+use Rattle.docc_prepare.proofs.Missing.{hit}
+
+-- ---- the named part is of the kind of the delta
+
+-- an operation that may be there is of a kind
+abbrev OfKind : Kind → Option WriteOp → Type 0
+OfKind k None = Unit {0}
+OfKind k (Some o) = kind_written o ≡ k
+
+of-either : (k : Kind) (a b : Option WriteOp) → OfKind k a → OfKind k b → OfKind k (option_or a b)
+of-either k None b first second = second
+of-either k (Some o) b first second = first
+
+of-cleared : (k : Kind) (cleared : Bool) (o : WriteOp) → kind_written o ≡ k → OfKind k (then_some cleared o)
+of-cleared k true o is = is
+of-cleared k false o is = tt
+
+of-mapped : {A : Type 0} (k : Kind) (f : A → WriteOp) (o : Option A) → ((x : A) → kind_written (f x) ≡ k) → OfKind k (option_map f o)
+of-mapped k f None is = tt
+of-mapped k f (Some x) is = is x
+
+set-kind : (x : Bytes) (there : Bool) → kind_written (set_part x there) ≡ kinds.Set
+set-kind x true = refl
+set-kind x false = refl
+
+hash-kind : (f : Bytes) (m : Mark) → kind_written (hash_part f m) ≡ kinds.Hash
+hash-kind f (mark.Put text) = refl
+hash-kind f mark.Removed = refl
+
+of-whole : (d : Delta) → OfKind (kind_changed d) (whole_part d)
+of-whole (delta.PutBool b) = refl
+of-whole (delta.PutCounter n) = refl
+of-whole (delta.AddCounter n) = refl
+of-whole (delta.PutText text) = refl
+of-whole (delta.Set d) = tt
+of-whole (delta.Hash d) = tt
+of-whole (delta.List d) = tt
+
+of-clear : (d : Delta) → OfKind (kind_changed d) (clear_part d)
+of-clear (delta.PutBool b) = tt
+of-clear (delta.PutCounter n) = tt
+of-clear (delta.AddCounter n) = tt
+of-clear (delta.PutText text) = tt
+of-clear (delta.Set d) = of-cleared kinds.Set d.cleared op.SetClear refl
+of-clear (delta.Hash d) = of-cleared kinds.Hash d.cleared op.HashClear refl
+of-clear (delta.List d) = of-cleared kinds.List d.cleared op.ListClear refl
+
+of-mark : (x : Bytes) (d : Delta) → OfKind (kind_changed d) (mark_part x d)
+of-mark x (delta.PutBool b) = tt
+of-mark x (delta.PutCounter n) = tt
+of-mark x (delta.AddCounter n) = tt
+of-mark x (delta.PutText text) = tt
+of-mark x (delta.Set d) = of-mapped kinds.Set (set_part x) (map.get d.marks x) (set-kind x)
+of-mark x (delta.Hash d) = of-mapped kinds.Hash (hash_part x) (map.get d.marks x) (hash-kind x)
+of-mark x (delta.List d) = tt
+
+of-first : (d : Delta) → OfKind (kind_changed d) (first_mark d)
+of-first (delta.PutBool b) = tt
+of-first (delta.PutCounter n) = tt
+of-first (delta.AddCounter n) = tt
+of-first (delta.PutText text) = tt
+of-first (delta.Set d) = of-mapped kinds.Set (λ e. set_part e.0 e.1) (slice_get (map.entries d.marks) 0) (λ e. set-kind e.0 e.1)
+of-first (delta.Hash d) = of-mapped kinds.Hash (λ e. hash_part e.0 e.1) (slice_get (map.entries d.marks) 0) (λ e. hash-kind e.0 e.1)
+of-first (delta.List d) = tt
+
+of-removed : (d : Delta) → OfKind (kind_changed d) (first_removed d)
+of-removed (delta.PutBool b) = tt
+of-removed (delta.PutCounter n) = tt
+of-removed (delta.AddCounter n) = tt
+of-removed (delta.PutText text) = tt
+of-removed (delta.Set d) = tt
+of-removed (delta.Hash d) = tt
+of-removed (delta.List d) = of-mapped kinds.List (λ e. op.ListRemove e.0) (slice_get (map.entries d.removed) 0) (λ e. refl)
+
+of-pushed : (d : Delta) → OfKind (kind_changed d) (first_pushed d)
+of-pushed (delta.PutBool b) = tt
+of-pushed (delta.PutCounter n) = tt
+of-pushed (delta.AddCounter n) = tt
+of-pushed (delta.PutText text) = tt
+of-pushed (delta.Set d) = tt
+of-pushed (delta.Hash d) = tt
+of-pushed (delta.List d) = of-mapped kinds.List (λ item. op.ListPush item) (slice_get d.pushed 0) (λ item. refl)
+
+of-named : (o : Obs) (d : Delta) → OfKind (kind_changed d) (named o d)
+of-named obs.BoolIs d = of-whole d
+of-named obs.CounterIs d = of-whole d
+of-named obs.TextIs d = of-whole d
+of-named (obs.SetHas x) d = of-either (kind_changed d) (clear_part d) (mark_part x d) (of-clear d) (of-mark x d)
+of-named obs.SetAll d = of-either (kind_changed d) (clear_part d) (first_mark d) (of-clear d) (of-first d)
+of-named (obs.HashAt f) d = of-either (kind_changed d) (clear_part d) (mark_part f d) (of-clear d) (of-mark f d)
+of-named obs.HashAll d = of-either (kind_changed d) (clear_part d) (first_mark d) (of-clear d) (of-first d)
+of-named (obs.ListAt i) d = of-either (kind_changed d) (clear_part d) (first_removed d) (of-clear d) (of-removed d)
+of-named obs.ListAll d =
+    of-either (kind_changed d) (option_or (clear_part d) (first_removed d)) (first_pushed d)
+    (of-either (kind_changed d) (clear_part d) (first_removed d) (of-clear d) (of-removed d)) (of-pushed d)
+
+-- a clash of one kind has a part of that kind
+clashing-part : (o : Obs) (d : Delta) → kind_observed o ≡ kind_changed d → clash o d ≡ true
+    → (part : WriteOp) × (named o d ≡ Some part) × (kind_written part ≡ kind_changed d)
+clashing-part o d same clashing = by (named o d) refl
+  where
+    by : (p : Option WriteOp) → named o d ≡ p → (part : WriteOp) × (named o d ≡ Some part) × (kind_written part ≡ kind_changed d)
+    by None e =
+        let none : is_some (named o d) ≡ false = ap (λ p. is_some p) e in
+        let there : is_some (named o d) ≡ true = clashes_have_parts o d same ∙ clashing in
+        absurd (let no : true ≡ false = sym there ∙ none in cc)
+    by (Some part) e = (part, e, subst (OfKind (kind_changed d)) e (of-named o d))
+
+-- ---- the witness in the changes of a commit
+
+abbrev change_of : ℕ → Address × Delta → Change
+change_of n pair = record { number = n; address = pair.0; delta = pair.1 }
+
+all_true : (b c d : Bool) → ((b && c) && d) ≡ true → (b ≡ true) × (c ≡ true) × (d ≡ true)
+all_true true true true e = (refl, refl, refl)
+all_true true true false e = absurd (cc)
+all_true true false d e = absurd (cc)
+all_true false c d e = absurd (cc)
+
+-- the witness that is found in changes, and what it names
+record Within (b : Based) (all : List Change) : Type 0 where
+  witness : Witness
+  is : witness_in b all ≡ Some witness
+  change : Change
+  index : ℕ
+  among : slice_get all index ≡ Some change
+  clashing : clashes b change ≡ true
+  names : Names b change witness
+  one_kind : IsOfOneKind witness
+  numbered : (n : ℕ) → AllByRecursion (λ c. c.number ≡ n) all → change.number ≡ n
+
+witnessed-here : (b : Based) (n : ℕ) (pair : Address × Delta) (ds : Deltas) → kind_observed b.obs ≡ b.address.kind → kind_changed pair.1 ≡ pair.0.kind
+    → clashes b (change_of n pair) ≡ true → Within b (change_of n pair ∷ changes_by n ds)
+witnessed-here b n pair ds observed kind clashing =
+    let parts = all_true (nat_lt b.base n) (is_at (address_cmp b.address) pair.0) (clash b.obs pair.1) clashing in
+    let same = address_cmp-equal b.address pair.0 (equal (address_cmp b.address pair.0) parts.1) in
+    let one = observed ∙ ap (λ (a : Address). a.kind) same ∙ sym kind in
+    let part = clashing-part b.obs pair.1 one parts.2 in record {
+      witness = record { address = b.address; obs = b.obs; base = b.base; part = part.0; number = n };
+      is = ap (λ t. cond t (witness_by b (change_of n pair) (named b.obs pair.1)) (witness_in b (changes_by n ds))) clashing
+          ∙ ap (witness_by b (change_of n pair)) part.1;
+      change = change_of n pair;
+      index = zero;
+      among = refl;
+      clashing = clashing;
+      names = record { address = refl; observed = refl; base = refl; part = part.1; number = refl };
+      one_kind = record { observed = observed; written = part.2 ∙ sym one ∙ observed };
+      numbered = λ m all. all.0;
+    }
+
+witnessed-in : (b : Based) (n : ℕ) (ds : Deltas) → kind_observed b.obs ≡ b.address.kind → AreOfTheirKinds ds
+    → list_any (clashes b) (changes_by n ds) ≡ true → Within b (changes_by n ds)
+witnessed-in b n [] observed kinds hits = absurd (cc)
+witnessed-in b n (pair ∷ ds) observed kinds hits =
+    by (witnessed-in b n ds observed kinds.1) (clashes b (change_of n pair)) refl hits
+  where
+    by : (list_any (clashes b) (changes_by n ds) ≡ true → Within b (changes_by n ds)) → (x : Bool) → clashes b (change_of n pair) ≡ x
+        → (x || list_any (clashes b) (changes_by n ds)) ≡ true → Within b (change_of n pair ∷ changes_by n ds)
+    by rest true e h = witnessed-here b n pair ds observed kinds.0 e
+    by rest false e h = let r = rest h in record {
+      witness = r.witness;
+      is = ap (λ t. cond t (witness_by b (change_of n pair) (named b.obs pair.1)) (witness_in b (changes_by n ds))) e ∙ r.is;
+      change = r.change;
+      index = suc r.index;
+      among = r.among;
+      clashing = r.clashing;
+      names = r.names;
+      one_kind = r.one_kind;
+      numbered = λ m all. r.numbered m all.1;
+    }
+
+numbers-of : (n : ℕ) (ds : Deltas) → AllByRecursion (λ (c : Change). c.number ≡ n) (changes_by n ds)
+numbers-of n [] = tt
+numbers-of n (pair ∷ ds) = (refl, numbers-of n ds)
+
+-- ---- where the first pair is
+
+-- the observation from a place on that the first hit is of
+record HitAt (place : ℕ) (bs : List Based) (commit : Commit) (found : Found) : Type 0 where
+  index : ℕ
+  placed : found.place ≡ place + index
+  observation : Based
+  there : slice_get bs index ≡ Some observation
+  numbered : found.number ≡ commit.number
+  hits : hit observation commit ≡ true
+
+first-hit : (place : ℕ) (bs : List Based) (commit : Commit) (found : Found) → slice_get (hits_from place bs commit) 0 ≡ Some found
+    → HitAt place bs commit found
+first-hit place [] commit found e = absurd (cc)
+first-hit place (b ∷ bs) commit found e = by (first-hit (place + 1) bs commit found) (hit b commit) refl e
+  where
+    by : (slice_get (hits_from (place + 1) bs commit) 0 ≡ Some found → HitAt (place + 1) bs commit found) → (x : Bool) → hit b commit ≡ x
+        → slice_get (cond x (record { place = place; number = commit.number } ∷ hits_from (place + 1) bs commit) (hits_from (place + 1) bs commit)) 0 ≡ Some found
+        → HitAt place (b ∷ bs) commit found
+    by rest true is e =
+        let same : record { place = place; number = commit.number } ≡ found = cc in
+        let here = sym (ap (λ (f : Found). f.place) same) in record {
+          index = zero;
+          placed = omega arith;
+          observation = b;
+          there = refl;
+          numbered = sym (ap (λ (f : Found). f.number) same);
+          hits = is;
+        }
+    by rest false is e = let r = rest e in let p = r.placed in record {
+      index = suc r.index;
+      placed = omega arith;
+      observation = r.observation;
+      there = r.there;
+      numbered = r.numbered;
+      hits = r.hits;
+    }
+
+-- the observation and the commit that the first pair is of
+record Stands (bs : List Based) (n : ℕ) (journal : Journal) (found : Found) : Type 0 where
+  observation : Based
+  commit : Commit
+  index : ℕ
+  placed : slice_get bs found.place ≡ Some observation
+  there : slice_get journal index ≡ Some commit
+  numbered : found.number ≡ n + index + 1
+  same : found.number ≡ commit.number
+  hits : hit observation commit ≡ true
+
+first-pair : (bs : List Based) (n : ℕ) (journal : Journal) (found : Found) → AreNumberedFrom n journal → slice_get (pairs bs journal) 0 ≡ Some found
+    → Stands bs n journal found
+first-pair bs n [] found numbers e = absurd (cc)
+first-pair bs n (commit ∷ journal) found numbers e = by (first-pair bs (n + 1) journal found numbers.1) (hits_from 0 bs commit) refl e
+  where
+    by : (slice_get (pairs bs journal) 0 ≡ Some found → Stands bs (n + 1) journal found) → (hs : List Found) → hits_from 0 bs commit ≡ hs
+        → slice_get (hs ++ pairs bs journal) 0 ≡ Some found → Stands bs n (commit ∷ journal) found
+    by rest [] is e = let r = rest e in let number = r.numbered in record {
+      observation = r.observation;
+      commit = r.commit;
+      index = suc r.index;
+      placed = r.placed;
+      there = r.there;
+      numbered = omega arith;
+      same = r.same;
+      hits = r.hits;
+    }
+    by rest (h ∷ hs) is e =
+        let r = first-hit 0 bs commit found (ap (λ (xs : List Found). slice_get xs 0) is ∙ e) in
+        let place = r.placed in
+        let number = r.numbered in
+        let first = numbers.0 in record {
+          observation = r.observation;
+          commit = commit;
+          index = zero;
+          placed = ap (slice_get bs) (let p : found.place ≡ r.index = omega arith in p) ∙ r.there;
+          there = refl;
+          numbered = omega arith;
+          same = r.numbered;
+          hits = r.hits;
+        }
+
+commit-there : (journal : Journal) (i n : ℕ) → n ≡ i + 1 → commit_at journal n ≡ slice_get journal i
+commit-there journal i n e = by (n == 0) refl
+  where
+    by : (t : Bool) → (n == 0) ≡ t → cond t None (slice_get journal (n - 1)) ≡ slice_get journal i
+    by true is = absurd (let none : n ≡ 0 = grind (arith, nat_tests) in omega arith)
+    by false is = ap (slice_get journal) (let same : n - 1 ≡ i = omega arith in same)
+
+-- ---- the witness of the first pair
+
+-- the least pair has a witness
+pub witness-there : (bs : List Based) (journal : Journal) (found : Found) → IsOrderly journal → AllByRecursion IsBasedOfOneKind bs
+    → least_pair bs journal ≡ Some found
+    → (witness : Witness) × (witness_of bs journal found ≡ Some witness) × IsNamed bs journal found witness
+witness-there bs journal found orderly each is =
+    let s = first-pair bs 0 journal found orderly.numbered is in
+    let number = s.numbered in
+    let there = commit-there journal s.index found.number (omega arith) ∙ s.there in
+    let kinds = each-at (λ (commit : Commit). AreOfTheirKinds commit.deltas) journal s.index s.commit orderly.kinds s.there in
+    let one = each-at IsBasedOfOneKind bs found.place s.observation each s.placed in
+    let w = witnessed-in s.observation s.commit.number s.commit.deltas one.observed kinds s.hits in
+    let in_commit = ap (option_and_then (λ commit. witness_in s.observation (changes_of commit))) there ∙ w.is in
+    let changed = w.numbered s.commit.number (numbers-of s.commit.number s.commit.deltas) in (
+      w.witness,
+      ap (option_and_then (λ b. option_and_then (λ commit. witness_in b (changes_of commit)) (commit_at journal found.number))) s.placed ∙ in_commit,
+      record {
+        observation = s.observation;
+        commit = s.commit;
+        change = w.change;
+        index = w.index;
+        placed = s.placed;
+        there = there;
+        among = w.among;
+        clashing = w.clashing;
+        names = w.names;
+        number = w.names.number ∙ changed ∙ sym s.same;
+        one_kind = w.one_kind;
+      },
+    )
+
+-- what has no witness has no pair
+pub none-of-witness : (bs : List Based) (journal : Journal) → IsOrderly journal → AllByRecursion IsBasedOfOneKind bs
+    → least_witness bs journal ≡ None → least_pair bs journal ≡ None
+none-of-witness bs journal orderly each none = by (least_pair bs journal) refl
+  where
+    by : (o : Option Found) → least_pair bs journal ≡ o → least_pair bs journal ≡ None
+    by None e = e
+    by (Some found) e =
+        let w = witness-there bs journal found orderly each e in
+        absurd (let same : None ≡ Some w.0 = sym none ∙ (ap (option_and_then (witness_of bs journal)) e ∙ w.1) in cc)
+
+-- what has a witness has a pair, which it names
+pub pair-of-witness : (bs : List Based) (journal : Journal) (witness : Witness) → IsOrderly journal → AllByRecursion IsBasedOfOneKind bs
+    → least_witness bs journal ≡ Some witness
+    → (found : Found) × (least_pair bs journal ≡ Some found) × IsNamed bs journal found witness
+pair-of-witness bs journal witness orderly each is = by (least_pair bs journal) refl
+  where
+    by : (o : Option Found) → least_pair bs journal ≡ o → (found : Found) × (least_pair bs journal ≡ Some found) × IsNamed bs journal found witness
+    by None e = absurd (let no : None ≡ Some witness = sym (ap (option_and_then (witness_of bs journal)) e) ∙ is in cc)
+    by (Some found) e =
+        let w = witness-there bs journal found orderly each e in
+        let all : Some w.0 ≡ Some witness = sym (ap (option_and_then (witness_of bs journal)) e ∙ w.1) ∙ is in
+        let same : w.0 ≡ witness = cc in
+        (found, e, subst (IsNamed bs journal found) same w.2)
