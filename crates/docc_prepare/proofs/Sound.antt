@@ -29,6 +29,7 @@ use Rattle.docc_prepare.specs.declared.attempt.Next.{Next}
 use Rattle.docc_prepare.specs.declared.attempt.Next.TheVariants as next
 use Rattle.docc_prepare.specs.Attempts.{SnapList, ran, base_in, base_at, with_base, based, in_shard, least_unprepared, next_of, next_of_run, next_event, Prepares, with_snap, with_front, SnapFits, FrontFits, FrontsFit, Fits}
 use Rattle.docc_prepare.specs.Worlds.{World, Event, Answer, CLIENTS, front_of, seen_by, attempt_of, saw, moved, holding, committed, read_for, prepare_for, append_for, observed, least_base, late_base, validated, decided, append_of, step, Held, HeldMaybe, IsSound, IsInPlace, EventsStaySound, IsOpened, MovesStaySound, FirstIsSound, Turn, first_world, turned, IsTurn, after_turns, AreTurns, EveryWorldIsSound}
+use Rattle.docc_prepare.proofs.Nexts.{needs, appends, prepares}
 use Rattle.docc_prepare.proofs.Each.{each-more, each-push}
 use Rattle.docc_prepare.proofs.Missing.{none-of-least}
 use Rattle.docc_prepare.proofs.Undisturbed.{appending_stays_legal}
@@ -134,30 +135,6 @@ committed-sound w c attempt run s legal =
       held = λ d. maybe-later w.journal (commit_of w.journal c attempt.body.source run ∷ []) w.shards w.fronts (attempt_of w d) (s.held d);
     }
 
--- ---- what the next event says of the run
-
-needs : (attempt : Attempt) (address : Address) → next_event attempt ≡ next.Read address → ran attempt ≡ need address
-needs attempt address e = by (ran attempt) refl e
-  where
-    last : (run : Run) (o : Option ℕ) → next_of_run run o ≡ next.Read address → done run ≡ need address
-    last run None e = absurd (cc)
-    last run (Some shard) e = absurd (cc)
-
-    by : (r : Ran) → ran attempt ≡ r → next_of attempt.shards attempt.fronts r ≡ next.Read address → ran attempt ≡ need address
-    by (need a) is e = let same : a ≡ address = cc in is ∙ ap (λ b. need b) same
-    by (done run) is e = is ∙ last run (least_unprepared attempt.shards attempt.fronts run.observations) e
-
-appends : (attempt : Attempt) (run : Run) → next_event attempt ≡ next.Append run → ran attempt ≡ done run
-appends attempt run e = by (ran attempt) refl e
-  where
-    last : (other : Run) (o : Option ℕ) → next_of_run other o ≡ next.Append run → done other ≡ done run
-    last other None e = let same : other ≡ run = cc in ap (λ r. done r) same
-    last other (Some shard) e = absurd (cc)
-
-    by : (r : Ran) → ran attempt ≡ r → next_of attempt.shards attempt.fronts r ≡ next.Append run → ran attempt ≡ done run
-    by (need a) is e = absurd (cc)
-    by (done other) is e = is ∙ last other (least_unprepared attempt.shards attempt.fronts other.observations) e
-
 -- ---- a read
 
 -- what holds of a pair that goes in and of all others holds of all
@@ -237,17 +214,6 @@ held-prepared journal shards fronts attempt shard run held is within clear = rec
   bases = held.bases;
   text = held.text;
 }
-
-prepares : (attempt : Attempt) (shard : ℕ) (run : Run) → next_event attempt ≡ next.Prepare shard run → ran attempt ≡ done run
-prepares attempt shard run e = by (ran attempt) refl e
-  where
-    last : (other : Run) (o : Option ℕ) → next_of_run other o ≡ next.Prepare shard run → done other ≡ done run
-    last other None e = absurd (cc)
-    last other (Some k) e = let same : other ≡ run = cc in ap (λ r. done r) same
-
-    by : (r : Ran) → ran attempt ≡ r → next_of attempt.shards attempt.fronts r ≡ next.Prepare shard run → ran attempt ≡ done run
-    by (need a) is e = absurd (cc)
-    by (done other) is e = is ∙ last other (least_unprepared attempt.shards attempt.fronts other.observations) e
 
 -- ---- the events
 

@@ -1,5 +1,5 @@
 -- The store of one thread, behind each client's backend: each call of a client is one step of it, which gives an answer.
-use Rattle.std.specs.Prelude.{◌≡◌, ◌≢◌, ℕ, ◌+◌, ◌-◌, ◌≤◌, ◌<◌, ◌==◌, Bool, true, false, ◌&&◌, min, max, nat_lt, nat_le, if◌then◌else◌, List, [], ◌∷◌, ◌++◌, filter, length, take, get_or, set, replicate, Option, Some, None, IfSome}
+use Rattle.std.specs.Prelude.{◌≡◌, ◌≢◌, ℕ, ◌+◌, ◌-◌, ◌≤◌, ◌<◌, ◌==◌, Bool, true, false, ◌&&◌, max, nat_lt, nat_le, if◌then◌else◌, List, [], ◌∷◌, ◌++◌, filter, length, take, get_or, set, replicate, Option, Some, None, IfSome}
 use Rattle.std.specs.BTreeMap.{is_at}
 use Rattle.std.specs.Option.{option_and_then}
 use Rattle.rdt_types.specs.declared.address.Address.{Address}
@@ -16,6 +16,7 @@ use Rattle.journal_core.specs.declared.ready.Ready.{Ready}
 use Rattle.journal_core.specs.Changes.{changes, between}
 use Rattle.journal_core.specs.Pairs.{least_pair, past_fronts}
 use Rattle.journal_core.specs.Readies.{made_of}
+use Rattle.docc_prepare.specs.Attempts.{lesser}
 use Rattle.docc_prepare.specs.Witnesses.{witness_of, least_witness}
 use Rattle.docc_prepare.specs.Calls.{Known, Call, Answer}
 use Rattle.docc_prepare.specs.Backends.{CanCall, IsAnswered, IsLater, IsSameClient, KeepsGiven}
@@ -86,7 +87,7 @@ read_at_front s client address front =
 -- the least base, if there is one
 abbrev pub least_base : List Based → Option ℕ
 least_base [] = None
-least_base (b ∷ rest) = elim (least_base rest) as (λ _. Option ℕ) [ None ↦ Some b.base | Some other ↦ Some (min b.base other) ]
+least_base (b ∷ rest) = Some (lesser b.base (least_base rest))
 
 -- the least base, where it is below the horizon
 abbrev pub late_base : ℕ → Option ℕ → Option ℕ
@@ -101,9 +102,10 @@ validated shard front horizon None None = Answer.prepared (record { shard = shar
 
 -- a preparing moves no front
 abbrev pub prepare_at : Store → ℕ → ℕ → List Based → ℕ → Store × Answer
-prepare_at s client shard based front =
-    (saw s client (max (seen_by s client) front),
-    validated shard front (front - s.window) (late_base (front - s.window) (least_base based)) (least_witness based (take front s.journal)))
+prepare_at s client shard based front = (
+  saw s client (max (seen_by s client) front),
+  validated shard front (front - s.window) (late_base (front - s.window) (least_base based)) (least_witness based (take front s.journal)),
+)
 
 -- a pair past the prepared fronts, if there is one
 abbrev pub found_past : Store → Ready → Option Found
@@ -124,9 +126,10 @@ append_to s client ready = decided s client ready (witness_past s ready) (nat_le
 
 -- a read at a number lets its shard follow to it
 abbrev pub read_back : Store → Address → ℕ → ℕ → Store × Answer
-read_back s address number front =
-    (moved s (shard_of address s.shards) front,
-    if nat_lt number (front - s.window) then Answer.late number (front - s.window) else Answer.value (state s.journal number address))
+read_back s address number front = (
+  moved s (shard_of address s.shards) front,
+  if nat_lt number (front - s.window) then Answer.late number (front - s.window) else Answer.value (state s.journal number address),
+)
 
 -- what changed at the addresses that are told to a client, since it took last
 abbrev pub feed_for : Store → ℕ → Fed
