@@ -176,7 +176,7 @@ all_past m n (commit ∷ rest) order numbered =
     (all_past m (n + 1) rest (omega (arith, order)) numbered.1)
 
 -- the changes up to a number are those of so many commits
-changes-up_to : (m n t : ℕ) (journal : Journal) → m ≡ n + t → AreNumberedFrom n journal → up_to m (changes journal) ≡ changes (take t journal)
+pub changes-up_to : (m n t : ℕ) (journal : Journal) → m ≡ n + t → AreNumberedFrom n journal → up_to m (changes journal) ≡ changes (take t journal)
 changes-up_to m n zero [] is numbered = refl
 changes-up_to m n (suc t) [] is numbered = refl
 changes-up_to m n zero (commit ∷ rest) is numbered = none_up_to m n (commit ∷ rest) (omega (arith, is)) numbered
