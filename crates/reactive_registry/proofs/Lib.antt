@@ -7,3 +7,4 @@ pub mod GoingOn
 pub mod Undone
 pub mod Clients
 pub mod Told
+pub mod Coming

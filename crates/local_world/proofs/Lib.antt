@@ -1,0 +1,6 @@
+pub mod Awaited
+pub mod Holding
+pub mod SamePairs
+pub mod Registries
+pub mod Naming
+pub mod Going

@@ -1,0 +1,4 @@
+pub mod Stored
+pub mod Standing
+pub mod Answering
+pub mod Deciding
