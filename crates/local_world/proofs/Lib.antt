@@ -1,6 +1,0 @@
-pub mod Awaited
-pub mod Holding
-pub mod SamePairs
-pub mod Registries
-pub mod Naming
-pub mod Going

@@ -1,4 +1,0 @@
-pub mod Stored
-pub mod Standing
-pub mod Answering
-pub mod Deciding
