@@ -1,5 +1,5 @@
 -- The least hit among a shard's versions is the least pair of a journal for which the shard holds.
-use Rattle.std.proofs.Common.{◌≡◌, ℕ, ◌+◌, ◌-◌, ◌≤◌, zero, suc, Bool, true, false, cond, ◌&&◌, nat_lt, List, [], ◌∷◌, filter, map, length, slice_get, Option, Some, None, option_map, refl, sym, ap, ◌∙◌, subst, arith}
+use Rattle.std.proofs.Common.{◌≡◌, ℕ, ◌+◌, ◌-◌, ◌≤◌, suc, Bool, true, false, cond, ◌&&◌, nat_lt, List, [], ◌∷◌, filter, length, slice_get, Option, Some, None, option_map, refl, sym, ap, ◌∙◌, subst, arith}
 use Rattle.std.proofs.lemmas.List.{length-map}
 use Rattle.std.specs.List.{AllByRecursion}
 use Rattle.std.specs.BTreeMap.{is_at}
@@ -23,7 +23,7 @@ use Rattle.journal_core.specs.Changes.{changes, of_address}
 use Rattle.journal_core.specs.Pairs as counted
 use Rattle.version_shard.specs.declared.version.Version.{Version}
 use Rattle.version_shard.specs.Versions.{past, as_changes}
-use Rattle.version_shard.specs.Shards.{Kept, Sharded, horizon, IsIn, versions_of, SuitsVersion, AreKept}
+use Rattle.version_shard.specs.Shards.{Kept, Sharded, horizon, IsIn, versions_of, AreKept}
 use Rattle.version_shard.specs.Standing.{Holds}
 use Rattle.version_shard.specs.code.Clashing.{first_clashing, clashing_in, Hit, hit_by, IsClash, lesser, least_hit, steps_at, most_steps}
 use Rattle.version_shard.proofs.Stepping.{all-filter, all-more}

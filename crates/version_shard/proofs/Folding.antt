@@ -1,11 +1,10 @@
 -- The values that a journal leaves are those that its changes leave, one by one.
-use Rattle.std.proofs.Common.{◌≡◌, ℕ, ◌+◌, ◌-◌, ◌≤◌, zero, suc, Bool, true, false, cond, nat_le, nat_lt, List, [], ◌∷◌, ◌++◌, map, filter, fold, take, drop, length, Some, None, refl, sym, ap, ◌∙◌, subst, arith, append-nil}
+use Rattle.std.proofs.Common.{◌≡◌, ℕ, ◌≤◌, zero, suc, Bool, true, false, cond, nat_le, nat_lt, List, [], ◌∷◌, ◌++◌, fold, take, Some, None, refl, sym, ap, ◌∙◌, subst, arith}
 use Rattle.std.specs.List.{AllByRecursion}
 use Rattle.std.specs.List.Sorted.{IsStrictlySortedBy}
-use Rattle.std.specs.Map.{lookup, keys_of}
+use Rattle.std.specs.Map.{keys_of}
 use Rattle.std.specs.BTreeMap.{is_at}
-use Rattle.std.specs.Ordering.{is_eq}
-use Rattle.std.specs.declared.cmp.Ordering.TheVariants.{Less, Equal}
+use Rattle.std.specs.declared.cmp.Ordering.TheVariants.{Less}
 use Rattle.std.proofs.lemmas.List.Elements.{filter-append}
 use Rattle.plain_data.proofs.Entries.{equal}
 use Rattle.rdt_types.specs.declared.address.Address.{Address}
@@ -17,10 +16,9 @@ use Rattle.rdt_types.specs.Shards.{shard_of}
 use Rattle.rdt_types.specs.Values.{default_of}
 use Rattle.rdt_types.proofs.Addresses.{address_cmp-equal}
 use Rattle.change_feed.specs.declared.change.Change.{Change}
-use Rattle.txn_lang.specs.declared.commit.Commit.{Commit}
-use Rattle.txn_lang.specs.States.{Journal, apply_maybe, after, left_by, state}
+use Rattle.txn_lang.specs.States.{Journal, apply_maybe, after, state}
 use Rattle.journal_core.specs.Changes.{changes_by, changes_of, changes, past, up_to, between, of_shard, of_address}
-use Rattle.journal_core.specs.Pairs.{AreNumberedFrom, AreNumbered}
+use Rattle.journal_core.specs.Pairs.{AreNumbered}
 use Rattle.journal_core.specs.Rising.{Rises}
 use Rattle.journal_core.proofs.ByShard.{changes-up_to, numbered-take, of_address-in_shard}
 use Rattle.journal_core.proofs.Rising.{changes-rise}

@@ -1,5 +1,5 @@
 -- What a shard goes on standing for.
-use Rattle.std.proofs.Common.{◌≡◌, ℕ, ◌+◌, ◌-◌, ◌≤◌, zero, suc, nat_le, nat_lt, List, [], ◌∷◌, ◌++◌, take, drop, length, refl, sym, ap, ◌∙◌, subst, arith, append-nil, length-take-le}
+use Rattle.std.proofs.Common.{◌≡◌, ℕ, ◌+◌, ◌-◌, ◌≤◌, zero, suc, nat_le, nat_lt, List, [], ◌∷◌, ◌++◌, take, drop, refl, sym, ap, ◌∙◌, subst, arith, append-nil, length-take-le}
 use Rattle.std.specs.List.{AllByRecursion}
 use Rattle.std.specs.BTreeMap.{is_at}
 use Rattle.std.proofs.lemmas.List.{take-append-drop}
@@ -11,7 +11,7 @@ use Rattle.rdt_types.specs.Values.{default_of}
 use Rattle.change_feed.specs.declared.change.Change.{Change}
 use Rattle.change_feed.specs.declared.tail.Tail.{Tail}
 use Rattle.txn_lang.specs.States.{Journal, left_by}
-use Rattle.journal_core.specs.Changes.{changes, past, up_to, between, of_shard, of_address}
+use Rattle.journal_core.specs.Changes.{changes, up_to, between, of_shard, of_address}
 use Rattle.version_shard.specs.declared.version.Version.{Version}
 use Rattle.version_shard.specs.Versions as versions
 use Rattle.version_shard.specs.Versions.{Versioned, value_after}
@@ -85,11 +85,11 @@ module _ (journal : Journal) (old new : Sharded) (tail : Tail) (kept : AreKept o
       let some = take reaches.count tail.changes in
       let rises = rising-first old.front reaches.count tail.changes (subst (λ n. Rising n tail.changes) next.exact.begins (tail-rising tail.from tail.to tail.changes tail.in_order)) in
       let near = all-more (λ (c : Change). c.number ≤ new.front + 1) (λ (c : Change). horizon_at old.window (c.number - 1) ≤ horizon new) some
-          (λ c le. let w = alike.window in omega (arith, le, w)) reaches.near in
+      (λ c le. let w = alike.window in omega (arith, le, w)) reaches.near in
       let first = stands-later a (horizon old) (horizon new) (default_of a.kind) own (versions_of old.kept a)
-          (stands (take old.front journal) old kept holds a here) later in
+      (stands (take old.front journal) old kept holds a here) later in
       let second = along-stands a old.window (horizon new) (default_of a.kind) old.front some own (versions_of old.kept a) first rises
-          (first-up_to journal old.front a next.readable) near in
+      (first-up_to journal old.front a next.readable) near in
       let third = cut-stands a (horizon new) new.front (default_of a.kind) (own ++ of_address a some) (followed_along old.window a some (versions_of old.kept a)) second (omega arith) in
       subst (λ (v : Versioned). Stands a (horizon new) (default_of a.kind) (of_address a (changes (take new.front journal))) v) (sym (reaches.versions a))
       (subst (λ (l : List Change). Stands a (horizon new) (default_of a.kind) l (versions.up_to new.front (followed_along old.window a some (versions_of old.kept a))))

@@ -1,6 +1,6 @@
 -- What stands at each address after a call on the map, and after a tail.
-use Rattle.std.proofs.Common.{◌≡◌, ℕ, ◌+◌, ◌-◌, ◌<◌, ◌≤◌, zero, suc, Bool, true, false, cond, List, [], ◌∷◌, length, take, drop, get_or, Option, Some, None, unwrap_or, Result, Ok, Err, OnOk, OnErr, is_err, refl, sym, ap, ◌∙◌, subst, arith}
-use Rattle.std.specs.List.{All, AllByRecursion}
+use Rattle.std.proofs.Common.{◌≡◌, ℕ, ◌-◌, ◌<◌, ◌≤◌, zero, suc, Bool, true, false, cond, List, [], ◌∷◌, length, take, drop, get_or, Some, None, unwrap_or, Result, Ok, Err, OnOk, OnErr, is_err, refl, sym, ap, ◌∙◌, subst, arith}
+use Rattle.std.specs.List.{AllByRecursion}
 use Rattle.std.specs.List.Sorted.{IsNonDecreasingBy}
 use Rattle.std.specs.Map.{lookup}
 use Rattle.std.specs.BTreeMap.{is_at}
@@ -100,7 +100,7 @@ rising-from m [] low order = tt
 rising-from m (x ∷ xs) low order = (
   low 0 x (omega arith),
   rising-from x.number xs (λ k d within. order 0 (suc k) d (omega arith) (omega (arith, within)))
-  (λ i j d le within. order (suc i) (suc j) d (omega (arith, le)) (omega (arith, within))),
+      (λ i j d le within. order (suc i) (suc j) d (omega (arith, le)) (omega (arith, within))),
 )
 
 -- the changes of a tail are in order, and within it

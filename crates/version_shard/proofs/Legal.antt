@@ -1,5 +1,5 @@
 -- Legal journals can be read change by change.
-use Rattle.std.proofs.Common.{◌≡◌, ℕ, ◌+◌, ◌==◌, nat_le, nat_lt, List, [], ◌∷◌, ◌++◌, fold, map, filter, length, refl, sym, ap, ◌∙◌, subst, arith, length-append}
+use Rattle.std.proofs.Common.{◌≡◌, ℕ, ◌==◌, nat_le, nat_lt, [], ◌∷◌, ◌++◌, fold, length, sym, subst, arith, length-append}
 use Rattle.std.specs.List.{AllByRecursion}
 use Rattle.std.specs.List.Sorted.{IsStrictlySortedBy}
 use Rattle.std.specs.Map.{keys_of}
@@ -16,13 +16,13 @@ use Rattle.txn_trees.specs.declared.statement.Body.{Body}
 use Rattle.txn_lang.specs.declared.commit.Commit.{Commit}
 use Rattle.txn_lang.specs.declared.progress.Stop.TheVariants as stop
 use Rattle.txn_lang.specs.declared.run.Run.{Run}
-use Rattle.txn_lang.specs.Own.{Operations, deltas_of}
+use Rattle.txn_lang.specs.Own.{Operations}
 use Rattle.txn_lang.specs.States.{Journal, PartialState, known, left_by}
 use Rattle.txn_lang.specs.Items.{Names}
 use Rattle.txn_lang.specs.Steps.{Step, stopped, gives}
 use Rattle.txn_lang.specs.Execution.{Own, Ran, need, done, ended, own_run, exec}
-use Rattle.txn_lang.specs.Journals.{MayFollow, IsRunAfter, IsLegal}
-use Rattle.journal_core.specs.Changes.{changes_by, changes_of, changes, past, up_to, between, of_shard}
+use Rattle.txn_lang.specs.Journals.{MayFollow, IsRunAfter}
+use Rattle.journal_core.specs.Changes.{changes_by, changes_of, changes, up_to, between}
 use Rattle.journal_core.specs.Pairs.{AreNumberedFrom}
 use Rattle.version_shard.specs.Laws.{LegalIsReadable, TailsAreOfTheirKinds}
 use Rattle.version_shard.proofs.Stepping.{all-filter, all-append}

@@ -1,5 +1,5 @@
 -- What a shard answers of a journal for which it holds.
-use Rattle.std.proofs.Common.{◌≡◌, ℕ, ◌-◌, ◌≤◌, List, slice_get, Option, Some, None, IsSome, is_some, refl, sym, ap, ◌∙◌, subst, arith}
+use Rattle.std.proofs.Common.{◌≡◌, ◌-◌, List, slice_get, Option, Some, None, IsSome, refl, sym, ap, ◌∙◌, subst, arith}
 use Rattle.std.specs.List.{AllByRecursion}
 use Rattle.abort_witness.specs.declared.witness.Based.{Based}
 use Rattle.abort_witness.specs.declared.witness.Found.{Found}

@@ -52,7 +52,9 @@ impl Versions {
     pub fn at(&self, number: u64) -> &Value
         ensures { result.now ≡ spec.value_at self.now number }
     {
-        let place = self.later.partition_point(|version| version.number <= number);
+        let place = self
+            .later
+            .partition_point(|version| version.number <= number);
         if place == 0 {
             return &self.base;
         }
@@ -107,7 +109,9 @@ impl Versions {
     pub fn cut(&mut self, number: u64)
         ensures { self.new ≡ spec.up_to number self.old }
     {
-        let count = self.later.partition_point(|version| version.number <= number);
+        let count = self
+            .later
+            .partition_point(|version| version.number <= number);
         self.later.truncate(count);
     }
 
@@ -145,7 +149,9 @@ impl Versions {
         ensures first { option_copied result ≡ first_clashing based.now.obs (spec.past based.now.base self.now.later) }
         ensures steps { steps.new ≤ steps.old + length (spec.past based.now.base self.now.later) }
     {
-        let from = self.later.partition_point(|version| version.number <= based.base);
+        let from = self
+            .later
+            .partition_point(|version| version.number <= based.base);
         for version in self.later.range(from..) {
             if clash(&based.obs, &version.delta, steps) {
                 return Some(version);

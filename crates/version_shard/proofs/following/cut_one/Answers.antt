@@ -1,6 +1,6 @@
 use Rattle.std.proofs.Common.{Option, unwrap_or, is_some, sym, ap, ◌∙◌}
 use Rattle.version_shard.specs.Versions.{Versioned, up_to}
-use Rattle.version_shard.specs.Shards.{Kept, unchanged, versions_of}
+use Rattle.version_shard.specs.Shards.{unchanged, versions_of}
 use Rattle.version_shard.proofs.Keeping.{put_one, cut_nowhere}
 use Rattle.version_shard.proofs.following.cut_one.Goals as goal
 

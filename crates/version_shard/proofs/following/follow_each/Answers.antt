@@ -1,4 +1,4 @@
-use Rattle.std.proofs.Common.{◌≡◌, ◌<◌, length, get_or, List, sym, ap, ◌∙◌, subst}
+use Rattle.std.proofs.Common.{◌<◌, length, get_or, List, sym, ap, ◌∙◌, subst}
 use Rattle.change_feed.specs.declared.change.Change.{Change}
 use Rattle.version_shard.proofs.Keeping.{up_to-next, stops, at_err}
 use Rattle.version_shard.proofs.following.follow_each.Goals as goal

@@ -1,9 +1,9 @@
-use Rattle.std.proofs.Common.{◌-◌, cond, Option, Some, unwrap_or, is_some, sym, ap, ◌∙◌}
+use Rattle.std.proofs.Common.{cond, Option, Some, unwrap_or, is_some, sym, ap, ◌∙◌}
 use Rattle.std.specs.BTreeMap.{get, is_at}
 use Rattle.rdt_types.specs.Addresses.{address_cmp}
 use Rattle.rdt_types.specs.declared.value.Value.{Value}
 use Rattle.version_shard.specs.Versions.{Versioned, changed, trimmed, unversioned}
-use Rattle.version_shard.specs.Shards.{horizon_at, unchanged, versions_of}
+use Rattle.version_shard.specs.Shards.{horizon_at, unchanged}
 use Rattle.version_shard.specs.code.Following.{followed}
 use Rattle.version_shard.proofs.Keeping.{on_ok, on_err, put_one, put_back}
 use Rattle.version_shard.proofs.following.follow_one.Goals as goal

@@ -1,4 +1,4 @@
-use Rattle.std.proofs.Common.{◌≤◌, ◌-◌, List, sym, ap, ◌∙◌, arith}
+use Rattle.std.proofs.Common.{◌-◌, List, ap, ◌∙◌, arith}
 use Rattle.change_feed.specs.declared.change.Change.{Change}
 use Rattle.version_shard.specs.Shards.{versions_of}
 use Rattle.version_shard.specs.code.Following.{cut_along}

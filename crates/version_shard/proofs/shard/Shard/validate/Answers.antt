@@ -1,8 +1,7 @@
-use Rattle.std.proofs.Common.{◌≡◌, ◌≤◌, ◌+◌, Some, None, refl, sym, ap, ◌∙◌, subst, arith}
+use Rattle.std.proofs.Common.{◌≡◌, Some, None, sym, ap, ◌∙◌, subst, arith}
 use Rattle.std.proofs.lemmas.Result.{err_from_is_err_and}
-use Rattle.abort_witness.specs.declared.witness.Based.{Based}
 use Rattle.version_shard.specs.Bases.{least_base, late_base}
-use Rattle.version_shard.specs.Shards.{Sharded, Kept, horizon}
+use Rattle.version_shard.specs.Shards.{Sharded, horizon}
 use Rattle.version_shard.specs.Validating.{late}
 use Rattle.version_shard.specs.code.Clashing.{Hit, IsClash, least_hit, most_steps}
 use Rattle.version_shard.proofs.Bases.{in_time}

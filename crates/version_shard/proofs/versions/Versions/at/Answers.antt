@@ -1,4 +1,4 @@
-use Rattle.std.proofs.Common.{◌≡◌, ◌-◌, nat_le, suc, filter, take, sym, ap, ◌∙◌, rules, arith}
+use Rattle.std.proofs.Common.{◌≡◌, ◌-◌, nat_le, suc, take, sym, ap, ◌∙◌, rules, arith}
 use Rattle.std.proofs.lemmas.List.Sorted.{IsPartitionedBy-leb, IsPartitionPoint-from_clause}
 use Rattle.journal_core.proofs.Rising.{filter-front}
 use Rattle.version_shard.specs.declared.version.Version.{Version}
