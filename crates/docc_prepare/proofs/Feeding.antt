@@ -17,7 +17,7 @@ use Rattle.txn_lang.specs.States.{Journal}
 use Rattle.journal_core.specs.Changes.{changes_by, changes}
 use Rattle.docc_prepare.specs.Serial.{AreOfTheirKinds}
 use Rattle.docc_prepare.proofs.Each.{each-append}
-use Rattle.docc_prepare.proofs.OfOneKind.{kinds-with}
+use Rattle.journal_core.proofs.OfRuns.{kinds-with}
 
 -- ---- by addresses
 

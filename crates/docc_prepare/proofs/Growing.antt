@@ -15,7 +15,7 @@ use Rattle.journal_core.specs.Pairs.{pairs, AreNumberedFrom}
 use Rattle.docc_prepare.specs.Attempts.{ran, SnapFits, FrontFits, FrontsFit}
 use Rattle.docc_prepare.specs.Serial.{AreOfTheirKinds, FitsStays, LegalIsOrderly}
 use Rattle.docc_prepare.proofs.Each.{each-more}
-use Rattle.docc_prepare.proofs.OfOneKind.{kinds-of-run}
+use Rattle.journal_core.proofs.OfRuns.{kinds-of-run}
 
 -- ---- what fits
 

@@ -44,7 +44,8 @@ use Rattle.docc_prepare.specs.declared.attempt.Attempt.{Attempt}
 use Rattle.docc_prepare.specs.Attempts.{SnapList, ran, base_in, with_base, based, SnapFits, Fits}
 use Rattle.docc_prepare.specs.Serial.{AreOfTheirKinds, IsOrderly, RunsAsItRan, AppendingStaysLegal}
 use Rattle.docc_prepare.proofs.Each.{each-take, each-column}
-use Rattle.docc_prepare.proofs.OfOneKind.{kind-at, kind-left}
+use Rattle.journal_core.proofs.OfRuns.{kind-at}
+use Rattle.docc_prepare.proofs.OfOneKind.{kind-left}
 use Rattle.docc_prepare.proofs.Missing.{Misses, misses-of-pairs}
 
 -- ---- one delta

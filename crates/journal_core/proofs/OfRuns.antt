@@ -56,7 +56,7 @@ kinds-inserted (e ∷ es) a d is all = by (kinds-inserted es a d is all.1) (addr
     by rest Equal at = (is ∙ ap (λ b. b.kind) (address_cmp-equal a e.0 at), all.1)
     by rest Greater at = (all.0, rest)
 
-kinds-with : (ds : Deltas) (a : Address) (d : Delta) → kind_changed d ≡ a.kind → AreOfTheirKinds ds → AreOfTheirKinds (with_delta ds a d)
+pub kinds-with : (ds : Deltas) (a : Address) (d : Delta) → kind_changed d ≡ a.kind → AreOfTheirKinds ds → AreOfTheirKinds (with_delta ds a d)
 kinds-with ds a d is all = kinds-inserted ds a (after_maybe (delta_at ds a) d) (kind-after (delta_at ds a) d ∙ is) all
 
 kinds-of-deltas : (own : Operations) (ds : Deltas) → owns.AreOfTheirKinds own → AreOfTheirKinds ds

@@ -160,7 +160,8 @@ fn push_ran(
     number: u64,
     outcome: &Outcome,
 ) -> Result<(), AllocError>
-    ensures { OnOk result (out.new ≡ out.old ++ spec.worded ReplyWord.Run (name.now ++ (codes " " ++ (decimal number ++ (codes " " ++ printed_outcome outcome.now))))) }
+    ensures { OnOk result (out.new ≡ out.old
+        ++ spec.worded ReplyWord.Run (name.now ++ (codes " " ++ (decimal number ++ (codes " " ++ printed_outcome outcome.now))))) }
 {
     out.extend_from_slice(ReplyWord::Run.bytes())?;
     out.extend_from_slice(b" ")?;

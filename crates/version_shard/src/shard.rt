@@ -103,7 +103,8 @@ impl Shard {
         ensures reached { OnOk result (self.new.front ≡ tail.now.to) }
         ensures never_back { self.old.front ≤ self.new.front }
         ensures within { self.new.front ≤ tail.now.to }
-        ensures holds { (journal : Journal) → IsNext journal self.old tail.now → Holds (take self.old.front journal) self.old → Holds (take self.new.front journal) self.new }
+        ensures holds { (journal : Journal) → IsNext journal self.old tail.now → Holds (take self.old.front journal) self.old
+            → Holds (take self.new.front journal) self.new }
     {
         match reach(&mut self.kept, self.alloc, tail, self.window) {
             Ok(()) => {
