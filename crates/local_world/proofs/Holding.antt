@@ -1,19 +1,28 @@
 -- A shard that follows the journal goes on holding it, and so do the others.
-use Rattle.std.proofs.Common.{◌≡◌, ℕ, zero, suc, ◌+◌, ◌≤◌, ◌<◌, max, List, [], ◌∷◌, ◌++◌, length, take, map, get_or, set, Some, Result, Ok, Err, OnOk, inl, inr, refl, sym, ap, ◌∙◌, subst, arith}
-use Rattle.std.specs.Prelude.{◌⊎◌, slice_get}
-use Rattle.std.proofs.lemmas.List.{take-append-le, length-append, length-set}
+use Rattle.std.proofs.Common.{◌≡◌, ℕ, zero, suc, ◌+◌, ◌≤◌, ◌<◌, max, List, [], ◌∷◌, ◌++◌, length, take, map, get_or, set, Some, Result, Ok, Err, OnOk, IfOk, Bool, true, false, cond, ◌-◌, inl, inr, refl, sym, ap, ◌∙◌, subst, arith}
+use Rattle.std.specs.Prelude.{◌⊎◌, slice_get, nat_lt}
+use Rattle.std.proofs.lemmas.List.{take-append-le, length-append, length-set, get_or-set_same}
+use Rattle.std.proofs.lemmas.Bool.Decides.{nat_tests}
 use Rattle.std.proofs.lemmas.Option.{slice_get_read}
 use Rattle.rdt_types.specs.declared.address.Address.{Address}
+use Rattle.rdt_types.specs.declared.value.Value.{Value}
+use Rattle.rdt_types.specs.Shards.{shard_of}
+use Rattle.rdt_types.specs.declared.limits.TheConstants.{LEAST_SHARDS}
 use Rattle.rdt_types.specs.declared.settings.Settings.{Settings}
 use Rattle.change_feed.specs.declared.change.Change.{Change}
 use Rattle.change_feed.specs.declared.tail.Tail.{Tail}
 use Rattle.change_feed.specs.Feeds.{AreOfTheirKinds}
+use Rattle.txn_lang.specs.declared.snaps.Snap.{Snap}
 use Rattle.txn_lang.specs.States.{Journal, state, left_by}
 use Rattle.txn_lang.specs.Journals.{IsLegal}
 use Rattle.journal_core.specs.Changes.{changes, between, of_shard}
 use Rattle.journal_core.specs.Tails.{HasAll}
-use Rattle.version_shard.specs.Shards.{Sharded}
+use Rattle.version_shard.specs.Shards.{Sharded, IsIn}
+use Rattle.version_shard.specs.Validating.{ReadsAt}
+use Rattle.version_shard.specs.declared.at_error.AtError.TheVariants as at_error
 use Rattle.version_shard.specs.Standing.{Holds, IsNext}
+use Rattle.docc_prepare.specs.Calls.{Answer}
+use Rattle.local_world.specs.Answering.{back_at}
 use Rattle.docc_prepare.proofs.Growing.{legal_is_orderly}
 use Rattle.docc_prepare.proofs.Stored.{kept, rises}
 use Rattle.local_world.specs.Standing.{IsHeld, AreHeld, HaveRisen, fronts_of}
@@ -156,3 +165,80 @@ state-first journal n front address within = ap (λ (first : Journal). left_by f
     take-shorter zero (suc front) (c ∷ j) within = refl
     take-shorter (suc n) (suc front) [] within = refl
     take-shorter (suc n) (suc front) (c ∷ j) within = ap (λ rest. c ∷ rest) (take-shorter n front j (omega arith))
+
+-- ---- a read in a shard
+
+if_ok : {V E : Type 0} (r : Result V E) (P Q : V → Type 0) → ((v : V) → P v → Q v) → IfOk r P → IfOk r Q
+if_ok (Ok v) P Q f p = f v p
+if_ok (Err e) P Q f p = tt
+
+if_both : {V E : Type 0} (r : Result V E) (P Q R : V → Type 0) → ((v : V) → P v → Q v → R v) → IfOk r P → IfOk r Q → IfOk r R
+if_both (Ok v) P Q R f p q = f v p q
+if_both (Err e) P Q R f p q = tt
+
+length-fronts : (shards : List Sharded) → length (fronts_of shards) ≡ length shards
+length-fronts [] = refl
+length-fronts (s ∷ shards) = ap suc (length-fronts shards)
+
+-- the shard of an address has followed to a number
+module _ (journal : Journal) (settings : Settings) (before after : List Sharded) (first : AreHeld journal settings before) (held : AreHeld journal settings after)
+    (place seen : ℕ) (address : Address) (here : place ≡ shard_of address settings.shards) (below : place < settings.shards)
+    (moved : fronts_of after ≡ set (fronts_of before) place (max (get_or (fronts_of before) place 0) seen)) (s : Sharded) (at : s ≡ get_or after place s) where
+  abbrev top : ℕ
+  top = max (get_or (fronts_of before) (shard_of address settings.shards) 0) seen
+
+  its : IsHeld journal settings place s
+  its = held-there journal settings after held place s below at
+
+  pub is-in : IsIn s address
+  is-in = ap (shard_of address) its.shards ∙ sym here ∙ sym its.number
+
+  pub reached-top : s.front ≡ top
+  reached-top =
+      let within : place < length (fronts_of before) = let l = length-fronts before in let m = first.as_many in omega arith in
+      sym (front-at after place s (shard-there journal settings after held place s below at))
+      ∙ ap (λ (ns : List ℕ). get_or ns place 0) moved
+      ∙ get_or-set_same (fronts_of before) place (max (get_or (fronts_of before) place 0) seen) 0 within
+      ∙ ap (λ (k : ℕ). max (get_or (fronts_of before) k 0) seen) here
+
+  pub moved-top : fronts_of after ≡ set (fronts_of before) (shard_of address settings.shards) top
+  moved-top = moved ∙ ap (λ (k : ℕ). set (fronts_of before) k (max (get_or (fronts_of before) k 0) seen)) here
+
+  module _ {E : Type 0} (r : Result Snap E) (base : IfOk r (λ snap. snap.base ≡ s.front)) where
+    pub read-base : IfOk r (λ snap. snap.base ≡ top)
+    read-base = if_ok r (λ snap. snap.base ≡ s.front) (λ snap. snap.base ≡ top) (λ snap e. e ∙ reached-top) base
+
+    pub read-moved : IfOk r (λ snap. fronts_of after ≡ set (fronts_of before) (shard_of address settings.shards) snap.base)
+    read-moved =
+        if_ok r (λ snap. snap.base ≡ s.front) (λ snap. fronts_of after ≡ set (fronts_of before) (shard_of address settings.shards) snap.base)
+        (λ snap e. moved-top ∙ ap (set (fronts_of before) (shard_of address settings.shards)) (sym (e ∙ reached-top))) base
+
+    pub read-value : ((first : Journal) → Holds first s → IfOk r (λ snap. snap.value ≡ state first s.front address)) → IfOk r (λ snap. snap.value ≡ state journal snap.base address)
+    read-value values =
+        if_both r (λ snap. snap.base ≡ s.front) (λ snap. snap.value ≡ state (take s.front journal) s.front address) (λ snap. snap.value ≡ state journal snap.base address)
+        (λ snap e v. v ∙ state-first journal s.front s.front address (omega arith) ∙ ap (λ (n : ℕ). state journal n address) (sym e)) base (values (take s.front journal) its.holds)
+
+  -- a read at a number that isn't past the front
+  pub back-value : (value : Value) → ReadsAt (take s.front journal) s address seen (Ok value) → Answer.value value ≡ back_at journal settings.window address seen top
+  back-value value reads =
+      let f = reached-top in
+      let w = its.window in
+      let h = reads.0 in
+      let no : nat_lt seen (top - settings.window) ≡ false = grind (arith, nat_tests) in
+      ap (λ v. Answer.value v) (reads.1 ∙ state-first journal seen s.front address (omega arith))
+      ∙ sym (ap (λ b. cond b (Answer.late seen (top - settings.window)) (Answer.value (state journal seen address))) no)
+
+  pub back-late : (asked horizon : ℕ) → ReadsAt (take s.front journal) s address seen (Err (at_error.Late asked horizon))
+      → Answer.late asked horizon ≡ back_at journal settings.window address seen top
+  back-late asked horizon reads =
+      let f = reached-top in
+      let w = its.window in
+      let h = reads.0 in
+      let yes : nat_lt seen (top - settings.window) ≡ true = grind (arith, nat_tests) in
+      let same : horizon ≡ top - settings.window = let e = reads.2 in omega arith in
+      ap (λ (n : ℕ). Answer.late n horizon) reads.1 ∙ ap (Answer.late seen) same
+      ∙ sym (ap (λ b. cond b (Answer.late seen (top - settings.window)) (Answer.value (state journal seen address))) yes)
+
+-- the place of an address is that of a shard
+pub place-below : (settings : Settings) (address : Address) (place : ℕ) → place ≡ shard_of address settings.shards → place < settings.shards
+place-below settings address place here = let some : LEAST_SHARDS ≤ settings.shards = settings.shards_in_range.0 in omega arith

@@ -20,7 +20,7 @@ use Rattle.plain_data.proofs.Entries.{equal, sorted-insert_entry}
 use Rattle.rdt_types.specs.declared.address.Address.{Address}
 use Rattle.rdt_types.specs.declared.delta.Delta.{Delta}
 use Rattle.rdt_types.specs.Addresses.{address_cmp}
-use Rattle.rdt_types.specs.DeltaMaps.{Deltas, delta_at, after_maybe}
+use Rattle.rdt_types.specs.DeltaMaps.{Deltas, delta_at, after_maybe, with_delta}
 use Rattle.rdt_types.specs.contracts.address.AddressOrd.TheImpl.Laws as addresses
 use Rattle.rdt_types.proofs.Addresses.{address_cmp-equal}
 use Rattle.change_feed.specs.declared.change.Change.{Change}
@@ -85,7 +85,7 @@ same_test m n = by (is_at (nat_cmp m) n) (n == m) refl refl
 
 -- what is kept of one that is entered
 kept-there : (o : Option Kept) → IsSome o → (kept : Kept) × (o ≡ Some kept)
-kept-there None there = absurd there
+kept-there None there = absurd (let no : false ≡ true = there in cc)
 kept-there (Some kept) there = (kept, refl)
 
 some-mapped : {A B : Type 0} (f : A → B) (o : Option A) → IsSome o → IsSome (option_map f o)
@@ -215,7 +215,7 @@ module _ (old new : Registered) where
     taken-up_to n there same c = ap taken_in (is c) ∙ by (is_at (nat_cmp client) c) ∙ ap (λ b. cond b n (taken_by old c)) (same_test client c)
       where
         each : (o : Option Kept) → IsSome o → taken_in (option_map f o) ≡ n
-        each None there = absurd there
+        each None there = absurd (let no : false ≡ true = there in cc)
         each (Some k) there = same k
 
         by : (b : Bool) → taken_in (cond b (option_map f (kept_of old client)) (kept_of old c)) ≡ cond b n (taken_by old c)
@@ -229,11 +229,11 @@ unfolding IsStrictlySortedBy
 none-rising = tt
 
 -- keys stay in order
-rising-with_changes : (deltas : Deltas) (changes : List Change) → IsStrictlySortedBy address_cmp (keys_of deltas)
+rising-with_changes : (changes : List Change) (deltas : Deltas) → IsStrictlySortedBy address_cmp (keys_of deltas)
     → IsStrictlySortedBy address_cmp (keys_of (with_changes deltas changes))
-rising-with_changes deltas [] rising = rising
-rising-with_changes deltas (c ∷ changes) rising =
-    rising-with_changes _ changes (sorted-insert_entry address_cmp addresses.total-law c.address (after_maybe (delta_at deltas c.address) c.delta) deltas rising)
+rising-with_changes [] deltas rising = rising
+rising-with_changes (c ∷ changes) deltas rising =
+    rising-with_changes changes (with_delta deltas c.address c.delta) (sorted-insert_entry address_cmp addresses.total-law c.address (after_maybe (delta_at deltas c.address) c.delta) deltas rising)
 
 module _ (journal : Journal) (registry : Registered) (client : ℕ) (following : IsFollowing journal registry) (ended : registry.front ≡ length journal) where
   abbrev since_taken : List Change
@@ -261,7 +261,7 @@ module _ (journal : Journal) (registry : Registered) (client : ℕ) (following :
       let there = kept-there (kept_of registry client) (following.entered client below) in
       let chosen : List Change = filter (λ change. is_subscribed registry client change.address) since_taken in
       let deltas : feed.changes ≡ with_changes [] chosen =
-          same_pairs address_cmp addresses.total-law address_cmp-equal feed.changes (with_changes [] chosen) rising (rising-with_changes [] chosen none-rising)
+          same_pairs address_cmp addresses.total-law address_cmp-equal feed.changes (with_changes [] chosen) rising (rising-with_changes chosen [] none-rising)
           (λ a. is a ∙ pending-is there.0 there.1 a ∙ sym (feeds_keep_pending chosen a))
       in
       ap (λ (n : ℕ). let f : Fed = record { to = n; changes = feed.changes } in f) (to ∙ ended)
@@ -423,3 +423,19 @@ following-longer journal later registry first whole f =
       stands = subst (λ (cs : List Change). StandsFor cs registry) same f.stands;
       entered = f.entered;
     }
+
+-- ---- what was taken last
+
+pub last-taken : (o : Option Kept) (n : ℕ) → Some n ≡ option_map (λ (kept : Kept). kept.taken) o → (k : Kept) → o ≡ Some k → n ≡ k.taken
+last-taken o n is k e = let both : Some n ≡ Some k.taken = is ∙ ap (option_map (λ (kept : Kept). kept.taken)) e in cc
+
+pub last-within : (o : Option Kept) (n front : ℕ) → Some n ≡ option_map (λ (kept : Kept). kept.taken) o → ((k : Kept) → o ≡ Some k → k.taken ≤ front) → n ≤ front
+last-within None n front is each = absurd (cc)
+last-within (Some k) n front is each = subst (λ (m : ℕ). m ≤ front) (sym (last-taken (Some k) n is k refl)) (each k refl)
+
+pub nothing-taken : (o : Option Kept) (n : ℕ) → None ≡ option_map (λ (kept : Kept). kept.taken) o → (k : Kept) → o ≡ Some k → n ≡ k.taken
+nothing-taken o n is k e = absurd (let no : None ≡ Some k.taken = is ∙ ap (option_map (λ (kept : Kept). kept.taken)) e in cc)
+
+pub missed-from : (journal : Journal) (missed : Tail) (address : Address) (from f g : ℕ) → f ≡ g → HasAll from f (of_address address (between from f (changes journal))) missed
+    → HasAll from g (of_address address (between from g (changes journal))) missed
+missed-from journal missed address from f g same all = subst (λ (x : ℕ). HasAll from x (of_address address (between from x (changes journal))) missed) same all

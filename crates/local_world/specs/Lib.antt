@@ -2,3 +2,4 @@ pub mod Stored
 pub mod Standing
 pub mod Answering
 pub mod Deciding
+pub mod Making

@@ -20,10 +20,14 @@ pub record IsHeld (journal : Journal) (settings : Settings) (place : ℕ) (shard
   pub reached : shard.front ≤ length journal
   pub holds : Holds (take shard.front journal) shard
 
--- and so each shard of the settings
-pub record AreHeld (journal : Journal) (settings : Settings) (shards : List Sharded) : Type 0 where
-  pub as_many : length shards ≡ settings.shards
+-- and so do so many shards
+pub record AreHeldTo (journal : Journal) (settings : Settings) (count : ℕ) (shards : List Sharded) : Type 0 where
+  pub as_many : length shards ≡ count
   pub each : (place : ℕ) (shard : Sharded) → slice_get shards place ≡ Some shard → IsHeld journal settings place shard
+
+-- as many as the settings say
+abbrev pub AreHeld : Journal → Settings → List Sharded → Type 0
+AreHeld journal settings shards = AreHeldTo journal settings settings.shards shards
 
 abbrev pub fronts_of : List Sharded → List ℕ
 fronts_of shards = map (λ shard. shard.front) shards

@@ -1,6 +1,6 @@
 //! The journal's decision on what is handed on.
 
-ghost use Rattle.std.specs.Prelude.{ℕ, ◌≡◌, ◌<◌, OnErr, IfOk};
+ghost use Rattle.std.specs.Prelude.{ℕ, ◌≡◌, OnErr, IfOk};
 ghost use Rattle.docc_prepare.specs.Calls.{commit_answered};
 ghost use Rattle.docc_prepare.specs.Stores.{Store};
 ghost use Rattle.local_world.specs.Deciding.{MayDecide, HasJournal, IsDecided};
@@ -19,7 +19,7 @@ pub(crate) fn decide<L: Ledger>(
 ) -> Result<Result<u64, AppendError>, AllocError>
     requires name { blank.name ≡ L.name }
     requires parts { blank.parts ≡ L.parts }
-    requires some { 0 < L.parts }
+    requires one { blank.parts ≡ 1 }
     requires may { MayDecide ready.now journal.old }
     ensures shards { journal.new.shards ≡ journal.old.shards }
     ensures limit { journal.new.limit ≡ journal.old.limit }

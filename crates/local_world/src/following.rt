@@ -127,7 +127,7 @@ pub(crate) fn validate_in<L: Ledger>(
 ) -> Result<Result<Prepared, PrepareError>, AllocError>
     requires name { blank.name ≡ L.name }
     requires parts { blank.parts ≡ L.parts }
-    requires some { 0 < L.parts }
+    requires one { blank.parts ≡ 1 }
     requires here { AllByRecursion (λ b. shard_of b.address shard.now.shards ≡ shard.now.number) based.now }
     requires kinds { AllByRecursion IsBasedOfOneKind based.now }
     ensures { (journal : states.Journal) → IsLegal 0 journal → Holds (take shard.now.front journal) shard.now → IfOk result (λ answer. front_answered answer

@@ -9,6 +9,7 @@
 
 mod deciding;
 mod following;
+mod making;
 mod telling;
 mod view;
 mod world;

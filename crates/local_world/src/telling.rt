@@ -1,11 +1,11 @@
 //! The registry of a world: who is told of which changes of the journal.
 
-ghost use Rattle.std.specs.Prelude.{◌≡◌, ℕ, ◌<◌, ◌==◌, ◌&&◌, true, false, if◌then◌else◌, length, IfOk, OnOk, OnErr};
+ghost use Rattle.std.specs.Prelude.{◌≡◌, ℕ, ◌<◌, ◌≤◌, Some, ◌==◌, ◌&&◌, true, false, if◌then◌else◌, length, IfOk, OnOk, OnErr};
 ghost use Rattle.std.specs.BTreeMap.{is_at};
 ghost use Rattle.rdt_types.specs.declared.address.Address.{Address};
 ghost use Rattle.rdt_types.specs.Addresses.{address_cmp};
 ghost use Rattle.txn_lang.specs.Journals.{IsLegal};
-ghost use Rattle.reactive_registry.specs.Registered.{is_subscribed};
+ghost use Rattle.reactive_registry.specs.Registered.{Kept, kept_of, is_subscribed};
 ghost use Rattle.docc_prepare.specs.Stores.{CLIENTS};
 ghost use Rattle.local_world.specs.Stored.{taken_by};
 ghost use Rattle.local_world.specs.Standing.{IsFollowing, IsFedBy};
@@ -50,6 +50,18 @@ pub(crate) fn take_all(
     Ok(feed)
 }
 
+/// Up to which commit a client has taken, or the front where it isn't entered.
+fn last_taken(registry: &Registry, client: u32) -> u64
+    requires { (kept : Kept) → kept_of registry.now client ≡ Some kept → kept.taken ≤ registry.now.front }
+    ensures within { result ≤ registry.now.front }
+    ensures taken { (kept : Kept) → kept_of registry.now client ≡ Some kept → result ≡ kept.taken }
+{
+    match registry.taken(client) {
+        Some(taken) => taken,
+        None => registry.front(),
+    }
+}
+
 /// Has the changes at an address told to a client, and those since it took last. For want of memory all is as before.
 pub(crate) fn tell(
     journal: &Journal<MemKeep>,
@@ -67,10 +79,7 @@ pub(crate) fn tell(
     ensures err { OnErr result ((c : ℕ) (a : Address) → is_subscribed registry.new c a ≡ is_subscribed registry.old c a) }
 {
     let front = registry.front();
-    let taken = match registry.taken(client) {
-        Some(taken) => taken,
-        None => front,
-    };
+    let taken = last_taken(registry, client);
     let missed = journal.tail_of(address, taken, front)?;
     registry.subscribe(client, address, &missed)
 }

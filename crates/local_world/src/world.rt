@@ -11,6 +11,7 @@ ghost use Rattle.local_world.specs.Answering.{GoesBy};
 
 use crate::deciding::decide;
 use crate::following::{follow_at, read_back, read_in, validate_in};
+use crate::making::{all_entered, empty_shards, nothing_seen};
 use crate::telling::{hush, take_all, tell};
 use crate::view::View;
 use abort_witness::BasedList;
@@ -20,10 +21,10 @@ use journal_core::{Journal, MemKeep, Ready};
 use plain_data::Sequence;
 use rdt_types::{Address, Settings, Value};
 use reactive_registry::Registry;
-use std::alloc::AllocError;
+use std::alloc::{AllocError, Global};
 use std::marker::{Brand, Model};
 use std::sync::ledger::Blank;
-use txn_lang::Snap;
+use txn_lang::{CommitList, Snap};
 use version_shard::{Prepared, Shard};
 
 /// The world of one thread. Contracts see its journal, the fronts of its shards, what each client has seen, and what the
@@ -55,12 +56,29 @@ impl Model for World {
 }
 
 impl World {
+    /// The world in which nothing was done yet.
+    pub fn new(alloc: Global, settings: &Settings) -> Result<World, AllocError>
+        ensures first { IfOk result (λ world. store_of world ≡ first_store settings.now.shards settings.now.window settings.now.limit) }
+        ensures sound { IfOk result (λ world. IsSound (store_of world)) }
+    {
+        let journal = Journal::new(alloc, settings, MemKeep, CommitList::new(alloc))?;
+        let shards = empty_shards(alloc, settings)?;
+        let seens = nothing_seen(alloc)?;
+        let registry = all_entered(alloc)?;
+        Ok(World {
+            settings: *settings,
+            journal,
+            shards,
+            seens,
+            registry,
+        })
+    }
+
     /// A client's view, by which it makes its calls.
     pub fn view(&mut self, client: u32) -> View<'_>
         requires { client < CLIENTS }
         ensures client { result.client ≡ client }
         ensures world { result.world.now ≡ self.old }
-        ensures home { result.world.ghost_name ≡ self.ghost_name }
     {
         View {
             world: self,

@@ -1,4 +1,10 @@
-use Rattle.std.proofs.Common.{◌∙◌}
+use Rattle.std.proofs.Common.{cond, length, ap, subst, ◌∙◌}
+use Rattle.std.specs.Prelude.{◌==◌}
+use Rattle.std.specs.List.Sorted.{IsStrictlySortedBy}
+use Rattle.std.specs.Map.{keys_of}
+use Rattle.rdt_types.specs.Addresses.{address_cmp}
+use Rattle.rdt_types.specs.DeltaMaps.{Deltas}
+use Rattle.reactive_registry.proofs.Links.{on_err}
 use Rattle.local_world.proofs.Registries.{following-same, told-same, taken-same, following-taken, told-taken, taken-taken, fed-by}
 use Rattle.local_world.proofs.telling.take_all.Goals as goal
 
@@ -14,7 +20,8 @@ returns-in_err-feed-clause-told c client a =
     told-same c.follow_all.new.registry c.take.new.self c.in_err-feed.ensures.err client a ∙ c.follow_all.ensures.told client a
 
 pub returns-in_err-feed-clause-err : goal.returns-in_err-feed-clause-err
-returns-in_err-feed-clause-err c = λ client. taken-same c.follow_all.new.registry c.take.new.self c.in_err-feed.ensures.err client ∙ c.follow_all.ensures.taken client
+returns-in_err-feed-clause-err c =
+    on_err _ _ (λ client. taken-same c.follow_all.new.registry c.take.new.self c.in_err-feed.ensures.err client ∙ c.follow_all.ensures.taken client)
 
 pub returns-clause-following : goal.returns-clause-following
 returns-clause-following c =
@@ -26,7 +33,14 @@ returns-clause-told c client a =
     ∙ c.follow_all.ensures.told client a
 
 pub returns-clause-feed : goal.returns-clause-feed
-returns-clause-feed c = ?
+returns-clause-feed c =
+    fed-by c.args.journal.now.commits c.args.registry.now c.follow_all.new.registry c.args.client c.in_ok-feed.feed c.follow_all.ensures.following
+    c.in_ok-follow_all.ensures.ok c.follow_all.ensures.told c.follow_all.ensures.taken c.requires.client
+    (subst (λ (ds : Deltas). IsStrictlySortedBy address_cmp (keys_of ds)) c.changes.ensures c.as_slice-_rising.ensures.rising)
+    c.in_ok-feed.ensures.to c.in_ok-feed.ensures.pending
 
 pub returns-clause-taken : goal.returns-clause-taken
-returns-clause-taken c = ?
+returns-clause-taken c = λ client.
+    taken-taken c.args.journal.now.commits c.follow_all.new.registry c.take.new.self c.args.client c.follow_all.ensures.following c.take.ensures.front c.in_ok-feed.ensures.ok
+    c.requires.client c.in_ok-follow_all.ensures.ok client
+    ∙ ap (cond (client == c.args.client) (length c.args.journal.now.commits)) (c.follow_all.ensures.taken client)
