@@ -6,3 +6,4 @@ pub mod Naming
 pub mod Validated
 pub mod Decided
 pub mod Going
+pub mod Worlds

@@ -11,8 +11,8 @@ use Rattle.version_shard.specs.declared.prepared.Prepared.{Prepared}
 use Rattle.version_shard.specs.declared.prepared.Refusal.TheVariants as refusal
 use Rattle.version_shard.specs.Shards.{Sharded}
 use Rattle.version_shard.specs.Standing.{IsReadable}
-use Rattle.version_shard.specs.Validating as shard
-use Rattle.version_shard.specs.Validating.{Validates}
+use Rattle.version_shard.specs.Bases as shard
+use Rattle.version_shard.specs.Validating.{late, Validates}
 use Rattle.docc_prepare.specs.Calls.{Answer}
 use Rattle.docc_prepare.specs.Serial.{IsOrderly}
 use Rattle.docc_prepare.specs.Witnesses.{witness_of, least_witness}
@@ -31,7 +31,7 @@ module _ (journal : Journal) (s : Sharded) (based : List Based) where
   abbrev expected : Answer
   expected = validated s.number s.front (s.front - s.window) (late_base (s.front - s.window) (least_base based)) (least_witness based journal)
 
-  late-is : shard.late s based ≡ late_base (s.front - s.window) (least_base based)
+  late-is : late s based ≡ late_base (s.front - s.window) (least_base based)
   late-is = late-same (s.front - s.window) (shard.least_base based) ∙ ap (late_base (s.front - s.window)) (least-same based)
 
   pub as-ok : (p : Prepared) → Validates journal s based (Ok p) → Answer.prepared p ≡ expected

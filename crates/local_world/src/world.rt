@@ -119,8 +119,13 @@ impl World {
         ensures { GoesBy self.old client (Call.read address.now) (snap_answered result) self.new }
     {
         let seen = self.seens.as_slice()[client as usize];
-        let read = read_in(&self.journal, &self.settings, &mut self.shards, address, seen);
-        let Ok(snap) = read else {
+        let Ok(snap) = read_in(
+            &self.journal,
+            &self.settings,
+            &mut self.shards,
+            address,
+            seen,
+        ) else {
             return Err(StoreError::NoMemory);
         };
         self.seens.set(client as usize, snap.base);
@@ -191,9 +196,9 @@ impl World {
         requires short { IsShortAddress address.now }
         ensures { GoesBy self.old client (Call.subscribe address.now) (done_answered result) self.new }
     {
-        if tell(&self.journal, &mut self.registry, client, address).is_err() {
+        let Ok(()) = tell(&self.journal, &mut self.registry, client, address) else {
             return Err(StoreError::NoMemory);
-        }
+        };
         Ok(())
     }
 

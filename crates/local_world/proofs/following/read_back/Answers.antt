@@ -1,4 +1,6 @@
-use Rattle.std.proofs.Common.{◌≤◌, max, take, arith}
+use Rattle.std.proofs.Common.{◌≡◌, take, Err, subst, arith}
+use Rattle.version_shard.specs.declared.at_error.AtError.TheVariants as at_error
+use Rattle.version_shard.specs.Validating.{ReadsAt}
 use Rattle.local_world.proofs.Holding.{place-below, held-there, is-in, reached-top, moved-top, back-value, back-late}
 use Rattle.local_world.proofs.following.read_back.Goals as goal
 
@@ -42,10 +44,12 @@ returns-in-Err-Late-clause-moved c =
 
 pub returns-in-Err-Late-clause-answer : goal.returns-in-Err-Late-clause-answer
 returns-in-Err-Late-clause-answer c =
+    let same : c.in-Err-Late.field-0 ≡ at_error.Late c.in-Err-Late.number c.in-Err-Late.horizon = (let is = c.in-Err-Late.field-0-is in cc) in
     back-late c.args.journal.now.commits c.args.settings.now c.args.shards.now.items c.follow_at.new.shards.items c.requires.held c.follow_at.ensures.held
     c.shard_of-place.result c.args.number c.args.address.now c.shard_of-place.ensures (place-below c.args.settings.now c.args.address.now c.shard_of-place.result c.shard_of-place.ensures)
     c.in_ok-follow_at.ensures.ok c.index.result.now c.index.ensures
     c.in-Err-Late.number c.in-Err-Late.horizon
+    (subst (λ e. ReadsAt (take c.index.result.now.front c.args.journal.now.commits) c.index.result.now c.args.address.now c.args.number (Err e)) same
     (c.in-Err-Late.ensures (take c.index.result.now.front c.args.journal.now.commits)
     (held-there c.args.journal.now.commits c.args.settings.now c.follow_at.new.shards.items c.follow_at.ensures.held c.shard_of-place.result c.index.result.now
-    (place-below c.args.settings.now c.args.address.now c.shard_of-place.result c.shard_of-place.ensures) c.index.ensures).holds)
+    (place-below c.args.settings.now c.args.address.now c.shard_of-place.result c.shard_of-place.ensures) c.index.ensures).holds))

@@ -1,4 +1,5 @@
-use Rattle.std.proofs.Common.{cond, length, ap, subst, ◌∙◌}
+use Rattle.std.proofs.Common.{◌≡◌, ℕ, cond, length, ap, subst, ◌∙◌}
+use Rattle.local_world.specs.Stored.{taken_by}
 use Rattle.std.specs.Prelude.{◌==◌}
 use Rattle.std.specs.List.Sorted.{IsStrictlySortedBy}
 use Rattle.std.specs.Map.{keys_of}
@@ -21,7 +22,8 @@ returns-in_err-feed-clause-told c client a =
 
 pub returns-in_err-feed-clause-err : goal.returns-in_err-feed-clause-err
 returns-in_err-feed-clause-err c =
-    on_err _ _ (λ client. taken-same c.follow_all.new.registry c.take.new.self c.in_err-feed.ensures.err client ∙ c.follow_all.ensures.taken client)
+    on_err c.from_residual-in_err-feed.result ((client : ℕ) → taken_by c.take.new.self client ≡ taken_by c.args.registry.now client)
+    (λ client. taken-same c.follow_all.new.registry c.take.new.self c.in_err-feed.ensures.err client ∙ c.follow_all.ensures.taken client)
 
 pub returns-clause-following : goal.returns-clause-following
 returns-clause-following c =
@@ -36,7 +38,7 @@ pub returns-clause-feed : goal.returns-clause-feed
 returns-clause-feed c =
     fed-by c.args.journal.now.commits c.args.registry.now c.follow_all.new.registry c.args.client c.in_ok-feed.feed c.follow_all.ensures.following
     c.in_ok-follow_all.ensures.ok c.follow_all.ensures.told c.follow_all.ensures.taken c.requires.client
-    (subst (λ (ds : Deltas). IsStrictlySortedBy address_cmp (keys_of ds)) c.changes.ensures c.as_slice-_rising.ensures.rising)
+    (subst (λ (ds : Deltas). IsStrictlySortedBy address_cmp (keys_of ds)) c.changes.ensures c.as_slice-rising.ensures.rising)
     c.in_ok-feed.ensures.to c.in_ok-feed.ensures.pending
 
 pub returns-clause-taken : goal.returns-clause-taken
