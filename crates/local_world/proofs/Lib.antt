@@ -5,5 +5,6 @@ pub mod Registries
 pub mod Naming
 pub mod Validated
 pub mod Decided
+pub mod Made
 pub mod Going
 pub mod Worlds

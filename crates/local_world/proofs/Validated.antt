@@ -21,7 +21,14 @@ use Rattle.local_world.proofs.Naming.{named-by-shard}
 
 least-same : (based : List Based) → shard.least_base based ≡ least_base based
 least-same [] = refl
-least-same (b ∷ based) = ap (λ (o : Option ℕ). elim o as (λ _. Option ℕ) [ None ↦ Some b.base | Some other ↦ Some (min b.base other) ]) (least-same based)
+least-same (b ∷ based) = by (shard.least_base based) (least_base based) (least-same based)
+  where
+    by : (o p : Option ℕ) → o ≡ p
+        → elim o as (λ _. Option ℕ) [ None ↦ Some b.base | Some other ↦ Some (min b.base other) ] ≡ Some (elim p as (λ _. ℕ) [ None ↦ b.base | Some other ↦ min b.base other ])
+    by None None e = refl
+    by None (Some y) e = absurd (cc)
+    by (Some x) None e = absurd (cc)
+    by (Some x) (Some y) e = let same : x ≡ y = cc in ap (λ n. Some (min b.base n)) same
 
 late-same : (horizon : ℕ) (o : Option ℕ) → shard.late_base horizon o ≡ late_base horizon o
 late-same horizon None = refl

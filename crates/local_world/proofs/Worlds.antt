@@ -139,12 +139,12 @@ module _ (settings : Settings) (standing : Standing) (shards : List Sharded) (se
     pub all-kinds : AllByRecursion IsBasedOfOneKind based
     all-kinds = each-more (CanValidate (known_by (store_of old) client) shard) IsBasedOfOneKind based (λ b v. v.one_kind) can.each
 
-    pub preparing : (a : Answer) (seens' : List ℕ)
+    pub preparing : (a : Answer) (seens' : List ℕ) (all : List Based) → all ≡ based
         → ((journal : Journal) → IsLegal 0 journal → Holds (take s.front journal) s
-        → a ≡ validated s.number s.front (s.front - s.window) (late_base (s.front - s.window) (least_base based)) (least_witness based (take s.front journal)))
+        → a ≡ validated s.number s.front (s.front - s.window) (late_base (s.front - s.window) (least_base all)) (least_witness all (take s.front journal)))
         → seens' ≡ set seens client (max (get_or seens client 0) s.front)
         → Does (store_of old) client (Call.prepare shard based) a (store_of (stored settings standing.commits shards seens' registry))
-    preparing a seens' is seen =
+    preparing a seens' all alike is seen =
         let front = get_or (fronts_of shards) shard 0 in
         let same : front ≡ s.front = front-at shards shard s (shard-there standing.commits settings shards kept.held shard s can.below at) in
         let made : ℕ → ℕ → ℕ → Answer = λ k f w. validated k f (f - w) (late_base (f - w) (least_base based)) (least_witness based (take f standing.commits)) in
@@ -152,6 +152,7 @@ module _ (settings : Settings) (standing : Standing) (shards : List Sharded) (se
         (sym (seen ∙ ap (λ (f : ℕ). set seens client (max (get_or seens client 0) f)) (sym same)))
         (does-prepare old client shard based a
         (is standing.commits kept.sound.legal here.holds
+        ∙ ap (λ (bs : List Based). validated s.number s.front (s.front - s.window) (late_base (s.front - s.window) (least_base bs)) (least_witness bs (take s.front standing.commits))) alike
         ∙ ap (λ k. made k s.front s.window) here.number ∙ ap (λ f. made shard f s.window) (sym same) ∙ ap (made shard front) here.window))
 
   -- ---- an append

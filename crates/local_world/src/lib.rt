@@ -16,3 +16,6 @@ mod world;
 
 pub use view::View;
 pub use world::World;
+
+#[cfg(test)]
+mod tests;

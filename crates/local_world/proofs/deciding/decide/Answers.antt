@@ -14,7 +14,7 @@ append-requires-clause-can_append g c ks h = record {
 }
 
 pub witness-requires-clause-found : goal.witness-requires-clause-found
-witness-requires-clause-found g c ks h =
+witness-requires-clause-found g c ks =
     subst (λ (s : Standing). found_past c.args.ready.now s ≡ Some c.in-Clash.found) (sym c.in-Clash.ensures.decides.1) c.in-Clash.ensures.decides.0
 
 pub returns-in_err-witness-in-Clash-clause-shards : goal.returns-in_err-witness-in-Clash-clause-shards

@@ -1,4 +1,4 @@
-use Rattle.std.proofs.Common.{◌≤◌, max, get_or, length, false, refl, ap, subst, sym, ◌∙◌}
+use Rattle.std.proofs.Common.{◌<◌, ◌≤◌, max, get_or, length, false, refl, ap, subst, sym, ◌∙◌}
 use Rattle.docc_prepare.specs.Calls.{Call, Answer}
 use Rattle.local_world.specs.Standing.{stored}
 use Rattle.local_world.proofs.Worlds.{stays, goes, client-there, seen-within, want, reading}
