@@ -1,6 +1,6 @@
 -- Each step of a store meets the clause of every call.
-use Rattle.std.proofs.Common.{◌≡◌, ℕ, zero, suc, ◌+◌, ◌-◌, ◌≤◌, ◌<◌, ◌%◌, Bool, true, false, cond, min, max, ◌&&◌, ◌||◌, not, List, [], ◌∷◌, ◌++◌, length, take, get_or, set, Option, Some, None, ◌⊎◌, inl, inr, refl, sym, ap, ◌∙◌, subst, arith}
-use Rattle.std.specs.Prelude.{nat_lt, nat_le, ◌==◌, slice_get}
+use Rattle.std.proofs.Common.{◌≡◌, ℕ, zero, suc, ◌+◌, ◌-◌, ◌≤◌, ◌<◌, Bool, true, false, cond, min, max, ◌&&◌, ◌||◌, not, List, [], ◌∷◌, length, take, get_or, set, Option, Some, None, ◌⊎◌, inl, inr, refl, sym, ap, ◌∙◌, subst, arith}
+use Rattle.std.specs.Prelude.{nat_lt, nat_le, ◌==◌}
 use Rattle.std.specs.List.{AllByRecursion}
 use Rattle.std.specs.Option.{option_and_then}
 use Rattle.std.specs.BTreeMap.{is_at}
@@ -13,25 +13,22 @@ use Rattle.rdt_types.specs.Addresses.{address_cmp}
 use Rattle.rdt_types.specs.Shards.{shard_of}
 use Rattle.rdt_types.specs.Values.{kind_of}
 use Rattle.rdt_types.specs.Deltas.{kind_changed}
-use Rattle.rdt_types.specs.DeltaMaps.{delta_at}
 use Rattle.change_feed.specs.declared.change.Change.{Change}
-use Rattle.change_feed.specs.Feeds as feeds
 use Rattle.change_feed.specs.Pending.{pending}
 use Rattle.abort_witness.specs.declared.witness.Based.{Based}
 use Rattle.abort_witness.specs.declared.witness.Witness.{Witness}
 use Rattle.abort_witness.specs.Kinds.{IsBasedOfOneKind}
 use Rattle.txn_lang.specs.declared.commit.Commit.{Commit}
 use Rattle.txn_lang.specs.States.{Journal, state}
-use Rattle.txn_lang.specs.Journals.{own}
 use Rattle.journal_core.specs.declared.ready.Ready.{Ready}
-use Rattle.journal_core.specs.Changes.{changes, past, up_to, between}
-use Rattle.journal_core.specs.Pairs.{pairs, least_pair}
+use Rattle.journal_core.specs.Changes.{changes, up_to, between}
+use Rattle.journal_core.specs.Pairs.{pairs}
 use Rattle.journal_core.specs.Readies.{made_of}
 use Rattle.docc_prepare.specs.Attempts.{lesser}
 use Rattle.docc_prepare.specs.Serial.{AreOfTheirKinds, IsOrderly}
 use Rattle.docc_prepare.specs.Witnesses.{witness_of, least_witness}
 use Rattle.docc_prepare.specs.Calls.{Known, Call, Answer, is_fault}
-use Rattle.docc_prepare.specs.Backends.{CanValidate, CanPrepare, CanAppend, CanCall, IsLeastBase, IsTaken, Row, OwnRow, SaysOfJournal, Shows, IsSameClient, KeepsGiven, Keeps, Gives, subscribed_after, taken_after, denied_after, KnowsDenials, IsAnswered}
+use Rattle.docc_prepare.specs.Backends.{CanValidate, CanPrepare, CanAppend, CanCall, IsLeastBase, IsTaken, Row, OwnRow, SaysOfJournal, Shows, Keeps, Gives, subscribed_after, taken_after, denied_after, KnowsDenials, IsAnswered}
 use Rattle.docc_prepare.specs.Stores.{Store, CLIENTS, front_of, seen_by, saw, moved, committed, telling, took, least_base, late_base, validated, witness_past, decided, read_back, feed_for, step, HasStalled, Does, IsSound, known_by, StepsAreAnswered}
 use Rattle.docc_prepare.proofs.Each.{each-more, each-take, each-filter}
 use Rattle.docc_prepare.proofs.OfOneKind.{kind-left}
@@ -40,12 +37,9 @@ use Rattle.docc_prepare.proofs.Missing.{none-of-least}
 use Rattle.docc_prepare.proofs.Nexts.{appends}
 use Rattle.docc_prepare.proofs.Witnessed.{none-of-witness, witness-within, orderly-front, witness-of-front}
 use Rattle.docc_prepare.proofs.Feeding.{fed-is-pending, kinds-of-changes, kinds-fed}
-use Rattle.docc_prepare.proofs.Stored.{rises, IsOf, one-kinds, found-is, all-clear, commits-legally, StepsSoundly, step-sound, with_fronts, stalled-sound, does-one}
+use Rattle.docc_prepare.proofs.Stored.{IsOf, one-kinds, found-is, all-clear, commits-legally, StepsSoundly, step-sound, with_fronts, stalled-sound, Grown, step-grows, stalled-grows, same-client, kept-given, does-one}
 
 -- ---- tests
-
-pub still-reached : (a b n : ℕ) → a ≤ b → nat_le n a ≡ true → nat_le n b ≡ true
-still-reached a b n h e = grind (arith, nat_tests)
 
 is-reached : (n front : ℕ) → front ≡ n → nat_le n front ≡ true
 is-reached n front e = grind (arith, nat_tests)
@@ -101,7 +95,8 @@ least-is (b ∷ bs) base e = by (least_base bs) refl e (λ m h. least-is bs m h)
           least = (omega arith, lower m (omega arith) r.least);
         }
 
-    by : (o : Option ℕ) → least_base bs ≡ o → Some (lesser b.base o) ≡ Some base → ((m : ℕ) → least_base bs ≡ Some m → IsLeastBase bs m) → IsLeastBase (b ∷ bs) base
+    by : (o : Option ℕ) → least_base bs ≡ o → Some (lesser b.base o) ≡ Some base → ((m : ℕ) → least_base bs ≡ Some m → IsLeastBase bs m)
+        → IsLeastBase (b ∷ bs) base
     by None is e rest =
         let same : b.base ≡ base = cc in record {
           place = zero;
@@ -155,12 +150,15 @@ module _ (s : Store) (sound : IsSound s) (c : ℕ) (ours : c < CLIENTS) where
   abbrev Says : Store → Call → Answer → Type 0
   Says t call a = Shows k (known_by t c) call a × Row k (known_by t c) s.journal s.journal call a × OwnRow c s.journal s.journal call a
 
+  keeps-of : (t : Store) (call : Call) → Grown s t → Keeps call k (known_by t c)
+  keeps-of t (Call.append ready) grown = tt
+  keeps-of t call grown = kept-given s t c grown
+
   -- the clause of a call that adds nothing to the journal
-  answered : (t : Store) (call : Call) (a : Answer) → IsSameClient k (known_by t c) → s.journal ≡ t.journal → seen_by s c ≤ seen_by t c
-      → seen_by t c ≤ length s.journal → Quiet t call a → Keeps call k (known_by t c) → Gives call a (known_by t c) → Says t call a
-      → IsAnswered k call a (known_by t c)
-  answered t call a same e rose within quiet keeps gives says = record {
-    client = same;
+  answered : (t : Store) (call : Call) (a : Answer) → Grown s t → s.journal ≡ t.journal → seen_by s c ≤ seen_by t c → seen_by t c ≤ length s.journal
+      → Quiet t call a → Gives call a (known_by t c) → Says t call a → IsAnswered k call a (known_by t c)
+  answered t call a grown e rose within quiet gives says = record {
+    client = same-client s t c grown;
     goes_on = record {
       seen = rose;
       draws = omega arith;
@@ -171,7 +169,7 @@ module _ (s : Store) (sound : IsSound s) (c : ℕ) (ours : c < CLIENTS) where
       denied = quiet.3;
       denials = quiet.4;
     };
-    keeps = keeps;
+    keeps = keeps-of t call grown;
     gives = gives;
     shows = says.0;
     told = subst (λ (j : Journal). SaysOfJournal k (known_by t c) call a s.journal j) e
@@ -182,23 +180,17 @@ module _ (s : Store) (sound : IsSound s) (c : ℕ) (ours : c < CLIENTS) where
   refreshed =
       let e = seen-set (length s.journal) in
       let n = sound.seen c in
-      answered (saw s c (length s.journal)) Call.refresh (Answer.number (length s.journal)) (record { client = refl; trusted = refl; shards = refl; window = refl; limit = refl }) refl
-      (omega arith) (omega arith) (refl, (λ a. refl), refl, refl, omega arith) (record { bases = λ a b h. h; fronts = λ i bs f h. h }) tt (sym e, e, refl)
+      answered (saw s c (length s.journal)) Call.refresh (Answer.number (length s.journal)) (step-grows s c Call.refresh) refl (omega arith) (omega arith)
+      (refl, (λ a. refl), refl, refl, omega arith) tt (sym e, e, refl)
 
   -- ---- reads
-
-  -- where a shard has followed, what was given is given
-  gave-on : (i f : ℕ) → front_of s i ≤ f → (a : Address) (base : ℕ) → nat_le base (front_of s (shard_of a s.shards)) ≡ true
-      → nat_le base (front_of (moved s i f) (shard_of a s.shards)) ≡ true
-  gave-on i f up a base h =
-      still-reached (front_of s (shard_of a s.shards)) (front_of (moved s i f) (shard_of a s.shards)) base (rises s.fronts i f (shard_of a s.shards) up) h
 
   kind-of-state : (n : ℕ) (a : Address) → kind_of (state s.journal n a) ≡ a.kind
   kind-of-state n a = kind-left (take n s.journal) a (each-take (λ (commit : Commit). AreOfTheirKinds commit.deltas) n s.journal orderly.kinds)
 
-  read-answered : (a : Address) (f : ℕ) → f ≡ max (front_of s (shard_of a s.shards)) (seen_by s c)
+  read-answered : (a : Address) (f : ℕ) → f ≡ max (front_of s (shard_of a s.shards)) (seen_by s c) → Grown s (saw (moved s (shard_of a s.shards) f) c f)
       → IsAnswered k (Call.read a) (Answer.snap (record { base = f; value = state s.journal f a })) (known_by (saw (moved s (shard_of a s.shards) f) c f) c)
-  read-answered a f is =
+  read-answered a f is grown =
       let i = shard_of a s.shards in
       let e = seen-set f in
       let n = sound.seen c in
@@ -206,31 +198,26 @@ module _ (s : Store) (sound : IsSound s) (c : ℕ) (ours : c < CLIENTS) where
       let some = sound.some in
       let all = sound.all_shards in
       let here = get_or-set_same s.fronts i f 0 (omega arith) in
-      answered (saw (moved s i f) c f) (Call.read a) (Answer.snap (record { base = f; value = state s.journal f a }))
-      (record { client = refl; trusted = refl; shards = refl; window = refl; limit = refl }) refl (omega arith) (omega arith) (refl, (λ b. refl), refl, refl, omega arith)
-      (record { bases = gave-on i f (omega arith); fronts = λ j bs g h. h }) (is-reached f (get_or (set s.fronts i f) i 0) here)
-      ((sym e, kind-of-state f a), refl, refl)
+      answered (saw (moved s i f) c f) (Call.read a) (Answer.snap (record { base = f; value = state s.journal f a })) grown refl (omega arith) (omega arith)
+      (refl, (λ b. refl), refl, refl, omega arith) (is-reached f (get_or (set s.fronts i f) i 0) here) ((sym e, kind-of-state f a), refl, refl)
 
-  read-back : (a : Address) (n f : ℕ) → n ≤ seen_by s c → f ≡ max (front_of s (shard_of a s.shards)) n
+  read-back : (a : Address) (n f : ℕ) → n ≤ seen_by s c → f ≡ max (front_of s (shard_of a s.shards)) n → Grown s (moved s (shard_of a s.shards) f)
       → IsAnswered k (Call.read_at a n) (read_back s a n f).1 (known_by (read_back s a n f).0 c)
-  read-back a n f seen is = by (nat_lt n (f - s.window)) refl
+  read-back a n f seen is grown = by (nat_lt n (f - s.window)) refl
     where
       by : (t : Bool) → nat_lt n (f - s.window) ≡ t
-          → IsAnswered k (Call.read_at a n) (cond t (Answer.late n (f - s.window)) (Answer.value (state s.journal n a))) (known_by (moved s (shard_of a s.shards) f) c)
+          → IsAnswered k (Call.read_at a n) (cond t (Answer.late n (f - s.window)) (Answer.value (state s.journal n a)))
+          (known_by (moved s (shard_of a s.shards) f) c)
       by true e =
-          let i = shard_of a s.shards in
           let l = below-is n (f - s.window) e in
           let m = sound.seen c in
           let r = sound.reached (shard_of a s.shards) in
-          answered (moved s i f) (Call.read_at a n) (Answer.late n (f - s.window)) (record { client = refl; trusted = refl; shards = refl; window = refl; limit = refl }) refl
-          (omega arith) m (refl, (λ b. refl), refl, refl, omega arith) (record { bases = gave-on i f (omega arith); fronts = λ j bs g h. h }) tt
-          ((refl, refl), record { below = l; behind = omega arith }, refl)
+          answered (moved s (shard_of a s.shards) f) (Call.read_at a n) (Answer.late n (f - s.window)) grown refl (omega arith) m
+          (refl, (λ b. refl), refl, refl, omega arith) tt ((refl, refl), record { below = l; behind = omega arith }, refl)
       by false e =
-          let i = shard_of a s.shards in
           let m = sound.seen c in
-          answered (moved s i f) (Call.read_at a n) (Answer.value (state s.journal n a)) (record { client = refl; trusted = refl; shards = refl; window = refl; limit = refl }) refl
-          (omega arith) m (refl, (λ b. refl), refl, refl, omega arith) (record { bases = gave-on i f (omega arith); fronts = λ j bs g h. h }) tt
-          ((refl, kind-of-state n a), refl, refl)
+          answered (moved s (shard_of a s.shards) f) (Call.read_at a n) (Answer.value (state s.journal n a)) grown refl (omega arith) m
+          (refl, (λ b. refl), refl, refl, omega arith) tt ((refl, kind-of-state n a), refl, refl)
 
   -- ---- preparings
   module _ (shard : ℕ) (based : List Based) (can : CanPrepare k shard based) where
@@ -249,16 +236,18 @@ module _ (s : Store) (sound : IsSound s) (c : ℕ) (ours : c < CLIENTS) where
         (λ b h. subst (λ (i : ℕ). b.base ≤ front_of s i) h.here (reached-is b.base (front_of s (shard_of b.address s.shards)) h.given.1)) can.each
 
     validation : (a : Answer) → IsCounted (is_fault a) 0 0 → ((b : Address) → s.subscribed c b ≡ subscribed_after k (Call.prepare shard based) a b)
-        → (s.taken c ≡ taken_after k (Call.prepare shard based) a) → (0 ≡ denied_after k (Call.prepare shard based) a) → KnowsDenials k (known_by t c) (Call.prepare shard based) a
+        → (s.taken c ≡ taken_after k (Call.prepare shard based) a) → (0 ≡ denied_after k (Call.prepare shard based) a)
+        → KnowsDenials k (known_by t c) (Call.prepare shard based) a
         → Gives (Call.prepare shard based) a (known_by t c) → Says t (Call.prepare shard based) a → IsAnswered k (Call.prepare shard based) a (known_by t c)
     validation a counted told taken denied denials gives says =
         let e = seen-set (max (seen_by s c) front) in
         let n = sound.seen c in
         let r = sound.reached shard in
-        answered t (Call.prepare shard based) a (record { client = refl; trusted = refl; shards = refl; window = refl; limit = refl }) refl (omega arith) (omega arith)
-        (counted, told, taken, denied, denials) (record { bases = λ b n h. h; fronts = λ i bs f h. h }) gives says
+        answered t (Call.prepare shard based) a (step-grows s c (Call.prepare shard based)) refl (omega arith) (omega arith)
+        (counted, told, taken, denied, denials) gives says
 
-    validated-by : (late : Option ℕ) (w : Option Witness) → late_base (front - s.window) (least_base based) ≡ late → least_witness based (take front s.journal) ≡ w
+    validated-by : (late : Option ℕ) (w : Option Witness) → late_base (front - s.window) (least_base based) ≡ late
+        → least_witness based (take front s.journal) ≡ w
         → IsAnswered k (Call.prepare shard based) (validated shard front (front - s.window) late w) (known_by t c)
     validated-by (Some base) w el ew =
         let l = late-is (front - s.window) (least_base based) base el in
@@ -292,8 +281,7 @@ module _ (s : Store) (sound : IsSound s) (c : ℕ) (ours : c < CLIENTS) where
     refused a counted told taken denied denials gives says =
         let e = seen-set (length s.journal) in
         let n = sound.seen c in
-        answered u (Call.append ready) a (record { client = refl; trusted = refl; shards = refl; window = refl; limit = refl }) refl (omega arith) (omega arith)
-        (counted, told, taken, denied, denials) tt gives says
+        answered u (Call.append ready) a (step-grows s c Call.refresh) refl (omega arith) (omega arith) (counted, told, taken, denied, denials) gives says
 
     added : witness_past s ready ≡ None
         → IsAnswered k (Call.append ready) (Answer.number (length s.journal + 1)) (known_by (saw (committed s ready) c (length s.journal + 1)) c)
@@ -360,74 +348,61 @@ module _ (s : Store) (sound : IsSound s) (c : ℕ) (ours : c < CLIENTS) where
   kinds-told =
       let all = changes s.journal in
       kinds-fed _ []
-      (each-filter (λ (change : Change). kind_changed change.delta ≡ change.address.kind) (λ change. s.subscribed c change.address) (between (s.taken c) (length s.journal) all)
-      (each-filter (λ (change : Change). kind_changed change.delta ≡ change.address.kind) (λ change. nat_lt (s.taken c) change.number) (up_to (length s.journal) all)
-      (each-filter (λ (change : Change). kind_changed change.delta ≡ change.address.kind) (λ change. nat_le change.number (length s.journal)) all (kinds-of-changes s.journal orderly.kinds)))) tt
+      (each-filter (λ (change : Change). kind_changed change.delta ≡ change.address.kind) (λ change. s.subscribed c change.address)
+      (between (s.taken c) (length s.journal) all)
+      (each-filter (λ (change : Change). kind_changed change.delta ≡ change.address.kind) (λ change. nat_lt (s.taken c) change.number)
+      (up_to (length s.journal) all)
+      (each-filter (λ (change : Change). kind_changed change.delta ≡ change.address.kind) (λ change. nat_le change.number (length s.journal)) all
+      (kinds-of-changes s.journal orderly.kinds)))) tt
 
   took-answered : IsAnswered k Call.take (Answer.feed (feed_for s c)) (known_by (took (saw s c (length s.journal)) c (length s.journal)) c)
   took-answered =
       let e = seen-set (length s.journal) in
       let n = sound.seen c in
-      answered (took (saw s c (length s.journal)) c (length s.journal)) Call.take (Answer.feed (feed_for s c))
-      (record { client = refl; trusted = refl; shards = refl; window = refl; limit = refl }) refl (omega arith) (omega arith)
-      (refl, (λ a. refl), ap (λ b. cond b (length s.journal) (s.taken c)) (itself c), refl, omega arith) (record { bases = λ a b h. h; fronts = λ i bs f h. h }) tt
+      answered (took (saw s c (length s.journal)) c (length s.journal)) Call.take (Answer.feed (feed_for s c)) (step-grows s c Call.take) refl
+      (omega arith) (omega arith)
+      (refl, (λ a. refl), ap (λ b. cond b (length s.journal) (s.taken c)) (itself c), refl, omega arith) tt
       ((sym e, kinds-told), taken-is (seen_by (saw s c (length s.journal)) c) e, refl)
 
   subscribed-answered : (a : Address) → IsAnswered k (Call.subscribe a) Answer.done (known_by (telling s c a true) c)
   subscribed-answered a =
-      answered (telling s c a true) (Call.subscribe a) Answer.done (record { client = refl; trusted = refl; shards = refl; window = refl; limit = refl }) refl
-      (omega arith) (sound.seen c) (refl, (λ b. told-now (c == c) (is_at (address_cmp a) b) (s.subscribed c b) (itself c)), refl, refl, omega arith)
-      (record { bases = λ a b h. h; fronts = λ i bs f h. h }) tt (refl, tt, refl)
+      answered (telling s c a true) (Call.subscribe a) Answer.done (step-grows s c (Call.subscribe a)) refl (omega arith) (sound.seen c)
+      (refl, (λ b. told-now (c == c) (is_at (address_cmp a) b) (s.subscribed c b) (itself c)), refl, refl, omega arith) tt (refl, tt, refl)
 
   unsubscribed-answered : (a : Address) → IsAnswered k (Call.unsubscribe a) Answer.done (known_by (telling s c a false) c)
   unsubscribed-answered a =
-      answered (telling s c a false) (Call.unsubscribe a) Answer.done (record { client = refl; trusted = refl; shards = refl; window = refl; limit = refl }) refl
-      (omega arith) (sound.seen c) (refl, (λ b. untold-now (c == c) (is_at (address_cmp a) b) (s.subscribed c b) (itself c)), refl, refl, omega arith)
-      (record { bases = λ a b h. h; fronts = λ i bs f h. h }) tt (refl, tt, refl)
+      answered (telling s c a false) (Call.unsubscribe a) Answer.done (step-grows s c (Call.unsubscribe a)) refl (omega arith) (sound.seen c)
+      (refl, (λ b. untold-now (c == c) (is_at (address_cmp a) b) (s.subscribed c b) (itself c)), refl, refl, omega arith) tt (refl, tt, refl)
 
   -- ---- failures
 
-  -- what is owed where nothing was done
+  -- what is said where nothing was done
   abbrev Failing : Store → Call → Type 0
-  Failing t call =
-      Quiet t call (Answer.failed false) × Keeps call k (known_by t c) × Gives call (Answer.failed false) (known_by t c) × Says t call (Answer.failed false)
+  Failing t call = Quiet t call (Answer.failed false) × Gives call (Answer.failed false) (known_by t c) × Says t call (Answer.failed false)
 
   module _ (fronts : List ℕ) (risen : (i : ℕ) → front_of s i ≤ get_or fronts i 0) where
     abbrev v : Store
     v = with_fronts s fronts
 
-    given-on : KeepsGiven k (known_by v c)
-    given-on = record {
-      bases = λ a b h. still-reached (front_of s (shard_of a s.shards)) (front_of v (shard_of a s.shards)) b (risen (shard_of a s.shards)) h;
-      fronts = λ i bs f h. h;
-    }
-
     failing : (call : Call) → Failing v call
-    failing Call.refresh = ((refl, (λ a. refl), refl, refl, omega arith), given-on, tt, (tt, tt, refl))
-    failing (Call.read a) = ((refl, (λ b. refl), refl, refl, omega arith), given-on, tt, (tt, tt, refl))
-    failing (Call.prepare shard based) = ((refl, (λ b. refl), refl, refl, omega arith), given-on, tt, (tt, tt, refl))
-    failing (Call.append ready) = ((refl, (λ b. refl), refl, refl, omega arith), tt, tt, (tt, tt, refl))
-    failing (Call.read_at a n) = ((refl, (λ b. refl), refl, refl, omega arith), given-on, tt, (tt, tt, refl))
-    failing (Call.subscribe a) = ((refl, (λ b. refl), refl, refl, omega arith), given-on, tt, (tt, tt, refl))
-    failing (Call.unsubscribe a) = ((refl, (λ b. refl), refl, refl, omega arith), given-on, tt, (tt, tt, refl))
-    failing Call.take = ((refl, (λ b. refl), refl, refl, omega arith), given-on, tt, (tt, tt, refl))
-    failing Call.wait = ((refl, (λ b. refl), refl, refl, omega arith), given-on, tt, (tt, tt, refl))
+    failing Call.refresh = ((refl, (λ a. refl), refl, refl, omega arith), tt, (tt, tt, refl))
+    failing call = ((refl, (λ a. refl), refl, refl, omega arith), tt, (tt, tt, refl))
 
     failed-answered : (call : Call) → IsAnswered k call (Answer.failed false) (known_by v c)
     failed-answered call =
         let parts = failing call in
-        answered v call (Answer.failed false) (record { client = refl; trusted = refl; shards = refl; window = refl; limit = refl }) refl (omega arith) (sound.seen c)
-        parts.0 parts.1 parts.2 parts.3
+        answered v call (Answer.failed false) (stalled-grows s fronts risen) refl (omega arith) (sound.seen c) parts.0 parts.1 parts.2
 
   -- ---- the step
 
   step-answered : (call : Call) → CanCall k call → IsAnswered k call (step s c call).1 (known_by (step s c call).0 c)
   step-answered Call.refresh can = refreshed
-  step-answered (Call.read a) can = read-answered a (max (front_of s (shard_of a s.shards)) (seen_by s c)) refl
+  step-answered (Call.read a) can = read-answered a (max (front_of s (shard_of a s.shards)) (seen_by s c)) refl (step-grows s c (Call.read a))
   step-answered (Call.prepare shard based) can =
-      validated-by shard based can (late_base (front_of s shard - s.window) (least_base based)) (least_witness based (take (front_of s shard) s.journal)) refl refl
+      validated-by shard based can (late_base (front_of s shard - s.window) (least_base based))
+      (least_witness based (take (front_of s shard) s.journal)) refl refl
   step-answered (Call.append ready) can = decided-by ready can (witness_past s ready) (nat_le s.limit (length s.journal)) refl refl
-  step-answered (Call.read_at a n) can = read-back a n (max (front_of s (shard_of a s.shards)) n) can.1 refl
+  step-answered (Call.read_at a n) can = read-back a n (max (front_of s (shard_of a s.shards)) n) can.1 refl (step-grows s c (Call.read_at a n))
   step-answered (Call.subscribe a) can = subscribed-answered a
   step-answered (Call.unsubscribe a) can = unsubscribed-answered a
   step-answered Call.take can = took-answered
@@ -435,15 +410,9 @@ module _ (s : Store) (sound : IsSound s) (c : ℕ) (ours : c < CLIENTS) where
 
 -- what a client owes makes the step sound
 pub owed-soundly : (s : Store) (sound : IsSound s) (c : ℕ) (call : Call) → CanCall (known_by s c) call → StepsSoundly s c call
-owed-soundly s sound c Call.refresh can = tt
-owed-soundly s sound c (Call.read a) can = tt
-owed-soundly s sound c (Call.prepare shard based) can = tt
 owed-soundly s sound c (Call.append ready) can = commits-legally s sound c ready can.attempt (of-append s c ready can)
 owed-soundly s sound c (Call.read_at a n) can = can.1
-owed-soundly s sound c (Call.subscribe a) can = tt
-owed-soundly s sound c (Call.unsubscribe a) can = tt
-owed-soundly s sound c Call.take can = tt
-owed-soundly s sound c Call.wait can = tt
+owed-soundly s sound c call can = tt
 
 -- what a call leaves is sound
 pub does-sound : (s t : Store) (c : ℕ) (call : Call) (a : Answer) → IsSound s → CanCall (known_by s c) call → Does s c call a t → IsSound t

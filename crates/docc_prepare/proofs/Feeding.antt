@@ -1,10 +1,9 @@
 -- What a client is told of: the changes at its addresses, as they are pending there.
-use Rattle.std.proofs.Common.{◌≡◌, ℕ, Bool, true, false, cond, List, [], ◌∷◌, ◌++◌, map, filter, Option, None, refl, sym, ap, ◌∙◌}
+use Rattle.std.proofs.Common.{◌≡◌, ℕ, Bool, true, false, cond, List, [], ◌∷◌, map, filter, None, refl, sym, ap, ◌∙◌}
 use Rattle.std.specs.List.{AllByRecursion}
 use Rattle.std.specs.BTreeMap.{is_at}
 use Rattle.plain_data.proofs.Entries.{equal}
 use Rattle.rdt_types.specs.declared.address.Address.{Address}
-use Rattle.rdt_types.specs.declared.delta.Delta.{Delta}
 use Rattle.rdt_types.specs.Addresses.{address_cmp}
 use Rattle.rdt_types.specs.Deltas.{kind_changed}
 use Rattle.rdt_types.specs.DeltaMaps.{Deltas, delta_at, with_delta}
@@ -14,7 +13,6 @@ use Rattle.change_feed.specs.Feeds as feeds
 use Rattle.change_feed.specs.Feeds.{with_changes}
 use Rattle.change_feed.specs.Pending.{deltas_at, composed_after, pending}
 use Rattle.change_feed.proofs.Feeds.{feeds_keep_pending}
-use Rattle.txn_lang.specs.declared.commit.Commit.{Commit}
 use Rattle.txn_lang.specs.States.{Journal}
 use Rattle.journal_core.specs.Changes.{changes_by, changes}
 use Rattle.docc_prepare.specs.Serial.{AreOfTheirKinds}
@@ -40,7 +38,8 @@ module _ (told : Address → Bool) (a : Address) where
     where
       by : deltas_at a (among xs) ≡ deltas_at a xs → (t : Bool) → told x.address ≡ t → (i : Bool) → is_at (address_cmp a) x.address ≡ i
           → deltas_at a (cond t (x ∷ among xs) (among xs)) ≡ map (λ change. change.delta) (cond i (x ∷ here xs) (here xs))
-      by rest true e true h = ap (λ t. map (λ (change : Change). change.delta) (cond t (x ∷ here (among xs)) (here (among xs)))) h ∙ ap (λ ds. x.delta ∷ ds) rest
+      by rest true e true h = ap (λ t. map (λ (change : Change). change.delta) (cond t (x ∷ here (among xs)) (here (among xs)))) h
+          ∙ ap (λ ds. x.delta ∷ ds) rest
       by rest true e false h = ap (λ t. map (λ (change : Change). change.delta) (cond t (x ∷ here (among xs)) (here (among xs)))) h ∙ rest
       by rest false e true h = absurd (let no : true ≡ false = sym is ∙ sym (same-address x.address h) ∙ e in cc)
       by rest false e false h = rest

@@ -1,14 +1,11 @@
 -- The least pair of a journal, as its first pair is found, is less than every other; and so it has a witness.
-use Rattle.std.proofs.Common.{◌≡◌, ℕ, zero, suc, ◌+◌, ◌≤◌, ◌<◌, Bool, true, false, cond, List, [], ◌∷◌, Option, Some, None, ◌⊎◌, inl, inr, refl, sym, ap, ◌∙◌, subst, arith}
+use Rattle.std.proofs.Common.{◌≡◌, ℕ, zero, suc, ◌+◌, ◌≤◌, ◌<◌, Bool, true, false, cond, List, [], ◌∷◌, Option, Some, None, inl, inr, refl, sym, ap, ◌∙◌, subst, arith}
 use Rattle.std.specs.Prelude.{nat_lt, slice_get, MatchOption}
-use Rattle.std.specs.List.{AllByRecursion}
 use Rattle.std.proofs.lemmas.Bool.Decides.{nat_tests}
 use Rattle.change_feed.specs.declared.change.Change.{Change}
 use Rattle.abort_witness.specs.declared.witness.Based.{Based}
 use Rattle.abort_witness.specs.declared.witness.Found.{Found}
-use Rattle.abort_witness.specs.declared.witness.Witness.{Witness}
-use Rattle.abort_witness.specs.Kinds.{IsBasedOfOneKind}
-use Rattle.abort_witness.specs.Pairs.{clashes, IsPair, IsUpTo, IsLeast, HasNoPair, first_clash, found_at, lesser, least_from, least}
+use Rattle.abort_witness.specs.Pairs.{clashes, IsPair, IsUpTo, IsLeast, first_clash, found_at, lesser, least_from, least}
 use Rattle.txn_lang.specs.States.{Journal}
 use Rattle.journal_core.specs.Changes.{changes}
 use Rattle.journal_core.specs.Rising.{Rises}
@@ -16,14 +13,15 @@ use Rattle.journal_core.specs.Pairs.{least_pair}
 use Rattle.journal_core.proofs.Rising.{changes-rise}
 use Rattle.journal_core.proofs.Ordering.{least-is-first}
 use Rattle.docc_prepare.specs.Serial.{IsOrderly}
-use Rattle.docc_prepare.specs.Witnesses.{witness_of, least_witness, IsNamed, WitnessIsNamed}
+use Rattle.docc_prepare.specs.Witnesses.{witness_of, WitnessIsNamed}
 use Rattle.docc_prepare.proofs.Witnessed.{witness-there}
 use Rattle.std.specs.Option.{option_and_then}
 
 -- ---- one observation
 
 -- an item stands first or behind
-of-place : {A : Type 0} (P : A → Type 0) (x : A) (xs : List A) (i : ℕ) (y : A) → slice_get (x ∷ xs) i ≡ Some y → P x → ((j : ℕ) → slice_get xs j ≡ Some y → P y) → P y
+of-place : {A : Type 0} (P : A → Type 0) (x : A) (xs : List A) (i : ℕ) (y : A) → slice_get (x ∷ xs) i ≡ Some y → P x
+    → ((j : ℕ) → slice_get xs j ≡ Some y → P y) → P y
 of-place P x xs zero y e here rest = let same : x ≡ y = cc in subst P same here
 of-place P x xs (suc j) y e here rest = rest j e
 
@@ -56,10 +54,12 @@ first-clash b m (x ∷ xs) rises = by (first_clash b xs) (first-clash b x.number
       among = refl;
       clashing = e;
       numbered = refl;
-      first = λ i other there h. of-place (λ (c : Change). x.number ≤ c.number) x xs i other there (omega arith) (λ j at_j. risen x.number xs j other rises.1 at_j);
+      first = λ i other there h. of-place (λ (c : Change). x.number ≤ c.number) x xs i other there (omega arith)
+          (λ j at_j. risen x.number xs j other rises.1 at_j);
     }
     by None rest false e = λ i other there h.
-        of-place (λ (c : Change). clashes b c ≡ true → ⊥) x xs i other there (λ t. absurd (let no : true ≡ false = sym t ∙ e in cc)) (λ j at_j t. rest j other at_j t) h
+        of-place (λ (c : Change). clashes b c ≡ true → ⊥) x xs i other there (λ t. absurd (let no : true ≡ false = sym t ∙ e in cc))
+        (λ j at_j t. rest j other at_j t) h
     by (Some n) rest false e = record {
       change = rest.change;
       index = suc rest.index;
@@ -67,7 +67,8 @@ first-clash b m (x ∷ xs) rises = by (first_clash b xs) (first-clash b x.number
       clashing = rest.clashing;
       numbered = rest.numbered;
       first = λ i other there h.
-          of-place (λ (c : Change). clashes b c ≡ true → n ≤ c.number) x xs i other there (λ t. absurd (let no : true ≡ false = sym t ∙ e in cc)) (λ j at_j t. rest.first j other at_j t) h;
+          of-place (λ (c : Change). clashes b c ≡ true → n ≤ c.number) x xs i other there (λ t. absurd (let no : true ≡ false = sym t ∙ e in cc))
+          (λ j at_j t. rest.first j other at_j t) h;
     }
 
 -- ---- several observations, from a place on
@@ -149,7 +150,8 @@ module _ (place : ℕ) (b : Based) (bs : List Based) (all : List Change) where
       by false e = let l : other.number ≤ n = grind (arith, nat_tests) in let first = f.first i change there clashing in inr (omega arith, omega arith)
 
   -- and up to each behind it, where the least of those isn't numbered below
-  up-to-behind : (n : ℕ) (least : Found) → n ≤ least.number → (other : Found) → place ≤ other.place → IsUpTo least other → IsUpTo (record { place = place; number = n }) other
+  up-to-behind : (n : ℕ) (least : Found) → n ≤ least.number → (other : Found) → place ≤ other.place → IsUpTo least other
+      → IsUpTo (record { place = place; number = n }) other
   up-to-behind n least h other far (inl below) = inl (omega arith)
   up-to-behind n least h other far (inr same) = by (nat_lt n other.number) refl
     where
@@ -179,7 +181,8 @@ module _ (place : ℕ) (b : Based) (bs : List Based) (all : List Change) where
       by true e =
           let l : found.number < n = grind (arith, nat_tests) in record {
             pair = behind found rest.pair;
-            below = λ other p. of-pair (IsUpTo found other) other p (λ i change same there number clashing. inl (let up = first.first i change there clashing in omega arith)) (rest.below other);
+            below = λ other p. of-pair (IsUpTo found other) other p (λ i change same there number clashing. inl
+                (let up = first.first i change there clashing in omega arith)) (rest.below other);
           }
       by false e =
           let l : n ≤ found.number = grind (arith, nat_tests) in record {
@@ -236,7 +239,8 @@ up-to-both f g (inr l) (inr m) =
     ap (λ (p : ℕ). found_of p f.number) place ∙ ap (λ (n : ℕ). found_of g.place n) number
 
 -- the least pair of a journal is the first one
-pub least-is-found : (bs : List Based) (journal : Journal) (found : Found) → IsOrderly journal → IsLeast bs (changes journal) found → least_pair bs journal ≡ Some found
+pub least-is-found : (bs : List Based) (journal : Journal) (found : Found) → IsOrderly journal → IsLeast bs (changes journal) found
+    → least_pair bs journal ≡ Some found
 least-is-found bs journal found orderly is =
     sym (least-is-first bs journal orderly.numbered)
     ∙ by (least bs (changes journal)) (least-from 0 bs (changes journal) (changes-rise 0 journal orderly.numbered))

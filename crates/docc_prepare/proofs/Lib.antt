@@ -12,4 +12,5 @@ pub mod Stored
 pub mod Feeding
 pub mod Answered
 pub mod Elsewhere
+pub mod Laters
 pub mod Sound

@@ -1,8 +1,7 @@
 -- Kinds: the deltas of a run are of the kinds of their addresses, and so are the values that a journal leaves.
-use Rattle.std.proofs.Common.{◌≡◌, Bool, true, false, cond, List, [], ◌∷◌, ◌++◌, fold, Option, Some, None, refl, sym, ap, ◌∙◌, subst}
+use Rattle.std.proofs.Common.{◌≡◌, Bool, true, false, cond, List, [], ◌∷◌, fold, Option, Some, None, refl, sym, ap, ◌∙◌, subst}
 use Rattle.std.specs.List.{AllByRecursion}
-use Rattle.std.specs.Map.{lookup}
-use Rattle.std.specs.BTreeMap.{insert_entry, is_at}
+use Rattle.std.specs.BTreeMap.{insert_entry}
 use Rattle.std.specs.Ordering.{is_eq, match_ordering}
 use Rattle.std.specs.declared.cmp.Ordering.{Ordering}
 use Rattle.std.specs.declared.cmp.Ordering.TheVariants.{Less, Equal, Greater}
@@ -34,7 +33,7 @@ use Rattle.txn_lang.specs.States.{Journal, PartialState, after, apply_maybe}
 use Rattle.txn_lang.specs.Own as owns
 use Rattle.txn_lang.specs.Own.{Operations, at_address}
 use Rattle.txn_lang.specs.Execution.{Ran, need, done, Own, own, own_read, own_value, own_write, ended, own_run, exec, begun, nothing_yet}
-use Rattle.txn_lang.proofs.Simulation.{Suits, Simulates, Fine, Same, Lacking, onto, body_simulates, answered_bounded, answered_lacking}
+use Rattle.txn_lang.proofs.Simulation.{Suits, Simulates, Fine, Same, onto, body_simulates, answered_bounded, answered_lacking}
 use Rattle.docc_prepare.specs.Serial.{AreOfTheirKinds}
 use Rattle.docc_prepare.proofs.Each.{each-push}
 
@@ -105,7 +104,15 @@ module _ (s : PartialState) where
   writes : (a : Address) (o : WriteOp) → kind_written o ≡ a.kind → Both (write_at (own s) a o) (write_at (own s) a o)
   writes a o k = record {
     back = λ p fine. tt;
-    forth = λ p m with_it fine. (own_write a o m, (ap (own_write a o) with_it.0, each-push (λ w. kind_written w.1 ≡ w.0.kind) p.memory.operations (a, o) with_it.1 k), refl);
+    forth = λ p m with_it fine. (
+      own_write a o m,
+      (
+        ap (own_write a o) with_it.0,
+        each-push (λ w. kind_written w.1 ≡ w.0.kind) p.memory.operations
+            (a, o) with_it.1 k,
+      ),
+      refl,
+    );
     bounded = λ p h. h;
     lacking = λ p. tt;
   }
@@ -137,7 +144,8 @@ pub kind-at : (ds : Deltas) (a : Address) (d : Delta) → AreOfTheirKinds ds →
 kind-at [] a d all e = absurd (cc)
 kind-at (pair ∷ ds) a d all e = by (kind-at ds a d all.1) (is_eq (address_cmp a pair.0)) refl e
   where
-    by : (delta_at ds a ≡ Some d → kind_changed d ≡ a.kind) → (b : Bool) → is_eq (address_cmp a pair.0) ≡ b → cond b (Some pair.1) (delta_at ds a) ≡ Some d → kind_changed d ≡ a.kind
+    by : (delta_at ds a ≡ Some d → kind_changed d ≡ a.kind) → (b : Bool) → is_eq (address_cmp a pair.0) ≡ b
+        → cond b (Some pair.1) (delta_at ds a) ≡ Some d → kind_changed d ≡ a.kind
     by rest true is e =
         let same : pair.1 ≡ d = cc in
         ap kind_changed (sym same) ∙ all.0 ∙ ap (λ b. b.kind) (sym (address_cmp-equal a pair.0 (equal (address_cmp a pair.0) is)))

@@ -5,7 +5,6 @@ use Rattle.std.specs.List.{list_any, AllByRecursion}
 use Rattle.std.specs.Option.{option_map, option_or, option_and_then}
 use Rattle.std.specs.Bool.{then_some}
 use Rattle.std.specs.BTreeMap.{is_at}
-use Rattle.std.specs.Ordering.{is_eq}
 use Rattle.std.specs.FinMap as map
 use Rattle.std.proofs.lemmas.Bool.Decides.{nat_tests}
 use Rattle.std.proofs.lemmas.List.{take-append-drop}
@@ -81,54 +80,31 @@ of-whole (delta.PutBool b) = refl
 of-whole (delta.PutCounter n) = refl
 of-whole (delta.AddCounter n) = refl
 of-whole (delta.PutText text) = refl
-of-whole (delta.Set d) = tt
-of-whole (delta.Hash d) = tt
-of-whole (delta.List d) = tt
+of-whole d = tt
 
 of-clear : (d : Delta) → OfKind (kind_changed d) (clear_part d)
-of-clear (delta.PutBool b) = tt
-of-clear (delta.PutCounter n) = tt
-of-clear (delta.AddCounter n) = tt
-of-clear (delta.PutText text) = tt
 of-clear (delta.Set d) = of-cleared kinds.Set d.cleared op.SetClear refl
 of-clear (delta.Hash d) = of-cleared kinds.Hash d.cleared op.HashClear refl
 of-clear (delta.List d) = of-cleared kinds.List d.cleared op.ListClear refl
+of-clear d = tt
 
 of-mark : (x : Bytes) (d : Delta) → OfKind (kind_changed d) (mark_part x d)
-of-mark x (delta.PutBool b) = tt
-of-mark x (delta.PutCounter n) = tt
-of-mark x (delta.AddCounter n) = tt
-of-mark x (delta.PutText text) = tt
 of-mark x (delta.Set d) = of-mapped kinds.Set (set_part x) (map.get d.marks x) (set-kind x)
 of-mark x (delta.Hash d) = of-mapped kinds.Hash (hash_part x) (map.get d.marks x) (hash-kind x)
-of-mark x (delta.List d) = tt
+of-mark x d = tt
 
 of-first : (d : Delta) → OfKind (kind_changed d) (first_mark d)
-of-first (delta.PutBool b) = tt
-of-first (delta.PutCounter n) = tt
-of-first (delta.AddCounter n) = tt
-of-first (delta.PutText text) = tt
 of-first (delta.Set d) = of-mapped kinds.Set (λ e. set_part e.0 e.1) (slice_get (map.entries d.marks) 0) (λ e. set-kind e.0 e.1)
 of-first (delta.Hash d) = of-mapped kinds.Hash (λ e. hash_part e.0 e.1) (slice_get (map.entries d.marks) 0) (λ e. hash-kind e.0 e.1)
-of-first (delta.List d) = tt
+of-first d = tt
 
 of-removed : (d : Delta) → OfKind (kind_changed d) (first_removed d)
-of-removed (delta.PutBool b) = tt
-of-removed (delta.PutCounter n) = tt
-of-removed (delta.AddCounter n) = tt
-of-removed (delta.PutText text) = tt
-of-removed (delta.Set d) = tt
-of-removed (delta.Hash d) = tt
 of-removed (delta.List d) = of-mapped kinds.List (λ e. op.ListRemove e.0) (slice_get (map.entries d.removed) 0) (λ e. refl)
+of-removed d = tt
 
 of-pushed : (d : Delta) → OfKind (kind_changed d) (first_pushed d)
-of-pushed (delta.PutBool b) = tt
-of-pushed (delta.PutCounter n) = tt
-of-pushed (delta.AddCounter n) = tt
-of-pushed (delta.PutText text) = tt
-of-pushed (delta.Set d) = tt
-of-pushed (delta.Hash d) = tt
 of-pushed (delta.List d) = of-mapped kinds.List (λ item. op.ListPush item) (slice_get d.pushed 0) (λ item. refl)
+of-pushed d = tt
 
 of-named : (o : Obs) (d : Delta) → OfKind (kind_changed d) (named o d)
 of-named obs.BoolIs d = of-whole d
@@ -239,7 +215,8 @@ first-hit place [] commit found e = absurd (cc)
 first-hit place (b ∷ bs) commit found e = by (first-hit (place + 1) bs commit found) (hit b commit) refl e
   where
     by : (slice_get (hits_from (place + 1) bs commit) 0 ≡ Some found → HitAt (place + 1) bs commit found) → (x : Bool) → hit b commit ≡ x
-        → slice_get (cond x (record { place = place; number = commit.number } ∷ hits_from (place + 1) bs commit) (hits_from (place + 1) bs commit)) 0 ≡ Some found
+        → slice_get (cond x (record { place = place; number = commit.number } ∷ hits_from (place + 1) bs commit) (hits_from (place + 1) bs commit)) 0
+        ≡ Some found
         → HitAt place (b ∷ bs) commit found
     by rest true is e =
         let same : record { place = place; number = commit.number } ≡ found = cc in
@@ -371,7 +348,8 @@ pair-of-witness bs journal witness orderly each is = by (least_pair bs journal) 
 
 pairs-append : (bs : List Based) (xs ys : Journal) → pairs bs (xs ++ ys) ≡ pairs bs xs ++ pairs bs ys
 pairs-append bs [] ys = refl
-pairs-append bs (x ∷ xs) ys = ap (λ found. hits_from 0 bs x ++ found) (pairs-append bs xs ys) ∙ sym (append_assoc (hits_from 0 bs x) (pairs bs xs) (pairs bs ys))
+pairs-append bs (x ∷ xs) ys = ap (λ found. hits_from 0 bs x ++ found) (pairs-append bs xs ys)
+    ∙ sym (append_assoc (hits_from 0 bs x) (pairs bs xs) (pairs bs ys))
 
 first-append : {A : Type 0} (xs ys : List A) (x : A) → slice_get xs 0 ≡ Some x → slice_get (xs ++ ys) 0 ≡ Some x
 first-append [] ys x e = absurd (cc)
@@ -425,7 +403,8 @@ witness-of-front bs journal f witness orderly each is =
     let p = pair-of-witness bs (take f journal) witness (orderly-front f journal orderly) each is in
     let found = p.0 in
     let first = first-append (pairs bs (take f journal)) (pairs bs (drop f journal)) found p.1 in
-    let least = ap (λ (xs : Journal). least_pair bs xs) (sym (take-append-drop f journal)) ∙ ap (λ (all : List Found). slice_get all 0) (pairs-append bs (take f journal) (drop f journal)) ∙ first in
+    let least = ap (λ (xs : Journal). least_pair bs xs) (sym (take-append-drop f journal))
+    ∙ ap (λ (all : List Found). slice_get all 0) (pairs-append bs (take f journal) (drop f journal)) ∙ first in
     let commit = front-commit journal f found.number p.2.commit p.2.there ∙ sym p.2.there in
     ap (option_and_then (witness_of bs journal)) least
     ∙ ap (λ o. option_and_then (λ b. option_and_then (λ commit. witness_in b (changes_of commit)) o) (slice_get bs found.place)) commit

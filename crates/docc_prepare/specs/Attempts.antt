@@ -14,7 +14,7 @@ use Rattle.abort_witness.specs.declared.witness.Based.{Based}
 use Rattle.txn_lang.specs.declared.run.Run.{Run}
 use Rattle.txn_lang.specs.declared.run.Seen.{Seen}
 use Rattle.txn_lang.specs.declared.snaps.Snap.{Snap}
-use Rattle.txn_lang.specs.States.{Journal, PartialState, state}
+use Rattle.txn_lang.specs.States.{Journal, state}
 use Rattle.txn_lang.specs.Execution.{Ran, need, done, exec}
 use Rattle.txn_eval.specs.Running.{values_of}
 use Rattle.journal_core.specs.declared.ready.PreparedFront.{PreparedFront}

@@ -1,11 +1,10 @@
 -- Serializability, without any code. The journal is a serial order: each commit has the outcome and the writes that its body
 -- has when it runs alone on what the commits before it leave, though it ran earlier, on values that it read at fronts of
 -- their own. These are the laws by which this is so.
-use Rattle.std.specs.Prelude.{◌≡◌, ℕ, List, [], ◌∷◌, ◌++◌, Some}
+use Rattle.std.specs.Prelude.{◌≡◌, ℕ, [], ◌∷◌, ◌++◌, Some}
 use Rattle.std.specs.List.{AllByRecursion}
 use Rattle.rdt_types.specs.Deltas.{kind_changed}
 use Rattle.rdt_types.specs.DeltaMaps.{Deltas}
-use Rattle.txn_lang.specs.declared.commit.Commit.{Commit}
 use Rattle.txn_lang.specs.declared.run.Run.{Run}
 use Rattle.txn_lang.specs.States.{Journal, known, left_by}
 use Rattle.txn_lang.specs.Execution.{done, exec}

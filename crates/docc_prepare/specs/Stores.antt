@@ -1,11 +1,15 @@
 -- The store of one thread, behind each client's backend: each call of a client is one step of it, which gives an answer.
-use Rattle.std.specs.Prelude.{◌≡◌, ◌≢◌, ℕ, ◌+◌, ◌-◌, ◌≤◌, ◌<◌, ◌==◌, Bool, true, false, ◌&&◌, max, nat_lt, nat_le, if◌then◌else◌, List, [], ◌∷◌, ◌++◌, filter, length, take, get_or, set, replicate, Option, Some, None, IfSome}
+use Rattle.std.specs.Prelude.{◌≡◌, ◌≢◌, ℕ, ◌+◌, ◌-◌, ◌≤◌, ◌<◌, ◌==◌, Bool, true, false, ◌&&◌, max, nat_lt, nat_le, if◌then◌else◌, List, [], ◌∷◌, ◌++◌, filter, length, take, get_or, set, replicate, Option, Some, None, IfSome, codes, pos, refl}
 use Rattle.std.specs.BTreeMap.{is_at}
 use Rattle.std.specs.Option.{option_and_then}
+use Rattle.rdt_types.specs.declared.address.Kind.TheVariants as kind
 use Rattle.rdt_types.specs.declared.address.Address.{Address}
+use Rattle.rdt_types.specs.declared.delta.Delta.TheVariants as delta
+use Rattle.rdt_types.specs.declared.operation.WriteOp.TheVariants as op
+use Rattle.rdt_types.specs.declared.value.Value.TheVariants as value
 use Rattle.rdt_types.specs.Addresses.{address_cmp}
 use Rattle.rdt_types.specs.Shards.{shard_of}
-use Rattle.change_feed.specs.declared.change.Change.{Change}
+use Rattle.conflict_table.specs.declared.observation.Obs.TheVariants as obs
 use Rattle.change_feed.specs.Feeds.{Fed, with_changes}
 use Rattle.abort_witness.specs.declared.witness.Based.{Based}
 use Rattle.abort_witness.specs.declared.witness.Found.{Found}
@@ -13,7 +17,7 @@ use Rattle.abort_witness.specs.declared.witness.Witness.{Witness}
 use Rattle.txn_lang.specs.States.{Journal, state}
 use Rattle.txn_lang.specs.Journals.{IsLegal}
 use Rattle.journal_core.specs.declared.ready.Ready.{Ready}
-use Rattle.journal_core.specs.Changes.{changes, between}
+use Rattle.journal_core.specs.Changes.{changes, between, adding}
 use Rattle.journal_core.specs.Pairs.{least_pair, past_fronts}
 use Rattle.journal_core.specs.Readies.{made_of}
 use Rattle.docc_prepare.specs.Attempts.{lesser}
@@ -173,6 +177,7 @@ Does s client c answer t = (t, answer) ≡ step s client c
 -- The journal is legal and no longer than its limit, and what was reached, seen and taken is within it.
 pub record IsSound (s : Store) : Type 0 where
   pub legal : IsLegal 0 s.journal
+  pub few : length s.journal ≤ s.limit
   pub some : 0 < s.shards
   pub all_shards : length s.fronts ≡ s.shards
   pub all_clients : length s.seens ≡ CLIENTS
@@ -237,7 +242,48 @@ pub record IsFollowed (s : Store) (client shard : ℕ) (t : Store) : Type 0 wher
   pub mine : HasFollowed (known_by s client) (known_by t client)
   pub others : (other : ℕ) → other ≢ client → IsLater (known_by s other) (known_by t other)
 
--- By `follow` the shard has followed, and what fits the journal fits it still, which is the same.
+-- By `follow` a shard has followed. The journal is the same, so what fitted it fits it still.
 abbrev pub ShardsFollow : Type 0
 ShardsFollow =
     (s : Store) (client shard : ℕ) → IsSound s → client < CLIENTS → shard < s.shards → IsFollowed s client shard (followed s client shard)
+
+-- ---- worked lines
+
+-- the counter of a key
+abbrev counter : List ℕ → Address
+counter key = record { kind = kind.Counter; key = key }
+
+-- a store in which somebody has added 1 to the counter x
+abbrev with_one : Store
+with_one = record (first_store 4 2 100) { journal = adding 1 (codes "x") ∷ [] }
+
+-- who has seen nothing reads the default at front 0
+read-example : (step with_one 5 (Call.read (counter (codes "x")))).1 ≡ Answer.snap (record { base = 0; value = value.Counter (pos 0) })
+read-example = refl
+
+-- who has learnt of the commit reads behind it
+read-refreshed :
+    (step (step with_one 5 Call.refresh).0 5 (Call.read (counter (codes "x")))).1 ≡ Answer.snap (record { base = 1; value = value.Counter (pos 1) })
+read-refreshed = refl
+
+abbrev read_at_base : ℕ → Based
+read_at_base base = record { address = counter (codes "x"); obs = obs.CounterIs; base = base }
+
+least_base-example : least_base (read_at_base 3 ∷ read_at_base 2 ∷ []) ≡ Some 2
+least_base-example = refl
+
+-- what was read at 0 clashes with the commit once the shard, which is the first, has followed to it
+prepare-example :
+    (step (followed with_one 5 1) 5 (Call.prepare 1 (read_at_base 0 ∷ []))).1
+    ≡ Answer.clash (record { address = counter (codes "x"); obs = obs.CounterIs; base = 0; part = op.AddCounter (pos 1); number = 1 })
+prepare-example = refl
+
+-- a client is told what it asked for, and to where that goes
+take-example :
+    (step (step with_one 5 (Call.subscribe (counter (codes "x")))).0 5 Call.take).1
+    ≡ Answer.feed (record { to = 1; changes = (counter (codes "x"), delta.AddCounter (pos 1)) ∷ [] })
+take-example = refl
+
+-- and nothing where it asked for nothing
+take-nothing : (step with_one 5 Call.take).1 ≡ Answer.feed (record { to = 1; changes = [] })
+take-nothing = refl

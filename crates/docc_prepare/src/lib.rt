@@ -22,7 +22,8 @@ pub use laws::{
     legal_journals_are_orderly, moves_stay_sound,
 };
 pub use store_laws::{
-    first_stores_are_sound, shards_follow, steps_are_answered, steps_leave_others, witness_is_named,
+    first_stores_are_sound, others_count_as_within, shards_follow, steps_are_answered,
+    steps_leave_others, witness_is_named,
 };
 
 #[cfg(test)]

@@ -1,11 +1,17 @@
-//! The laws of stores and of witnesses: functions that do nothing, whose contracts are theorems over the definitions.
+//! The laws of backends, of stores and of witnesses: functions that do nothing, whose contracts are theorems over the definitions.
 
+ghost use Rattle.docc_prepare.specs.Backends.{OthersCountAsWithin};
 ghost use Rattle.docc_prepare.specs.Stores.{FirstStoreIsSound, StepsAreAnswered, StepsLeaveOthers, ShardsFollow};
 ghost use Rattle.docc_prepare.specs.Witnesses.{WitnessIsNamed};
 
 /// The law that the least pair has a witness, which names the observation and the change.
 pub fn witness_is_named()
     ensures { WitnessIsNamed }
+{}
+
+/// The law that what others did before a call counts as done within it.
+pub fn others_count_as_within()
+    ensures { OthersCountAsWithin }
 {}
 
 /// The law that the first store is sound.
