@@ -118,7 +118,7 @@ late-is h (Some b) base e = by (nat_lt b h) refl e
 -- ---- the steps
 
 -- what a client may hand on is of an attempt
-pub of-append : (s : Store) (c : ℕ) (ready : Ready) (can : CanAppend (known_by s c) ready) → IsOf s c ready can.attempt
+of-append : (s : Store) (c : ℕ) (ready : Ready) (can : CanAppend (known_by s c) ready) → IsOf s c ready can.attempt
 of-append s c ready can = record {
   fits = can.told.fits;
   runs = appends can.attempt ready.run can.next;

@@ -21,12 +21,12 @@ use Rattle.version_shard.specs.Shards.{Sharded, IsIn}
 use Rattle.version_shard.specs.Validating.{ReadsAt}
 use Rattle.version_shard.specs.declared.at_error.AtError.TheVariants as at_error
 use Rattle.version_shard.specs.Standing.{Holds, IsNext}
+use Rattle.version_shard.proofs.Legal.{legal-is-readable, tails-are-of-their-kinds}
 use Rattle.docc_prepare.specs.Calls.{Answer}
 use Rattle.local_world.specs.Answering.{back_at}
 use Rattle.docc_prepare.proofs.Growing.{legal_is_orderly}
 use Rattle.docc_prepare.proofs.Stored.{kept, rises}
 use Rattle.local_world.specs.Standing.{IsHeld, AreHeld, HaveRisen, fronts_of}
-use Rattle.local_world.proofs.Awaited.{legal_is_readable, tails_are_of_their_kinds}
 
 -- ---- one shard
 
@@ -34,7 +34,7 @@ use Rattle.local_world.proofs.Awaited.{legal_is_readable, tails_are_of_their_kin
 pub tail-kinds : (journal : Journal) (shards shard from to : ℕ) (tail : Tail) → IsLegal 0 journal
     → HasAll from to (of_shard shards shard (between from to (changes journal))) tail → AreOfTheirKinds tail.changes
 tail-kinds journal shards shard from to tail legal all =
-    subst AreOfTheirKinds (sym all.exact) (tails_are_of_their_kinds journal shards shard from to (legal_is_orderly journal legal).kinds)
+    subst AreOfTheirKinds (sym all.exact) (tails-are-of-their-kinds journal shards shard from to (legal_is_orderly journal legal).kinds)
 
 module _ (journal : Journal) (settings : Settings) (place : ℕ) where
   -- a tail from its front on is what comes next
@@ -42,7 +42,7 @@ module _ (journal : Journal) (settings : Settings) (place : ℕ) where
       → shards ≡ settings.shards → front ≡ shard.front → to ≤ length journal
       → HasAll front to (of_shard shards place (between front to (changes journal))) tail → IsNext journal shard tail
   is_next shards front to shard tail legal held among here within all = record {
-    readable = legal_is_readable journal legal;
+    readable = legal-is-readable journal legal;
     within = subst (λ (n : ℕ). n ≤ length journal) (sym all.ends) within;
     exact = record {
       begins = all.begins ∙ here;

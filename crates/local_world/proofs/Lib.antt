@@ -1,4 +1,3 @@
-pub mod Awaited
 pub mod Holding
 pub mod SamePairs
 pub mod Registries

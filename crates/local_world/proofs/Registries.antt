@@ -38,7 +38,7 @@ use Rattle.reactive_registry.specs.Registered.{Kept, Registered, kept_of, with_k
 use Rattle.reactive_registry.specs.Standing.{since, KeptFor, StandsFor}
 use Rattle.reactive_registry.proofs.Pairs.{same_number, turned}
 use Rattle.reactive_registry.proofs.Standing.{deltas-chosen, takes_stand}
-use Rattle.reactive_registry.proofs.Coming.{subscribed_stands, unsubscribed_stands}
+use Rattle.reactive_registry.proofs.GoingOn.{subscribes_stand, unsubscribes_stand}
 use Rattle.reactive_registry.proofs.Clients.{one_stands, all_stand}
 use Rattle.docc_prepare.specs.Stores.{CLIENTS}
 use Rattle.local_world.specs.Stored.{taken_by}
@@ -327,22 +327,6 @@ module _ (journal : Journal) (old new : Registered) (client : ℕ) (following : 
 address_itself : (a : Address) → is_at (address_cmp a) a ≡ true
 address_itself a = ap is_eq (at_itself address_cmp addresses.total-law a)
 
-module _ (journal : Journal) (old new : Registered) (client : ℕ) (address : Address) (f : Kept → Kept) (w : Bool) (following : IsFollowing journal old)
-    (front : new.front ≡ old.front) (is : (s : ℕ) → kept_of new s ≡ with_kept old client (option_map f (kept_of old client)) s)
-    (tells : (s : ℕ) (a : Address) → is_subscribed new s a ≡ cond (is_at (nat_cmp client) s && is_at (address_cmp address) a) w (is_subscribed old s a)) where
-  -- what is told of the one client says what its addresses are
-  pub has-one : (k : Kept) → kept_of old client ≡ Some k → (a : Address) → is_address (f k) a ≡ cond (is_at (address_cmp address) a) w (is_address k a)
-  has-one k e a =
-      sym (ap (told_in a) (is client)
-      ∙ ap (λ b. told_in a (cond b (option_map f (kept_of old client)) (kept_of old client))) (itself client)
-      ∙ ap (λ (o : Option Kept). told_in a (option_map f o)) e)
-      ∙ tells client a
-      ∙ ap (λ b. cond (b && is_at (address_cmp address) a) w (is_subscribed old client a)) (itself client)
-      ∙ ap (λ (o : Option Kept). cond (is_at (address_cmp address) a) w (told_in a o)) e
-
-  pub tells-as : (c : ℕ) (a : Address) → is_subscribed new c a ≡ cond ((c == client) && is_at (address_cmp address) a) w (is_subscribed old c a)
-  tells-as c a = tells c a ∙ ap (λ b. cond (b && is_at (address_cmp address) a) w (is_subscribed old c a)) (same_test client c)
-
 -- what was missed at an address
 missed-is : (journal : Journal) (front from : ℕ) (address : Address) (missed : Tail) (k : Kept) → from ≡ k.taken
     → HasAll from front (of_address address (between from front (changes journal))) missed
@@ -365,14 +349,12 @@ module _ (journal : Journal) (old new : Registered) (client from : ℕ) (address
     (all : HasAll from old.front (of_address address (between from old.front (changes journal))) missed) (front : new.front ≡ old.front) where
   pub following-tell : {E : Type 0} (r : Result (Unit {0}) E)
       → OnOk r ((s : ℕ) → kept_of new s ≡ with_kept old client (option_map (subscribed address missed.changes) (kept_of old client)) s)
-      → OnOk r ((s : ℕ) (a : Address) → is_subscribed new s a ≡ cond (is_at (nat_cmp client) s && is_at (address_cmp address) a) true (is_subscribed old s a))
       → OnErr r ((s : ℕ) → kept_of new s ≡ kept_of old s) → IsFollowing journal new
-  following-tell (Ok u) is tells same =
+  following-tell (Ok u) is same =
       following-one journal old new client (subscribed address missed.changes) following front is
-      (λ k e. subscribed_stands (up_to old.front (changes journal)) missed.changes old.front address k (following.stands.kept client k e)
-      (has-one journal old new client address (subscribed address missed.changes) true following front is tells k e)
+      (λ k e. subscribes_stand (up_to old.front (changes journal)) missed.changes old.front k address (following.stands.kept client k e)
       (missed-is journal old.front from address missed k (taken k e) all))
-  following-tell (Err e) is tells same = following-same journal old new following front same
+  following-tell (Err e) is same = following-same journal old new following front same
 
   pub taken-tell : {E : Type 0} (r : Result (Unit {0}) E)
       → OnOk r ((s : ℕ) → kept_of new s ≡ with_kept old client (option_map (subscribed address missed.changes) (kept_of old client)) s)
@@ -398,14 +380,13 @@ module _ (journal : Journal) (old new : Registered) (client : ℕ) (address : Ad
   pub following-hush : IsFollowing journal new
   following-hush =
       following-one journal old new client (unsubscribed address) following front is
-      (λ k e. unsubscribed_stands (up_to old.front (changes journal)) old.front address k (following.stands.kept client k e)
-      (has-one journal old new client address (unsubscribed address) false following front is tells k e))
+      (λ k e. unsubscribes_stand (up_to old.front (changes journal)) old.front k address (following.stands.kept client k e))
 
   pub taken-hush : (c : ℕ) → taken_by new c ≡ taken_by old c
   taken-hush = taken-one old new client (unsubscribed address) is (λ k. refl)
 
   pub told-hush : (c : ℕ) (a : Address) → is_subscribed new c a ≡ cond ((c == client) && is_at (address_cmp address) a) false (is_subscribed old c a)
-  told-hush = tells-as journal old new client address (unsubscribed address) false following front is tells
+  told-hush c a = tells c a ∙ ap (λ b. cond (b && is_at (address_cmp address) a) false (is_subscribed old c a)) (same_test client c)
 
 -- ---- the journal grows
 

@@ -30,7 +30,7 @@ use Rattle.docc_prepare.specs.Witnesses.{least_witness}
 use Rattle.docc_prepare.proofs.Each.{each-more}
 use Rattle.docc_prepare.proofs.Growing.{legal_is_orderly}
 use Rattle.docc_prepare.proofs.Stored.{IsOf, one-kinds, found-is, stalled-sound, followed-sound}
-use Rattle.docc_prepare.proofs.Answered.{of-append}
+use Rattle.docc_prepare.proofs.Nexts.{appends}
 use Rattle.docc_prepare.specs.Stores.{Store, CLIENTS, least_base, late_base, validated, decided, telling, followed, HasStalled, Does, IsSound, known_by}
 use Rattle.local_world.specs.Stored.{Stored, taken_by, store_of}
 use Rattle.local_world.specs.Standing.{IsHeld, AreHeld, HaveRisen, IsFollowing, IsFedBy, IsKept, fronts_of, stored}
@@ -159,7 +159,14 @@ module _ (settings : Settings) (standing : Standing) (shards : List Sharded) (se
 
   module _ (ready : Ready) (can : CanAppend (known_by (store_of old) client) ready) where
     of : IsOf (store_of old) client ready can.attempt
-    of = of-append (store_of old) client ready can
+    of = record {
+      fits = can.told.fits;
+      runs = appends can.attempt ready.run can.next;
+      made = can.made;
+      text = can.text;
+      all_shards = can.all_shards;
+      next = can.told.seq;
+    }
 
     pub may-decide : MayDecide ready standing
     may-decide = record {
