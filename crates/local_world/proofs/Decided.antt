@@ -63,13 +63,13 @@ module _ (ready : Ready) (old mid : Standing) (same : mid ≡ record old { room 
         let left : new.commits ≡ old.commits = ap (λ (x : Standing). x.commits) d.1 ∙ commits-same in
         let least : least_pair ready.based old.commits ≡ Some found = sym may.spared ∙ sym found-same ∙ d.0 in
         let here : witness_of ready.based old.commits found ≡ Some w =
-            named-by-journal ready.based old.commits found (legal_is_orderly old.commits may.legal) may.kinds least w
-            (subst (λ (j : Journal). IsWitnessOf ready.based j found w) left is)
+        named-by-journal ready.based old.commits found (legal_is_orderly old.commits may.legal) may.kinds least w
+        (subst (λ (j : Journal). IsWitnessOf ready.based j found w) left is)
         in
         let there : witness_past s ready ≡ Some w =
-            ap (option_and_then (witness_of ready.based s.journal)) (found-is ∙ d.0)
-            ∙ ap (λ (j : Journal). witness_of ready.based j found) of.journal
-            ∙ here
+        ap (option_and_then (witness_of ready.based s.journal)) (found-is ∙ d.0)
+        ∙ ap (λ (j : Journal). witness_of ready.based j found) of.journal
+        ∙ here
         in
         let all = whole (Some w) (nat_le s.limit (length s.journal)) there refl in record {
           answer = sym (ap (λ (p : Store × Answer). p.1) all);

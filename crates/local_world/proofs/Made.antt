@@ -125,8 +125,8 @@ more-made settings n shards all s before held front is =
         ];
       },
       fronts-push shards s
-      ∙ ap (λ ns. ns ++ s.front ∷ []) before.1
-      ∙ ap (λ (k : ℕ). replicate n 0 ++ k ∷ []) front
-      ∙ replicate-push n 0
-      ∙ ap (λ (k : ℕ). replicate k 0) (sym (add-one n)),
+          ∙ ap (λ ns. ns ++ s.front ∷ []) before.1
+          ∙ ap (λ (k : ℕ). replicate n 0 ++ k ∷ []) front
+          ∙ replicate-push n 0
+          ∙ ap (λ (k : ℕ). replicate k 0) (sym (add-one n)),
     )

@@ -132,9 +132,9 @@ module _ (based : List Based) (journal : Journal) (found : Found) (orderly : IsO
       let change_number : other.change.number ≡ commit.number = number-of other.commit.number other.commit.deltas other.index other.change other.among ∙ ap (λ (c : Commit). c.number) same_commit in
       let commit_number : commit.number ≡ found.number = sym change_number ∙ sym other.names.number ∙ other.number in
       let past : nat_lt observation.base commit.number ≡ true =
-          ap (λ (b : Based). nat_lt b.base commit.number) (sym same) ∙ ap (nat_lt other.observation.base) (sym change_number)
-          ∙ both-true (nat_lt other.observation.base other.change.number) (is_at (address_cmp other.observation.address) other.change.address)
-          (both-true (meets other.observation other.change) (clash other.observation.obs other.change.delta) other.clashing) in
+      ap (λ (b : Based). nat_lt b.base commit.number) (sym same) ∙ ap (nat_lt other.observation.base) (sym change_number)
+      ∙ both-true (nat_lt other.observation.base other.change.number) (is_at (address_cmp other.observation.address) other.change.address)
+      (both-true (meets other.observation other.change) (clash other.observation.obs other.change.delta) other.clashing) in
       let one = each-at IsBasedOfOneKind based found.place observation kinds placed in
       let at = placed-at journal found.number commit numbered in
       let deltas = each-at (λ (c : Commit). AreOfTheirKinds c.deltas) journal at.0 commit orderly.kinds at.1 in
@@ -196,9 +196,9 @@ in-commit : (m n : ℕ) (journal : Journal) (i : ℕ) (change : Change) → AreN
     → (k : ℕ) × (commit : Commit) × (j : ℕ) × (slice_get journal k ≡ Some commit) × (slice_get (changes_of commit) j ≡ Some change) × (change.number ≡ m + k + 1)
 in-commit m n [] i change numbered is = absurd (cc)
 in-commit m n (commit ∷ journal) i change numbered is = elim (in-either (changes_of commit) (changes journal) i change is) [
-    | inl p ↦ (0, commit, p.0, refl, p.1, let h = number-of commit.number commit.deltas p.0 change p.1 in let g = numbered.0 in omega arith)
-    | inr p ↦ let r = in-commit (m + 1) n journal p.0 change numbered.1 p.1 in (r.0 + 1, r.1, r.2, after commit journal r.0 r.1 r.3, r.4, let h = r.5 in omega arith)
-  ]
+  | inl p ↦ (0, commit, p.0, refl, p.1, let h = number-of commit.number commit.deltas p.0 change p.1 in let g = numbered.0 in omega arith)
+  | inr p ↦ let r = in-commit (m + 1) n journal p.0 change numbered.1 p.1 in (r.0 + 1, r.1, r.2, after commit journal r.0 r.1 r.3, r.4, let h = r.5 in omega arith)
+]
   where
     after : (c : Commit) (rest : Journal) (k : ℕ) (x : Commit) → slice_get rest k ≡ Some x → slice_get (c ∷ rest) (k + 1) ≡ Some x
     after c rest k x e = rw add-one e
@@ -214,7 +214,7 @@ named-by-shard based journal w readable orderly kinds is =
     let meeting = both-true (meets pair.observation pair.change) (clash pair.observation.obs pair.change.delta) pair.clashing in
     let address : pair.observation.address ≡ pair.change.address = same_address pair.observation.address pair.change.address (second-true (nat_lt pair.observation.base pair.change.number) _ meeting) in
     let delta : delta_at here.1.deltas pair.observation.address ≡ Some pair.change.delta =
-        ap (delta_at here.1.deltas) address ∙ delta-there here.1.number here.1.deltas here.2 pair.change rising here.4 in
+    ap (delta_at here.1.deltas) address ∙ delta-there here.1.number here.1.deltas here.2 pair.change rising here.4 in
     ap (option_and_then (witness_of based journal)) is.least
     ∙ named-as based journal is.found orderly kinds is.least pair.observation here.1 pair.change.delta w pair.placed at delta is.names.part is.names.address is.names.observed is.names.base
     (is.names.number ∙ pair.numbered)

@@ -122,7 +122,7 @@ module _ (journal : Journal) (old new : Registered) where
   following-told tail numbered f all front is =
       let ends : new.front ≡ length journal = front ∙ all.ends in
       let in_order : IsTail old.front new.front tail.changes =
-          subst (λ (n : ℕ). IsTail n new.front tail.changes) all.begins (subst (λ (n : ℕ). IsTail tail.from n tail.changes) (sym front) tail.in_order)
+      subst (λ (n : ℕ). IsTail n new.front tail.changes) all.begins (subst (λ (n : ℕ). IsTail tail.from n tail.changes) (sym front) tail.in_order)
       in record {
         reached = omega arith;
         stands = subst (λ (cs : List Change). StandsFor cs new)
@@ -261,8 +261,8 @@ module _ (journal : Journal) (registry : Registered) (client : ℕ) (following :
       let there = kept-there (kept_of registry client) (following.entered client below) in
       let chosen : List Change = filter (λ change. is_subscribed registry client change.address) since_taken in
       let deltas : feed.changes ≡ with_changes [] chosen =
-          same_pairs address_cmp addresses.total-law address_cmp-equal feed.changes (with_changes [] chosen) rising (rising-with_changes chosen [] none-rising)
-          (λ a. is a ∙ pending-is there.0 there.1 a ∙ sym (feeds_keep_pending chosen a))
+      same_pairs address_cmp addresses.total-law address_cmp-equal feed.changes (with_changes [] chosen) rising (rising-with_changes chosen [] none-rising)
+      (λ a. is a ∙ pending-is there.0 there.1 a ∙ sym (feeds_keep_pending chosen a))
       in
       ap (λ (n : ℕ). let f : Fed = record { to = n; changes = feed.changes } in f) (to ∙ ended)
       ∙ ap (λ (ds : Deltas). let f : Fed = record { to = length journal; changes = ds } in f) deltas
@@ -396,9 +396,9 @@ following-longer journal later registry first whole f =
     let l = length-append journal later in
     let r = f.reached in
     let same : up_to registry.front (changes journal) ≡ up_to registry.front (changes (journal ++ later)) =
-        changes-up_to registry.front 0 registry.front journal (omega arith) first
-        ∙ ap changes (sym (take-append-le registry.front journal later f.reached))
-        ∙ sym (changes-up_to registry.front 0 registry.front (journal ++ later) (omega arith) whole)
+    changes-up_to registry.front 0 registry.front journal (omega arith) first
+    ∙ ap changes (sym (take-append-le registry.front journal later f.reached))
+    ∙ sym (changes-up_to registry.front 0 registry.front (journal ++ later) (omega arith) whole)
     in record {
       reached = omega arith;
       stands = subst (λ (cs : List Change). StandsFor cs registry) same f.stands;

@@ -25,7 +25,10 @@ fn nothing_stands_in_a_new_world(rt: HostRuntime) -> Result<(), Fail> {
     let mut world = World::new(alloc, &Settings::standard())?;
     let address = counter(alloc)?;
     let mut view = world.view(3);
-    assert_eq!(rt; (view.client(), view.seen(), view.store_faults()), (3, 0, 0));
+    assert_eq!(rt;
+        (view.client(), view.seen(), view.store_faults()),
+        (3, 0, 0)
+    );
     assert!(rt; view.refresh().is_ok_and(|number| number == 0));
     assert!(rt; view.read(&address).is_ok_and(|snap| snap.base == 0));
     assert!(rt; view.read_at(&address, 0).is_ok());

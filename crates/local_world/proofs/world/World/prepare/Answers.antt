@@ -26,8 +26,11 @@ pub returns-in_default : goal.returns-in_default
 returns-in_default c =
     goes c.self.inside.settings c.self.inside.journal c.self.inside.shards.items c.self.inside.seens c.self.inside.registry c.self.invariant c.args.client c.requires.client
     c.args.self.now c.args.self.now (Call.prepare c.args.shard c.args.based.now) (Answer.failed false) c.self.view_is (c.requires.can)
-    (λ can. (refl, subst (λ (o : Stored). HasStalled (store_of (stored c.self.inside.settings c.self.inside.journal.commits c.self.inside.shards.items c.self.inside.seens c.self.inside.registry)) (store_of o))
-    c.self.view_is (want_nothing c.self.inside.settings c.self.inside.journal c.self.inside.shards.items c.self.inside.seens c.self.inside.registry c.self.invariant c.args.client c.requires.client)))
+    (λ can. (
+      refl,
+      subst (λ (o : Stored). HasStalled (store_of (stored c.self.inside.settings c.self.inside.journal.commits c.self.inside.shards.items c.self.inside.seens c.self.inside.registry)) (store_of o))
+          c.self.view_is (want_nothing c.self.inside.settings c.self.inside.journal c.self.inside.shards.items c.self.inside.seens c.self.inside.registry c.self.invariant c.args.client c.requires.client),
+    ))
 
 pub invariant_of-self : goal.invariant_of-self
 invariant_of-self c =

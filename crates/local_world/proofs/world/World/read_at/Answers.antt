@@ -21,7 +21,7 @@ read_back-requires-clause-held c =
 pub read_back-requires-clause-within : goal.read_back-requires-clause-within
 read_back-requires-clause-within c =
     let seen : c.args.number ≤ seen_by (store_of (stored c.self.inside.settings c.self.inside.journal.commits c.self.inside.shards.items c.self.inside.seens c.self.inside.registry)) c.args.client =
-        subst (λ (o : Stored). c.args.number ≤ seen_by (store_of o) c.args.client) (sym c.self.view_is) c.requires.seen in
+    subst (λ (o : Stored). c.args.number ≤ seen_by (store_of o) c.args.client) (sym c.self.view_is) c.requires.seen in
     let within = seen-within c.self.inside.settings c.self.inside.journal c.self.inside.shards.items c.self.inside.seens c.self.inside.registry c.self.invariant c.args.client c.requires.client in omega arith
 
 pub invariant_of-self : goal.invariant_of-self
