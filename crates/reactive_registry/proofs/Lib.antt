@@ -7,4 +7,3 @@ pub mod GoingOn
 pub mod Undone
 pub mod Clients
 pub mod Told
-pub mod Coming
