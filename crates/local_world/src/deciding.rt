@@ -24,7 +24,8 @@ pub(crate) fn decide<L: Ledger>(
     ensures shards { journal.new.shards ≡ journal.old.shards }
     ensures limit { journal.new.limit ≡ journal.old.limit }
     ensures err { OnErr result (journal.new.commits ≡ journal.old.commits) }
-    ensures decided { IfOk result (λ answer. (s : Store) (client : ℕ) → HasJournal s journal.old → IsDecided s client ready.now (commit_answered answer) journal.new.commits) }
+    ensures decided { IfOk result (λ answer. (s : Store) (client : ℕ) → HasJournal s journal.old
+        → IsDecided s client ready.now (commit_answered answer) journal.new.commits) }
 {
     let slot = journal.reserve(ready)?;
     let mut steps = Steps::<L>::new(blank);

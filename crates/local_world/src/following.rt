@@ -106,9 +106,12 @@ pub(crate) fn read_back(
     requires within { number ≤ length journal.now.commits }
     ensures held { AreHeld journal.now.commits settings.now shards.new.items }
     ensures risen { HaveRisen journal.now.commits (fronts_of shards.old.items) (fronts_of shards.new.items) }
-    ensures moved { OnOk result (fronts_of shards.new.items ≡ set (fronts_of shards.old.items) (shard_of address.now settings.now.shards) (max (get_or (fronts_of shards.old.items) (shard_of address.now settings.now.shards) 0) number)) }
+    ensures moved { OnOk result (fronts_of shards.new.items
+        ≡ set (fronts_of shards.old.items) (shard_of address.now settings.now.shards)
+        (max (get_or (fronts_of shards.old.items) (shard_of address.now settings.now.shards) 0) number)) }
     ensures answer { IfOk result (λ answer. value_answered answer
-        ≡ back_at journal.now.commits settings.now.window address.now number (max (get_or (fronts_of shards.old.items) (shard_of address.now settings.now.shards) 0) number)) }
+        ≡ back_at journal.now.commits settings.now.window address.now number
+        (max (get_or (fronts_of shards.old.items) (shard_of address.now settings.now.shards) 0) number)) }
 {
     let place = shard_of(address, settings.shards);
     follow_at(journal, settings, shards, place, number)?;
