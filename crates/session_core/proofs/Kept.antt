@@ -48,6 +48,10 @@ fits-on old new a e fits = subst (λ journal. Fits journal a) (grown old new e) 
 
 -- ---- conditions
 
+-- an attempt has shards
+pub some-shards : (a : Attempt) → 0 < a.shards
+some-shards a = let h = a.shards_in_range.0 in omega arith
+
 pub can-prepare : (k : Known) (a : Attempt) (shard : ℕ) (run : Run) → Holds k a → 0 < a.shards → length run.observations < 2 ^ 32 → next_event a ≡ next.Prepare shard run
     → CanPrepare k shard (in_shard a.shards shard (based a.snaps run.observations))
 can-prepare k a shard run h some few e = let p = prepares a shard run e in record {

@@ -1,8 +1,10 @@
 pub mod Trims
 pub mod Bodies
-pub mod Verbs
+pub mod Forms
 pub mod Short
 pub mod Attempts
 pub mod Kept
 pub mod Phases
 pub mod Steps
+pub mod Explaining
+pub mod Explained

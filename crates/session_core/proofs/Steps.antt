@@ -1,6 +1,8 @@
 -- Steps put together.
-use Rattle.std.proofs.Common.{◌≡◌, ℕ, zero, suc, ◌+◌, ◌-◌, ◌*◌, ◌≤◌, ◌<◌, Bool, true, false, List, [], ◌∷◌, length, set, Option, Some, None, Result, Ok, Err, refl, sym, ap, ◌∙◌, subst, arith}
+use Rattle.std.proofs.Common.{◌≡◌, ℕ, zero, suc, ◌+◌, ◌-◌, ◌*◌, ◌≤◌, ◌<◌, Bool, true, false, cond, List, [], ◌∷◌, length, set, Option, Some, None, Result, Ok, Err, refl, sym, ap, ◌∙◌, subst, arith}
+use Rattle.std.specs.Prelude.{nat_lt}
 use Rattle.std.specs.BTreeMap.{insert_entry}
+use Rattle.std.proofs.lemmas.Bool.Decides.{nat_tests}
 use Rattle.rdt_types.specs.declared.address.Address.{Address}
 use Rattle.rdt_types.specs.Addresses.{address_cmp}
 use Rattle.session_text.specs.declared.reply.Reply.{Reply}
@@ -27,7 +29,7 @@ use Rattle.session_core.specs.declared.moved.Ended.{Ended}
 use Rattle.session_core.specs.declared.session.Session.{Session}
 use Rattle.session_core.specs.declared.turn.Turn.{Turn}
 use Rattle.session_core.specs.Errors.{error_of}
-use Rattle.session_core.specs.Phases.{Phase, with_attempt, closed, ended, afresh, event_call, call_of, moved_at, moved_by, said, stepped, is_abort, after_end, gone, look_by, look_on, asks, after}
+use Rattle.session_core.specs.Phases.{Phase, with_attempt, closed, ended, afresh, event_call, call_of, moved_at, moved_by, said, stepped, is_abort, after_end, gone, look_by, look_on, look_from, asks, after}
 use Rattle.session_core.specs.Leading.{Leads, Reaches, Stops, Went, Turned, Moves, Tries, Makes, Drives, Closes, Replies, LooksAt, Valued, turn_of}
 use Rattle.session_core.proofs.Phases.{PhaseHolds, phase-kept}
 
@@ -233,6 +235,51 @@ module _ {B : Type 0} (known : B → Known) (goes : B → Call → Answer → B 
         leads = Leads.by_step (read_at address m) answer looked-led refl step refl;
         cause = λ is. ap (after (Phase.looked s m body snaps address)) (h is);
       }
+
+module _ {B : Type 0} (known : B → Known) (goes : B → Call → Answer → B → Type 0) where
+  -- more steps may be allowed
+  pub reach-more : (b : B) (p : Phase) (m n : ℕ) (c : B) (q r : Phase) → m ≤ n → q ≡ r → Reaches known goes b p m c q → Reaches known goes b p n c r
+  reach-more b p m n c q r up is h = record { count = h.count; few = let f = h.few in omega arith; leads = subst (λ x. Leads (Goes known goes) b p h.count c x) is h.leads }
+
+  -- one attempt of several
+  pub tried : (b : B) (p : Phase) (t : ℕ) (c : B) (s : Session) (left : ℕ) (a : Attempt) (n : ℕ) (c' d : B) (end : Ended) → Reaches known goes b p (t * (MOST_EVENTS + 1)) c (Phase.trying s left a)
+      → Goes known goes c refresh (Answer.number n) c' → Drives known goes s a c' (Ok end) d → Reaches known goes b p ((t + 1) * (MOST_EVENTS + 1)) d (after_end s left end.attempt end.reply)
+  tried b p t c s left a n c' d end first step drives = let rest = drives left in record {
+    count = first.count + 1 + rest.count;
+    few = let f = first.few in let r = rest.few in omega arith;
+    leads = leads-on (Goes known goes) b p c' (Phase.going s left a) (first.count + 1) d (after_end s left end.attempt end.reply) rest.count
+        (Leads.by_step refresh (Answer.number n) first.leads refl step refl) rest.leads;
+  }
+
+  pub tried-stops : (b : B) (p : Phase) (t : ℕ) (c : B) (s : Session) (left : ℕ) (a : Attempt) (n : ℕ) (c' d : B) (e : SessionError) → Reaches known goes b p t c (Phase.trying s left a)
+      → Goes known goes c refresh (Answer.number n) c' → Drives known goes s a c' (Err e) d → Stops known goes b p e d
+  tried-stops b p t c s left a n c' d e first step drives =
+      stops-on known goes b p (first.count + 1) c' (Phase.going s left a) e d (Leads.by_step refresh (Answer.number n) first.leads refl step refl) (drives left)
+
+  -- a look, by the prefix on which it runs
+  pub looked-from : (b : B) (s : Session) (upto : Option ℕ) (body : Checked) (seen m : ℕ) (c d : B) (result : Result Reply SessionError) → look_from s seen upto body ≡ look_on s m body []
+      → Goes known goes b refresh (Answer.number seen) c → LooksAt known goes s m body c result d → Replies known goes b (Phase.looking s upto body) result d s
+  looked-from b s upto body seen m c d (Ok r) is step looks = reaches-on known goes b (Phase.looking s upto body) 1 c (look_on s m body []) MOST_CALLS MOST_EVENTS d (Phase.over s (said r)) (omega arith)
+      (one-led (Goes known goes) b c (Phase.looking s upto body) (look_on s m body []) refresh (Answer.number seen) refl step is) looks
+  looked-from b s upto body seen m c d (Err e) is step looks = stops-on known goes b (Phase.looking s upto body) 1 c (look_on s m body []) e d
+      (one-led (Goes known goes) b c (Phase.looking s upto body) (look_on s m body []) refresh (Answer.number seen) refl step is) looks
+
+  pub looked-ahead : (b : B) (s : Session) (body : Checked) (seen n : ℕ) (c : B) → seen < n → Goes known goes b refresh (Answer.number seen) c
+      → Reaches known goes b (Phase.looking s (Some n) body) MOST_CALLS c (Phase.over s (said (reply.Ahead n seen)))
+  looked-ahead b s body seen n c ahead step = record {
+    count = 1;
+    few = omega arith;
+    leads = one-led (Goes known goes) b c (Phase.looking s (Some n) body) (Phase.over s (said (reply.Ahead n seen))) refresh (Answer.number seen) refl step
+        (let test : nat_lt seen n ≡ true = grind (arith, nat_tests) in ap (λ x. cond x (Phase.over s (said (reply.Ahead n seen))) (look_on s n body [])) test);
+  }
+
+  pub not-ahead : (s : Session) (body : Checked) (seen n : ℕ) → n ≤ seen → look_from s seen (Some n) body ≡ look_on s n body []
+  not-ahead s body seen n h = let test : nat_lt seen n ≡ false = grind (arith, nat_tests) in ap (λ x. cond x (Phase.over s (said (reply.Ahead n seen))) (look_on s n body [])) test
+
+  -- `begin`
+  pub begun : (b c : B) (s : Session) (a : Attempt) (n : ℕ) → Goes known goes b refresh (Answer.number n) c
+      → Reaches known goes b (Phase.beginning s a) MOST_CALLS c (Phase.over (with_attempt s (Some a)) (said (reply.Seen n)))
+  begun b c s a n step = record { count = 1; few = omega arith; leads = one-led (Goes known goes) b c (Phase.beginning s a) (Phase.over (with_attempt s (Some a)) (said (reply.Seen n))) refresh (Answer.number n) refl step refl }
 
 -- a reply in the place of another
 pub placed-one : (place : List Reply) (r : Reply) → length place ≡ 1 → set place 0 r ≡ r ∷ []
