@@ -95,11 +95,11 @@ counts-on k l seq c answer event same h = IfSome-WhereTold (SaysOfJournal k l c 
       within = says.within;
     }) h event.told
 
-reads-on : (k l : Known) (a : Attempt) → k.seen ≤ l.seen → KeepsGiven k l → AllByRecursion (IsRead k) a.snaps → AllByRecursion (IsRead l) a.snaps
+pub reads-on : (k l : Known) (a : Attempt) → k.seen ≤ l.seen → KeepsGiven k l → AllByRecursion (IsRead k) a.snaps → AllByRecursion (IsRead l) a.snaps
 reads-on k l a up keeps all = each-more (IsRead k) (IsRead l) a.snaps
     (λ read r. record { given = (let b = r.given.0 in omega arith, keeps.bases read.0 read.1.base r.given.1); kind = r.kind }) all
 
-fronts-on : (k l : Known) (a : Attempt) (r : Ran) → KeepsGiven k l → FrontsGiven k a r → FrontsGiven l a r
+pub fronts-on : (k l : Known) (a : Attempt) (r : Ran) → KeepsGiven k l → FrontsGiven k a r → FrontsGiven l a r
 fronts-on k l a (need address) keeps h = h
 fronts-on k l a (done run) keeps h = each-more
     (λ prepared. k.fronted prepared.shard (in_shard a.shards prepared.shard (based a.snaps run.observations)) prepared.front ≡ true)

@@ -6,5 +6,6 @@ pub mod Attempts
 pub mod Kept
 pub mod Phases
 pub mod Steps
+pub mod Starts
 pub mod Explaining
 pub mod Explained

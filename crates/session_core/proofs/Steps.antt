@@ -286,3 +286,7 @@ pub placed-one : (place : List Reply) (r : Reply) → length place ≡ 1 → set
 placed-one [] r e = absurd (cc)
 placed-one (x ∷ []) r e = refl
 placed-one (x ∷ y ∷ rest) r e = absurd (let h = e in omega arith)
+
+pub none-else : (o : Option Reply) → ((r : Reply) → o ≡ Some r → ⊥) → o ≡ None
+none-else None h = refl
+none-else (Some r) h = absurd (h r refl)

@@ -32,7 +32,12 @@ pub fn drive<B: Backend>(
     for _ in 0..MOST_EVENTS {
         match event(alloc, backend, session, attempt)? {
             Moved::More(next, _) => attempt = next,
-            Moved::End(attempt, reply) => return Ok(Ended { attempt, reply }),
+            Moved::End(last, reply) => {
+                return Ok(Ended {
+                    attempt: last,
+                    reply,
+                });
+            }
         }
     }
     Err(SessionError::NoMemory)

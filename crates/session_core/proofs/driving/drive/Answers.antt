@@ -25,7 +25,7 @@ returns-in-End-clause-drives g c = λ left. record {
   count = c.loop.counter + 1;
   few = omega arith;
   leads = end-led g.B.Backend.known g.B.Backend.goes c.args.backend.now (Phase.going c.args.session.now left c.args.attempt) c.loop.counter c.loop.backend c.event.new.backend c.args.session.now left c.loop.attempt
-      (c.loop.invariant.led left) c.in-End.attempt' c.in-End.reply
+      (c.loop.invariant.led left) c.in-End.last c.in-End.reply
       (subst (λ (m : Moved). Moves g.B.Backend.known g.B.Backend.goes c.args.session.now c.loop.attempt c.loop.backend m c.event.new.backend) c.in-End.is c.in_ok-next.ensures.makes);
 }
 
