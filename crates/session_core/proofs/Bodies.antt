@@ -22,6 +22,7 @@ use Rattle.session_core.specs.Bodies.{if_pure, if_tree, checked_of, ill_typed, u
 use Rattle.session_core.specs.declared.line.Line.{Line}
 use Rattle.session_core.specs.declared.line.Line.TheVariants as asks
 use Rattle.session_core.specs.Lines.{with_body}
+use Rattle.session_core.specs.Reading.{ReadsBody}
 use Rattle.session_core.proofs.Trims.{parsed_trimmed}
 
 -- the text that is kept is read as the text that came
@@ -113,6 +114,12 @@ unfolding refusal_of
 refuses_writes text body column read typed writes =
     refused_by true text (why.Writes column) (writes_unread text body column read typed writes)
     (ap (unread text) read ∙ (ap (ill_typed body) ((bodies_are_judged body).1 typed).1 ∙ ap (λ o. why.Writes (unwrap_or o 0)) writes))
+
+-- the same, as the reader answers it
+pub syntax-reads : (read_only : Bool) (text : Text) (column told : ℕ) → IsSyntaxColumn text column → told ≡ column
+    → ReadsBody (Err (Cause (why.Syntax told))) (body_of read_only text)
+syntax-reads read_only text column told x is reason e =
+    let k : why.Syntax told ≡ reason = cc in refuses_syntax read_only text column x ∙ ap (λ n. Err (why.Syntax n)) (sym is) ∙ ap (λ r. Err r) k
 
 -- what a verb with a body asks for, by what is read
 pub with_read : (f : Checked → Line) (r : Result Checked Why) (checked : Checked) → r ≡ Ok checked → with_body f r ≡ f checked
