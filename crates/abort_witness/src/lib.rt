@@ -6,11 +6,13 @@
 #![tactic(auto)]
 
 mod finding;
+mod laws;
 mod naming;
 mod witness;
 
 pub use finding::{first_clash, least, lesser};
-pub use naming::name;
+pub use laws::least_is_least;
+pub use naming::{name, name_delta};
 pub use witness::{Based, BasedList, Found, FoundList, Witness, WitnessList};
 
 #[cfg(test)]

@@ -9,7 +9,16 @@ ghost use Rattle.abort_witness.specs.Naming.{Names};
 use crate::witness::{Based, Witness};
 use change_feed::Change;
 use conflict_table::{copy_part, part};
+use plain_data::ExactClone;
+use rdt_types::Delta;
 use std::alloc::AllocError;
+
+/// A copy, which equals its original.
+pub(crate) fn copied<T: ExactClone>(original: &T) -> Result<T, AllocError>
+    ensures { IfOk result (λ copy. copy ≡ original.now) }
+{
+    original.clone()
+}
 
 /// Why a commit is refused: the observation with its base, and the part of the change that it clashes with.
 pub fn name(based: &Based, change: &Change) -> Result<Witness, AllocError>
@@ -18,12 +27,21 @@ pub fn name(based: &Based, change: &Change) -> Result<Witness, AllocError>
     requires clash { clash based.now.obs change.now.delta ≡ true }
     ensures { IfOk result (Names based.now change.now) }
 {
-    let named = part(&based.obs, &change.delta);
+    name_delta(based, &change.delta, change.number)
+}
+
+/// The same, of a delta at the observation's address and the number of its commit.
+pub fn name_delta(based: &Based, delta: &Delta, number: u64) -> Result<Witness, AllocError>
+    requires kind { kind_observed based.now.obs ≡ kind_changed delta.now }
+    requires clash { clash based.now.obs delta.now ≡ true }
+    ensures { IfOk result (Names based.now (record { number = number; address = based.now.address; delta = delta.now })) }
+{
+    let named = part(&based.obs, delta);
     Ok(Witness {
-        address: based.address.clone()?,
-        obs: based.obs.clone()?,
+        address: copied(&based.address)?,
+        obs: copied(&based.obs)?,
         base: based.base,
         part: copy_part(&named)?,
-        number: change.number,
+        number,
     })
 }

@@ -1,5 +1,5 @@
 -- What holds of each item of a list.
-use Rattle.std.proofs.Common.{◌≡◌, Bool, true, false, cond, ℕ, zero, suc, List, [], ◌∷◌, ◌++◌, take, filter, Option, Some, refl, subst}
+use Rattle.std.proofs.Common.{◌≡◌, Bool, true, false, cond, ℕ, zero, suc, List, [], ◌∷◌, ◌++◌, take, filter, Some, refl, subst}
 use Rattle.std.specs.Prelude.{slice_get}
 use Rattle.std.specs.List.{AllByRecursion}
 
@@ -25,6 +25,20 @@ module _ {A : Type 0} where
   each-take P zero (x ∷ xs) all = tt
   each-take P (suc n) [] all = tt
   each-take P (suc n) (x ∷ xs) all = (all.0, each-take P n xs all.1)
+
+  -- it holds of those that a filter keeps
+  pub each-filter : (P : A → Type 0) (test : A → Bool) (xs : List A) → AllByRecursion P xs → AllByRecursion P (filter test xs)
+  each-filter P test [] all = tt
+  each-filter P test (x ∷ xs) all = by (each-filter P test xs all.1) (test x)
+    where
+      by : AllByRecursion P (filter test xs) → (b : Bool) → AllByRecursion P (cond b (x ∷ filter test xs) (filter test xs))
+      by rest true = (all.0, rest)
+      by rest false = rest
+
+  -- it holds of one list behind another
+  pub each-append : (P : A → Type 0) (xs ys : List A) → AllByRecursion P xs → AllByRecursion P ys → AllByRecursion P (xs ++ ys)
+  each-append P [] ys first second = second
+  each-append P (x ∷ xs) ys first second = (first.0, each-append P xs ys first.1 second)
 
   -- it holds of the item at a place
   pub each-at : (P : A → Type 0) (xs : List A) (i : ℕ) (x : A) → AllByRecursion P xs → slice_get xs i ≡ Some x → P x

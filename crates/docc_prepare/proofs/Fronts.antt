@@ -15,9 +15,7 @@ use Rattle.abort_witness.specs.Pairs.{clashes}
 use Rattle.change_feed.specs.declared.change.Change.{Change}
 use Rattle.txn_lang.specs.declared.commit.Commit.{Commit}
 use Rattle.txn_lang.specs.States.{Journal}
-use Rattle.txn_lang.specs.Execution.{Ran, need, done}
 use Rattle.journal_core.specs.declared.ready.PreparedFront.{PreparedFront}
-use Rattle.journal_core.specs.Changes.{changes_of}
 use Rattle.journal_core.specs.Pairs.{pairs, front_at, past_front, past_fronts, AreNumberedFrom}
 use Rattle.docc_prepare.specs.Attempts.{based, in_shard, FrontFits, FrontsFit}
 use Rattle.docc_prepare.specs.Serial.{FrontsSpareNoPair}
@@ -45,17 +43,20 @@ abbrev change_at : ℕ → Address × Delta → Change
 change_at n pair = record { number = n; address = pair.0; delta = pair.1 }
 
 -- a commit past the front is hit by the front as by the base
-any-past : (b : Based) (front n : ℕ) (ds : Deltas) → front < n → list_any (clashes (at_front b front)) (map (change_at n) ds) ≡ list_any (clashes b) (map (change_at n) ds)
+any-past : (b : Based) (front n : ℕ) (ds : Deltas) → front < n → list_any (clashes (at_front b front)) (map (change_at n) ds) ≡ list_any (clashes b)
+    (map (change_at n) ds)
 any-past b front n [] past = refl
 any-past b front n (pair ∷ ds) past =
-    ap (λ t. ((t && is_at (address_cmp b.address) pair.0) && clash b.obs pair.1) || (list_any (clashes (at_front b front)) (map (change_at n) ds))) (past_alike b.base front n past)
+    ap (λ t. ((t && is_at (address_cmp b.address) pair.0) && clash b.obs pair.1) || (list_any (clashes (at_front b front)) (map (change_at n) ds)))
+    (past_alike b.base front n past)
     ∙ ap (λ x. clashes b (change_at n pair) || x) (any-past b front n ds past)
 
 -- a commit up to the front isn't hit by it
 any-below : (b : Based) (front n : ℕ) (ds : Deltas) → n ≤ front → list_any (clashes (at_front b front)) (map (change_at n) ds) ≡ false
 any-below b front n [] below = refl
 any-below b front n (pair ∷ ds) below =
-    ap (λ t. ((t && is_at (address_cmp b.address) pair.0) && clash b.obs pair.1) || (list_any (clashes (at_front b front)) (map (change_at n) ds))) (below_front b.base front n below)
+    ap (λ t. ((t && is_at (address_cmp b.address) pair.0) && clash b.obs pair.1) || (list_any (clashes (at_front b front)) (map (change_at n) ds)))
+    (below_front b.base front n below)
     ∙ any-below b front n ds below
 
 hit-alike : (b : Based) (front : ℕ) (commit : Commit) → (commit.number ≤ front → Misses b commit) → hit (at_front b front) commit ≡ hit b commit
@@ -96,7 +97,8 @@ module _ (journal : Journal) (shards : ℕ) (observed : List Based) where
   clear_upto [] all k = nothing_clear (in_shard shards k observed) journal
   clear_upto (prepared ∷ fronts) all k = by (clear_upto fronts all.1 k) (prepared.shard == k) refl
     where
-      by : Clear (front_at fronts k) (in_shard shards k observed) → (x : Bool) → (prepared.shard == k) ≡ x → Clear (cond x prepared.front (front_at fronts k)) (in_shard shards k observed)
+      by : Clear (front_at fronts k) (in_shard shards k observed) → (x : Bool) → (prepared.shard == k) ≡ x
+          → Clear (cond x prepared.front (front_at fronts k)) (in_shard shards k observed)
       by rest true is =
           subst (λ (l : ℕ). Clear prepared.front (in_shard shards l observed)) (same_shard prepared.shard k is)
           (misses-of-pairs (in_shard shards prepared.shard observed) (take prepared.front journal) all.0.clear)
@@ -110,8 +112,10 @@ module _ (journal : Journal) (shards : ℕ) (observed : List Based) where
     -- by its number each commit misses what was observed in a shard that is clear up to it
     in_each_shard : AllByRecursion (λ commit. (k : ℕ) → commit.number ≤ front_at fronts k → AllByRecursion (MissesInShard commit k) observed) journal
     in_each_shard = each-index (λ k commit. commit.number ≤ front_at fronts k → AllByRecursion (MissesInShard commit k) observed) journal
-        (λ k. numbered_first (λ commit. AllByRecursion (MissesInShard commit k) observed) (front_at fronts k) 0 (front_at fronts k) journal (omega arith) numbers
-        (each-more (λ commit. AllByRecursion (λ b. Misses b commit) (in_shard shards k observed)) (λ commit. AllByRecursion (MissesInShard commit k) observed) (take (front_at fronts k) journal)
+        (λ k. numbered_first (λ commit. AllByRecursion (MissesInShard commit k) observed) (front_at fronts k) 0 (front_at fronts k) journal
+        (omega arith) numbers
+        (each-more (λ commit. AllByRecursion (λ b. Misses b commit) (in_shard shards k observed))
+        (λ commit. AllByRecursion (MissesInShard commit k) observed) (take (front_at fronts k) journal)
         (λ commit. each-passing (λ b. Misses b commit) (λ b. shard_of b.address shards == k) observed) (clear_upto fronts all k)))
 
     itself : (k : ℕ) → (k == k) ≡ true
@@ -121,14 +125,16 @@ module _ (journal : Journal) (shards : ℕ) (observed : List Based) where
         → AllByRecursion (λ b. hit (past_front shards fronts b) commit ≡ hit b commit) bs
     pick commit [] clear = tt
     pick commit (b ∷ bs) clear = (
-      hit-alike b (front_at fronts (shard_of b.address shards)) commit (λ below. (clear (shard_of b.address shards) below).0 (itself (shard_of b.address shards))),
+      hit-alike b (front_at fronts (shard_of b.address shards)) commit (λ below. (clear (shard_of b.address shards) below).0
+          (itself (shard_of b.address shards))),
       pick commit bs (λ k below. (clear k below).1),
     )
 
     pub spare : pairs (past_fronts shards fronts observed) journal ≡ pairs observed journal
     spare = pairs-alike (past_front shards fronts) observed journal
         (each-more (λ commit. (k : ℕ) → commit.number ≤ front_at fronts k → AllByRecursion (MissesInShard commit k) observed)
-        (λ commit. AllByRecursion (λ b. hit (past_front shards fronts b) commit ≡ hit b commit) observed) journal (λ commit. pick commit observed) in_each_shard)
+        (λ commit. AllByRecursion (λ b. hit (past_front shards fronts b) commit ≡ hit b commit) observed) journal
+        (λ commit. pick commit observed) in_each_shard)
 
 pub fronts_spare_no_pair : FrontsSpareNoPair
 fronts_spare_no_pair journal attempt run numbers fits is =

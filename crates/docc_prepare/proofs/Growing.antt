@@ -1,5 +1,5 @@
 -- Journals that grow: what fits stays, and a legal one is orderly.
-use Rattle.std.proofs.Common.{◌≡◌, ℕ, ◌+◌, ◌≤◌, ◌<◌, List, [], ◌∷◌, ◌++◌, take, length, refl, sym, ap, ◌∙◌, subst, arith}
+use Rattle.std.proofs.Common.{ℕ, ◌≤◌, List, [], ◌∷◌, ◌++◌, length, sym, ap, ◌∙◌, subst, arith}
 use Rattle.std.specs.List.{AllByRecursion}
 use Rattle.std.proofs.lemmas.List.{take-append-le, length-append}
 use Rattle.plain_data.specs.Histories.{IsLawfulAfter}
@@ -9,13 +9,13 @@ use Rattle.txn_lang.specs.declared.commit.Commit.{Commit}
 use Rattle.txn_lang.specs.declared.snaps.Snap.{Snap}
 use Rattle.txn_lang.specs.States.{Journal, known, left_by}
 use Rattle.txn_lang.specs.Execution.{Ran, need, done}
-use Rattle.txn_lang.specs.Journals.{MayFollow, IsRunAfter, IsLegal}
+use Rattle.txn_lang.specs.Journals.{MayFollow, IsRunAfter}
 use Rattle.journal_core.specs.declared.ready.PreparedFront.{PreparedFront}
 use Rattle.journal_core.specs.Pairs.{pairs, AreNumberedFrom}
-use Rattle.docc_prepare.specs.Attempts.{SnapList, ran, SnapFits, FrontFits, FrontsFit, Fits}
+use Rattle.docc_prepare.specs.Attempts.{ran, SnapFits, FrontFits, FrontsFit}
 use Rattle.docc_prepare.specs.Serial.{AreOfTheirKinds, FitsStays, LegalIsOrderly}
 use Rattle.docc_prepare.proofs.Each.{each-more}
-use Rattle.docc_prepare.proofs.OfOneKind.{kinds-of-run}
+use Rattle.journal_core.proofs.OfRuns.{kinds-of-run}
 
 -- ---- what fits
 
@@ -42,7 +42,8 @@ fits_stays journal later attempt fits = record {
   fronts = by (ran attempt) fits.fronts;
 }
   where
-    by : (r : Ran) → FrontsFit journal attempt.shards attempt.snaps attempt.fronts r → FrontsFit (journal ++ later) attempt.shards attempt.snaps attempt.fronts r
+    by : (r : Ran) → FrontsFit journal attempt.shards attempt.snaps attempt.fronts r
+        → FrontsFit (journal ++ later) attempt.shards attempt.snaps attempt.fronts r
     by (need a) e = e
     by (done run) all = each-more _ _ attempt.fronts (λ prepared. front-stays journal later _ prepared) all
 

@@ -6,5 +6,11 @@ pub mod Growing
 pub mod Fronts
 pub mod Lowest
 pub mod Witnessed
+pub mod Least
+pub mod Nexts
 pub mod Stored
+pub mod Feeding
+pub mod Answered
+pub mod Elsewhere
+pub mod Laters
 pub mod Sound

@@ -1,5 +1,5 @@
 -- Where there is no pair, every commit misses every observation.
-use Rattle.std.proofs.Common.{◌≡◌, ℕ, ◌+◌, Bool, true, false, cond, List, [], ◌∷◌, ◌++◌, map, Option, Some, None, refl, ap, ◌∙◌}
+use Rattle.std.proofs.Common.{◌≡◌, ℕ, ◌+◌, Bool, true, false, cond, List, [], ◌∷◌, ◌++◌, map, None, refl, ap, ◌∙◌}
 use Rattle.std.specs.Prelude.{slice_get}
 use Rattle.std.specs.List.{list_any, AllByRecursion}
 use Rattle.abort_witness.specs.declared.witness.Based.{Based}
@@ -33,7 +33,8 @@ misses-of-hits place (b ∷ bs) commit e = by (misses-of-hits (place + 1) bs com
     by rest false is e = (is, rest e)
 
 -- without a pair each commit misses each observation
-pub misses-of-pairs : (bs : List Based) (journal : Journal) → pairs bs journal ≡ [] → AllByRecursion (λ commit. AllByRecursion (λ b. Misses b commit) bs) journal
+pub misses-of-pairs : (bs : List Based) (journal : Journal) → pairs bs journal ≡ []
+    → AllByRecursion (λ commit. AllByRecursion (λ b. Misses b commit) bs) journal
 misses-of-pairs bs [] e = tt
 misses-of-pairs bs (commit ∷ journal) e =
     let parts = both-none (hits_from 0 bs commit) (pairs bs journal) e in
@@ -50,11 +51,13 @@ module _ (f : Based → Based) where
       → hits_from place (map f bs) commit ≡ hits_from place bs commit
   hits-alike place [] commit all = refl
   hits-alike place (b ∷ bs) commit all =
-      ap (λ x. cond x (record { place = place; number = commit.number } ∷ hits_from (place + 1) (map f bs) commit) (hits_from (place + 1) (map f bs) commit)) all.0
+      ap (λ x. cond x (record { place = place; number = commit.number } ∷ hits_from (place + 1) (map f bs) commit)
+      (hits_from (place + 1) (map f bs) commit)) all.0
       ∙ ap (λ found. cond (hit b commit) (record { place = place; number = commit.number } ∷ found) found) (hits-alike (place + 1) bs commit all.1)
 
   pub pairs-alike : (bs : List Based) (journal : Journal) → AllByRecursion (λ commit. AllByRecursion (λ b. hit (f b) commit ≡ hit b commit) bs) journal
       → pairs (map f bs) journal ≡ pairs bs journal
   pairs-alike bs [] all = refl
   pairs-alike bs (commit ∷ journal) all =
-      ap (λ found. found ++ pairs (map f bs) journal) (hits-alike 0 bs commit all.0) ∙ ap (λ found. hits_from 0 bs commit ++ found) (pairs-alike bs journal all.1)
+      ap (λ found. found ++ pairs (map f bs) journal) (hits-alike 0 bs commit all.0)
+      ∙ ap (λ found. hits_from 0 bs commit ++ found) (pairs-alike bs journal all.1)

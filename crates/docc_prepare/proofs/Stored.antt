@@ -1,9 +1,9 @@
 -- Stores step by step: each step leaves a sound store, where its call is in place.
-use Rattle.std.proofs.Common.{◌≡◌, ℕ, zero, suc, ◌+◌, ◌-◌, ◌≤◌, ◌<◌, ◌%◌, Bool, true, false, cond, min, max, List, [], ◌∷◌, ◌++◌, length, take, get_or, set, Option, Some, None, ◌⊎◌, inl, inr, refl, sym, ap, ◌∙◌, subst, arith}
+use Rattle.std.proofs.Common.{◌≡◌, ℕ, zero, suc, ◌+◌, ◌≤◌, ◌<◌, Bool, true, false, cond, max, List, [], ◌∷◌, ◌++◌, length, get_or, set, Option, Some, None, ◌⊎◌, inl, inr, refl, sym, ap, ◌∙◌, subst, arith}
 use Rattle.std.specs.Prelude.{nat_le, ◌==◌, replicate, slice_get}
 use Rattle.std.specs.Option.{option_and_then}
 use Rattle.std.specs.List.{AllByRecursion}
-use Rattle.std.proofs.lemmas.List.{length-append, length-set, length-replicate}
+use Rattle.std.proofs.lemmas.List.{append-nil, length-append, length-set, length-replicate}
 use Rattle.std.proofs.lemmas.Bool.Decides.{nat_tests}
 use Rattle.rdt_types.specs.declared.address.Address.{Address}
 use Rattle.rdt_types.specs.Shards.{shard_of}
@@ -23,7 +23,8 @@ use Rattle.docc_prepare.specs.Attempts.{ran, based, ready_of, Fits}
 use Rattle.docc_prepare.specs.Serial.{IsOrderly}
 use Rattle.docc_prepare.specs.Witnesses.{witness_of}
 use Rattle.docc_prepare.specs.Calls.{Call, Answer}
-use Rattle.docc_prepare.specs.Stores.{Store, CLIENTS, first_store, front_of, seen_by, saw, moved, committed, telling, took, found_past, witness_past, decided, step, followed, HasStalled, Does, IsSound, FirstStoreIsSound}
+use Rattle.docc_prepare.specs.Backends.{IsSameClient, KeepsGiven}
+use Rattle.docc_prepare.specs.Stores.{Store, CLIENTS, front_of, seen_by, saw, moved, committed, telling, took, found_past, witness_past, decided, step, followed, HasStalled, Does, IsSound, known_by, FirstStoreIsSound}
 use Rattle.docc_prepare.proofs.Missing.{none-of-least}
 use Rattle.docc_prepare.proofs.Undisturbed.{appending_stays_legal, observed_of_one_kind}
 use Rattle.docc_prepare.proofs.Growing.{legal_is_orderly}
@@ -58,6 +59,7 @@ all_alike P (suc n) (suc j) x h = all_alike P n j x h
 pub saw-sound : (s : Store) (c n : ℕ) → IsSound s → n ≤ length s.journal → IsSound (saw s c n)
 saw-sound s c n sound h = record {
   legal = sound.legal;
+  few = sound.few;
   some = sound.some;
   all_shards = sound.all_shards;
   all_clients = length-set s.seens c n ∙ sound.all_clients;
@@ -69,6 +71,7 @@ saw-sound s c n sound h = record {
 pub moved-sound : (s : Store) (k f : ℕ) → IsSound s → f ≤ length s.journal → IsSound (moved s k f)
 moved-sound s k f sound h = record {
   legal = sound.legal;
+  few = sound.few;
   some = sound.some;
   all_shards = length-set s.fronts k f ∙ sound.all_shards;
   all_clients = sound.all_clients;
@@ -77,10 +80,11 @@ moved-sound s k f sound h = record {
   taken = sound.taken;
 }
 
-committed-sound : (s : Store) (ready : Ready) → IsSound s → IsLegal 0 (committed s ready).journal → IsSound (committed s ready)
-committed-sound s ready sound legal =
+committed-sound : (s : Store) (ready : Ready) → IsSound s → length s.journal < s.limit → IsLegal 0 (committed s ready).journal → IsSound (committed s ready)
+committed-sound s ready sound room legal =
     let l = length-append s.journal (made_of s.journal ready ∷ []) in record {
       legal = legal;
+      few = omega arith;
       some = sound.some;
       all_shards = sound.all_shards;
       all_clients = sound.all_clients;
@@ -92,6 +96,7 @@ committed-sound s ready sound legal =
 telling-sound : (s : Store) (c : ℕ) (address : Address) (told : Bool) → IsSound s → IsSound (telling s c address told)
 telling-sound s c address told sound = record {
   legal = sound.legal;
+  few = sound.few;
   some = sound.some;
   all_shards = sound.all_shards;
   all_clients = sound.all_clients;
@@ -103,6 +108,7 @@ telling-sound s c address told sound = record {
 took-sound : (s : Store) (c n : ℕ) → IsSound s → n ≤ length s.journal → IsSound (took s c n)
 took-sound s c n sound h = record {
   legal = sound.legal;
+  few = sound.few;
   some = sound.some;
   all_shards = sound.all_shards;
   all_clients = sound.all_clients;
@@ -125,6 +131,7 @@ stalled-sound s t sound stalled = subst IsSound (sym stalled.same) now
     now : IsSound (with_fronts s t.fronts)
     now = record {
       legal = sound.legal;
+      few = sound.few;
       some = sound.some;
       all_shards = stalled.all_shards ∙ sound.all_shards;
       all_clients = sound.all_clients;
@@ -183,7 +190,8 @@ module _ (s : Store) (sound : IsSound s) (client : ℕ) (ready : Ready) (attempt
   commits-legally none =
       let undisturbed = ap (λ (bs : List Based). pairs bs s.journal) (sym based-is) ∙ all-clear none in
       subst (λ commit. IsLegal 0 (s.journal ++ commit ∷ [])) (sym made-is)
-      (appending_stays_legal 0 client s.journal attempt ready.run of.text orderly sound.legal (record { fits = of.fits; runs = of.runs; undisturbed = undisturbed }))
+      (appending_stays_legal 0 client s.journal attempt ready.run of.text orderly sound.legal
+      (record { fits = of.fits; runs = of.runs; undisturbed = undisturbed }))
 
 -- ---- the steps
 
@@ -195,12 +203,15 @@ StepsSoundly s c (Call.read_at address number) = number ≤ seen_by s c
 StepsSoundly s c call = Unit {0}
 
 module _ (s : Store) (c : ℕ) (sound : IsSound s) where
-  decided-sound : (ready : Ready) (o : Option Witness) (full : Bool) → (o ≡ None → IsLegal 0 (committed s ready).journal) → IsSound (decided s c ready o full).0
-  decided-sound ready (Some w) full legal = saw-sound s c (length s.journal) sound (omega arith)
-  decided-sound ready None true legal = saw-sound s c (length s.journal) sound (omega arith)
-  decided-sound ready None false legal =
+  decided-sound : (ready : Ready) (o : Option Witness) (full : Bool) → nat_le s.limit (length s.journal) ≡ full
+      → (o ≡ None → IsLegal 0 (committed s ready).journal)
+      → IsSound (decided s c ready o full).0
+  decided-sound ready (Some w) full e legal = saw-sound s c (length s.journal) sound (omega arith)
+  decided-sound ready None true e legal = saw-sound s c (length s.journal) sound (omega arith)
+  decided-sound ready None false e legal =
+      let room : length s.journal < s.limit = grind (arith, nat_tests) in
       let l = length-append s.journal (made_of s.journal ready ∷ []) in
-      saw-sound (committed s ready) c (length s.journal + 1) (committed-sound s ready sound (legal refl)) (omega arith)
+      saw-sound (committed s ready) c (length s.journal + 1) (committed-sound s ready sound room (legal refl)) (omega arith)
 
   pub step-sound : (call : Call) → StepsSoundly s c call → IsSound (step s c call).0
   step-sound Call.refresh h = saw-sound s c (length s.journal) sound (omega arith)
@@ -214,7 +225,7 @@ module _ (s : Store) (c : ℕ) (sound : IsSound s) where
       let r = sound.reached shard in
       let n = sound.seen c in
       saw-sound s c (max (seen_by s c) (front_of s shard)) sound (omega arith)
-  step-sound (Call.append ready) h = decided-sound ready (witness_past s ready) (nat_le s.limit (length s.journal)) h
+  step-sound (Call.append ready) h = decided-sound ready (witness_past s ready) (nat_le s.limit (length s.journal)) refl h
   step-sound (Call.read_at address number) h =
       let k = shard_of address s.shards in
       let r = sound.reached k in
@@ -228,27 +239,92 @@ module _ (s : Store) (c : ℕ) (sound : IsSound s) where
   pub followed-sound : (shard : ℕ) → IsSound (followed s c shard)
   followed-sound shard =
       let n = sound.seen c in
-      saw-sound (moved s shard (length s.journal)) c (max (seen_by s c) (length s.journal)) (moved-sound s shard (length s.journal) sound (omega arith)) (omega arith)
+      saw-sound (moved s shard (length s.journal)) c (max (seen_by s c) (length s.journal)) (moved-sound s shard (length s.journal) sound (omega arith))
+      (omega arith)
+
+-- ---- what goes on
+
+-- The settings stay, the journal may have grown, and fronts may have risen.
+pub record Grown (s t : Store) : Type 0 where
+  pub shards : t.shards ≡ s.shards
+  pub window : t.window ≡ s.window
+  pub limit : t.limit ≡ s.limit
+  pub more : Journal
+  pub journal : t.journal ≡ s.journal ++ more
+  pub risen : (shard : ℕ) → front_of s shard ≤ front_of t shard
+
+module _ (s : Store) where
+  -- the same journal, over fronts that may have risen
+  risen-grown : (fronts : List ℕ) (seens : List ℕ) (subscribed : ℕ → Address → Bool) (taken : ℕ → ℕ) → ((shard : ℕ) → front_of s shard ≤ get_or fronts shard 0)
+      → Grown s (record s { fronts = fronts; seens = seens; subscribed = subscribed; taken = taken })
+  risen-grown fronts seens subscribed taken risen =
+      record { shards = refl; window = refl; limit = refl; more = []; journal = sym (append-nil s.journal); risen = risen }
+
+  -- the same journal over the same fronts
+  same-grown : (seens : List ℕ) (subscribed : ℕ → Address → Bool) (taken : ℕ → ℕ) → Grown s (record s { seens = seens; subscribed = subscribed; taken = taken })
+  same-grown seens subscribed taken = risen-grown s.fronts seens subscribed taken (λ i. omega arith)
+
+  module _ (c : ℕ) where
+    pub saw-grown : (n : ℕ) → Grown s (saw s c n)
+    saw-grown n = same-grown (set s.seens c n) s.subscribed s.taken
+
+    decided-grows : (ready : Ready) (w : Option Witness) (full : Bool) → Grown s (decided s c ready w full).0
+    decided-grows ready (Some w) full = saw-grown (length s.journal)
+    decided-grows ready None true = saw-grown (length s.journal)
+    decided-grows ready None false =
+        record { shards = refl; window = refl; limit = refl; more = made_of s.journal ready ∷ []; journal = refl; risen = λ i. omega arith }
+
+    moved-grown : (i f : ℕ) (seens : List ℕ) → front_of s i ≤ f → Grown s (record s { fronts = set s.fronts i f; seens = seens })
+    moved-grown i f seens up = risen-grown (set s.fronts i f) seens s.subscribed s.taken (λ j. rises s.fronts i f j up)
+
+    pub step-grows : (call : Call) → Grown s (step s c call).0
+    step-grows Call.refresh = saw-grown (length s.journal)
+    step-grows (Call.read a) =
+        let f = max (front_of s (shard_of a s.shards)) (seen_by s c) in
+        moved-grown (shard_of a s.shards) (max (front_of s (shard_of a s.shards)) (seen_by s c)) (set s.seens c f) (omega arith)
+    step-grows (Call.prepare shard based) = saw-grown (max (seen_by s c) (front_of s shard))
+    step-grows (Call.append ready) = decided-grows ready (witness_past s ready) (nat_le s.limit (length s.journal))
+    step-grows (Call.read_at a n) = moved-grown (shard_of a s.shards) (max (front_of s (shard_of a s.shards)) n) s.seens (omega arith)
+    step-grows (Call.subscribe a) = same-grown s.seens (telling s c a true).subscribed s.taken
+    step-grows (Call.unsubscribe a) = same-grown s.seens (telling s c a false).subscribed s.taken
+    step-grows Call.take = same-grown (set s.seens c (length s.journal)) s.subscribed (step s c Call.take).0.taken
+    step-grows Call.wait = same-grown s.seens s.subscribed s.taken
+
+    pub followed-grows : (shard : ℕ) → IsSound s → Grown s (followed s c shard)
+    followed-grows shard sound =
+        moved-grown shard (length s.journal) (set s.seens c (max (seen_by s c) (length s.journal))) (sound.reached shard)
+
+  pub stalled-grows : (fronts : List ℕ) → ((shard : ℕ) → front_of s shard ≤ get_or fronts shard 0) → Grown s (with_fronts s fronts)
+  stalled-grows fronts risen = risen-grown fronts s.seens s.subscribed s.taken risen
+
+-- ---- what clients know of it
+
+still-reached : (a b n : ℕ) → a ≤ b → nat_le n a ≡ true → nat_le n b ≡ true
+still-reached a b n h e = grind (arith, nat_tests)
+
+module _ (s t : Store) (d : ℕ) (grown : Grown s t) where
+  pub same-client : IsSameClient (known_by s d) (known_by t d)
+  same-client = record { client = refl; trusted = refl; shards = grown.shards; window = grown.window; limit = grown.limit }
+
+  -- what was given is given
+  pub kept-given : KeepsGiven (known_by s d) (known_by t d)
+  kept-given = record {
+    bases = λ a b h. subst (λ (n : ℕ). nat_le b (front_of t (shard_of a n)) ≡ true) (sym grown.shards)
+        (still-reached (front_of s (shard_of a s.shards)) (front_of t (shard_of a s.shards)) b (grown.risen (shard_of a s.shards)) h);
+    fronts = λ i bs f h. h;
+  }
 
 -- ---- what a call may leave
 
 -- a call failed for want of memory, or went by the step
 pub does-one : (s t : Store) (c : ℕ) (call : Call) (a : Answer) → Does s c call a t → ((a ≡ Answer.failed false) × HasStalled s t) ⊎ ((t, a) ≡ step s c call)
 does-one s t c call (Answer.failed by_fault) does = inl (ap (λ (b : Bool). Answer.failed b) does.0, does.1)
-does-one s t c call (Answer.number n) does = inr does
-does-one s t c call (Answer.snap snap) does = inr does
-does-one s t c call (Answer.prepared p) does = inr does
-does-one s t c call (Answer.value v) does = inr does
-does-one s t c call (Answer.feed f) does = inr does
-does-one s t c call Answer.done does = inr does
-does-one s t c call (Answer.late n h) does = inr does
-does-one s t c call (Answer.clash w) does = inr does
-does-one s t c call (Answer.full l) does = inr does
-does-one s t c call Answer.disk does = inr does
+does-one s t c call a does = inr does
 
 pub first_store_is_sound : FirstStoreIsSound
 first_store_is_sound shards window limit some = record {
   legal = tt;
+  few = omega arith;
   some = some;
   all_shards = length-replicate {A = ℕ} shards 0;
   all_clients = length-replicate {A = ℕ} CLIENTS 0;

@@ -1,5 +1,5 @@
 -- The heart: what no commit disturbs is observed on the whole journal as it was at its base, and so the run is the same.
-use Rattle.std.proofs.Common.{◌≡◌, ℕ, ◌+◌, ◌≤◌, ◌<◌, zero, suc, Bool, true, false, cond, ◌&&◌, ◌||◌, List, [], ◌∷◌, ◌++◌, fold, map, take, length, Option, Some, None, refl, sym, ap, ◌∙◌, subst, arith}
+use Rattle.std.proofs.Common.{◌≡◌, ℕ, ◌+◌, ◌≤◌, ◌<◌, zero, suc, Bool, true, false, cond, ◌&&◌, ◌||◌, List, [], ◌∷◌, fold, map, take, length, Option, Some, None, refl, sym, ap, ◌∙◌, subst, arith}
 use Rattle.std.specs.Prelude.{nat_lt, slice_get}
 use Rattle.std.specs.List.{list_any, AllByRecursion}
 use Rattle.std.specs.Option.{option_map}
@@ -14,7 +14,6 @@ use Rattle.rdt_types.specs.declared.value.Value.{Value}
 use Rattle.rdt_types.specs.declared.delta.Delta.{Delta}
 use Rattle.rdt_types.specs.Addresses.{address_cmp}
 use Rattle.rdt_types.specs.Values.{kind_of, default_of, list_in}
-use Rattle.rdt_types.specs.Deltas.{apply, kind_changed}
 use Rattle.rdt_types.specs.DeltaMaps.{Deltas, delta_at}
 use Rattle.rdt_types.proofs.Addresses.{address_cmp-equal}
 use Rattle.conflict_table.specs.declared.observation.Obs.{Obs}
@@ -35,17 +34,18 @@ use Rattle.txn_lang.specs.States.{Journal, after, apply_maybe, known, left_by, s
 use Rattle.txn_lang.specs.Execution.{done}
 use Rattle.txn_lang.specs.Determinacy.{AgreesOn, Agree}
 use Rattle.txn_lang.specs.Observed.{IsThere}
-use Rattle.txn_lang.specs.Journals.{IsLegal, commit_of}
+use Rattle.txn_lang.specs.Journals.{commit_of}
 use Rattle.txn_lang.proofs.Determinacy.{runs_are_determined}
 use Rattle.txn_lang.proofs.Observed.{observed_is_there}
 use Rattle.txn_lang.proofs.Journals.{legal-push}
 use Rattle.txn_eval.specs.Running.{values_of}
-use Rattle.journal_core.specs.Pairs.{pairs, AreNumberedFrom}
+use Rattle.journal_core.specs.Pairs.{AreNumberedFrom}
 use Rattle.docc_prepare.specs.declared.attempt.Attempt.{Attempt}
 use Rattle.docc_prepare.specs.Attempts.{SnapList, ran, base_in, with_base, based, SnapFits, Fits}
-use Rattle.docc_prepare.specs.Serial.{AreOfTheirKinds, IsOrderly, RanUndisturbed, RunsAsItRan, AppendingStaysLegal}
+use Rattle.docc_prepare.specs.Serial.{AreOfTheirKinds, IsOrderly, RunsAsItRan, AppendingStaysLegal}
 use Rattle.docc_prepare.proofs.Each.{each-take, each-column}
-use Rattle.docc_prepare.proofs.OfOneKind.{kind-at, kind-left}
+use Rattle.journal_core.proofs.OfRuns.{kind-at}
+use Rattle.docc_prepare.proofs.OfOneKind.{kind-left}
 use Rattle.docc_prepare.proofs.Missing.{Misses, misses-of-pairs}
 
 -- ---- one delta
@@ -93,7 +93,8 @@ neither true y e = absurd (cc)
 neither false y e = (refl, e)
 
 -- the delta at the address of an observation that a commit past its base misses is no clash
-unclashed : (b : Based) (n : ℕ) (ds : Deltas) (d : Delta) → b.base < n → list_any (clashes b) (changes_at n ds) ≡ false → delta_at ds b.address ≡ Some d → clash b.obs d ≡ false
+unclashed : (b : Based) (n : ℕ) (ds : Deltas) (d : Delta) → b.base < n → list_any (clashes b) (changes_at n ds) ≡ false → delta_at ds b.address ≡ Some d
+    → clash b.obs d ≡ false
 unclashed b n [] d past misses e = absurd (cc)
 unclashed b n (pair ∷ ds) d past misses e =
     let parts = neither (clashes b (record { number = n; address = pair.0; delta = pair.1 })) (list_any (clashes b) (changes_at n ds)) misses in
@@ -124,16 +125,20 @@ module _ (b : Based) (kind : kind_observed b.obs ≡ b.address.kind) where
   carried v journal = fold (λ value (commit : Commit). after commit.deltas b.address value) v journal
 
   -- past the base nothing changes
-  past-base : (journal : Journal) (n : ℕ) (v : Value) → b.base ≤ n → AreNumberedFrom n journal → AllByRecursion (λ commit. AreOfTheirKinds commit.deltas) journal
+  past-base : (journal : Journal) (n : ℕ) (v : Value) → b.base ≤ n → AreNumberedFrom n journal
+      → AllByRecursion (λ commit. AreOfTheirKinds commit.deltas) journal
       → AllByRecursion (Misses b) journal → IsWithin b.obs v → observe b.obs (carried v journal) ≡ observe b.obs v
   past-base [] n v past numbers kinds misses within = refl
   past-base (commit ∷ journal) n v past numbers kinds misses within =
       let number = numbers.0 in
       let step = missed b commit v kind kinds.0 (omega arith) misses.0 within in
-      past-base journal (n + 1) (after commit.deltas b.address v) (omega arith) numbers.1 kinds.1 misses.1 (still-within b.obs v (after commit.deltas b.address v) within step) ∙ step
+      past-base journal (n + 1) (after commit.deltas b.address v) (omega arith) numbers.1 kinds.1 misses.1
+      (still-within b.obs v (after commit.deltas b.address v) within step) ∙ step
 
-  from-base : (journal : Journal) (n k : ℕ) (v : Value) → n + k ≡ b.base → AreNumberedFrom n journal → AllByRecursion (λ commit. AreOfTheirKinds commit.deltas) journal
-      → AllByRecursion (Misses b) journal → IsWithin b.obs (carried v (take k journal)) → observe b.obs (carried v journal) ≡ observe b.obs (carried v (take k journal))
+  from-base : (journal : Journal) (n k : ℕ) (v : Value) → n + k ≡ b.base → AreNumberedFrom n journal
+      → AllByRecursion (λ commit. AreOfTheirKinds commit.deltas) journal
+      → AllByRecursion (Misses b) journal → IsWithin b.obs (carried v (take k journal))
+      → observe b.obs (carried v journal) ≡ observe b.obs (carried v (take k journal))
   from-base [] n zero v is numbers kinds misses within = refl
   from-base [] n (suc k) v is numbers kinds misses within = refl
   from-base (commit ∷ journal) n zero v is numbers kinds misses within = past-base (commit ∷ journal) n v (omega arith) numbers kinds misses within
@@ -149,7 +154,8 @@ module _ (b : Based) (kind : kind_observed b.obs ≡ b.address.kind) where
 -- ---- an attempt
 
 -- the snap of an address is what the journal leaves there at its base
-snap-at : (journal : Journal) (snaps : SnapList) (a : Address) (snap : Snap) → AllByRecursion (SnapFits journal) snaps → lookup (is_at (address_cmp a)) snaps ≡ Some snap
+snap-at : (journal : Journal) (snaps : SnapList) (a : Address) (snap : Snap) → AllByRecursion (SnapFits journal) snaps
+    → lookup (is_at (address_cmp a)) snaps ≡ Some snap
     → snap.value ≡ state journal snap.base a
 snap-at journal [] a snap all e = absurd (cc)
 snap-at journal (pair ∷ snaps) a snap all e = by (snap-at journal snaps a snap all.1) (is_eq (address_cmp a pair.0)) refl e
@@ -170,7 +176,8 @@ observed-kind : (journal : Journal) (snaps : SnapList) (z : Seen) → IsOrderly 
     → IsBasedOfOneKind (with_base snaps z)
 observed-kind journal snaps z orderly fit there = record { observed = by (lookup (is_at (address_cmp z.address)) snaps) refl there.is }
   where
-    by : (o : Option Snap) → lookup (is_at (address_cmp z.address)) snaps ≡ o → option_map (λ snap. snap.value) o ≡ Some there.value → kind_observed z.obs ≡ z.address.kind
+    by : (o : Option Snap) → lookup (is_at (address_cmp z.address)) snaps ≡ o → option_map (λ snap. snap.value) o ≡ Some there.value
+        → kind_observed z.obs ≡ z.address.kind
     by None e is = absurd (cc)
     by (Some snap) e is =
         let same = some-same snap.value there.value is in
@@ -208,17 +215,23 @@ agrees journal snaps z orderly fit there misses = record {
         let value_is : v ≡ state journal snap.base z.address = sym read ∙ snap-at journal snaps z.address snap fit e in
         let found : Some v ≡ Some there.value = sym is ∙ (ap (option_map (λ s. s.value)) (sym e) ∙ there.is) in
         let same : there.value ≡ v = sym (some-same v there.value found) in
-        let kind_read : kind_of v ≡ z.address.kind = ap kind_of value_is ∙ kind-left (take snap.base journal) z.address (each-take (λ commit. AreOfTheirKinds commit.deltas) snap.base journal orderly.kinds) in
+        let kind_read : kind_of v ≡ z.address.kind = ap kind_of value_is ∙ kind-left (take snap.base journal) z.address
+        (each-take (λ commit. AreOfTheirKinds commit.deltas) snap.base journal orderly.kinds) in
         let within = subst (IsWithin z.obs) (same ∙ value_is) there.within in (
           kind_read ∙ sym (kind-left journal z.address orderly.kinds),
           ap (observe z.obs) value_is
-              ∙ sym (observed-as-left (record { address = z.address; obs = z.obs; base = snap.base }) (there.kind (ap kind_of same ∙ kind_read)) journal orderly misses within),
+              ∙ sym (observed-as-left (record { address = z.address; obs = z.obs; base = snap.base })
+              (there.kind (ap kind_of same ∙ kind_read)) journal orderly misses within),
         )
 
-agree : (journal : Journal) (snaps : SnapList) (seen : List Seen) → IsOrderly journal → AllByRecursion (SnapFits journal) snaps → AllByRecursion (IsThere (values_of snaps)) seen
+agree : (journal : Journal) (snaps : SnapList) (seen : List Seen) → IsOrderly journal → AllByRecursion (SnapFits journal) snaps
+    → AllByRecursion (IsThere (values_of snaps)) seen
     → AllByRecursion (λ b. AllByRecursion (Misses b) journal) (based snaps seen) → Agree (values_of snaps) (known (left_by journal)) seen
 agree journal snaps [] orderly fit there misses = tt
-agree journal snaps (z ∷ seen) orderly fit there misses = (agrees journal snaps z orderly fit there.0 misses.0, agree journal snaps seen orderly fit there.1 misses.1)
+agree journal snaps (z ∷ seen) orderly fit there misses = (
+  agrees journal snaps z orderly fit there.0 misses.0,
+  agree journal snaps seen orderly fit there.1 misses.1,
+)
 
 pub runs_as_it_ran : RunsAsItRan
 runs_as_it_ran journal attempt run orderly undisturbed =

@@ -1,13 +1,14 @@
 -- The least pair of a journal has a witness, which names both.
-use Rattle.std.proofs.Common.{◌≡◌, ℕ, zero, suc, ◌+◌, ◌-◌, Bool, true, false, cond, ◌&&◌, ◌||◌, List, [], ◌∷◌, ◌++◌, Option, Some, None, refl, sym, ap, ◌∙◌, subst, arith}
+use Rattle.std.proofs.Common.{◌≡◌, ℕ, zero, suc, ◌+◌, ◌-◌, Bool, true, false, cond, ◌&&◌, ◌||◌, ◌≤◌, List, [], ◌∷◌, ◌++◌, length, take, drop, Option, Some, None, refl, sym, ap, ◌∙◌, subst, arith, append_assoc}
 use Rattle.std.specs.Prelude.{nat_lt, ◌==◌, slice_get, is_some}
 use Rattle.std.specs.List.{list_any, AllByRecursion}
 use Rattle.std.specs.Option.{option_map, option_or, option_and_then}
 use Rattle.std.specs.Bool.{then_some}
 use Rattle.std.specs.BTreeMap.{is_at}
-use Rattle.std.specs.Ordering.{is_eq}
 use Rattle.std.specs.FinMap as map
 use Rattle.std.proofs.lemmas.Bool.Decides.{nat_tests}
+use Rattle.std.proofs.lemmas.List.{take-append-drop}
+use Rattle.std.proofs.lemmas.Option.{slice_get_within}
 use Rattle.plain_data.specs.Texts.{Bytes}
 use Rattle.plain_data.proofs.Entries.{equal}
 use Rattle.rdt_types.specs.declared.address.Kind.{Kind}
@@ -44,7 +45,7 @@ use Rattle.journal_core.specs.Journals.{commit_at}
 use Rattle.journal_core.specs.Pairs.{hits_from, pairs, least_pair, AreNumberedFrom}
 use Rattle.docc_prepare.specs.Serial.{AreOfTheirKinds, IsOrderly}
 use Rattle.docc_prepare.specs.Witnesses.{witness_by, witness_in, witness_of, least_witness, IsNamed}
-use Rattle.docc_prepare.proofs.Each.{each-at}
+use Rattle.docc_prepare.proofs.Each.{each-at, each-take}
 use Rattle.docc_prepare.proofs.Missing.{hit}
 
 -- ---- the named part is of the kind of the delta
@@ -79,54 +80,31 @@ of-whole (delta.PutBool b) = refl
 of-whole (delta.PutCounter n) = refl
 of-whole (delta.AddCounter n) = refl
 of-whole (delta.PutText text) = refl
-of-whole (delta.Set d) = tt
-of-whole (delta.Hash d) = tt
-of-whole (delta.List d) = tt
+of-whole d = tt
 
 of-clear : (d : Delta) → OfKind (kind_changed d) (clear_part d)
-of-clear (delta.PutBool b) = tt
-of-clear (delta.PutCounter n) = tt
-of-clear (delta.AddCounter n) = tt
-of-clear (delta.PutText text) = tt
 of-clear (delta.Set d) = of-cleared kinds.Set d.cleared op.SetClear refl
 of-clear (delta.Hash d) = of-cleared kinds.Hash d.cleared op.HashClear refl
 of-clear (delta.List d) = of-cleared kinds.List d.cleared op.ListClear refl
+of-clear d = tt
 
 of-mark : (x : Bytes) (d : Delta) → OfKind (kind_changed d) (mark_part x d)
-of-mark x (delta.PutBool b) = tt
-of-mark x (delta.PutCounter n) = tt
-of-mark x (delta.AddCounter n) = tt
-of-mark x (delta.PutText text) = tt
 of-mark x (delta.Set d) = of-mapped kinds.Set (set_part x) (map.get d.marks x) (set-kind x)
 of-mark x (delta.Hash d) = of-mapped kinds.Hash (hash_part x) (map.get d.marks x) (hash-kind x)
-of-mark x (delta.List d) = tt
+of-mark x d = tt
 
 of-first : (d : Delta) → OfKind (kind_changed d) (first_mark d)
-of-first (delta.PutBool b) = tt
-of-first (delta.PutCounter n) = tt
-of-first (delta.AddCounter n) = tt
-of-first (delta.PutText text) = tt
 of-first (delta.Set d) = of-mapped kinds.Set (λ e. set_part e.0 e.1) (slice_get (map.entries d.marks) 0) (λ e. set-kind e.0 e.1)
 of-first (delta.Hash d) = of-mapped kinds.Hash (λ e. hash_part e.0 e.1) (slice_get (map.entries d.marks) 0) (λ e. hash-kind e.0 e.1)
-of-first (delta.List d) = tt
+of-first d = tt
 
 of-removed : (d : Delta) → OfKind (kind_changed d) (first_removed d)
-of-removed (delta.PutBool b) = tt
-of-removed (delta.PutCounter n) = tt
-of-removed (delta.AddCounter n) = tt
-of-removed (delta.PutText text) = tt
-of-removed (delta.Set d) = tt
-of-removed (delta.Hash d) = tt
 of-removed (delta.List d) = of-mapped kinds.List (λ e. op.ListRemove e.0) (slice_get (map.entries d.removed) 0) (λ e. refl)
+of-removed d = tt
 
 of-pushed : (d : Delta) → OfKind (kind_changed d) (first_pushed d)
-of-pushed (delta.PutBool b) = tt
-of-pushed (delta.PutCounter n) = tt
-of-pushed (delta.AddCounter n) = tt
-of-pushed (delta.PutText text) = tt
-of-pushed (delta.Set d) = tt
-of-pushed (delta.Hash d) = tt
 of-pushed (delta.List d) = of-mapped kinds.List (λ item. op.ListPush item) (slice_get d.pushed 0) (λ item. refl)
+of-pushed d = tt
 
 of-named : (o : Obs) (d : Delta) → OfKind (kind_changed d) (named o d)
 of-named obs.BoolIs d = of-whole d
@@ -237,7 +215,8 @@ first-hit place [] commit found e = absurd (cc)
 first-hit place (b ∷ bs) commit found e = by (first-hit (place + 1) bs commit found) (hit b commit) refl e
   where
     by : (slice_get (hits_from (place + 1) bs commit) 0 ≡ Some found → HitAt (place + 1) bs commit found) → (x : Bool) → hit b commit ≡ x
-        → slice_get (cond x (record { place = place; number = commit.number } ∷ hits_from (place + 1) bs commit) (hits_from (place + 1) bs commit)) 0 ≡ Some found
+        → slice_get (cond x (record { place = place; number = commit.number } ∷ hits_from (place + 1) bs commit) (hits_from (place + 1) bs commit)) 0
+        ≡ Some found
         → HitAt place (b ∷ bs) commit found
     by rest true is e =
         let same : record { place = place; number = commit.number } ≡ found = cc in
@@ -364,3 +343,69 @@ pair-of-witness bs journal witness orderly each is = by (least_pair bs journal) 
         let all : Some w.0 ≡ Some witness = sym (ap (option_and_then (witness_of bs journal)) e ∙ w.1) ∙ is in
         let same : w.0 ≡ witness = cc in
         (found, e, subst (IsNamed bs journal found) same w.2)
+
+-- ---- fronts of a journal
+
+pairs-append : (bs : List Based) (xs ys : Journal) → pairs bs (xs ++ ys) ≡ pairs bs xs ++ pairs bs ys
+pairs-append bs [] ys = refl
+pairs-append bs (x ∷ xs) ys = ap (λ found. hits_from 0 bs x ++ found) (pairs-append bs xs ys)
+    ∙ sym (append_assoc (hits_from 0 bs x) (pairs bs xs) (pairs bs ys))
+
+first-append : {A : Type 0} (xs ys : List A) (x : A) → slice_get xs 0 ≡ Some x → slice_get (xs ++ ys) 0 ≡ Some x
+first-append [] ys x e = absurd (cc)
+first-append (y ∷ xs) ys x e = e
+
+front-item : {A : Type 0} (xs : List A) (n i : ℕ) (x : A) → slice_get (take n xs) i ≡ Some x → slice_get xs i ≡ Some x
+front-item [] zero i x e = absurd (cc)
+front-item [] (suc n) i x e = absurd (cc)
+front-item (y ∷ ys) zero i x e = absurd (cc)
+front-item (y ∷ ys) (suc n) zero x e = e
+front-item (y ∷ ys) (suc n) (suc i) x e = front-item ys n i x e
+
+front-commit : (journal : Journal) (f n : ℕ) (commit : Commit) → commit_at (take f journal) n ≡ Some commit → commit_at journal n ≡ Some commit
+front-commit journal f n commit e = by (n == 0) e
+  where
+    by : (t : Bool) → cond t None (slice_get (take f journal) (n - 1)) ≡ Some commit → cond t None (slice_get journal (n - 1)) ≡ Some commit
+    by true e = absurd (cc)
+    by false e = front-item journal f (n - 1) commit e
+
+within-journal : (journal : Journal) (n : ℕ) (commit : Commit) → commit_at journal n ≡ Some commit → n ≤ length journal
+within-journal journal n commit e = by (n == 0) e
+  where
+    by : (t : Bool) → cond t None (slice_get journal (n - 1)) ≡ Some commit → n ≤ length journal
+    by true e = absurd (cc)
+    by false e = let within = slice_get_within journal (n - 1) commit e in omega arith
+
+-- a witness is numbered within the journal, and of one kind
+pub witness-within : (bs : List Based) (journal : Journal) (witness : Witness) → IsOrderly journal → AllByRecursion IsBasedOfOneKind bs
+    → least_witness bs journal ≡ Some witness → (witness.number ≤ length journal) × IsOfOneKind witness
+witness-within bs journal witness orderly each is =
+    let p = pair-of-witness bs journal witness orderly each is in
+    let within = within-journal journal p.0.number p.2.commit p.2.there in
+    let number = p.2.number in (omega arith, p.2.one_kind)
+
+numbered-front : (f n : ℕ) (journal : Journal) → AreNumberedFrom n journal → AreNumberedFrom n (take f journal)
+numbered-front zero n [] numbers = tt
+numbered-front zero n (x ∷ journal) numbers = tt
+numbered-front (suc f) n [] numbers = tt
+numbered-front (suc f) n (x ∷ journal) numbers = (numbers.0, numbered-front f (n + 1) journal numbers.1)
+
+pub orderly-front : (f : ℕ) (journal : Journal) → IsOrderly journal → IsOrderly (take f journal)
+orderly-front f journal orderly = record {
+  numbered = numbered-front f 0 journal orderly.numbered;
+  kinds = each-take (λ commit. AreOfTheirKinds commit.deltas) f journal orderly.kinds;
+}
+
+-- the witness up to a front is that of the whole journal
+pub witness-of-front : (bs : List Based) (journal : Journal) (f : ℕ) (witness : Witness) → IsOrderly journal → AllByRecursion IsBasedOfOneKind bs
+    → least_witness bs (take f journal) ≡ Some witness → least_witness bs journal ≡ Some witness
+witness-of-front bs journal f witness orderly each is =
+    let p = pair-of-witness bs (take f journal) witness (orderly-front f journal orderly) each is in
+    let found = p.0 in
+    let first = first-append (pairs bs (take f journal)) (pairs bs (drop f journal)) found p.1 in
+    let least = ap (λ (xs : Journal). least_pair bs xs) (sym (take-append-drop f journal))
+    ∙ ap (λ (all : List Found). slice_get all 0) (pairs-append bs (take f journal) (drop f journal)) ∙ first in
+    let commit = front-commit journal f found.number p.2.commit p.2.there ∙ sym p.2.there in
+    ap (option_and_then (witness_of bs journal)) least
+    ∙ ap (λ o. option_and_then (λ b. option_and_then (λ commit. witness_in b (changes_of commit)) o) (slice_get bs found.place)) commit
+    ∙ sym (ap (option_and_then (witness_of bs (take f journal))) p.1) ∙ is

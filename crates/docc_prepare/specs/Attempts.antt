@@ -14,7 +14,7 @@ use Rattle.abort_witness.specs.declared.witness.Based.{Based}
 use Rattle.txn_lang.specs.declared.run.Run.{Run}
 use Rattle.txn_lang.specs.declared.run.Seen.{Seen}
 use Rattle.txn_lang.specs.declared.snaps.Snap.{Snap}
-use Rattle.txn_lang.specs.States.{Journal, PartialState, state}
+use Rattle.txn_lang.specs.States.{Journal, state}
 use Rattle.txn_lang.specs.Execution.{Ran, need, done, exec}
 use Rattle.txn_eval.specs.Running.{values_of}
 use Rattle.journal_core.specs.declared.ready.PreparedFront.{PreparedFront}
@@ -58,10 +58,10 @@ in_shard shards shard all = filter (λ b. shard_of b.address shards == shard) al
 abbrev pub has_front : List PreparedFront → ℕ → Bool
 has_front fronts shard = list_any (λ prepared. prepared.shard == shard) fronts
 
--- the lesser of a shard and one that may be there
+-- the lesser of a number and one that may be there
 abbrev pub lesser : ℕ → Option ℕ → ℕ
-lesser shard None = shard
-lesser shard (Some other) = min shard other
+lesser n None = n
+lesser n (Some other) = min n other
 
 -- the least shard that holds an observed address and has no front, if there is one
 abbrev pub least_unprepared : ℕ → List PreparedFront → List Seen → Option ℕ

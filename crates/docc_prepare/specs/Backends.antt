@@ -1,6 +1,6 @@
 -- What each call of a backend promises, whoever stands behind it: a world of one thread, a pass on a store that threads
 -- share, a link to a server. What is said of the journal is said of those that tell it.
-use Rattle.std.specs.Prelude.{◌≡◌, ◌⊎◌, ℕ, ◌+◌, ◌≤◌, ◌<◌, ◌^◌, ◌||◌, ◌&&◌, not, max, Bool, true, false, if◌then◌else◌, List, [], ◌∷◌, ◌++◌, length, take, slice_get, Option, Some, None, IfSome, refl}
+use Rattle.std.specs.Prelude.{◌≡◌, ℕ, ◌+◌, ◌≤◌, ◌<◌, ◌^◌, ◌||◌, ◌&&◌, not, max, Bool, true, if◌then◌else◌, List, [], ◌∷◌, ◌++◌, length, take, slice_get, Some, None, IfSome, codes, refl}
 use Rattle.std.specs.List.{AllByRecursion}
 use Rattle.std.specs.BTreeMap.{is_at}
 use Rattle.dio_core.specs.Counts.{one_more, Rose, IsCounted}
@@ -22,10 +22,9 @@ use Rattle.txn_lang.specs.Short.{IsShortAddress, IsShortObservation}
 use Rattle.txn_lang.specs.Tree.{tree}
 use Rattle.journal_core.specs.declared.limits.TheConstants.{LONGEST_BODY}
 use Rattle.journal_core.specs.declared.ready.Ready.{Ready}
-use Rattle.journal_core.specs.Changes.{changes, between}
+use Rattle.journal_core.specs.Changes.{changes, between, adding}
 use Rattle.journal_core.specs.Pairs.{pairs}
 use Rattle.journal_core.specs.Readies.{made_of}
-use Rattle.version_shard.specs.declared.prepared.Prepared.{Prepared}
 use Rattle.docc_prepare.specs.declared.attempt.Attempt.{Attempt}
 use Rattle.docc_prepare.specs.declared.attempt.Next.TheVariants as next
 use Rattle.docc_prepare.specs.Attempts.{in_shard, next_event, ready_of, Fits}
@@ -69,7 +68,8 @@ pub record CanAppend (k : Known) (ready : Ready) : Type 0 where
   pub short : length ready.body ≤ LONGEST_BODY
   pub all_shards : attempt.shards ≡ k.shards
   pub given : AllByRecursion (λ (read : Address × Snap). IsGiven k read.0 read.1.base) attempt.snaps
-  pub fronted : AllByRecursion (λ prepared. k.fronted prepared.shard (in_shard k.shards prepared.shard ready.based) prepared.front ≡ true) ready.fronts
+  pub fronted : AllByRecursion (λ prepared. k.fronted prepared.shard
+      (in_shard k.shards prepared.shard ready.based) prepared.front ≡ true) ready.fronts
   pub each : AllByRecursion (λ based. CanValidate k (shard_of based.address k.shards) based) ready.based
   pub few : length ready.based < 2 ^ 32
   pub told : IfSome k.journal (FitsNext k attempt ready)
@@ -128,7 +128,8 @@ pub record IsFullAt (l : Known) (ready : Ready) (limit : ℕ) (journal : Journal
 -- at each subscribed address there is what is pending since the last take, and elsewhere nothing
 abbrev pub IsTaken : Known → ℕ → Fed → Journal → Type 0
 IsTaken k to feed journal =
-    (address : Address) → delta_at feed.changes address ≡ (if k.subscribed address then pending address (between k.taken to (changes journal)) else None)
+    (address : Address) → delta_at feed.changes address ≡ (if k.subscribed address then pending address
+    (between k.taken to (changes journal)) else None)
 
 -- What an answer says of the journal as it is known before the call and after it.
 abbrev pub Row : Known → Known → Journal → Journal → Call → Answer → Type 0
@@ -274,3 +275,14 @@ pub record IsLater (k l : Known) : Type 0 where
   pub looks : k.looks ≤ l.looks
   pub faults : l.faults ≡ k.faults
   pub told : WhereTold (HasGrown k) k.journal l.journal
+
+-- A law: later is later still, and a call that comes later is answered as if what others did meanwhile were done within it.
+pub record OthersCountAsWithin : Type 0 where
+  pub again : (k l m : Known) → IsLater k l → IsLater l m → IsLater k m
+  pub answered : (k l m : Known) (c : Call) (a : Answer) → IsLater k l → IsAnswered l c a m → IsAnswered k c a m
+
+-- ---- worked lines
+
+-- a journal of one commit, and of two
+prefix-example : IsPrefix (adding 1 (codes "x") ∷ []) (adding 1 (codes "x") ∷ adding 2 (codes "y") ∷ [])
+prefix-example = refl

@@ -1,23 +1,19 @@
 -- Serializability, without any code. The journal is a serial order: each commit has the outcome and the writes that its body
 -- has when it runs alone on what the commits before it leave, though it ran earlier, on values that it read at fronts of
 -- their own. These are the laws by which this is so.
-use Rattle.std.specs.Prelude.{◌≡◌, ℕ, List, [], ◌∷◌, ◌++◌, Some}
+use Rattle.std.specs.Prelude.{◌≡◌, ℕ, [], ◌∷◌, ◌++◌, Some}
 use Rattle.std.specs.List.{AllByRecursion}
 use Rattle.rdt_types.specs.Deltas.{kind_changed}
 use Rattle.rdt_types.specs.DeltaMaps.{Deltas}
-use Rattle.txn_lang.specs.declared.commit.Commit.{Commit}
 use Rattle.txn_lang.specs.declared.run.Run.{Run}
 use Rattle.txn_lang.specs.States.{Journal, known, left_by}
 use Rattle.txn_lang.specs.Execution.{done, exec}
 use Rattle.txn_lang.specs.Journals.{IsLegal, commit_of}
 use Rattle.txn_lang.specs.Tree.{tree}
+pub use Rattle.journal_core.specs.Kinds.{AreOfTheirKinds}
 use Rattle.journal_core.specs.Pairs.{pairs, past_fronts, AreNumbered}
 use Rattle.docc_prepare.specs.declared.attempt.Attempt.{Attempt}
 use Rattle.docc_prepare.specs.Attempts.{ran, based, Fits}
-
--- each delta is of the kind of its address
-abbrev pub AreOfTheirKinds : Deltas → Type 0
-AreOfTheirKinds deltas = AllByRecursion (λ pair. kind_changed pair.1 ≡ pair.0.kind) deltas
 
 -- A journal that is read commit by commit: they are numbered from 1, and their deltas are of the kinds of their addresses.
 pub record IsOrderly (journal : Journal) : Type 0 where

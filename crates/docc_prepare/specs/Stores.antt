@@ -1,11 +1,15 @@
 -- The store of one thread, behind each client's backend: each call of a client is one step of it, which gives an answer.
-use Rattle.std.specs.Prelude.{◌≡◌, ◌≢◌, ℕ, ◌+◌, ◌-◌, ◌≤◌, ◌<◌, ◌==◌, Bool, true, false, ◌&&◌, min, max, nat_lt, nat_le, if◌then◌else◌, List, [], ◌∷◌, ◌++◌, filter, length, take, get_or, set, replicate, Option, Some, None, IfSome}
+use Rattle.std.specs.Prelude.{◌≡◌, ◌≢◌, ℕ, ◌+◌, ◌-◌, ◌≤◌, ◌<◌, ◌==◌, Bool, true, false, ◌&&◌, max, nat_lt, nat_le, if◌then◌else◌, List, [], ◌∷◌, ◌++◌, filter, length, take, get_or, set, replicate, Option, Some, None, IfSome, codes, pos, refl}
 use Rattle.std.specs.BTreeMap.{is_at}
 use Rattle.std.specs.Option.{option_and_then}
+use Rattle.rdt_types.specs.declared.address.Kind.TheVariants as kind
 use Rattle.rdt_types.specs.declared.address.Address.{Address}
+use Rattle.rdt_types.specs.declared.delta.Delta.TheVariants as delta
+use Rattle.rdt_types.specs.declared.operation.WriteOp.TheVariants as op
+use Rattle.rdt_types.specs.declared.value.Value.TheVariants as value
 use Rattle.rdt_types.specs.Addresses.{address_cmp}
 use Rattle.rdt_types.specs.Shards.{shard_of}
-use Rattle.change_feed.specs.declared.change.Change.{Change}
+use Rattle.conflict_table.specs.declared.observation.Obs.TheVariants as obs
 use Rattle.change_feed.specs.Feeds.{Fed, with_changes}
 use Rattle.abort_witness.specs.declared.witness.Based.{Based}
 use Rattle.abort_witness.specs.declared.witness.Found.{Found}
@@ -13,9 +17,10 @@ use Rattle.abort_witness.specs.declared.witness.Witness.{Witness}
 use Rattle.txn_lang.specs.States.{Journal, state}
 use Rattle.txn_lang.specs.Journals.{IsLegal}
 use Rattle.journal_core.specs.declared.ready.Ready.{Ready}
-use Rattle.journal_core.specs.Changes.{changes, between}
+use Rattle.journal_core.specs.Changes.{changes, between, adding}
 use Rattle.journal_core.specs.Pairs.{least_pair, past_fronts}
 use Rattle.journal_core.specs.Readies.{made_of}
+use Rattle.docc_prepare.specs.Attempts.{lesser}
 use Rattle.docc_prepare.specs.Witnesses.{witness_of, least_witness}
 use Rattle.docc_prepare.specs.Calls.{Known, Call, Answer}
 use Rattle.docc_prepare.specs.Backends.{CanCall, IsAnswered, IsLater, IsSameClient, KeepsGiven}
@@ -86,7 +91,7 @@ read_at_front s client address front =
 -- the least base, if there is one
 abbrev pub least_base : List Based → Option ℕ
 least_base [] = None
-least_base (b ∷ rest) = elim (least_base rest) as (λ _. Option ℕ) [ None ↦ Some b.base | Some other ↦ Some (min b.base other) ]
+least_base (b ∷ rest) = Some (lesser b.base (least_base rest))
 
 -- the least base, where it is below the horizon
 abbrev pub late_base : ℕ → Option ℕ → Option ℕ
@@ -101,9 +106,10 @@ validated shard front horizon None None = Answer.prepared (record { shard = shar
 
 -- a preparing moves no front
 abbrev pub prepare_at : Store → ℕ → ℕ → List Based → ℕ → Store × Answer
-prepare_at s client shard based front =
-    (saw s client (max (seen_by s client) front),
-    validated shard front (front - s.window) (late_base (front - s.window) (least_base based)) (least_witness based (take front s.journal)))
+prepare_at s client shard based front = (
+  saw s client (max (seen_by s client) front),
+  validated shard front (front - s.window) (late_base (front - s.window) (least_base based)) (least_witness based (take front s.journal)),
+)
 
 -- a pair past the prepared fronts, if there is one
 abbrev pub found_past : Store → Ready → Option Found
@@ -124,9 +130,10 @@ append_to s client ready = decided s client ready (witness_past s ready) (nat_le
 
 -- a read at a number lets its shard follow to it
 abbrev pub read_back : Store → Address → ℕ → ℕ → Store × Answer
-read_back s address number front =
-    (moved s (shard_of address s.shards) front,
-    if nat_lt number (front - s.window) then Answer.late number (front - s.window) else Answer.value (state s.journal number address))
+read_back s address number front = (
+  moved s (shard_of address s.shards) front,
+  if nat_lt number (front - s.window) then Answer.late number (front - s.window) else Answer.value (state s.journal number address),
+)
 
 -- what changed at the addresses that are told to a client, since it took last
 abbrev pub feed_for : Store → ℕ → Fed
@@ -170,6 +177,7 @@ Does s client c answer t = (t, answer) ≡ step s client c
 -- The journal is legal and no longer than its limit, and what was reached, seen and taken is within it.
 pub record IsSound (s : Store) : Type 0 where
   pub legal : IsLegal 0 s.journal
+  pub few : length s.journal ≤ s.limit
   pub some : 0 < s.shards
   pub all_shards : length s.fronts ≡ s.shards
   pub all_clients : length s.seens ≡ CLIENTS
@@ -234,7 +242,48 @@ pub record IsFollowed (s : Store) (client shard : ℕ) (t : Store) : Type 0 wher
   pub mine : HasFollowed (known_by s client) (known_by t client)
   pub others : (other : ℕ) → other ≢ client → IsLater (known_by s other) (known_by t other)
 
--- By `follow` the shard has followed, and what fits the journal fits it still, which is the same.
+-- By `follow` a shard has followed. The journal is the same, so what fitted it fits it still.
 abbrev pub ShardsFollow : Type 0
 ShardsFollow =
     (s : Store) (client shard : ℕ) → IsSound s → client < CLIENTS → shard < s.shards → IsFollowed s client shard (followed s client shard)
+
+-- ---- worked lines
+
+-- the counter of a key
+abbrev counter : List ℕ → Address
+counter key = record { kind = kind.Counter; key = key }
+
+-- a store in which somebody has added 1 to the counter x
+abbrev with_one : Store
+with_one = record (first_store 4 2 100) { journal = adding 1 (codes "x") ∷ [] }
+
+-- who has seen nothing reads the default at front 0
+read-example : (step with_one 5 (Call.read (counter (codes "x")))).1 ≡ Answer.snap (record { base = 0; value = value.Counter (pos 0) })
+read-example = refl
+
+-- who has learnt of the commit reads behind it
+read-refreshed :
+    (step (step with_one 5 Call.refresh).0 5 (Call.read (counter (codes "x")))).1 ≡ Answer.snap (record { base = 1; value = value.Counter (pos 1) })
+read-refreshed = refl
+
+abbrev read_at_base : ℕ → Based
+read_at_base base = record { address = counter (codes "x"); obs = obs.CounterIs; base = base }
+
+least_base-example : least_base (read_at_base 3 ∷ read_at_base 2 ∷ []) ≡ Some 2
+least_base-example = refl
+
+-- what was read at 0 clashes with the commit once the shard, which is the first, has followed to it
+prepare-example :
+    (step (followed with_one 5 1) 5 (Call.prepare 1 (read_at_base 0 ∷ []))).1
+    ≡ Answer.clash (record { address = counter (codes "x"); obs = obs.CounterIs; base = 0; part = op.AddCounter (pos 1); number = 1 })
+prepare-example = refl
+
+-- a client is told what it asked for, and to where that goes
+take-example :
+    (step (step with_one 5 (Call.subscribe (counter (codes "x")))).0 5 Call.take).1
+    ≡ Answer.feed (record { to = 1; changes = (counter (codes "x"), delta.AddCounter (pos 1)) ∷ [] })
+take-example = refl
+
+-- and nothing where it asked for nothing
+take-nothing : (step with_one 5 Call.take).1 ≡ Answer.feed (record { to = 1; changes = [] })
+take-nothing = refl

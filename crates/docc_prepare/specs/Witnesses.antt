@@ -59,7 +59,8 @@ pub record IsNamed (based : List Based) (journal : Journal) (found : Found) (wit
 -- A law: the least pair of a journal, and of observations of their addresses' kinds, has a witness, which names both.
 abbrev pub WitnessIsNamed : Type 0
 WitnessIsNamed =
-    (based : List Based) (journal : Journal) (found : Found) → IsOrderly journal → AllByRecursion IsBasedOfOneKind based → IsLeast based (changes journal) found
+    (based : List Based) (journal : Journal) (found : Found) → IsOrderly journal → AllByRecursion IsBasedOfOneKind based
+    → IsLeast based (changes journal) found
     → (witness : Witness) × (least_witness based journal ≡ Some witness) × IsNamed based journal found witness
 
 -- ---- a worked line

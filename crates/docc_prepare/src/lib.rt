@@ -12,6 +12,7 @@ mod laws;
 mod observed;
 mod order;
 mod stepping;
+mod store_laws;
 
 pub use attempt::{Attempt, Next};
 pub use backend::{AppendError, Backend, PrepareError, ReadAtError, StoreError};
@@ -19,6 +20,10 @@ pub use laws::{
     appending_stays_legal, attempts_fit_longer_journals, attempts_run_as_they_ran,
     events_stay_sound, every_world_is_sound, first_worlds_are_sound, fronts_spare_no_pair,
     legal_journals_are_orderly, moves_stay_sound,
+};
+pub use store_laws::{
+    first_stores_are_sound, others_count_as_within, shards_follow, steps_are_answered,
+    steps_leave_others, witness_is_named,
 };
 
 #[cfg(test)]

@@ -1,5 +1,6 @@
 -- What runs of digits are worth, and that they are the decimal form of it.
-use Rattle.std.proofs.Common.{◌≡◌, ◌<◌, ◌≤◌, ◌+◌, ◌*◌, ◌/◌, ◌%◌, ◌^◌, ℕ, true, [], ◌∷◌, ◌++◌, get_or, refl, ap, sym, ◌∙◌, subst, arith, nat_le, append-nil, append_assoc}
+use Rattle.std.proofs.Common.{◌≡◌, ◌<◌, ◌≤◌, ◌+◌, ◌*◌, ◌/◌, ◌%◌, ◌^◌, ℕ, true, [], ◌∷◌, ◌++◌, get_or, refl, ap, sym}
+use Rattle.std.proofs.Common.{◌∙◌, subst, arith, nat_le, append-nil, append_assoc}
 use Rattle.std.proofs.lemmas.Bool.Decides.{nat_tests}
 use Rattle.std.specs.Fmt.{decimal}
 use Rattle.std.proofs.lemmas.Fmt.{decimal_step, decimal_digit, decimal_is_IsNumeral, first_decimal}
@@ -53,7 +54,8 @@ decimal_more n b some d small =
     decimal_step m (omega arith) small ∙ (λ i. decimal (front i) ++ (end i ∷ []))
 
 -- the decimal form of a number with more digits
-pub decimal-value_after : (n : ℕ) (ds : Bytes) → 0 < n → AllDigits 10 ds → digits_value_after 10 n ds < 2 ^ 64 → decimal (digits_value_after 10 n ds) ≡ decimal n ++ ds
+pub decimal-value_after : (n : ℕ) (ds : Bytes) → 0 < n → AllDigits 10 ds → digits_value_after 10 n ds < 2 ^ 64
+    → decimal (digits_value_after 10 n ds) ≡ decimal n ++ ds
 decimal-value_after n [] some d small = sym (append-nil (decimal n))
 decimal-value_after n (b ∷ ds) some d small =
     decimal-value_after (n * 10 + digit_value b) ds (omega arith) d.1 small

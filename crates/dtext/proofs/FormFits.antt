@@ -21,7 +21,8 @@ use Rattle.rdt_types.specs.Printed.{word_of}
 use Rattle.dtext.specs.Printing.{printed_bool}
 use Rattle.dtext.specs.Follows.{no_digit, no_more}
 use Rattle.dtext.specs.Spellings.{TextRule, NumberRule, BoolRule, AfterComma, first_and, Separated, TextsRule, AddressRule, ItemRule, AfterSpace, OutcomeRule}
-use Rattle.dtext.specs.code.Reading.{text, number, begins_number, bool, after_comma, some_texts, texts, kind_ahead, kind, address, item, after_space, emitted, ran, failed, outcome}
+use Rattle.dtext.specs.code.Reading.{text, number, begins_number, bool, after_comma, some_texts, texts, kind_ahead}
+use Rattle.dtext.specs.code.Reading.{kind, address, item, after_space, emitted, ran, failed, outcome}
 use Rattle.dtext.proofs.TextFits.{text_fits, text_next}
 use Rattle.dtext.proofs.NumberFits.{number_fits, number_begins}
 
@@ -82,7 +83,8 @@ pub texts_next : (ts us : Bytes) (a : List Bytes) → TextsRule ts a us → next
 texts_next ts us a r = byte_next 91 ts r.middle r.value r.first
 
 -- no truth value begins as another value does
-pub bool_apart : (test : Option ℕ → Bool) → test (Some 116) ≡ false → test (Some 102) ≡ false → (ts us : Bytes) (b : Bool) → BoolRule ts b us → test (next ts) ≡ false
+pub bool_apart : (test : Option ℕ → Bool) → test (Some 116) ≡ false → test (Some 102) ≡ false → (ts us : Bytes) (b : Bool)
+    → BoolRule ts b us → test (next ts) ≡ false
 bool_apart test t f ts us true r = ap (λ xs. test (next xs)) r ∙ t
 bool_apart test t f ts us false r = ap (λ xs. test (next xs)) r ∙ f
 
@@ -100,7 +102,9 @@ after_comma_begins ts us a r = byte_begins 44 ts r.middle r.value r.first
 -- one text, and others behind commas
 some_texts_fits : Fits IsByte some_texts (Of first_and (ListOf TextRule AfterComma)) (unless (sees 44) any)
 unfolding some_texts
-some_texts_fits = seen IsByte first_and (list_fits IsByte (sees 44) after_comma AfterComma any after_comma_fits after_comma_begins refl (λ h e. refl) text TextRule text_fits)
+some_texts_fits =
+    seen IsByte first_and (list_fits IsByte (sees 44) after_comma AfterComma any after_comma_fits after_comma_begins refl
+    (λ h e. refl) text TextRule text_fits)
 
 -- neither a text nor one more follows
 abbrev closed : Option ℕ → Bool
@@ -133,7 +137,9 @@ TextsOrBool = Or (Of items.Texts TextsRule) (Of items.Bool BoolRule)
 
 -- a bracket tells texts from truth values
 texts_or_bool_fits : Fits IsByte (either (sees 91) (of items.Texts texts) (of items.Bool bool)) TextsOrBool any
-texts_or_bool_fits = either_fits IsByte (sees 91) (of items.Texts texts) (of items.Bool bool) (Of items.Texts TextsRule) (Of items.Bool BoolRule) any (seen IsByte items.Texts texts_fits) (seen IsByte items.Bool bool_fits)
+texts_or_bool_fits =
+    either_fits IsByte (sees 91) (of items.Texts texts) (of items.Bool bool) (Of items.Texts TextsRule) (Of items.Bool BoolRule)
+    any (seen IsByte items.Texts texts_fits) (seen IsByte items.Bool bool_fits)
     (λ ts us a r. ap (sees 91) (texts_next ts r.middle r.value r.first))
     (λ ts us a r e. bool_apart (sees 91) refl refl ts r.middle r.value r.first)
 
@@ -142,13 +148,16 @@ abbrev NoNumber : Rule ℕ Item
 NoNumber = Or (Of items.Text TextRule) TextsOrBool
 
 -- neither begins as another value does
-texts_or_bool_apart : (test : Option ℕ → Bool) → test (Some 91) ≡ false → test (Some 116) ≡ false → test (Some 102) ≡ false → (ts us : Bytes) (a : Item) → TextsOrBool ts a us → test (next ts) ≡ false
+texts_or_bool_apart : (test : Option ℕ → Bool) → test (Some 91) ≡ false → test (Some 116) ≡ false → test (Some 102) ≡ false
+    → (ts us : Bytes) (a : Item) → TextsOrBool ts a us → test (next ts) ≡ false
 texts_or_bool_apart test o t f ts us a (inl r) = ap test (texts_next ts r.middle r.value r.first) ∙ o
 texts_or_bool_apart test o t f ts us a (inr r) = bool_apart test t f ts r.middle r.value r.first
 
 -- a quote tells texts from these
 no_number_fits : Fits IsByte (either (sees 34) (of items.Text text) (either (sees 91) (of items.Texts texts) (of items.Bool bool))) NoNumber any
-no_number_fits = either_fits IsByte (sees 34) (of items.Text text) _ (Of items.Text TextRule) TextsOrBool any (seen IsByte items.Text text_fits) texts_or_bool_fits
+no_number_fits =
+    either_fits IsByte (sees 34) (of items.Text text) _ (Of items.Text TextRule) TextsOrBool any
+    (seen IsByte items.Text text_fits) texts_or_bool_fits
     (λ ts us a r. ap (sees 34) (text_next ts r.middle r.value r.first))
     (λ ts us a r e. texts_or_bool_apart (sees 34) refl refl refl ts us a r)
 
@@ -160,7 +169,9 @@ no_number_apart ts us a (inr r) = texts_or_bool_apart begins_number refl refl re
 -- values of any type
 pub item_fits : Fits IsByte item ItemRule no_digit
 unfolding item
-item_fits = either_fits IsByte begins_number (of items.Int number) _ (Of items.Int NumberRule) NoNumber no_digit (seen IsByte items.Int number_fits) (narrowed IsByte no_digit (λ h e. refl) no_number_fits)
+item_fits =
+    either_fits IsByte begins_number (of items.Int number) _ (Of items.Int NumberRule) NoNumber no_digit
+    (seen IsByte items.Int number_fits) (narrowed IsByte no_digit (λ h e. refl) no_number_fits)
     (λ ts us a r. number_begins ts r.middle r.value r.first)
     (λ ts us a r e. no_number_apart ts us a r)
 
@@ -212,18 +223,24 @@ abbrev Big : Rule ℕ Outcome
 Big = Of (λ _. outcomes.Big) (Word (codes "big"))
 
 -- the first byte tells the two words apart
-spent_or_big_fits : Fits IsByte (either (sees 115) (of (λ _. outcomes.Spent) (word (codes "spent"))) (of (λ _. outcomes.Big) (word (codes "big")))) (Or Spent Big) any
-spent_or_big_fits = either_fits IsByte (sees 115) _ _ Spent Big any (named_fits (codes "spent") outcomes.Spent refl) (named_fits (codes "big") outcomes.Big refl)
+spent_or_big_fits : Fits IsByte (either (sees 115) (of (λ _. outcomes.Spent) (word (codes "spent")))
+    (of (λ _. outcomes.Big) (word (codes "big")))) (Or Spent Big) any
+spent_or_big_fits =
+    either_fits IsByte (sees 115) _ _ Spent Big any (named_fits (codes "spent") outcomes.Spent refl)
+    (named_fits (codes "big") outcomes.Big refl)
     (λ ts us a r. ap (λ xs. sees 115 (next xs)) r.first)
     (λ ts us a r e. ap (λ xs. sees 115 (next xs)) r.first)
 
 -- neither begins as another outcome does
-spent_or_big_apart : (test : Option ℕ → Bool) → test (Some 115) ≡ false → test (Some 98) ≡ false → (ts us : Bytes) (a : Outcome) → Or Spent Big ts a us → test (next ts) ≡ false
+spent_or_big_apart : (test : Option ℕ → Bool) → test (Some 115) ≡ false → test (Some 98) ≡ false → (ts us : Bytes) (a : Outcome)
+    → Or Spent Big ts a us → test (next ts) ≡ false
 spent_or_big_apart test s b ts us a (inl r) = ap (λ xs. test (next xs)) r.first ∙ s
 spent_or_big_apart test s b ts us a (inr r) = ap (λ xs. test (next xs)) r.first ∙ b
 
 -- `f` tells a failure from the words alone
-no_run_fits : Fits IsByte (either (sees 102) failed (either (sees 115) (of (λ _. outcomes.Spent) (word (codes "spent"))) (of (λ _. outcomes.Big) (word (codes "big"))))) (Or Failed (Or Spent Big)) any
+no_run_fits : Fits IsByte (either (sees 102) failed
+    (either (sees 115) (of (λ _. outcomes.Spent) (word (codes "spent"))) (of (λ _. outcomes.Big) (word (codes "big")))))
+    (Or Failed (Or Spent Big)) any
 no_run_fits = either_fits IsByte (sees 102) failed _ Failed (Or Spent Big) any failed_fits spent_or_big_fits
     (λ ts us a r. ap (λ xs. sees 102 (next xs)) r.first)
     (λ ts us a r e. spent_or_big_apart (sees 102) refl refl ts us a r)

@@ -1,5 +1,7 @@
 -- The reader of numbers reads what their rule derives.
-use Rattle.std.proofs.Common.{◌≡◌, ◌<◌, ◌≤◌, ◌+◌, ◌-◌, ◌*◌, ◌^◌, ℕ, zero, suc, ℤ, pos, negsuc, neg_ℤ, Bool, true, false, ◌&&◌, ◌||◌, ◌⊎◌, [], ◌∷◌, ◌++◌, drop, Option, Some, None, Ok, Err, refl, ap, sym, ◌∙◌, subst, arith, cond, inl, inr, nat_eq, nat_le}
+use Rattle.std.proofs.Common.{◌≡◌, ◌<◌, ◌≤◌, ◌+◌, ◌-◌, ◌*◌, ◌^◌, ℕ, zero, suc, ℤ, pos, negsuc, neg_ℤ, Bool, true, false}
+use Rattle.std.proofs.Common.{◌&&◌, ◌||◌, ◌⊎◌, [], ◌∷◌, ◌++◌, drop, Option, Some, None, Ok, Err, refl, ap, sym, ◌∙◌}
+use Rattle.std.proofs.Common.{subst, arith, cond, inl, inr, nat_eq, nat_le}
 use Rattle.std.proofs.lemmas.Bool.Decides.{nat_tests}
 use Rattle.std.proofs.lemmas.List.Elements.{All-nil}
 use Rattle.std.specs.Fmt.{decimal}
@@ -19,7 +21,8 @@ use Rattle.dtext.specs.Characters.{is_digit}
 use Rattle.dtext.specs.Follows.{no_digit}
 use Rattle.dtext.specs.Spellings.{NaturalRule, PositiveRule, NumberRule}
 use Rattle.dtext.specs.code.Reading.{leading, with_digit, more, digits, positive, zero_read, natural, negative, number, begins_number}
-use Rattle.dtext.proofs.Digits.{digit_worth, digit_below, digit_of, with_digit_worth, digits_value_after-ge, decimal-value_after, decimal_parts, decimal_zero, decimal_leading}
+use Rattle.dtext.proofs.Digits.{digit_worth, digit_below, digit_of, with_digit_worth, digits_value_after-ge}
+use Rattle.dtext.proofs.Digits.{decimal-value_after, decimal_parts, decimal_zero, decimal_leading}
 
 -- ---- digits behind others
 
@@ -58,7 +61,15 @@ module _ (limit : ℕ) where
 
   -- nothing is read where no digit more is ahead
   none_read : (value : ℕ) (ts : Bytes) → ahead (goes limit value) (next ts) ≡ false → Digits value ts value ts
-  none_read value ts s = record { front = []; cut = refl; all = tt; worth = refl; within = inr refl; again = λ vs h. digits_stop value vs (ap (ahead (goes limit value)) h ∙ s) }
+  none_read value ts s =
+      record {
+        front = [];
+        cut = refl;
+        all = tt;
+        worth = refl;
+        within = inr refl;
+        again = λ vs h. digits_stop value vs (ap (ahead (goes limit value)) h ∙ s);
+      }
 
   -- a digit more keeps within the limit
   goes_within : (value b : ℕ) → goes limit value b ≡ true → with_digit value b ≤ limit
@@ -83,7 +94,8 @@ module _ (limit : ℕ) where
       }
 
   -- the reader has one answer
-  read_as : (value : ℕ) (ts us vs : Bytes) (n : ℕ) → digits limit value ts ≡ Ok (value, ts) → digits limit value ts ≡ Ok (n, us) → Digits value ts value ts → Digits value ts n us
+  read_as : (value : ℕ) (ts us vs : Bytes) (n : ℕ) → digits limit value ts ≡ Ok (value, ts) → digits limit value ts ≡ Ok (n, us)
+      → Digits value ts value ts → Digits value ts n us
   read_as value ts us vs n e h x =
       let k = ok_pair value n ts us (sym e ∙ h) in
       subst (λ m. Digits value ts m us) k.0 (subst (λ xs. Digits value ts value xs) k.1 x)
@@ -117,7 +129,9 @@ module _ (limit : ℕ) where
       grind (arith, nat_tests, k, w)
 
   -- digits that keep within the limit are read
-  digits_derived : (value : ℕ) (front us : Bytes) → AllDigits 10 front → (digits_value_after 10 value front ≤ limit) ⊎ (front ≡ []) → no_digit (next us) ≡ true → digits limit value (front ++ us) ≡ Ok (digits_value_after 10 value front, us)
+  digits_derived : (value : ℕ) (front us : Bytes) → AllDigits 10 front
+      → (digits_value_after 10 value front ≤ limit) ⊎ (front ≡ []) → no_digit (next us) ≡ true
+      → digits limit value (front ++ us) ≡ Ok (digits_value_after 10 value front, us)
   digits_derived value [] us d l h = digits_stop value us (no_digit_stops value us h)
   digits_derived value (b ∷ front) us d (inl l) h =
       digits_go value b (front ++ us) (goes_on value b front d.0 l)
@@ -143,7 +157,13 @@ module _ (limit : ℕ) where
         ∙ digits_derived value r.front us r.all (subst (λ m. (m ≤ limit) ⊎ (r.front ≡ [])) r.worth r.within) h
         ∙ ap (λ m. Ok (m, us)) (sym r.worth);
     refuses = λ ts us e. absurd (digits_ok value ts us e);
-    some = record { rest = []; value = value; possible = All-nil IsByte; derives = λ vs. record { front = []; cut = refl; all = tt; worth = refl; within = inr refl } };
+    some =
+        record {
+          rest = [];
+          value = value;
+          possible = All-nil IsByte;
+          derives = λ vs. record { front = []; cut = refl; all = tt; worth = refl; within = inr refl };
+        };
   }
 
 -- ---- numbers without a sign
@@ -185,7 +205,9 @@ module _ (limit : ℕ) (large : 9 ≤ limit) (small : limit < 2 ^ 64) where
       let start : decimal r.value ≡ o.item ∷ [] = ap decimal k.1 ∙ decimal_leading o.item below in
       let value : n ≡ digits_value_after 10 r.value d.front = d.worth in
       let within = still_within limit r.value n d.front (omega (arith, k.1)) value d.within in
-      let whole : decimal n ≡ o.item ∷ d.front = ap decimal value ∙ decimal-value_after r.value d.front k.2 d.all (subst (λ m. m < 2 ^ 64) value (omega arith)) ∙ ap (λ xs. xs ++ d.front) start in
+      let whole : decimal n ≡ o.item ∷ d.front = ap decimal value
+      ∙ decimal-value_after r.value d.front k.2 d.all (subst (λ m. m < 2 ^ 64) value (omega arith))
+      ∙ ap (λ xs. xs ++ d.front) start in
       record {
         spelled = o.first ∙ ap (λ xs. o.item ∷ xs) d.cut ∙ ap (λ xs. xs ++ us) (sym whole);
         some = omega (arith, value, digits_value_after-ge r.value d.front, k.2);
@@ -224,7 +246,14 @@ module _ (limit : ℕ) (large : 9 ≤ limit) (small : limit < 2 ^ 64) where
 
   -- and these are 0 or above
   natural_from : (ts us : Bytes) (n : ℕ) → NaturalRule limit ts n us → Or ZeroRule (PositiveRule limit) ts n us
-  natural_from ts us zero r = inl (record { value = tt; middle = us; first = record { item = 48; first = r.spelled ∙ ap (λ xs. xs ++ us) decimal_zero; made = refl }; second = record { is = refl; here = refl } })
+  natural_from ts us zero r =
+      inl (record {
+        value = tt;
+        middle = us;
+        first = record { item = 48; first = r.spelled ∙ ap (λ xs. xs ++ us) decimal_zero; made = refl };
+        second =
+            record { is = refl; here = refl };
+      })
   natural_from ts us (suc n) r = inr (record { spelled = r.spelled; some = omega arith; within = r.within })
 
   -- a number above 0 begins with no zero
@@ -267,14 +296,22 @@ number_to : (ts us : Bytes) (n : ℤ) → Or NegativeRule NotNegative ts n us �
 number_to ts us n (inl r) =
     let o = r.second in
     let p = o.first in
-    negative_is ts us o.value n (byte_taken 45 ts r.middle r.value r.first ∙ ap (λ xs. 45 ∷ xs) (p.spelled ∙ ap (λ xs. decimal o.value ++ xs) o.second.here)) p.some p.within o.second.is
+    negative_is ts us o.value n (byte_taken 45 ts r.middle r.value r.first
+    ∙ ap (λ xs. 45 ∷ xs) (p.spelled ∙ ap (λ xs. decimal o.value ++ xs) o.second.here)) p.some p.within o.second.is
 number_to ts us n (inr r) =
     let p = r.first in
-    subst (λ z. NumberRule ts z us) (sym r.second.is) (record { spelled = p.spelled ∙ ap (λ xs. decimal r.value ++ xs) r.second.here; fits = omega (arith, p.within) })
+    subst (λ z. NumberRule ts z us) (sym r.second.is)
+    (record { spelled = p.spelled ∙ ap (λ xs. decimal r.value ++ xs) r.second.here; fits = omega (arith, p.within) })
 
 -- and that form is one of both
 number_from : (ts us : Bytes) (n : ℤ) → NumberRule ts n us → Or NegativeRule NotNegative ts n us
-number_from ts us (pos n) r = inr (record { value = n; middle = us; first = record { spelled = r.spelled; within = omega (arith, r.fits) }; second = record { is = refl; here = refl } })
+number_from ts us (pos n) r =
+    inr (record {
+      value = n;
+      middle = us;
+      first = record { spelled = r.spelled; within = omega (arith, r.fits) };
+      second = record { is = refl; here = refl };
+    })
 number_from ts us (negsuc n) r = inl (record {
   value = tt;
   middle = decimal (suc n) ++ us;
@@ -307,7 +344,10 @@ not_negative_begins ts us n r =
 -- numbers of 64 bits
 pub number_fits : Fits IsByte number NumberRule no_digit
 unfolding number
-number_fits = fits_as IsByte number_to number_from (either_fits IsByte (sees 45) negative (of pos (natural MOST)) NegativeRule NotNegative no_digit negative_fits (seen IsByte pos (natural_fits MOST (omega arith) (omega arith)))
+number_fits =
+    fits_as IsByte number_to number_from
+    (either_fits IsByte (sees 45) negative (of pos (natural MOST)) NegativeRule NotNegative no_digit negative_fits
+    (seen IsByte pos (natural_fits MOST (omega arith) (omega arith)))
     (λ ts us n r. byte_begins 45 ts r.middle r.value r.first)
     (λ ts us n r h. not_negative_begins ts us n r))
 
@@ -330,12 +370,14 @@ number_begins ts us (negsuc n) r = ap (λ xs. begins_number (next xs)) r.spelled
 -- ---- the loop over digits
 
 -- a digit more is there where something is made of the byte
-more_some : (limit value b m : ℕ) (t : Bool) → is_digit b && nat_le (with_digit value b) limit ≡ t → cond t (Some (with_digit value b)) None ≡ Some m → (t ≡ true) × (m ≡ with_digit value b)
+more_some : (limit value b m : ℕ) (t : Bool) → is_digit b && nat_le (with_digit value b) limit ≡ t
+    → cond t (Some (with_digit value b)) None ≡ Some m → (t ≡ true) × (m ≡ with_digit value b)
 more_some limit value b m true e h = (refl, cc)
 more_some limit value b m false e h = absurd (cc)
 
 -- and none where nothing is
-more_none : (limit value b : ℕ) (t : Bool) → is_digit b && nat_le (with_digit value b) limit ≡ t → ◌≡◌ {A = Option ℕ} (cond t (Some (with_digit value b)) None) None → t ≡ false
+more_none : (limit value b : ℕ) (t : Bool) → is_digit b && nat_le (with_digit value b) limit ≡ t
+    → ◌≡◌ {A = Option ℕ} (cond t (Some (with_digit value b)) None) None → t ≡ false
 more_none limit value b true e h = absurd (cc)
 more_none limit value b false e h = refl
 
@@ -351,7 +393,9 @@ digits_more limit value (b ∷ ts) m e =
 pub digits_done : (limit value : ℕ) (ts : Bytes) → made_of (more limit value) ts ≡ None → digits limit value ts ≡ Ok (value, ts)
 unfolding digits
 digits_done limit value [] e = refl
-digits_done limit value (b ∷ ts) e = ap (λ t. cond t (digits limit (with_digit value b) ts) (Ok (value, b ∷ ts))) (more_none limit value b (is_digit b && nat_le (with_digit value b) limit) refl e)
+digits_done limit value (b ∷ ts) e =
+    ap (λ t. cond t (digits limit (with_digit value b) ts) (Ok (value, b ∷ ts)))
+    (more_none limit value b (is_digit b && nat_le (with_digit value b) limit) refl e)
 
 -- a leading digit is at most 9
 pub leading_small : (b a : ℕ) → leading b ≡ Some a → a ≤ 9

@@ -15,7 +15,9 @@ use Rattle.rdt_types.specs.declared.operation.WriteOp.{WriteOp}
 use Rattle.rdt_types.specs.declared.operation.WriteOp.TheVariants as op
 use Rattle.dtext.specs.Follows.{no_digit, no_more}
 use Rattle.dtext.specs.Spellings.{TextRule, NumberRule, BoolRule, FieldRule, RemoveOrClear, PartRule, PartOf}
-use Rattle.dtext.specs.code.Reading.{text, number, begins_number, bool, text_behind, put_of, text_or_field, put_value, put_or_push, addition, removed, cleared, removal, clearing, remove_or_clear, part, bool_part, counter_part, text_part, set_part, field, hash_part, list_part, part_of}
+use Rattle.dtext.specs.code.Reading.{text, number, begins_number, bool, text_behind, put_of, text_or_field, put_value}
+use Rattle.dtext.specs.code.Reading.{put_or_push, addition, removed, cleared, removal, clearing, remove_or_clear, part}
+use Rattle.dtext.specs.code.Reading.{bool_part, counter_part, text_part, set_part, field, hash_part, list_part, part_of}
 use Rattle.dtext.proofs.TextFits.{text_fits, text_next}
 use Rattle.dtext.proofs.NumberFits.{number_fits, number_begins}
 use Rattle.dtext.proofs.FormFits.{bool_fits, bool_apart}
@@ -47,7 +49,9 @@ TextOrField = Then TextRule (λ first. Then (Optional TextBehind) (λ second. Pu
 -- a space tells whether a second text follows
 text_or_field_fits : Fits IsByte text_or_field TextOrField alone
 unfolding text_or_field
-text_or_field_fits = onwards IsByte text_fits (λ first. seen IsByte (put_of first) (optional_fits IsByte (sees 32) text_behind TextBehind any text_behind_fits text_behind_begins))
+text_or_field_fits =
+    onwards IsByte text_fits (λ first. seen IsByte (put_of first)
+    (optional_fits IsByte (sees 32) text_behind TextBehind any text_behind_fits text_behind_begins))
 
 -- what is put, unless it is a number
 abbrev TextOrBool : Rule ℕ WriteOp
@@ -55,7 +59,9 @@ TextOrBool = Or TextOrField (Of op.PutBool BoolRule)
 
 -- a quote tells texts from truth values
 text_or_bool_fits : Fits IsByte (either (sees 34) text_or_field (of op.PutBool bool)) TextOrBool alone
-text_or_bool_fits = either_fits IsByte (sees 34) text_or_field (of op.PutBool bool) TextOrField (Of op.PutBool BoolRule) alone text_or_field_fits (narrowed IsByte alone (λ h e. refl) (seen IsByte op.PutBool bool_fits))
+text_or_bool_fits =
+    either_fits IsByte (sees 34) text_or_field (of op.PutBool bool) TextOrField (Of op.PutBool BoolRule) alone text_or_field_fits
+    (narrowed IsByte alone (λ h e. refl) (seen IsByte op.PutBool bool_fits))
     (λ ts us a r. ap (sees 34) (text_next ts r.middle r.value r.first))
     (λ ts us a r e. bool_apart (sees 34) refl refl ts r.middle r.value r.first)
 
@@ -101,7 +107,10 @@ PutOrPush = Behind (codes "pu") (Or Put Push)
 -- the byte behind the front tells them apart
 put_or_push_fits : Fits IsByte put_or_push PutOrPush no_more
 unfolding put_or_push
-put_or_push_fits = behind_fits (codes "pu") refl (either_fits IsByte (sees 116) _ _ Put Push no_more (behind_fits (codes "t ") refl put_value_fits) (narrowed IsByte no_more (λ h e. refl) (behind_fits (codes "sh ") refl (seen IsByte op.ListPush text_fits)))
+put_or_push_fits =
+    behind_fits (codes "pu") refl (either_fits IsByte (sees 116) _ _ Put Push no_more
+    (behind_fits (codes "t ") refl put_value_fits)
+    (narrowed IsByte no_more (λ h e. refl) (behind_fits (codes "sh ") refl (seen IsByte op.ListPush text_fits)))
     (λ ts us a r. ap (λ xs. sees 116 (next xs)) r.first)
     (λ ts us a r e. ap (λ xs. sees 116 (next xs)) r.first))
 
@@ -112,7 +121,10 @@ Addition = Behind (codes "add ") (Or (Of op.AddCounter NumberRule) (Of op.SetAdd
 -- what is added tells which
 addition_fits : Fits IsByte addition Addition no_digit
 unfolding addition
-addition_fits = behind_fits (codes "add ") refl (either_fits IsByte begins_number _ _ (Of op.AddCounter NumberRule) (Of op.SetAdd TextRule) no_digit (seen IsByte op.AddCounter number_fits) (narrowed IsByte no_digit (λ h e. refl) (seen IsByte op.SetAdd text_fits))
+addition_fits =
+    behind_fits (codes "add ") refl
+    (either_fits IsByte begins_number _ _ (Of op.AddCounter NumberRule) (Of op.SetAdd TextRule) no_digit
+    (seen IsByte op.AddCounter number_fits) (narrowed IsByte no_digit (λ h e. refl) (seen IsByte op.SetAdd text_fits))
     (λ ts us a r. number_begins ts r.middle r.value r.first)
     (λ ts us a r e. ap begins_number (text_next ts r.middle r.value r.first)))
 
@@ -137,12 +149,15 @@ clearing_fits kind = named_fits (codes "clear") (cleared kind) refl
 -- the first byte tells these two apart
 remove_or_clear_fits : (kind : Kind) → Fits IsByte (remove_or_clear kind) (RemoveOrClear (removed kind) (cleared kind)) any
 unfolding remove_or_clear
-remove_or_clear_fits kind = either_fits IsByte (sees 114) (removal kind) (clearing kind) (Removal kind) (Clearing kind) any (removal_fits kind) (clearing_fits kind)
+remove_or_clear_fits kind =
+    either_fits IsByte (sees 114) (removal kind) (clearing kind) (Removal kind) (Clearing kind) any (removal_fits kind)
+    (clearing_fits kind)
     (λ ts us a r. ap (λ xs. sees 114 (next xs)) r.first)
     (λ ts us a r e. ap (λ xs. sees 114 (next xs)) r.first)
 
 -- neither begins as another part does
-remove_or_clear_apart : (removed : Bytes → WriteOp) (cleared : WriteOp) (test : Option ℕ → Bool) → test (Some 114) ≡ false → test (Some 99) ≡ false → (ts us : Bytes) (a : WriteOp) → RemoveOrClear removed cleared ts a us → test (next ts) ≡ false
+remove_or_clear_apart : (removed : Bytes → WriteOp) (cleared : WriteOp) (test : Option ℕ → Bool) → test (Some 114) ≡ false
+    → test (Some 99) ≡ false → (ts us : Bytes) (a : WriteOp) → RemoveOrClear removed cleared ts a us → test (next ts) ≡ false
 remove_or_clear_apart removed cleared test m c ts us a (inl r) = ap (λ xs. test (next xs)) r.first ∙ m
 remove_or_clear_apart removed cleared test m c ts us a (inr r) = ap (λ xs. test (next xs)) r.first ∙ c
 
@@ -156,7 +171,9 @@ NoPut = Or Addition SetRemoveOrClear
 
 -- the first byte tells additions from these
 no_put_fits : Fits IsByte (either (sees 97) addition (remove_or_clear kinds.Set)) NoPut no_digit
-no_put_fits = either_fits IsByte (sees 97) addition _ Addition SetRemoveOrClear no_digit addition_fits (narrowed IsByte no_digit (λ h e. refl) (remove_or_clear_fits kinds.Set))
+no_put_fits =
+    either_fits IsByte (sees 97) addition _ Addition SetRemoveOrClear no_digit addition_fits
+    (narrowed IsByte no_digit (λ h e. refl) (remove_or_clear_fits kinds.Set))
     (λ ts us a r. ap (λ xs. sees 97 (next xs)) r.first)
     (λ ts us a r e. remove_or_clear_apart op.SetRemove op.SetClear (sees 97) refl refl ts us a r)
 
@@ -181,7 +198,8 @@ factored_fits = either_fits IsByte (sees 112) put_or_push _ PutOrPush NoPut no_m
 -- ---- from the fronts put together to the table
 
 -- a text, and whether another is behind it
-field_to : (ts ms ns ks us : Bytes) (first : Bytes) (second : Option Bytes) (a : WriteOp) → ts ≡ codes "put " ++ ms → TextRule ms first ns → Optional TextBehind ns second ks → a ≡ put_of first second → ks ≡ us → PartRule ts a us
+field_to : (ts ms ns ks us : Bytes) (first : Bytes) (second : Option Bytes) (a : WriteOp) → ts ≡ codes "put " ++ ms
+    → TextRule ms first ns → Optional TextBehind ns second ks → a ≡ put_of first second → ks ≡ us → PartRule ts a us
 unfolding TextBehind
 field_to ts ms ns ks us first second a e h (inl s) is here =
     let t = s.first in
@@ -197,12 +215,28 @@ field_to ts ms ns ks us first second a e h (inl s) is here =
           value = t.value;
           middle = t.middle;
           first = t.first;
-          second = record { value = s.value; middle = s.middle; first = t.second; second = record { is = is ∙ ap (put_of first) s.second.is; here = s.second.here ∙ here } };
+          second =
+              record {
+                value = s.value;
+                middle = s.middle;
+                first = t.second;
+                second = record { is = is ∙ ap (put_of first) s.second.is; here = s.second.here ∙ here };
+              };
         };
       };
     }))))
 field_to ts ms ns ks us first second a e h (inr s) is here =
-    inr (inr (inl (record { value = tt; middle = ms; first = e; second = record { value = first; middle = ns; first = h; second = record { is = is ∙ ap (put_of first) s.is; here = s.here ∙ here } } })))
+    inr (inr (inl (record {
+      value = tt;
+      middle = ms;
+      first = e;
+      second = record {
+        value = first;
+        middle = ns;
+        first = h;
+        second = record { is = is ∙ ap (put_of first) s.is; here = s.here ∙ here };
+      };
+    })))
 
 -- each thing that is put has its row
 put_to : (ts ms us : Bytes) (a : WriteOp) → ts ≡ codes "put " ++ ms → PutValue ms a us → PartRule ts a us
@@ -213,7 +247,9 @@ put_to ts ms us a e (inr (inr b)) = inl (record { value = tt; middle = ms; first
 -- the two words have their rows
 put_or_push_to : (ts ms us : Bytes) (a : WriteOp) → ts ≡ codes "pu" ++ ms → Or Put Push ms a us → PartRule ts a us
 put_or_push_to ts ms us a e (inl r) = put_to ts r.middle us a (e ∙ ap (λ xs. codes "pu" ++ xs) r.first) r.second
-put_or_push_to ts ms us a e (inr r) = inr (inr (inr (inr (inr (inr (inl (record { value = tt; middle = r.middle; first = e ∙ ap (λ xs. codes "pu" ++ xs) r.first; second = r.second })))))))
+put_or_push_to ts ms us a e (inr r) =
+    inr (inr (inr (inr (inr (inr (inl
+    (record { value = tt; middle = r.middle; first = e ∙ ap (λ xs. codes "pu" ++ xs) r.first; second = r.second })))))))
 
 -- both additions have theirs
 addition_to : (ts ms us : Bytes) (a : WriteOp) → ts ≡ codes "add " ++ ms → Or (Of op.AddCounter NumberRule) (Of op.SetAdd TextRule) ms a us → PartRule ts a us
@@ -230,11 +266,23 @@ part_to ts us a (inr (inr r)) = inr (inr (inr (inr (inr (inr (inr r))))))
 
 -- a row of `put` is the front and what is put
 put_from : (ts ms us : Bytes) (a : WriteOp) → ts ≡ codes "put " ++ ms → PutValue ms a us → Factored ts a us
-put_from ts ms us a e v = inl (record { value = tt; middle = codes "t " ++ ms; first = e; second = inl (record { value = tt; middle = ms; first = refl; second = v }) })
+put_from ts ms us a e v =
+    inl (record {
+      value = tt;
+      middle = codes "t " ++ ms;
+      first = e;
+      second = inl (record { value = tt; middle = ms; first = refl; second = v });
+    })
 
 -- a text with none behind it, and one with another
 text_from : (ts us : Bytes) (a : WriteOp) → Of op.PutText TextRule ts a us → TextOrField ts a us
-text_from ts us a r = record { value = r.value; middle = r.middle; first = r.first; second = record { value = None; middle = r.middle; first = inr (record { is = refl; here = refl }); second = r.second } }
+text_from ts us a r =
+    record {
+      value = r.value;
+      middle = r.middle;
+      first = r.first;
+      second = record { value = None; middle = r.middle; first = inr (record { is = refl; here = refl }); second = r.second };
+    }
 
 -- a field and a text are a text and another
 field_from : (ts us : Bytes) (a : WriteOp) → FieldRule ts a us → TextOrField ts a us
@@ -249,7 +297,14 @@ field_from ts us a r =
       second = record {
         value = Some t.value;
         middle = t.middle;
-        first = inl (record { value = t.value; middle = t.middle; first = record { value = s.value; middle = s.middle; first = s.first; second = t.first }; second = record { is = refl; here = refl } });
+        first =
+            inl (record {
+              value = t.value;
+              middle = t.middle;
+              first = record { value = s.value; middle = s.middle; first = s.first; second = t.first };
+              second =
+                  record { is = refl; here = refl };
+            });
         second = t.second;
       };
     }
@@ -260,7 +315,13 @@ addition_from ts ms us a e r = inr (inl (record { value = tt; middle = ms; first
 
 -- a row of `push`
 push_from : (ts ms us : Bytes) (a : WriteOp) → ts ≡ codes "push " ++ ms → Of op.ListPush TextRule ms a us → Factored ts a us
-push_from ts ms us a e r = inl (record { value = tt; middle = codes "sh " ++ ms; first = e; second = inr (record { value = tt; middle = ms; first = refl; second = r }) })
+push_from ts ms us a e r =
+    inl (record {
+      value = tt;
+      middle = codes "sh " ++ ms;
+      first = e;
+      second = inr (record { value = tt; middle = ms; first = refl; second = r });
+    })
 
 -- so each row is a form
 part_from : (ts us : Bytes) (a : WriteOp) → PartRule ts a us → Factored ts a us
@@ -282,22 +343,29 @@ part_fits = fits_as IsByte part_to part_from factored_fits
 -- a number that is put or added
 counter_part_fits : Fits IsByte counter_part (PartOf kinds.Counter) no_digit
 unfolding counter_part
-counter_part_fits = either_fits IsByte (sees 112) _ _ (Behind (codes "put ") (Of op.PutCounter NumberRule)) (Behind (codes "add ") (Of op.AddCounter NumberRule)) no_digit
+counter_part_fits =
+    either_fits IsByte (sees 112) _ _ (Behind (codes "put ") (Of op.PutCounter NumberRule))
+    (Behind (codes "add ") (Of op.AddCounter NumberRule)) no_digit
     (behind_fits (codes "put ") refl (seen IsByte op.PutCounter number_fits)) (behind_fits (codes "add ") refl (seen IsByte op.AddCounter number_fits))
     (λ ts us a r. ap (λ xs. sees 112 (next xs)) r.first)
     (λ ts us a r e. ap (λ xs. sees 112 (next xs)) r.first)
 
 -- what a collection alone has, or what all have: a byte tells them apart
 module _ (kind : Kind) (mark : ℕ) (own : Reader ℕ WriteOp) (Own : Rule ℕ WriteOp) (own_fits : Fits IsByte own Own any)
-    (begins : (ts us : Bytes) (a : WriteOp) → Own ts a us → sees mark (next ts) ≡ true) (no_removal : sees mark (Some 114) ≡ false) (no_clear : sees mark (Some 99) ≡ false) where
+    (begins : (ts us : Bytes) (a : WriteOp) → Own ts a us → sees mark (next ts) ≡ true)
+    (no_removal : sees mark (Some 114) ≡ false) (no_clear : sees mark (Some 99) ≡ false) where
   collection_fits : Fits IsByte (either (sees mark) own (remove_or_clear kind)) (Or Own (RemoveOrClear (removed kind) (cleared kind))) any
-  collection_fits = either_fits IsByte (sees mark) own (remove_or_clear kind) Own (RemoveOrClear (removed kind) (cleared kind)) any own_fits (remove_or_clear_fits kind)
+  collection_fits =
+      either_fits IsByte (sees mark) own (remove_or_clear kind) Own (RemoveOrClear (removed kind) (cleared kind)) any own_fits
+      (remove_or_clear_fits kind)
       begins (λ ts us a r e. remove_or_clear_apart (removed kind) (cleared kind) (sees mark) no_removal no_clear ts us a r)
 
 -- sets
 set_part_fits : Fits IsByte set_part (PartOf kinds.Set) any
 unfolding set_part
-set_part_fits = collection_fits kinds.Set 97 (behind (codes "add ") (of op.SetAdd text)) (Behind (codes "add ") (Of op.SetAdd TextRule)) (behind_fits (codes "add ") refl (seen IsByte op.SetAdd text_fits))
+set_part_fits =
+    collection_fits kinds.Set 97 (behind (codes "add ") (of op.SetAdd text)) (Behind (codes "add ") (Of op.SetAdd TextRule))
+    (behind_fits (codes "add ") refl (seen IsByte op.SetAdd text_fits))
     (λ ts us a r. ap (λ xs. sees 97 (next xs)) r.first) refl refl
 
 -- a field and a text
@@ -314,7 +382,9 @@ hash_part_fits = collection_fits kinds.Hash 112 (behind (codes "put ") field) (B
 -- lists
 list_part_fits : Fits IsByte list_part (PartOf kinds.List) any
 unfolding list_part
-list_part_fits = collection_fits kinds.List 112 (behind (codes "push ") (of op.ListPush text)) (Behind (codes "push ") (Of op.ListPush TextRule)) (behind_fits (codes "push ") refl (seen IsByte op.ListPush text_fits))
+list_part_fits =
+    collection_fits kinds.List 112 (behind (codes "push ") (of op.ListPush text))
+    (Behind (codes "push ") (Of op.ListPush TextRule)) (behind_fits (codes "push ") refl (seen IsByte op.ListPush text_fits))
     (λ ts us a r. ap (λ xs. sees 112 (next xs)) r.first) refl refl
 
 -- all that anything may follow may be followed by no digit

@@ -1,5 +1,7 @@
 -- What is printed is a spelling of its value.
-use Rattle.std.proofs.Common.{◌≡◌, ◌<◌, ◌≤◌, ◌+◌, ◌-◌, ◌/◌, ◌%◌, ℕ, ℤ, Bool, true, false, ◌&&◌, ◌||◌, List, [], ◌∷◌, ◌++◌, Some, None, refl, ap, sym, ◌∙◌, subst, arith, inl, inr, cond, codes, nat_eq, nat_le, nat_lt, append_assoc}
+use Rattle.std.proofs.Common.{◌≡◌, ◌<◌, ◌≤◌, ◌+◌, ◌-◌, ◌/◌, ◌%◌, ℕ, ℤ, Bool, true, false, ◌&&◌, ◌||◌, List, [], ◌∷◌}
+use Rattle.std.proofs.Common.{◌++◌, Some, None, refl, ap, sym, ◌∙◌, subst, arith, inl, inr, cond, codes, nat_eq, nat_le}
+use Rattle.std.proofs.Common.{nat_lt, append_assoc}
 use Rattle.std.proofs.lemmas.Bool.Decides.{nat_tests}
 use Rattle.std.specs.List.{flat_map, All}
 use Rattle.std.proofs.lemmas.List.Elements.{All-head, All-tail}
@@ -20,7 +22,9 @@ use Rattle.rdt_types.specs.Printed.{word_of, hex_digit, spelling_of, spelled, pr
 use Rattle.dtext.specs.Printing.{printed_bool, separated, printed_texts, printed_item, printed_outcome, printed_part}
 use Rattle.dtext.specs.Printing as print
 use Rattle.dtext.specs.Characters.{is_digit}
-use Rattle.dtext.specs.Spellings.{is_plain, plain, short, hex_value, hex_byte, Piece, TextRule, Fits64, NumberRule, BoolRule, AfterComma, Separated, TextsRule, AddressRule, ItemRule, AfterSpace, OutcomeRule, FieldRule, RemoveOrClear, PartRule, PartOf}
+use Rattle.dtext.specs.Spellings.{is_plain, plain, short, hex_value, hex_byte, Piece, TextRule, Fits64, NumberRule}
+use Rattle.dtext.specs.Spellings.{BoolRule, AfterComma, Separated, TextsRule, AddressRule, ItemRule, AfterSpace}
+use Rattle.dtext.specs.Spellings.{OutcomeRule, FieldRule, RemoveOrClear, PartRule, PartOf}
 use Rattle.dtext.specs.ReadBack.{FitsItem, FitsOutcome, FitsPart, read_alone}
 
 -- ---- one byte of a text
@@ -36,7 +40,8 @@ letter_read : (b n : ℕ) → b ≡ 87 + n → 10 ≤ n → n < 16 → hex_value
 letter_read b n e l h =
     let f : is_digit b ≡ false = grind (arith, nat_tests, e, l) in
     let t : nat_le 97 b && nat_le b 102 ≡ true = grind (arith, nat_tests, e, l, h) in
-    ap (λ c. cond c (Some (b - 48)) (cond (nat_le 97 b && nat_le b 102) (Some (b - 87)) None)) f ∙ ap (λ c. cond c (Some (b - 87)) None) t ∙ ap (λ m. Some m) (omega arith)
+    ap (λ c. cond c (Some (b - 48)) (cond (nat_le 97 b && nat_le b 102) (Some (b - 87)) None)) f
+    ∙ ap (λ c. cond c (Some (b - 87)) None) t ∙ ap (λ m. Some m) (omega arith)
 
 -- by whether it is a decimal digit
 hex_by : (n : ℕ) (t : Bool) → nat_lt n 10 ≡ t → n < 16 → hex_value (cond t (48 + n) (87 + n)) ≡ Some n
@@ -65,7 +70,14 @@ hexadecimal_made b us h = inl (record {
       value = b / 16;
       middle = hex_digit (b % 16) ∷ us;
       first = record { item = hex_digit (b / 16); first = refl; made = hex_read (b / 16) (omega arith) };
-      second = record { value = b % 16; middle = us; first = record { item = hex_digit (b % 16); first = refl; made = hex_read (b % 16) (omega arith) }; second = record { is = sym (hex_pair b); here = refl } };
+      second =
+          record {
+            value = b % 16;
+            middle = us;
+            first = record { item = hex_digit (b % 16); first = refl; made = hex_read (b % 16) (omega arith) };
+            second =
+                record { is = sym (hex_pair b); here = refl };
+          };
     };
   });
 })
@@ -91,8 +103,11 @@ other_plain : (b : ℕ) → nat_eq b 34 || nat_eq b 92 ≡ false → nat_lt b 32
 other_plain b q h = grind (arith, nat_tests, q, h)
 
 -- by the tests that tell how a byte is printed
-piece_by : (b : ℕ) (us : Bytes) (quoted newline_is control : Bool) → nat_eq b 34 || nat_eq b 92 ≡ quoted → nat_eq b 10 ≡ newline_is → nat_lt b 32 || nat_eq b 127 ≡ control
-    → Piece (spelled (cond quoted (spelling.Escaped b) (cond newline_is (spelling.Escaped 110) (cond control (spelling.Hexadecimal (hex_digit (b / 16)) (hex_digit (b % 16))) (spelling.Plain b)))) ++ us) b us
+piece_by : (b : ℕ) (us : Bytes) (quoted newline_is control : Bool) → nat_eq b 34 || nat_eq b 92 ≡ quoted
+    → nat_eq b 10 ≡ newline_is → nat_lt b 32 || nat_eq b 127 ≡ control
+    → Piece (spelled (cond quoted (spelling.Escaped b)
+    (cond newline_is (spelling.Escaped 110)
+    (cond control (spelling.Hexadecimal (hex_digit (b / 16)) (hex_digit (b % 16))) (spelling.Plain b)))) ++ us) b us
 piece_by b us true n c q e h = escaped_made b b us (ap (λ t. cond t (Some b) (cond (nat_eq b 110) (Some 10) None)) q)
 piece_by b us false true c q e h = escaped_made 110 b us (newline b e)
 piece_by b us false false true q e h = hexadecimal_made b us (control_small b h)
@@ -120,7 +135,13 @@ text_made text us =
       value = tt;
       middle = inner ++ (34 ∷ us);
       first = record { item = 34; first = ap (λ xs. 34 ∷ xs) (append_assoc inner (34 ∷ []) us); made = refl };
-      second = record { value = text; middle = 34 ∷ us; first = pieces_made text (34 ∷ us); second = record { value = tt; middle = us; first = byte_made 34 us; second = record { is = refl; here = refl } } };
+      second =
+          record {
+            value = text;
+            middle = 34 ∷ us;
+            first = pieces_made text (34 ∷ us);
+            second = record { value = tt; middle = us; first = byte_made 34 us; second = record { is = refl; here = refl } };
+          };
     }
 
 -- a text, seen as another value
@@ -134,12 +155,19 @@ pub address_made : (a : Address) (us : Bytes) → AddressRule (printed_address a
 address_made a us = record {
   value = a.kind;
   middle = 40 ∷ (printed_text a.key ++ 41 ∷ us);
-  first = append_assoc (word_of a.kind) (40 ∷ (printed_text a.key ++ 41 ∷ [])) us ∙ ap (λ xs. word_of a.kind ++ 40 ∷ xs) (append_assoc (printed_text a.key) (41 ∷ []) us);
+  first = append_assoc (word_of a.kind) (40 ∷ (printed_text a.key ++ 41 ∷ [])) us
+      ∙ ap (λ xs. word_of a.kind ++ 40 ∷ xs) (append_assoc (printed_text a.key) (41 ∷ []) us);
   second = record {
     value = tt;
     middle = printed_text a.key ++ 41 ∷ us;
     first = byte_made 40 _;
-    second = record { value = a.key; middle = 41 ∷ us; first = text_made a.key (41 ∷ us); second = record { value = tt; middle = us; first = byte_made 41 us; second = record { is = refl; here = refl } } };
+    second =
+        record {
+          value = a.key;
+          middle = 41 ∷ us;
+          first = text_made a.key (41 ∷ us);
+          second = record { value = tt; middle = us; first = byte_made 41 us; second = record { is = refl; here = refl } };
+        };
   };
 }
 
@@ -180,7 +208,13 @@ texts_made texts us = record {
   value = tt;
   middle = separated texts ++ 93 ∷ us;
   first = record { item = 91; first = ap (λ xs. 91 ∷ xs) (append_assoc (separated texts) (93 ∷ []) us); made = refl };
-  second = record { value = texts; middle = 93 ∷ us; first = separated_made texts (93 ∷ us); second = record { value = tt; middle = us; first = byte_made 93 us; second = record { is = refl; here = refl } } };
+  second =
+      record {
+        value = texts;
+        middle = 93 ∷ us;
+        first = separated_made texts (93 ∷ us);
+        second = record { value = tt; middle = us; first = byte_made 93 us; second = record { is = refl; here = refl } };
+      };
 }
 
 -- ---- values
@@ -197,7 +231,13 @@ number_of f n us h = record { value = n; middle = us; first = record { spelled =
 pub item_made : (i : Item) (us : Bytes) → FitsItem i → ItemRule (printed_item i ++ us) i us
 item_made (items.Int n) us h = inl (number_of items.Int n us h)
 item_made (items.Text t) us h = inr (inl (text_of items.Text t us))
-item_made (items.Texts texts) us h = inr (inr (inl (record { value = texts; middle = us; first = texts_made texts us; second = record { is = refl; here = refl } })))
+item_made (items.Texts texts) us h =
+    inr (inr (inl (record {
+      value = texts;
+      middle = us;
+      first = texts_made texts us;
+      second = record { is = refl; here = refl };
+    })))
 item_made (items.Bool b) us h = inr (inr (inr (bool_of items.Bool b us)))
 
 -- ---- outcomes
@@ -212,12 +252,20 @@ emitted_made [] us h = none us
 emitted_made (i ∷ all) us h =
     let rest = flat_map print.after_space all in
     subst (λ ts. Many AfterSpace ts (i ∷ all) us) (sym (append_assoc (print.after_space i) rest us))
-    (more (print.after_space i ++ (rest ++ us)) (rest ++ us) us i all (after_space_made i (rest ++ us) (All-head FitsItem i all h)) (emitted_made all us (All-tail FitsItem i all h)))
+    (more (print.after_space i ++ (rest ++ us)) (rest ++ us) us i all
+    (after_space_made i (rest ++ us) (All-head FitsItem i all h)) (emitted_made all us (All-tail FitsItem i all h)))
 
 -- an outcome of any form
 pub outcome_made : (o : Outcome) (us : Bytes) → FitsOutcome o → OutcomeRule (printed_outcome o ++ us) o us
-outcome_made (outcomes.Ok all) us h = inl (record { value = tt; middle = flat_map print.after_space all ++ us; first = refl; second = record { value = all; middle = us; first = emitted_made all us h; second = record { is = refl; here = refl } } })
-outcome_made (outcomes.Fail reason) us h = inr (inl (record { value = tt; middle = printed_text reason ++ us; first = refl; second = text_of outcomes.Fail reason us }))
+outcome_made (outcomes.Ok all) us h =
+    inl (record {
+      value = tt;
+      middle = flat_map print.after_space all ++ us;
+      first = refl;
+      second = record { value = all; middle = us; first = emitted_made all us h; second = record { is = refl; here = refl } };
+    })
+outcome_made (outcomes.Fail reason) us h =
+    inr (inl (record { value = tt; middle = printed_text reason ++ us; first = refl; second = text_of outcomes.Fail reason us }))
 outcome_made outcomes.Spent us h = inr (inr (inl (record { value = tt; middle = us; first = refl; second = record { is = refl; here = refl } })))
 outcome_made outcomes.Big us h = inr (inr (inr (record { value = tt; middle = us; first = refl; second = record { is = refl; here = refl } })))
 
@@ -228,7 +276,8 @@ behind_word : {A : Type 0} (w : Bytes) (P : Rule ℕ A) (ts us : Bytes) (a : A) 
 behind_word w P ts us a r = record { value = tt; middle = ts; first = refl; second = r }
 
 -- a removal
-removal_made : (removed : Bytes → WriteOp) (cleared : WriteOp) (x us : Bytes) → RemoveOrClear removed cleared (codes "remove " ++ (printed_text x ++ us)) (removed x) us
+removal_made : (removed : Bytes → WriteOp) (cleared : WriteOp) (x us : Bytes)
+    → RemoveOrClear removed cleared (codes "remove " ++ (printed_text x ++ us)) (removed x) us
 removal_made removed cleared x us = inl (behind_word (codes "remove ") (Of removed TextRule) (printed_text x ++ us) us (removed x) (text_of removed x us))
 
 -- a clear
@@ -244,8 +293,16 @@ field_made : (f t us : Bytes) → FieldRule ((printed_text f ++ 32 ∷ printed_t
 field_made f t us = record {
   value = f;
   middle = 32 ∷ (printed_text t ++ us);
-  first = subst (λ ts. TextRule ts f (32 ∷ (printed_text t ++ us))) (sym (append_assoc (printed_text f) (32 ∷ printed_text t) us)) (text_made f (32 ∷ (printed_text t ++ us)));
-  second = record { value = tt; middle = printed_text t ++ us; first = byte_made 32 _; second = record { value = t; middle = us; first = text_made t us; second = record { is = refl; here = refl } } };
+  first =
+      subst (λ ts. TextRule ts f (32 ∷ (printed_text t ++ us))) (sym (append_assoc (printed_text f) (32 ∷ printed_text t) us))
+      (text_made f (32 ∷ (printed_text t ++ us)));
+  second =
+      record {
+        value = tt;
+        middle = printed_text t ++ us;
+        first = byte_made 32 _;
+        second = record { value = t; middle = us; first = text_made t us; second = record { is = refl; here = refl } };
+      };
 }
 
 -- a part of any form

@@ -44,7 +44,9 @@ short_no_mark b a e = elim (bool_cases (nat_eq b 120)) [
 -- the `x` tells the two escapes apart
 escape_fits : Fits IsByte escape Escape any
 unfolding escape
-escape_fits = onwards IsByte (byte_fits 92 (omega arith)) (λ _. either_fits IsByte (sees 120) hexadecimal (one short) Hexadecimal (One short) any hexadecimal_fits short_fits
+escape_fits =
+    onwards IsByte (byte_fits 92 (omega arith))
+    (λ _. either_fits IsByte (sees 120) hexadecimal (one short) Hexadecimal (One short) any hexadecimal_fits short_fits
     (λ ts us a r. byte_begins 120 ts r.middle r.value r.first)
     (λ ts us a r e. ap (λ xs. sees 120 (next xs)) r.first ∙ short_no_mark r.item a r.made))
 

@@ -22,7 +22,8 @@ module _ {A : Type 0} (p : Reader ℕ A) (P : Rule ℕ A) (follows : Option ℕ 
     ok_by (Err rest) a e = absurd (cc)
 
     -- a column that is answered is that of the bytes left
-    err_by : (w : Result A Bytes) (column : ℕ) → Err (At column) ≡ answer w (length bytes) → (rest : Bytes) × (w ≡ Err rest) × (column ≡ length bytes - length rest + 1)
+    err_by : (w : Result A Bytes) (column : ℕ) → Err (At column) ≡ answer w (length bytes)
+        → (rest : Bytes) × (w ≡ Err rest) × (column ≡ length bytes - length rest + 1)
     err_by (Ok b) column e = absurd (cc)
     err_by (Err rest) column e = (rest, refl, cc)
 
@@ -55,7 +56,13 @@ module _ {A : Type 0} (p : Reader ℕ A) (P : Rule ℕ A) (follows : Option ℕ 
     pub refused : (column : ℕ) → result ≡ Err (At column) → IsColumn IsByte P bytes column
 
   -- They hold of what the reader makes of a cursor at the first of these bytes.
-  pub promised : (bytes cursor : Bytes) (result : Result A TextError) → cursor ≡ bytes → (result ≢ Err NoMemory → result ≡ answer (whole_of (p cursor)) (length bytes)) → Promised bytes result
+  pub promised : (bytes cursor : Bytes) (result : Result A TextError) → cursor ≡ bytes
+      → (result ≢ Err NoMemory → result ≡ answer (whole_of (p cursor)) (length bytes)) → Promised bytes result
   promised bytes cursor result same told =
-      let known : result ≢ Err NoMemory → result ≡ answer (whole_of (p bytes)) (length bytes) = λ n. told n ∙ ap (λ ts. answer (whole_of (p ts)) (length bytes)) same in
-      record { read = if_ok result (λ a. Whole P bytes a) (told_ok bytes result known); spellings = told_spelling bytes result known; refused = told_column bytes result known }
+      let known : result ≢ Err NoMemory → result ≡ answer (whole_of (p bytes)) (length bytes) =
+      λ n. told n ∙ ap (λ ts. answer (whole_of (p ts)) (length bytes)) same in
+      record {
+        read = if_ok result (λ a. Whole P bytes a) (told_ok bytes result known);
+        spellings = told_spelling bytes result known;
+        refused = told_column bytes result known;
+      }

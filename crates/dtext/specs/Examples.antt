@@ -4,7 +4,9 @@ use Rattle.predictive_parsing.specs.Reading.{one, turns, many, optional, whole}
 use Rattle.rdt_types.specs.declared.outcome.Item.TheVariants as items
 use Rattle.rdt_types.specs.declared.operation.WriteOp.TheVariants as op
 use Rattle.predictive_parsing.specs.Bytes.{byte, word}
-use Rattle.dtext.specs.code.Reading.{piece, pieces, text, digits, positive, natural, negative, number, item, part, put_or_push, put_value, text_or_field, text_behind, remove_or_clear, removal, hash_part}
+use Rattle.dtext.specs.code.Reading.{piece, pieces, text, digits, positive, natural, negative, number, item, part}
+use Rattle.dtext.specs.code.Reading.{put_or_push, put_value, text_or_field, text_behind, remove_or_clear, removal}
+use Rattle.dtext.specs.code.Reading.{hash_part}
 
 -- a text that doesn't end
 open_text : whole text (codes "\"a") ≡ Err []

@@ -19,7 +19,9 @@ use Rattle.journal_core.specs.Changes.{changes, changes_of, changes_by, past, up
 use Rattle.journal_core.specs.Pairs.{AreNumberedFrom}
 use Rattle.journal_core.specs.Logs.{Keeps}
 use Rattle.journal_core.proofs.Passing.{moved, first_clash-past, meets-past}
+use Rattle.journal_core.specs.Kinds.{AreOfTheirKinds}
 use Rattle.journal_core.proofs.Rising.{changes-more, numbered-more}
+use Rattle.journal_core.proofs.OfRuns.{kinds-more}
 use Rattle.journal_core.specs.ByShard.{HasGrown, HasAdded}
 
 -- a number is itself
@@ -176,7 +178,7 @@ all_past m n (commit ∷ rest) order numbered =
     (all_past m (n + 1) rest (omega (arith, order)) numbered.1)
 
 -- the changes up to a number are those of so many commits
-changes-up_to : (m n t : ℕ) (journal : Journal) → m ≡ n + t → AreNumberedFrom n journal → up_to m (changes journal) ≡ changes (take t journal)
+pub changes-up_to : (m n t : ℕ) (journal : Journal) → m ≡ n + t → AreNumberedFrom n journal → up_to m (changes journal) ≡ changes (take t journal)
 changes-up_to m n zero [] is numbered = refl
 changes-up_to m n (suc t) [] is numbered = refl
 changes-up_to m n zero (commit ∷ rest) is numbered = none_up_to m n (commit ∷ rest) (omega (arith, is)) numbered
@@ -194,7 +196,7 @@ changes-past m n (suc t) (commit ∷ rest) is numbered =
     (changes-past m (n + 1) t rest (omega (arith, is)) numbered.1)
 
 -- the first commits are numbered too
-numbered-take : (n t : ℕ) (journal : Journal) → AreNumberedFrom n journal → AreNumberedFrom n (take t journal)
+pub numbered-take : (n t : ℕ) (journal : Journal) → AreNumberedFrom n journal → AreNumberedFrom n (take t journal)
 numbered-take n zero [] numbered = tt
 numbered-take n (suc t) [] numbered = tt
 numbered-take n zero (commit ∷ rest) numbered = tt
@@ -214,6 +216,7 @@ pub keeps-grown : (commits : Journal) (shards : ℕ) (old new : List (List Chang
     → Keeps commits shards old m room → room ≤ n → HasGrown old new → Keeps commits shards new n room
 keeps-grown commits shards old new m n room kept more grown = record {
   numbered = kept.numbered;
+  kinds = kept.kinds;
   few = kept.few;
   theirs = record { as_many = grown.as_many ∙ kept.theirs.as_many; theirs = λ shard. grown.same shard ∙ kept.theirs.theirs shard };
   one_more = more;
@@ -223,10 +226,11 @@ keeps-grown commits shards old new m n room kept more grown = record {
 
 -- one commit more, with its changes, keeps all in order; the memory for it is used up
 pub keeps-more : (old : Journal) (shards : ℕ) (lists : List (List Change × ℕ)) (commit : Commit) (new : Journal) (after : List (List Change × ℕ)) (m n room : ℕ)
-    → Keeps old shards lists m room → commit.number ≡ length old + 1
+    → Keeps old shards lists m room → commit.number ≡ length old + 1 → AreOfTheirKinds commit.deltas
     → new ≡ old ++ commit ∷ [] → HasAdded shards (changes_of commit) lists after → Keeps new shards after n 0
-keeps-more old shards lists commit new after m n room kept number added more = record {
+keeps-more old shards lists commit new after m n room kept number own added more = record {
   numbered = rw added (numbered-more 0 old commit kept.numbered (omega (arith, number)));
+  kinds = rw added (kinds-more old commit kept.kinds own);
   few = kept.few;
   theirs = record {
     as_many = more.as_many ∙ kept.theirs.as_many;

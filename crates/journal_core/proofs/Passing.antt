@@ -13,7 +13,7 @@ abbrev pub moved : Based → ℕ → Based
 moved based from = record based { base = from }
 
 -- what is past a number is past each lesser one
-lower : (a m n : ℕ) → a ≤ m → nat_lt m n ≡ true → nat_lt a n ≡ true
+pub lower : (a m n : ℕ) → a ≤ m → nat_lt m n ≡ true → nat_lt a n ≡ true
 lower a m n within here = grind (arith, within, here)
 
 -- the first clash among the changes past a number is that of the observation as if it was made there

@@ -5,5 +5,7 @@ pub mod ByShard
 pub mod Logs
 pub mod Tails
 pub mod Readies
+pub mod Kinds
 pub mod Keeping
 pub mod Journals
+pub mod Witnesses

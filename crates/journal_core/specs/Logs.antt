@@ -6,6 +6,7 @@ use Rattle.change_feed.specs.declared.change.Change.{Change}
 use Rattle.txn_lang.specs.declared.commit.Commit.{Commit}
 use Rattle.txn_lang.specs.States.{Journal}
 use Rattle.journal_core.specs.Changes.{changes}
+use Rattle.journal_core.specs.Kinds.{HasKinds}
 use Rattle.journal_core.specs.Pairs.{AreNumbered}
 use Rattle.journal_core.specs.ByShard.{AreByShard, HasRoom}
 
@@ -21,10 +22,11 @@ log_code commit =
     code_by (Journal × (ℕ × ℕ)) (coded× (coded_list commit) (coded× coded_ℕ coded_ℕ))
     (λ l. (l.commits, (l.shards, l.room))) (λ p. record { commits = p.0; shards = p.1.0; room = p.1.1 }) (λ _. refl)
 
--- The commits have their places as numbers, the lists beside them have their changes by shard, and there is memory for one
--- commit and, in each list, as many changes as are named.
+-- The commits have their places as numbers, and deltas of the kinds of their addresses. The lists beside them have their
+-- changes by shard, and there is memory for one commit and, in each list, as many changes as are named.
 pub record Keeps (commits : Journal) (shards : ℕ) (lists : List (List Change × ℕ)) (room_for_commits room : ℕ) : Type 0 where
   pub numbered : AreNumbered commits
+  pub kinds : HasKinds commits
   pub few : (LEAST_SHARDS ≤ shards) × (shards ≤ MOST_SHARDS)
   pub theirs : AreByShard shards (changes commits) lists
   pub one_more : room ≤ room_for_commits

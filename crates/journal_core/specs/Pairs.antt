@@ -1,5 +1,5 @@
 -- Pairs of an observation and a commit of a journal that clashes with it, and the pairs past what was prepared.
-use Rattle.std.specs.Prelude.{◌≡◌, ℕ, ◌+◌, ◌==◌, if◌then◌else◌, List, [], ◌∷◌, ◌++◌, map, filter, max, length, slice_get, Option, codes, refl}
+use Rattle.std.specs.Prelude.{◌≡◌, ℕ, ◌+◌, ◌==◌, if◌then◌else◌, List, [], ◌∷◌, ◌++◌, map, filter, max, length, slice_get, Option, MatchOption, codes, refl}
 use Rattle.std.specs.List.{list_any}
 use Rattle.rdt_types.specs.declared.address.Kind.TheVariants as kind
 use Rattle.rdt_types.specs.Shards.{shard_of}
@@ -7,7 +7,7 @@ use Rattle.conflict_table.specs.declared.observation.Obs.TheVariants as obs
 use Rattle.change_feed.specs.declared.change.Change.{Change}
 use Rattle.abort_witness.specs.declared.witness.Based.{Based}
 use Rattle.abort_witness.specs.declared.witness.Found.{Found}
-use Rattle.abort_witness.specs.Pairs.{meets, clashes, least}
+use Rattle.abort_witness.specs.Pairs.{meets, clashes, least, IsLeast, HasNoPair}
 use Rattle.txn_lang.specs.declared.commit.Commit.{Commit}
 use Rattle.txn_lang.specs.States.{Journal}
 use Rattle.journal_core.specs.declared.ready.PreparedFront.{PreparedFront}
@@ -40,6 +40,13 @@ AreNumbered journal = AreNumberedFrom 0 journal
 -- A law: the least pair in the changes of a journal is its first pair.
 abbrev pub LeastIsFirst : Type 0
 LeastIsFirst = (based : List Based) (journal : Journal) → AreNumbered journal → least based (changes journal) ≡ least_pair based journal
+
+-- A law: of all pairs it is the least, none of a lesser number and none of its number at an earlier place, and it is none
+-- exactly where there is no pair.
+abbrev pub LeastPairIsLeast : Type 0
+LeastPairIsLeast =
+    (based : List Based) (journal : Journal) → AreNumbered journal
+    → MatchOption (least_pair based journal) (HasNoPair based (changes journal)) (IsLeast based (changes journal))
 
 -- ---- past what was prepared
 

@@ -1,11 +1,14 @@
 //! The journal, and the decision by which a transaction becomes its next commit or is refused.
 
-ghost use Rattle.std.specs.Prelude.{◌≡◌, ◌+◌, ◌<◌, ◌≤◌, ◌^◌, true, length, slice_get, Option, OnErr, IfOk, IfSome};
+ghost use Rattle.std.specs.Prelude.{◌≡◌, ◌+◌, ◌<◌, ◌≤◌, ◌^◌, true, length, slice_get, Option, Some, OnErr, IfOk, IfSome};
 ghost use Rattle.std.specs.Option.{option_copied};
 ghost use Rattle.rdt_types.specs.declared.settings.Settings.{Settings};
 ghost use Rattle.journal_core.specs.Changes as spec;
 ghost use Rattle.journal_core.specs.Pairs.{AreNumbered, past_fronts, most_steps};
 ghost use Rattle.journal_core.specs.Tails.{HasAll};
+ghost use Rattle.journal_core.specs.Kinds.{HasKinds};
+ghost use Rattle.journal_core.specs.Witnesses.{AreBasedOfOneKind, IsWitnessOf};
+ghost use Rattle.abort_witness.specs.Kinds.{IsOfOneKind};
 ghost use Rattle.journal_core.specs.Readies as readies;
 ghost use Rattle.journal_core.specs.Journals as journals;
 ghost use Rattle.journal_core.specs.Journals.{CanAppend, Decides, IsSlot, IfDiskFault};
@@ -14,9 +17,11 @@ use crate::appended::Appended;
 use crate::copying::{changes_by, copied};
 use crate::keep::Keep;
 use crate::log::Log;
+use crate::naming::witness_of;
 use crate::ready::Ready;
 use crate::slot::Slot;
 use crate::tails::{tail_of_address, tail_of_all, tail_of_shard};
+use abort_witness::{Found, Witness};
 use change_feed::Tail;
 use conflict_table::Steps;
 use rdt_types::{Address, Settings};
@@ -57,6 +62,7 @@ impl<K: Keep> Journal<K> {
         kept: CommitList,
     ) -> Result<Journal<K>, AllocError>
         requires numbered { AreNumbered kept }
+        requires kinds { HasKinds kept }
         requires told { IfSome (K.kept keeper) (λ list. list ≡ kept) }
         ensures commits { IfOk result (λ journal. journal.commits ≡ kept) }
         ensures shards { IfOk result (λ journal. journal.shards ≡ settings.now.shards) }
@@ -164,6 +170,17 @@ impl<K: Keep> Journal<K> {
             return Appended::Full(limit);
         }
         self.add(slot)
+    }
+
+    /// The witness of the clash that an append answered, as long as nothing was added since: the observation with the base at
+    /// which it was made, and the part of the commit that clashes with it. It costs the deltas of that one commit at most.
+    pub fn witness(&self, ready: &Ready, found: &Found) -> Result<Witness, AllocError>
+        requires found { journals.found_past ready.now self.now ≡ Some found.now }
+        requires observed { AreBasedOfOneKind ready.now.based }
+        ensures names { IfOk result (IsWitnessOf ready.now.based self.now.commits found.now) }
+        ensures kinds { IfOk result IsOfOneKind }
+    {
+        witness_of(ready.based.as_slice(), self.log.commits(), found)
     }
 
     /// Adds the slot's commit unless the keeper fails.

@@ -7,6 +7,7 @@ ghost use Rattle.abort_witness.specs.Pairs as pairs;
 ghost use Rattle.journal_core.specs.Changes as spec;
 ghost use Rattle.journal_core.specs.Pairs.{past_fronts, most_steps, least_pair, AreNumbered};
 ghost use Rattle.journal_core.specs.Rising.{Rises};
+ghost use Rattle.journal_core.specs.Kinds.{AreOfTheirKinds, HasKinds};
 ghost use Rattle.journal_core.specs.Logs as logs;
 
 use crate::by_shard::{add_each, in_shard, lists_of, reserve_each};
@@ -49,6 +50,7 @@ impl Log {
     /// These commits, with copies of their changes by so many shards.
     pub(crate) fn of(alloc: Global, commits: CommitList, shards: u8) -> Result<Log, AllocError>
         requires numbered { AreNumbered commits }
+        requires kinds { HasKinds commits }
         requires few { (LEAST_SHARDS ≤ shards) × (shards ≤ MOST_SHARDS) }
         ensures commits { IfOk result (λ log. log.commits ≡ commits) }
         ensures shards { IfOk result (λ log. log.shards ≡ shards) }
@@ -83,6 +85,7 @@ impl Log {
     pub(crate) fn commits(&self) -> &[Commit]
         ensures commits { result.now ≡ self.now.commits }
         ensures numbered { AreNumbered self.now.commits }
+        ensures kinds { HasKinds self.now.commits }
     {
         self.commits.as_slice()
     }
@@ -129,6 +132,7 @@ impl Log {
     /// Adds the next commit, with its changes, for which there is memory.
     pub(crate) fn add(&mut self, commit: Commit, changes: ChangeList)
         requires number { commit.number ≡ length self.old.commits + 1 }
+        requires kinds { AreOfTheirKinds commit.deltas }
         requires changes { changes ≡ spec.changes_of commit }
         requires room { length changes < self.old.room }
         ensures { self.new ≡ record self.old { commits = self.old.commits ++ commit ∷ []; room = 0 } }

@@ -83,7 +83,8 @@ module _ {I A : Type 0} (p q : Reader I A) (P Q : Rule I A) (wider : (ts us : Li
     derives = λ vs. wider (front ++ (x.rest ++ vs)) vs x.value (x.derives vs);
   }
 
-  pub stuck_as : (Possible : I → Type 0) (ts us : List I) → ((vs : List I) → next vs ≡ next ts → p vs ≡ q vs) → Stuck Possible p P ts us → Stuck Possible q Q ts us
+  pub stuck_as : (Possible : I → Type 0) (ts us : List I) → ((vs : List I) → next vs ≡ next ts → p vs ≡ q vs)
+      → Stuck Possible p P ts us → Stuck Possible q Q ts us
   stuck_as Possible ts us same x = record {
     front = x.front;
     cut = x.cut;

@@ -1,5 +1,7 @@
 -- One of several words is read as its rule says.
-use Rattle.std.proofs.Common.{◌≡◌, ◌<◌, ◌≤◌, ◌+◌, ℕ, Bool, true, false, not, ◌&&◌, List, [], ◌∷◌, ◌++◌, length, Some, None, Ok, Err, refl, ap, sym, ◌∙◌, subst, inl, inr, arith, cond, nat_eq, nat_lt, length-append, length-drop, drop, get_or, ◌⊎◌}
+use Rattle.std.proofs.Common.{◌≡◌, ◌<◌, ◌≤◌, ◌+◌, ℕ, Bool, true, false, not, ◌&&◌, List, [], ◌∷◌, ◌++◌, length, Some}
+use Rattle.std.proofs.Common.{None, Ok, Err, refl, ap, sym, ◌∙◌, subst, inl, inr, arith, cond, nat_eq, nat_lt}
+use Rattle.std.proofs.Common.{length-append, length-drop, drop, get_or, ◌⊎◌}
 use Rattle.std.proofs.lemmas.List.Sums.{common_prefix_len-drop_yes, common_prefix_len-drop_no, common_prefix_len-le}
 use Rattle.std.proofs.lemmas.Bool.Decides.{nat_tests}
 use Rattle.std.proofs.lemmas.List.{drop_more, drop_all}
@@ -69,7 +71,9 @@ word_shared [] ts us e = absurd (cc)
 word_shared (b ∷ w) [] us e = let k : [] ≡ us = cc in omega (arith, ap length k)
 word_shared (b ∷ w) (t ∷ ts) us e = by_test (λ r. word_shared w ts us r) (nat_eq t b) refl e
   where
-    by_test : (word w ts ≡ Err us → shared w ts + length us ≡ length ts) → (c : Bool) → nat_eq t b ≡ c → and_then (on_made t (cond c (Some (tt {0})) None) ts) (λ _. word w) ≡ Err us → shared (b ∷ w) (t ∷ ts) + length us ≡ length (t ∷ ts)
+    by_test : (word w ts ≡ Err us → shared w ts + length us ≡ length ts) → (c : Bool) → nat_eq t b ≡ c
+        → and_then (on_made t (cond c (Some (tt {0})) None) ts) (λ _. word w) ≡ Err us
+        → shared (b ∷ w) (t ∷ ts) + length us ≡ length (t ∷ ts)
     by_test rest true h r = let k = rest r in omega (arith, shared_more b t w ts (eq_turned t b true h))
     by_test rest false h r = let k : t ∷ ts ≡ us = cc in omega (arith, ap length k, shared_none b t w ts (eq_turned t b false h))
 
@@ -96,7 +100,8 @@ module _ (w ts : Bytes) (i : ℕ) (so_far : i + shared (drop i w) (drop i ts) �
 
 module _ {W : Type 0} (spelled : W → Bytes) where
   -- of a word and others none begins the other
-  free_in : (v : W) (words : List W) → is_free spelled v words ≡ true → (w : W) → In words w → (begins_word (spelled v) (spelled w) ≡ false) × (begins_word (spelled w) (spelled v) ≡ false)
+  free_in : (v : W) (words : List W) → is_free spelled v words ≡ true → (w : W) → In words w
+      → (begins_word (spelled v) (spelled w) ≡ false) × (begins_word (spelled w) (spelled v) ≡ false)
   free_in v [] e w i = absurd i
   free_in v (x ∷ words) e w (inl h) =
       let k = both (not (begins_word (spelled v) (spelled x)) && not (begins_word (spelled x) (spelled v))) (is_free spelled v words) e in
@@ -121,15 +126,20 @@ module _ {W : Type 0} (spelled : W → Bytes) where
   -- ---- the closest
 
   -- the closer of two has at least as much in common as both
-  closer_most : (ts : Bytes) (v w : W) → (shared (spelled v) ts ≤ shared (spelled (closer spelled ts v w)) ts) × (shared (spelled w) ts ≤ shared (spelled (closer spelled ts v w)) ts)
+  closer_most : (ts : Bytes) (v w : W)
+      → (shared (spelled v) ts ≤ shared (spelled (closer spelled ts v w)) ts)
+      × (shared (spelled w) ts ≤ shared (spelled (closer spelled ts v w)) ts)
   closer_most ts v w = by_test (nat_lt (shared (spelled v) ts) (shared (spelled w) ts)) refl
     where
-      by_test : (t : Bool) → nat_lt (shared (spelled v) ts) (shared (spelled w) ts) ≡ t → (shared (spelled v) ts ≤ shared (spelled (cond t w v)) ts) × (shared (spelled w) ts ≤ shared (spelled (cond t w v)) ts)
+      by_test : (t : Bool) → nat_lt (shared (spelled v) ts) (shared (spelled w) ts) ≡ t
+          → (shared (spelled v) ts ≤ shared (spelled (cond t w v)) ts)
+          × (shared (spelled w) ts ≤ shared (spelled (cond t w v)) ts)
       by_test true e = let l : shared (spelled v) ts < shared (spelled w) ts = grind (arith, nat_tests, e) in (omega arith, omega arith)
       by_test false e = let l : shared (spelled w) ts ≤ shared (spelled v) ts = grind (arith, nat_tests, e) in (omega arith, omega arith)
 
   -- the closest has at least as much as each
-  closest_most : (ts : Bytes) (best : W) (others : List W) (w : W) → In (best ∷ others) w → shared (spelled w) ts ≤ shared (spelled (closest spelled ts best others)) ts
+  closest_most : (ts : Bytes) (best : W) (others : List W) (w : W) → In (best ∷ others) w
+      → shared (spelled w) ts ≤ shared (spelled (closest spelled ts best others)) ts
   unfolding closest
   closest_most ts best [] w (inl e) = let k = ap (λ x. shared (spelled x) ts) e in omega arith
   closest_most ts best [] w (inr i) = absurd i
@@ -146,16 +156,20 @@ module _ {W : Type 0} (spelled : W → Bytes) where
   closest_most ts best (x ∷ others) w (inr (inr i)) = closest_most ts (closer spelled ts best x) others w (inr i)
 
   -- it is the same where all have as much in common
-  closest_same : (ts vs : Bytes) → ((w : W) → shared (spelled w) ts ≡ shared (spelled w) vs) → (best : W) (others : List W) → closest spelled ts best others ≡ closest spelled vs best others
+  closest_same : (ts vs : Bytes) → ((w : W) → shared (spelled w) ts ≡ shared (spelled w) vs) → (best : W) (others : List W)
+      → closest spelled ts best others ≡ closest spelled vs best others
   unfolding closest
   closest_same ts vs same best [] = refl
   closest_same ts vs same best (x ∷ others) =
-      let k : closer spelled ts best x ≡ closer spelled vs best x = ap (λ n. cond (nat_lt n (shared (spelled x) ts)) x best) (same best) ∙ ap (λ n. cond (nat_lt (shared (spelled best) vs) n) x best) (same x) in
+      let k : closer spelled ts best x ≡ closer spelled vs best x =
+      ap (λ n. cond (nat_lt n (shared (spelled x) ts)) x best) (same best)
+      ∙ ap (λ n. cond (nat_lt (shared (spelled best) vs) n) x best) (same x) in
       ap (λ y. closest spelled ts y others) k ∙ closest_same ts vs same (closer spelled vs best x) others
 
 -- ---- the loop over the words
 
-module _ {W : Type 0} (spelled : W → Bytes) (ts : Bytes) (best whole : W) (words : List W) (i : ℕ) (so_far : closest spelled ts best (drop i words) ≡ whole) where
+module _ {W : Type 0} (spelled : W → Bytes) (ts : Bytes) (best whole : W) (words : List W) (i : ℕ)
+    (so_far : closest spelled ts best (drop i words) ≡ whole) where
   -- one more is looked at
   pub closest_on : (w : W) → i < length words → w ≡ get_or words i w → closest spelled ts (closer spelled ts best w) (drop (i + 1) words) ≡ whole
   unfolding closest
@@ -184,7 +198,8 @@ module _ {W : Type 0} (spelled : W → Bytes) (first : W) (others : List W) (tab
   closest_is w vs =
       let c = closest spelled (spelled w ++ vs) first others in
       let l = closest_most spelled (spelled w ++ vs) first others w (table.all w) in
-      sym (apart_is spelled (first ∷ others) table.apart w c (table.all w) (table.all c) (shared_begins (spelled w) (spelled c) vs (omega (arith, shared_self (spelled w) vs))))
+      sym (apart_is spelled (first ∷ others) table.apart w c (table.all w) (table.all c)
+      (shared_begins (spelled w) (spelled c) vs (omega (arith, shared_self (spelled w) vs))))
 
   by_closest : (ts : Bytes) (w : W) → closest spelled ts first others ≡ w → one_of spelled first others ts ≡ read_as w ts
   unfolding one_of read_as
@@ -223,15 +238,24 @@ module _ {W : Type 0} (spelled : W → Bytes) (first : W) (others : List W) (tab
       let c = closest spelled ts first others in
       let h = sym (by_closest ts c refl) ∙ e in
       let x = (read_fits c).refuses ts us h in
-      let most : shared (spelled c) ts ≤ length x.front = omega (arith, word_shared (spelled c) ts us (refused_word c ts us h), ap length x.cut, length-append x.front us) in
+      let most : shared (spelled c) ts ≤ length x.front =
+      omega (arith, word_shared (spelled c) ts us (refused_word c ts us h), ap length x.cut, length-append x.front us) in
       record {
         front = x.front;
         cut = x.cut;
         again = λ vs n. by_closest (x.front ++ vs) c (sym (stays vs x.front x.cut most n)) ∙ x.again vs n;
-        completes = record { rest = x.completes.rest; value = x.completes.value; possible = x.completes.possible; derives = λ vs. spelled_to IsByte spelled (x.front ++ (x.completes.rest ++ vs)) vs x.completes.value (c, x.completes.derives vs) };
+        completes =
+            record {
+              rest = x.completes.rest;
+              value = x.completes.value;
+              possible = x.completes.possible;
+              derives =
+                  λ vs. spelled_to IsByte spelled (x.front ++ (x.completes.rest ++ vs)) vs x.completes.value (c, x.completes.derives vs);
+            };
       }
     where
-      stays : (vs front : Bytes) → ts ≡ front ++ us → shared (spelled (closest spelled ts first others)) ts ≤ length front → next vs ≡ next us → closest spelled ts first others ≡ closest spelled (front ++ vs) first others
+      stays : (vs front : Bytes) → ts ≡ front ++ us → shared (spelled (closest spelled ts first others)) ts ≤ length front
+          → next vs ≡ next us → closest spelled ts first others ≡ closest spelled (front ++ vs) first others
       stays vs front cut most n = closest_same spelled ts (front ++ vs) (λ w.
           let l = closest_most spelled ts first others w (table.all w) in
           let k = ap (shared (spelled w)) cut in
@@ -245,5 +269,11 @@ module _ {W : Type 0} (spelled : W → Bytes) (first : W) (others : List W) (tab
         takes = one_takes;
         reads = λ ts us a r h. one_reads ts us a r;
         refuses = one_refuses;
-        some = record { rest = x.rest; value = x.value; possible = x.possible; derives = λ vs. spelled_to IsByte spelled (x.rest ++ vs) vs x.value (first, x.derives vs) };
+        some =
+            record {
+              rest = x.rest;
+              value = x.value;
+              possible = x.possible;
+              derives = λ vs. spelled_to IsByte spelled (x.rest ++ vs) vs x.value (first, x.derives vs);
+            };
       }

@@ -1,5 +1,6 @@
 -- Columns at which items stop.
-use Rattle.std.proofs.Common.{◌≡◌, ◌<◌, ◌+◌, ◌-◌, ℕ, List, [], ◌∷◌, ◌++◌, length, get_or, drop, refl, ap, sym, ◌∙◌, subst, arith, length-append, append_assoc, append-nil}
+use Rattle.std.proofs.Common.{◌≡◌, ◌<◌, ◌+◌, ◌-◌, ℕ, List, [], ◌∷◌, ◌++◌, length, get_or, drop, refl, ap, sym, ◌∙◌}
+use Rattle.std.proofs.Common.{subst, arith, length-append, append_assoc, append-nil}
 use Rattle.predictive_parsing.specs.Rules.{Rule, Whole}
 use Rattle.predictive_parsing.specs.Stops.{StopsAt, NoFurther, CanGoOn}
 use Rattle.predictive_parsing.specs.Columns.{IsColumn}
@@ -28,13 +29,27 @@ record Longer {I : Type 0} (before rest longer : List I) : Type 0 where
 
 -- the same behind one item more
 one_further : {I : Type 0} (b c : I) (before rest longer : List I) → b ≡ c → Longer before rest longer → Longer (b ∷ before) rest (c ∷ longer)
-one_further b c before rest longer e x = record { item = x.item; others = x.others; more = x.more; ahead = x.ahead; whole = ap (λ d. d ∷ longer) (sym e) ∙ ap (λ xs. b ∷ xs) x.whole }
+one_further b c before rest longer e x =
+    record {
+      item = x.item;
+      others = x.others;
+      more = x.more;
+      ahead = x.ahead;
+      whole = ap (λ d. d ∷ longer) (sym e) ∙ ap (λ xs. b ∷ xs) x.whole;
+    }
 
 -- by the items of the shorter front
 longer_cut : {I : Type 0} (before rest longer left : List I) → before ++ rest ≡ longer ++ left → length before < length longer → Longer before rest longer
 longer_cut before rest [] left e l = absurd (omega arith)
 longer_cut [] [] (c ∷ longer) left e l = absurd (cc)
-longer_cut [] (b ∷ rest) (c ∷ longer) left e l = record { item = b; others = rest; more = longer; ahead = refl; whole = ap (λ d. d ∷ longer) (ap (λ xs. get_or xs 0 b) (sym e)) }
+longer_cut [] (b ∷ rest) (c ∷ longer) left e l =
+    record {
+      item = b;
+      others = rest;
+      more = longer;
+      ahead = refl;
+      whole = ap (λ d. d ∷ longer) (ap (λ xs. get_or xs 0 b) (sym e));
+    }
 longer_cut (b ∷ before) rest (c ∷ longer) left e l =
     one_further b c before rest longer (ap (λ xs. get_or xs 0 b) e) (longer_cut before rest longer left (ap (drop 1) e) (omega arith))
 
@@ -44,7 +59,8 @@ module _ {I A : Type 0} (Possible : I → Type 0) (P : Rule I A) where
   no_longer before rest longer none goes x =
       let stop : NoFurther P before (x.item ∷ x.others) = subst (NoFurther P before) x.ahead none in
       let others = goes.0 in
-      stop (x.more ++ others) goes.1 (subst (λ xs. Whole P xs goes.1) (ap (λ xs. xs ++ others) x.whole ∙ append_assoc (before ++ x.item ∷ []) x.more others) goes.3)
+      stop (x.more ++ others) goes.1 (subst (λ xs. Whole P xs goes.1)
+      (ap (λ xs. xs ++ others) x.whole ∙ append_assoc (before ++ x.item ∷ []) x.more others) goes.3)
 
   -- so no place where items stop is behind another
   not_longer : (ts rest left : List I) (s : StopsAt Possible P ts rest) (t : StopsAt Possible P ts left) → length s.before < length t.before → ⊥
@@ -57,5 +73,7 @@ module _ {I A : Type 0} (Possible : I → Type 0) (P : Rule I A) where
   -- items have one column at most
   pub one_column : (ts : List I) (c d : ℕ) → IsColumn Possible P ts c → IsColumn Possible P ts d → c ≡ d
   one_column ts c d x y =
-      let k = same_length (length x.stops.before) (length y.stops.before) (not_longer ts x.rest y.rest x.stops y.stops) (not_longer ts y.rest x.rest y.stops x.stops) in
+      let k =
+      same_length (length x.stops.before) (length y.stops.before) (not_longer ts x.rest y.rest x.stops y.stops)
+      (not_longer ts y.rest x.rest y.stops x.stops) in
       omega (arith, x.place, y.place)

@@ -1,11 +1,13 @@
 -- A reader fits its rule where its parts do: one lemma for each way to put readers together.
-use Rattle.std.proofs.Common.{◌≡◌, Bool, true, false, not, List, [], ◌∷◌, ◌++◌, length, take, drop, min, ℕ, ◌≤◌, ◌⊎◌, arith, Option, Some, None, Ok, Err, refl, ap, sym, ◌∙◌, subst, cond, inl, inr}
+use Rattle.std.proofs.Common.{◌≡◌, Bool, true, false, not, List, [], ◌∷◌, ◌++◌, length, take, drop, min, ℕ, ◌≤◌, ◌⊎◌}
+use Rattle.std.proofs.Common.{arith, Option, Some, None, Ok, Err, refl, ap, sym, ◌∙◌, subst, cond, inl, inr}
 use Rattle.std.proofs.lemmas.List.Elements.{All-nil, All-append, All-cons, All-take}
 use Rattle.std.specs.List.{prefix_len, AllPass}
 use Rattle.std.proofs.lemmas.List.{take-append-drop, length-take-le}
 use Rattle.std.proofs.lemmas.List.Sums.{prefix_len-le-length}
 use Rattle.std.proofs.Math.Seq.{take-append_seam, drop-append_seam}
-use Rattle.predictive_parsing.specs.Reading.{Reader, next, is_made, begins, ahead, passing, and_then, pure, one, on_made, either, optional, guided, run, run_up_to}
+use Rattle.predictive_parsing.specs.Reading.{Reader, next, is_made, begins, ahead, passing, and_then, pure, one}
+use Rattle.predictive_parsing.specs.Reading.{on_made, either, optional, guided, run, run_up_to}
 use Rattle.predictive_parsing.specs.Rules.{Rule, One, Then, Pure, Or, Optional, Of, Word, SpelledBy, Run, RunUpTo}
 use Rattle.predictive_parsing.proofs.Prefixes.{prefix_len-front, prefix_len-least, prefix-passes, prefix-stops, le_or, take-shorter}
 use Rattle.predictive_parsing.specs.Fits.{Fits, Taken, Stuck, Completes, any, unless}
@@ -17,7 +19,14 @@ module _ {I : Type 0} (Possible : I → Type 0) where
   -- Nothing is taken, and so anything may follow.
   pub pure_fits : {A : Type 0} (a : A) → Fits Possible (pure a) (Pure a) any
   pure_fits a = record {
-    takes = λ ts us b e. let k = ok_pair a b ts us e in record { front = []; cut = k.1; derives = λ vs. record { is = sym k.0; here = refl }; again = λ vs h. ap (λ x. Ok (x, vs)) k.0 };
+    takes =
+        λ ts us b e. let k = ok_pair a b ts us e in
+        record {
+          front = [];
+          cut = k.1;
+          derives = λ vs. record { is = sym k.0; here = refl };
+          again = λ vs h. ap (λ x. Ok (x, vs)) k.0;
+        };
     reads = λ ts us b r h. ap (λ x. Ok (x, ts)) (sym r.is) ∙ ap (λ xs. Ok (b, xs)) r.here;
     refuses = λ ts us e. absurd (cc);
     some = record { rest = []; value = a; possible = All-nil Possible; derives = λ vs. record { is = refl; here = refl } };
@@ -187,7 +196,8 @@ module _ {I : Type 0} (Possible : I → Type 0) where
   -- ---- short forms of the same
 
   -- less may follow than could
-  pub narrowed : {A : Type 0} {p : Reader I A} {P : Rule I A} {wide : Option I → Bool} (narrow : Option I → Bool) → ((h : Option I) → narrow h ≡ true → wide h ≡ true) → Fits Possible p P wide → Fits Possible p P narrow
+  pub narrowed : {A : Type 0} {p : Reader I A} {P : Rule I A} {wide : Option I → Bool} (narrow : Option I → Bool)
+      → ((h : Option I) → narrow h ≡ true → wide h ≡ true) → Fits Possible p P wide → Fits Possible p P narrow
   narrowed narrow within fp = record {
     takes = fp.takes;
     reads = λ ts us a r h. fp.reads ts us a r (within (next us) h);
@@ -262,7 +272,8 @@ module _ {I : Type 0} (Possible : I → Type 0) where
 
   module _ {A : Type 0} {p : Reader I A} {P Q : Rule I A} {follows : Option I → Bool} where
     -- the same reader fits it
-    pub fits_as : ((ts us : List I) (a : A) → P ts a us → Q ts a us) → ((ts us : List I) (a : A) → Q ts a us → P ts a us) → Fits Possible p P follows → Fits Possible p Q follows
+    pub fits_as : ((ts us : List I) (a : A) → P ts a us → Q ts a us) → ((ts us : List I) (a : A) → Q ts a us → P ts a us)
+        → Fits Possible p P follows → Fits Possible p Q follows
     fits_as to from fp = record {
       takes = λ ts us a e. taken_as p p P Q to ts us a (λ vs h. refl) (fp.takes ts us a e);
       reads = λ ts us a r h. fp.reads ts us a (from ts us a r) h;
@@ -282,7 +293,8 @@ module _ {I : Type 0} (Possible : I → Type 0) where
 
   -- ---- what the item ahead tells
 
-  module _ {A B : Type 0} (guess : Option I → A) (q : A → Reader I B) (Q : A → Rule I B) (follows : Option I → Bool) (fq : (a : A) → Fits Possible (q a) (Q a) follows)
+  module _ {A B : Type 0} (guess : Option I → A) (q : A → Reader I B) (Q : A → Rule I B) (follows : Option I → Bool)
+      (fq : (a : A) → Fits Possible (q a) (Q a) follows)
       (right : (a : A) (ts us : List I) (b : B) → Q a ts b us → follows (next us) ≡ true → guess (next ts) ≡ a) (example : A) where
     -- one of the forms
     abbrev SomeOf : Rule I B
@@ -295,9 +307,13 @@ module _ {I : Type 0} (Possible : I → Type 0) where
     -- What is ahead tells which form it is, wherever one is derived.
     pub guided_fits : Fits Possible (guided guess q) SomeOf follows
     guided_fits = record {
-      takes = λ ts us b e. taken_as (q (guess (next ts))) (guided guess q) (Q (guess (next ts))) SomeOf (λ xs ys c r. (guess (next ts), r)) ts us b (told ts) ((fq (guess (next ts))).takes ts us b e);
+      takes =
+          λ ts us b e. taken_as (q (guess (next ts))) (guided guess q) (Q (guess (next ts))) SomeOf
+          (λ xs ys c r. (guess (next ts), r)) ts us b (told ts) ((fq (guess (next ts))).takes ts us b e);
       reads = λ ts us b r h. ap (λ a. q a ts) (right r.0 ts us b r.1 h) ∙ (fq r.0).reads ts us b r.1 h;
-      refuses = λ ts us e. stuck_as (q (guess (next ts))) (guided guess q) (Q (guess (next ts))) SomeOf (λ xs ys c r. (guess (next ts), r)) Possible ts us (told ts) ((fq (guess (next ts))).refuses ts us e);
+      refuses =
+          λ ts us e. stuck_as (q (guess (next ts))) (guided guess q) (Q (guess (next ts))) SomeOf
+          (λ xs ys c r. (guess (next ts), r)) Possible ts us (told ts) ((fq (guess (next ts))).refuses ts us e);
       some = completes_as (q example) (q example) (Q example) SomeOf (λ xs ys c r. (example, r)) Possible [] (fq example).some;
     }
 
@@ -322,8 +338,13 @@ module _ {I : Type 0} (Possible : I → Type 0) where
     run_front : (ts us front : List I) → run passes ts ≡ Ok (front, us) → (ts ≡ front ++ us) × AllPass passes front × (ahead passes (next us) ≡ false)
     unfolding run
     run_front ts us front e =
-        let k = ok_pair (take (prefix_len passes ts) ts) front (drop (prefix_len passes ts) ts) us e in
-        (sym (take-append-drop (prefix_len passes ts) ts) ∙ ap (λ xs. xs ++ drop (prefix_len passes ts) ts) k.0 ∙ ap (λ xs. front ++ xs) k.1, subst (λ xs. AllPass passes xs) k.0 (prefix-passes passes ts), ap (λ xs. ahead passes (next xs)) (sym k.1) ∙ prefix-stops passes ts)
+        let k = ok_pair (take (prefix_len passes ts) ts) front (drop (prefix_len passes ts) ts) us e in (
+          sym (take-append-drop (prefix_len passes ts) ts) ∙ ap (λ xs. xs ++ drop (prefix_len passes ts) ts) k.0
+              ∙ ap (λ xs. front ++ xs) k.1,
+          subst (λ xs. AllPass passes xs) k.0 (prefix-passes passes ts),
+          ap
+              (λ xs. ahead passes (next xs)) (sym k.1) ∙ prefix-stops passes ts,
+        )
 
     -- such a front is read
     run_reads : (front us : List I) → AllPass passes front → ahead passes (next us) ≡ false → run passes (front ++ us) ≡ Ok (front, us)
@@ -360,7 +381,8 @@ module _ {I : Type 0} (Possible : I → Type 0) where
 
     module _ (limit : ℕ) where
       -- what is read is such a front, and there was no room for more or there is no more
-      up_to_front : (ts us front : List I) → run_up_to limit passes ts ≡ Ok (front, us) → RunUpTo limit passes ts front us × ((length front ≡ limit) ⊎ (ahead passes (next us) ≡ false))
+      up_to_front : (ts us front : List I) → run_up_to limit passes ts ≡ Ok (front, us)
+          → RunUpTo limit passes ts front us × ((length front ≡ limit) ⊎ (ahead passes (next us) ≡ false))
       unfolding run_up_to
       up_to_front ts us front e =
           let n = prefix_len passes ts in
@@ -369,7 +391,10 @@ module _ {I : Type 0} (Possible : I → Type 0) where
           let cut : ts ≡ front ++ us = sym (take-append-drop m ts) ∙ ap (λ xs. xs ++ drop m ts) k.0 ∙ ap (λ xs. front ++ xs) k.1 in
           let l = prefix_len-le-length passes ts in
           let same : length front ≡ m = ap length (sym k.0) ∙ length-take-le m ts (omega (arith, l)) in
-          let pass : AllPass passes front = subst (λ xs. AllPass passes xs) k.0 (subst (λ xs. AllPass passes xs) (take-shorter m n ts (omega arith)) (All-take (λ x. passes x ≡ true) m (take n ts) (prefix-passes passes ts))) in (
+          let pass : AllPass passes front =
+          subst (λ xs. AllPass passes xs) k.0
+          (subst (λ xs. AllPass passes xs) (take-shorter m n ts (omega arith))
+          (All-take (λ x. passes x ≡ true) m (take n ts) (prefix-passes passes ts))) in (
             record { cut = cut; pass = pass; within = omega arith },
             elim (le_or limit n) [
               | inl h ↦ inl (omega arith)
@@ -378,7 +403,8 @@ module _ {I : Type 0} (Possible : I → Type 0) where
           )
 
       -- such a front is read
-      up_to_reads : (front us : List I) → AllPass passes front → length front ≤ limit → (length front ≡ limit) ⊎ (ahead passes (next us) ≡ false) → run_up_to limit passes (front ++ us) ≡ Ok (front, us)
+      up_to_reads : (front us : List I) → AllPass passes front → length front ≤ limit
+          → (length front ≡ limit) ⊎ (ahead passes (next us) ≡ false) → run_up_to limit passes (front ++ us) ≡ Ok (front, us)
       unfolding run_up_to
       up_to_reads front us all l stop =
           let k : min limit (prefix_len passes (front ++ us)) ≡ length front = min_is stop in
@@ -410,5 +436,11 @@ module _ {I : Type 0} (Possible : I → Type 0) where
         takes = up_to_takes;
         reads = λ ts us front r h. ap (run_up_to limit passes) r.cut ∙ up_to_reads front us r.pass r.within (inr (not_true (ahead passes (next us)) h));
         refuses = λ ts us e. absurd (up_to_reads_all ts us e);
-        some = record { rest = []; value = []; possible = All-nil Possible; derives = λ vs. record { cut = refl; pass = All-nil (λ x. passes x ≡ true); within = omega arith } };
+        some =
+            record {
+              rest = [];
+              value = [];
+              possible = All-nil Possible;
+              derives = λ vs. record { cut = refl; pass = All-nil (λ x. passes x ≡ true); within = omega arith };
+            };
       }

@@ -1,5 +1,6 @@
 -- One item, taken or refused.
-use Rattle.std.proofs.Common.{◌≡◌, ◌<◌, ◌≤◌, ◌+◌, ℕ, List, [], ◌∷◌, take, drop, min, get_or, length, Bool, false, Option, Some, None, Result, Ok, Err, IfOk, refl, ap, sym, ◌∙◌, arith}
+use Rattle.std.proofs.Common.{◌≡◌, ◌<◌, ◌≤◌, ◌+◌, ℕ, List, [], ◌∷◌, take, drop, min, get_or, length, Bool, false}
+use Rattle.std.proofs.Common.{Option, Some, None, Result, Ok, Err, IfOk, refl, ap, sym, ◌∙◌, arith}
 use Rattle.std.specs.List.{prefix_len}
 use Rattle.std.proofs.lemmas.List.{drop_more, drop_all}
 use Rattle.plain_data.specs.Texts.{Bytes}
@@ -64,7 +65,8 @@ module _ {I A : Type 0} (f : I → Option A) where
   made_shorter (item ∷ ts) a e = omega arith
 
 -- what holds of all that f makes holds of what is read by it
-pub made_as : {I A : Type 0} (f : I → Option A) (Q : A → Type 0) → ((item : I) (a : A) → f item ≡ Some a → Q a) → (ts us : List I) (r : Result A (OrNoMemory Refused)) → Reads (one f ts) r us → IfOk r Q
+pub made_as : {I A : Type 0} (f : I → Option A) (Q : A → Type 0) → ((item : I) (a : A) → f item ≡ Some a → Q a)
+    → (ts us : List I) (r : Result A (OrNoMemory Refused)) → Reads (one f ts) r us → IfOk r Q
 made_as f Q all ts us (Ok a) e = let x = one_takes_made f ts us a e in all x.0 a x.1
 made_as f Q all ts us (Err stop) e = tt
 
@@ -73,13 +75,15 @@ pub ahead_is : {I : Type 0} (passes : I → Bool) (item : I) (ts : List I) → n
 ahead_is passes item ts e = ap (ahead passes) (sym e)
 
 -- the items at the front that pass, and the others
-pub run_is : {I : Type 0} (passes : I → Bool) (ts front us : List I) (n : ℕ) → n ≡ prefix_len passes ts → front ≡ take n ts → us ≡ drop n ts → run passes ts ≡ Ok (front, us)
+pub run_is : {I : Type 0} (passes : I → Bool) (ts front us : List I) (n : ℕ) → n ≡ prefix_len passes ts → front ≡ take n ts
+    → us ≡ drop n ts → run passes ts ≡ Ok (front, us)
 unfolding run
 run_is passes ts front us n e f b =
     ap (λ m. Ok (take m ts, drop m ts)) (sym e) ∙ ap (λ xs. Ok (xs, drop n ts)) (sym f) ∙ ap (λ xs. Ok (front, xs)) (sym b)
 
 -- the same, up to a limit
-pub run_up_to_is : {I : Type 0} (limit : ℕ) (passes : I → Bool) (ts front us : List I) (m n : ℕ) → m ≡ prefix_len passes ts → n ≡ min limit m → front ≡ take n ts → us ≡ drop n ts → run_up_to limit passes ts ≡ Ok (front, us)
+pub run_up_to_is : {I : Type 0} (limit : ℕ) (passes : I → Bool) (ts front us : List I) (m n : ℕ) → m ≡ prefix_len passes ts
+    → n ≡ min limit m → front ≡ take n ts → us ≡ drop n ts → run_up_to limit passes ts ≡ Ok (front, us)
 unfolding run_up_to
 run_up_to_is limit passes ts front us m n e l f b =
     let k : min limit (prefix_len passes ts) ≡ n = ap (min limit) (sym e) ∙ sym l in

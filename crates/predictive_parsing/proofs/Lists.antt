@@ -1,5 +1,6 @@
 -- Lists of what fits.
-use Rattle.std.proofs.Common.{◌≡◌, ℕ, zero, suc, ◌<◌, ◌≤◌, Bool, true, false, not, List, [], ◌∷◌, ◌++◌, length, Option, None, Ok, Err, refl, ap, sym, ◌∙◌, subst, inl, inr, arith, length-append}
+use Rattle.std.proofs.Common.{◌≡◌, ℕ, zero, suc, ◌<◌, ◌≤◌, Bool, true, false, not, List, [], ◌∷◌, ◌++◌, length, Option}
+use Rattle.std.proofs.Common.{None, Ok, Err, refl, ap, sym, ◌∙◌, subst, inl, inr, arith, length-append}
 use Rattle.std.proofs.lemmas.List.Elements.{All-nil}
 use Rattle.predictive_parsing.specs.Reading.{Reader, next, and_then, pure, many, list}
 use Rattle.predictive_parsing.specs.Rules.{Rule, Then, Pure, Many, none, more, ListOf}
@@ -9,7 +10,8 @@ use Rattle.predictive_parsing.proofs.Loops.{many_stop, many_go}
 use Rattle.predictive_parsing.proofs.Combined.{pure_fits, then_taken, then_fits, first_stuck, second_stuck, seen}
 
 -- What begins with an item takes one at least.
-module _ {I A : Type 0} (Possible : I → Type 0) (starts : Option I → Bool) (item : Reader I A) (P : Rule I A) (between : Option I → Bool) (fi : Fits Possible item P between)
+module _ {I A : Type 0} (Possible : I → Type 0) (starts : Option I → Bool) (item : Reader I A) (P : Rule I A)
+    (between : Option I → Bool) (fi : Fits Possible item P between)
     (begins : (ts us : List I) (a : A) → P ts a us → starts (next ts) ≡ true) (at_end : starts None ≡ false) where
   shrinks_by : (ts us front : List I) (a : A) → ts ≡ front ++ us → P (front ++ []) a [] → length us < length ts
   shrinks_by ts us [] a e r = absurd (let k = begins [] [] a r in cc)
@@ -18,7 +20,8 @@ module _ {I A : Type 0} (Possible : I → Type 0) (starts : Option I → Bool) (
   pub shrinks : (ts us : List I) (a : A) → item ts ≡ Ok (a, us) → length us < length ts
   shrinks ts us a e = let x = fi.takes ts us a e in shrinks_by ts us x.front a x.cut (x.derives [])
 
-module _ {I A : Type 0} (Possible : I → Type 0) (starts : Option I → Bool) (item : Reader I A) (P : Rule I A) (between : Option I → Bool) (fi : Fits Possible item P between)
+module _ {I A : Type 0} (Possible : I → Type 0) (starts : Option I → Bool) (item : Reader I A) (P : Rule I A)
+    (between : Option I → Bool) (fi : Fits Possible item P between)
     (begins : (ts us : List I) (a : A) → P ts a us → starts (next ts) ≡ true) (at_end : starts None ≡ false)
     (goes : (h : Option I) → starts h ≡ true → between h ≡ true) where
   all : Reader I (List A)
@@ -57,10 +60,13 @@ module _ {I A : Type 0} (Possible : I → Type 0) (starts : Option I → Bool) (
   none_taken : (ts : List I) → starts (next ts) ≡ false → Taken all (Many P) ts [] ts
   none_taken ts s = record { front = []; cut = refl; derives = λ vs. none vs; again = λ vs h. all_stop vs (ap starts h ∙ s) }
 
-  more_taken : (ts us vs : List I) (a : A) (rest : List A) → starts (next ts) ≡ true → item ts ≡ Ok (a, us) → Taken all (Many P) us rest vs → Taken all (Many P) ts (a ∷ rest) vs
+  more_taken : (ts us vs : List I) (a : A) (rest : List A) → starts (next ts) ≡ true → item ts ≡ Ok (a, us)
+      → Taken all (Many P) us rest vs → Taken all (Many P) ts (a ∷ rest) vs
   unfolding and_all AndAll
   more_taken ts us vs a rest s e x =
-      let y = then_taken Possible all (Many P) (λ xs. pure (a ∷ xs)) (λ xs. Pure (a ∷ xs)) us vs vs rest (a ∷ rest) x ((pure_fits Possible (a ∷ rest)).takes vs vs (a ∷ rest) refl) in
+      let y =
+      then_taken Possible all (Many P) (λ xs. pure (a ∷ xs)) (λ xs. Pure (a ∷ xs)) us vs vs rest (a ∷ rest) x
+      ((pure_fits Possible (a ∷ rest)).takes vs vs (a ∷ rest) refl) in
       let z = then_taken Possible item P and_all AndAll ts us vs a (a ∷ rest) (fi.takes ts us a e) y in
       taken_as (λ xs. and_then (item xs) and_all) all (Then P AndAll) (Many P) one_more ts vs (a ∷ rest) (λ xs h. all_go xs (ap starts h ∙ s)) z
 
@@ -117,8 +123,11 @@ module _ {I A : Type 0} (Possible : I → Type 0) (starts : Option I → Bool) (
     derives = λ vs. record { value = []; middle = vs; first = none vs; second = record { is = refl; here = refl } };
   }
 
-  turn_stuck : (ts us : List I) → starts (next ts) ≡ true → Stuck Possible (λ xs. and_then (item xs) and_all) (Then P AndAll) ts us → Stuck Possible all (Many P) ts us
-  turn_stuck ts us s x = stuck_as (λ xs. and_then (item xs) and_all) all (Then P AndAll) (Many P) one_more Possible ts us (λ xs h. all_go xs (ap starts h ∙ s)) x
+  turn_stuck : (ts us : List I) → starts (next ts) ≡ true
+      → Stuck Possible (λ xs. and_then (item xs) and_all) (Then P AndAll) ts us → Stuck Possible all (Many P) ts us
+  turn_stuck ts us s x =
+      stuck_as (λ xs. and_then (item xs) and_all) all (Then P AndAll) (Many P) one_more Possible ts us
+      (λ xs h. all_go xs (ap starts h ∙ s)) x
 
   rest_stuck : (us vs : List I) (a : A) → Stuck Possible all (Many P) us vs → Stuck Possible (and_all a) (AndAll a) us vs
   unfolding and_all AndAll
@@ -158,10 +167,12 @@ module _ {I A : Type 0} (Possible : I → Type 0) (starts : Option I → Bool) (
   }
 
   -- One, and any number of others, where these may follow it.
-  pub list_fits : {B : Type 0} (first : Reader I B) (Q : Rule I B) → Fits Possible first Q between → Fits Possible (list first starts item) (ListOf Q P) (unless starts between)
+  pub list_fits : {B : Type 0} (first : Reader I B) (Q : Rule I B) → Fits Possible first Q between
+      → Fits Possible (list first starts item) (ListOf Q P) (unless starts between)
   unfolding list
   list_fits first Q ff =
-      then_fits Possible first Q _ (λ b. Then (Many P) (λ rest. Pure (b, rest))) between (unless starts between) ff (λ b. seen Possible (λ rest. (b, rest)) many_fits)
+      then_fits Possible first Q _ (λ b. Then (Many P) (λ rest. Pure (b, rest))) between (unless starts between) ff
+      (λ b. seen Possible (λ rest. (b, rest)) many_fits)
       (λ b us vs c r h.
       let k = both (between (next vs)) (not (starts (next vs))) h in
       meets us r.middle r.value r.first (ap (λ xs. between (next xs)) r.second.here ∙ k.0))

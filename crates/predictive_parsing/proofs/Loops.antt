@@ -1,5 +1,6 @@
 -- Reading as many as begin, turn by turn: what a loop in a reader's code keeps.
-use Rattle.std.proofs.Common.{◌≡◌, ℕ, suc, zero, ◌+◌, ◌-◌, ◌<◌, ◌≤◌, Bool, true, false, List, [], ◌∷◌, ◌++◌, length, Option, None, Ok, Err, refl, ap, sym, ◌∙◌, inl, inr, arith, append_assoc, append-nil}
+use Rattle.std.proofs.Common.{◌≡◌, ℕ, suc, zero, ◌+◌, ◌-◌, ◌<◌, ◌≤◌, Bool, true, false, List, [], ◌∷◌, ◌++◌, length}
+use Rattle.std.proofs.Common.{Option, None, Ok, Err, refl, ap, sym, ◌∙◌, inl, inr, arith, append_assoc, append-nil}
 use Rattle.predictive_parsing.specs.Reading.{Outcome, Reader, next, turns, many, and_then, pure}
 use Rattle.predictive_parsing.proofs.Basic.{bool_cases}
 
@@ -53,7 +54,8 @@ module _ {I A : Type 0} (starts : Option I → Bool) (item : Reader I A) where
         sym so_far ∙ ap (λ i. with_front found (turns starts item i ts)) k ∙ ap (with_front found) (turns_go m ts s)
 
     -- a turn finds one more
-    pub turn_made : (m : ℕ) (us : List I) (a : A) → n ≡ m + 1 → starts (next ts) ≡ true → item ts ≡ Ok (a, us) → with_front (found ++ a ∷ []) (turns starts item m us) ≡ whole
+    pub turn_made : (m : ℕ) (us : List I) (a : A) → n ≡ m + 1 → starts (next ts) ≡ true → item ts ≡ Ok (a, us)
+        → with_front (found ++ a ∷ []) (turns starts item m us) ≡ whole
     unfolding after
     turn_made m us a l s e =
         sym (fronts found (a ∷ []) (turns starts item m us))
@@ -80,7 +82,9 @@ module _ {I A : Type 0} (starts : Option I → Bool) (item : Reader I A) (at_end
   abbrev next_turns : ℕ → A → Reader I (List A)
   next_turns = after starts item
 
-  same_after : (m n : ℕ) (ts : List I) (r : Outcome I A) → item ts ≡ r → ((us : List I) (a : A) → item ts ≡ Ok (a, us) → turns starts item m us ≡ turns starts item n us) → and_then r (next_turns m) ≡ and_then r (next_turns n)
+  same_after : (m n : ℕ) (ts : List I) (r : Outcome I A) → item ts ≡ r
+      → ((us : List I) (a : A) → item ts ≡ Ok (a, us) → turns starts item m us ≡ turns starts item n us)
+      → and_then r (next_turns m) ≡ and_then r (next_turns n)
   unfolding after
   same_after m n ts (Ok (a, us)) e same = ap (λ o. and_then o (λ rest. pure (a ∷ rest))) (same us a e)
   same_after m n ts (Err us) e same = refl
@@ -92,7 +96,9 @@ module _ {I A : Type 0} (starts : Option I → Bool) (item : Reader I A) (at_end
   same_turns (suc m) zero [] l k = turns_stop starts item (suc m) [] at_end ∙ sym (turns_stop starts item zero [] at_end)
   same_turns (suc m) zero (t ∷ ts) l k = absurd (omega arith)
   same_turns (suc m) (suc n) ts l k = elim (bool_cases (starts (next ts))) [
-    | inl s ↦ turns_go starts item m ts s ∙ same_after m n ts (item ts) refl (λ us a e. let h = shrinks ts us a e in same_turns m n us (omega arith) (omega arith)) ∙ sym (turns_go starts item n ts s)
+    | inl s ↦ turns_go starts item m ts s
+        ∙ same_after m n ts (item ts) refl (λ us a e. let h = shrinks ts us a e in same_turns m n us (omega arith) (omega arith))
+        ∙ sym (turns_go starts item n ts s)
     | inr s ↦ turns_stop starts item (suc m) ts s ∙ sym (turns_stop starts item (suc n) ts s)
   ]
 
@@ -106,14 +112,18 @@ module _ {I A : Type 0} (starts : Option I → Bool) (item : Reader I A) (at_end
   some_left (t ∷ ts) s = (length ts, omega arith)
 
   -- one is read where one begins, and then all the others
-  pub many_go : (ts : List I) → starts (next ts) ≡ true → many starts item ts ≡ and_then (item ts) (λ a us. and_then (many starts item us) (λ rest. pure (a ∷ rest)))
+  pub many_go : (ts : List I) → starts (next ts) ≡ true
+      → many starts item ts ≡ and_then (item ts) (λ a us. and_then (many starts item us) (λ rest. pure (a ∷ rest)))
   unfolding many after
   many_go ts s =
       let k = some_left ts s in
       ap (λ m. turns starts item m ts) k.1 ∙ turns_go starts item k.0 ts s ∙ with_all (item ts) refl k.0 k.1
     where
-      with_all : (r : Outcome I A) → item ts ≡ r → (n : ℕ) → length ts ≡ suc n → and_then r (next_turns n) ≡ and_then r (λ a us. and_then (turns starts item (length us) us) (λ rest. pure (a ∷ rest)))
-      with_all (Ok (a, us)) e n l = let h = shrinks ts us a e in ap (λ o. and_then o (λ rest. pure (a ∷ rest))) (same_turns n (length us) us (omega arith) (omega arith))
+      with_all : (r : Outcome I A) → item ts ≡ r → (n : ℕ) → length ts ≡ suc n
+          → and_then r (next_turns n) ≡ and_then r (λ a us. and_then (turns starts item (length us) us) (λ rest. pure (a ∷ rest)))
+      with_all (Ok (a, us)) e n l =
+          let h = shrinks ts us a e in ap (λ o. and_then o (λ rest. pure (a ∷ rest)))
+          (same_turns n (length us) us (omega arith) (omega arith))
       with_all (Err us) e n l = refl
 
   -- The loop has found these, the items ts are left, and all is read as `whole`.
@@ -122,7 +132,9 @@ module _ {I A : Type 0} (starts : Option I → Bool) (item : Reader I A) (at_end
     pub turn : (us : List I) (a : A) → starts (next ts) ≡ true → item ts ≡ Ok (a, us) → with_front (found ++ a ∷ []) (many starts item us) ≡ whole
     turn us a s e =
         sym (fronts found (a ∷ []) (many starts item us))
-        ∙ ap (with_front found) (sym (many_go ts s ∙ ap (λ o. and_then o (λ b vs. and_then (many starts item vs) (λ rest. pure (b ∷ rest)))) e ∙ one_front a (many starts item us)))
+        ∙ ap (with_front found) (sym (many_go ts s
+        ∙ ap (λ o. and_then o (λ b vs. and_then (many starts item vs) (λ rest. pure (b ∷ rest)))) e
+        ∙ one_front a (many starts item us)))
         ∙ so_far
 
     -- the loop ends where one begins and is refused

@@ -1,5 +1,6 @@
 -- How many items at the front pass a test, item by item.
-use Rattle.std.proofs.Common.{◌≡◌, ◌+◌, ◌<◌, ◌≤◌, ◌⊎◌, ℕ, zero, suc, nat_le, Bool, true, false, cond, List, [], ◌∷◌, ◌++◌, length, take, drop, get_or, refl, ap, sym, ◌∙◌, subst, inl, inr, arith}
+use Rattle.std.proofs.Common.{◌≡◌, ◌+◌, ◌<◌, ◌≤◌, ◌⊎◌, ℕ, zero, suc, nat_le, Bool, true, false, cond, List, [], ◌∷◌}
+use Rattle.std.proofs.Common.{◌++◌, length, take, drop, get_or, refl, ap, sym, ◌∙◌, subst, inl, inr, arith}
 use Rattle.std.proofs.lemmas.Bool.Decides.{nat_tests}
 use Rattle.std.specs.List.{prefix_len, AllPass}
 use Rattle.std.proofs.lemmas.List.Elements.{All-nil, All-head, All-tail, All-cons}
@@ -9,7 +10,8 @@ use Rattle.std.proofs.lemmas.List.Sums.{prefix_len-drop_yes, prefix_len-drop_no,
 
 module _ {I : Type 0} (passes : I → Bool) (ts : List I) (i : ℕ) (so_far : i + prefix_len passes (drop i ts) ≡ prefix_len passes ts) where
   -- one more passes
-  pub prefix_more : (item : I) → i < length ts → item ≡ get_or ts i item → passes item ≡ true → (i + 1) + prefix_len passes (drop (i + 1) ts) ≡ prefix_len passes ts
+  pub prefix_more : (item : I) → i < length ts → item ≡ get_or ts i item → passes item ≡ true
+      → (i + 1) + prefix_len passes (drop (i + 1) ts) ≡ prefix_len passes ts
   prefix_more item l e h = let k = prefix_len-drop_yes passes ts i item l (ap passes (sym e) ∙ h) in omega (arith, k)
 
   -- one doesn't
@@ -37,7 +39,8 @@ prefix_len-some passes [] e = absurd (cc)
 prefix_len-some passes (item ∷ ts) e = omega (arith, prefix_len-more passes item ts e)
 
 -- items that pass, with one behind them that doesn't, are the prefix
-pub prefix_len-front : {I : Type 0} (passes : I → Bool) (front us : List I) → AllPass passes front → ahead passes (next us) ≡ false → prefix_len passes (front ++ us) ≡ length front
+pub prefix_len-front : {I : Type 0} (passes : I → Bool) (front us : List I) → AllPass passes front
+    → ahead passes (next us) ≡ false → prefix_len passes (front ++ us) ≡ length front
 prefix_len-front passes [] us all e = prefix_len-none passes us e
 prefix_len-front passes (item ∷ front) us all e =
     let first = All-head (λ x. passes x ≡ true) item front all in
@@ -50,7 +53,8 @@ prefix-passes passes [] = All-nil (λ x. passes x ≡ true)
 prefix-passes passes (item ∷ ts) = elim (bool_cases (passes item)) [
   | inl e ↦
       let k : prefix_len passes (item ∷ ts) ≡ suc (prefix_len passes ts) = omega (arith, prefix_len-more passes item ts e) in
-      subst (λ n. AllPass passes (take n (item ∷ ts))) (sym k) (All-cons (λ x. passes x ≡ true) item (take (prefix_len passes ts) ts) e (prefix-passes passes ts))
+      subst (λ n. AllPass passes (take n (item ∷ ts))) (sym k)
+      (All-cons (λ x. passes x ≡ true) item (take (prefix_len passes ts) ts) e (prefix-passes passes ts))
   | inr e ↦ subst (λ n. AllPass passes (take n (item ∷ ts))) (sym (prefix_len-none passes (item ∷ ts) e)) (All-nil (λ x. passes x ≡ true))
 ]
 

@@ -7,7 +7,8 @@ use Rattle.predictive_parsing.specs.Fits.{Fits, Taken, Stuck}
 use Rattle.predictive_parsing.specs.Stops.{StopsAt, NoFurther}
 use Rattle.predictive_parsing.proofs.Basic.{assoc, ok_pair, sound}
 
-module _ {I A : Type 0} (Possible : I → Type 0) (p : Reader I A) (P : Rule I A) (follows : Option I → Bool) (fp : Fits Possible p P follows) (ends : follows None ≡ true) where
+module _ {I A : Type 0} (Possible : I → Type 0) (p : Reader I A) (P : Rule I A) (follows : Option I → Bool)
+    (fp : Fits Possible p P follows) (ends : follows None ≡ true) where
   derived : (ts : List I) (a : A) → Whole P ts a → p ts ≡ Ok (a, [])
   derived ts a r = fp.reads ts [] a r ends
 
@@ -42,12 +43,19 @@ module _ {I A : Type 0} (Possible : I → Type 0) (p : Reader I A) (P : Rule I A
   stuck_stops : (ts us : List I) → Stuck Possible p P ts us → StopsAt Possible P ts us
   stuck_stops ts us x =
       let c = x.completes in
-      record { before = x.front; cut = x.cut; goes_on = (c.rest, c.value, c.possible, subst (λ xs. Whole P (x.front ++ xs) c.value) (append-nil c.rest) (c.derives [])); no_further = no_more us x.again }
+      record {
+        before = x.front;
+        cut = x.cut;
+        goes_on =
+            (c.rest, c.value, c.possible, subst (λ xs. Whole P (x.front ++ xs) c.value) (append-nil c.rest) (c.derives []));
+        no_further = no_more us x.again;
+      }
     where
       no_more : (us : List I) → ((vs : List I) → next vs ≡ next us → p (x.front ++ vs) ≡ Err vs) → NoFurther P x.front us
       no_more [] again = λ a r. apart a [] [] (p (x.front ++ [])) (ap p (append-nil x.front) ∙ derived x.front a r) (again [] refl)
       no_more (t ∷ us) again = λ others a r.
-          apart a [] (t ∷ others) (p (x.front ++ (t ∷ others))) (ap p (sym (assoc x.front (t ∷ []) others)) ∙ derived ((x.front ++ t ∷ []) ++ others) a r) (again (t ∷ others) refl)
+          apart a [] (t ∷ others) (p (x.front ++ (t ∷ others)))
+          (ap p (sym (assoc x.front (t ∷ []) others)) ∙ derived ((x.front ++ t ∷ []) ++ others) a r) (again (t ∷ others) refl)
 
   -- the reader is done, and an item is left
   rest_stops : (ts us : List I) (a : A) (t : I) → Taken p P ts a (t ∷ us) → StopsAt Possible P ts (t ∷ us)
@@ -56,12 +64,15 @@ module _ {I A : Type 0} (Possible : I → Type 0) (p : Reader I A) (P : Rule I A
     cut = x.cut;
     goes_on = ([], a, All-nil Possible, x.derives []);
     no_further = λ others b r.
-        past b a t others (p (x.front ++ (t ∷ others))) (ap p (sym (assoc x.front (t ∷ []) others)) ∙ derived ((x.front ++ t ∷ []) ++ others) b r) (x.again (t ∷ others) refl);
+        past b a t others (p (x.front ++ (t ∷ others)))
+        (ap p (sym (assoc x.front (t ∷ []) others)) ∙ derived ((x.front ++ t ∷ []) ++ others) b r)
+        (x.again (t ∷ others) refl);
   }
 
   stops_by : (ts rest : List I) (o : Outcome I A) → p ts ≡ o → whole_of o ≡ Err rest → StopsAt Possible P ts rest
   stops_by ts rest (Ok (a, [])) e h = absurd (cc)
-  stops_by ts rest (Ok (a, t ∷ us)) e h = let k : t ∷ us ≡ rest = cc in subst (λ xs. StopsAt Possible P ts xs) k (rest_stops ts us a t (fp.takes ts (t ∷ us) a e))
+  stops_by ts rest (Ok (a, t ∷ us)) e h =
+      let k : t ∷ us ≡ rest = cc in subst (λ xs. StopsAt Possible P ts xs) k (rest_stops ts us a t (fp.takes ts (t ∷ us) a e))
   stops_by ts rest (Err us) e h = let k : us ≡ rest = cc in subst (λ xs. StopsAt Possible P ts xs) k (stuck_stops ts us (fp.refuses ts us e))
 
   -- What is refused is the first item with which nothing goes on that the rule derives.

@@ -60,14 +60,17 @@ below b e = grind (arith, nat_tests, e)
 pub word_fits : (w : Bytes) → are_bytes w ≡ true → Fits IsByte (word w) (Word w) any
 unfolding word
 word_fits [] h = fits_as IsByte (λ ts us a r. r.here) (λ ts us a r. record { is = refl; here = r }) (pure_fits IsByte tt)
-word_fits (b ∷ w) h = fits_as IsByte (word_whole b w) (word_parts b w) (let k = both (nat_lt b 256) (are_bytes w) h in onwards IsByte (byte_fits b (below b k.0)) (λ _. word_fits w k.1))
+word_fits (b ∷ w) h =
+    fits_as IsByte (word_whole b w) (word_parts b w)
+    (let k = both (nat_lt b 256) (are_bytes w) h in onwards IsByte (byte_fits b (below b k.0)) (λ _. word_fits w k.1))
 
 -- a byte's rule takes the byte that is ahead
 pub byte_begins : (b : ℕ) (ts us : Bytes) (a : Unit {0}) → Byte b ts a us → sees b (next ts) ≡ true
 byte_begins b ts us a r = ap (λ xs. sees b (next xs)) (byte_taken b ts us a r) ∙ same_byte b
 
 -- a word, and then what fits
-pub behind_fits : {A : Type 0} {p : Reader ℕ A} {P : Rule ℕ A} {follows : Option ℕ → Bool} (w : Bytes) → are_bytes w ≡ true → Fits IsByte p P follows → Fits IsByte (behind w p) (Behind w P) follows
+pub behind_fits : {A : Type 0} {p : Reader ℕ A} {P : Rule ℕ A} {follows : Option ℕ → Bool} (w : Bytes) → are_bytes w ≡ true
+    → Fits IsByte p P follows → Fits IsByte (behind w p) (Behind w P) follows
 behind_fits w h fp = onwards IsByte (word_fits w h) (λ _. fp)
 
 -- a word that stands for a value

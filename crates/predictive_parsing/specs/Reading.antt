@@ -1,6 +1,7 @@
 -- Readers: functions that read the front of a list of items and look one item ahead. They are written as rules are, and
 -- each choice names the items with which its first part begins.
-use Rattle.std.specs.Prelude.{ℕ, zero, suc, Bool, true, false, if◌then◌else◌, List, [], ◌∷◌, length, take, drop, min, Option, Some, None, Result, Ok, Err}
+use Rattle.std.specs.Prelude.{ℕ, zero, suc, Bool, true, false, if◌then◌else◌, List, [], ◌∷◌, length, take, drop, min}
+use Rattle.std.specs.Prelude.{Option, Some, None, Result, Ok, Err}
 use Rattle.std.specs.List.{prefix_len}
 
 -- a value and the items behind it, or the items from the first one on that does not fit

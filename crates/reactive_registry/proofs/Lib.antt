@@ -3,6 +3,7 @@ pub mod Pairs
 pub mod Subscribing
 pub mod Pending
 pub mod Standing
+pub mod GoingOn
 pub mod Undone
 pub mod Clients
 pub mod Told

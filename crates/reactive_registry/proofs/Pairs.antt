@@ -15,7 +15,7 @@ use Rattle.rdt_types.proofs.Addresses.{address_cmp-equal}
 use Rattle.change_feed.specs.declared.change.Change.{Change}
 use Rattle.change_feed.specs.Tails.{IsTail}
 use Rattle.reactive_registry.specs.declared.places.Places.{Places}
-use Rattle.reactive_registry.specs.Registered.{Kept, kept_in, is_address}
+use Rattle.reactive_registry.specs.Registered.{Kept, kept_in, is_address, is_in}
 use Rattle.reactive_registry.specs.Places.{links, AreLinked}
 
 -- equal addresses are equal either way round
@@ -116,6 +116,23 @@ put_back es s kept kept' found same q = by (is_at (nat_cmp s) q) refl
   where
     by : (c : Bool) → is_at (nat_cmp s) q ≡ c → cond c (Some kept') (kept_in es q) ≡ kept_in es q
     by true e = ap (λ x. Some x) same ∙ sym found ∙ ap (kept_in es) (same_number s q e)
+    by false e = refl
+
+-- ---- who is subscribed
+
+-- what is kept of one subscriber changes at one address, and so does who is subscribed there
+pub told_pair : (es es' : List (ℕ × Kept)) (s : ℕ) (k : Address) (w : Bool) (kept kept' : Kept) → kept_in es s ≡ Some kept
+    → ((q : ℕ) → kept_in es' q ≡ cond (is_at (nat_cmp s) q) (Some kept') (kept_in es q))
+    → ((a : Address) → is_address kept' a ≡ cond (is_at (address_cmp k) a) w (is_address kept a))
+    → (q : ℕ) (a : Address) → is_in es' q a ≡ cond (is_at (nat_cmp s) q && is_at (address_cmp k) a) w (is_in es q a)
+told_pair es es' s k w kept kept' found puts has q a = ap (λ o. option_map_or (λ x. is_address x a) o false) (puts q) ∙ by (is_at (nat_cmp s) q) refl
+  where
+    here : is_at (nat_cmp s) q ≡ true → is_address kept a ≡ is_in es q a
+    here e = sym (ap (λ o. option_map_or (λ x. is_address x a) o false) (ap (kept_in es) (sym (same_number s q e)) ∙ found))
+
+    by : (c : Bool) → is_at (nat_cmp s) q ≡ c
+        → option_map_or (λ x. is_address x a) (cond c (Some kept') (kept_in es q)) false ≡ cond (c && is_at (address_cmp k) a) w (is_in es q a)
+    by true e = has a ∙ ap (cond (is_at (address_cmp k) a) w) (here e)
     by false e = refl
 
 -- ---- changes up to a front

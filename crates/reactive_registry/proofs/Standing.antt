@@ -39,7 +39,7 @@ takes_stand changes front kept all = record {
 }
 
 -- the deltas of changes and then of others
-deltas-append : (a : Address) (changes later : List Change) → deltas_at a (changes ++ later) ≡ deltas_at a changes ++ deltas_at a later
+pub deltas-append : (a : Address) (changes later : List Change) → deltas_at a (changes ++ later) ≡ deltas_at a changes ++ deltas_at a later
 deltas-append a [] later = refl
 deltas-append a (c ∷ changes) later = by (is_at (address_cmp a) c.address) (deltas-append a changes later)
   where
@@ -68,18 +68,18 @@ since-append (c ∷ changes) later n front le all = by (nat_lt n c.number) (sinc
     by true e = ap (λ all. c ∷ all) e
     by false e = e
 
--- of the changes at a subscriber's addresses those at an address are all there, or none
-deltas-told : (a : Address) (kept : Kept) (later : List Change)
-    → deltas_at a (filter (λ c. is_address kept c.address) later) ≡ cond (is_address kept a) (deltas_at a later) []
-deltas-told a kept [] = nothing (is_address kept a)
+-- of the changes at some addresses those at one address are all there, or none
+pub deltas-chosen : (a : Address) (chosen : Address → Bool) (later : List Change)
+    → deltas_at a (filter (λ c. chosen c.address) later) ≡ cond (chosen a) (deltas_at a later) []
+deltas-chosen a chosen [] = nothing (chosen a)
   where
     nothing : (b : Bool) → [] ≡ cond b (deltas_at a []) []
     nothing true = refl
     nothing false = refl
-deltas-told a kept (c ∷ later) = by (is_address kept c.address) (is_at (address_cmp a) c.address) refl refl (deltas-told a kept later)
+deltas-chosen a chosen (c ∷ later) = by (chosen c.address) (is_at (address_cmp a) c.address) refl refl (deltas-chosen a chosen later)
   where
     its : List Change → List Change
-    its all = filter (λ change. is_address kept change.address) all
+    its all = filter (λ change. chosen change.address) all
 
     at : List Change → List Change
     at all = filter (λ change. is_at (address_cmp a) change.address) all
@@ -97,14 +97,14 @@ deltas-told a kept (c ∷ later) = by (is_address kept c.address) (is_at (addres
     gone true p e = absurd (cc)
     gone false p e = e
 
-    by : (b d : Bool) → is_address kept c.address ≡ b → is_at (address_cmp a) c.address ≡ d
-        → deltas_at a (its later) ≡ cond (is_address kept a) (deltas_at a later) []
-        → of (at (cond b (c ∷ its later) (its later))) ≡ cond (is_address kept a) (of (cond d (c ∷ at later) (at later))) []
+    by : (b d : Bool) → chosen c.address ≡ b → is_at (address_cmp a) c.address ≡ d
+        → deltas_at a (its later) ≡ cond (chosen a) (deltas_at a later) []
+        → of (at (cond b (c ∷ its later) (its later))) ≡ cond (chosen a) (of (cond d (c ∷ at later) (at later))) []
     by true true p q e =
         ap (λ x. of (cond x (c ∷ at (its later)) (at (its later)))) q
-        ∙ there (is_address kept a) (ap (is_address kept) (same_address a c.address q) ∙ p) e
+        ∙ there (chosen a) (ap chosen (same_address a c.address q) ∙ p) e
     by true false p q e = ap (λ x. of (cond x (c ∷ at (its later)) (at (its later)))) q ∙ e
-    by false true p q e = gone (is_address kept a) (ap (is_address kept) (same_address a c.address q) ∙ p) e
+    by false true p q e = gone (chosen a) (ap chosen (same_address a c.address q) ∙ p) e
     by false false p q e = e
 
 pub follows_stand : FollowsStand
@@ -113,7 +113,7 @@ follows_stand changes later front to kept le stands past = record {
   deltas = λ a.
       deltas-append a kept.changes (filter (λ c. is_address kept c.address) later)
       ∙ ap (λ ds. ds ++ deltas_at a (filter (λ c. is_address kept c.address) later)) (stands.deltas a)
-      ∙ ap (λ ds. cond (is_address kept a) (deltas_at a (since kept.taken changes)) [] ++ ds) (deltas-told a kept later)
+      ∙ ap (λ ds. cond (is_address kept a) (deltas_at a (since kept.taken changes)) [] ++ ds) (deltas-chosen a (is_address kept) later)
       ∙ both (is_address kept a) a
       ∙ ap (λ all. cond (is_address kept a) (deltas_at a all) []) (sym (since-append changes later kept.taken front stands.taken past));
 }

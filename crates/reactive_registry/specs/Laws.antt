@@ -4,12 +4,12 @@ use Rattle.std.specs.List.{AllByRecursion}
 use Rattle.rdt_types.specs.declared.address.Address.{Address}
 use Rattle.change_feed.specs.declared.change.Change.{Change}
 use Rattle.rdt_types.specs.DeltaMaps.{delta_at}
-use Rattle.change_feed.specs.Pending.{pending}
+use Rattle.change_feed.specs.Pending.{deltas_at, pending}
 use Rattle.change_feed.specs.Feeds.{Fed, AreOfTheirKinds}
 use Rattle.change_feed.specs.Tails.{IsTail}
 use Rattle.client_cache.specs.Cached.{Cached, Advances}
 use Rattle.client_cache.specs.Laws.{HoldsState}
-use Rattle.reactive_registry.specs.Registered.{Kept, Registered, kept_of, with_kept, entered, emptied, told, is_address, pending_for, pending_of}
+use Rattle.reactive_registry.specs.Registered.{Kept, Registered, kept_of, with_kept, entered, subscribed, unsubscribed, emptied, told, is_address, pending_for, pending_of}
 use Rattle.reactive_registry.specs.Standing.{since, KeptFor, StandsFor}
 
 -- What is pending for one that stands for changes is, at each of its addresses, what those past the number taken last come to.
@@ -25,6 +25,16 @@ EntriesStand = (changes : List Change) (front : ℕ) → AllByRecursion (λ chan
 abbrev pub TakesStand : Type 0
 TakesStand = (changes : List Change) (front : ℕ) (kept : Kept) → AllByRecursion (λ change. change.number ≤ front) changes
     → KeptFor changes front (emptied front kept)
+
+-- One that subscribes to an address goes on standing, where what it missed there are all changes past the number taken last.
+abbrev pub SubscribesStand : Type 0
+SubscribesStand = (changes missed : List Change) (front : ℕ) (kept : Kept) (address : Address) → KeptFor changes front kept
+    → deltas_at address missed ≡ deltas_at address (since kept.taken changes) → KeptFor changes front (subscribed address missed kept)
+
+-- One that unsubscribes goes on standing.
+abbrev pub UnsubscribesStand : Type 0
+UnsubscribesStand = (changes : List Change) (front : ℕ) (kept : Kept) (address : Address) → KeptFor changes front kept
+    → KeptFor changes front (unsubscribed address kept)
 
 -- One that stands for changes up to a front, and is told of all later ones up to another, stands for both.
 abbrev pub FollowsStand : Type 0

@@ -5,7 +5,6 @@ use Rattle.std.specs.List.{list_any}
 use Rattle.std.specs.Option.{option_map_or}
 use Rattle.std.specs.Ordering.{nat_cmp}
 use Rattle.std.specs.Map.{lookup}
-use Rattle.std.specs.Set.{remove_key}
 use Rattle.std.specs.BTreeMap.{is_at}
 use Rattle.std.specs.BTreeSet.{insert_key}
 use Rattle.rdt_types.specs.declared.address.Kind.TheVariants as kind
@@ -84,10 +83,13 @@ subscribed address missed kept =
     then kept
     else (record kept { addresses = insert_key address_cmp kept.addresses address; changes = kept.changes ++ changes_at address missed })
 
--- it unsubscribes: nothing of the address is to be taken any longer
+-- the addresses but for one
+abbrev pub addresses_but : Address → List Address → List Address
+addresses_but address addresses = filter (λ a. not (is_at (address_cmp address) a)) addresses
+
+-- it unsubscribes: the address is its no longer, and nothing there is to be taken
 abbrev pub unsubscribed : Address → Kept → Kept
-unsubscribed address kept =
-    record kept { addresses = remove_key (is_at (address_cmp address)) kept.addresses; changes = changes_elsewhere address kept.changes }
+unsubscribed address kept = record kept { addresses = addresses_but address kept.addresses; changes = changes_elsewhere address kept.changes }
 
 -- it is told of changes: those at its addresses are to be taken
 abbrev pub told : List Change → Kept → Kept

@@ -1,6 +1,6 @@
 //! The laws of registries: functions that do nothing, whose contracts are theorems over the definitions.
 
-ghost use Rattle.reactive_registry.specs.Laws.{PendingIsSince, EntriesStand, TakesStand, FollowsStand, OneStands, AllStand, ClientsFollow};
+ghost use Rattle.reactive_registry.specs.Laws.{PendingIsSince, EntriesStand, TakesStand, SubscribesStand, UnsubscribesStand, FollowsStand, OneStands, AllStand, ClientsFollow};
 
 /// The law that what is pending for one that stands for changes is what those since its last take come to.
 pub fn pending_is_since()
@@ -15,6 +15,16 @@ pub fn entries_stand()
 /// The law that one that has taken stands for all changes up to the front.
 pub fn takes_stand()
     ensures { TakesStand }
+{}
+
+/// The law that one that subscribes, and is given all that it missed, goes on standing.
+pub fn subscribes_stand()
+    ensures { SubscribesStand }
+{}
+
+/// The law that one that unsubscribes goes on standing.
+pub fn unsubscribes_stand()
+    ensures { UnsubscribesStand }
 {}
 
 /// The law that one that is told of all later changes goes on standing for all.

@@ -16,7 +16,7 @@ mod telling;
 
 pub use laws::{
     all_stand, clients_follow, entries_stand, follows_stand, one_stands, pending_is_since,
-    takes_stand,
+    subscribes_stand, takes_stand, unsubscribes_stand,
 };
 pub use registry::Registry;
 

@@ -157,6 +157,8 @@ impl Registry {
         ensures front { self.new.front ≡ self.old.front }
         ensures ok { OnOk result ((s : ℕ) → kept_of self.new s
             ≡ with_kept self.old subscriber (option_map (spec.subscribed address.now missed.now.changes) (kept_of self.old subscriber)) s) }
+        ensures told { OnOk result ((s : ℕ) (a : Address) → is_subscribed self.new s a
+            ≡ (if is_at (nat_cmp subscriber) s && is_at (address_cmp address.now) a then true else is_subscribed self.old s a)) }
         ensures err { OnErr result ((s : ℕ) → kept_of self.new s ≡ kept_of self.old s) }
     {
         match self.subscribers.get_mut(&subscriber) {
@@ -175,6 +177,8 @@ impl Registry {
     /// memory.
     pub fn unsubscribe(&mut self, subscriber: u32, address: &Address) -> bool
         ensures answer { result ≡ is_subscribed self.old subscriber address.now }
+        ensures told { (s : ℕ) (a : Address) → is_subscribed self.new s a
+            ≡ (if is_at (nat_cmp subscriber) s && is_at (address_cmp address.now) a then false else is_subscribed self.old s a) }
         ensures front { self.new.front ≡ self.old.front }
         ensures gone { (s : ℕ) → kept_of self.new s
             ≡ with_kept self.old subscriber (option_map (spec.unsubscribed address.now) (kept_of self.old subscriber)) s }

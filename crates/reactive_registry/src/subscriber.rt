@@ -1,7 +1,6 @@
 //! What is kept of one subscriber.
 
 ghost use Rattle.std.specs.Prelude.{◌≡◌, ◌++◌, ◌∷◌, [], not, nat_le, filter, take, length, true, false, if◌then◌else◌, IfOk, OnOk, OnErr};
-ghost use Rattle.std.specs.Set.{remove_key};
 ghost use Rattle.std.specs.BTreeMap.{is_at};
 ghost use Rattle.std.specs.BTreeSet.{insert_key, contains};
 ghost use Rattle.rdt_types.specs.declared.address.Address.{Address};

@@ -91,7 +91,9 @@ Solid = Then (One (passing is_solid)) (λ first. Then (Run is_any) (λ others. P
 
 solid_fits : Fits IsByte solid Solid at_end
 unfolding solid
-solid_fits = onwards IsByte (one_fits IsByte (passing is_solid) 97 97 refl (omega arith)) (λ first. seen IsByte (λ others. first ∷ others) (run_fits IsByte is_any))
+solid_fits =
+    onwards IsByte (one_fits IsByte (passing is_solid) 97 97 refl (omega arith))
+    (λ first. seen IsByte (λ others. first ∷ others) (run_fits IsByte is_any))
 
 solid_begins : (ts us a : Bytes) → Solid ts a us → ahead is_solid (next ts) ≡ true
 solid_begins ts us a r = passing_ahead IsByte is_solid ts r.middle r.value r.first
@@ -122,14 +124,17 @@ body_fits = either_fits IsByte (ahead is_blank) _ (pure []) Behind (Pure []) at_
     (λ ts us a r e. ap (λ xs. ahead is_blank (next xs)) r.here ∙ ap (ahead is_blank) (at_end_none (next us) e))
 
 -- what a blank or the line's end may follow, a body may follow
-body_after : (follows : Option ℕ → Bool) → ((h : Option ℕ) → ahead is_blank h ≡ true → follows h ≡ true) → follows None ≡ true → (ts us a : Bytes) → BodyRule ts a us → at_end (next us) ≡ true → follows (next ts) ≡ true
+body_after : (follows : Option ℕ → Bool) → ((h : Option ℕ) → ahead is_blank h ≡ true → follows h ≡ true) → follows None ≡ true
+    → (ts us a : Bytes) → BodyRule ts a us → at_end (next us) ≡ true → follows (next ts) ≡ true
 body_after follows blank none ts us a (inl r) e = blank (next ts) (gap_begins ts r.middle r.value r.first)
 body_after follows blank none ts us a (inr r) e = ap (λ xs. follows (next xs)) r.here ∙ at_end_follows follows none (next us) e
 
 -- names
 pub name_fits : Fits IsByte name NameRule no_word
 unfolding name
-name_fits = onwards IsByte (one_fits IsByte (passing is_letter) 97 97 refl (omega arith)) (λ first. seen IsByte (λ others. first ∷ others) (run_up_to_fits IsByte is_word NAME_REST))
+name_fits =
+    onwards IsByte (one_fits IsByte (passing is_letter) 97 97 refl (omega arith))
+    (λ first. seen IsByte (λ others. first ∷ others) (run_up_to_fits IsByte is_word NAME_REST))
 
 -- a letter is ahead
 pub name_begins : (ts us a : Bytes) → NameRule ts a us → ahead is_letter (next ts) ≡ true
@@ -142,7 +147,9 @@ alone_fits asked = ending refl (seen IsByte (λ _. asked) (run_fits IsByte is_bl
 
 -- a run of blanks, or the end, is where a name ends
 alone_after : (asked : Verb) (ts us : Bytes) (a : Verb) → Alone asked ts a us → at_end (next us) ≡ true → no_word (next ts) ≡ true
-alone_after asked ts us a r e = by_run ts r.middle r.value r.first.cut r.first.pass (ap (λ xs. no_word (next xs)) r.second.here ∙ at_end_follows no_word refl (next us) e)
+alone_after asked ts us a r e =
+    by_run ts r.middle r.value r.first.cut r.first.pass
+    (ap (λ xs. no_word (next xs)) r.second.here ∙ at_end_follows no_word refl (next us) e)
   where
     by_run : (ts ms front : Bytes) → ts ≡ front ++ ms → AllPass is_blank front → no_word (next ms) ≡ true → no_word (next ts) ≡ true
     by_run ts ms [] c pass h = ap (λ xs. no_word (next xs)) c ∙ h
@@ -160,25 +167,33 @@ natural_solid limit l ts us n r =
 -- ---- the forms
 
 -- behind blanks
-after_gap : {A : Type 0} {p : Reader ℕ A} {P : Rule ℕ A} → Fits IsByte p P at_end → ((ts us : Bytes) (a : A) → P ts a us → no_blank (next ts) ≡ true) → Fits IsByte (λ ts. and_then (gap ts) (λ _. p)) (Then Gap (λ _. P)) at_end
+after_gap : {A : Type 0} {p : Reader ℕ A} {P : Rule ℕ A} → Fits IsByte p P at_end
+    → ((ts us : Bytes) (a : A) → P ts a us → no_blank (next ts) ≡ true)
+    → Fits IsByte (λ ts. and_then (gap ts) (λ _. p)) (Then Gap (λ _. P)) at_end
 after_gap fp solid = followed IsByte gap_fits (λ _. fp) (λ u us vs b r e. solid us vs b r)
 
 tries_fits : Fits IsByte tries (Form word.Try) at_end
 unfolding tries
 tries_fits = after_gap
-    (followed IsByte (positive_fits MOST_ATTEMPTS (omega arith) (omega arith)) (λ n. seen IsByte (verb.Try n) body_fits) (λ n us vs b r e. body_after no_digit blank_no_digit refl us r.middle r.value r.first (ap (λ xs. at_end (next xs)) r.second.here ∙ e)))
+    (followed IsByte (positive_fits MOST_ATTEMPTS (omega arith) (omega arith)) (λ n. seen IsByte (verb.Try n) body_fits)
+    (λ n us vs b r e. body_after no_digit blank_no_digit refl us r.middle r.value r.first
+    (ap (λ xs. at_end (next xs)) r.second.here ∙ e)))
     (λ ts us a r. natural_solid MOST_ATTEMPTS (omega arith) ts r.middle r.value (record { spelled = r.first.spelled; within = r.first.within }))
 
 at_fits : Fits IsByte at (Form word.At) at_end
 unfolding at
 at_fits = after_gap
-    (followed IsByte (natural_fits LARGEST (omega arith) (omega arith)) (λ n. seen IsByte (verb.At n) body_fits) (λ n us vs b r e. body_after no_digit blank_no_digit refl us r.middle r.value r.first (ap (λ xs. at_end (next xs)) r.second.here ∙ e)))
+    (followed IsByte (natural_fits LARGEST (omega arith) (omega arith)) (λ n. seen IsByte (verb.At n) body_fits)
+    (λ n us vs b r e. body_after no_digit blank_no_digit refl us r.middle r.value r.first
+    (ap (λ xs. at_end (next xs)) r.second.here ∙ e)))
     (λ ts us a r. natural_solid LARGEST (omega arith) ts r.middle r.value r.first)
 
 watch_fits : Fits IsByte watch (Form word.Watch) at_end
 unfolding watch
 watch_fits = after_gap
-    (followed IsByte name_fits (λ n. seen IsByte (verb.Watch n) body_fits) (λ n us vs b r e. body_after no_word blank_no_word refl us r.middle r.value r.first (ap (λ xs. at_end (next xs)) r.second.here ∙ e)))
+    (followed IsByte name_fits (λ n. seen IsByte (verb.Watch n) body_fits)
+    (λ n us vs b r e. body_after no_word blank_no_word refl us r.middle r.value r.first
+    (ap (λ xs. at_end (next xs)) r.second.here ∙ e)))
     (λ ts us a r. letter_solid (next ts) (name_begins ts r.middle r.value r.first))
 
 unwatch_fits : Fits IsByte unwatch (Form word.Unwatch) at_end

@@ -92,9 +92,13 @@ obs_made : (o : Obs) (us : Bytes) → FitsObs o → ObsOf (kind_observed o) (pri
 obs_made obs.BoolIs us h = word_made (codes "whole") obs.BoolIs us
 obs_made obs.CounterIs us h = word_made (codes "whole") obs.CounterIs us
 obs_made obs.TextIs us h = word_made (codes "whole") obs.TextIs us
-obs_made (obs.SetHas x) us h = inl (behind (codes "has ") (Of obs.SetHas TextRule) (printed_text x ++ us) us (obs.SetHas x) (of obs.SetHas TextRule (printed_text x ++ us) us x (text_made x us)))
+obs_made (obs.SetHas x) us h =
+    inl (behind (codes "has ") (Of obs.SetHas TextRule) (printed_text x ++ us) us (obs.SetHas x)
+    (of obs.SetHas TextRule (printed_text x ++ us) us x (text_made x us)))
 obs_made obs.SetAll us h = inr (word_made (codes "all") obs.SetAll us)
-obs_made (obs.HashAt f) us h = inl (behind (codes "at ") (Of obs.HashAt TextRule) (printed_text f ++ us) us (obs.HashAt f) (of obs.HashAt TextRule (printed_text f ++ us) us f (text_made f us)))
+obs_made (obs.HashAt f) us h =
+    inl (behind (codes "at ") (Of obs.HashAt TextRule) (printed_text f ++ us) us (obs.HashAt f)
+    (of obs.HashAt TextRule (printed_text f ++ us) us f (text_made f us)))
 obs_made obs.HashAll us h = inr (word_made (codes "all") obs.HashAll us)
 obs_made (obs.ListAt i) us h = inl (of obs.ListAt (Numbered (codes "at ")) (codes "at " ++ (decimal i ++ us)) us i (numbered (codes "at ") i us h))
 obs_made obs.ListAll us h = inr (word_made (codes "all") obs.ListAll us)
@@ -128,7 +132,13 @@ witness_made w h =
             value = w.part;
             middle = e;
             first = behind (codes " clash ") (PartOf k) (printed_part w.part ++ e) e w.part (part_beside k w.part e h.kind.written h.part);
-            second = record { value = w.number; middle = []; first = last_number (codes " commit ") w.number h.number; second = record { is = refl; here = refl } };
+            second =
+                record {
+                  value = w.number;
+                  middle = [];
+                  first = last_number (codes " commit ") w.number h.number;
+                  second = record { is = refl; here = refl };
+                };
           };
         };
       };
@@ -146,9 +156,15 @@ why_made : (y : Why) → FitsWhy y → WhyRule (printed_why y) y []
 why_made why.Long h = reason_made reason.Long why.Long [] (here why.Long)
 why_made why.Client h = reason_made reason.Client why.Client [] (here why.Client)
 why_made why.Verb h = reason_made reason.Verb why.Verb [] (here why.Verb)
-why_made (why.Syntax c) h = reason_made reason.Syntax (why.Syntax c) (codes " " ++ decimal c) (of why.Syntax Column (codes " " ++ decimal c) [] c (last_column c h))
-why_made (why.BadType c) h = reason_made reason.BadType (why.BadType c) (codes " " ++ decimal c) (of why.BadType Column (codes " " ++ decimal c) [] c (last_column c h))
-why_made (why.Writes c) h = reason_made reason.Writes (why.Writes c) (codes " " ++ decimal c) (of why.Writes Column (codes " " ++ decimal c) [] c (last_column c h))
+why_made (why.Syntax c) h =
+    reason_made reason.Syntax (why.Syntax c) (codes " " ++ decimal c)
+    (of why.Syntax Column (codes " " ++ decimal c) [] c (last_column c h))
+why_made (why.BadType c) h =
+    reason_made reason.BadType (why.BadType c) (codes " " ++ decimal c)
+    (of why.BadType Column (codes " " ++ decimal c) [] c (last_column c h))
+why_made (why.Writes c) h =
+    reason_made reason.Writes (why.Writes c) (codes " " ++ decimal c)
+    (of why.Writes Column (codes " " ++ decimal c) [] c (last_column c h))
 why_made why.Name h = reason_made reason.Name why.Name [] (here why.Name)
 why_made why.Busy h = reason_made reason.Busy why.Busy [] (here why.Busy)
 why_made why.NoAttempt h = reason_made reason.NoAttempt why.NoAttempt [] (here why.NoAttempt)
@@ -164,41 +180,60 @@ shard_made shard us h = behind (codes " ") (NaturalRule LARGEST_SHARD) (decimal 
 pub reply_made : (a : Reply) → Fits a → ReplyRule (printed_reply a) a []
 reply_made (reply.Commit n o) h =
     first_made word.Commit (reply.Commit n o) (codes " " ++ (decimal n ++ (codes " " ++ printed_outcome o)))
-    (next (Numbered (codes " ")) _ _ (codes " " ++ printed_outcome o) [] n _ (numbered (codes " ") n (codes " " ++ printed_outcome o) h.0) (ending (reply.Commit n) o h.1))
-reply_made (reply.Abort w) h = first_made word.Abort (reply.Abort w) (codes " " ++ printed_witness w) (of reply.Abort WitnessRule (codes " " ++ printed_witness w) [] w (witness_made w h))
+    (next (Numbered (codes " ")) _ _ (codes " " ++ printed_outcome o) [] n _
+    (numbered (codes " ") n (codes " " ++ printed_outcome o) h.0) (ending (reply.Commit n) o h.1))
+reply_made (reply.Abort w) h =
+    first_made word.Abort (reply.Abort w) (codes " " ++ printed_witness w)
+    (of reply.Abort WitnessRule (codes " " ++ printed_witness w) [] w (witness_made w h))
 reply_made (reply.Read a b) h =
     let us = codes " base " ++ decimal b in
     first_made word.Read (reply.Read a b) (codes " " ++ (printed_address a ++ us))
-    (next (Behind (codes " ") AddressRule) _ _ us [] a _ (behind (codes " ") AddressRule (printed_address a ++ us) us a (address_made a us)) (of (reply.Read a) (Numbered (codes " base ")) us [] b (last_number (codes " base ") b h)))
+    (next (Behind (codes " ") AddressRule) _ _ us [] a _
+    (behind (codes " ") AddressRule (printed_address a ++ us) us a (address_made a us))
+    (of (reply.Read a) (Numbered (codes " base ")) us [] b (last_number (codes " base ") b h)))
 reply_made (reply.Prepared k f) h =
     let us = codes " front " ++ decimal f in
     first_made word.Prepare (reply.Prepared k f) (codes " " ++ (decimal k ++ us))
-    (next (Behind (codes " ") (NaturalRule LARGEST_SHARD)) _ _ us [] k _ (shard_made k us h.0) (of (reply.Prepared k) (Numbered (codes " front ")) us [] f (last_number (codes " front ") f h.1)))
+    (next (Behind (codes " ") (NaturalRule LARGEST_SHARD)) _ _ us [] k _ (shard_made k us h.0)
+    (of (reply.Prepared k) (Numbered (codes " front ")) us [] f (last_number (codes " front ") f h.1)))
 reply_made (reply.Followed k f) h =
     let us = codes " front " ++ decimal f in
     first_made word.Follow (reply.Followed k f) (codes " " ++ (decimal k ++ us))
-    (next (Behind (codes " ") (NaturalRule LARGEST_SHARD)) _ _ us [] k _ (shard_made k us h.0) (of (reply.Followed k) (Numbered (codes " front ")) us [] f (last_number (codes " front ") f h.1)))
+    (next (Behind (codes " ") (NaturalRule LARGEST_SHARD)) _ _ us [] k _ (shard_made k us h.0)
+    (of (reply.Followed k) (Numbered (codes " front ")) us [] f (last_number (codes " front ") f h.1)))
 reply_made (reply.At n o) h =
     first_made word.At (reply.At n o) (codes " " ++ (decimal n ++ (codes " " ++ printed_outcome o)))
-    (next (Numbered (codes " ")) _ _ (codes " " ++ printed_outcome o) [] n _ (numbered (codes " ") n (codes " " ++ printed_outcome o) h.0) (ending (reply.At n) o h.1))
+    (next (Numbered (codes " ")) _ _ (codes " " ++ printed_outcome o) [] n _
+    (numbered (codes " ") n (codes " " ++ printed_outcome o) h.0) (ending (reply.At n) o h.1))
 reply_made (reply.Ran name n o) h =
     let us = codes " " ++ printed_outcome o in
     let vs = codes " " ++ (decimal n ++ us) in
     first_made word.Run (reply.Ran name n o) (codes " " ++ (name ++ vs))
     (next (Behind (codes " ") NameRule) _ _ vs [] name _ (behind (codes " ") NameRule (name ++ vs) vs name (name_made name vs h.0))
     (next (Numbered (codes " ")) _ _ us [] n _ (numbered (codes " ") n us h.1) (ending (reply.Ran name n) o h.2)))
-reply_made (reply.Current n) h = first_made word.Current (reply.Current n) (codes " " ++ decimal n) (of reply.Current (Numbered (codes " ")) (codes " " ++ decimal n) [] n (last_number (codes " ") n h))
+reply_made (reply.Current n) h =
+    first_made word.Current (reply.Current n) (codes " " ++ decimal n)
+    (of reply.Current (Numbered (codes " ")) (codes " " ++ decimal n) [] n (last_number (codes " ") n h))
 reply_made reply.Idle h = first_made word.Idle reply.Idle [] (here reply.Idle)
-reply_made (reply.Seen n) h = first_made word.Seen (reply.Seen n) (codes " " ++ decimal n) (of reply.Seen (Numbered (codes " ")) (codes " " ++ decimal n) [] n (last_number (codes " ") n h))
+reply_made (reply.Seen n) h =
+    first_made word.Seen (reply.Seen n) (codes " " ++ decimal n)
+    (of reply.Seen (Numbered (codes " ")) (codes " " ++ decimal n) [] n (last_number (codes " ") n h))
 reply_made (reply.Late n m) h =
     let us = codes " " ++ decimal m in
     first_made word.Late (reply.Late n m) (codes " " ++ (decimal n ++ us))
-    (next (Numbered (codes " ")) _ _ us [] n _ (numbered (codes " ") n us h.0) (of (reply.Late n) (Numbered (codes " ")) us [] m (last_number (codes " ") m h.1)))
+    (next (Numbered (codes " ")) _ _ us [] n _ (numbered (codes " ") n us h.0)
+    (of (reply.Late n) (Numbered (codes " ")) us [] m (last_number (codes " ") m h.1)))
 reply_made (reply.Ahead n m) h =
     let us = codes " " ++ decimal m in
     first_made word.Ahead (reply.Ahead n m) (codes " " ++ (decimal n ++ us))
-    (next (Numbered (codes " ")) _ _ us [] n _ (numbered (codes " ") n us h.0) (of (reply.Ahead n) (Numbered (codes " ")) us [] m (last_number (codes " ") m h.1)))
-reply_made (reply.Full l) h = first_made word.Full (reply.Full l) (codes " " ++ decimal l) (of reply.Full Column (codes " " ++ decimal l) [] l (last_column l h))
+    (next (Numbered (codes " ")) _ _ us [] n _ (numbered (codes " ") n us h.0)
+    (of (reply.Ahead n) (Numbered (codes " ")) us [] m (last_number (codes " ") m h.1)))
+reply_made (reply.Full l) h =
+    first_made word.Full (reply.Full l) (codes " " ++ decimal l)
+    (of reply.Full Column (codes " " ++ decimal l) [] l (last_column l h))
 reply_made reply.Disk h = first_made word.Disk reply.Disk [] (here reply.Disk)
 reply_made reply.Dropped h = first_made word.Dropped reply.Dropped [] (here reply.Dropped)
-reply_made (reply.Refused y) h = first_made word.Refused (reply.Refused y) (codes " " ++ printed_why y) (of reply.Refused (Behind (codes " ") WhyRule) (codes " " ++ printed_why y) [] y (behind (codes " ") WhyRule (printed_why y) [] y (why_made y h)))
+reply_made (reply.Refused y) h =
+    first_made word.Refused (reply.Refused y) (codes " " ++ printed_why y)
+    (of reply.Refused (Behind (codes " ") WhyRule) (codes " " ++ printed_why y) [] y
+    (behind (codes " ") WhyRule (printed_why y) [] y (why_made y h)))

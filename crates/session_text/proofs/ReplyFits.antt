@@ -33,7 +33,10 @@ use Rattle.session_text.specs.declared.why_word.TheConstants as whys
 use Rattle.session_text.specs.Printing.{word_of, why_of}
 use Rattle.session_text.specs.Lines.{NameRule}
 use Rattle.session_text.specs.Replies.{Numbered, ObsOf, Column, WhyForm, WhyRule, WitnessRule, Form, ReplyRule}
-use Rattle.session_text.specs.code.Replies.{numbered, whole_of, whole, all, set_obs, hash_obs, list_obs, obs_of, column, why_form, why_read, spaced_address, ending, spaced_name, witness, shard, commit, read, prepared, followed, at, ran, late, ahead_of, refused, form, reply_read}
+use Rattle.session_text.specs.code.Replies.{numbered, whole_of, whole, all, set_obs, hash_obs, list_obs, obs_of, column}
+use Rattle.session_text.specs.code.Replies.{why_form, why_read, spaced_address, ending, spaced_name, witness, shard}
+use Rattle.session_text.specs.code.Replies.{commit, read, prepared, followed, at, ran, late, ahead_of, refused, form}
+use Rattle.session_text.specs.code.Replies.{reply_read}
 use Rattle.session_text.proofs.LineFits.{name_fits, no_word}
 
 -- ---- parts
@@ -53,7 +56,9 @@ module _ {A : Type 0} {p : Reader ℕ A} {P : Rule ℕ A} where
 
   -- what begins with a space may follow a number or a name
   module _ {B : Type 0} {q : A → Reader ℕ B} {Q : A → Rule ℕ B} {between follows : Option ℕ → Bool} where
-    spaced : between (Some 32) ≡ true → Fits IsByte p P between → ((a : A) → Fits IsByte (q a) (Q a) follows) → ((a : A) (ts us : Bytes) (b : B) → Q a ts b us → next ts ≡ Some 32) → Fits IsByte (λ ts. and_then (p ts) q) (Then P Q) follows
+    spaced : between (Some 32) ≡ true → Fits IsByte p P between → ((a : A) → Fits IsByte (q a) (Q a) follows)
+        → ((a : A) (ts us : Bytes) (b : B) → Q a ts b us → next ts ≡ Some 32)
+        → Fits IsByte (λ ts. and_then (p ts) q) (Then P Q) follows
     spaced e fp fq space = combined.followed IsByte fp fq (λ a us vs b r h. ap between (space a us vs b r) ∙ e)
 
 numbered_fits : (w : Bytes) → are_bytes w ≡ true → Fits IsByte (numbered w) (Numbered w) no_digit
@@ -125,8 +130,20 @@ hash_obs_to ts us a r = by_form r.middle r.first r.second
 
 hash_obs_from : (ts us : Bytes) (a : Obs) → ObsOf kinds.Hash ts a us → Behind (codes "a") (Either hash_place obs.HashAll) ts a us
 unfolding hash_place
-hash_obs_from ts us a (inl s) = record { value = tt; middle = codes "t " ++ s.middle; first = s.first; second = inl (record { value = tt; middle = s.middle; first = refl; second = s.second }) }
-hash_obs_from ts us a (inr s) = record { value = tt; middle = codes "ll" ++ s.middle; first = s.first; second = inr (record { value = tt; middle = s.middle; first = refl; second = s.second }) }
+hash_obs_from ts us a (inl s) =
+    record {
+      value = tt;
+      middle = codes "t " ++ s.middle;
+      first = s.first;
+      second = inl (record { value = tt; middle = s.middle; first = refl; second = s.second });
+    }
+hash_obs_from ts us a (inr s) =
+    record {
+      value = tt;
+      middle = codes "ll" ++ s.middle;
+      first = s.first;
+      second = inr (record { value = tt; middle = s.middle; first = refl; second = s.second });
+    }
 
 hash_obs_fits : Fits IsByte hash_obs (ObsOf kinds.Hash) any
 hash_obs_fits = fits_as IsByte hash_obs_to hash_obs_from hash_obs_factored
@@ -143,13 +160,37 @@ unfolding list_place
 list_obs_to ts us a r = by_form r.middle r.first r.second
   where
     by_form : (ms : Bytes) → ts ≡ codes "a" ++ ms → Either (Of obs.ListAt (Numbered (codes "t "))) obs.ListAll ms a us → ObsOf kinds.List ts a us
-    by_form ms e (inl s) = let n = s.first in inl (record { value = s.value; middle = s.middle; first = record { value = tt; middle = n.middle; first = e ∙ ap (λ xs. 97 ∷ xs) n.first; second = n.second }; second = s.second })
+    by_form ms e (inl s) =
+        let n = s.first in inl (record {
+          value = s.value;
+          middle = s.middle;
+          first = record { value = tt; middle = n.middle; first = e ∙ ap (λ xs. 97 ∷ xs) n.first; second = n.second };
+          second =
+              s.second;
+        })
     by_form ms e (inr s) = inr (record { value = tt; middle = s.middle; first = e ∙ ap (λ xs. 97 ∷ xs) s.first; second = s.second })
 
 list_obs_from : (ts us : Bytes) (a : Obs) → ObsOf kinds.List ts a us → Behind (codes "a") (Either list_place obs.ListAll) ts a us
 unfolding list_place
-list_obs_from ts us a (inl s) = let n = s.first in record { value = tt; middle = codes "t " ++ n.middle; first = n.first; second = inl (record { value = s.value; middle = s.middle; first = record { value = tt; middle = n.middle; first = refl; second = n.second }; second = s.second }) }
-list_obs_from ts us a (inr s) = record { value = tt; middle = codes "ll" ++ s.middle; first = s.first; second = inr (record { value = tt; middle = s.middle; first = refl; second = s.second }) }
+list_obs_from ts us a (inl s) =
+    let n = s.first in record {
+      value = tt;
+      middle = codes "t " ++ n.middle;
+      first = n.first;
+      second = inl (record {
+        value = s.value;
+        middle = s.middle;
+        first = record { value = tt; middle = n.middle; first = refl; second = n.second };
+        second = s.second;
+      });
+    }
+list_obs_from ts us a (inr s) =
+    record {
+      value = tt;
+      middle = codes "ll" ++ s.middle;
+      first = s.first;
+      second = inr (record { value = tt; middle = s.middle; first = refl; second = s.second });
+    }
 
 list_obs_fits : Fits IsByte list_obs (ObsOf kinds.List) no_digit
 list_obs_fits = fits_as IsByte list_obs_to list_obs_from list_obs_factored
@@ -242,15 +283,21 @@ at_fits = spaced refl (numbered_fits (codes " ") refl) (λ n. seen IsByte (reply
 
 ran_fits : Fits IsByte ran (Form first.Run) no_more
 unfolding ran
-ran_fits = spaced refl spaced_name_fits (λ w. spaced refl (numbered_fits (codes " ") refl) (λ n. seen IsByte (reply.Ran w n) ending_fits) (λ a ts us b r. ap next r.first.first)) (λ a ts us b r. ap next r.first.first)
+ran_fits =
+    spaced refl spaced_name_fits (λ w. spaced refl (numbered_fits (codes " ") refl) (λ n. seen IsByte (reply.Ran w n) ending_fits)
+    (λ a ts us b r. ap next r.first.first)) (λ a ts us b r. ap next r.first.first)
 
 late_fits : Fits IsByte late (Form first.Late) no_digit
 unfolding late
-late_fits = spaced refl (numbered_fits (codes " ") refl) (λ n. seen IsByte (reply.Late n) (numbered_fits (codes " ") refl)) (λ a ts us b r. ap next r.first.first)
+late_fits =
+    spaced refl (numbered_fits (codes " ") refl) (λ n. seen IsByte (reply.Late n) (numbered_fits (codes " ") refl))
+    (λ a ts us b r. ap next r.first.first)
 
 ahead_fits : Fits IsByte ahead_of (Form first.Ahead) no_digit
 unfolding ahead_of
-ahead_fits = spaced refl (numbered_fits (codes " ") refl) (λ n. seen IsByte (reply.Ahead n) (numbered_fits (codes " ") refl)) (λ a ts us b r. ap next r.first.first)
+ahead_fits =
+    spaced refl (numbered_fits (codes " ") refl) (λ n. seen IsByte (reply.Ahead n) (numbered_fits (codes " ") refl))
+    (λ a ts us b r. ap next r.first.first)
 
 refused_fits : Fits IsByte refused (Form first.Refused) no_digit
 unfolding refused

@@ -13,7 +13,8 @@ use Rattle.session_text.specs.code.Lines.{line}
 use Rattle.session_text.specs.Follows.{at_end}
 use Rattle.session_text.proofs.LineFits.{line_fits}
 
-module _ (bytes cursor : Bytes) (result : Result Verb VerbError) (same : cursor ≡ bytes) (told : result ≢ Err NoMemory → result ≡ verb_answer (whole_of (line cursor))) where
+module _ (bytes cursor : Bytes) (result : Result Verb VerbError) (same : cursor ≡ bytes)
+    (told : result ≢ Err NoMemory → result ≡ verb_answer (whole_of (line cursor))) where
   known : result ≢ Err NoMemory → result ≡ verb_answer (whole line bytes)
   unfolding whole
   known n = told n ∙ ap (λ ts. verb_answer (whole_of (line ts))) same
@@ -24,7 +25,9 @@ module _ (bytes cursor : Bytes) (result : Result Verb VerbError) (same : cursor 
 
   -- what is answered is asked for
   verb_read : (r : Result Verb VerbError) → result ≡ r → IfOk r (λ verb. IsVerb bytes verb)
-  verb_read (Ok verb) e = whole_sound IsByte line VerbRule at_end line_fits refl bytes verb (ok_by (whole line bytes) verb (sym e ∙ known (λ h. let k = sym e ∙ h in cc)))
+  verb_read (Ok verb) e =
+      whole_sound IsByte line VerbRule at_end line_fits refl bytes verb
+      (ok_by (whole line bytes) verb (sym e ∙ known (λ h. let k = sym e ∙ h in cc)))
   verb_read (Err error) e = tt
 
   pub read_is : IfOk result (λ verb. IsVerb bytes verb)

@@ -86,20 +86,24 @@ printed_witness w =
     printed_address w.address ++ (codes " " ++ (printed_obs w.obs ++ (codes " base " ++ (decimal w.base
     ++ (codes " clash " ++ (printed_part w.part ++ (codes " commit " ++ decimal w.number)))))))
 
+-- what stands behind a reply's first word and a space
+abbrev pub worded : ReplyWord → Bytes → Bytes
+worded w rest = word_of w ++ (codes " " ++ rest)
+
 abbrev pub printed_reply : Reply → Bytes
-printed_reply (reply.Commit n outcome) = codes "commit " ++ (decimal n ++ (codes " " ++ printed_outcome outcome))
-printed_reply (reply.Abort witness) = codes "abort " ++ printed_witness witness
-printed_reply (reply.Read address base) = codes "read " ++ (printed_address address ++ (codes " base " ++ decimal base))
-printed_reply (reply.Prepared shard front) = codes "prepare " ++ (decimal shard ++ (codes " front " ++ decimal front))
-printed_reply (reply.Followed shard front) = codes "follow " ++ (decimal shard ++ (codes " front " ++ decimal front))
-printed_reply (reply.At n outcome) = codes "at " ++ (decimal n ++ (codes " " ++ printed_outcome outcome))
-printed_reply (reply.Ran name n outcome) = codes "run " ++ (name ++ (codes " " ++ (decimal n ++ (codes " " ++ printed_outcome outcome))))
-printed_reply (reply.Current n) = codes "current " ++ decimal n
-printed_reply reply.Idle = codes "idle"
-printed_reply (reply.Seen n) = codes "seen " ++ decimal n
-printed_reply (reply.Late n horizon) = codes "late " ++ (decimal n ++ (codes " " ++ decimal horizon))
-printed_reply (reply.Ahead n seen) = codes "ahead " ++ (decimal n ++ (codes " " ++ decimal seen))
-printed_reply (reply.Full limit) = codes "full " ++ decimal limit
-printed_reply reply.Disk = codes "disk"
-printed_reply reply.Dropped = codes "dropped"
-printed_reply (reply.Refused reason) = codes "refused " ++ printed_why reason
+printed_reply (reply.Commit n outcome) = worded word.Commit (decimal n ++ (codes " " ++ printed_outcome outcome))
+printed_reply (reply.Abort witness) = worded word.Abort (printed_witness witness)
+printed_reply (reply.Read address base) = worded word.Read (printed_address address ++ (codes " base " ++ decimal base))
+printed_reply (reply.Prepared shard front) = worded word.Prepare (decimal shard ++ (codes " front " ++ decimal front))
+printed_reply (reply.Followed shard front) = worded word.Follow (decimal shard ++ (codes " front " ++ decimal front))
+printed_reply (reply.At n outcome) = worded word.At (decimal n ++ (codes " " ++ printed_outcome outcome))
+printed_reply (reply.Ran name n outcome) = worded word.Run (name ++ (codes " " ++ (decimal n ++ (codes " " ++ printed_outcome outcome))))
+printed_reply (reply.Current n) = worded word.Current (decimal n)
+printed_reply reply.Idle = word_of word.Idle
+printed_reply (reply.Seen n) = worded word.Seen (decimal n)
+printed_reply (reply.Late n horizon) = worded word.Late (decimal n ++ (codes " " ++ decimal horizon))
+printed_reply (reply.Ahead n seen) = worded word.Ahead (decimal n ++ (codes " " ++ decimal seen))
+printed_reply (reply.Full limit) = worded word.Full (decimal limit)
+printed_reply reply.Disk = word_of word.Disk
+printed_reply reply.Dropped = word_of word.Dropped
+printed_reply (reply.Refused reason) = worded word.Refused (printed_why reason)

@@ -7,6 +7,7 @@ ghost use Rattle.rdt_types.specs.Printed.{printed_text, printed_address};
 ghost use Rattle.session_text.specs.Printing as spec;
 
 use crate::reply::{Reply, Why};
+use crate::reply_word::ReplyWord;
 use crate::why_word::WhyWord;
 use abort_witness::Witness;
 use conflict_table::Obs;
@@ -87,40 +88,67 @@ fn push_witness(alloc: Global, out: &mut Text, witness: &Witness) -> Result<(), 
     push_counted(alloc, out, b" commit ", witness.number)
 }
 
-/// Adds a word and a number, and an outcome behind it.
+/// Adds a number behind a space, and an outcome behind another.
 fn push_ended(
     alloc: Global,
     out: &mut Text,
-    word: &[u8],
     number: u64,
     outcome: &Outcome,
 ) -> Result<(), AllocError>
-    ensures { OnOk result (out.new ≡ out.old ++ (word.now ++ (decimal number ++ (codes " " ++ printed_outcome outcome.now)))) }
+    ensures { OnOk result (out.new ≡ out.old ++ (codes " " ++ (decimal number ++ (codes " " ++ printed_outcome outcome.now)))) }
 {
-    push_counted(alloc, out, word, number)?;
+    push_counted(alloc, out, b" ", number)?;
     out.extend_from_slice(b" ")?;
     push_outcome(alloc, out, outcome)
 }
 
-/// Adds two words, each with a number behind it.
+/// Adds a first word, and a number behind it.
+fn push_numbered(
+    alloc: Global,
+    out: &mut Text,
+    word: ReplyWord,
+    number: u64,
+) -> Result<(), AllocError>
+    ensures { OnOk result (out.new ≡ out.old ++ spec.worded word (decimal number)) }
+{
+    out.extend_from_slice(word.bytes())?;
+    push_counted(alloc, out, b" ", number)
+}
+
+/// Adds a first word and a number, and what stands between them and another number.
 fn push_both(
     alloc: Global,
     out: &mut Text,
-    first: &[u8],
+    word: ReplyWord,
     number: u64,
-    second: &[u8],
+    between: &[u8],
     other: u64,
 ) -> Result<(), AllocError>
-    ensures { OnOk result (out.new ≡ out.old ++ (first.now ++ (decimal number ++ (second.now ++ decimal other)))) }
+    ensures { OnOk result (out.new ≡ out.old ++ spec.worded word (decimal number ++ (between.now ++ decimal other))) }
 {
-    push_counted(alloc, out, first, number)?;
-    push_counted(alloc, out, second, other)
+    push_numbered(alloc, out, word, number)?;
+    push_counted(alloc, out, between, other)
+}
+
+/// Adds a first word and a number, and an outcome behind them.
+fn push_result(
+    alloc: Global,
+    out: &mut Text,
+    word: ReplyWord,
+    number: u64,
+    outcome: &Outcome,
+) -> Result<(), AllocError>
+    ensures { OnOk result (out.new ≡ out.old ++ spec.worded word (decimal number ++ (codes " " ++ printed_outcome outcome.now))) }
+{
+    out.extend_from_slice(word.bytes())?;
+    push_ended(alloc, out, number, outcome)
 }
 
 fn push_read(alloc: Global, out: &mut Text, address: &Address, base: u64) -> Result<(), AllocError>
-    ensures { OnOk result (out.new ≡ out.old ++ (codes "read " ++ (printed_address address.now ++ (codes " base " ++ decimal base)))) }
+    ensures { OnOk result (out.new ≡ out.old ++ spec.worded ReplyWord.Read (printed_address address.now ++ (codes " base " ++ decimal base))) }
 {
-    out.extend_from_slice(b"read ")?;
+    out.extend_from_slice(ReplyWord::Read.bytes())?;
+    out.extend_from_slice(b" ")?;
     push_address(out, address)?;
     push_counted(alloc, out, b" base ", base)
 }
@@ -132,57 +160,57 @@ fn push_ran(
     number: u64,
     outcome: &Outcome,
 ) -> Result<(), AllocError>
-    ensures { OnOk result (out.new ≡ out.old ++ (codes "run " ++ (name.now ++ (codes " " ++ (decimal number ++ (codes " " ++ printed_outcome outcome.now)))))) }
+    ensures { OnOk result (out.new ≡ out.old
+        ++ spec.worded ReplyWord.Run (name.now ++ (codes " " ++ (decimal number ++ (codes " " ++ printed_outcome outcome.now))))) }
 {
-    out.extend_from_slice(b"run ")?;
+    out.extend_from_slice(ReplyWord::Run.bytes())?;
+    out.extend_from_slice(b" ")?;
     out.extend_from_slice(name.as_slice())?;
-    push_ended(alloc, out, b" ", number, outcome)
+    push_ended(alloc, out, number, outcome)
+}
+
+fn push_abort(alloc: Global, out: &mut Text, witness: &Witness) -> Result<(), AllocError>
+    ensures { OnOk result (out.new ≡ out.old ++ spec.worded ReplyWord.Abort (spec.printed_witness witness.now)) }
+{
+    out.extend_from_slice(ReplyWord::Abort.bytes())?;
+    out.extend_from_slice(b" ")?;
+    push_witness(alloc, out, witness)
+}
+
+fn push_refused(alloc: Global, out: &mut Text, why: Why) -> Result<(), AllocError>
+    ensures { OnOk result (out.new ≡ out.old ++ spec.worded ReplyWord.Refused (spec.printed_why why)) }
+{
+    out.extend_from_slice(ReplyWord::Refused.bytes())?;
+    out.extend_from_slice(b" ")?;
+    push_why(alloc, out, why)
 }
 
 fn push_reply(alloc: Global, out: &mut Text, reply: &Reply) -> Result<(), AllocError>
     ensures { OnOk result (out.new ≡ out.old ++ spec.printed_reply reply.now) }
 {
     match reply {
-        Reply::Commit(n, outcome) => push_ended(alloc, out, b"commit ", *n, outcome),
-        Reply::Abort(witness) => {
-            out.extend_from_slice(b"abort ")?;
-            push_witness(alloc, out, witness)
-        }
+        Reply::Commit(n, outcome) => push_result(alloc, out, ReplyWord::Commit, *n, outcome),
+        Reply::Abort(witness) => push_abort(alloc, out, witness),
         Reply::Read(address, base) => push_read(alloc, out, address, *base),
         Reply::Prepared(shard, front) => {
-            push_both(
-                alloc,
-                out,
-                b"prepare ",
-                u64::from(*shard),
-                b" front ",
-                *front,
-            )
+            let shard = u64::from(*shard);
+            push_both(alloc, out, ReplyWord::Prepare, shard, b" front ", *front)
         }
         Reply::Followed(shard, front) => {
-            push_both(
-                alloc,
-                out,
-                b"follow ",
-                u64::from(*shard),
-                b" front ",
-                *front,
-            )
+            let shard = u64::from(*shard);
+            push_both(alloc, out, ReplyWord::Follow, shard, b" front ", *front)
         }
-        Reply::At(n, outcome) => push_ended(alloc, out, b"at ", *n, outcome),
+        Reply::At(n, outcome) => push_result(alloc, out, ReplyWord::At, *n, outcome),
         Reply::Ran(name, n, outcome) => push_ran(alloc, out, name, *n, outcome),
-        Reply::Current(n) => push_counted(alloc, out, b"current ", *n),
-        Reply::Idle => out.extend_from_slice(b"idle"),
-        Reply::Seen(n) => push_counted(alloc, out, b"seen ", *n),
-        Reply::Late(n, horizon) => push_both(alloc, out, b"late ", *n, b" ", *horizon),
-        Reply::Ahead(n, seen) => push_both(alloc, out, b"ahead ", *n, b" ", *seen),
-        Reply::Full(limit) => push_counted(alloc, out, b"full ", u64::from(*limit)),
-        Reply::Disk => out.extend_from_slice(b"disk"),
-        Reply::Dropped => out.extend_from_slice(b"dropped"),
-        Reply::Refused(why) => {
-            out.extend_from_slice(b"refused ")?;
-            push_why(alloc, out, *why)
-        }
+        Reply::Current(n) => push_numbered(alloc, out, ReplyWord::Current, *n),
+        Reply::Idle => out.extend_from_slice(ReplyWord::Idle.bytes()),
+        Reply::Seen(n) => push_numbered(alloc, out, ReplyWord::Seen, *n),
+        Reply::Late(n, horizon) => push_both(alloc, out, ReplyWord::Late, *n, b" ", *horizon),
+        Reply::Ahead(n, seen) => push_both(alloc, out, ReplyWord::Ahead, *n, b" ", *seen),
+        Reply::Full(limit) => push_numbered(alloc, out, ReplyWord::Full, u64::from(*limit)),
+        Reply::Disk => out.extend_from_slice(ReplyWord::Disk.bytes()),
+        Reply::Dropped => out.extend_from_slice(ReplyWord::Dropped.bytes()),
+        Reply::Refused(why) => push_refused(alloc, out, *why),
     }
 }
 

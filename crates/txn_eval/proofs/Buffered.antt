@@ -60,7 +60,9 @@ module _ (s : PartialState) where
 
     told_by : (b : Bool) (v : Option Value) → is_decided r ops ≡ b
         → cond b (Answered (answer r (left_by (composed_of ops) (default_of a.kind))) None) (with_value r (composed_of ops) v) ≡ told b v
-    told_by true v is = ap (λ x. Answered (answer r x) None) (reads_go_by_compositions r a.kind ops (default_of a.kind) (AllOf-at_address a p.memory.operations all)).2
+    told_by true v is =
+        ap (λ x. Answered (answer r x) None)
+        (reads_go_by_compositions r a.kind ops (default_of a.kind) (AllOf-at_address a p.memory.operations all)).2
     told_by false None is = refl
     told_by false (Some v) is =
         let law = reads_go_by_compositions r a.kind ops v (AllOf-at_address a p.memory.operations all) in
@@ -77,14 +79,17 @@ module _ (s : PartialState) where
         ∙ told_by b v is
 
     told_along : (b : Bool) (v : Option Value)
-        → Along (answered a (cond b (Some (answer r (replay ops (default_of a.kind)), p.memory)) (own_value r a v p.memory)) p) (answered a (answered_by a over (told b v)) (onto over p))
+        → Along (answered a (cond b (Some (answer r (replay ops (default_of a.kind)), p.memory)) (own_value r a v p.memory)) p)
+        (answered a (answered_by a over (told b v)) (onto over p))
     told_along true v = (over, (refl, all), refl)
     told_along false None = (over, (refl, all), refl)
     told_along false (Some v) =
         (record { buffer = over.buffer; observations = with_seen p.memory.observations (record { address = a; obs = observed r ops v }) }, (refl, all), refl)
 
     read_along : Along (read_at (own s) r a p) (read_at (kept s) r a (onto over p))
-    read_along = subst (λ t. Along (read_at (own s) r a p) (answered a (answered_by a over t) (onto over p))) (sym (asked_is (is_decided r ops) (s a) refl refl)) (told_along (is_decided r ops) (s a))
+    read_along =
+        subst (λ t. Along (read_at (own s) r a p) (answered a (answered_by a over t) (onto over p)))
+        (sym (asked_is (is_decided r ops) (s a) refl refl)) (told_along (is_decided r ops) (s a))
 
   reads : (r : ReadOp) (a : Address) → Suits a.kind r → Both (read_at (own s) r a) (read_at (kept s) r a)
   reads r a suits = record {
@@ -101,7 +106,8 @@ module _ (s : PartialState) where
       kept_write a o t,
       (
         ap (kept_write a o) with_it.0
-            ∙ ap (λ ds. record { buffer = ds; observations = p.memory.observations }) (sym (fold-append (λ deltas w. with_delta deltas w.0 (delta_of w.1)) [] p.memory.operations ((a, o) ∷ []))),
+            ∙ ap (λ ds. record { buffer = ds; observations = p.memory.observations })
+            (sym (fold-append (λ deltas w. with_delta deltas w.0 (delta_of w.1)) [] p.memory.operations ((a, o) ∷ []))),
         all_push p.memory.operations (a, o) with_it.1 k,
       ),
       refl,
@@ -110,13 +116,16 @@ module _ (s : PartialState) where
     lacking = λ p. tt;
   }
 
-  ended_alike : (u : Step Own Names) (v : Step Kept Names) → (Fine GoesWith (λ _. Unit {0}) (λ _. Unit {0}) (λ _. Unit {0}) u → Along u v) → ended u ≡ kept_ended v
+  ended_alike : (u : Step Own Names) (v : Step Kept Names)
+      → (Fine GoesWith (λ _. Unit {0}) (λ _. Unit {0}) (λ _. Unit {0}) u → Along u v) → ended u ≡ kept_ended v
   ended_alike (gives x p) v sim = let z = sim tt in ap (λ b. kept_ended (gives x (onto b p))) (sym z.1.0) ∙ ap kept_ended (sym z.2)
   ended_alike (stopped (stop.Need a) p) v sim = let z = sim (tt, tt) in ap kept_ended (sym z.2)
-  ended_alike (stopped (stop.Fail e) p) v sim = let z = sim (tt, tt) in ap (λ b. kept_ended (stopped (stop.Fail e) (onto b p))) (sym z.1.0) ∙ ap kept_ended (sym z.2)
+  ended_alike (stopped (stop.Fail e) p) v sim =
+      let z = sim (tt, tt) in ap (λ b. kept_ended (stopped (stop.Fail e) (onto b p))) (sym z.1.0) ∙ ap kept_ended (sym z.2)
   ended_alike (stopped stop.Spent p) v sim = let z = sim (tt, tt) in ap (λ b. kept_ended (stopped stop.Spent (onto b p))) (sym z.1.0) ∙ ap kept_ended (sym z.2)
   ended_alike (stopped stop.Big p) v sim = let z = sim (tt, tt) in ap (λ b. kept_ended (stopped stop.Big (onto b p))) (sym z.1.0) ∙ ap kept_ended (sym z.2)
-  ended_alike (stopped stop.NoMemory p) v sim = let z = sim (tt, tt) in ap (λ b. kept_ended (stopped stop.NoMemory (onto b p))) (sym z.1.0) ∙ ap kept_ended (sym z.2)
+  ended_alike (stopped stop.NoMemory p) v sim =
+      let z = sim (tt, tt) in ap (λ b. kept_ended (stopped stop.NoMemory (onto b p))) (sym z.1.0) ∙ ap kept_ended (sym z.2)
 
 -- the run of the rules over the own operations is the run over the deltas
 pub exec_is_over : (b : Body) (s : PartialState) → exec b s ≡ exec_over b s

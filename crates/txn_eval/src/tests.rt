@@ -4,11 +4,23 @@ mod limits;
 
 use crate::running::{Step, run};
 use plain_data::Text;
-use rdt_types::{Address, Item, Kind, Outcome, Value};
+use rdt_types::{Item, Outcome};
 use std::alloc::Global;
-use std::test::Fail;
-use txn_lang::{CheckError, Checked, Run, Snap, Snaps, check};
+use txn_lang::{CheckError, Checked, Run, Snaps, check};
 use txn_parse::parse;
+
+/// What a run comes to.
+#[derive(Clone, Copy)]
+pub(super) enum End {
+    /// It emits this int alone.
+    Int(i64),
+    /// It ends, whatever it emits.
+    Ok,
+    /// Something is too large.
+    Big,
+    /// Its ticks are spent.
+    Spent,
+}
 
 /// The one item that a run emitted, if it is done and emitted one int.
 fn emitted(run: &Run) -> Option<i64> {
@@ -35,17 +47,6 @@ fn checked(alloc: Global, source: &[u8], read_only: bool) -> Result<Checked, Che
     check(alloc, body, text, read_only)
 }
 
-/// What a run on the snaps emits, if it is done.
-fn emits(alloc: Global, source: &[u8], snaps: &Snaps) -> Option<i64> {
-    let Ok(body) = checked(alloc, source, false) else {
-        return None;
-    };
-    match run(alloc, &body, snaps) {
-        Ok(Step::Done(done)) => emitted(&done),
-        _ => None,
-    }
-}
-
 /// Whether a body that may only read is refused for a write at a column.
 fn writes_at(alloc: Global, source: &[u8], column: u32) -> bool {
     matches!(checked(alloc, source, true), Err(CheckError::Writes(found)) if found == column)
@@ -53,126 +54,145 @@ fn writes_at(alloc: Global, source: &[u8], column: u32) -> bool {
 
 #[test]
 fn write_in_a_read_only_body(rt: HostRuntime) {
-    let alloc = rt.alloc();
-    assert!(&rt; writes_at(alloc, b"counter(\"x\").add(1);", 1));
-    assert!(&rt; writes_at(alloc, b"emit 1; counter(\"x\").put(2);", 9));
-    assert!(&rt; !writes_at(alloc, b"emit counter(\"x\").get();", 6));
+    assert!(rt; writes_at(rt.alloc(), b"counter(\"x\").add(1);", 1));
+    assert!(rt; writes_at(rt.alloc(), b"emit 1; counter(\"x\").put(2);", 9));
+    assert!(rt; !writes_at(rt.alloc(), b"emit counter(\"x\").get();", 6));
 }
 
-/// An own addition goes into the value, which is needed, and an own put needs none.
-#[test]
-fn own_writes_are_read(rt: HostRuntime) -> Result<(), Fail> {
-    let alloc = rt.alloc();
-    let mut snaps = Snaps::new(alloc);
-    let added = b"counter(\"x\").add(2); emit counter(\"x\").get();";
-    let put = b"counter(\"x\").put(7); emit counter(\"x\").get();";
-    assert_eq!(&rt; emits(alloc, added, &snaps), None);
-    assert_eq!(&rt; emits(alloc, put, &snaps), Some(7));
-    let address = Address {
-        kind: Kind::Counter,
-        key: Text::from_slice(alloc, b"x")?,
-    };
-    let snap = Snap {
-        base: 1,
-        value: Value::Counter(40),
-    };
-    snaps.insert(address, snap)?;
-    assert_eq!(&rt; emits(alloc, added, &snaps), Some(42));
-    Ok(())
+/// Whether a run came to this.
+pub(super) fn ends_as(run: &Run, end: End) -> bool {
+    match end {
+        End::Int(wanted) => emitted(run) == Some(wanted),
+        End::Ok => matches!(&run.outcome, Outcome::Ok(_)),
+        End::Big => matches!(&run.outcome, Outcome::Big),
+        End::Spent => matches!(&run.outcome, Outcome::Spent),
+    }
 }
 
-/// Whether a run that rests on nothing emits an int.
-fn says(alloc: Global, source: &[u8], wanted: i64) -> bool {
-    matches!(emits(alloc, source, &Snaps::new(alloc)), Some(found) if found == wanted)
-}
-
-/// Whether a run that rests on nothing ends since something is too large.
-fn is_big(alloc: Global, source: &[u8]) -> bool {
+/// Whether the run of a body that rests on nothing comes to this.
+pub(super) fn comes_to(alloc: Global, source: &[u8], end: End) -> bool {
     let Ok(body) = checked(alloc, source, false) else {
         return false;
     };
     match run(alloc, &body, &Snaps::new(alloc)) {
-        Ok(Step::Done(done)) => matches!(&done.outcome, Outcome::Big),
+        Ok(Step::Done(done)) => ends_as(&done, end),
         _ => false,
     }
 }
 
-/// Whether a run that rests on nothing ends since its ticks are spent.
-fn is_spent(alloc: Global, source: &[u8]) -> bool {
+/// Bodies that rest on nothing, each with what its run comes to.
+const BODIES: [(&[u8], End); 23] = [
+    // An own put is read, and no value is needed.
+    (
+        b"counter(\"k\").put(7); emit counter(\"k\").get();",
+        End::Int(7),
+    ),
+    // Numbers wrap at the ends of 64 bits, and the least one is shown in full.
+    (b"emit 9223372036854775807 + 1;", End::Int(i64::MIN)),
+    (b"emit -9223372036854775807 - 2;", End::Int(i64::MAX)),
+    (b"emit 9223372036854775807 * 2;", End::Int(-2)),
+    (
+        b"let m = -9223372036854775807 - 1; emit -m;",
+        End::Int(i64::MIN),
+    ),
+    (
+        b"let m = -9223372036854775807 - 1; emit len(str(m));",
+        End::Int(20),
+    ),
+    // A name that is bound again counts until its block ends, and a loop over nothing has no turn.
+    (b"let x = 1; if true { let x = 2; } emit x;", End::Int(1)),
+    (b"let x = 1; if true { let x = 2; emit x; }", End::Int(2)),
+    (
+        b"let x = 1; for x in [\"a\", \"b\"] { let y = x; } emit x;",
+        End::Int(1),
+    ),
+    (b"for t in [] { fail t; } emit 3;", End::Int(3)),
+    // A loop over a name goes through its list, whatever is bound inside.
+    (
+        b"let l = [\"a\", \"bc\"]; for x in l { for l in l { text(\"t\").put(l + x); } } emit len(text(\"t\").get());",
+        End::Int(4),
+    ),
+    (
+        b"let l = [\"bcd\"]; for l in l { emit len(l); }",
+        End::Int(3),
+    ),
+    (
+        b"let l = [\"a\", \"b\"]; for l in l { let l = 1; } emit len(l);",
+        End::Int(2),
+    ),
+    // The longest texts, and one byte past them: a join, and a list.
+    (
+        b"let s = \"0123456789abcdef\"; let b = s + s + s + s; let c = b + b + b + b; let d = c + c + c + c; emit len(d);",
+        End::Int(1024),
+    ),
+    (
+        b"let s = \"0123456789abcdef\"; let b = s + s + s + s; let c = b + b + b + b; let d = c + c + c + c; emit len(d + \"x\");",
+        End::Big,
+    ),
+    (
+        b"let s = \"0123456789abcdef\"; let b = s + s + s + s; let c = b + b + b + b; let d = c + c + c + c; let a = \"0123456789abcde\"; let k = c + c + c + b + b + b + s + s + s + a; let l = [k,k,k,k,k,k,k,k,k,k,k,k,k,k,k,k,k,k,k,k,k,k,k,k,k,k,k,k,k,k,k,k,k,k,k,k,k,k,k,k,k,k,k,k,k,k,k,k,k,k,k,k,k,k,k,k,k,k,k,k,k,k,k,k]; emit len(l);",
+        End::Int(64),
+    ),
+    (
+        b"let s = \"0123456789abcdef\"; let b = s + s + s + s; let c = b + b + b + b; let d = c + c + c + c; let a = \"0123456789abcde\"; let k = c + c + c + b + b + b + s + s + s + a; let l = [k,k,k,k,k,k,k,k,k,k,k,k,k,k,k,k,k,k,k,k,k,k,k,k,k,k,k,k,k,k,k,k,k,k,k,k,k,k,k,k,k,k,k,k,k,k,k,k,k,k,k,k,k,k,k,k,k,k,k,k,k,k,k,k,\"\"]; emit len(l);",
+        End::Big,
+    ),
+    // Writes of 16,384 bytes in all may be done, and no more. A write counts 8, its key and its texts.
+    (
+        b"let s = \"0123456789abcdef\"; let b = s + s + s + s; let c = b + b + b + b; let d = c + c + c + c; text(\"\").put(d); text(\"\").put(d); text(\"\").put(d); text(\"\").put(d); text(\"\").put(d); text(\"\").put(d); text(\"\").put(d); text(\"\").put(d); text(\"\").put(d); text(\"\").put(d); text(\"\").put(d); text(\"\").put(d); text(\"\").put(d); text(\"\").put(d); text(\"\").put(d); text(\"\").put(c + c + c + s + s + s + s + s + s + s); emit 1;",
+        End::Int(1),
+    ),
+    (
+        b"let s = \"0123456789abcdef\"; let b = s + s + s + s; let c = b + b + b + b; let d = c + c + c + c; text(\"\").put(d); text(\"\").put(d); text(\"\").put(d); text(\"\").put(d); text(\"\").put(d); text(\"\").put(d); text(\"\").put(d); text(\"\").put(d); text(\"\").put(d); text(\"\").put(d); text(\"\").put(d); text(\"\").put(d); text(\"\").put(d); text(\"\").put(d); text(\"\").put(d); text(\"k\").put(c + c + c + s + s + s + s + s + s + s); emit 1;",
+        End::Big,
+    ),
+    // A body of 10,000 ticks ends, and one of 10,001 doesn't.
+    (
+        b"let t = [\"\",\"\",\"\",\"\",\"\",\"\",\"\",\"\",\"\",\"\"]; for a in t { for b in t { for c in t { let y = 1+1+1+1; } } } let x = 1+1+1+1+1+1+1+1+1+1+1+1+1+1+1+1+1+1+1+1+1+1+1+1+1+1+1+1+1+1+1+1+1+1+1+1+1+1+1+1+1+1+1+1+1+1+1+1+1+1+1+1+1+1+1+1+1+1+1+1+1+1+1+1+1+1+1+1+1+1+1+1+1+1+1+1+1+1+1+1+1+1+1+1+1+1+1+1+1+1+1+1+1+1+1+1+1+1+1+1+1+1+1+1+1+1+1+1+1+1+1+1+1+1+1+1+1+1+1+1+1+1+1+1+1+1+1+1+1+1+1+1+1+1+1+1+1+1+1+1+1+1+1+1+1+1+1+1+1+1+1+1+1+1+1+1+1+1+1+1+1+1+1+1+1+1+1+1+1+1+1+1+1+1+1+1+1+1+1+1+1+1+1+1+1+1+1+1+1+1+1+1+1+1+1+1+1+1+1+1+1+1+1+1+1+1+1+1+1+1+1+1+1+1+1+1+1+1+1+1+1+1+1+1+1+1+1+1+1+1+1+1+1+1+1+1+1+1+1+1+1+1+1+1+1+1+1+1+1+1+1+1+1+1+1+1+1+1+1+1+1+1+1+1+1+1+1+1+1+1+1+1+1+1+1+1+1+1+1+1+1+1+1+1+1+1+1+1+1+1+1+1+1+1+1+1+1+1+1+1+1+1+1+1+1+1+1+1+1+1+1+1+1+1+1+1+1+1+1+1+1+1+1+1+1+1+1+1;",
+        End::Ok,
+    ),
+    (
+        b"let t = [\"\",\"\",\"\",\"\",\"\",\"\",\"\",\"\",\"\",\"\"]; for a in t { for b in t { for c in t { let y = 1+1+1+1; } } } let x = 1+1+1+1+1+1+1+1+1+1+1+1+1+1+1+1+1+1+1+1+1+1+1+1+1+1+1+1+1+1+1+1+1+1+1+1+1+1+1+1+1+1+1+1+1+1+1+1+1+1+1+1+1+1+1+1+1+1+1+1+1+1+1+1+1+1+1+1+1+1+1+1+1+1+1+1+1+1+1+1+1+1+1+1+1+1+1+1+1+1+1+1+1+1+1+1+1+1+1+1+1+1+1+1+1+1+1+1+1+1+1+1+1+1+1+1+1+1+1+1+1+1+1+1+1+1+1+1+1+1+1+1+1+1+1+1+1+1+1+1+1+1+1+1+1+1+1+1+1+1+1+1+1+1+1+1+1+1+1+1+1+1+1+1+1+1+1+1+1+1+1+1+1+1+1+1+1+1+1+1+1+1+1+1+1+1+1+1+1+1+1+1+1+1+1+1+1+1+1+1+1+1+1+1+1+1+1+1+1+1+1+1+1+1+1+1+1+1+1+1+1+1+1+1+1+1+1+1+1+1+1+1+1+1+1+1+1+1+1+1+1+1+1+1+1+1+1+1+1+1+1+1+1+1+1+1+1+1+1+1+1+1+1+1+1+1+1+1+1+1+1+1+1+1+1+1+1+1+1+1+1+1+1+1+1+1+1+1+1+1+1+1+1+1+1+1+1+1+1+1+1+1+1+1+1+1+1+1+1+1+1+1+1+1+1+1+1+1+1+1+1+1+1+1+1+1+1+-1;",
+        End::Spent,
+    ),
+    // Comparisons see the signs of the least int and of the greatest.
+    (
+        b"let m = -9223372036854775807 - 1; let x = 9223372036854775807; if m < x and m <= x and x > m and x >= m and m != x and m <= m and x >= x and m == x + 1 { emit 1; }",
+        End::Int(1),
+    ),
+    (
+        b"let m = -9223372036854775807 - 1; let x = 9223372036854775807; if x < m or x <= m or m > x or m >= x or m == x or m < m or x > x or m != x + 1 { emit 0; } else { emit 1; }",
+        End::Int(1),
+    ),
+];
+
+/// The table, so that the proof of a test doesn't go through its rows.
+fn bodies() -> &'static [(&'static [u8], End)] {
+    &BODIES
+}
+
+/// Whether the run of a body needs a value, where none is given.
+fn needs(alloc: Global, source: &[u8]) -> bool {
     let Ok(body) = checked(alloc, source, false) else {
         return false;
     };
-    match run(alloc, &body, &Snaps::new(alloc)) {
-        Ok(Step::Done(done)) => matches!(&done.outcome, Outcome::Spent),
-        _ => false,
+    matches!(run(alloc, &body, &Snaps::new(alloc)), Ok(Step::Need(_)))
+}
+
+/// An own addition goes into the value, which is needed.
+#[test]
+fn own_additions_need_the_value(rt: HostRuntime) {
+    assert!(rt;
+        needs(
+            rt.alloc(),
+            b"counter(\"k\").add(2); emit counter(\"k\").get();"
+        )
+    );
+}
+
+#[test]
+fn bodies_come_to_their_ends(rt: HostRuntime) {
+    for (source, end) in bodies() {
+        assert!(rt; comes_to(rt.alloc(), source, *end));
     }
-}
-
-/// Numbers wrap at the ends of 64 bits, and the least one is shown in full.
-#[test]
-fn ends_of_64_bits(rt: HostRuntime) {
-    let alloc = rt.alloc();
-    let least = b"let m = -9223372036854775807 - 1; emit -m;";
-    let shown = b"let m = -9223372036854775807 - 1; emit len(str(m));";
-    assert!(&rt; says(alloc, b"emit 9223372036854775807 + 1;", i64::MIN));
-    assert!(&rt; says(alloc, b"emit -9223372036854775807 - 2;", i64::MAX));
-    assert!(&rt; says(alloc, b"emit 9223372036854775807 * 2;", -2));
-    assert!(&rt; says(alloc, least, i64::MIN));
-    assert!(&rt; says(alloc, shown, 20));
-}
-
-/// A name that is bound again counts until its block ends, and a loop over nothing has no turn.
-#[test]
-fn names_and_blocks(rt: HostRuntime) {
-    let alloc = rt.alloc();
-    let block = b"let x = 1; if true { let x = 2; } emit x;";
-    let inside = b"let x = 1; if true { let x = 2; emit x; }";
-    let turns = b"let x = 1; for x in [\"a\", \"b\"] { let y = x; } emit x;";
-    let nothing = b"for t in [] { fail t; } emit 3;";
-    assert!(&rt; says(alloc, block, 1));
-    assert!(&rt; says(alloc, inside, 2));
-    assert!(&rt; says(alloc, turns, 1));
-    assert!(&rt; says(alloc, nothing, 3));
-}
-
-/// The longest texts, and one byte past them: a join, and a list.
-#[test]
-fn sizes_at_their_limits(rt: HostRuntime) {
-    let alloc = rt.alloc();
-    let joined =
-        b"let s = \"0123456789abcdef\"; let b = s + s + s + s; let c = b + b + b + b; let d = c + c + c + c; emit len(d);";
-    let past =
-        b"let s = \"0123456789abcdef\"; let b = s + s + s + s; let c = b + b + b + b; let d = c + c + c + c; emit len(d + \"x\");";
-    let listed =
-        b"let s = \"0123456789abcdef\"; let b = s + s + s + s; let c = b + b + b + b; let d = c + c + c + c; let a = \"0123456789abcde\"; let k = c + c + c + b + b + b + s + s + s + a; let l = [k,k,k,k,k,k,k,k,k,k,k,k,k,k,k,k,k,k,k,k,k,k,k,k,k,k,k,k,k,k,k,k,k,k,k,k,k,k,k,k,k,k,k,k,k,k,k,k,k,k,k,k,k,k,k,k,k,k,k,k,k,k,k,k]; emit len(l);";
-    let more =
-        b"let s = \"0123456789abcdef\"; let b = s + s + s + s; let c = b + b + b + b; let d = c + c + c + c; let a = \"0123456789abcde\"; let k = c + c + c + b + b + b + s + s + s + a; let l = [k,k,k,k,k,k,k,k,k,k,k,k,k,k,k,k,k,k,k,k,k,k,k,k,k,k,k,k,k,k,k,k,k,k,k,k,k,k,k,k,k,k,k,k,k,k,k,k,k,k,k,k,k,k,k,k,k,k,k,k,k,k,k,k,\"\"]; emit len(l);";
-    assert!(&rt; says(alloc, joined, 1024));
-    assert!(&rt; is_big(alloc, past));
-    assert!(&rt; says(alloc, listed, 64));
-    assert!(&rt; is_big(alloc, more));
-}
-
-/// Writes of 16,384 bytes in all may be done, and no more. A write counts 8, its key and its texts.
-#[test]
-fn load_at_its_limit(rt: HostRuntime) {
-    let alloc = rt.alloc();
-    let full =
-        b"let s = \"0123456789abcdef\"; let b = s + s + s + s; let c = b + b + b + b; let d = c + c + c + c; text(\"\").put(d); text(\"\").put(d); text(\"\").put(d); text(\"\").put(d); text(\"\").put(d); text(\"\").put(d); text(\"\").put(d); text(\"\").put(d); text(\"\").put(d); text(\"\").put(d); text(\"\").put(d); text(\"\").put(d); text(\"\").put(d); text(\"\").put(d); text(\"\").put(d); text(\"\").put(c + c + c + s + s + s + s + s + s + s); emit 1;";
-    let past =
-        b"let s = \"0123456789abcdef\"; let b = s + s + s + s; let c = b + b + b + b; let d = c + c + c + c; text(\"\").put(d); text(\"\").put(d); text(\"\").put(d); text(\"\").put(d); text(\"\").put(d); text(\"\").put(d); text(\"\").put(d); text(\"\").put(d); text(\"\").put(d); text(\"\").put(d); text(\"\").put(d); text(\"\").put(d); text(\"\").put(d); text(\"\").put(d); text(\"\").put(d); text(\"k\").put(c + c + c + s + s + s + s + s + s + s); emit 1;";
-    assert!(&rt; says(alloc, full, 1));
-    assert!(&rt; is_big(alloc, past));
-}
-
-/// A body of 10,000 ticks ends, and one of 10,001 doesn't.
-#[test]
-fn most_ticks(rt: HostRuntime) {
-    let alloc = rt.alloc();
-    let most =
-        b"let t = [\"\",\"\",\"\",\"\",\"\",\"\",\"\",\"\",\"\",\"\"]; for a in t { for b in t { for c in t { let y = 1+1+1+1; } } } let x = 1+1+1+1+1+1+1+1+1+1+1+1+1+1+1+1+1+1+1+1+1+1+1+1+1+1+1+1+1+1+1+1+1+1+1+1+1+1+1+1+1+1+1+1+1+1+1+1+1+1+1+1+1+1+1+1+1+1+1+1+1+1+1+1+1+1+1+1+1+1+1+1+1+1+1+1+1+1+1+1+1+1+1+1+1+1+1+1+1+1+1+1+1+1+1+1+1+1+1+1+1+1+1+1+1+1+1+1+1+1+1+1+1+1+1+1+1+1+1+1+1+1+1+1+1+1+1+1+1+1+1+1+1+1+1+1+1+1+1+1+1+1+1+1+1+1+1+1+1+1+1+1+1+1+1+1+1+1+1+1+1+1+1+1+1+1+1+1+1+1+1+1+1+1+1+1+1+1+1+1+1+1+1+1+1+1+1+1+1+1+1+1+1+1+1+1+1+1+1+1+1+1+1+1+1+1+1+1+1+1+1+1+1+1+1+1+1+1+1+1+1+1+1+1+1+1+1+1+1+1+1+1+1+1+1+1+1+1+1+1+1+1+1+1+1+1+1+1+1+1+1+1+1+1+1+1+1+1+1+1+1+1+1+1+1+1+1+1+1+1+1+1+1+1+1+1+1+1+1+1+1+1+1+1+1+1+1+1+1+1+1+1+1+1+1+1+1+1+1+1+1+1+1+1+1+1+1+1+1+1+1+1+1+1+1+1+1+1+1+1+1+1+1+1+1+1+1+1;";
-    let one_more =
-        b"let t = [\"\",\"\",\"\",\"\",\"\",\"\",\"\",\"\",\"\",\"\"]; for a in t { for b in t { for c in t { let y = 1+1+1+1; } } } let x = 1+1+1+1+1+1+1+1+1+1+1+1+1+1+1+1+1+1+1+1+1+1+1+1+1+1+1+1+1+1+1+1+1+1+1+1+1+1+1+1+1+1+1+1+1+1+1+1+1+1+1+1+1+1+1+1+1+1+1+1+1+1+1+1+1+1+1+1+1+1+1+1+1+1+1+1+1+1+1+1+1+1+1+1+1+1+1+1+1+1+1+1+1+1+1+1+1+1+1+1+1+1+1+1+1+1+1+1+1+1+1+1+1+1+1+1+1+1+1+1+1+1+1+1+1+1+1+1+1+1+1+1+1+1+1+1+1+1+1+1+1+1+1+1+1+1+1+1+1+1+1+1+1+1+1+1+1+1+1+1+1+1+1+1+1+1+1+1+1+1+1+1+1+1+1+1+1+1+1+1+1+1+1+1+1+1+1+1+1+1+1+1+1+1+1+1+1+1+1+1+1+1+1+1+1+1+1+1+1+1+1+1+1+1+1+1+1+1+1+1+1+1+1+1+1+1+1+1+1+1+1+1+1+1+1+1+1+1+1+1+1+1+1+1+1+1+1+1+1+1+1+1+1+1+1+1+1+1+1+1+1+1+1+1+1+1+1+1+1+1+1+1+1+1+1+1+1+1+1+1+1+1+1+1+1+1+1+1+1+1+1+1+1+1+1+1+1+1+1+1+1+1+1+1+1+1+1+1+1+1+1+1+1+1+1+1+1+1+1+1+1+1+1+1+1+1+1+-1;";
-    assert!(&rt; !is_spent(alloc, most) && !is_big(alloc, most));
-    assert!(&rt; is_spent(alloc, one_more));
 }

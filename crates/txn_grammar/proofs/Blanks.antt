@@ -1,5 +1,7 @@
 -- Blanks at the end of a text mean nothing.
-use Rattle.std.proofs.Common.{◌≡◌, ℕ, zero, suc, ◌+◌, ◌-◌, ◌<◌, ◌≤◌, ◌==◌, Bool, true, false, ◌&&◌, ◌||◌, cond, nat_eq, nat_lt, nat_le, List, [], ◌∷◌, ◌++◌, length, take, drop, Option, None, Result, Ok, Err, refl, ap, sym, ◌∙◌, subst, inl, inr, arith, append_assoc, append-nil, length-append}
+use Rattle.std.proofs.Common.{◌≡◌, ℕ, zero, suc, ◌+◌, ◌-◌, ◌<◌, ◌≤◌, ◌==◌, Bool, true, false, ◌&&◌, ◌||◌, cond, nat_eq}
+use Rattle.std.proofs.Common.{nat_lt, nat_le, List, [], ◌∷◌, ◌++◌, length, take, drop, Option, None, Result, Ok, Err}
+use Rattle.std.proofs.Common.{refl, ap, sym, ◌∙◌, subst, inl, inr, arith, append_assoc, append-nil, length-append}
 use Rattle.std.specs.List.{All, prefix_len, list_any}
 use Rattle.std.specs.Str.{bytes_eq}
 use Rattle.std.proofs.lemmas.Bool.Decides.{nat_tests}
@@ -22,7 +24,8 @@ use Rattle.txn_grammar.specs.declared.token.Spot.{Spot}
 use Rattle.txn_grammar.specs.declared.token.Lexeme.{Lexeme}
 use Rattle.txn_grammar.specs.Characters.{Text, is_letter, is_digit, is_word, is_blank}
 use Rattle.txn_grammar.specs.Spellings.{marks, spelled_in, mark}
-use Rattle.txn_grammar.specs.Lexer.{lexeme, word_token, word_at, number_token, number_at, quoted_lexeme, text_at, mark_lexeme, mark_at, token_at, spot, is_malformed, lex_from, lex}
+use Rattle.txn_grammar.specs.Lexer.{lexeme, word_token, word_at, number_token, number_at, quoted_lexeme, text_at}
+use Rattle.txn_grammar.specs.Lexer.{mark_lexeme, mark_at, token_at, spot, is_malformed, lex_from, lex}
 use Rattle.txn_grammar.specs.Numbers.{number_value}
 use Rattle.txn_grammar.specs.Parsed.{if_read, parsed, first_column, refused, syntax_column}
 use Rattle.txn_grammar.specs.Blanks.{AreBlank, KeepTokens, KeepBody, KeepColumn, EndBehind}
@@ -287,7 +290,8 @@ all_before end c zero (b ∷ z) l =
     let behind = unless_last end (is_malformed x.token) rest (all_before end (c + 1) (x.len - 1) z (omega arith)) in
     elim (bool_cases (is_blank b)) [
       | inl e ↦ subst (All (Before end)) (sym (at_blank c b z true e)) others
-      | inr e ↦ subst (All (Before end)) (sym (at_blank c b z false e)) (All-cons (Before end) (spot c x.token) (cond (is_malformed x.token) [] rest) (omega arith) behind)
+      | inr e ↦ subst (All (Before end)) (sym (at_blank c b z false e))
+          (All-cons (Before end) (spot c x.token) (cond (is_malformed x.token) [] rest) (omega arith) behind)
     ]
 
 behind_front : (end : ℕ) (front rest : List Spot) → All (Before end) (front ++ rest) → All (Before end) rest

@@ -11,7 +11,8 @@ abbrev pub AnyOf : {I A B : Type 0} → (B → Rule I A) → Rule I A
 AnyOf {I} {A} {B} Branch ts a us = (b : B) × Branch b ts a us
 
 -- Each branch begins with an item that tells it, and all of them are the rule.
-pub chosen_fits : {I A B : Type 0} (Possible : I → Type 0) (f : I → Option B) (other : B) (branches : B → Reader I A) (Branch : B → Rule I A) (follows : Option I → Bool)
+pub chosen_fits : {I A B : Type 0} (Possible : I → Type 0) (f : I → Option B) (other : B) (branches : B → Reader I A)
+    (Branch : B → Rule I A) (follows : Option I → Bool)
     → ((b : B) → Fits Possible (branches b) (Branch b) follows)
     → ((b : B) (ts us : List I) (a : A) → Branch b ts a us → of_next f (next ts) ≡ Some b)
     → (P : Rule I A) → ((ts us : List I) (a : A) → AnyOf Branch ts a us → P ts a us) → ((ts us : List I) (a : A) → P ts a us → AnyOf Branch ts a us)

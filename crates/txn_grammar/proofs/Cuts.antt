@@ -1,5 +1,7 @@
 -- A text is cut token by token.
-use Rattle.std.proofs.Common.{◌≡◌, ℕ, zero, suc, ◌+◌, ◌-◌, ◌<◌, ◌≤◌, ◌==◌, Bool, true, false, cond, List, [], ◌∷◌, ◌++◌, length, take, drop, slice_index, Option, Some, None, Ok, Err, nat_lt, refl, ap, sym, ◌∙◌, inl, inr, arith, append_assoc, length-drop, get_or-drop, drop-drop}
+use Rattle.std.proofs.Common.{◌≡◌, ℕ, zero, suc, ◌+◌, ◌-◌, ◌<◌, ◌≤◌, ◌==◌, Bool, true, false, cond, List, [], ◌∷◌, ◌++◌}
+use Rattle.std.proofs.Common.{length, take, drop, slice_index, Option, Some, None, Ok, Err, nat_lt, refl, ap, sym, ◌∙◌}
+use Rattle.std.proofs.Common.{inl, inr, arith, append_assoc, length-drop, get_or-drop, drop-drop}
 use Rattle.std.specs.List.{prefix_len}
 use Rattle.std.proofs.lemmas.Bool.Decides.{nat_tests}
 use Rattle.std.proofs.lemmas.List.Sums.{prefix_len-le-length}
@@ -78,11 +80,17 @@ drop_less (suc n) b z h = let e : suc n - 1 ≡ n = omega arith in ap (λ k. dro
 abbrev pub behind : Lexeme → List Spot → List Spot
 behind found rest = cond (is_malformed found.token) [] rest
 
-pub at_blank : (c b : ℕ) (z : Text) (t : Bool) → is_blank b ≡ t → lex_from c 0 (b ∷ z) ≡ cond t (lex_from (c + 1) 0 z) (spot c (token_at (b ∷ z)).token ∷ behind (token_at (b ∷ z)) (lex_from (c + 1) ((token_at (b ∷ z)).len - 1) z))
-at_blank c b z t e = ap (λ x. cond x (lex_from (c + 1) zero z) (spot c (token_at (b ∷ z)).token ∷ behind (token_at (b ∷ z)) (lex_from (c + 1) ((token_at (b ∷ z)).len - 1) z))) e
+pub at_blank : (c b : ℕ) (z : Text) (t : Bool) → is_blank b ≡ t
+    → lex_from c 0 (b ∷ z) ≡ cond t (lex_from (c + 1) 0 z)
+    (spot c (token_at (b ∷ z)).token ∷ behind (token_at (b ∷ z)) (lex_from (c + 1) ((token_at (b ∷ z)).len - 1) z))
+at_blank c b z t e =
+    ap (λ x. cond x (lex_from (c + 1) zero z)
+    (spot c (token_at (b ∷ z)).token ∷ behind (token_at (b ∷ z)) (lex_from (c + 1) ((token_at (b ∷ z)).len - 1) z))) e
 
 -- the tokens from a column on, which begins with a token
-cuts : (c : ℕ) (z : Text) → 0 < length z → is_blank (slice_index z 0) ≡ false → lex_from c 0 z ≡ spot c (token_at z).token ∷ behind (token_at z) (lex_from (c + (token_at z).len) 0 (drop (token_at z).len z))
+cuts : (c : ℕ) (z : Text) → 0 < length z → is_blank (slice_index z 0) ≡ false
+    → lex_from c 0 z ≡ spot c (token_at z).token ∷ behind (token_at z)
+    (lex_from (c + (token_at z).len) 0 (drop (token_at z).len z))
 cuts c [] l e = absurd (omega arith)
 cuts c (b ∷ z) l e =
     let n = (token_at (b ∷ z)).len in
@@ -116,7 +124,8 @@ module _ (z : Text) (at : ℕ) (below : at < length z) where
       let k : (at + 1) + n ≡ (at + n) + 1 = omega arith in
       cuts (at + 1) w some_left (ap is_blank first_at ∙ h)
       ∙ ap (λ x. spot (at + 1) x.token ∷ behind x (lex_from ((at + 1) + x.len) 0 (drop x.len w))) (sym e)
-      ∙ ap (λ xs. spot (at + 1) found.token ∷ behind found xs) (ap (λ m. lex_from m 0 (drop n w)) k ∙ ap (λ xs. lex_from ((at + n) + 1) 0 xs) (drop-drop n at z))
+      ∙ ap (λ xs. spot (at + 1) found.token ∷ behind found xs)
+      (ap (λ m. lex_from m 0 (drop n w)) k ∙ ap (λ xs. lex_from ((at + n) + 1) 0 xs) (drop-drop n at z))
 
   -- a token goes on to those behind it
   pub lexeme_goes : (found : Lexeme) → found ≡ token_at (drop at z) → is_blank (slice_index z at) ≡ false → is_malformed found.token ≡ false
@@ -139,7 +148,8 @@ moves_at z at found below e =
     (omega (arith, m.some, k), omega (arith, m.within, k, l))
 
 -- one more token is known
-pub one_more : (items spots rest before whole : List Spot) (s : Spot) → items ≡ spots ++ s ∷ [] → before ≡ s ∷ rest → spots ++ before ≡ whole → items ++ rest ≡ whole
+pub one_more : (items spots rest before whole : List Spot) (s : Spot) → items ≡ spots ++ s ∷ [] → before ≡ s ∷ rest
+    → spots ++ before ≡ whole → items ++ rest ≡ whole
 one_more items spots rest before whole s e h k = ap (λ xs. xs ++ rest) e ∙ append_assoc spots (s ∷ []) rest ∙ ap (λ xs. spots ++ xs) (sym h) ∙ k
 
 -- the last token is known

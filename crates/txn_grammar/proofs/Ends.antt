@@ -32,7 +32,8 @@ abbrev pub expression_end : Option Spot → Bool
 expression_end = unless (begins_operator rank.Disjunction) conjunction_end
 
 -- an operator may follow what binds tighter
-pub plus_ends_product : (column : ℕ) (symbol : Symbol) → is_made (operator_of rank.Sum symbol) ≡ true → product_end (Some (spot column (t.Symbol symbol))) ≡ true
+pub plus_ends_product : (column : ℕ) (symbol : Symbol) → is_made (operator_of rank.Sum symbol) ≡ true
+    → product_end (Some (spot column (t.Symbol symbol))) ≡ true
 plus_ends_product column s.Plus e = refl
 plus_ends_product column s.Minus e = refl
 plus_ends_product column _ e = absurd (cc)
@@ -46,11 +47,13 @@ relation_ends_sum column s.Greater e = refl
 relation_ends_sum column s.AtLeast e = refl
 relation_ends_sum column _ e = absurd (cc)
 
-pub and_ends_comparison : (column : ℕ) (symbol : Symbol) → is_made (operator_of rank.Conjunction symbol) ≡ true → comparison_end (Some (spot column (t.Symbol symbol))) ≡ true
+pub and_ends_comparison : (column : ℕ) (symbol : Symbol) → is_made (operator_of rank.Conjunction symbol) ≡ true
+    → comparison_end (Some (spot column (t.Symbol symbol))) ≡ true
 and_ends_comparison column s.And e = refl
 and_ends_comparison column _ e = absurd (cc)
 
-pub or_ends_conjunction : (column : ℕ) (symbol : Symbol) → is_made (operator_of rank.Disjunction symbol) ≡ true → conjunction_end (Some (spot column (t.Symbol symbol))) ≡ true
+pub or_ends_conjunction : (column : ℕ) (symbol : Symbol) → is_made (operator_of rank.Disjunction symbol) ≡ true
+    → conjunction_end (Some (spot column (t.Symbol symbol))) ≡ true
 or_ends_conjunction column s.Or e = refl
 or_ends_conjunction column _ e = absurd (cc)
 
@@ -69,7 +72,9 @@ abbrev pub begins_expression : Option Spot → Bool
 begins_expression h = sees s.Not h || begins_unary h
 
 -- what holds of each token that begins so
-pub by_token : (F G : Option Spot → Bool) (b : Bool) → F None ≡ false → ((column : ℕ) (token : Token) → F (Some (spot column token)) ≡ true → G (Some (spot column token)) ≡ b) → (h : Option Spot) → F h ≡ true → G h ≡ b
+pub by_token : (F G : Option Spot → Bool) (b : Bool) → F None ≡ false
+    → ((column : ℕ) (token : Token) → F (Some (spot column token)) ≡ true → G (Some (spot column token)) ≡ b) → (h : Option Spot)
+    → F h ≡ true → G h ≡ b
 by_token F G b none holds None e = absurd (let k = none in cc)
 by_token F G b none holds (Some item) e = holds item.column item.token e
 

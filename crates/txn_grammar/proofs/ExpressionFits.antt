@@ -24,12 +24,24 @@ use Rattle.txn_grammar.specs.Spellings.{same_symbol}
 use Rattle.txn_grammar.specs.Lexer.{spot, Spelled}
 use Rattle.txn_grammar.specs.Tokens.{at, symbol_at, of_symbol, number, text, name, truth_of, operator_of, relation_of, kind_of}
 use Rattle.txn_grammar.specs.Trees.{expr, number_expr, text_expr, truth_expr, name_expr, grouped, operand, chained, compared, target_of, read_expr}
-use Rattle.txn_grammar.specs.Grammar.{NumberLeaf, TextLeaf, TruthLeaf, NameLeaf, LeafRule, Further, Chain, OtherSide, Comparison, ComparisonOf, ExpressionOf, Negative, Not, InParens, Group, Len, Str, AfterComma, Elements, Texts, Times, Arguments, Targeted, Read, Opened, UnaryOf, Unary, Negation, Expression}
+use Rattle.txn_grammar.specs.Grammar.{NumberLeaf, TextLeaf, TruthLeaf, NameLeaf, LeafRule, Further, Chain, OtherSide}
+use Rattle.txn_grammar.specs.Grammar.{Comparison, ComparisonOf, ExpressionOf, Negative, Not, InParens, Group, Len, Str}
+use Rattle.txn_grammar.specs.Grammar.{AfterComma, Elements, Texts, Times, Arguments, Targeted, Read, Opened, UnaryOf}
+use Rattle.txn_grammar.specs.Grammar.{Unary, Negation, Expression}
 use Rattle.txn_grammar.specs.code.Forms.{of_next, leaf_of, leaf_at, opener_at}
-use Rattle.txn_grammar.specs.code.Reader.{sees, number_leaf, text_leaf, truth_leaf, name_leaf, leaf_read, a_leaf, begins_operator, further, chain, begins_relation, other_side, comparison, comparison_of, expression_of, negative, not_read, in_parens, group, len, str, after_comma, elements, any_elements, texts, times, arguments_read, targeted, read, opened_read, opened, unary_of, negation_of, unary, negation, expression}
+use Rattle.txn_grammar.specs.code.Reader.{sees, number_leaf, text_leaf, truth_leaf, name_leaf, leaf_read, a_leaf}
+use Rattle.txn_grammar.specs.code.Reader.{begins_operator, further, chain, begins_relation, other_side, comparison}
+use Rattle.txn_grammar.specs.code.Reader.{comparison_of, expression_of, negative, not_read, in_parens, group, len, str}
+use Rattle.txn_grammar.specs.code.Reader.{after_comma, elements, any_elements, texts, times, arguments_read, targeted}
+use Rattle.txn_grammar.specs.code.Reader.{read, opened_read, opened, unary_of, negation_of, unary, negation, expression}
 use Rattle.txn_grammar.proofs.Choices.{AnyOf, chosen_fits}
-use Rattle.txn_grammar.proofs.TokenFits.{made_at, ahead_of_word, ahead_seen, ahead_of_symbol, word_fits, number_fits, text_fits, name_fits, truth_fits, operator_fits, relation_fits, kind_fits, read_fits as read_word_fits}
-use Rattle.txn_grammar.proofs.Ends.{product_end, sum_end, comparison_end, conjunction_end, expression_end, plus_ends_product, relation_ends_sum, and_ends_comparison, or_ends_conjunction, begins_leaf, begins_opened, begins_unary, begins_expression, leaf_opens_nothing, unary_no_not, expression_no_close}
+use Rattle.txn_grammar.proofs.TokenFits.{made_at, ahead_of_word, ahead_seen, ahead_of_symbol, word_fits, number_fits}
+use Rattle.txn_grammar.proofs.TokenFits.{text_fits, name_fits, truth_fits, operator_fits, relation_fits, kind_fits}
+use Rattle.txn_grammar.proofs.TokenFits.{read_fits as read_word_fits}
+use Rattle.txn_grammar.proofs.Ends.{product_end, sum_end, comparison_end, conjunction_end, expression_end}
+use Rattle.txn_grammar.proofs.Ends.{plus_ends_product, relation_ends_sum, and_ends_comparison, or_ends_conjunction}
+use Rattle.txn_grammar.proofs.Ends.{begins_leaf, begins_opened, begins_unary, begins_expression, leaf_opens_nothing}
+use Rattle.txn_grammar.proofs.Ends.{unary_no_not, expression_no_close}
 
 -- ---- leaves
 
@@ -141,7 +153,8 @@ comparison_of_fits u U fu =
     comparison_fits _ _ (chain_fits rank.Sum _ _ product_end (chain_fits rank.Product u U any fu (λ h e. refl))
     (ahead_of_symbol (operator_of rank.Sum) product_end true plus_ends_product))
 
-pub expression_of_fits : (q : Reader Spot Expr) (Q : Rule Spot Expr) → Fits Spelled q Q comparison_end → Fits Spelled (expression_of q) (ExpressionOf Q) expression_end
+pub expression_of_fits : (q : Reader Spot Expr) (Q : Rule Spot Expr) → Fits Spelled q Q comparison_end
+    → Fits Spelled (expression_of q) (ExpressionOf Q) expression_end
 unfolding expression_of
 expression_of_fits q Q fq =
     chain_fits rank.Disjunction _ _ conjunction_end (chain_fits rank.Conjunction q Q comparison_end fq
@@ -190,7 +203,8 @@ module _ (e : Reader Spot Expr) (E : Rule Spot Expr) (fe : Fits Spelled e E expr
   elements_fits : Fits Spelled (elements e) (Elements E) (unless (sees s.Comma) expression_end)
   unfolding elements
   elements_fits = seen Spelled (λ found. found.0 ∷ found.1)
-      (list_fits Spelled (sees s.Comma) (after_comma e) (AfterComma E) expression_end after_comma_fits comma_begins refl (ahead_seen expression_end true s.Comma (λ c. refl)) e E fe)
+      (list_fits Spelled (sees s.Comma) (after_comma e) (AfterComma E) expression_end after_comma_fits comma_begins refl
+      (ahead_seen expression_end true s.Comma (λ c. refl)) e E fe)
 
   elements_begin : (ts us : List Spot) (a : List Expr) → Elements E ts a us → not (sees s.CloseBracket (next ts)) ≡ true
   elements_begin ts us a r = ap not (expression_no_close (next ts) (e_begins ts r.first.middle r.first.value r.first.first))
@@ -237,7 +251,9 @@ module _ (e : Reader Spot Expr) (E : Rule Spot Expr) (fe : Fits Spelled e E expr
 
   pub targeted_fits : Fits Spelled (targeted e) (Targeted E) any
   unfolding targeted
-  targeted_fits = onwards Spelled kind_fits (λ kind. onwards Spelled (in_parens_fits e E fe) (λ key. seen Spelled (λ _. target_of kind key.1) (word_fits s.Dot)))
+  targeted_fits =
+      onwards Spelled kind_fits (λ kind. onwards Spelled (in_parens_fits e E fe)
+      (λ key. seen Spelled (λ _. target_of kind key.1) (word_fits s.Dot)))
 
   pub read_fits : Fits Spelled (read e) (Read E) any
   unfolding read
@@ -268,13 +284,15 @@ module _ (U E : Rule Spot Expr) where
   opened_begun : (b : Opener) (ts us : List Spot) (a : Expr) → opened_branch U E b ts a us → of_next opener_at (next ts) ≡ Some b
   unfolding opened_branch
   opened_begun opener.Negative ts us a r = ahead_of_word (of_next opener_at) (Some opener.Negative) s.Minus (λ c. refl) ts r.middle r.value r.first
-  opened_begun opener.Group ts us a r = ahead_of_word (of_next opener_at) (Some opener.Group) s.OpenParen (λ c. refl) ts r.first.middle r.first.value r.first.first
+  opened_begun opener.Group ts us a r =
+      ahead_of_word (of_next opener_at) (Some opener.Group) s.OpenParen (λ c. refl) ts r.first.middle r.first.value r.first.first
   opened_begun opener.Len ts us a r = ahead_of_word (of_next opener_at) (Some opener.Len) s.Len (λ c. refl) ts r.middle r.value r.first
   opened_begun opener.Str ts us a r = ahead_of_word (of_next opener_at) (Some opener.Str) s.Str (λ c. refl) ts r.middle r.value r.first
   opened_begun opener.Texts ts us a r = ahead_of_word (of_next opener_at) (Some opener.Texts) s.OpenBracket (λ c. refl) ts r.middle r.value r.first
   opened_begun opener.Read ts us a r =
       let k = r.first.first in
-      ahead_of_symbol kind_of (of_next opener_at) (Some opener.Read) kind_opens (next ts) (one_begins Spelled (at (of_symbol kind_of)) ts r.first.middle r.first.value k)
+      ahead_of_symbol kind_of (of_next opener_at) (Some opener.Read) kind_opens (next ts)
+      (one_begins Spelled (at (of_symbol kind_of)) ts r.first.middle r.first.value k)
 
   to_opened : (ts us : List Spot) (a : Expr) → AnyOf (opened_branch U E) ts a us → Opened U E ts a us
   unfolding opened_branch
@@ -304,7 +322,8 @@ module _ (U E : Rule Spot Expr) where
       let k = leaf_begins ts us a r in
       ap (λ b. b || begins_leaf (next ts)) (leaf_opens_nothing (next ts) k) ∙ k
 
-module _ (u : Reader Spot Expr) (U : Rule Spot Expr) (fu : Fits Spelled u U any) (e : Reader Spot Expr) (E : Rule Spot Expr) (fe : Fits Spelled e E expression_end)
+module _ (u : Reader Spot Expr) (U : Rule Spot Expr) (fu : Fits Spelled u U any) (e : Reader Spot Expr) (E : Rule Spot Expr)
+    (fe : Fits Spelled e E expression_end)
     (e_begins : (ts us : List Spot) (a : Expr) → E ts a us → begins_expression (next ts) ≡ true) where
   opened_branch_fits : (b : Opener) → Fits Spelled (opened_read u e b) (opened_branch U E b) any
   unfolding opened_branch
@@ -332,7 +351,8 @@ comparison_begins : (U : Rule Spot Expr) → ((ts us : List Spot) (a : Expr) →
     → (ts us : List Spot) (a : Expr) → ComparisonOf U ts a us → begins_unary (next ts) ≡ true
 comparison_begins U begins ts us a r = let x = r.first.first.first.first.first in begins ts _ _ x
 
-module _ (q : Reader Spot Expr) (Q : Rule Spot Expr) (fq : Fits Spelled q Q comparison_end) (u : Reader Spot Expr) (U : Rule Spot Expr) (fu : Fits Spelled u U any)
+module _ (q : Reader Spot Expr) (Q : Rule Spot Expr) (fq : Fits Spelled q Q comparison_end) (u : Reader Spot Expr)
+    (U : Rule Spot Expr) (fu : Fits Spelled u U any)
     (u_begins : (ts us : List Spot) (a : Expr) → U ts a us → begins_unary (next ts) ≡ true) where
   not_fits : Fits Spelled (not_read q) (Not Q) comparison_end
   unfolding not_read
@@ -340,7 +360,9 @@ module _ (q : Reader Spot Expr) (Q : Rule Spot Expr) (fq : Fits Spelled q Q comp
 
   negation_of_fits : Fits Spelled (negation_of q u) (Or (Not Q) (ComparisonOf U)) comparison_end
   unfolding negation_of
-  negation_of_fits = either_fits Spelled (sees s.Not) (not_read q) (comparison_of u) (Not Q) (ComparisonOf U) comparison_end not_fits (comparison_of_fits u U fu)
+  negation_of_fits =
+      either_fits Spelled (sees s.Not) (not_read q) (comparison_of u) (Not Q) (ComparisonOf U) comparison_end not_fits
+      (comparison_of_fits u U fu)
       (λ ts us a r. one_begins Spelled (symbol_at s.Not) ts r.middle r.value r.first)
       (λ ts us a r h. unary_no_not (next ts) (comparison_begins U u_begins ts us a r))
 
@@ -357,7 +379,8 @@ negation_begins : (n : ℕ) (ts us : List Spot) (a : Expr) → Negation n ts a u
 unfolding Unary
 negation_begins zero ts us a r = by_unary (next ts) (comparison_begins LeafRule (unary_begins zero) ts us a r)
 negation_begins (suc n) ts us a (inl r) = ap (λ b. b || begins_unary (next ts)) (one_begins Spelled (symbol_at s.Not) ts r.middle r.value r.first)
-negation_begins (suc n) ts us a (inr r) = by_unary (next ts) (comparison_begins (UnaryOf (Unary n) (ExpressionOf (Negation n))) (unary_begins (suc n)) ts us a r)
+negation_begins (suc n) ts us a (inr r) =
+    by_unary (next ts) (comparison_begins (UnaryOf (Unary n) (ExpressionOf (Negation n))) (unary_begins (suc n)) ts us a r)
 
 pub expression_begins : (n : ℕ) (ts us : List Spot) (a : Expr) → Expression n ts a us → begins_expression (next ts) ≡ true
 expression_begins n ts us a r = let x = r.first.first.first.first in negation_begins n ts _ _ x

@@ -1,5 +1,6 @@
 -- Whole texts.
-use Rattle.std.proofs.Common.{◌≡◌, ℕ, ◌+◌, true, length, List, ◌∷◌, [], ◌++◌, Option, Some, None, Result, Ok, Err, refl, ap, sym, ◌∙◌, subst, drop, arith, append_assoc, append-nil}
+use Rattle.std.proofs.Common.{◌≡◌, ℕ, ◌+◌, true, length, List, ◌∷◌, [], ◌++◌, Option, Some, None, Result, Ok, Err, refl}
+use Rattle.std.proofs.Common.{ap, sym, ◌∙◌, subst, drop, arith, append_assoc, append-nil}
 use Rattle.std.proofs.Math.Seq.{drop-append_seam}
 use Rattle.txn_trees.specs.declared.statement.Body.{Body}
 use Rattle.predictive_parsing.specs.Reading.{whole}

@@ -21,9 +21,12 @@ use Rattle.txn_grammar.specs.Spellings.{same_symbol}
 use Rattle.txn_grammar.specs.Lexer.{spot, Spelled}
 use Rattle.txn_grammar.specs.Tokens.{at, symbol_at, of_symbol, kind_of}
 use Rattle.txn_grammar.specs.Trees.{stmt_at, write_stmt, body_of}
-use Rattle.txn_grammar.specs.Grammar.{Word, LetStmt, EmitStmt, FailStmt, SimpleStmt, Block, Otherwise, IfStmt, ForStmt, WriteStmt, NestingStmt, Statement, BodyRule}
+use Rattle.txn_grammar.specs.Grammar.{Word, LetStmt, EmitStmt, FailStmt, SimpleStmt, Block, Otherwise, IfStmt, ForStmt}
+use Rattle.txn_grammar.specs.Grammar.{WriteStmt, NestingStmt, Statement, BodyRule}
 use Rattle.txn_grammar.specs.code.Forms.{of_next, simple_at, nesting_at}
-use Rattle.txn_grammar.specs.code.Reader.{sees, let_stmt, emit_stmt, fail_stmt, simple_read, simple_stmt, begins_simple, begins_nesting, begins_statement, block, otherwise_read, if_stmt, for_stmt, write_stmt_read, nesting_read, nesting_stmt, statement, body}
+use Rattle.txn_grammar.specs.code.Reader.{sees, let_stmt, emit_stmt, fail_stmt, simple_read, simple_stmt, begins_simple}
+use Rattle.txn_grammar.specs.code.Reader.{begins_nesting, begins_statement, block, otherwise_read, if_stmt, for_stmt}
+use Rattle.txn_grammar.specs.code.Reader.{write_stmt_read, nesting_read, nesting_stmt, statement, body}
 use Rattle.txn_grammar.proofs.Choices.{AnyOf, chosen_fits}
 use Rattle.txn_grammar.proofs.TokenFits.{ahead_of_word, ahead_of_symbol, word_fits, name_fits, write_fits}
 use Rattle.txn_grammar.proofs.Ends.{expression_end, statement_end, begins_expression, nesting_not_simple, statement_goes, statement_none, statement_no_close}
@@ -44,11 +47,14 @@ module _ (e : Reader Spot Expr) (E : Rule Spot Expr) (fe : Fits Spelled e E expr
   simple_branch_fits : (b : Simple) → Fits Spelled (simple_read e b) (simple_branch E b) any
   unfolding simple_branch let_stmt emit_stmt fail_stmt
   simple_branch_fits simple.Let = onwards Spelled (word_fits s.Let) (λ column. onwards Spelled name_fits (λ found. onwards Spelled (word_fits s.Assign) (λ _.
-      followed Spelled fe (λ value. seen Spelled (λ _. stmt_at column (stmt.Let found.1 value)) (word_fits s.Semicolon)) (λ value us vs b r h. ended us r.middle r.value r.first))))
+      followed Spelled fe (λ value. seen Spelled (λ _. stmt_at column (stmt.Let found.1 value)) (word_fits s.Semicolon))
+      (λ value us vs b r h. ended us r.middle r.value r.first))))
   simple_branch_fits simple.Emit = onwards Spelled (word_fits s.Emit) (λ column.
-      followed Spelled fe (λ value. seen Spelled (λ _. stmt_at column (stmt.Emit value)) (word_fits s.Semicolon)) (λ value us vs b r h. ended us r.middle r.value r.first))
+      followed Spelled fe (λ value. seen Spelled (λ _. stmt_at column (stmt.Emit value)) (word_fits s.Semicolon))
+      (λ value us vs b r h. ended us r.middle r.value r.first))
   simple_branch_fits simple.Fail = onwards Spelled (word_fits s.Fail) (λ column.
-      followed Spelled fe (λ value. seen Spelled (λ _. stmt_at column (stmt.Fail value)) (word_fits s.Semicolon)) (λ value us vs b r h. ended us r.middle r.value r.first))
+      followed Spelled fe (λ value. seen Spelled (λ _. stmt_at column (stmt.Fail value)) (word_fits s.Semicolon))
+      (λ value us vs b r h. ended us r.middle r.value r.first))
 
   simple_begun : (b : Simple) (ts us : List Spot) (a : Stmt) → simple_branch E b ts a us → of_next simple_at (next ts) ≡ Some b
   unfolding simple_branch
@@ -80,7 +86,8 @@ module _ (e : Reader Spot Expr) (E : Rule Spot Expr) (fe : Fits Spelled e E expr
 
 module _ (starts : Option Spot → Bool) (p : Reader Spot Stmt) (P : Rule Spot Stmt) (fp : Fits Spelled p P statement_end)
     (p_begins : (ts us : List Spot) (a : Stmt) → P ts a us → starts (next ts) ≡ true) (at_end : starts None ≡ false)
-    (goes : (h : Option Spot) → starts h ≡ true → statement_end h ≡ true) (closed : (column : ℕ) → starts (Some (spot column (t.Symbol s.CloseBrace))) ≡ false) where
+    (goes : (h : Option Spot) → starts h ≡ true → statement_end h ≡ true)
+    (closed : (column : ℕ) → starts (Some (spot column (t.Symbol s.CloseBrace))) ≡ false) where
   closes : (column : ℕ) → unless starts statement_end (Some (spot column (t.Symbol s.CloseBrace))) ≡ true
   unfolding same_symbol
   closes column = ap not (closed column)
@@ -106,7 +113,8 @@ module _ (starts : Option Spot → Bool) (p : Reader Spot Stmt) (P : Rule Spot S
     if_fits : Fits Spelled (if_stmt e starts p) (IfStmt E P) statement_end
     unfolding if_stmt
     if_fits = onwards Spelled (word_fits s.If) (λ column. followed Spelled fe (λ condition. onwards Spelled block_fits (λ holds.
-        seen Spelled (λ otherwise. stmt_at column (stmt.If condition holds otherwise)) (optional_fits Spelled (sees s.Else) (otherwise_read starts p) (Otherwise P) any otherwise_fits otherwise_begins)))
+        seen Spelled (λ otherwise. stmt_at column (stmt.If condition holds otherwise))
+        (optional_fits Spelled (sees s.Else) (otherwise_read starts p) (Otherwise P) any otherwise_fits otherwise_begins)))
         (λ condition us vs b r h. opens_block us r.first.middle r.first.value r.first.first))
 
     for_fits : Fits Spelled (for_stmt e starts p) (ForStmt E P) any
@@ -115,7 +123,8 @@ module _ (starts : Option Spot → Bool) (p : Reader Spot Stmt) (P : Rule Spot S
         followed Spelled fe (λ texts. seen Spelled (λ each. stmt_at column (stmt.For found.1 texts each)) block_fits)
         (λ texts us vs b r h. opens_block us r.first.middle r.first.value r.first.first))))
 
-write_stmt_fits : (e : Reader Spot Expr) (E : Rule Spot Expr) → Fits Spelled e E expression_end → ((ts us : List Spot) (a : Expr) → E ts a us → begins_expression (next ts) ≡ true)
+write_stmt_fits : (e : Reader Spot Expr) (E : Rule Spot Expr) → Fits Spelled e E expression_end
+    → ((ts us : List Spot) (a : Expr) → E ts a us → begins_expression (next ts) ≡ true)
     → Fits Spelled (write_stmt_read e) (WriteStmt E) any
 unfolding write_stmt_read
 write_stmt_fits e E fe e_begins = onwards Spelled (targeted_fits e E fe e_begins) (λ target. onwards Spelled (write_fits target.kind) (λ operation.
@@ -146,7 +155,8 @@ module _ (E : Rule Spot Expr) (A : Rule Spot Expr) (P : Rule Spot Stmt) where
   nesting_begun nesting.For ts us a r = ahead_of_word (of_next nesting_at) (Some nesting.For) s.For (λ c. refl) ts r.middle r.value r.first
   nesting_begun nesting.Write ts us a r =
       let k = r.first.first in
-      ahead_of_symbol kind_of (of_next nesting_at) (Some nesting.Write) kind_writes (next ts) (one_begins Spelled (at (of_symbol kind_of)) ts r.first.middle r.first.value k)
+      ahead_of_symbol kind_of (of_next nesting_at) (Some nesting.Write) kind_writes (next ts)
+      (one_begins Spelled (at (of_symbol kind_of)) ts r.first.middle r.first.value k)
 
   to_nesting : (ts us : List Spot) (a : Stmt) → AnyOf nesting_branch ts a us → NestingStmt E A P ts a us
   unfolding nesting_branch
@@ -164,10 +174,12 @@ module _ (E : Rule Spot Expr) (A : Rule Spot Expr) (P : Rule Spot Stmt) where
   nesting_begins ts us a r = let x = from_nesting ts us a r in told nesting_at (next ts) x.0 (nesting_begun x.0 ts us a x.1)
 
 module _ (e : Reader Spot Expr) (E : Rule Spot Expr) (fe : Fits Spelled e E expression_end)
-    (a : Reader Spot Expr) (A : Rule Spot Expr) (fa : Fits Spelled a A expression_end) (a_begins : (ts us : List Spot) (x : Expr) → A ts x us → begins_expression (next ts) ≡ true)
+    (a : Reader Spot Expr) (A : Rule Spot Expr) (fa : Fits Spelled a A expression_end)
+    (a_begins : (ts us : List Spot) (x : Expr) → A ts x us → begins_expression (next ts) ≡ true)
     (starts : Option Spot → Bool) (p : Reader Spot Stmt) (P : Rule Spot Stmt) (fp : Fits Spelled p P statement_end)
     (p_begins : (ts us : List Spot) (x : Stmt) → P ts x us → starts (next ts) ≡ true) (at_end : starts None ≡ false)
-    (goes : (h : Option Spot) → starts h ≡ true → statement_end h ≡ true) (closed : (column : ℕ) → starts (Some (spot column (t.Symbol s.CloseBrace))) ≡ false) where
+    (goes : (h : Option Spot) → starts h ≡ true → statement_end h ≡ true)
+    (closed : (column : ℕ) → starts (Some (spot column (t.Symbol s.CloseBrace))) ≡ false) where
   nesting_branch_fits : (b : Nesting) → Fits Spelled (nesting_read e a starts p b) (nesting_branch E A P b) statement_end
   unfolding nesting_branch
   nesting_branch_fits nesting.If = if_fits starts p P fp p_begins at_end goes closed e E fe
@@ -176,7 +188,9 @@ module _ (e : Reader Spot Expr) (E : Rule Spot Expr) (fe : Fits Spelled e E expr
 
   nesting_fits : Fits Spelled (nesting_stmt e a starts p) (NestingStmt E A P) statement_end
   unfolding nesting_stmt
-  nesting_fits = chosen_fits Spelled nesting_at nesting.Write (nesting_read e a starts p) (nesting_branch E A P) statement_end nesting_branch_fits (nesting_begun E A P)
+  nesting_fits =
+      chosen_fits Spelled nesting_at nesting.Write (nesting_read e a starts p) (nesting_branch E A P) statement_end
+      nesting_branch_fits (nesting_begun E A P)
       (NestingStmt E A P) (to_nesting E A P) (from_nesting E A P)
 
 -- ---- statements, by the levels that are left

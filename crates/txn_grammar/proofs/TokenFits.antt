@@ -26,7 +26,9 @@ use Rattle.txn_grammar.specs.declared.token.Spot.{Spot}
 use Rattle.txn_grammar.specs.Spellings.{same_symbol, spelling, reserved_word, mark}
 use Rattle.txn_grammar.specs.Numbers.{number_value, small_value}
 use Rattle.txn_grammar.specs.Lexer.{spot, lex, token_at, word_at, word_token, number_at, text_at, mark_at, Spelled}
-use Rattle.txn_grammar.specs.Tokens.{at, is_symbol, symbol_at, of_symbol, number, text, name, truth_of, operator_of, relation_of, kind_of, same_kind, operation, write_named, read_named, write_of, read_of}
+use Rattle.txn_grammar.specs.Tokens.{at, is_symbol, symbol_at, of_symbol, number, text, name, truth_of, operator_of}
+use Rattle.txn_grammar.specs.Tokens.{relation_of, kind_of, same_kind, operation, write_named, read_named, write_of}
+use Rattle.txn_grammar.specs.Tokens.{read_of}
 use Rattle.txn_grammar.specs.Grammar.{Word}
 use Rattle.txn_grammar.specs.code.Reader.{word, sees}
 
@@ -119,11 +121,13 @@ spelled_name = (codes "a", refl)
 -- ---- one token is read as its rule says
 
 -- an example of a token of which f makes a value
-pub token_fits : {A : Type 0} (f : Token → Option A) (example : Token) (value : A) → f example ≡ Some value → Spelled (spot 1 example) → Fits Spelled (one (at f)) (One (at f)) any
+pub token_fits : {A : Type 0} (f : Token → Option A) (example : Token) (value : A) → f example ≡ Some value
+    → Spelled (spot 1 example) → Fits Spelled (one (at f)) (One (at f)) any
 token_fits f example value made spelled = one_fits Spelled (at f) (spot 1 example) (1, value) (ap (option_map (λ a. (1, a))) made) spelled
 
 -- an example of a symbol of the table f
-symbol_fits : {A : Type 0} (f : Symbol → Option A) (example : Symbol) (value : A) → f example ≡ Some value → Fits Spelled (one (at (of_symbol f))) (One (at (of_symbol f))) any
+symbol_fits : {A : Type 0} (f : Symbol → Option A) (example : Symbol) (value : A) → f example ≡ Some value
+    → Fits Spelled (one (at (of_symbol f))) (One (at (of_symbol f))) any
 symbol_fits f example value made = token_fits (of_symbol f) (t.Symbol example) value made (spelled_symbol example)
 
 pub word_fits : (symbol : Symbol) → Fits Spelled (word symbol) (Word symbol) any

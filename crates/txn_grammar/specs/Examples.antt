@@ -9,7 +9,9 @@ use Rattle.txn_grammar.specs.declared.symbol.Symbol.TheVariants as s
 use Rattle.txn_grammar.specs.declared.token.Token.TheVariants as t
 use Rattle.txn_grammar.specs.Spellings.{same_symbol, reserved_word, mark}
 use Rattle.txn_grammar.specs.Trees.{expr, operand}
-use Rattle.txn_grammar.specs.code.Reader.{word, number_leaf, name_leaf, a_leaf, further, chain, other_side, comparison, comparison_of, expression_of, in_parens, group, opened, unary_of, negation_of, unary, expression}
+use Rattle.txn_grammar.specs.code.Reader.{word, number_leaf, name_leaf, a_leaf, further, chain, other_side, comparison}
+use Rattle.txn_grammar.specs.code.Reader.{comparison_of, expression_of, in_parens, group, opened, unary_of, negation_of}
+use Rattle.txn_grammar.specs.code.Reader.{unary, expression}
 use Rattle.txn_grammar.specs.Numbers.{small_value, number_value}
 use Rattle.txn_grammar.specs.Lexer.{spot, word_token, word_at, number_at, text_at, mark_at, token_at, lex}
 
@@ -37,18 +39,27 @@ reads_escapes = refl
 
 -- a second comparison is refused
 one_comparison : whole (expression 0) (lex (codes "1<2<3")) ≡ Err (spot 4 (t.Symbol s.Less) ∷ spot 5 (t.Number (pos 3)) ∷ [])
-unfolding lex token_at number_at number_value small_value mark_at mark whole expression expression_of unary comparison_of comparison other_side chain further list many turns optional one a_leaf number_leaf
+unfolding lex token_at number_at number_value small_value mark_at mark whole expression expression_of unary comparison_of
+    comparison other_side chain further list many turns optional one a_leaf number_leaf
 one_comparison = refl
 
 -- operands of one rank are one chain, and `*` binds tighter; parentheses leave their column alone
 chains : whole (expression 1) (lex (codes "(1)+2*3"))
-    ≡ Ok (expr 1 (node.Chain (expr 1 (node.Number (pos 1))) (operand operator.Plus (expr 5 (node.Chain (expr 5 (node.Number (pos 2))) (operand operator.Times (expr 7 (node.Number (pos 3))) ∷ []))) ∷ [])))
-unfolding lex token_at number_at number_value small_value mark_at mark whole expression expression_of unary unary_of opened negation_of comparison_of comparison other_side chain further list many turns optional one a_leaf number_leaf group in_parens word same_symbol
+    ≡ Ok (expr 1 (node.Chain (expr 1 (node.Number (pos 1)))
+    (operand operator.Plus (expr 5
+    (node.Chain (expr 5 (node.Number (pos 2))) (operand operator.Times (expr 7 (node.Number (pos 3))) ∷ []))) ∷ [])))
+unfolding lex token_at number_at number_value small_value mark_at mark whole expression expression_of unary unary_of opened
+    negation_of comparison_of comparison other_side chain further list many turns optional one a_leaf number_leaf group in_parens
+    word same_symbol
 chains = refl
 
 -- a group in a group opens a second level
-one_level : whole (expression 1) (lex (codes "((1))")) ≡ Err (spot 2 (t.Symbol s.OpenParen) ∷ spot 3 (t.Number (pos 1)) ∷ spot 4 (t.Symbol s.CloseParen) ∷ spot 5 (t.Symbol s.CloseParen) ∷ [])
-unfolding lex token_at number_at number_value small_value mark_at mark whole expression expression_of unary unary_of opened negation_of comparison_of comparison other_side chain further list many turns optional one a_leaf number_leaf name_leaf group in_parens word same_symbol
+one_level : whole (expression 1) (lex (codes "((1))"))
+    ≡ Err (spot 2 (t.Symbol s.OpenParen) ∷ spot 3 (t.Number (pos 1)) ∷ spot 4 (t.Symbol s.CloseParen) ∷ spot 5
+    (t.Symbol s.CloseParen) ∷ [])
+unfolding lex token_at number_at number_value small_value mark_at mark whole expression expression_of unary unary_of opened
+    negation_of comparison_of comparison other_side chain further list many turns optional one a_leaf number_leaf name_leaf group
+    in_parens word same_symbol
 one_level = refl
 
 -- with no level left the word of a kind is refused, since it could only go on with a parenthesis

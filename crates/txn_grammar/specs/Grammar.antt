@@ -36,7 +36,8 @@ use Rattle.txn_grammar.specs.declared.symbol.Symbol.TheVariants as s
 use Rattle.txn_grammar.specs.declared.target.Target.{Target}
 use Rattle.txn_grammar.specs.declared.token.Spot.{Spot}
 use Rattle.txn_grammar.specs.Tokens.{at, symbol_at, of_symbol, number, text, name, truth_of, operator_of, relation_of, kind_of, write_of, read_of}
-use Rattle.txn_grammar.specs.Trees.{expr, number_expr, text_expr, truth_expr, name_expr, grouped, operand, chained, compared, target_of, read_expr, stmt_at, write_stmt, body_of}
+use Rattle.txn_grammar.specs.Trees.{expr, number_expr, text_expr, truth_expr, name_expr, grouped, operand, chained}
+use Rattle.txn_grammar.specs.Trees.{compared, target_of, read_expr, stmt_at, write_stmt, body_of}
 
 -- a reserved word or a mark, by its column
 abbrev pub Word : Symbol → Rule Spot ℕ

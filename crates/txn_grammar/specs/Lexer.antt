@@ -1,5 +1,6 @@
 -- The tokens of a text. Each is the longest that fits; blanks separate tokens and mean nothing else.
-use Rattle.std.specs.Prelude.{◌≡◌, ℕ, zero, suc, ◌+◌, ◌-◌, ◌==◌, Bool, true, false, if◌then◌else◌, nat_lt, List, [], ◌∷◌, length, take, slice_index, ℤ, Option, Some, None, Ok, Err}
+use Rattle.std.specs.Prelude.{◌≡◌, ℕ, zero, suc, ◌+◌, ◌-◌, ◌==◌, Bool, true, false, if◌then◌else◌, nat_lt, List, []}
+use Rattle.std.specs.Prelude.{◌∷◌, length, take, slice_index, ℤ, Option, Some, None, Ok, Err}
 use Rattle.std.specs.List.{prefix_len}
 use Rattle.predictive_parsing.specs.Reading.{Outcome}
 use Rattle.dtext.specs.Characters.{is_letter, is_digit, is_word, is_blank}

@@ -1,5 +1,6 @@
 -- What digits are worth.
-use Rattle.std.specs.Prelude.{◌≡◌, ℕ, ◌+◌, ◌-◌, ◌*◌, ◌&&◌, ◌==◌, if◌then◌else◌, nat_le, nat_lt, length, fold, slice_index, pos, ℤ, codes, Option, Some, None, refl}
+use Rattle.std.specs.Prelude.{◌≡◌, ℕ, ◌+◌, ◌-◌, ◌*◌, ◌&&◌, ◌==◌, if◌then◌else◌, nat_le, nat_lt, length, fold}
+use Rattle.std.specs.Prelude.{slice_index, pos, ℤ, codes, Option, Some, None, refl}
 use Rattle.txn_grammar.specs.declared.limit.TheConstants.{LARGEST}
 use Rattle.txn_grammar.specs.Characters.{Text}
 

@@ -41,7 +41,8 @@ text_same : (x y : Bytes) → pointwise nat_eq x y ≡ true → x ≡ y
 text_same [] [] e = refl
 text_same [] (b ∷ y) e = absurd (cc)
 text_same (a ∷ x) [] e = absurd (cc)
-text_same (a ∷ x) (b ∷ y) e = let both = and_parts (nat_eq a b) (pointwise nat_eq x y) e in ap (λ c. c ∷ x) (eqb-true a b both.0) ∙ ap (λ z. b ∷ z) (text_same x y both.1)
+text_same (a ∷ x) (b ∷ y) e = let both = and_parts (nat_eq a b) (pointwise nat_eq x y) e in
+    ap (λ c. c ∷ x) (eqb-true a b both.0) ∙ ap (λ z. b ∷ z) (text_same x y both.1)
 
 kind_same : (a b : Kind) → kind_eq.ghosts.eq a b ≡ true → a ≡ b
 kind_same a b e = same_true the_kind tt a b e
@@ -75,7 +76,8 @@ module _ (P : Seen → Type 0) where
   listed [] z e all = absurd (cc)
   listed (x ∷ xs) z e all = by (seen_eq.ghosts.eq x z) refl e (λ later. listed xs z later all.1)
     where
-      by : (b : Bool) → seen_eq.ghosts.eq x z ≡ b → (b || list_any (λ t. seen_eq.ghosts.eq t z) xs) ≡ true → (list_any (λ t. seen_eq.ghosts.eq t z) xs ≡ true → P z) → P z
+      by : (b : Bool) → seen_eq.ghosts.eq x z ≡ b → (b || list_any (λ t. seen_eq.ghosts.eq t z) xs) ≡ true
+          → (list_any (λ t. seen_eq.ghosts.eq t z) xs ≡ true → P z) → P z
       by true is e rest = subst P (seen_alike x z is) all.0
       by false is e rest = rest e
 
@@ -113,14 +115,19 @@ module _ (s t : PartialState) where
     abbrev looked_step : Option Value → Step Own Item
     looked_step v = answered a (own_value r a v p.memory) p
 
-    read_back : (b : Bool) (v : Option Value) → Fine (λ o p. o ≡ p) Good Needs Anything (answered a (cond b (Some (answer r (replay ops (default_of a.kind)), p.memory)) (own_value r a v p.memory)) p) → Good p.memory
+    read_back : (b : Bool) (v : Option Value)
+        → Fine (λ o p. o ≡ p) Good Needs Anything
+        (answered a (cond b (Some (answer r (replay ops (default_of a.kind)), p.memory)) (own_value r a v p.memory)) p)
+        → Good p.memory
     read_back true v fine = fine
     read_back false None fine = absurd fine.0
     read_back false (Some v) fine = (parts (AgreesOn s t) p.memory.observations (seen_of v) fine).0
 
     read_forth : (b : Bool) (v : Option Value) → is_decided r ops ≡ b → s a ≡ v
-        → Fine (λ o p. o ≡ p) Good Needs Anything (answered a (cond b (Some (answer r (replay ops (default_of a.kind)), p.memory)) (own_value r a v p.memory)) p)
-        → (answered a (cond b (Some (answer r (replay ops (default_of a.kind)), p.memory)) (own_value r a v p.memory)) p) ≡ (answered a (cond b (Some (answer r (replay ops (default_of a.kind)), p.memory)) (own_value r a (t a) p.memory)) p)
+        → Fine (λ o p. o ≡ p) Good Needs Anything
+        (answered a (cond b (Some (answer r (replay ops (default_of a.kind)), p.memory)) (own_value r a v p.memory)) p)
+        → (answered a (cond b (Some (answer r (replay ops (default_of a.kind)), p.memory)) (own_value r a v p.memory)) p)
+        ≡ (answered a (cond b (Some (answer r (replay ops (default_of a.kind)), p.memory)) (own_value r a (t a) p.memory)) p)
     read_forth true v not_here is fine = refl
     read_forth false None not_here is fine = absurd fine.0
     read_forth false (Some v) not_here is fine =
@@ -129,7 +136,12 @@ module _ (s t : PartialState) where
         let rests = reads_rest_on_observations r ops v z.there both.0 (λ _. both.1) in
         let alike : answer r (replay ops v) ≡ answer r (replay ops z.there) = rests.0 in
         let same : observed r ops z.there ≡ observed r ops v = sym (rests.1 not_here) in
-        ap (λ (x : Item × _). gives x.0 (record p { memory = record p.memory { observations = with_seen p.memory.observations (record { address = a; obs = x.1 }) } })) (ap (λ (i : Item). (i, observed r ops v)) alike ∙ ap (λ o. (answer r (replay ops z.there), o)) (sym same))
+        ap (λ (x : Item × _). gives x.0
+        (record p {
+          memory = record p.memory
+              { observations = with_seen p.memory.observations (record { address = a; obs = x.1 }) };
+        }))
+        (ap (λ (i : Item). (i, observed r ops v)) alike ∙ ap (λ o. (answer r (replay ops z.there), o)) (sym same))
         ∙ ap (λ w. answered a (own_value r a w p.memory) p) (sym z.is)
 
   same_step : {A : Type 0} (u v : Step Own A) (p : Progress Own) → u ≡ v → Same (λ o p. o ≡ p) Good Needs Anything u v
@@ -156,10 +168,12 @@ module _ (s t : PartialState) where
       → (Fine (λ o p. o ≡ p) Good Needs Anything u → Same (λ o p. o ≡ p) Good Needs Anything u v) → ended v ≡ done r
   done_alike (gives x p) v r e agree sim = let z = sim agree in ap ended z.2 ∙ (ap (λ m. ended (gives x (onto m p))) (sym z.1) ∙ e)
   done_alike (stopped (stop.Need a) p) v r e agree sim = absurd (cc)
-  done_alike (stopped (stop.Fail x) p) v r e agree sim = let z = sim (tt, agree) in ap ended z.2 ∙ (ap (λ m. ended (stopped (stop.Fail x) (onto m p))) (sym z.1) ∙ e)
+  done_alike (stopped (stop.Fail x) p) v r e agree sim =
+      let z = sim (tt, agree) in ap ended z.2 ∙ (ap (λ m. ended (stopped (stop.Fail x) (onto m p))) (sym z.1) ∙ e)
   done_alike (stopped stop.Spent p) v r e agree sim = let z = sim (tt, agree) in ap ended z.2 ∙ (ap (λ m. ended (stopped stop.Spent (onto m p))) (sym z.1) ∙ e)
   done_alike (stopped stop.Big p) v r e agree sim = let z = sim (tt, agree) in ap ended z.2 ∙ (ap (λ m. ended (stopped stop.Big (onto m p))) (sym z.1) ∙ e)
-  done_alike (stopped stop.NoMemory p) v r e agree sim = let z = sim (tt, agree) in ap ended z.2 ∙ (ap (λ m. ended (stopped stop.NoMemory (onto m p))) (sym z.1) ∙ e)
+  done_alike (stopped stop.NoMemory p) v r e agree sim =
+      let z = sim (tt, agree) in ap ended z.2 ∙ (ap (λ m. ended (stopped stop.NoMemory (onto m p))) (sym z.1) ∙ e)
 
 pub runs_are_determined : RunsAreDetermined
 unfolding exec

@@ -3,6 +3,12 @@ pub mod Journals
 pub mod Typing
 pub mod NamesKept
 pub mod Trees
+pub mod Each
+pub mod Words
+pub mod Sizes
+pub mod Walk
 pub mod Simulation
 pub mod Determinacy
 pub mod Observed
+pub mod Few
+pub mod Given

@@ -1,5 +1,6 @@
 -- What the checker keeps of names, as they are bound and forgotten.
-use Rattle.std.proofs.Common.{◌≡◌, ◌+◌, ◌-◌, ℕ, zero, suc, Bool, true, false, cond, List, [], ◌∷◌, ◌++◌, take, length, fold, Option, Some, None, refl, ap, sym, ◌∙◌, subst, arith}
+use Rattle.std.proofs.Common.{◌≡◌, ◌+◌, ◌-◌, ℕ, zero, suc, Bool, true, false, cond, List, [], ◌∷◌, ◌++◌, take, length}
+use Rattle.std.proofs.Common.{fold, Option, Some, None, refl, ap, sym, ◌∙◌, subst, arith}
 use Rattle.std.specs.List.{slice_get}
 use Rattle.std.specs.declared.cmp.Ordering.{Ordering}
 use Rattle.std.specs.declared.cmp.Ordering.TheVariants.{Equal}
@@ -69,14 +70,17 @@ last_place [] x = refl
 last_place (y ∷ xs) x = last_place xs x
 
 -- the name that was bound last is forgotten
-pub keeps-forget : (types : MapOf (Option ItemType)) (bs : List Binding) (b : Binding) → Keeps types (bs ++ b ∷ []) → Keeps (fin.insert types b.name b.hidden) bs
+pub keeps-forget : (types : MapOf (Option ItemType)) (bs : List Binding) (b : Binding) → Keeps types (bs ++ b ∷ [])
+    → Keeps (fin.insert types b.name b.hidden) bs
 keeps-forget types bs b keeps = record {
   newest = λ x. type_there-insert types b.name b.hidden x ∙ by x (eq_by_cmp text_cmp x b.name) refl;
   hidden = IsLawful-prefix Hides 0 bs (bs ++ b ∷ []) (b ∷ [], refl) keeps.hidden;
 }
   where
     last_hides : Hides 0 bs b
-    last_hides = subst (λ before. Hides 0 before b) (take-append_seam bs (b ∷ [])) (IsLawful-place Hides 0 (bs ++ b ∷ []) keeps.hidden (length bs) b (last_place bs b))
+    last_hides =
+        subst (λ before. Hides 0 before b) (take-append_seam bs (b ∷ []))
+        (IsLawful-place Hides 0 (bs ++ b ∷ []) keeps.hidden (length bs) b (last_place bs b))
 
     by : (x : Bytes) (tied : Bool) → eq_by_cmp text_cmp x b.name ≡ tied → cond tied b.hidden (type_there (fin.get types x)) ≡ type_bound (names_of bs) x
     by x true e = last_hides ∙ sym (type_bound-tied (names_of bs) x b.name e)
@@ -101,7 +105,8 @@ pub length-names_of : (bs : List Binding) → length (names_of bs) ≡ length bs
 length-names_of bs = length-map bs (λ (b : Binding). (b.name, b.item_type))
 
 -- a name that is bound, as the code puts its binding together
-pub keeps-bound : (types : MapOf (Option ItemType)) (bs : List Binding) (names : Names) (x key own : Bytes) (t : ItemType) (hidden : Option ItemType) → Keeps types bs
+pub keeps-bound : (types : MapOf (Option ItemType)) (bs : List Binding) (names : Names) (x key own : Bytes) (t : ItemType)
+    (hidden : Option ItemType) → Keeps types bs
     → names_of bs ≡ names → hidden ≡ type_bound names x → key ≡ x → own ≡ x
     → Keeps (fin.insert types key (Some t)) (bs ++ (record { name = own; item_type = t; hidden = hidden }) ∷ [])
 keeps-bound types bs names x key own t hidden keeps are hides is own_is =
@@ -110,6 +115,7 @@ keeps-bound types bs names x key own t hidden keeps are hides is own_is =
     (keeps-bind types bs b keeps (hides ∙ ap (type_bound names) (sym own_is) ∙ ap (λ ns. type_bound ns own) (sym are)))
 
 -- what is left of names when the last is forgotten
-pub names_of-forgot : (bs : List Binding) (names : Names) (k : ℕ) → names_of bs ≡ names → k ≡ length bs → names_of (take (k - 1) bs) ≡ take (length names - 1) names
+pub names_of-forgot : (bs : List Binding) (names : Names) (k : ℕ) → names_of bs ≡ names → k ≡ length bs
+    → names_of (take (k - 1) bs) ≡ take (length names - 1) names
 names_of-forgot bs names k are is =
     names_of-take (k - 1) bs ∙ ap (λ n. take (n - 1) (names_of bs)) (is ∙ sym (length-names_of bs)) ∙ ap (λ ns. take (length ns - 1) ns) are

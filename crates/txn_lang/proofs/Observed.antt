@@ -1,5 +1,5 @@
--- What a run needs is missing, and what it observed is there: the simulation of a memory by itself.
-use Rattle.std.proofs.Common.{◌≡◌, ℤ, pos, negsuc, Bool, true, false, nat_lt, List, [], ◌∷◌, ◌++◌, length, Option, Some, None, refl, ap, sym, ◌∙◌, subst, cond}
+-- What a run needs is missing, what it observed is there, and both are short: the simulation of a memory by itself.
+use Rattle.std.proofs.Common.{◌≡◌, ℤ, pos, negsuc, Bool, true, false, not, ◌&&◌, nat_lt, List, [], ◌∷◌, ◌++◌, length, Option, Some, None, refl, ap, sym, ◌∙◌, subst, cond}
 use Rattle.std.specs.List.{list_any, AllByRecursion}
 use Rattle.std.proofs.lemmas.Bool.{ltb-true}
 use Rattle.rdt_types.specs.declared.address.Address.{Address}
@@ -26,9 +26,12 @@ use Rattle.txn_lang.specs.States.{PartialState, known}
 use Rattle.txn_lang.specs.Own.{at_address, with_seen}
 use Rattle.txn_lang.specs.Execution.{Ran, need, done, Own, own, own_read, own_value, own_write, ended, own_run, exec, begun, nothing_yet}
 use Rattle.txn_lang.specs.Determinacy.{AgreesOn, Agree}
-use Rattle.txn_lang.specs.Observed.{IsThere, Extends, NeedsAreMissing, WholeRunsAreDone, ObservedIsThere, RunsStayDone}
+use Rattle.txn_lang.specs.Observed.{IsThere, Extends, NeedsAreMissing, WholeRunsAreDone, ObservedIsThere, RunsStayDone, NeedsStay}
+use Rattle.txn_lang.specs.Short.{IsShortAddress, text_in, IsShortObservation, RunsAskShort}
 use Rattle.txn_lang.proofs.Determinacy.{runs_are_determined}
-use Rattle.txn_lang.proofs.Simulation.{Suits, Simulates, Fine, Same, Lacking, onto, body_simulates, answered_bounded, answered_lacking}
+use Rattle.txn_lang.proofs.Each.{each-more, each-push}
+use Rattle.txn_lang.proofs.Sizes.{IsShortText, no_text_short, text_asked, IsShortRead}
+use Rattle.txn_lang.proofs.Simulation.{Suits, Simulates, Fine, Same, Lacking, onto, body_simulates, short_reads_simulate, answered_bounded, answered_lacking}
 
 -- a place is observed alone only within the list
 place_within : (i : ℤ) (takes_out : Bool) (v : Value) → IsWithin (place_observed i takes_out (list_in v)) v
@@ -59,22 +62,41 @@ observed_within (read.HashGet f) takes_out v = tt
 observed_within read.HashFields takes_out v = tt
 observed_within read.ListAll takes_out v = tt
 
-module _ (P : Seen → Type 0) where
-  pushed : (xs : List Seen) (z : Seen) → AllByRecursion P xs → P z → AllByRecursion P (xs ++ z ∷ [])
-  pushed [] z all holds = (holds, tt)
-  pushed (x ∷ xs) z all holds = (all.0, pushed xs z all.1 holds)
+-- a short read observes no longer text
+observed_short : (r : ReadOp) (takes_out : Bool) (v : Value) → IsShortText (text_asked r) → IsShortText (text_in (observed_where r takes_out v))
+observed_short read.Get takes_out v short = whole_short v
+  where
+    whole_short : (v : Value) → IsShortText (text_in (whole_observed v))
+    whole_short (value.Bool b) = no_text_short
+    whole_short (value.Text t) = no_text_short
+    whole_short _ = no_text_short
+observed_short (read.ListAt (pos i)) takes_out v short = by (not takes_out && nat_lt i (length (list_in v)))
+  where
+    by : (b : Bool) → IsShortText (text_in (cond b (obs.ListAt i) obs.ListAll))
+    by true = no_text_short
+    by false = no_text_short
+observed_short (read.ListAt (negsuc i)) takes_out v short = no_text_short
+observed_short (read.SetHas x) takes_out v short = short
+observed_short (read.HashHas f) takes_out v short = short
+observed_short (read.HashGet f) takes_out v short = short
+observed_short _ takes_out v short = no_text_short
 
+module _ (P : Seen → Type 0) where
   -- one more observation of which it holds
   with_one : (xs : List Seen) (z : Seen) → AllByRecursion P xs → P z → AllByRecursion P (with_seen xs z)
   with_one xs z all holds = by (list_any (λ t. seen_eq.ghosts.eq t z) xs)
     where
       by : (b : Bool) → AllByRecursion P (cond b xs (xs ++ z ∷ []))
       by true = all
-      by false = pushed xs z all holds
+      by false = each-push P xs z all holds
 
 module _ (s : PartialState) where
+  -- what was observed is there, and short
+  abbrev IsSeen : Seen → Type 0
+  IsSeen z = IsThere s z × IsShortObservation z.address z.obs
+
   abbrev Always : Own → Own → Type 0
-  Always o p = (o ≡ p) × AllByRecursion (IsThere s) o.observations
+  Always o p = (o ≡ p) × AllByRecursion IsSeen o.observations
 
   abbrev Good : Own → Type 0
   Good o = Unit {0}
@@ -83,7 +105,7 @@ module _ (s : PartialState) where
   Needs a = Unit {0}
 
   abbrev Lacks : Address → Type 0
-  Lacks a = s a ≡ None
+  Lacks a = (s a ≡ None) × IsShortAddress a
 
   abbrev Both : {A : Type 0} → Stepping Own A → Stepping Own A → Type 0
   Both f g = Simulates Always Good Needs Lacks f g
@@ -91,7 +113,7 @@ module _ (s : PartialState) where
   abbrev Along : {A : Type 0} → Step Own A → Step Own A → Type 0
   Along u v = Same Always Good Needs Lacks u v
 
-  module _ (r : ReadOp) (a : Address) (suits : Suits a.kind r) (p : Progress Own) where
+  module _ (r : ReadOp) (a : Address) (suits : Suits a.kind r) (short : IsShortRead a r) (p : Progress Own) where
     abbrev ops : List WriteOp
     ops = at_address a p.memory.operations
 
@@ -105,33 +127,42 @@ module _ (s : PartialState) where
     unanswered false (Some v) e = absurd (cc)
 
     -- a read observes what is there
-    along : (b : Bool) (v : Option Value) → s a ≡ v → AllByRecursion (IsThere s) p.memory.observations → Along (answered a (step_of b v) p) (answered a (step_of b v) p)
+    along : (b : Bool) (v : Option Value) → s a ≡ v → AllByRecursion IsSeen p.memory.observations
+        → Along (answered a (step_of b v) p) (answered a (step_of b v) p)
     along true v is all = (p.memory, (refl, all), refl)
     along false None is all = (p.memory, (refl, all), refl)
     along false (Some v) is all =
         let takes_out = list_any is_list_remove ops in
-        let there : IsThere s (record { address = a; obs = observed r ops v }) = record { value = v; is = is; within = observed_within r takes_out v; kind = suits takes_out v } in
-        (_, (refl, with_one (IsThere s) p.memory.observations _ all there), refl)
+        let there : IsThere s (record { address = a; obs = observed r ops v }) =
+        record { value = v; is = is; within = observed_within r takes_out v; kind = suits takes_out v } in
+        let brief : IsShortObservation a (observed r ops v) = record { key = short.0; text = observed_short r takes_out v short.1 } in
+        (_, (refl, with_one IsSeen p.memory.observations _ all (there, brief)), refl)
 
-  reads : (r : ReadOp) (a : Address) → Suits a.kind r → Both (read_at (own s) r a) (read_at (own s) r a)
-  reads r a suits = record {
+  reads : (r : ReadOp) (a : Address) → Suits a.kind r → IsShortRead a r → Both (read_at (own s) r a) (read_at (own s) r a)
+  reads r a suits short = record {
     back = λ p fine. tt;
     forth = λ p m with_it fine. subst (λ m. Along (read_at (own s) r a p) (read_at (own s) r a (onto m p))) with_it.0
-        (along r a suits p (is_decided r (ops r a suits p)) (s a) refl with_it.1);
+        (along r a suits short p (is_decided r (ops r a suits short p)) (s a) refl with_it.1);
     bounded = λ p h. answered_bounded a (own_read s r a p.memory) p h;
-    lacking = λ p. answered_lacking Always Good Needs Lacks a (own_read s r a p.memory) p (unanswered r a suits p (is_decided r (ops r a suits p)) (s a));
+    lacking = λ p. answered_lacking Always Good Needs Lacks a (own_read s r a p.memory) p
+        (λ none. (unanswered r a suits short p (is_decided r (ops r a suits short p)) (s a) none, short.0));
   }
 
   writes : (a : Address) (o : WriteOp) → kind_written o ≡ a.kind → Both (write_at (own s) a o) (write_at (own s) a o)
-  writes a o k = record { back = λ p fine. tt; forth = λ p m with_it fine. (own_write a o m, (ap (own_write a o) with_it.0, with_it.1), refl); bounded = λ p h. h; lacking = λ p. tt }
+  writes a o k = record {
+    back = λ p fine. tt;
+    forth = λ p m with_it fine. (own_write a o m, (ap (own_write a o) with_it.0, with_it.1), refl);
+    bounded = λ p h. h;
+    lacking = λ p. tt;
+  }
 
   run_simulates : (b : Body) → Both (body_run (own s) b) (body_run (own s) b)
-  run_simulates b = body_simulates Always Good Needs Lacks (own s) (own s) reads writes b
+  run_simulates b = short_reads_simulate Always Good Needs Lacks (own s) (own s) reads writes b
 
   -- what a run that needs an address says of it, and of its observations one that is done
   abbrev Told : Ran → Type 0
-  Told (need a) = s a ≡ None
-  Told (done r) = AllByRecursion (IsThere s) r.observations
+  Told (need a) = Lacks a
+  Told (done r) = AllByRecursion IsSeen r.observations
 
   told_by : (u v : Step Own Names) → Lacking Always Good Needs Lacks u → (Fine Always Good Needs Lacks u → Along u v) → Told (ended u)
   told_by (gives x p) v lacks sim = (sim tt).1.1
@@ -142,15 +173,28 @@ module _ (s : PartialState) where
   told_by (stopped stop.NoMemory p) v lacks sim = (sim (tt, tt)).1.1
 
   told : (b : Body) → Told (ended (own_run b s))
-  told b = told_by (own_run b s) (own_run b s) ((run_simulates b).lacking (begun nothing_yet)) ((run_simulates b).forth (begun nothing_yet) nothing_yet (refl, tt))
+  told b =
+      told_by (own_run b s) (own_run b s) ((run_simulates b).lacking (begun nothing_yet)) ((run_simulates b).forth (begun nothing_yet) nothing_yet (refl, tt))
+
+needed : (b : Body) (s : PartialState) (a : Address) → exec b s ≡ need a → Lacks s a
+unfolding exec
+needed b s a e = subst (Told s) e (told s b)
+
+seen : (b : Body) (s : PartialState) (r : Run) → exec b s ≡ done r → AllByRecursion (IsSeen s) r.observations
+unfolding exec
+seen b s r e = subst (Told s) e (told s b)
 
 pub needs_are_missing : NeedsAreMissing
-unfolding exec
-needs_are_missing b s a e = subst (Told s) e (told s b)
+needs_are_missing b s a e = (needed b s a e).0
 
 pub observed_is_there : ObservedIsThere
-unfolding exec
-observed_is_there b s r e = subst (Told s) e (told s b)
+observed_is_there b s r e = each-more (IsSeen s) (IsThere s) r.observations (λ z all. all.0) (seen b s r e)
+
+pub runs_ask_short : RunsAskShort
+runs_ask_short = record {
+  needed = λ b s a e. (needed b s a e).1;
+  observed = λ b s r e. each-more (IsSeen s) (λ z. IsShortObservation z.address z.obs) r.observations (λ z all. all.1) (seen b s r e);
+}
 
 -- a whole state lacks nothing
 pub whole_runs_are_done : WholeRunsAreDone
@@ -177,3 +221,57 @@ agree_on_more s t more (z ∷ seen) all = (agrees all.0, agree_on_more s t more 
 
 pub runs_stay_done : RunsStayDone
 runs_stay_done b s t r more e = runs_are_determined b s t r e (agree_on_more s t more r.observations (observed_is_there b s r e))
+
+-- ---- needs stay
+
+module _ (s t : PartialState) (more : Extends s t) where
+  abbrev Missing : Address → Type 0
+  Missing a = t a ≡ None
+
+  abbrev Onward : {A : Type 0} → Stepping Own A → Stepping Own A → Type 0
+  Onward f g = Simulates (λ o p. o ≡ p) (Good s) Missing (Needs s) f g
+
+  abbrev Fit : {A : Type 0} → Step Own A → Type 0
+  Fit u = Fine (λ o p. o ≡ p) (Good s) Missing (Needs s) u
+
+  abbrev Alike : {A : Type 0} → Step Own A → Step Own A → Type 0
+  Alike u v = Same (λ o p. o ≡ p) (Good s) Missing (Needs s) u v
+
+  alike : {A : Type 0} (u v : Step Own A) → u ≡ v → Alike u v
+  alike (stopped e q) v is = (q.memory, refl, sym is)
+  alike (gives x q) v is = (q.memory, refl, sym is)
+
+  module _ (r : ReadOp) (a : Address) (p : Progress Own) where
+    abbrev at : Bool → Option Value → Step Own Item
+    at b v = answered a (cond b (Some (answer r (replay (at_address a p.memory.operations) (default_of a.kind)), p.memory)) (own_value r a v p.memory)) p
+
+    read_alike : (b : Bool) (v : Option Value) → s a ≡ v → Fit (at b v) → at b v ≡ at b (t a)
+    read_alike true v is fine = refl
+    read_alike false None is fine = ap (at false) (sym fine.0)
+    read_alike false (Some v) is fine = ap (at false) (sym (more a v is))
+
+  reads_on : (r : ReadOp) (a : Address) → Suits a.kind r → Onward (read_at (own s) r a) (read_at (own t) r a)
+  reads_on r a suits = record {
+    back = λ p fine. tt;
+    forth = λ p m is fine. subst (λ m. Alike (read_at (own s) r a p) (read_at (own t) r a (onto m p))) is
+        (alike (read_at (own s) r a p) (read_at (own t) r a p) (read_alike r a p (is_decided r (at_address a p.memory.operations)) (s a) refl fine));
+    bounded = λ p h. answered_bounded a (own_read s r a p.memory) p h;
+    lacking = λ p. answered_lacking (λ o p. o ≡ p) (Good s) Missing (Needs s) a (own_read s r a p.memory) p (λ e. tt);
+  }
+
+  writes_on : (a : Address) (o : WriteOp) → kind_written o ≡ a.kind → Onward (write_at (own s) a o) (write_at (own t) a o)
+  writes_on a o k = record { back = λ p fine. tt; forth = λ p m is fine. (own_write a o m, ap (own_write a o) is, refl); bounded = λ p h. h; lacking = λ p. tt }
+
+  need_alike : (u v : Step Own Names) (a : Address) → ended u ≡ need a → t a ≡ None → (Fit u → Alike u v) → ended v ≡ need a
+  need_alike (stopped (stop.Need c) p) v a e none sim = let is : c ≡ a = cc in ap ended (sim (subst Missing (sym is) none, tt)).2 ∙ e
+  need_alike (gives x p) v a e none sim = absurd (cc)
+  need_alike (stopped (stop.Fail x) p) v a e none sim = absurd (cc)
+  need_alike (stopped stop.Spent p) v a e none sim = absurd (cc)
+  need_alike (stopped stop.Big p) v a e none sim = absurd (cc)
+  need_alike (stopped stop.NoMemory p) v a e none sim = absurd (cc)
+
+pub needs_stay : NeedsStay
+unfolding exec
+needs_stay b s t a more e none =
+    let sim = body_simulates (λ o p. o ≡ p) (Good s) (Missing s t more) (Needs s) (own s) (own t) (reads_on s t more) (writes_on s t more) b in
+    need_alike s t more (own_run b s) (own_run b t) a e none (sim.forth (begun nothing_yet) nothing_yet refl)

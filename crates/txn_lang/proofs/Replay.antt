@@ -34,8 +34,12 @@ delta_at-with_delta ds a b d =
 -- an operation at the address comes before the later ones there
 at_address-cons : (a : Address) (w : Address × WriteOp) (own : Operations) (t : Bool) → is_eq (address_cmp a w.0) ≡ t
     → at_address a (w ∷ own) ≡ cond t (w.1 ∷ at_address a own) (at_address a own)
-at_address-cons a w own true e = ap (λ b. map (λ u. u.1) (cond b (w ∷ filter (λ u. is_eq (address_cmp a u.0)) own) (filter (λ u. is_eq (address_cmp a u.0)) own))) e
-at_address-cons a w own false e = ap (λ b. map (λ u. u.1) (cond b (w ∷ filter (λ u. is_eq (address_cmp a u.0)) own) (filter (λ u. is_eq (address_cmp a u.0)) own))) e
+at_address-cons a w own true e =
+    ap (λ b. map (λ u. u.1) (cond b (w ∷ filter (λ u. is_eq (address_cmp a u.0)) own)
+    (filter (λ u. is_eq (address_cmp a u.0)) own))) e
+at_address-cons a w own false e =
+    ap (λ b. map (λ u. u.1) (cond b (w ∷ filter (λ u. is_eq (address_cmp a u.0)) own)
+    (filter (λ u. is_eq (address_cmp a u.0)) own))) e
 
 composed-cons : (a : Address) (w : Address × WriteOp) (d : Option Delta) (own : Operations) (t : Bool) → is_eq (address_cmp a w.0) ≡ t
     → composed_after (cond t (Some (after_maybe d (delta_of w.1))) d) (at_address a own) ≡ composed_after d (at_address a (w ∷ own))

@@ -1,5 +1,6 @@
 -- The checker against the rules of typing.
-use Rattle.std.proofs.Common.{◌≡◌, ◌≤◌, arith, ℕ, zero, suc, Bool, true, false, cond, List, [], ◌∷◌, ◌++◌, map, length, take, append_assoc, Option, Some, None, Result, Ok, Err, refl, ap, sym, ◌∙◌, subst}
+use Rattle.std.proofs.Common.{◌≡◌, ◌≤◌, arith, ℕ, zero, suc, Bool, true, false, cond, List, [], ◌∷◌, ◌++◌, map, length}
+use Rattle.std.proofs.Common.{take, append_assoc, Option, Some, None, Result, Ok, Err, refl, ap, sym, ◌∙◌, subst}
 use Rattle.std.specs.List.{slice_get}
 use Rattle.plain_data.specs.Texts.{Bytes}
 use Rattle.std.specs.Option.{unwrap_or, option_or}
@@ -22,7 +23,13 @@ use Rattle.txn_trees.specs.declared.statement.Body.{Body}
 use Rattle.txn_lang.specs.declared.item_type.Type.{«Type» as ItemType}
 use Rattle.txn_lang.specs.declared.item_type.Type.TheVariants as type
 use Rattle.txn_lang.specs.Types.{Names, type_bound, same, has_length, may_compare, takes, may_begin, written_type, asked_type, answered_type}
-use Rattle.txn_lang.specs.Typing.{HasType, number, text, bool, name, texts, shown, negative, negation, comparison, chain, read, AreTyped, none, bind, emit, fail, branch, turns, write, IsTyped, Judged, and_then, unless, told, Typed, all_of, fits, operands_of, may_be_first, named, judge_node, judge_expr, judge_operand, typed, judged_operand, type_of, expect, in_order, block, turn, judge_write, judge_step, judge_stmt, names_after, judge, node_of, step_of, column_of, operator_of, value_of, else_of, TypesAreFound, BodiesAreJudged}
+use Rattle.txn_lang.specs.Typing.{HasType, number, text, bool, name, texts, shown, negative, negation, comparison}
+use Rattle.txn_lang.specs.Typing.{chain, read, AreTyped, none, bind, emit, fail, branch, turns, write, IsTyped, Judged}
+use Rattle.txn_lang.specs.Typing.{and_then, unless, told, Typed, all_of, fits, operands_of, may_be_first, named}
+use Rattle.txn_lang.specs.Typing.{judge_node, judge_expr, judge_operand, typed, judged_operand, type_of, expect}
+use Rattle.txn_lang.specs.Typing.{in_order, block, turn, judge_write, judge_step, judge_stmt, names_after, judge}
+use Rattle.txn_lang.specs.Typing.{node_of, step_of, column_of, operator_of, value_of, else_of, TypesAreFound}
+use Rattle.txn_lang.specs.Typing.{BodiesAreJudged}
 use Rattle.txn_lang.specs.Typing as rule
 use Rattle.txn_lang.specs.code.Checking.{Leaves}
 use Rattle.plain_data.specs.declared.or_no_memory.OrNoMemory.{OrNoMemory}
@@ -77,7 +84,10 @@ fits_is o t u e = by_same (same u t) (same_is u t) e
 -- ---- one layer of the checker
 
 abbrev deep : ExprNode-F ExprNode Expr Operand → ExprNode-F (ℕ → Names → Judged ItemType) Typed (Operator × Typed)
-deep = map-ExprNode ExprNode Expr Operand (ℕ → Names → Judged ItemType) Typed (Operator × Typed) (fold-ExprNode (ℕ → Names → Judged ItemType) Typed (Operator × Typed) judge_node judge_expr judge_operand) typed judged_operand
+deep =
+    map-ExprNode ExprNode Expr Operand (ℕ → Names → Judged ItemType) Typed (Operator × Typed)
+    (fold-ExprNode (ℕ → Names → Judged ItemType) Typed (Operator × Typed) judge_node judge_expr judge_operand) typed
+    judged_operand
 
 -- an expression is judged by what it is
 pub typed_is : (e : Expr) → typed e ≡ record { column = column_of e; judged = judge_node (deep (node_of e)) (column_of e) }
@@ -114,7 +124,10 @@ module _ (names : Names) where
         → (complaint ≡ None) × Each wanted es
     each_sound wanted complaint [] e = (cc, λ i a there. absurd (cc))
     each_sound wanted complaint (x ∷ es) e =
-        let s = then_ok (type_of (hE x) names) (λ t. all_of wanted (option_or complaint (unless (same t wanted) (typed (hE x)).column)) (map typed (map hE es)) names) None e in
+        let s =
+        then_ok (type_of (hE x) names)
+        (λ t. all_of wanted (option_or complaint (unless (same t wanted) (typed (hE x)).column)) (map typed (map hE es))
+        names) None e in
         let r = each_sound wanted (option_or complaint (unless (same s.0 wanted) (typed (hE x)).column)) es s.1.1 in
         let none_yet = or_none complaint (unless (same s.0 wanted) (typed (hE x)).column) r.0 in
         let is = same_is s.0 wanted (unless_none (same s.0 wanted) (typed (hE x)).column none_yet.1) in
@@ -130,26 +143,32 @@ module _ (names : Names) where
     operands_sound t complaint [] e = (cc, (λ i a there. absurd (cc), λ i a there. absurd (cc)))
     operands_sound t complaint (o ∷ os) e =
         let p = judged_operand (hO o) in
-        let s = then_ok (p.1.judged names) (λ u. operands_of t (option_or complaint (unless (fits p.0 t u) p.1.column)) (map judged_operand (map hO os)) names) None e in
+        let s =
+        then_ok (p.1.judged names) (λ u. operands_of t (option_or complaint (unless (fits p.0 t u) p.1.column))
+        (map judged_operand (map hO os)) names) None e in
         let r = operands_sound t (option_or complaint (unless (fits p.0 t s.0) p.1.column)) os s.1.1 in
         let none_yet = or_none complaint (unless (fits p.0 t s.0) p.1.column) r.0 in
         let fit = fits_is p.0 t s.0 (unless_none (fits p.0 t s.0) p.1.column none_yet.1) in
         let found : type_of (value_of (hO o)) names ≡ Ok s.0 = sym (ap (λ (q : Operator × Typed). q.1.judged names) (operand_is (hO o))) ∙ s.1.0 in (
           none_yet.0,
           (
-            first_or_later (λ q. takes (operator_of q) t ≡ true) (hO o) (map hO os) (subst (λ (q : Operator × Typed). takes q.0 t ≡ true) (operand_is (hO o)) fit.1) r.1.0,
-            first_or_later (λ q. HasType names (value_of q) t) (hO o) (map hO os) (subst (λ u. HasType names (value_of (hO o)) u) fit.0 (operands o s.0 found)) r.1.1,
+            first_or_later (λ q. takes (operator_of q) t ≡ true) (hO o) (map hO os)
+                (subst (λ (q : Operator × Typed). takes q.0 t ≡ true) (operand_is (hO o)) fit.1) r.1.0,
+            first_or_later (λ q. HasType names (value_of q) t) (hO o) (map hO os)
+                (subst (λ u. HasType names (value_of (hO o)) u) fit.0 (operands o s.0 found)) r.1.1,
           ),
         )
 
     abbrev layer : ExprNode-F N E O → ExprNode-F ExprNode Expr Operand
     layer = map-ExprNode N E O ExprNode Expr Operand hN hE hO
 
-    judged_layer : (y : ExprNode-F N E O) (e : Expr) → node_of e ≡ layer y → (t : ItemType) → type_of e names ≡ Ok t → judge_node (deep (layer y)) (column_of e) names ≡ Ok t
+    judged_layer : (y : ExprNode-F N E O) (e : Expr) → node_of e ≡ layer y → (t : ItemType) → type_of e names ≡ Ok t
+        → judge_node (deep (layer y)) (column_of e) names ≡ Ok t
     judged_layer y e is t ok = sym (type_by names e (layer y) is) ∙ ok
 
     -- a node whose one operand has to be of a type
-    one_sound : (wanted given : ItemType) (a : E) (t : ItemType) → and_then (type_of (hE a) names) (λ u. told (unless (same u wanted) (typed (hE a)).column) given) ≡ Ok t
+    one_sound : (wanted given : ItemType) (a : E) (t : ItemType)
+        → and_then (type_of (hE a) names) (λ u. told (unless (same u wanted) (typed (hE a)).column) given) ≡ Ok t
         → HasType names (hE a) wanted × (given ≡ t)
     one_sound wanted given a t e =
         let s = then_ok (type_of (hE a) names) (λ u. told (unless (same u wanted) (typed (hE a)).column) given) t e in
@@ -158,16 +177,22 @@ module _ (names : Names) where
         (subst (λ u. HasType names (hE a) u) is (exprs a s.0 s.1.0), r.1)
 
     layer_sound : (y : ExprNode-F N E O) (e : Expr) → node_of e ≡ layer y → Sound e
-    layer_sound (ExprNode-F.Number n) e is t ok = let j : type.Int ≡ t = cc (judged_layer (ExprNode-F.Number n) e is t ok) in subst (λ t. HasType names e t) j (number e n is)
-    layer_sound (ExprNode-F.Text z) e is t ok = let j : type.Text ≡ t = cc (judged_layer (ExprNode-F.Text z) e is t ok) in subst (λ t. HasType names e t) j (text e z is)
-    layer_sound (ExprNode-F.Bool b) e is t ok = let j : type.Bool ≡ t = cc (judged_layer (ExprNode-F.Bool b) e is t ok) in subst (λ t. HasType names e t) j (bool e b is)
+    layer_sound (ExprNode-F.Number n) e is t ok =
+        let j : type.Int ≡ t = cc (judged_layer (ExprNode-F.Number n) e is t ok) in
+        subst (λ t. HasType names e t) j (number e n is)
+    layer_sound (ExprNode-F.Text z) e is t ok =
+        let j : type.Text ≡ t = cc (judged_layer (ExprNode-F.Text z) e is t ok) in subst (λ t. HasType names e t) j (text e z is)
+    layer_sound (ExprNode-F.Bool b) e is t ok =
+        let j : type.Bool ≡ t = cc (judged_layer (ExprNode-F.Bool b) e is t ok) in subst (λ t. HasType names e t) j (bool e b is)
     layer_sound (ExprNode-F.Name x) e is t ok = name e x t is (named_is (column_of e) (type_bound names x) t (judged_layer (ExprNode-F.Name x) e is t ok))
     layer_sound (ExprNode-F.Texts es) e is t ok =
         let s = then_ok (all_of type.Text None (map typed (map hE es)) names) (λ c. told c type.Texts) t (judged_layer (ExprNode-F.Texts es) e is t ok) in
         let r = told_ok s.0 type.Texts t s.1.1 in
         subst (λ t. HasType names e t) r.1 (texts e (map hE es) is (each_sound type.Text None es (s.1.0 ∙ ap (λ c. Ok c) r.0)).1)
     layer_sound (ExprNode-F.Len a) e is t ok =
-        let s = then_ok (type_of (hE a) names) (λ u. told (unless (has_length u) (typed (hE a)).column) type.Int) t (judged_layer (ExprNode-F.Len a) e is t ok) in
+        let s =
+        then_ok (type_of (hE a) names) (λ u. told (unless (has_length u) (typed (hE a)).column) type.Int) t
+        (judged_layer (ExprNode-F.Len a) e is t ok) in
         let r = told_ok (unless (has_length s.0) (typed (hE a)).column) type.Int t s.1.1 in
         subst (λ t. HasType names e t) r.1 (rule.length e (hE a) s.0 is (exprs a s.0 s.1.0) (unless_none (has_length s.0) (typed (hE a)).column r.0))
     layer_sound (ExprNode-F.Str a) e is t ok =
@@ -182,23 +207,34 @@ module _ (names : Names) where
     layer_sound (ExprNode-F.Compare a r b) e is t ok =
         let ca = (typed (hE a)).column in
         let cb = (typed (hE b)).column in
-        let s = then_ok (type_of (hE a) names) (λ u. and_then (type_of (hE b) names) (λ v. told (option_or (unless (may_compare r u) ca) (unless (same v u) cb)) type.Bool)) t (judged_layer (ExprNode-F.Compare a r b) e is t ok) in
+        let s =
+        then_ok (type_of (hE a) names)
+        (λ u. and_then (type_of (hE b) names)
+        (λ v. told (option_or (unless (may_compare r u) ca) (unless (same v u) cb)) type.Bool)) t
+        (judged_layer (ExprNode-F.Compare a r b) e is t ok) in
         let z = then_ok (type_of (hE b) names) (λ v. told (option_or (unless (may_compare r s.0) ca) (unless (same v s.0) cb)) type.Bool) t s.1.1 in
         let q = told_ok (option_or (unless (may_compare r s.0) ca) (unless (same z.0 s.0) cb)) type.Bool t z.1.1 in
         let both = or_none (unless (may_compare r s.0) ca) (unless (same z.0 s.0) cb) q.0 in
         let one = same_is z.0 s.0 (unless_none (same z.0 s.0) cb both.1) in
         subst (λ t. HasType names e t) q.1
-        (comparison e (hE a) (hE b) r s.0 is (exprs a s.0 s.1.0) (unless_none (may_compare r s.0) ca both.0) (subst (λ u. HasType names (hE b) u) one (exprs b z.0 z.1.0)))
+        (comparison e (hE a) (hE b) r s.0 is (exprs a s.0 s.1.0) (unless_none (may_compare r s.0) ca both.0)
+        (subst (λ u. HasType names (hE b) u) one (exprs b z.0 z.1.0)))
     layer_sound (ExprNode-F.Chain a os) e is t ok =
         let first = λ (u : ItemType). unless (may_be_first u (map judged_operand (map hO os))) (typed (hE a)).column in
-        let s = then_ok (type_of (hE a) names) (λ u. and_then (operands_of u (first u) (map judged_operand (map hO os)) names) (λ c. told c u)) t (judged_layer (ExprNode-F.Chain a os) e is t ok) in
+        let s =
+        then_ok (type_of (hE a) names)
+        (λ u. and_then (operands_of u (first u) (map judged_operand (map hO os)) names) (λ c. told c u)) t
+        (judged_layer (ExprNode-F.Chain a os) e is t ok) in
         let z = then_ok (operands_of s.0 (first s.0) (map judged_operand (map hO os)) names) (λ c. told c s.0) t s.1.1 in
         let q = told_ok z.0 s.0 t z.1.1 in
         let r = operands_sound s.0 (first s.0) os (z.1.0 ∙ ap (λ c. Ok c) q.0) in
         subst (λ t. HasType names e t) q.1 (chain e (hE a) (map hO os) s.0 is (exprs a s.0 s.1.0) r.1.0 r.1.1)
     layer_sound (ExprNode-F.Read k key word es) e is t ok =
         let first = λ (u : ItemType). unless (same u type.Text) (typed (hE key)).column in
-        let s = then_ok (type_of (hE key) names) (λ u. and_then (all_of (asked_type word) (first u) (map typed (map hE es)) names) (λ c. told c (answered_type k word))) t (judged_layer (ExprNode-F.Read k key word es) e is t ok) in
+        let s =
+        then_ok (type_of (hE key) names)
+        (λ u. and_then (all_of (asked_type word) (first u) (map typed (map hE es)) names)
+        (λ c. told c (answered_type k word))) t (judged_layer (ExprNode-F.Read k key word es) e is t ok) in
         let z = then_ok (all_of (asked_type word) (first s.0) (map typed (map hE es)) names) (λ c. told c (answered_type k word)) t s.1.1 in
         let q = told_ok z.0 (answered_type k word) t z.1.1 in
         let r = each_sound (asked_type word) (first s.0) es (z.1.0 ∙ ap (λ c. Ok c) q.0) in
@@ -242,7 +278,8 @@ module _ (names : Names) where
   operands_found t (o ∷ os) h k =
       let p = judged_operand o in
       let found : p.1.judged names ≡ Ok t = ap (λ (q : Operator × Typed). q.1.judged names) (operand_is o) ∙ k zero o refl in
-      let fit : fits p.0 t t ≡ true = ap (λ b. cond b (takes p.0 t) false) (same_self t) ∙ ap (λ (q : Operator × Typed). takes q.0 t) (operand_is o) ∙ h zero o refl in
+      let fit : fits p.0 t t ≡ true = ap (λ b. cond b (takes p.0 t) false) (same_self t)
+      ∙ ap (λ (q : Operator × Typed). takes q.0 t) (operand_is o) ∙ h zero o refl in
       then_found (p.1.judged names) t (λ u. operands_of t (option_or None (unless (fits p.0 t u) p.1.column)) (map judged_operand os) names) found
       ∙ ap (λ b. operands_of t (unless b p.1.column) (map judged_operand os) names) fit
       ∙ operands_found t os (λ i. h (suc i)) (λ i. k (suc i))
@@ -268,13 +305,17 @@ module _ (names : Names) where
       ∙ ap (λ c. and_then c (λ c. told c type.Texts)) (all_found type.Text es (λ i a there. type_found a type.Text (each i a there)))
   type_found _ _ (rule.length e a t is h long) = type_by names e (ExprNode-F.Len a) is ∙ one_found a t type.Int has_length (type_found a t h) long
   type_found _ _ (shown e a is h) = type_by names e (ExprNode-F.Str a) is ∙ one_found a type.Int type.Text (λ t. same t type.Int) (type_found a type.Int h) refl
-  type_found _ _ (negative e a is h) = type_by names e (ExprNode-F.Negative a) is ∙ one_found a type.Int type.Int (λ t. same t type.Int) (type_found a type.Int h) refl
-  type_found _ _ (negation e a is h) = type_by names e (ExprNode-F.Not a) is ∙ one_found a type.Bool type.Bool (λ t. same t type.Bool) (type_found a type.Bool h) refl
+  type_found _ _ (negative e a is h) = type_by names e (ExprNode-F.Negative a) is
+      ∙ one_found a type.Int type.Int (λ t. same t type.Int) (type_found a type.Int h) refl
+  type_found _ _ (negation e a is h) = type_by names e (ExprNode-F.Not a) is
+      ∙ one_found a type.Bool type.Bool (λ t. same t type.Bool) (type_found a type.Bool h) refl
   type_found _ _ (comparison e a b r t is h may k) =
       let ca = (typed a).column in
       let cb = (typed b).column in
       type_by names e (ExprNode-F.Compare a r b) is
-      ∙ then_found (type_of a names) t (λ u. and_then (type_of b names) (λ v. told (option_or (unless (may_compare r u) ca) (unless (same v u) cb)) type.Bool)) (type_found a t h)
+      ∙ then_found (type_of a names) t
+      (λ u. and_then (type_of b names) (λ v. told (option_or (unless (may_compare r u) ca) (unless (same v u) cb)) type.Bool))
+      (type_found a t h)
       ∙ then_found (type_of b names) t (λ v. told (option_or (unless (may_compare r t) ca) (unless (same v t) cb)) type.Bool) (type_found b t k)
       ∙ ap (λ p. told (option_or (unless p ca) (unless (same t t) cb)) type.Bool) may
       ∙ ap (λ p. told (unless p cb) type.Bool) (same_self t)
@@ -287,8 +328,11 @@ module _ (names : Names) where
   type_found _ _ (read e key k word es is h each) =
       let first = λ (u : ItemType). unless (same u type.Text) (typed key).column in
       type_by names e (ExprNode-F.Read k key word es) is
-      ∙ then_found (type_of key names) type.Text (λ u. and_then (all_of (asked_type word) (first u) (map typed es) names) (λ c. told c (answered_type k word))) (type_found key type.Text h)
-      ∙ ap (λ c. and_then c (λ c. told c (answered_type k word))) (all_found (asked_type word) es (λ i a there. type_found a (asked_type word) (each i a there)))
+      ∙ then_found (type_of key names) type.Text
+      (λ u. and_then (all_of (asked_type word) (first u) (map typed es) names) (λ c. told c (answered_type k word)))
+      (type_found key type.Text h)
+      ∙ ap (λ c. and_then c (λ c. told c (answered_type k word)))
+      (all_found (asked_type word) es (λ i a there. type_found a (asked_type word) (each i a there)))
 
 pub types_are_found : TypesAreFound
 types_are_found names e t = (type_sound names e t, type_found names e t)
@@ -296,7 +340,9 @@ types_are_found names e t = (type_sound names e t, type_found names e t)
 -- ---- statements
 
 abbrev deep_step : StmtNode-F StmtNode Stmt → StmtNode-F (Names → Judged Names) (Names → Judged Names)
-deep_step = map-StmtNode StmtNode Stmt (Names → Judged Names) (Names → Judged Names) (fold-StmtNode (Names → Judged Names) (Names → Judged Names) judge_step judge_stmt) names_after
+deep_step =
+    map-StmtNode StmtNode Stmt (Names → Judged Names) (Names → Judged Names)
+    (fold-StmtNode (Names → Judged Names) (Names → Judged Names) judge_step judge_stmt) names_after
 
 -- a statement is judged by what it is
 names_by : (names : Names) (s : Stmt) (n : StmtNode-F StmtNode Stmt) → step_of s ≡ n → names_after s names ≡ judge_step (deep_step n) names
@@ -366,15 +412,21 @@ module _ {N X : Type 0} (hN : N → StmtNode) (hS : X → Stmt) (stmts : (x : X)
       let same : names ≡ after = cc (z.1.1) in
       fail names s ss e is (expect_sound type.Text e names z.0 z.1.0) (subst (λ ns. AreTyped ns ss) (sym same) more)
   step_sound (StmtNode-F.If e xs None) s is names after ss ok more =
-      let z = then_ok (expect type.Bool e names) (λ t. and_then (block (map names_after (map hS xs)) names) (λ t. Ok names)) after (sym (names_by names s (step_layer (StmtNode-F.If e xs None)) is) ∙ ok) in
+      let z =
+      then_ok (expect type.Bool e names) (λ t. and_then (block (map names_after (map hS xs)) names) (λ t. Ok names)) after
+      (sym (names_by names s (step_layer (StmtNode-F.If e xs None)) is) ∙ ok) in
       let q = then_ok (block (map names_after (map hS xs)) names) (λ t. Ok names) after z.1.1 in
       let same : names ≡ after = cc (q.1.1) in
-      branch names s ss (map hS xs) None e is (expect_sound type.Bool e names z.0 z.1.0) (block_sound xs names q.0 q.1.0) (none names) (subst (λ ns. AreTyped ns ss) (sym same) more)
+      branch names s ss (map hS xs) None e is (expect_sound type.Bool e names z.0 z.1.0) (block_sound xs names q.0 q.1.0)
+      (none names) (subst (λ ns. AreTyped ns ss) (sym same) more)
   step_sound (StmtNode-F.If e xs (Some zs)) s is names after ss ok more =
       let else_do = block (map names_after (map hS zs)) names in
-      let z = then_ok (expect type.Bool e names) (λ t. and_then (block (map names_after (map hS xs)) names) (λ t. else_do)) after (sym (names_by names s (step_layer (StmtNode-F.If e xs (Some zs))) is) ∙ ok) in
+      let z =
+      then_ok (expect type.Bool e names) (λ t. and_then (block (map names_after (map hS xs)) names) (λ t. else_do)) after
+      (sym (names_by names s (step_layer (StmtNode-F.If e xs (Some zs))) is) ∙ ok) in
       let q = then_ok (block (map names_after (map hS xs)) names) (λ t. else_do) after z.1.1 in
-      branch names s ss (map hS xs) (Some (map hS zs)) e is (expect_sound type.Bool e names z.0 z.1.0) (block_sound xs names q.0 q.1.0) (block_sound zs names after q.1.1)
+      branch names s ss (map hS xs) (Some (map hS zs)) e is (expect_sound type.Bool e names z.0 z.1.0)
+      (block_sound xs names q.0 q.1.0) (block_sound zs names after q.1.1)
       (subst (λ ns. AreTyped ns ss) (sym (block_is (map names_after (map hS zs)) names after q.1.1)) more)
   step_sound (StmtNode-F.For x e xs) s is names after ss ok more =
       let j = sym (names_by names s (step_layer (StmtNode-F.For x e xs)) is) ∙ ok in
@@ -382,16 +434,20 @@ module _ {N X : Type 0} (hN : N → StmtNode) (hS : X → Stmt) (stmts : (x : X)
       let z = then_ok (expect type.Texts e names) (λ t. and_then (in_order (map names_after (map hS xs)) inner) (λ t. Ok names)) after j in
       let q = then_ok (in_order (map names_after (map hS xs)) inner) (λ t. Ok names) after z.1.1 in
       let same : names ≡ after = cc (q.1.1) in
-      turns names s ss (map hS xs) x e is (expect_sound type.Texts e names z.0 z.1.0) (order_sound xs inner q.0 q.1.0) (subst (λ ns. AreTyped ns ss) (sym same) more)
+      turns names s ss (map hS xs) x e is (expect_sound type.Texts e names z.0 z.1.0) (order_sound xs inner q.0 q.1.0)
+      (subst (λ ns. AreTyped ns ss) (sym same) more)
   step_sound (StmtNode-F.Write k key word es) s is names after ss ok more =
       let first = λ (u : ItemType). unless (same u type.Text) (column_of key) in
       let w = written_type k word in
-      let z = then_ok (type_of key names) (λ u. and_then (all_of w (first u) (map typed es) names) (λ c. told c names)) after (sym (names_by names s (StmtNode-F.Write k key word es) is) ∙ ok) in
+      let z =
+      then_ok (type_of key names) (λ u. and_then (all_of w (first u) (map typed es) names) (λ c. told c names)) after
+      (sym (names_by names s (StmtNode-F.Write k key word es) is) ∙ ok) in
       let q = then_ok (all_of w (first z.0) (map typed es) names) (λ c. told c names) after z.1.1 in
       let r = told_ok q.0 names after q.1.1 in
       let a = arguments_sound names w (first z.0) es (q.1.0 ∙ ap (λ c. Ok c) r.0) in
       let key_text = same_is z.0 type.Text (unless_none (same z.0 type.Text) (column_of key) a.0) in
-      write names s ss k key word es is (subst (λ u. HasType names key u) key_text (type_sound names key z.0 z.1.0)) a.1 (subst (λ ns. AreTyped ns ss) (sym r.1) more)
+      write names s ss k key word es is (subst (λ u. HasType names key u) key_text (type_sound names key z.0 z.1.0)) a.1
+      (subst (λ ns. AreTyped ns ss) (sym r.1) more)
 
 abbrev NodeSound' : StmtNode → Type 0
 NodeSound' n = (s : Stmt) → (out-Stmt s).node ≡ n → StmtSound s
@@ -421,12 +477,16 @@ block_found ss names ends = then_found (in_order (map names_after ss) names) end
 order_found : (names : Names) (ss : List Stmt) → AreTyped names ss → Ends names ss
 order_found _ _ (none names) = (names, refl)
 order_found _ _ (bind names s ss x e t is h more) =
-    one_more names (names ++ (x, t) ∷ []) s ss (names_by names s (StmtNode-F.Let x e) is ∙ then_found (type_of e names) t (λ t. Ok (names ++ (x, t) ∷ [])) (type_found names e t h))
+    one_more names (names ++ (x, t) ∷ []) s ss
+    (names_by names s (StmtNode-F.Let x e) is
+    ∙ then_found (type_of e names) t (λ t. Ok (names ++ (x, t) ∷ [])) (type_found names e t h))
     (order_found (names ++ (x, t) ∷ []) ss more)
 order_found _ _ (emit names s ss e t is h more) =
-    one_more names names s ss (names_by names s (StmtNode-F.Emit e) is ∙ then_found (type_of e names) t (λ t. Ok names) (type_found names e t h)) (order_found names ss more)
+    one_more names names s ss (names_by names s (StmtNode-F.Emit e) is
+    ∙ then_found (type_of e names) t (λ t. Ok names) (type_found names e t h)) (order_found names ss more)
 order_found _ _ (fail names s ss e is h more) =
-    one_more names names s ss (names_by names s (StmtNode-F.Fail e) is ∙ then_found (expect type.Text e names) type.Text (λ t. Ok names) (expect_found type.Text e names h))
+    one_more names names s ss (names_by names s (StmtNode-F.Fail e) is
+    ∙ then_found (expect type.Text e names) type.Text (λ t. Ok names) (expect_found type.Text e names h))
     (order_found names ss more)
 order_found _ _ (branch names s ss xs None e is h inner other more) =
     one_more names names s ss
@@ -446,7 +506,9 @@ order_found _ _ (turns names s ss inner x e is h block more) =
     let i = order_found (names ++ (x, type.Text) ∷ []) inner block in
     one_more names names s ss
     (names_by names s (StmtNode-F.For x e inner) is
-    ∙ then_found (expect type.Texts e names) type.Texts (λ t. and_then (in_order (map names_after inner) (names ++ (x, type.Text) ∷ [])) (λ t. Ok names)) (expect_found type.Texts e names h)
+    ∙ then_found (expect type.Texts e names) type.Texts
+    (λ t. and_then (in_order (map names_after inner) (names ++ (x, type.Text) ∷ [])) (λ t. Ok names))
+    (expect_found type.Texts e names h)
     ∙ then_found (in_order (map names_after inner) (names ++ (x, type.Text) ∷ [])) i.0 (λ t. Ok names) i.1)
     (order_found names ss more)
 order_found _ _ (write names s ss k key word es is h each more) =
@@ -513,7 +575,8 @@ length-after ss names after ok =
     omega (arith, ap length more.1, length-append names more.0)
 
 -- what a block and a loop leave, once the names bound in them are forgotten
-pub block_left : (ss : List Stmt) (names after left : Names) (count : ℕ) → in_order (map names_after ss) names ≡ Ok after → count ≡ length names → left ≡ take count after
+pub block_left : (ss : List Stmt) (names after left : Names) (count : ℕ) → in_order (map names_after ss) names ≡ Ok after
+    → count ≡ length names → left ≡ take count after
     → block (map names_after ss) names ≡ Ok left
 block_left ss names after left count ok counted is =
     ap (λ r. and_then r (λ t. Ok names)) ok ∙ ap (λ ns. Ok ns) (sym (is ∙ ap (λ n. take n after) counted ∙ take-after ss names after ok))
@@ -532,7 +595,8 @@ turn_left x ss names bound after left count binds ok counted is =
     ap (λ r. and_then r (λ t. Ok names)) done ∙ ap (λ ns. Ok ns) (sym (is ∙ ap (λ n. take n after) counted ∙ front))
 
 -- what the code tells of a body, from what it tells of its statements
-pub judge_tells : (b : Body) (ss : List Stmt) (r : Result (Unit {0}) (OrNoMemory ℕ)) (start after : Names) → ss ≡ b.stmts → start ≡ [] → Leaves r after (in_order (map names_after ss) start)
+pub judge_tells : (b : Body) (ss : List Stmt) (r : Result (Unit {0}) (OrNoMemory ℕ)) (start after : Names) → ss ≡ b.stmts
+    → start ≡ [] → Leaves r after (in_order (map names_after ss) start)
     → MatchResult r (λ _. IsTyped b) (λ fault. (column : ℕ) → fault ≡ Cause column → judge b ≡ Err column)
 judge_tells b ss (Ok _) start after all none_yet leaves =
     subst (λ ss. AreTyped [] ss) all (body_sound ss [] after (subst (λ ns. in_order (map names_after ss) ns ≡ Ok after) none_yet leaves))

@@ -94,12 +94,14 @@ abbrev after_ticks : Item → ℕ → Step Own Item
 after_ticks i n = gives i (record { memory = nothing_yet; emitted = []; ticks = n; load = 0 })
 
 -- a chain charges one tick for each operator
-one-plus-two : of_node (own (λ a. None)) (ExprNode-F.Chain (gives_it (item.Int (pos 1))) ((operator.Plus, gives_it (item.Int (pos 2))) ∷ [])) [] (begun nothing_yet)
+one-plus-two : of_node (own (λ a. None))
+    (ExprNode-F.Chain (gives_it (item.Int (pos 1))) ((operator.Plus, gives_it (item.Int (pos 2))) ∷ [])) [] (begun nothing_yet)
     ≡ after_ticks (item.Int (pos 3)) 1
 one-plus-two = refl
 
 -- `or` stops at what decides: the next operand would stop the run
-or-stops : of_node (own (λ a. None)) (ExprNode-F.Chain (gives_it (item.Bool true)) ((operator.Or, λ names. stop_by stop.Spent) ∷ [])) [] (begun nothing_yet)
+or-stops : of_node (own (λ a. None))
+    (ExprNode-F.Chain (gives_it (item.Bool true)) ((operator.Or, λ names. stop_by stop.Spent) ∷ [])) [] (begun nothing_yet)
     ≡ after_ticks (item.Bool true) 1
 or-stops = refl
 

@@ -54,4 +54,5 @@ IsLegal-example = tt
 
 -- a law: of a legal journal each commit, by its place, may follow those before it
 abbrev pub LegalCommitsFollow : Type 0
-LegalCommitsFollow = (m : ℕ) (journal : Journal) → IsLegal m journal → (i : ℕ) (commit : Commit) → slice_get journal i ≡ Some commit → MayFollow m (take i journal) commit
+LegalCommitsFollow = (m : ℕ) (journal : Journal) → IsLegal m journal → (i : ℕ) (commit : Commit)
+    → slice_get journal i ≡ Some commit → MayFollow m (take i journal) commit

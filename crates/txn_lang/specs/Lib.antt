@@ -8,6 +8,7 @@ pub mod Execution
 pub mod Determinacy
 pub mod Observed
 pub mod Short
+pub mod Few
 pub mod Types
 pub mod Typing
 pub mod Writes

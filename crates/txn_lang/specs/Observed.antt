@@ -40,3 +40,7 @@ ObservedIsThere = (b : Body) (s : PartialState) (r : Run) → exec b s ≡ done 
 -- a run that is done is the same on a state with more values
 abbrev pub RunsStayDone : Type 0
 RunsStayDone = (b : Body) (s t : PartialState) (r : Run) → Extends s t → exec b s ≡ done r → exec b t ≡ done r
+
+-- a run that needs an address needs it on a state with more values too, where that one is still missing
+abbrev pub NeedsStay : Type 0
+NeedsStay = (b : Body) (s t : PartialState) (a : Address) → Extends s t → exec b s ≡ need a → t a ≡ None → exec b t ≡ need a

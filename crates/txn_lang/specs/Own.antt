@@ -30,7 +30,8 @@ with_seen seen s = if list_any (λ t. seen_eq.ghosts.eq t s) seen then seen else
 
 -- of operations at two counters those at one
 at_address-example : at_address (record { kind = kind.Counter; key = codes "x" })
-    ((record { kind = kind.Counter; key = codes "x" }, op.AddCounter (pos 1)) ∷ (record { kind = kind.Counter; key = codes "y" }, op.AddCounter (pos 2)) ∷ [])
+    ((record { kind = kind.Counter; key = codes "x" }, op.AddCounter (pos 1))
+    ∷ (record { kind = kind.Counter; key = codes "y" }, op.AddCounter (pos 2)) ∷ [])
     ≡ op.AddCounter (pos 1) ∷ []
 at_address-example = refl
 
@@ -46,4 +47,5 @@ AreOfTheirKinds own = AllByRecursion (λ w. kind_written w.1 ≡ w.0.kind) own
 
 -- the deltas of operations leave at each address what the operations leave, one after the other
 abbrev pub DeltasLeaveWhatOperationsLeave : Type 0
-DeltasLeaveWhatOperationsLeave = (own : Operations) (a : Address) (v : Value) → AreOfTheirKinds own → after (deltas_of own) a v ≡ replay (at_address a own) v
+DeltasLeaveWhatOperationsLeave =
+    (own : Operations) (a : Address) (v : Value) → AreOfTheirKinds own → after (deltas_of own) a v ≡ replay (at_address a own) v

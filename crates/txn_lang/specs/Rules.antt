@@ -29,7 +29,8 @@ use Rattle.txn_trees.specs.declared.statement.StmtNode.TheOpen.{StmtNode-F, Stmt
 use Rattle.txn_trees.specs.declared.statement.StmtNode.TheFolds.{fold-StmtNode}
 use Rattle.txn_lang.specs.declared.progress.Stop.TheVariants as stop
 use Rattle.txn_lang.specs.Steps.{Memory, Stepping, ◌>>=◌, pure, stop_by, charge, carry, emit, read_at, write_at}
-use Rattle.txn_lang.specs.Items.{Names, named, int_in, bool_in, text_in, texts_in, size_of, is_big, decides, joined, negated, length_of, read_of, write_of, text_size, elements_in, compares}
+use Rattle.txn_lang.specs.Items.{Names, named, int_in, bool_in, text_in, texts_in, size_of, is_big, decides, joined}
+use Rattle.txn_lang.specs.Items.{negated, length_of, read_of, write_of, text_size, elements_in, compares}
 
 -- what an expression does where names are bound
 abbrev pub Expression : Type 0 → Type 0

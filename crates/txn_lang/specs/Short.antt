@@ -7,7 +7,6 @@ use Rattle.conflict_table.specs.declared.observation.Obs.{Obs}
 use Rattle.conflict_table.specs.declared.observation.Obs.TheVariants as obs
 use Rattle.txn_trees.specs.declared.statement.Body.{Body}
 use Rattle.txn_lang.specs.declared.run.Run.{Run}
-use Rattle.txn_lang.specs.declared.run.Seen.{Seen}
 use Rattle.txn_lang.specs.States.{PartialState}
 use Rattle.txn_lang.specs.Execution.{need, done, exec}
 
@@ -26,10 +25,12 @@ pub record IsShortObservation (address : Address) (observation : Obs) : Type 0 w
   pub key : IsShortAddress address
   pub text : length (text_in observation) ≤ LONGEST_TEXT
 
--- A law: what a run needs, and all that it observed, is short.
+-- A law: what a run needs, and all that it observed, is short. No body is left out, since whatever makes a text tests its size,
+-- and no number has a longer one.
 pub record RunsAskShort : Type 0 where
   pub needed : (b : Body) (s : PartialState) (a : Address) → exec b s ≡ need a → IsShortAddress a
-  pub observed : (b : Body) (s : PartialState) (r : Run) → exec b s ≡ done r → AllByRecursion (λ z. IsShortObservation z.address z.obs) r.observations
+  pub observed : (b : Body) (s : PartialState) (r : Run) → exec b s ≡ done r
+      → AllByRecursion (λ z. IsShortObservation z.address z.obs) r.observations
 
 text_in-example : text_in (obs.SetHas (codes "a")) ≡ codes "a"
 text_in-example = refl

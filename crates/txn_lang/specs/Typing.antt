@@ -1,6 +1,7 @@
 -- The rules of typing: which expressions have which type, and which bodies are well typed. The checker's function, which
 -- also says where a rule fails first, stands below, and `src/laws.rt` ties it to the rules in both directions.
-use Rattle.std.specs.Prelude.{◌≡◌, ℕ, ℤ, Bool, true, false, if◌then◌else◌, List, [], ◌∷◌, ◌++◌, map, slice_get, Option, Some, None, Result, Ok, Err, ◌↔◌, codes, refl}
+use Rattle.std.specs.Prelude.{◌≡◌, ℕ, ℤ, Bool, true, false, if◌then◌else◌, List, [], ◌∷◌, ◌++◌, map, slice_get, Option}
+use Rattle.std.specs.Prelude.{Some, None, Result, Ok, Err, ◌↔◌, codes, refl}
 use Rattle.std.specs.Option.{unwrap_or, option_or}
 use Rattle.plain_data.specs.Texts.{Bytes}
 use Rattle.rdt_types.specs.declared.address.Kind.{Kind}

@@ -4,7 +4,9 @@ ghost use Rattle.txn_lang.specs.Journals.{LegalCommitsFollow};
 ghost use Rattle.txn_lang.specs.Own.{DeltasLeaveWhatOperationsLeave};
 ghost use Rattle.txn_lang.specs.Execution.{RunsAreBounded};
 ghost use Rattle.txn_lang.specs.Determinacy.{RunsAreDetermined};
-ghost use Rattle.txn_lang.specs.Observed.{NeedsAreMissing, WholeRunsAreDone, ObservedIsThere, RunsStayDone};
+ghost use Rattle.txn_lang.specs.Few.{ObservationsAreFew, ReadsAreFew};
+ghost use Rattle.txn_lang.specs.Observed.{NeedsAreMissing, WholeRunsAreDone, ObservedIsThere, RunsStayDone, NeedsStay};
+ghost use Rattle.txn_lang.specs.Short.{RunsAskShort};
 ghost use Rattle.txn_lang.specs.Tree.{TreesAreTypedBodies};
 ghost use Rattle.txn_lang.specs.Typing.{TypesAreFound, BodiesAreJudged};
 
@@ -53,6 +55,28 @@ pub fn observed_is_there()
 /// The law that a run which is done is the same on a state with more values.
 pub fn runs_stay_done()
     ensures { RunsStayDone }
+{}
+
+/// The law that a run which needs an address needs it on a state with more values too, where that one is still missing.
+pub fn needs_stay()
+    ensures { NeedsStay }
+{}
+
+/// The law that a run needs a value only at an address with a key of at most `LONGEST_TEXT` bytes, and observes only at such
+/// addresses and of no longer texts.
+pub fn runs_ask_short()
+    ensures { RunsAskShort }
+{}
+
+/// The law that a run which is done made no more observations than it may charge ticks.
+pub fn observations_are_few()
+    ensures { ObservationsAreFew }
+{}
+
+/// The law that a run to which values are given one by one, each at the address that it needs next, is given no more than it
+/// may charge ticks.
+pub fn reads_are_few()
+    ensures { ReadsAreFew }
 {}
 
 /// The law that no run charges more ticks than the limit.

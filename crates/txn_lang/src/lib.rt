@@ -24,11 +24,12 @@ pub use commit::{Commit, CommitList};
 pub use item_type::Type;
 pub use laws::{
     bodies_are_judged, deltas_leave_what_operations_leave, legal_commits_follow, needs_are_missing,
-    observed_is_there, runs_are_bounded, runs_are_determined, runs_stay_done,
-    trees_are_typed_bodies, types_are_found, whole_runs_are_done,
+    needs_stay, observations_are_few, observed_is_there, reads_are_few, runs_are_bounded,
+    runs_are_determined, runs_ask_short, runs_stay_done, trees_are_typed_bodies, types_are_found,
+    whole_runs_are_done,
 };
 pub use limits::{LOAD_LIMIT, TEXT_LIMIT, TEXTS_LIMIT, TICK_LIMIT};
-pub use progress::{NameList, Progress, Stop};
+pub use progress::{Progress, Stop};
 pub use run::{Run, Seen, SeenList};
 pub use snaps::{Snap, Snaps};
 

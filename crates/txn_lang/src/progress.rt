@@ -1,10 +1,10 @@
-//! A run under way: what stops it, what its names stand for, and how far it has come. The rules are stated over these types,
-//! and what runs bodies keeps them.
+//! A run under way: what stops it, and how far it has come. The rules are stated over these types, and what runs bodies
+//! keeps them.
 
 ghost use Rattle.std.specs.Prelude.{◌≡◌};
 
-use plain_data::{Sequence, Text};
-use rdt_types::{Address, Item, ItemList};
+use plain_data::Text;
+use rdt_types::{Address, ItemList};
 use std::alloc::AllocError;
 
 /// What ends a run before its end.
@@ -32,9 +32,6 @@ impl From<AllocError> for Stop {
         Stop::NoMemory
     }
 }
-
-/// The names that are bound, each with what it stands for, the newest last.
-pub type NameList = Sequence<(Text, Item)>;
 
 /// How far a run has come. What it has read and written is in its memory.
 #[derive(Debug, Drop)]

@@ -23,9 +23,11 @@ begins_is f h o b e k = e ∙ some_is o ∙ ap is_made k ∙ sym (begins_at f h)
     some_is (Some a) = refl
 
 -- what was found ahead is taken
-pub copy_taken : {I A L : Type 0} (f : I → Option A) (view : L → A) (ts : List I) (found : Option L) (lent : L) → option_map view found ≡ made_of f ts → found ≡ Some lent → one f ts ≡ Ok (view lent, drop 1 ts)
+pub copy_taken : {I A L : Type 0} (f : I → Option A) (view : L → A) (ts : List I) (found : Option L) (lent : L)
+    → option_map view found ≡ made_of f ts → found ≡ Some lent → one f ts ≡ Ok (view lent, drop 1 ts)
 copy_taken f view ts found lent e h = taken f ts (view lent) (sym e ∙ ap (option_map view) h)
 
 -- and refused where nothing was
-pub copy_refused : {I A L : Type 0} (f : I → Option A) (view : L → A) (ts : List I) (found : Option L) → option_map view found ≡ made_of f ts → found ≡ None → one f ts ≡ Err ts
+pub copy_refused : {I A L : Type 0} (f : I → Option A) (view : L → A) (ts : List I) (found : Option L)
+    → option_map view found ≡ made_of f ts → found ≡ None → one f ts ≡ Err ts
 copy_refused f view ts found e h = refused f ts (sym e ∙ ap (option_map view) h)

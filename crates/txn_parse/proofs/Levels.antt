@@ -13,7 +13,10 @@ use Rattle.txn_grammar.specs.declared.form.Nesting.{Nesting}
 use Rattle.txn_grammar.specs.declared.form.Nesting.TheVariants as nesting
 use Rattle.txn_grammar.specs.declared.token.Spot.{Spot}
 use Rattle.txn_grammar.specs.code.Forms.{of_next, leaf_at, opener_at, simple_at, nesting_at}
-use Rattle.txn_grammar.specs.code.Reader.{a_leaf, leaf_read, opened, opened_read, unary_of, negation_of, comparison_of, unary, negation, expression, arguments_read, times, after_comma, simple_stmt, simple_read, nesting_stmt, nesting_read, statement, begins_simple, begins_nesting, begins_statement}
+use Rattle.txn_grammar.specs.code.Reader.{a_leaf, leaf_read, opened, opened_read, unary_of, negation_of, comparison_of}
+use Rattle.txn_grammar.specs.code.Reader.{unary, negation, expression, arguments_read, times, after_comma, simple_stmt}
+use Rattle.txn_grammar.specs.code.Reader.{simple_read, nesting_stmt, nesting_read, statement, begins_simple}
+use Rattle.txn_grammar.specs.code.Reader.{begins_nesting, begins_statement}
 use Rattle.predictive_parsing.specs.Reading.{turns}
 use Rattle.predictive_parsing.proofs.Loops.{with_front, no_front}
 use Rattle.txn_parse.proofs.Heads.{begins_at}
@@ -56,7 +59,8 @@ unfolding unary expression
 negation_deeper n ts some = let e : n ≡ suc (n - 1) = omega arith in ap (λ m. negation m ts) e ∙ ap (λ m. negation_of (negation (n - 1)) (unary m) ts) (sym e)
 
 -- as a loop over so many turns begins, nothing is found
-pub turns_begin : {I A : Type 0} (starts : Option I → Bool) (item : Reader I A) (found : List A) (n : ℕ) (ts : List I) → found ≡ [] → with_front found (turns starts item (n - 0) ts) ≡ turns starts item n ts
+pub turns_begin : {I A : Type 0} (starts : Option I → Bool) (item : Reader I A) (found : List A) (n : ℕ) (ts : List I)
+    → found ≡ [] → with_front found (turns starts item (n - 0) ts) ≡ turns starts item n ts
 turns_begin starts item found n ts e =
     let k : n - 0 ≡ n = omega arith in
     ap (λ xs. with_front xs (turns starts item (n - 0) ts)) e ∙ no_front (turns starts item (n - 0) ts) ∙ ap (λ m. turns starts item m ts) k
@@ -66,17 +70,21 @@ pub arguments_none : (e : Reader Spot Expr) (n : ℕ) (ts : List Spot) → n ≡
 unfolding arguments_read
 arguments_none e n ts h = ap (λ m. arguments_read e m ts) h
 
-pub arguments_some : (e : Reader Spot Expr) (n : ℕ) (ts : List Spot) → 0 < n → arguments_read e n ts ≡ and_then (e ts) (λ first us. and_then (times (after_comma e) (n - 1) us) (λ rest. pure (first ∷ rest)))
+pub arguments_some : (e : Reader Spot Expr) (n : ℕ) (ts : List Spot) → 0 < n
+    → arguments_read e n ts ≡ and_then (e ts)
+    (λ first us. and_then (times (after_comma e) (n - 1) us) (λ rest. pure (first ∷ rest)))
 unfolding arguments_read
 arguments_some e n ts h = let k : n ≡ suc (n - 1) = omega arith in ap (λ m. arguments_read e m ts) k
 
 -- ---- statements
 
-pub simple_chosen : (e : Reader Spot Expr) (ts : List Spot) (o : Option Simple) → o ≡ of_next simple_at (next ts) → simple_stmt e ts ≡ simple_read e (unwrap_or o simple.Emit) ts
+pub simple_chosen : (e : Reader Spot Expr) (ts : List Spot) (o : Option Simple) → o ≡ of_next simple_at (next ts)
+    → simple_stmt e ts ≡ simple_read e (unwrap_or o simple.Emit) ts
 unfolding simple_stmt
 simple_chosen e ts o h = ap (λ x. simple_read e (unwrap_or x simple.Emit) ts) (sym h)
 
-pub nesting_chosen : (e a : Reader Spot Expr) (starts : Option Spot → Bool) (p : Reader Spot Stmt) (ts : List Spot) (o : Option Nesting) → o ≡ of_next nesting_at (next ts)
+pub nesting_chosen : (e a : Reader Spot Expr) (starts : Option Spot → Bool) (p : Reader Spot Stmt) (ts : List Spot)
+    (o : Option Nesting) → o ≡ of_next nesting_at (next ts)
     → nesting_stmt e a starts p ts ≡ nesting_read e a starts p (unwrap_or o nesting.Write) ts
 unfolding nesting_stmt
 nesting_chosen e a starts p ts o h = ap (λ x. nesting_read e a starts p (unwrap_or x nesting.Write) ts) (sym h)
@@ -102,11 +110,14 @@ statement_by : (n : ℕ) (ts : List Spot) (b : Bool) → 0 < n → begins_simple
 unfolding statement
 statement_by n ts b some h =
     let e : n ≡ suc (n - 1) = omega arith in
-    ap (λ m. statement m ts) e ∙ ap (λ m. cond (begins_simple (next ts)) (simple_stmt (expression m) ts) (nesting_stmt (expression m) (expression (n - 1)) (begins_statement (n - 1)) (statement (n - 1)) ts)) (sym e)
+    ap (λ m. statement m ts) e ∙ ap
+    (λ m. cond (begins_simple (next ts)) (simple_stmt (expression m) ts)
+    (nesting_stmt (expression m) (expression (n - 1)) (begins_statement (n - 1)) (statement (n - 1)) ts)) (sym e)
     ∙ ap (λ x. cond x (simple_stmt (expression n) ts) (nested n ts)) h
 
 pub statement_simple : (n : ℕ) (ts : List Spot) → 0 < n → begins_simple (next ts) ≡ true → statement n ts ≡ simple_stmt (expression n) ts
 statement_simple n ts some h = statement_by n ts true some h
 
-pub statement_nests : (n : ℕ) (ts : List Spot) → 0 < n → begins_simple (next ts) ≡ false → statement n ts ≡ nesting_stmt (expression n) (expression (n - 1)) (begins_statement (n - 1)) (statement (n - 1)) ts
+pub statement_nests : (n : ℕ) (ts : List Spot) → 0 < n → begins_simple (next ts) ≡ false
+    → statement n ts ≡ nesting_stmt (expression n) (expression (n - 1)) (begins_statement (n - 1)) (statement (n - 1)) ts
 statement_nests n ts some h = statement_by n ts false some h

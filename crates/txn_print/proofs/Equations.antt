@@ -19,7 +19,9 @@ use Rattle.txn_grammar.specs.declared.token.Token.TheVariants as t
 use Rattle.plain_data.specs.Texts.{Bytes}
 use Rattle.txn_print.specs.declared.place.Place.TheVariants as place
 use Rattle.txn_print.specs.Pieces.{Piece, spaced, opening, closing, word}
-use Rattle.txn_print.specs.Canonical.{Shown, shown_as, show_node, shown, shown_operand, shown_chain, at, whole, expression, given, separated, operation, truth, comparison, read_name, write_name, chain, shown_stmt, show_stmt, block, otherwise, ended}
+use Rattle.txn_print.specs.Canonical.{Shown, shown_as, show_node, shown, shown_operand, shown_chain, at, whole}
+use Rattle.txn_print.specs.Canonical.{expression, given, separated, operation, truth, comparison, read_name, write_name}
+use Rattle.txn_print.specs.Canonical.{chain, shown_stmt, show_stmt, block, otherwise, ended}
 
 abbrev expr_step : Expr-F Shown Shown (Operator × Shown) → Shown
 expr_step e = e.node

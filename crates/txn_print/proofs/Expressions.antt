@@ -1,5 +1,6 @@
 -- What is shown of an expression that the grammar derives is read back, within the same levels.
-use Rattle.std.proofs.Common.{◌≡◌, ℕ, zero, suc, ◌≤◌, ℤ, Bool, true, false, cond, List, [], ◌∷◌, ◌++◌, map, length, Option, Some, None, refl, ap, sym, ◌∙◌, subst, inl, inr, arith}
+use Rattle.std.proofs.Common.{◌≡◌, ℕ, zero, suc, ◌≤◌, ℤ, Bool, true, false, cond, List, [], ◌∷◌, ◌++◌, map, length}
+use Rattle.std.proofs.Common.{Option, Some, None, refl, ap, sym, ◌∙◌, subst, inl, inr, arith}
 use Rattle.std.specs.List.{flat_map}
 use Rattle.std.specs.Option.{option_map}
 use Rattle.std.proofs.lemmas.Bool.{ltb-false, le-ltb}
@@ -26,16 +27,24 @@ use Rattle.txn_grammar.specs.Tokens.{at, of_symbol, number, text, name, operator
 use Rattle.txn_grammar.specs.Trees.{expr, number_expr, text_expr, truth_expr, name_expr, operand, chained, compared, target_of, read_expr}
 use Rattle.txn_grammar.specs.Trees as trees
 use Rattle.txn_grammar.specs.Lexer.{is_malformed}
-use Rattle.txn_grammar.specs.Grammar.{LeafRule, NumberLeaf, TextLeaf, TruthLeaf, NameLeaf, Further, Chain, OtherSide, Comparison, ComparisonOf, Negative, Not, InParens, Group, Len, Str, AfterComma, Elements, Texts, Times, Arguments, Targeted, Read, Opened, Unary, Negation, Expression}
+use Rattle.txn_grammar.specs.Grammar.{LeafRule, NumberLeaf, TextLeaf, TruthLeaf, NameLeaf, Further, Chain, OtherSide}
+use Rattle.txn_grammar.specs.Grammar.{Comparison, ComparisonOf, Negative, Not, InParens, Group, Len, Str, AfterComma}
+use Rattle.txn_grammar.specs.Grammar.{Elements, Texts, Times, Arguments, Targeted, Read, Opened, Unary, Negation}
+use Rattle.txn_grammar.specs.Grammar.{Expression}
 use Rattle.txn_print.specs.declared.place.Place.{Place}
 use Rattle.txn_print.specs.declared.place.Place.TheVariants as place
 use Rattle.txn_print.specs.Places.{tightness, needs_parens, chain_place, operand_place}
 use Rattle.txn_print.specs.Pieces.{Piece, spaced, word}
-use Rattle.txn_print.specs.Canonical.{Shown, shown_as, grouped, given, after_comma, separated, target, request, kind_symbol, sign, comparison, truth, read_name, further, shown_operand, shown_chain, shown, expression}
+use Rattle.txn_print.specs.Canonical.{Shown, shown_as, grouped, given, after_comma, separated, target, request}
+use Rattle.txn_print.specs.Canonical.{kind_symbol, sign, comparison, truth, read_name, further, shown_operand}
+use Rattle.txn_print.specs.Canonical.{shown_chain, shown, expression}
 use Rattle.txn_print.specs.Canonical as canon
 use Rattle.txn_print.specs.Columns.{bare}
-use Rattle.txn_print.proofs.Erased.{bare_operand, bared_group, bared_number, bared_text, bared_bool, bared_name, bared_texts, bared_len, bared_str, bared_negative, bared_not, bared_compare, bared_read}
-use Rattle.txn_print.proofs.Equations.{at_number, at_text, at_bool, at_name, at_texts, at_len, at_str, at_negative, at_not, at_compare, at_chain, at_read, shown_group}
+use Rattle.txn_print.proofs.Erased.{bare_operand, bared_group, bared_number, bared_text, bared_bool, bared_name}
+use Rattle.txn_print.proofs.Erased.{bared_texts, bared_len, bared_str, bared_negative, bared_not, bared_compare}
+use Rattle.txn_print.proofs.Erased.{bared_read}
+use Rattle.txn_print.proofs.Equations.{at_number, at_text, at_bool, at_name, at_texts, at_len, at_str, at_negative}
+use Rattle.txn_print.proofs.Equations.{at_not, at_compare, at_chain, at_read, shown_group}
 use Rattle.txn_print.proofs.Back.{Back, Each, within, many_back}
 use Rattle.txn_print.proofs.Within.{Within, rule_at, deeper, looser_at}
 use Rattle.txn_print.proofs.Keeps.{Keeps, keep_one, keep_further, keep_chain, keep_after_comma, keep_targeted, keep_unary, keep_negation, keep_expression}

@@ -7,7 +7,9 @@ use Rattle.txn_grammar.specs.declared.rank.Rank.{Rank}
 use Rattle.txn_grammar.specs.declared.rank.Rank.TheVariants as rank
 use Rattle.txn_grammar.specs.declared.symbol.Symbol.{Symbol}
 use Rattle.txn_grammar.specs.declared.token.Spot.{Spot}
-use Rattle.txn_grammar.specs.Grammar.{Word, LeafRule, Further, Chain, Comparison, ComparisonOf, ExpressionOf, InParens, AfterComma, Elements, Texts, Times, Arguments, Targeted, Read, Opened, Unary, Negation, Expression, SimpleStmt, Block, NestingStmt, Statement}
+use Rattle.txn_grammar.specs.Grammar.{Word, LeafRule, Further, Chain, Comparison, ComparisonOf, ExpressionOf, InParens}
+use Rattle.txn_grammar.specs.Grammar.{AfterComma, Elements, Texts, Times, Arguments, Targeted, Read, Opened, Unary}
+use Rattle.txn_grammar.specs.Grammar.{Negation, Expression, SimpleStmt, Block, NestingStmt, Statement}
 use Rattle.txn_print.proofs.Back.{Each}
 
 module _ (G : Spot → Type 0) where

@@ -1,5 +1,6 @@
 -- Productions of the grammar, read back part by part.
-use Rattle.std.proofs.Common.{◌≡◌, ℕ, ℤ, Bool, true, false, cond, List, [], ◌∷◌, ◌++◌, map, length, Option, Some, None, refl, ap, sym, ◌∙◌, subst, inl, inr, append-nil}
+use Rattle.std.proofs.Common.{◌≡◌, ℕ, ℤ, Bool, true, false, cond, List, [], ◌∷◌, ◌++◌, map, length, Option, Some, None}
+use Rattle.std.proofs.Common.{refl, ap, sym, ◌∙◌, subst, inl, inr, append-nil}
 use Rattle.std.specs.List.{flat_map}
 use Rattle.std.specs.Option.{option_map}
 use denote.Enum.Bare.{true_same}
@@ -28,11 +29,16 @@ use Rattle.txn_grammar.specs.Spellings.{same_symbol}
 use Rattle.txn_grammar.specs.Tokens.{at, symbol_at, is_symbol, of_symbol, number, text, name, truth_of, operator_of, relation_of, kind_of, read_of, read_named}
 use Rattle.txn_grammar.specs.Trees.{expr, number_expr, text_expr, truth_expr, name_expr, operand, chained, compared, target_of, read_expr}
 use Rattle.txn_grammar.specs.Trees as trees
-use Rattle.txn_grammar.specs.Grammar.{Word, NumberLeaf, TextLeaf, TruthLeaf, NameLeaf, Further, Chain, OtherSide, Comparison, Negative, Not, InParens, Group, Len, Str, AfterComma, Elements, Texts, Times, Arguments, Targeted, Read}
+use Rattle.txn_grammar.specs.Grammar.{Word, NumberLeaf, TextLeaf, TruthLeaf, NameLeaf, Further, Chain, OtherSide}
+use Rattle.txn_grammar.specs.Grammar.{Comparison, Negative, Not, InParens, Group, Len, Str, AfterComma, Elements, Texts}
+use Rattle.txn_grammar.specs.Grammar.{Times, Arguments, Targeted, Read}
 use Rattle.txn_print.specs.Pieces.{Piece, spaced, opening, closing, joining, word}
-use Rattle.txn_print.specs.Canonical.{grouped, given, after_comma, separated, target, request, kind_symbol, sign, comparison, truth, read_name, write_name, expression}
+use Rattle.txn_print.specs.Canonical.{grouped, given, after_comma, separated, target, request, kind_symbol, sign}
+use Rattle.txn_print.specs.Canonical.{comparison, truth, read_name, write_name, expression}
 use Rattle.txn_print.specs.Columns.{bare}
-use Rattle.txn_print.proofs.Erased.{bare_operand, bared_group, bared_number, bared_text, bared_bool, bared_name, bared_texts, bared_len, bared_str, bared_negative, bared_not, bared_compare, bared_chain, bared_read}
+use Rattle.txn_print.proofs.Erased.{bare_operand, bared_group, bared_number, bared_text, bared_bool, bared_name}
+use Rattle.txn_print.proofs.Erased.{bared_texts, bared_len, bared_str, bared_negative, bared_not, bared_compare}
+use Rattle.txn_print.proofs.Erased.{bared_chain, bared_read}
 use Rattle.txn_print.proofs.Back.{Back, Each, within, pure_back, one_back, then_back, mapped_back, many_back}
 
 -- ---- what is seen of parts

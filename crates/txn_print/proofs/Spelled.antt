@@ -1,5 +1,7 @@
 -- Each token that a text can have is printed as it is cut.
-use Rattle.std.proofs.Common.{◌≡◌, ℕ, zero, suc, ◌+◌, ◌-◌, ◌*◌, ◌≤◌, ◌<◌, Bool, true, false, ◌&&◌, ◌||◌, ◌==◌, nat_lt, nat_le, cond, [], ◌∷◌, ◌++◌, take, drop, length, fold, ℤ, pos, Option, Some, None, Ok, Err, refl, ap, sym, ◌∙◌, subst, slice_index, arith}
+use Rattle.std.proofs.Common.{◌≡◌, ℕ, zero, suc, ◌+◌, ◌-◌, ◌*◌, ◌≤◌, ◌<◌, Bool, true, false, ◌&&◌, ◌||◌, ◌==◌, nat_lt}
+use Rattle.std.proofs.Common.{nat_le, cond, [], ◌∷◌, ◌++◌, take, drop, length, fold, ℤ, pos, Option, Some, None, Ok}
+use Rattle.std.proofs.Common.{Err, refl, ap, sym, ◌∙◌, subst, slice_index, arith}
 use Rattle.std.specs.List.{list_all, prefix_len, AllPass}
 use Rattle.std.specs.Fmt.{decimal}
 use Rattle.std.specs.Char.{digit_value}
@@ -32,7 +34,9 @@ use Rattle.txn_grammar.specs.declared.token.Lexeme.{Lexeme}
 use Rattle.dtext.specs.Characters.{is_letter, is_digit, is_word, is_blank}
 use Rattle.txn_grammar.specs.Spellings.{spelling, same_symbol, reserved_word, mark}
 use Rattle.txn_grammar.specs.Numbers.{with_digit, digits_value, small_value, number_value}
-use Rattle.txn_grammar.specs.Lexer.{lexeme, reserved_or_name, word_token, word_at, number_token, number_at, quoted_lexeme, text_at, mark_lexeme, mark_at, token_at, spot, is_malformed, lex_from, lex}
+use Rattle.txn_grammar.specs.Lexer.{lexeme, reserved_or_name, word_token, word_at, number_token, number_at}
+use Rattle.txn_grammar.specs.Lexer.{quoted_lexeme, text_at, mark_lexeme, mark_at, token_at, spot, is_malformed}
+use Rattle.txn_grammar.specs.Lexer.{lex_from, lex}
 use Rattle.txn_print.specs.Pieces.{spaced, word, printed}
 use Rattle.txn_print.specs.Canonical.{read_name, write_name}
 use Rattle.txn_print.proofs.Back.{Each}

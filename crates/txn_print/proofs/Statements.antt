@@ -19,7 +19,9 @@ use Rattle.txn_grammar.specs.declared.token.Spot.{Spot}
 use Rattle.txn_grammar.specs.declared.limit.TheConstants.{DEEPEST}
 use Rattle.txn_grammar.specs.Tokens.{at, name, write_of, write_named}
 use Rattle.txn_grammar.specs.Trees.{stmt_at, write_stmt, body_of}
-use Rattle.txn_grammar.specs.Grammar.{Word, InParens, Arguments, Targeted, Expression, LetStmt, EmitStmt, FailStmt, SimpleStmt, Block, Otherwise, IfStmt, ForStmt, WriteStmt, NestingStmt, Statement, BodyRule}
+use Rattle.txn_grammar.specs.Grammar.{Word, InParens, Arguments, Targeted, Expression, LetStmt, EmitStmt, FailStmt}
+use Rattle.txn_grammar.specs.Grammar.{SimpleStmt, Block, Otherwise, IfStmt, ForStmt, WriteStmt, NestingStmt, Statement}
+use Rattle.txn_grammar.specs.Grammar.{BodyRule}
 use Rattle.txn_print.specs.Pieces.{Piece, spaced, closing, word}
 use Rattle.txn_print.specs.Canonical.{expression, block, otherwise, ended, target, request, operation, write_name, shown_stmt, shown_body}
 use Rattle.txn_print.specs.Columns.{bare, bare_stmt, without_columns}

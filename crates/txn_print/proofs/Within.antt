@@ -5,7 +5,9 @@ use Rattle.txn_trees.specs.declared.expression.Expr.{Expr}
 use Rattle.txn_grammar.specs.declared.rank.Rank.{Rank}
 use Rattle.txn_grammar.specs.declared.rank.Rank.TheVariants as rank
 use Rattle.txn_grammar.specs.declared.token.Spot.{Spot}
-use Rattle.txn_grammar.specs.Grammar.{LeafRule, Chain, Comparison, ComparisonOf, ExpressionOf, InParens, AfterComma, Elements, Texts, Times, Arguments, Targeted, Read, Opened, Unary, Negation, Expression}
+use Rattle.txn_grammar.specs.Grammar.{LeafRule, Chain, Comparison, ComparisonOf, ExpressionOf, InParens, AfterComma}
+use Rattle.txn_grammar.specs.Grammar.{Elements, Texts, Times, Arguments, Targeted, Read, Opened, Unary, Negation}
+use Rattle.txn_grammar.specs.Grammar.{Expression}
 use Rattle.txn_print.specs.declared.place.Place.{Place}
 use Rattle.txn_print.specs.declared.place.Place.TheVariants as place
 use Rattle.txn_print.specs.Places.{tightness}

@@ -66,12 +66,14 @@ still_there m n false q is = map.contains_key-keys m q ∙ ap (list_any (eq_by_c
 
 module _ {M V : Type 0} (left : M → Option V) where
   -- after a mark a key is there or not, whatever was kept of what stood there
-  kept : (o : Option M) (a : Option (Unit {0})) (b : Option V) → is_some a ≡ is_some b → is_some (found_after (keeping left) o a) ≡ is_some (found_after left o b)
+  kept : (o : Option M) (a : Option (Unit {0})) (b : Option V) → is_some a ≡ is_some b
+      → is_some (found_after (keeping left) o a) ≡ is_some (found_after left o b)
   kept None a b is = is
   kept (Some mark) a b is = added-is (is_some (left mark))
 
   -- the keys after a delta are those of the keys alone after it
-  pub keys-applied : (d : Keyed M) (s : SetOfTexts) (m : MapOf V) → map.keys s ≡ map.keys m → map.keys (applied (keeping left) d s) ≡ map.keys (applied left d m)
+  pub keys-applied : (d : Keyed M) (s : SetOfTexts) (m : MapOf V) → map.keys s ≡ map.keys m
+      → map.keys (applied (keeping left) d s) ≡ map.keys (applied left d m)
   keys-applied d s m is =
       same_keys _ _
       (λ q.

@@ -1,5 +1,7 @@
 -- Values over which a delta lies: what stands at a key and at a place.
-use Rattle.std.proofs.Common.{◌≡◌, ◌+◌, ◌-◌, ℕ, zero, suc, nat_eq, Bool, true, false, not, cond, List, [], ◌∷◌, ◌++◌, length, slice_get, Option, Some, None, Result, Ok, Err, is_some, refl, sym, ap, ◌∙◌, subst, arith}
+use Rattle.std.proofs.Common.{◌≡◌, ◌+◌, ◌-◌, ℕ, zero, suc, nat_eq, Bool, true, false, not, cond, List, [], ◌∷◌, ◌++◌}
+use Rattle.std.proofs.Common.{length, slice_get, Option, Some, None, Result, Ok, Err, is_some, refl, sym, ap, ◌∙◌}
+use Rattle.std.proofs.Common.{subst, arith}
 use Rattle.std.specs.FinMap as map
 use Rattle.std.proofs.Common.{map as list_map}
 use Rattle.plain_data.specs.Texts.{Bytes, MapOf, SetOfTexts, text_cmp, has_text}
@@ -43,7 +45,8 @@ pub has-marked : (d : Keyed Bool) (s : SetOfTexts) (x : Bytes) (b : Bool) → ma
 has-marked d s x b marked = ap is_some (get-applied added d s x (Some b) d.cleared marked refl) ∙ added-is b
 
 -- one that isn't
-pub has-unmarked : (d : Keyed Bool) (s : SetOfTexts) (x : Bytes) (b : Bool) → map.get d.marks x ≡ None → d.cleared ≡ b → has_text (applied added d s) x ≡ cond b false (has_text s x)
+pub has-unmarked : (d : Keyed Bool) (s : SetOfTexts) (x : Bytes) (b : Bool) → map.get d.marks x ≡ None → d.cleared ≡ b
+    → has_text (applied added d s) x ≡ cond b false (has_text s x)
 has-unmarked d s x true marked is = ap is_some (get-applied added d s x None true marked is)
 has-unmarked d s x false marked is = ap is_some (get-applied added d s x None false marked is)
 
@@ -58,7 +61,8 @@ kept_or (Ok x) pushed = Some x
 kept_or (Err left) pushed = slice_get pushed left
 
 -- a place among the items that stay, and then among those that are pushed
-pub place_kept : (removed : SetOfTexts) (items pushed : List Bytes) (place : ℕ) → slice_get (without removed items ++ pushed) place ≡ kept_or (kept_from removed items place) pushed
+pub place_kept : (removed : SetOfTexts) (items pushed : List Bytes) (place : ℕ)
+    → slice_get (without removed items ++ pushed) place ≡ kept_or (kept_from removed items place) pushed
 place_kept removed [] pushed place = refl
 place_kept removed (x ∷ items) pushed place = by (has_text removed x) place (place_kept removed items pushed)
   where
@@ -77,7 +81,8 @@ place_kept removed (x ∷ items) pushed place = by (has_text removed x) place (p
 kept_list : (d : Listed) (items : List Bytes) → d.cleared ≡ false → listed.applied d items ≡ without d.removed items ++ d.pushed
 kept_list d items is = ap (λ b. cond b [] (without d.removed items) ++ d.pushed) is
 
-pub kept_place : (d : Listed) (items : List Bytes) (place : ℕ) → d.cleared ≡ false → slice_get (listed.applied d items) place ≡ kept_or (kept_from d.removed items place) d.pushed
+pub kept_place : (d : Listed) (items : List Bytes) (place : ℕ) → d.cleared ≡ false
+    → slice_get (listed.applied d items) place ≡ kept_or (kept_from d.removed items place) d.pushed
 kept_place d items place is = ap (λ xs. slice_get xs place) (kept_list d items is) ∙ place_kept d.removed items d.pushed place
 
 -- after one that takes nothing out either

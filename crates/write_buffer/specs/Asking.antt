@@ -34,7 +34,8 @@ abbrev pub asked : Deltas → Address → ReadOp → Option Value → Asked
 asked deltas a r base = asked_over (delta_at deltas a) a r base
 
 -- a counter that was put needs no value
-put-counter : asked_over (Some (delta.PutCounter (pos 7))) (record { kind = kind.Counter; key = codes "x" }) read.Get None ≡ Answered (item.Int (pos 7)) None
+put-counter : asked_over (Some (delta.PutCounter (pos 7))) (record { kind = kind.Counter; key = codes "x" }) read.Get None
+    ≡ Answered (item.Int (pos 7)) None
 put-counter = refl
 
 -- one that was added to needs it, and observes it

@@ -2,7 +2,8 @@
 -- proved equal to them. Judge by the rules of specs/Spellings: the law `readers_are_rules` ties each reader to its rule.
 -- Marks stand by their bytes, as in the rules; of the first letters of words 97 is `a`, 98 `b`, 99 `c`, 102 `f`,
 -- 104 `h`, 111 `o`, 112 `p`, 114 `r`, 115 `s`, and 116 `t`.
-use Rattle.std.specs.Prelude.{ℕ, ◌+◌, ◌-◌, ◌*◌, Bool, not, ◌&&◌, ◌||◌, nat_eq, nat_le, if◌then◌else◌, List, [], ◌∷◌, ℤ, pos, neg_ℤ, codes, Option, Some, None, Ok}
+use Rattle.std.specs.Prelude.{ℕ, ◌+◌, ◌-◌, ◌*◌, Bool, not, ◌&&◌, ◌||◌, nat_eq, nat_le, if◌then◌else◌, List, [], ◌∷◌, ℤ}
+use Rattle.std.specs.Prelude.{pos, neg_ℤ, codes, Option, Some, None, Ok}
 use Rattle.plain_data.specs.Texts.{Bytes}
 use Rattle.predictive_parsing.specs.Reading.{Reader, ◌>>=◌, pure, ahead, one, either, many, list, optional, of, guided}
 use Rattle.predictive_parsing.specs.Bytes.{byte, sees, word, behind}
@@ -173,7 +174,9 @@ address = do
 
 -- a value: the byte ahead tells its type
 unfoldable pub item : Reader ℕ Item
-item = either begins_number (of items.Int number) (either (sees 34) (of items.Text text) (either (sees 91) (of items.Texts texts) (of items.Bool bool)))
+item =
+    either begins_number (of items.Int number)
+    (either (sees 34) (of items.Text text) (either (sees 91) (of items.Texts texts) (of items.Bool bool)))
 
 -- a value behind a space
 unfoldable pub after_space : Reader ℕ Item

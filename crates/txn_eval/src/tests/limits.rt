@@ -1,12 +1,11 @@
 //! Bodies at their limits and one past them, on values that they are given.
 
 use crate::running::{Step, run};
-use crate::tests::{checked, emits, is_big, says};
+use crate::tests::{End, checked, comes_to, ends_as};
 use conflict_table::Obs;
 use plain_data::{Text, TextMap, TextSet};
 use rdt_types::{Address, Item, Outcome, TextList, Value};
 use std::alloc::{AllocError, Global};
-use std::test::Fail;
 use txn_lang::{Run, Snap, Snaps};
 
 /// A text of so many bytes.
@@ -39,48 +38,6 @@ fn ran(alloc: Global, source: &[u8], value: Value) -> Result<Option<Run>, AllocE
         Step::Done(done) => Ok(Some(done)),
         Step::Need(_) => Ok(None),
     }
-}
-
-/// Whether the run of a body on a value emits this int.
-fn counts(
-    alloc: Global,
-    source: &[u8],
-    value: Result<Value, AllocError>,
-    wanted: i64,
-) -> Result<bool, AllocError> {
-    Ok(emits(alloc, source, &given(alloc, value?)?) == Some(wanted))
-}
-
-/// Whether the run of a body on a value ends since something is too large, and observed this before.
-fn is_big_at(
-    alloc: Global,
-    source: &[u8],
-    value: Result<Value, AllocError>,
-    wanted: Obs,
-) -> Result<bool, AllocError> {
-    let Some(done) = ran(alloc, source, value?)? else {
-        return Ok(false);
-    };
-    Ok(match done.observations.as_slice() {
-        [seen] => done.outcome == Outcome::Big && seen.obs == wanted,
-        _ => false,
-    })
-}
-
-/// Whether the run of a body on a value ends with what it emits.
-fn is_ok(
-    alloc: Global,
-    source: &[u8],
-    value: Result<Value, AllocError>,
-) -> Result<bool, AllocError> {
-    let Some(done) = ran(alloc, source, value?)? else {
-        return Ok(false);
-    };
-    Ok(matches!(&done.outcome, Outcome::Ok(_)))
-}
-
-fn long_text(alloc: Global, count: u32) -> Result<Value, AllocError> {
-    Ok(Value::Text(long(alloc, count)?))
 }
 
 /// The set of one text of so many bytes.
@@ -127,10 +84,6 @@ fn wide_hash(alloc: Global, more: Option<u32>) -> Result<Value, AllocError> {
     Ok(Value::Hash(hash))
 }
 
-fn wide_list(alloc: Global, more: Option<u32>) -> Result<Value, AllocError> {
-    Ok(Value::List(wide(alloc, more)?))
-}
-
 /// The list of 15 texts of 1,023 bytes and one of so many: 15,361 and that, with 1 for each.
 fn heavy(alloc: Global, last: u32) -> Result<Value, AllocError> {
     let mut texts = TextList::new(alloc);
@@ -139,73 +92,6 @@ fn heavy(alloc: Global, last: u32) -> Result<Value, AllocError> {
     }
     texts.push(long(alloc, last)?)?;
     Ok(Value::List(texts))
-}
-
-/// A body that emits the length of a literal of so many bytes.
-fn literal(alloc: Global, count: u32) -> Result<Text, AllocError> {
-    let mut source = Text::from_slice(alloc, b"emit len(\"")?;
-    source.extend_from_slice(long(alloc, count)?.as_slice())?;
-    source.extend_from_slice(b"\");")?;
-    Ok(source)
-}
-
-#[test]
-fn literals(rt: HostRuntime) -> Result<(), Fail> {
-    let alloc = rt.alloc();
-    assert!(rt; says(alloc, literal(alloc, 1024)?.as_slice(), 1024));
-    assert!(rt; is_big(alloc, literal(alloc, 1025)?.as_slice()));
-    Ok(())
-}
-
-/// A text that is read and one that is listed have 1,024 bytes at most. They are observed all the same.
-#[test]
-fn texts_that_are_read(rt: HostRuntime) -> Result<(), Fail> {
-    let alloc = rt.alloc();
-    let read = b"emit len(text(\"k\").get());".as_slice();
-    let all = b"emit len(set(\"k\").all());".as_slice();
-    let fields = b"emit len(hash(\"k\").fields());".as_slice();
-    assert!(rt; counts(alloc, read, long_text(alloc, 1024), 1024)?);
-    assert!(rt; is_big_at(alloc, read, long_text(alloc, 1025), Obs::TextIs)?);
-    assert!(rt; counts(alloc, all, set_of_one(alloc, 1024), 1)?);
-    assert!(rt; is_big_at(alloc, all, set_of_one(alloc, 1025), Obs::SetAll)?);
-    assert!(rt; counts(alloc, fields, hash_of_one(alloc, 1024), 1)?);
-    assert!(rt; is_big_at(alloc, fields, hash_of_one(alloc, 1025), Obs::HashAll)?);
-    Ok(())
-}
-
-/// Texts that are read have 65,536 bytes at most, with 1 for each. An empty one is past that.
-#[test]
-fn lists_that_are_read(rt: HostRuntime) -> Result<(), Fail> {
-    let alloc = rt.alloc();
-    let elements = b"emit len(set(\"k\").all());".as_slice();
-    let fields = b"emit len(hash(\"k\").fields());".as_slice();
-    let items = b"emit len(list(\"k\").all());".as_slice();
-    assert!(rt; counts(alloc, elements, wide_set(alloc, None), 64)?);
-    assert!(rt; is_big_at(alloc, elements, wide_set(alloc, Some(0)), Obs::SetAll)?);
-    assert!(rt; counts(alloc, fields, wide_hash(alloc, None), 64)?);
-    assert!(rt; is_big_at(alloc, fields, wide_hash(alloc, Some(0)), Obs::HashAll)?);
-    assert!(rt; counts(alloc, items, wide_list(alloc, None), 64)?);
-    assert!(rt; is_big_at(alloc, items, wide_list(alloc, Some(0)), Obs::ListAll)?);
-    Ok(())
-}
-
-/// What is emitted adds up to 16,384 at most: 8 each, and 8 for an int, 1 for a bool, the bytes of a text.
-#[test]
-fn loads_of_emits(rt: HostRuntime) -> Result<(), Fail> {
-    let alloc = rt.alloc();
-    let alone = b"emit list(\"k\").all();".as_slice();
-    let int = b"emit list(\"k\").all(); emit 0;".as_slice();
-    let bool = b"emit list(\"k\").all(); emit true;".as_slice();
-    let text = b"emit list(\"k\").all(); emit \"ab\";".as_slice();
-    assert!(rt; is_ok(alloc, alone, heavy(alloc, 1015))?);
-    assert!(rt; is_big_at(alloc, alone, heavy(alloc, 1016), Obs::ListAll)?);
-    assert!(rt; is_ok(alloc, int, heavy(alloc, 999))?);
-    assert!(rt; is_big_at(alloc, int, heavy(alloc, 1000), Obs::ListAll)?);
-    assert!(rt; is_ok(alloc, bool, heavy(alloc, 1006))?);
-    assert!(rt; is_big_at(alloc, bool, heavy(alloc, 1007), Obs::ListAll)?);
-    assert!(rt; is_ok(alloc, text, heavy(alloc, 1005))?);
-    assert!(rt; is_big_at(alloc, text, heavy(alloc, 1006), Obs::ListAll)?);
-    Ok(())
 }
 
 /// A body that emits a text of every byte, by its escapes.
@@ -247,25 +133,44 @@ fn emits_every_byte(ran: Option<Run>) -> bool {
     }
 }
 
-#[test]
-fn escapes(rt: HostRuntime) -> Result<(), Fail> {
-    let alloc = rt.alloc();
-    let source = every_byte(alloc)?;
-    let ran = ran(alloc, source.as_slice(), Value::Counter(0))?;
-    assert!(rt; emits_every_byte(ran));
-    Ok(())
+/// A body that emits the length of a literal of so many bytes.
+fn literal(alloc: Global, count: u32) -> Result<Text, AllocError> {
+    let mut source = Text::from_slice(alloc, b"emit len(\"")?;
+    source.extend_from_slice(long(alloc, count)?.as_slice())?;
+    source.extend_from_slice(b"\");")?;
+    Ok(source)
 }
 
-/// Comparisons see the signs of the least int and of the greatest.
+/// Whether the run of a body that rests on nothing comes to this.
+fn made_comes_to(alloc: Global, source: Result<Text, AllocError>, end: End) -> bool {
+    match source {
+        Ok(source) => comes_to(alloc, source.as_slice(), end),
+        Err(_) => false,
+    }
+}
+
 #[test]
-fn comparisons_at_the_ends(rt: HostRuntime) {
+fn literals(rt: HostRuntime) {
     let alloc = rt.alloc();
-    let holding =
-        b"let m = -9223372036854775807 - 1; let x = 9223372036854775807; if m < x and m <= x and x > m and x >= m and m != x and m <= m and x >= x and m == x + 1 { emit 1; }";
-    let failing =
-        b"let m = -9223372036854775807 - 1; let x = 9223372036854775807; if x < m or x <= m or m > x or m >= x or m == x or m < m or x > x or m != x + 1 { emit 0; } else { emit 1; }";
-    assert!(rt; says(alloc, holding, 1));
-    assert!(rt; says(alloc, failing, 1));
+    assert!(rt; made_comes_to(alloc, literal(alloc, 1024), End::Int(1024)));
+    assert!(rt; made_comes_to(alloc, literal(alloc, 1025), End::Big));
+}
+
+/// Whether the run of a body that rests on nothing emits a text of every byte.
+fn emits_every(alloc: Global, source: Result<Text, AllocError>) -> bool {
+    let Ok(source) = source else {
+        return false;
+    };
+    match ran(alloc, source.as_slice(), Value::Counter(0)) {
+        Ok(ran) => emits_every_byte(ran),
+        Err(_) => false,
+    }
+}
+
+#[test]
+fn escapes(rt: HostRuntime) {
+    let alloc = rt.alloc();
+    assert!(rt; emits_every(alloc, every_byte(alloc)));
 }
 
 /// The list of so many empty texts.
@@ -277,29 +182,194 @@ fn many(alloc: Global, count: u32) -> Result<Value, AllocError> {
     Ok(Value::List(texts))
 }
 
-/// Whether the run of a body on a value has no tick left, and observed the whole list before.
-fn is_spent(
-    alloc: Global,
-    source: &[u8],
-    value: Result<Value, AllocError>,
-) -> Result<bool, AllocError> {
-    let Some(done) = ran(alloc, source, value?)? else {
-        return Ok(false);
-    };
-    Ok(match done.observations.as_slice() {
-        [seen] => done.outcome == Outcome::Spent && seen.obs == Obs::ListAll,
-        _ => false,
-    })
+/// A value that is given.
+#[derive(Clone, Copy)]
+enum Base {
+    Counter(i64),
+    /// A text of so many bytes.
+    Text(u32),
+    /// The set of one text of so many bytes.
+    SetOfOne(u32),
+    /// The hash of one field of so many bytes.
+    HashOfOne(u32),
+    /// 64 texts of 1,023 bytes, and one more of so many, or none.
+    WideSet(Option<u32>),
+    WideHash(Option<u32>),
+    WideList(Option<u32>),
+    /// 15 texts of 1,023 bytes and one of so many.
+    Heavy(u32),
+    /// So many empty texts.
+    Many(u32),
 }
 
-/// A `for` over n items that it reads charges 3 ticks, n for the items and n for its turns.
+fn value_of(alloc: Global, given: Base) -> Result<Value, AllocError> {
+    match given {
+        Base::Counter(number) => Ok(Value::Counter(number)),
+        Base::Text(count) => Ok(Value::Text(long(alloc, count)?)),
+        Base::SetOfOne(count) => set_of_one(alloc, count),
+        Base::HashOfOne(count) => hash_of_one(alloc, count),
+        Base::WideSet(more) => wide_set(alloc, more),
+        Base::WideHash(more) => wide_hash(alloc, more),
+        Base::WideList(more) => Ok(Value::List(wide(alloc, more)?)),
+        Base::Heavy(last) => heavy(alloc, last),
+        Base::Many(count) => many(alloc, count),
+    }
+}
+
+/// Whether the observation is of the whole value that is given.
+fn is_whole(given: Base, obs: &Obs) -> bool {
+    match given {
+        Base::Counter(_) => *obs == Obs::CounterIs,
+        Base::Text(_) => *obs == Obs::TextIs,
+        Base::SetOfOne(_) | Base::WideSet(_) => *obs == Obs::SetAll,
+        Base::HashOfOne(_) | Base::WideHash(_) => *obs == Obs::HashAll,
+        Base::WideList(_) | Base::Heavy(_) | Base::Many(_) => *obs == Obs::ListAll,
+    }
+}
+
+/// Whether a run came to this, and observed the whole value before.
+fn ended(run: &Run, given: Base, end: End) -> bool {
+    match run.observations.as_slice() {
+        [seen] => is_whole(given, &seen.obs) && ends_as(run, end),
+        _ => false,
+    }
+}
+
+/// Whether the run of a body on the value at `k` comes to this, and observes the whole value.
+fn on_given(alloc: Global, source: &[u8], given: Base, end: End) -> bool {
+    let Ok(value) = value_of(alloc, given) else {
+        return false;
+    };
+    match ran(alloc, source, value) {
+        Ok(Some(done)) => ended(&done, given, end),
+        _ => false,
+    }
+}
+
+type Row = (&'static [u8], Base, End);
+
+/// Bodies, each with the value at `k` and what its run on that comes to.
+const ON_GIVEN: [Row; 25] = [
+    // An own addition goes into the value.
+    (
+        b"counter(\"k\").add(2); emit counter(\"k\").get();",
+        Base::Counter(40),
+        End::Int(42),
+    ),
+    // A text that is read and one that is listed have 1,024 bytes at most. They are observed all the same.
+    (
+        b"emit len(text(\"k\").get());",
+        Base::Text(1024),
+        End::Int(1024),
+    ),
+    (b"emit len(text(\"k\").get());", Base::Text(1025), End::Big),
+    (
+        b"emit len(set(\"k\").all());",
+        Base::SetOfOne(1024),
+        End::Int(1),
+    ),
+    (
+        b"emit len(set(\"k\").all());",
+        Base::SetOfOne(1025),
+        End::Big,
+    ),
+    (
+        b"emit len(hash(\"k\").fields());",
+        Base::HashOfOne(1024),
+        End::Int(1),
+    ),
+    (
+        b"emit len(hash(\"k\").fields());",
+        Base::HashOfOne(1025),
+        End::Big,
+    ),
+    // Texts that are read have 65,536 bytes at most, with 1 for each. An empty one is past that.
+    (
+        b"emit len(set(\"k\").all());",
+        Base::WideSet(None),
+        End::Int(64),
+    ),
+    (
+        b"emit len(set(\"k\").all());",
+        Base::WideSet(Some(0)),
+        End::Big,
+    ),
+    (
+        b"emit len(hash(\"k\").fields());",
+        Base::WideHash(None),
+        End::Int(64),
+    ),
+    (
+        b"emit len(hash(\"k\").fields());",
+        Base::WideHash(Some(0)),
+        End::Big,
+    ),
+    (
+        b"emit len(list(\"k\").all());",
+        Base::WideList(None),
+        End::Int(64),
+    ),
+    (
+        b"emit len(list(\"k\").all());",
+        Base::WideList(Some(0)),
+        End::Big,
+    ),
+    // What is emitted adds up to 16,384 at most: 8 each, and 8 for an int, 1 for a bool, the bytes of a text.
+    (b"emit list(\"k\").all();", Base::Heavy(1015), End::Ok),
+    (b"emit list(\"k\").all();", Base::Heavy(1016), End::Big),
+    (
+        b"emit list(\"k\").all(); emit 0;",
+        Base::Heavy(999),
+        End::Ok,
+    ),
+    (
+        b"emit list(\"k\").all(); emit 0;",
+        Base::Heavy(1000),
+        End::Big,
+    ),
+    (
+        b"emit list(\"k\").all(); emit true;",
+        Base::Heavy(1006),
+        End::Ok,
+    ),
+    (
+        b"emit list(\"k\").all(); emit true;",
+        Base::Heavy(1007),
+        End::Big,
+    ),
+    (
+        b"emit list(\"k\").all(); emit \"ab\";",
+        Base::Heavy(1005),
+        End::Ok,
+    ),
+    (
+        b"emit list(\"k\").all(); emit \"ab\";",
+        Base::Heavy(1006),
+        End::Big,
+    ),
+    // A `for` over n items that it reads charges 3 ticks, n for the items and n for its turns.
+    (b"for a in list(\"k\").all() { }", Base::Many(0), End::Ok),
+    (b"for a in list(\"k\").all() { }", Base::Many(4998), End::Ok),
+    (
+        b"for a in list(\"k\").all() { }",
+        Base::Many(4999),
+        End::Spent,
+    ),
+    (
+        b"for a in list(\"k\").all() { }",
+        Base::Many(10_000),
+        End::Spent,
+    ),
+];
+
+/// The table, so that the proof of a test doesn't go through its rows.
+fn rows() -> &'static [Row] {
+    &ON_GIVEN
+}
+
 #[test]
-fn turns_of_a_for(rt: HostRuntime) -> Result<(), Fail> {
-    let alloc = rt.alloc();
-    let turns = b"for a in list(\"k\").all() { }".as_slice();
-    assert!(rt; is_ok(alloc, turns, many(alloc, 0))?);
-    assert!(rt; is_ok(alloc, turns, many(alloc, 4998))?);
-    assert!(rt; is_spent(alloc, turns, many(alloc, 4999))?);
-    assert!(rt; is_spent(alloc, turns, many(alloc, 10_000))?);
-    Ok(())
+fn bodies_on_values(rt: HostRuntime) {
+    for (source, given, end) in rows() {
+        assert!(rt; on_given(rt.alloc(), source, *given, *end));
+    }
 }

@@ -26,7 +26,8 @@ use Rattle.txn_grammar.specs.declared.symbol.Symbol.TheVariants as s
 use Rattle.txn_grammar.specs.declared.target.Target.{Target}
 use Rattle.txn_grammar.specs.declared.token.Spot.{Spot}
 use Rattle.txn_grammar.specs.Tokens.{at, symbol_at, of_symbol, number, text, name, truth_of, operator_of, relation_of, kind_of, write_of, read_of}
-use Rattle.txn_grammar.specs.Trees.{expr, number_expr, text_expr, truth_expr, name_expr, grouped, operand, chained, compared, target_of, read_expr, stmt_at, write_stmt, body_of}
+use Rattle.txn_grammar.specs.Trees.{expr, number_expr, text_expr, truth_expr, name_expr, grouped, operand, chained}
+use Rattle.txn_grammar.specs.Trees.{compared, target_of, read_expr, stmt_at, write_stmt, body_of}
 use Rattle.txn_grammar.specs.code.Forms.{chosen, leaf_at, opener_at, simple_at, nesting_at}
 
 unfoldable pub word : Symbol → Reader Spot ℕ
@@ -311,7 +312,9 @@ nesting_stmt expression argument starts inside = chosen nesting_at nesting.Write
 -- by the levels that are left
 unfoldable pub statement : ℕ → Reader Spot Stmt
 statement zero = simple_stmt (expression zero)
-statement (suc n) = either begins_simple (simple_stmt (expression (suc n))) (nesting_stmt (expression (suc n)) (expression n) (begins_statement n) (statement n))
+statement (suc n) =
+    either begins_simple (simple_stmt (expression (suc n)))
+    (nesting_stmt (expression (suc n)) (expression n) (begins_statement n) (statement n))
 
 unfoldable pub body : Reader Spot Body
 body = do

@@ -9,7 +9,8 @@ use Rattle.predictive_parsing.specs.Reads.{Reads}
 use Rattle.txn_grammar.specs.declared.token.Spot.{Spot}
 
 -- a call of f at a `&mut` to `old` may answer r, and leave `new` there
-pub record ReturnsAtMut {F T R : Type 0} (g : Shared F (MutBor T × Unit {0}) (R × (MutBor T × Unit {0}))) (f : F) (old : T) (r : R) (new : T) : Type 0 where
+pub record ReturnsAtMut {F T R : Type 0} (g : Shared F (MutBor T × Unit {0}) (R × (MutBor T × Unit {0}))) (f : F) (old : T)
+    (r : R) (new : T) : Type 0 where
   pub shown : MutBor T
   pub shows : shown.now ≡ old
   pub left : MutBor T

@@ -24,11 +24,13 @@ placed n place.Unary = unary n
 pub record Nests (levels : ℕ) (pre : Global → MutBor (List Spot) → ℕ → Place → Type 0)
     (post : Global → MutBor (List Spot) → ℕ → Place → Result Expr (OrNoMemory Refused) → MutBor (List Spot) → Type 0) : Type 0 where
   pub callable : (alloc : Global) (old : MutBor (List Spot)) (n : ℕ) (place : Place) → n < levels → pre alloc old n place
-  pub reads : (alloc : Global) (old new : MutBor (List Spot)) (n : ℕ) (place : Place) (r : Result Expr (OrNoMemory Refused)) → n < levels → post alloc old n place r new
+  pub reads : (alloc : Global) (old new : MutBor (List Spot)) (n : ℕ) (place : Place) (r : Result Expr (OrNoMemory Refused))
+      → n < levels → post alloc old n place r new
       → Reads (placed n place old.now) r new.now
 
 -- The function that is called reads a statement with fewer levels left than these.
 pub record NestsStatements (levels : ℕ) (pre : Global → MutBor (List Spot) → ℕ → Type 0)
     (post : Global → MutBor (List Spot) → ℕ → Result Stmt (OrNoMemory Refused) → MutBor (List Spot) → Type 0) : Type 0 where
   pub callable : (alloc : Global) (old : MutBor (List Spot)) (n : ℕ) → n < levels → pre alloc old n
-  pub reads : (alloc : Global) (old new : MutBor (List Spot)) (n : ℕ) (r : Result Stmt (OrNoMemory Refused)) → n < levels → post alloc old n r new → Reads (statement n old.now) r new.now
+  pub reads : (alloc : Global) (old new : MutBor (List Spot)) (n : ℕ) (r : Result Stmt (OrNoMemory Refused)) → n < levels
+      → post alloc old n r new → Reads (statement n old.now) r new.now

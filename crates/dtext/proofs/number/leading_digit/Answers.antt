@@ -5,4 +5,6 @@ use Rattle.dtext.proofs.NumberFits.{leading_small}
 use Rattle.dtext.proofs.number.leading_digit.Goals as goal
 
 pub returns-clause-below : goal.returns-clause-below
-returns-clause-below c = made_as leading (λ n. n ≤ 9) leading_small c.args.cursor.now c.take.new.self c.take.result (c.take.ensures.reads leading (λ item made r. search rules))
+returns-clause-below c =
+    made_as leading (λ n. n ≤ 9) leading_small c.args.cursor.now c.take.new.self c.take.result
+    (c.take.ensures.reads leading (λ item made r. search rules))

@@ -5,4 +5,6 @@ use Rattle.dtext.proofs.TextFits.{hex_small}
 use Rattle.dtext.proofs.text.hex_digit.Goals as goal
 
 pub returns-clause-below : goal.returns-clause-below
-returns-clause-below c = made_as hex_value (λ n. n < 16) hex_small c.args.cursor.now c.take.new.self c.take.result (c.take.ensures.reads hex_value (λ item made r. search rules))
+returns-clause-below c =
+    made_as hex_value (λ n. n < 16) hex_small c.args.cursor.now c.take.new.self c.take.result
+    (c.take.ensures.reads hex_value (λ item made r. search rules))

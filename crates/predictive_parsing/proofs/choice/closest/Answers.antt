@@ -9,9 +9,11 @@ loop-word-preserved g c =
     let ts = c.args.bytes.now in
     let words = c.args.others.now in
     ap (λ x. closest spelled ts x (drop (c.loop-word.word-index + 1) words)) c.closer-best.ensures
-    ∙ closest_on spelled ts c.loop-word.best (closest spelled ts c.args.first words) words c.loop-word.word-index c.loop-word.invariant c.word-item.result c.loop-word-test.true c.word-item.is
+    ∙ closest_on spelled ts c.loop-word.best (closest spelled ts c.args.first words) words c.loop-word.word-index
+    c.loop-word.invariant c.word-item.result c.loop-word-test.true c.word-item.is
 
 pub returns : goal.returns
 returns g c =
     let spelled = g.W.Spelled.spelled in
-    closest_end spelled c.args.bytes.now c.loop-word.best (closest spelled c.args.bytes.now c.args.first c.args.others.now) c.args.others.now c.loop-word.word-index c.loop-word.invariant (omega arith)
+    closest_end spelled c.args.bytes.now c.loop-word.best (closest spelled c.args.bytes.now c.args.first c.args.others.now)
+    c.args.others.now c.loop-word.word-index c.loop-word.invariant (omega arith)

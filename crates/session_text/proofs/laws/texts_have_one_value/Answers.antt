@@ -12,4 +12,8 @@ use Rattle.session_text.proofs.ReplyFits.{reply_fits}
 use Rattle.session_text.proofs.laws.texts_have_one_value.Goals as goal
 
 pub returns : goal.returns
-returns c = record { lines = whole_unique IsByte line VerbRule at_end line_fits refl; replies = whole_unique IsByte reply_read ReplyRule no_more reply_fits refl }
+returns c =
+    record {
+      lines = whole_unique IsByte line VerbRule at_end line_fits refl;
+      replies = whole_unique IsByte reply_read ReplyRule no_more reply_fits refl;
+    }

@@ -30,7 +30,8 @@ returns-then-ends c =
     let below : at < length z = omega arith in
     let e = c.in_ok-token.ensures ∙ ap token_at (take_rest z at) in
     let cut = lexeme_ends z at below found e (search rules) (search rules) in
-    last_one c.push.new.self.items c.loop-at.spots.items (lex_from (at + 1) 0 (drop at z)) (lex z) (spot (at + 1) found.token) c.in_ok-push.ensures.items cut c.loop-at.invariant.0
+    last_one c.push.new.self.items c.loop-at.spots.items (lex_from (at + 1) 0 (drop at z)) (lex z) (spot (at + 1) found.token)
+    c.in_ok-push.ensures.items cut c.loop-at.invariant.0
 
 pub loop-at-preserved : goal.loop-at-preserved
 loop-at-preserved c =
@@ -40,5 +41,9 @@ loop-at-preserved c =
     let below : at < length z = omega arith in
     let e = c.in_ok-token.ensures ∙ ap token_at (take_rest z at) in
     let m = moves_at z at found below e in
-    let cut = lexeme_goes z at below found e (search rules) (search rules) in
-    (one_more c.push.new.self.items c.loop-at.spots.items (lex_from ((at + found.len) + 1) 0 (drop (at + found.len) z)) (lex_from (at + 1) 0 (drop at z)) (lex z) (spot (at + 1) found.token) c.in_ok-push.ensures.items cut c.loop-at.invariant.0, omega (arith, m))
+    let cut = lexeme_goes z at below found e (search rules) (search rules) in (
+      one_more c.push.new.self.items c.loop-at.spots.items (lex_from ((at + found.len) + 1) 0 (drop (at + found.len) z))
+          (lex_from (at + 1) 0 (drop at z)) (lex z) (spot (at + 1) found.token) c.in_ok-push.ensures.items cut
+          c.loop-at.invariant.0,
+      omega (arith, m),
+    )

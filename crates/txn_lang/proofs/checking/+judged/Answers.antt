@@ -12,7 +12,8 @@ block-returns t c = block_left _ _ _ _ _ c.in_ok-in_order.ensures c.len-count.en
 
 pub turn-forget-requires : goal.turn-forget-requires
 turn-forget-requires t c =
-    let more : length c.args.names.now ≤ length c.bind.new.self = omega (arith, ap length c.in_ok-bind.ensures.ok, length-append c.args.names.now ((c.args.name.now, type.Text) ∷ [])) in
+    let more : length c.args.names.now ≤ length c.bind.new.self =
+    omega (arith, ap length c.in_ok-bind.ensures.ok, length-append c.args.names.now ((c.args.name.now, type.Text) ∷ [])) in
     omega (arith, c.len-count.ensures, more, length-after _ _ _ c.in_ok-in_order.ensures)
 
 pub turn-returns : goal.turn-returns

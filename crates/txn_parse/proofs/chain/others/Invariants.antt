@@ -11,4 +11,5 @@ use Rattle.txn_parse.proofs.chain.others.Given as goal
 abbrev pub invariant-loop : goal.invariant-loop
 invariant-loop g l =
     (reader : Reader Spot Expr) → ReadsAs g.R.Fn l.operand reader
-    → with_front l.found (turns (begins_operator l.rank) (further l.rank reader) (length l.fn.cursor - l.counter) l.cursor) ≡ many (begins_operator l.rank) (further l.rank reader) l.fn.cursor
+    → with_front l.found (turns (begins_operator l.rank) (further l.rank reader) (length l.fn.cursor - l.counter) l.cursor)
+    ≡ many (begins_operator l.rank) (further l.rank reader) l.fn.cursor

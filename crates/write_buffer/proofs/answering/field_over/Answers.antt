@@ -8,13 +8,15 @@ use Rattle.write_buffer.proofs.answering.field_over.Goals as goal
 
 pub returns-in-Some-Put : goal.returns-in-Some-Put
 returns-in-Some-Put c =
-    let found : Some c.in-Some-Put.field-0.now ≡ fin.get c.args.d.now.marks c.args.field.now = c.in-Some-Put.ensures ∙ ap (λ m. fin.get m c.args.field.now) c.marks.ensures.marks in
+    let found : Some c.in-Some-Put.field-0.now ≡ fin.get c.args.d.now.marks c.args.field.now =
+    c.in-Some-Put.ensures ∙ ap (λ m. fin.get m c.args.field.now) c.marks.ensures.marks in
     let put : fin.get c.args.d.now.marks c.args.field.now ≡ Some (mark.Put c.in-Some-Put.text) = sym found ∙ ap (λ m. Some m) c.in-Some-Put.field-0-is in
     sym (get-applied put_by c.args.d.now (hash_in c.args.value.now) c.args.field.now _ _ put (λ i. c.args.d.now.cleared))
 
 pub returns-in-Some-Removed : goal.returns-in-Some-Removed
 returns-in-Some-Removed c =
-    let found : Some c.in-Some-Removed.field-0.now ≡ fin.get c.args.d.now.marks c.args.field.now = c.in-Some-Removed.ensures ∙ ap (λ m. fin.get m c.args.field.now) c.marks.ensures.marks in
+    let found : Some c.in-Some-Removed.field-0.now ≡ fin.get c.args.d.now.marks c.args.field.now =
+    c.in-Some-Removed.ensures ∙ ap (λ m. fin.get m c.args.field.now) c.marks.ensures.marks in
     let removed : fin.get c.args.d.now.marks c.args.field.now ≡ Some mark.Removed = sym found ∙ ap (λ m. Some m) c.in-Some-Removed.field-0-is in
     sym (get-applied put_by c.args.d.now (hash_in c.args.value.now) c.args.field.now _ _ removed (λ i. c.args.d.now.cleared))
 

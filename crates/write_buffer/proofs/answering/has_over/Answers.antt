@@ -6,7 +6,8 @@ use Rattle.write_buffer.proofs.answering.has_over.Goals as goal
 
 pub returns-in-Some : goal.returns-in-Some
 returns-in-Some c =
-    let found : Some c.in-Some.added.now ≡ fin.get c.args.d.now.marks c.args.element.now = c.in-Some.ensures ∙ ap (λ m. fin.get m c.args.element.now) c.marks.ensures.marks in
+    let found : Some c.in-Some.added.now ≡ fin.get c.args.d.now.marks c.args.element.now =
+    c.in-Some.ensures ∙ ap (λ m. fin.get m c.args.element.now) c.marks.ensures.marks in
     sym (has-marked c.args.d.now (set_in c.args.value.now) c.args.element.now c.in-Some.added.now (sym found))
 
 pub returns-then-cleared : goal.returns-then-cleared

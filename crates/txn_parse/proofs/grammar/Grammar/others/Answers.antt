@@ -12,13 +12,15 @@ loop-init g c = many_begins (sees symbol.Comma) (after_comma (expression (c.args
 pub returns-then-not-sees : goal.returns-then-not-sees
 returns-then-not-sees g c =
     let item = after_comma (expression (c.args.self.now.levels - 1)) in
-    turns_over (sees symbol.Comma) item c.loop.found (length c.args.cursor.now - c.loop.counter) c.loop.cursor (many (sees symbol.Comma) item c.args.cursor.now) c.loop.invariant (search rules)
+    turns_over (sees symbol.Comma) item c.loop.found (length c.args.cursor.now - c.loop.counter) c.loop.cursor
+    (many (sees symbol.Comma) item c.args.cursor.now) c.loop.invariant (search rules)
 
 pub returns-in_err-next : goal.returns-in_err-next
 returns-in_err-next g c =
     let item = after_comma (expression (c.args.self.now.levels - 1)) in
     let k =
-    turn_refused (sees symbol.Comma) item c.loop.found (length c.args.cursor.now - c.loop.counter) c.loop.cursor (many (sees symbol.Comma) item c.args.cursor.now) c.loop.invariant
+    turn_refused (sees symbol.Comma) item c.loop.found (length c.args.cursor.now - c.loop.counter) c.loop.cursor
+    (many (sees symbol.Comma) item c.args.cursor.now) c.loop.invariant
     (length c.args.cursor.now - (c.loop.counter + 1)) c.after_comma.new.cursor (omega arith) (search rules)
     in
     first_of (search (rules, k), grind (arith, common_steps, k))
@@ -27,7 +29,8 @@ pub loop-preserved : goal.loop-preserved
 loop-preserved g c =
     let item = after_comma (expression (c.args.self.now.levels - 1)) in
     let k =
-    turn_made (sees symbol.Comma) item c.loop.found (length c.args.cursor.now - c.loop.counter) c.loop.cursor (many (sees symbol.Comma) item c.args.cursor.now) c.loop.invariant
+    turn_made (sees symbol.Comma) item c.loop.found (length c.args.cursor.now - c.loop.counter) c.loop.cursor
+    (many (sees symbol.Comma) item c.args.cursor.now) c.loop.invariant
     (length c.args.cursor.now - (c.loop.counter + 1)) c.after_comma.new.cursor c.in_ok-next.next (omega arith) (search rules)
     in
     first_of (search (rules, k), grind (arith, common_steps, k))
@@ -35,4 +38,5 @@ loop-preserved g c =
 pub returns : goal.returns
 returns g c =
     let item = after_comma (expression (c.args.self.now.levels - 1)) in
-    turns_made (sees symbol.Comma) item c.loop.found (length c.args.cursor.now - c.loop.counter) c.loop.cursor (many (sees symbol.Comma) item c.args.cursor.now) c.loop.invariant (omega arith)
+    turns_made (sees symbol.Comma) item c.loop.found (length c.args.cursor.now - c.loop.counter) c.loop.cursor
+    (many (sees symbol.Comma) item c.args.cursor.now) c.loop.invariant (omega arith)

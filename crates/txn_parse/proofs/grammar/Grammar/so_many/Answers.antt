@@ -31,4 +31,5 @@ loop-preserved g c =
 pub returns : goal.returns
 returns g c =
     let item = after_comma (expression (c.args.self.now.levels - 1)) in
-    turns_made any item c.loop.found (c.args.count - c.loop.counter) c.loop.cursor (turns any item c.args.count c.args.cursor.now) c.loop.invariant (omega arith)
+    turns_made any item c.loop.found (c.args.count - c.loop.counter) c.loop.cursor (turns any item c.args.count c.args.cursor.now)
+    c.loop.invariant (omega arith)

@@ -6,13 +6,16 @@ use Rattle.txn_grammar.specs.code.Reader.{begins_statement, statement}
 use Rattle.txn_parse.proofs.statement.Statements.statements.Goals as goal
 
 pub loop-init : goal.loop-init
-loop-init g c = many_begins (begins_statement (c.args.self.now.levels - 1)) (statement (c.args.self.now.levels - 1)) c.new-found.result c.args.cursor.now (search rules)
+loop-init g c =
+    many_begins (begins_statement (c.args.self.now.levels - 1)) (statement (c.args.self.now.levels - 1)) c.new-found.result
+    c.args.cursor.now (search rules)
 
 pub returns-then-not-begins_statement : goal.returns-then-not-begins_statement
 returns-then-not-begins_statement g c =
     let starts = begins_statement (c.args.self.now.levels - 1) in
     let item = statement (c.args.self.now.levels - 1) in
-    turns_over starts item c.loop.found (length c.args.cursor.now - c.loop.counter) c.loop.cursor (many starts item c.args.cursor.now) c.loop.invariant (search rules)
+    turns_over starts item c.loop.found (length c.args.cursor.now - c.loop.counter) c.loop.cursor
+    (many starts item c.args.cursor.now) c.loop.invariant (search rules)
 
 pub returns-in_err-next : goal.returns-in_err-next
 returns-in_err-next g c =
@@ -38,4 +41,5 @@ pub returns : goal.returns
 returns g c =
     let starts = begins_statement (c.args.self.now.levels - 1) in
     let item = statement (c.args.self.now.levels - 1) in
-    turns_made starts item c.loop.found (length c.args.cursor.now - c.loop.counter) c.loop.cursor (many starts item c.args.cursor.now) c.loop.invariant (omega arith)
+    turns_made starts item c.loop.found (length c.args.cursor.now - c.loop.counter) c.loop.cursor
+    (many starts item c.args.cursor.now) c.loop.invariant (omega arith)

@@ -1,0 +1,9 @@
+pub mod Holding
+pub mod SamePairs
+pub mod Registries
+pub mod Naming
+pub mod Validated
+pub mod Decided
+pub mod Made
+pub mod Going
+pub mod Worlds

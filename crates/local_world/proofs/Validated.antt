@@ -1,0 +1,59 @@
+-- What a shard answers when it validates is what the store answers.
+use Rattle.std.proofs.Common.{◌≡◌, ℕ, ◌-◌, min, cond, List, [], ◌∷◌, Option, Some, None, Ok, Err, refl, sym, ap, ◌∙◌}
+use Rattle.std.specs.Prelude.{nat_lt}
+use Rattle.std.specs.List.{AllByRecursion}
+use Rattle.std.specs.Option.{option_and_then}
+use Rattle.abort_witness.specs.declared.witness.Based.{Based}
+use Rattle.abort_witness.specs.declared.witness.Witness.{Witness}
+use Rattle.abort_witness.specs.Kinds.{IsBasedOfOneKind}
+use Rattle.txn_lang.specs.States.{Journal}
+use Rattle.version_shard.specs.declared.prepared.Prepared.{Prepared}
+use Rattle.version_shard.specs.declared.prepared.Refusal.TheVariants as refusal
+use Rattle.version_shard.specs.Shards.{Sharded}
+use Rattle.version_shard.specs.Standing.{IsReadable}
+use Rattle.version_shard.specs.Bases as shard
+use Rattle.version_shard.specs.Validating.{late, Validates}
+use Rattle.docc_prepare.specs.Calls.{Answer}
+use Rattle.docc_prepare.specs.Serial.{IsOrderly}
+use Rattle.docc_prepare.specs.Witnesses.{witness_of, least_witness}
+use Rattle.docc_prepare.specs.Stores.{least_base, late_base, validated}
+use Rattle.local_world.proofs.Naming.{named-by-shard}
+
+least-same : (based : List Based) → shard.least_base based ≡ least_base based
+least-same [] = refl
+least-same (b ∷ based) = by (shard.least_base based) (least_base based) (least-same based)
+  where
+    by : (o p : Option ℕ) → o ≡ p
+        → elim o as (λ _. Option ℕ) [ None ↦ Some b.base | Some other ↦ Some (min b.base other) ] ≡ Some (elim p as (λ _. ℕ) [ None ↦ b.base | Some other ↦ min b.base other ])
+    by None None e = refl
+    by None (Some y) e = absurd (cc)
+    by (Some x) None e = absurd (cc)
+    by (Some x) (Some y) e = let same : x ≡ y = cc in ap (λ n. Some (min b.base n)) same
+
+late-same : (horizon : ℕ) (o : Option ℕ) → shard.late_base horizon o ≡ late_base horizon o
+late-same horizon None = refl
+late-same horizon (Some base) = refl
+
+module _ (journal : Journal) (s : Sharded) (based : List Based) where
+  abbrev expected : Answer
+  expected = validated s.number s.front (s.front - s.window) (late_base (s.front - s.window) (least_base based)) (least_witness based journal)
+
+  late-is : late s based ≡ late_base (s.front - s.window) (least_base based)
+  late-is = late-same (s.front - s.window) (shard.least_base based) ∙ ap (late_base (s.front - s.window)) (least-same based)
+
+  pub as-ok : (p : Prepared) → Validates journal s based (Ok p) → Answer.prepared p ≡ expected
+  as-ok p v =
+      ap (λ x. Answer.prepared x) v.2
+      ∙ ap (λ w. validated s.number s.front (s.front - s.window) None w) (sym (ap (option_and_then (witness_of based journal)) v.1))
+      ∙ ap (λ o. validated s.number s.front (s.front - s.window) o (least_witness based journal)) (sym v.0 ∙ late-is)
+
+  pub as-late : (base horizon : ℕ) → Validates journal s based (Err (refusal.Late base horizon)) → Answer.late base horizon ≡ expected
+  as-late base horizon v =
+      ap (Answer.late base) v.1
+      ∙ ap (λ o. validated s.number s.front (s.front - s.window) o (least_witness based journal)) (sym v.0 ∙ late-is)
+
+  pub as-clash : (w : Witness) → IsReadable journal → IsOrderly journal → AllByRecursion IsBasedOfOneKind based → Validates journal s based (Err (refusal.Clash w))
+      → Answer.clash w ≡ expected
+  as-clash w readable orderly kinds v =
+      ap (λ x. validated s.number s.front (s.front - s.window) None x) (sym (named-by-shard based journal w readable orderly kinds v.1))
+      ∙ ap (λ o. validated s.number s.front (s.front - s.window) o (least_witness based journal)) (sym v.0 ∙ late-is)

@@ -1,0 +1,5 @@
+pub mod Stored
+pub mod Standing
+pub mod Answering
+pub mod Deciding
+pub mod Making

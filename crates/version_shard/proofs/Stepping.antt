@@ -1,0 +1,385 @@
+-- The versions of one address, change by change.
+use Rattle.std.proofs.Common.{◌≡◌, ℕ, ◌-◌, ◌<◌, ◌≤◌, zero, suc, Bool, true, false, cond, nat_lt, nat_le, List, [], ◌∷◌, ◌++◌, filter, fold, take, length, get_or, refl, sym, ap, ◌∙◌, subst, arith, append-nil, append_assoc, ◌⊎◌, inl, inr}
+use Rattle.std.specs.List.{AllByRecursion}
+use Rattle.std.specs.BTreeMap.{is_at}
+use Rattle.std.specs.Ordering.{is_eq, ordering_reverse}
+use Rattle.std.specs.declared.cmp.Ordering.{Ordering}
+use Rattle.std.specs.declared.cmp.Ordering.TheVariants.{Less, Equal, Greater}
+use Rattle.std.proofs.lemmas.List.Elements.{filter-append}
+use Rattle.std.proofs.lemmas.List.{map-append}
+use Rattle.std.proofs.lemmas.Bool.{cases_lt}
+use Rattle.plain_data.proofs.Entries.{equal}
+use Rattle.rdt_types.specs.declared.address.Address.{Address}
+use Rattle.rdt_types.specs.declared.value.Value.{Value}
+use Rattle.rdt_types.specs.contracts.address.AddressOrd.TheImpl.Laws as order
+use Rattle.rdt_types.specs.Addresses.{address_cmp}
+use Rattle.rdt_types.specs.Deltas.{apply}
+use Rattle.rdt_types.proofs.Addresses.{address_cmp-equal}
+use Rattle.change_feed.specs.declared.change.Change.{Change}
+use Rattle.journal_core.specs.Changes as journals
+use Rattle.journal_core.specs.Changes.{of_address}
+use Rattle.version_shard.specs.declared.version.Version.{Version}
+use Rattle.version_shard.specs.Versions.{Versioned, value_after, latest, up_to, value_at, past, as_changes, changed, trimmed_from, trimmed}
+use Rattle.version_shard.specs.Shards.{horizon_at}
+use Rattle.version_shard.specs.code.Following.{followed, followed_along, cut_along}
+
+-- ---- lists that are cut by numbers
+
+module _ {X : Type 0} (number : X → ℕ) where
+  abbrev pub below : ℕ → List X → List X
+  below n xs = filter (λ x. nat_le (number x) n) xs
+
+  abbrev pub above : ℕ → List X → List X
+  above n xs = filter (λ x. nat_lt n (number x)) xs
+
+  -- cut twice is cut at the lesser number
+  pub below-lesser : (m n : ℕ) (xs : List X) → m ≤ n → below m (below n xs) ≡ below m xs
+  below-lesser m n [] within = refl
+  below-lesser m n (x ∷ xs) within = by (nat_le (number x) n) refl (below-lesser m n xs within)
+    where
+      by : (b : Bool) → nat_le (number x) n ≡ b → below m (below n xs) ≡ below m xs → below m (cond b (x ∷ below n xs) (below n xs)) ≡ below m (x ∷ xs)
+      by true e rest = ap (λ l. cond (nat_le (number x) m) (x ∷ l) l) rest
+      by false e rest = let out : nat_le (number x) m ≡ false = grind (arith, within, e) in rest ∙ sym (rw out refl)
+
+  pub below-greater : (m n : ℕ) (xs : List X) → m ≤ n → below n (below m xs) ≡ below m xs
+  below-greater m n [] within = refl
+  below-greater m n (x ∷ xs) within = by (nat_le (number x) m) refl (below-greater m n xs within)
+    where
+      by : (b : Bool) → nat_le (number x) m ≡ b → below n (below m xs) ≡ below m xs
+          → below n (cond b (x ∷ below m xs) (below m xs)) ≡ cond b (x ∷ below m xs) (below m xs)
+      by true e rest = let in_it : nat_le (number x) n ≡ true = grind (arith, within, e) in rw in_it (ap (λ l. x ∷ l) rest)
+      by false e rest = rest
+
+  -- what is up to a number is all
+  pub below-all : (n : ℕ) (xs : List X) → AllByRecursion (λ x. number x ≤ n) xs → below n xs ≡ xs
+  below-all n [] all = refl
+  below-all n (x ∷ xs) all = let here : nat_le (number x) n ≡ true = (let h = all.0 in grind (arith, h)) in rw here (ap (λ l. x ∷ l) (below-all n xs all.1))
+
+  -- and nothing of what is past it
+  pub below-none : (n : ℕ) (xs : List X) → AllByRecursion (λ x. n < number x) xs → below n xs ≡ []
+  below-none n [] all = refl
+  below-none n (x ∷ xs) all = let out : nat_le (number x) n ≡ false = (let h = all.0 in grind (arith, h)) in rw out (below-none n xs all.1)
+
+  -- what passes is up to the number
+  pub all-below : (n : ℕ) (xs : List X) → AllByRecursion (λ x. number x ≤ n) (below n xs)
+  all-below n [] = tt
+  all-below n (x ∷ xs) = by (nat_le (number x) n) refl (all-below n xs)
+    where
+      by : (b : Bool) → nat_le (number x) n ≡ b → AllByRecursion (λ x. number x ≤ n) (below n xs)
+          → AllByRecursion (λ x. number x ≤ n) (cond b (x ∷ below n xs) (below n xs))
+      by true e rest = (grind (arith, e), rest)
+      by false e rest = rest
+
+-- two tests may change places
+pub swapped : {X : Type 0} (p q : X → Bool) (xs : List X) → filter p (filter q xs) ≡ filter q (filter p xs)
+swapped p q [] = refl
+swapped p q (x ∷ xs) = by (p x) refl (q x) refl (swapped p q xs)
+  where
+    by : (a : Bool) → p x ≡ a → (b : Bool) → q x ≡ b → filter p (filter q xs) ≡ filter q (filter p xs)
+        → filter p (cond b (x ∷ filter q xs) (filter q xs)) ≡ filter q (cond a (x ∷ filter p xs) (filter p xs))
+    by true s true t later = rw s (rw t (ap (λ o. x ∷ o) later))
+    by true s false t later = rw t later
+    by false s true t later = rw s later
+    by false s false t later = later
+
+-- what holds of all holds of those that pass
+pub all-filter : {X : Type 0} (P : X → Type 0) (p : X → Bool) (xs : List X) → AllByRecursion P xs → AllByRecursion P (filter p xs)
+all-filter P p [] all = tt
+all-filter P p (x ∷ xs) all = by (p x) (all-filter P p xs all.1)
+  where
+    by : (b : Bool) → AllByRecursion P (filter p xs) → AllByRecursion P (cond b (x ∷ filter p xs) (filter p xs))
+    by true rest = (all.0, rest)
+    by false rest = rest
+
+pub all-append : {X : Type 0} (P : X → Type 0) (xs ys : List X) → AllByRecursion P xs → AllByRecursion P ys → AllByRecursion P (xs ++ ys)
+all-append P [] ys first second = second
+all-append P (x ∷ xs) ys first second = (first.0, all-append P xs ys first.1 second)
+
+pub all-more : {X : Type 0} (P Q : X → Type 0) (xs : List X) → ((x : X) → P x → Q x) → AllByRecursion P xs → AllByRecursion Q xs
+all-more P Q [] each all = tt
+all-more P Q (x ∷ xs) each all = (each x all.0, all-more P Q xs each all.1)
+
+-- ---- one address
+
+-- a value after changes, one by one
+abbrev pub left : Value → List Change → Value
+left base own = fold (λ value change. apply change.delta value) base own
+
+pub left-append : (base : Value) (xs ys : List Change) → left base (xs ++ ys) ≡ left (left base xs) ys
+left-append base [] ys = refl
+left-append base (x ∷ xs) ys = left-append (apply x.delta base) xs ys
+
+pub value_after-append : (base : Value) (xs ys : List Version) → value_after base (xs ++ ys) ≡ value_after (value_after base xs) ys
+value_after-append base [] ys = refl
+value_after-append base (x ∷ xs) ys = value_after-append x.value xs ys
+
+-- Versions stand for the changes at an address from a horizon on: they have the value at each number, and the changes past it.
+pub record Stands (address : Address) (horizon : ℕ) (base : Value) (own : List Change) (v : Versioned) : Type 0 where
+  pub values : (n : ℕ) → horizon ≤ n → value_at v n ≡ left base (journals.up_to n own)
+  pub changes : (n : ℕ) → horizon ≤ n → as_changes address (past n v.later) ≡ journals.past n own
+  pub newest : latest v ≡ left base own
+
+-- ---- what is let go at a horizon
+
+pub trimmed-newest : (h : ℕ) (base : Value) (later : List Version) → latest (trimmed_from h base later) ≡ value_after base later
+trimmed-newest h base [] = refl
+trimmed-newest h base (x ∷ rest) = by (nat_le x.number h) (trimmed-newest h x.value rest)
+  where
+    by : (b : Bool) → latest (trimmed_from h x.value rest) ≡ value_after x.value rest
+        → latest (cond b (trimmed_from h x.value rest) (record { base = base; later = x ∷ rest })) ≡ value_after x.value rest
+    by true again = again
+    by false again = refl
+
+pub trimmed-at : (h n : ℕ) (base : Value) (later : List Version) → h ≤ n
+    → value_at (trimmed_from h base later) n ≡ value_after base (below (λ (x : Version). x.number) n later)
+trimmed-at h n base [] within = refl
+trimmed-at h n base (x ∷ rest) within = by (nat_le x.number h) refl (trimmed-at h n x.value rest within)
+  where
+    by : (b : Bool) → nat_le x.number h ≡ b → value_at (trimmed_from h x.value rest) n ≡ value_after x.value (below (λ (x : Version). x.number) n rest)
+        → value_at (cond b (trimmed_from h x.value rest) (record { base = base; later = x ∷ rest })) n
+        ≡ value_after base (below (λ (x : Version). x.number) n (x ∷ rest))
+    by true e again = let here : nat_le x.number n ≡ true = grind (arith, within, e) in again ∙ sym (rw here refl)
+    by false e again = refl
+
+pub trimmed-past : (h n : ℕ) (base : Value) (later : List Version) → h ≤ n → past n (trimmed_from h base later).later ≡ past n later
+trimmed-past h n base [] within = refl
+trimmed-past h n base (x ∷ rest) within = by (nat_le x.number h) refl (trimmed-past h n x.value rest within)
+  where
+    by : (b : Bool) → nat_le x.number h ≡ b → past n (trimmed_from h x.value rest).later ≡ past n rest
+        → past n (cond b (trimmed_from h x.value rest) (record { base = base; later = x ∷ rest })).later ≡ past n (x ∷ rest)
+    by true e again = let out : nat_lt n x.number ≡ false = grind (arith, within, e) in again ∙ sym (rw out refl)
+    by false e again = refl
+
+pub trimmed-all : (P : Version → Type 0) (h : ℕ) (base : Value) (later : List Version) → AllByRecursion P later → AllByRecursion P (trimmed_from h base later).later
+trimmed-all P h base [] all = tt
+trimmed-all P h base (x ∷ rest) all = by (nat_le x.number h) (trimmed-all P h x.value rest all.1)
+  where
+    by : (b : Bool) → AllByRecursion P (trimmed_from h x.value rest).later
+        → AllByRecursion P (cond b (trimmed_from h x.value rest) (record { base = base; later = x ∷ rest })).later
+    by true again = again
+    by false again = all
+
+-- ---- one change more
+
+module _ (a : Address) (h : ℕ) (base : Value) (own : List Change) (c : Change) (v : Versioned)
+    (at : c.address ≡ a) (stands : Stands a h base own v) (behind : AllByRecursion (λ d. d.number ≤ c.number) own) where
+  changed-at : (n : ℕ) → h ≤ n → value_at (changed c.number c.delta v) n ≡ left base (journals.up_to n (own ++ c ∷ []))
+  changed-at n within =
+      ap (value_after v.base) (filter-append (λ x. nat_le x.number n) v.later (record { number = c.number; delta = c.delta; value = apply c.delta (latest v) } ∷ []))
+      ∙ by (nat_le c.number n) refl
+      ∙ ap (left base) (sym (filter-append (λ d. nat_le d.number n) own (c ∷ [])))
+    where
+      by : (b : Bool) → nat_le c.number n ≡ b
+          → value_after v.base (below (λ (x : Version). x.number) n v.later ++ cond b (record { number = c.number; delta = c.delta; value = apply c.delta (latest v) } ∷ []) [])
+          ≡ left base (journals.up_to n own ++ cond b (c ∷ []) [])
+      by true e =
+          value_after-append v.base (below (λ (x : Version). x.number) n v.later) (record { number = c.number; delta = c.delta; value = apply c.delta (latest v) } ∷ [])
+          ∙ ap (apply c.delta) stands.newest
+          ∙ sym (left-append base (journals.up_to n own) (c ∷ [])
+          ∙ ap (λ l. apply c.delta (left base l))
+          (below-all (λ (d : Change). d.number) n own (all-more _ _ own (λ d le. grind (arith, le, e)) behind)))
+      by false e =
+          value_after-append v.base (below (λ (x : Version). x.number) n v.later) []
+          ∙ stands.values n within
+          ∙ sym (left-append base (journals.up_to n own) [])
+
+  changed-past : (n : ℕ) → h ≤ n → as_changes a (past n (changed c.number c.delta v).later) ≡ journals.past n (own ++ c ∷ [])
+  changed-past n within =
+      ap (as_changes a) (filter-append (λ x. nat_lt n x.number) v.later (record { number = c.number; delta = c.delta; value = apply c.delta (latest v) } ∷ []))
+      ∙ map-append (λ x. record { number = x.number; address = a; delta = x.delta }) (past n v.later) (past n (record { number = c.number; delta = c.delta; value = apply c.delta (latest v) } ∷ []))
+      ∙ ap (λ l. l ++ as_changes a (past n (record { number = c.number; delta = c.delta; value = apply c.delta (latest v) } ∷ []))) (stands.changes n within)
+      ∙ ap (λ l. journals.past n own ++ l) (by (nat_lt n c.number))
+      ∙ sym (filter-append (λ d. nat_lt n d.number) own (c ∷ []))
+    where
+      same : record { number = c.number; address = a; delta = c.delta } ≡ c
+      same = ap (λ (b : Address). record { number = c.number; address = b; delta = c.delta }) (sym at)
+
+      by : (b : Bool) → as_changes a (cond b (record { number = c.number; delta = c.delta; value = apply c.delta (latest v) } ∷ []) []) ≡ cond b (c ∷ []) []
+      by true = ap (λ (d : Change). d ∷ []) same
+      by false = refl
+
+  pub changed-stands : Stands a h base (own ++ c ∷ []) (changed c.number c.delta v)
+  changed-stands = record {
+    values = changed-at;
+    changes = changed-past;
+    newest =
+        value_after-append v.base v.later (record { number = c.number; delta = c.delta; value = apply c.delta (latest v) } ∷ [])
+        ∙ ap (apply c.delta) stands.newest
+        ∙ sym (left-append base own (c ∷ []));
+  }
+
+-- versions that are trimmed at a horizon go on standing from it on, or from a greater one
+pub trimmed-stands : (a : Address) (h k : ℕ) (base : Value) (own : List Change) (v : Versioned) → Stands a h base own v → k ≤ h → Stands a h base own (trimmed k v)
+trimmed-stands a h k base own v stands within = record {
+  values = λ n le. trimmed-at k n v.base v.later (omega (arith, le, within)) ∙ stands.values n le;
+  changes = λ n le. ap (as_changes a) (trimmed-past k n v.base v.later (omega (arith, le, within))) ∙ stands.changes n le;
+  newest = trimmed-newest k v.base v.later ∙ stands.newest;
+}
+
+-- they stand from a greater horizon on too
+pub stands-later : (a : Address) (h k : ℕ) (base : Value) (own : List Change) (v : Versioned) → Stands a h base own v → h ≤ k → Stands a k base own v
+stands-later a h k base own v stands within = record {
+  values = λ n le. stands.values n (omega (arith, le, within));
+  changes = λ n le. stands.changes n (omega (arith, le, within));
+  newest = stands.newest;
+}
+
+-- ---- changes one by one
+
+turned : (a b : Address) → is_at (address_cmp a) b ≡ is_at (address_cmp b) a
+turned a b = ap is_eq (order.total-law.antisymm a b) ∙ by (address_cmp b a)
+  where
+    by : (r : Ordering) → is_eq (ordering_reverse r) ≡ is_eq r
+    by Less = refl
+    by Equal = refl
+    by Greater = refl
+
+-- the numbers of changes don't fall, from a number on
+abbrev pub Rising : ℕ → List Change → Type 0
+Rising from [] = Unit {0}
+Rising from (c ∷ rest) = (from ≤ c.number) × Rising c.number rest
+
+module _ (a : Address) (window h : ℕ) (base : Value) where
+  pub along-stands : (m : ℕ) (changes own : List Change) (v : Versioned) → Stands a h base own v → Rising m changes
+      → AllByRecursion (λ d. d.number ≤ m) own → AllByRecursion (λ c. horizon_at window (c.number - 1) ≤ h) changes
+      → Stands a h base (own ++ of_address a changes) (followed_along window a changes v)
+  along-stands m [] own v stands rising behind near =
+      subst (λ (l : List Change). Stands a h base l v) (sym (append-nil own)) stands
+  along-stands m (c ∷ rest) own v stands rising behind near =
+      by (is_at (address_cmp c.address) a) refl (λ more w is up. along-stands c.number rest more w is rising.1 up near.1)
+    where
+      up : AllByRecursion (λ d. d.number ≤ c.number) own
+      up = all-more _ _ own (λ d le. let r = rising.0 in omega (arith, le, r)) behind
+
+      there : (b : Bool) → is_at (address_cmp c.address) a ≡ b → is_at (address_cmp a) c.address ≡ b
+      there b e = turned a c.address ∙ e
+
+      by : (b : Bool) → is_at (address_cmp c.address) a ≡ b
+          → ((more : List Change) (w : Versioned) → Stands a h base more w → AllByRecursion (λ d. d.number ≤ c.number) more
+          → Stands a h base (more ++ of_address a rest) (followed_along window a rest w))
+          → Stands a h base (own ++ of_address a (c ∷ rest)) (followed_along window a rest (cond b (followed window c v) v))
+      by true e again =
+          rw (there true e)
+          (subst (λ (l : List Change). Stands a h base l (followed_along window a rest (followed window c v))) (append_assoc own (c ∷ []) (of_address a rest))
+          (again (own ++ c ∷ []) (followed window c v)
+          (trimmed-stands a h (horizon_at window (c.number - 1)) base (own ++ c ∷ []) (changed c.number c.delta v)
+          (changed-stands a h base own c v (address_cmp-equal c.address a (equal _ e)) stands up) near.0)
+          (all-append _ own (c ∷ []) up (omega arith, tt))))
+      by false e again = rw (there false e) (again own v stands up)
+
+-- ---- the way back
+
+pub cut-stands : (a : Address) (h r : ℕ) (base : Value) (own : List Change) (v : Versioned) → Stands a h base own v → h ≤ r
+    → Stands a h base (journals.up_to r own) (up_to r v)
+cut-stands a h r base own v stands within = record {
+  values = λ n le. by n le (cases_lt r n);
+  changes = λ n le.
+      ap (as_changes a) (swapped (λ x. nat_lt n x.number) (λ x. nat_le x.number r) v.later)
+      ∙ as_changes-below (past n v.later)
+      ∙ ap (journals.up_to r) (stands.changes n le)
+      ∙ swapped (λ d. nat_le d.number r) (λ d. nat_lt n d.number) own;
+  newest = stands.values r within;
+}
+  where
+    as_changes-below : (later : List Version) → as_changes a (below (λ (x : Version). x.number) r later) ≡ journals.up_to r (as_changes a later)
+    as_changes-below [] = refl
+    as_changes-below (x ∷ rest) = cut (nat_le x.number r) (as_changes-below rest)
+      where
+        cut : (b : Bool) → as_changes a (below (λ (x : Version). x.number) r rest) ≡ journals.up_to r (as_changes a rest)
+            → as_changes a (cond b (x ∷ below (λ (x : Version). x.number) r rest) (below (λ (x : Version). x.number) r rest))
+            ≡ cond b (record { number = x.number; address = a; delta = x.delta } ∷ journals.up_to r (as_changes a rest)) (journals.up_to r (as_changes a rest))
+        cut true e = ap (λ l. record { number = x.number; address = a; delta = x.delta } ∷ l) e
+        cut false e = e
+
+    by : (n : ℕ) → h ≤ n → (r < n) ⊎ (n ≤ r) → value_at (up_to r v) n ≡ left base (journals.up_to n (journals.up_to r own))
+    by n le (inr low) =
+        ap (value_after v.base) (below-lesser (λ (x : Version). x.number) n r v.later low)
+        ∙ stands.values n le
+        ∙ ap (left base) (sym (below-lesser (λ (d : Change). d.number) n r own low))
+    by n le (inl high) =
+        ap (value_after v.base) (below-greater (λ (x : Version). x.number) r n v.later (omega (arith, high)))
+        ∙ stands.values r within
+        ∙ ap (left base) (sym (below-greater (λ (d : Change). d.number) r n own (omega (arith, high))))
+
+-- cut at the addresses of some changes it is cut, or none of them is at its address
+pub cut-or-not : (r : ℕ) (a : Address) (changes : List Change) (x : Versioned)
+    → (cut_along r a changes x ≡ up_to r x) ⊎ ((cut_along r a changes x ≡ x) × AllByRecursion (λ c. is_at (address_cmp c.address) a ≡ false) changes)
+cut-or-not r a [] x = inr (refl, tt)
+cut-or-not r a (c ∷ rest) x = by (is_at (address_cmp c.address) a) refl (cut-or-not r a rest)
+  where
+    twice : up_to r (up_to r x) ≡ up_to r x
+    twice = ap (λ l. record x { later = l }) (below-lesser (λ (y : Version). y.number) r r x.later (omega arith))
+
+    by : (b : Bool) → is_at (address_cmp c.address) a ≡ b
+        → ((y : Versioned) → (cut_along r a rest y ≡ up_to r y) ⊎ ((cut_along r a rest y ≡ y) × AllByRecursion (λ c. is_at (address_cmp c.address) a ≡ false) rest))
+        → (cut_along r a rest (cond b (up_to r x) x) ≡ up_to r x)
+        ⊎ ((cut_along r a rest (cond b (up_to r x) x) ≡ x) × AllByRecursion (λ c. is_at (address_cmp c.address) a ≡ false) (c ∷ rest))
+    by true e again = first (again (up_to r x))
+      where
+        first : (cut_along r a rest (up_to r x) ≡ up_to r (up_to r x)) ⊎ ((cut_along r a rest (up_to r x) ≡ up_to r x) × AllByRecursion (λ c. is_at (address_cmp c.address) a ≡ false) rest)
+            → (cut_along r a rest (up_to r x) ≡ up_to r x)
+            ⊎ ((cut_along r a rest (up_to r x) ≡ x) × AllByRecursion (λ c. is_at (address_cmp c.address) a ≡ false) (c ∷ rest))
+        first (inl is) = inl (is ∙ twice)
+        first (inr is) = inl is.0
+    by false e again = second (again x)
+      where
+        second : (cut_along r a rest x ≡ up_to r x) ⊎ ((cut_along r a rest x ≡ x) × AllByRecursion (λ c. is_at (address_cmp c.address) a ≡ false) rest)
+            → (cut_along r a rest x ≡ up_to r x)
+            ⊎ ((cut_along r a rest x ≡ x) × AllByRecursion (λ c. is_at (address_cmp c.address) a ≡ false) (c ∷ rest))
+        second (inl is) = inl is
+        second (inr is) = inr (is.0, (e, is.1))
+
+-- changes elsewhere are not followed
+pub not_followed : (window : ℕ) (a : Address) (changes : List Change) (count : ℕ) (v : Versioned)
+    → AllByRecursion (λ c. is_at (address_cmp c.address) a ≡ false) changes → followed_along window a (take count changes) v ≡ v
+not_followed window a [] zero v apart = refl
+not_followed window a [] (suc count) v apart = refl
+not_followed window a (c ∷ rest) zero v apart = refl
+not_followed window a (c ∷ rest) (suc count) v apart =
+    ap (λ b. followed_along window a (take count rest) (cond b (followed window c v) v)) apart.0 ∙ not_followed window a rest count v apart.1
+
+-- versions up to a number that followed some changes, and are then cut at the addresses of all, are cut to it
+pub cut_back : (r window : ℕ) (a : Address) (changes : List Change) (count : ℕ) (v : Versioned) → up_to r v ≡ v
+    → cut_along r a changes (followed_along window a (take count changes) v) ≡ up_to r (followed_along window a (take count changes) v)
+cut_back r window a changes count v same = by (cut-or-not r a changes (followed_along window a (take count changes) v))
+  where
+    by : (cut_along r a changes (followed_along window a (take count changes) v) ≡ up_to r (followed_along window a (take count changes) v))
+        ⊎ ((cut_along r a changes (followed_along window a (take count changes) v) ≡ followed_along window a (take count changes) v)
+        × AllByRecursion (λ c. is_at (address_cmp c.address) a ≡ false) changes)
+        → cut_along r a changes (followed_along window a (take count changes) v) ≡ up_to r (followed_along window a (take count changes) v)
+    by (inl is) = is
+    by (inr is) =
+        let untouched = not_followed window a changes count v is.1 in
+        is.0 ∙ untouched ∙ sym same ∙ ap (up_to r) (sym untouched)
+
+-- ---- what holds of each version
+
+module _ (P : Version → Type 0) (Q : Change → Type 0) (a : Address) (window : ℕ)
+    (fits : (c : Change) (value : Value) → c.address ≡ a → Q c → P (record { number = c.number; delta = c.delta; value = value })) where
+  pub along-all : (changes : List Change) (v : Versioned) → AllByRecursion Q changes → AllByRecursion P v.later
+      → AllByRecursion P (followed_along window a changes v).later
+  along-all [] v are all = all
+  along-all (c ∷ rest) v are all = by (is_at (address_cmp c.address) a) refl (λ w every. along-all rest w are.1 every)
+    where
+      by : (b : Bool) → is_at (address_cmp c.address) a ≡ b
+          → ((w : Versioned) → AllByRecursion P w.later → AllByRecursion P (followed_along window a rest w).later)
+          → AllByRecursion P (followed_along window a rest (cond b (followed window c v) v)).later
+      by true e again =
+          again (followed window c v)
+          (trimmed-all P (horizon_at window (c.number - 1)) v.base (changed c.number c.delta v).later
+          (all-append P v.later (record { number = c.number; delta = c.delta; value = apply c.delta (latest v) } ∷ []) all
+          (fits c (apply c.delta (latest v)) (address_cmp-equal c.address a (equal _ e)) are.0, tt)))
+      by false e again = again v all
+
+-- the value after the first of some versions is that of the last of these
+take-none : {X : Type 0} (xs : List X) → take zero xs ≡ []
+take-none [] = refl
+take-none (x ∷ xs) = refl
+
+pub value_after-none : (base : Value) (later : List Version) (i : ℕ) → i ≡ 0 → value_after base (take i later) ≡ base
+value_after-none base later i none = ap (λ n. value_after base (take n later)) none ∙ ap (value_after base) (take-none later)
+
+pub value_after-taken : (base : Value) (later : List Version) (i : ℕ) (d : Version) → i < length later → value_after base (take (suc i) later) ≡ (get_or later i d).value
+value_after-taken base [] i d within = absurd (omega (arith, within))
+value_after-taken base (x ∷ rest) zero d within = ap (value_after x.value) (take-none rest)
+value_after-taken base (x ∷ rest) (suc i) d within = value_after-taken x.value rest i d (omega (arith, within))

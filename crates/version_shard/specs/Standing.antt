@@ -1,0 +1,40 @@
+-- What a shard stands for: a journal.
+use Rattle.std.specs.Prelude.{◌≡◌, ℕ, ◌≤◌, [], length}
+use Rattle.std.specs.List.{AllByRecursion}
+use Rattle.std.specs.List.Sorted.{IsStrictlySortedBy}
+use Rattle.std.specs.Map.{keys_of}
+use Rattle.rdt_types.specs.declared.address.Address.{Address}
+use Rattle.rdt_types.specs.Addresses.{address_cmp}
+use Rattle.journal_core.specs.Changes as journals
+use Rattle.journal_core.specs.Changes.{changes, between, of_shard, of_address}
+use Rattle.change_feed.specs.declared.tail.Tail.{Tail}
+use Rattle.journal_core.specs.Pairs.{AreNumbered}
+use Rattle.journal_core.specs.Tails.{HasAll}
+use Rattle.txn_lang.specs.States.{Journal, state}
+use Rattle.version_shard.specs.Shards.{Sharded, IsIn, horizon, value_at, changes_past}
+
+-- A journal whose changes can be read one by one: its commits are numbered from 1, and each changes an address once at most,
+-- since its deltas stand by rising address.
+pub record IsReadable (journal : Journal) : Type 0 where
+  pub numbered : AreNumbered journal
+  pub rising : AllByRecursion (λ commit. IsStrictlySortedBy address_cmp (keys_of commit.deltas)) journal
+
+-- A shard stands for a journal whose length is its front. At each address in the shard and each number from the horizon on
+-- it has the value that so many commits of the journal leave, and past that number exactly the journal's changes there.
+pub record Holds (journal : Journal) (shard : Sharded) : Type 0 where
+  pub readable : IsReadable journal
+  pub front : length journal ≡ shard.front
+  pub values : (address : Address) (number : ℕ) → IsIn shard address → horizon shard ≤ number
+      → value_at shard address number ≡ state journal number address
+  pub changes : (address : Address) (number : ℕ) → IsIn shard address → horizon shard ≤ number
+      → changes_past shard address number ≡ of_address address (journals.past number (changes journal))
+
+-- A tail is what comes next for a shard in a journal: all changes in the shard past its front and up to where the tail goes.
+pub record IsNext (journal : Journal) (shard : Sharded) (tail : Tail) : Type 0 where
+  pub readable : IsReadable journal
+  pub within : tail.to ≤ length journal
+  pub exact : HasAll shard.front tail.to (of_shard shard.shards shard.number (between shard.front tail.to (changes journal))) tail
+
+-- a shard that has followed nothing
+abbrev pub empty : ℕ → ℕ → ℕ → Sharded
+empty number shards window = record { number = number; shards = shards; window = window; front = 0; kept = [] }

@@ -1,0 +1,182 @@
+//! A shard: the values of its addresses within a window of the journal.
+
+ghost use Rattle.std.specs.Prelude.{◌≡◌, ◌+◌, ◌<◌, ◌≤◌, take, OnOk, IfOk};
+ghost use Rattle.std.specs.List.{AllByRecursion};
+ghost use Rattle.change_feed.specs.Feeds.{AreOfTheirKinds};
+ghost use Rattle.abort_witness.specs.Kinds.{IsBasedOfOneKind};
+ghost use Rattle.txn_lang.specs.States.{Journal, state};
+ghost use Rattle.version_shard.specs.Shards as spec;
+ghost use Rattle.version_shard.specs.Shards.{IsIn};
+ghost use Rattle.version_shard.specs.Standing.{Holds, IsNext, empty};
+ghost use Rattle.version_shard.specs.Validating.{ReadsAt, Validates};
+ghost use Rattle.journal_core.specs.Changes.{changes};
+ghost use Rattle.journal_core.specs.Pairs.{most_steps};
+
+use crate::at_error::AtError;
+use crate::copies::copied;
+use crate::following::{Kept, horizon_of, reach};
+use crate::prepared::{Prepared, Refusal};
+use crate::validating::{late_base, least_hit, witness_of};
+use abort_witness::Based;
+use change_feed::Tail;
+use conflict_table::Steps;
+use rdt_types::{Address, Settings, Value, default_value};
+use std::alloc::{AllocError, Global};
+use std::collections::BTreeMap;
+use std::marker::Model;
+use std::sync::ledger::Ledger;
+use txn_lang::Snap;
+
+/// The values of one shard's addresses at its front, and at each number down to its horizon.
+#[derive(Drop)]
+pub struct Shard {
+    alloc: Global,
+    number: u8,
+    shards: u8,
+    window: u16,
+    front: u64,
+    kept: Kept,
+}
+
+impl Model for Shard {
+    ghost use Rattle.rdt_types.specs.contracts.address.Address as address;
+    ghost use Rattle.version_shard.specs.contracts.versions.Versions as versions;
+    ghost use Rattle.version_shard.specs.Shards.{Sharded, sharded_code, AreKept};
+
+    ghost Value = { Sharded };
+
+    ghost coded = { sharded_code address.the_row.coded versions.the_row.coded };
+
+    ghost view = { λ s. record { number = s.number; shards = s.shards; window = s.window; front = s.front; kept = s.kept.entries } };
+
+    ghost invariant = { λ s. AreKept s.front s.kept.entries };
+}
+
+impl Shard {
+    /// The shard of a number that has followed the journal from its beginning to where a tail goes.
+    pub fn new(
+        alloc: Global,
+        number: u8,
+        settings: &Settings,
+        kept: &Tail,
+    ) -> Result<Shard, AllocError>
+        requires number { number < settings.now.shards }
+        requires from { kept.now.from ≡ 0 }
+        requires kinds { AreOfTheirKinds kept.now.changes }
+        ensures same { IfOk result (λ shard. shard ≡ record (empty number settings.now.shards settings.now.window) { front = kept.now.to; kept = shard.kept }) }
+        ensures holds { IfOk result (λ shard. (journal : Journal) → IsNext journal (empty number settings.now.shards settings.now.window) kept.now
+            → Holds (take kept.now.to journal) shard) }
+    {
+        let mut shard = Shard {
+            alloc,
+            number,
+            shards: settings.shards,
+            window: settings.window,
+            front: 0,
+            kept: BTreeMap::new(alloc),
+        };
+        shard.follow(kept)?;
+        Ok(shard)
+    }
+
+    /// The number of commits that it has followed.
+    pub fn front(&self) -> u64
+        ensures { result ≡ self.now.front }
+    {
+        self.front
+    }
+
+    /// The least number at which it can be read.
+    pub fn horizon(&self) -> u64
+        ensures { result ≡ spec.horizon self.now }
+    {
+        horizon_of(self.window, self.front)
+    }
+
+    /// Follows the journal from the front to where a tail goes. The cost is that of the changes; of the addresses that none of
+    /// them names nothing is touched. For want of memory the front is a number between, and the versions are those of that
+    /// front.
+    pub fn follow(&mut self, tail: &Tail) -> Result<(), AllocError>
+        requires from { tail.now.from ≡ self.old.front }
+        requires kinds { AreOfTheirKinds tail.now.changes }
+        ensures same { self.new ≡ record self.old { front = self.new.front; kept = self.new.kept } }
+        ensures reached { OnOk result (self.new.front ≡ tail.now.to) }
+        ensures never_back { self.old.front ≤ self.new.front }
+        ensures within { self.new.front ≤ tail.now.to }
+        ensures holds { (journal : Journal) → IsNext journal self.old tail.now → Holds (take self.old.front journal) self.old
+            → Holds (take self.new.front journal) self.new }
+    {
+        match reach(&mut self.kept, self.alloc, tail, self.window) {
+            Ok(()) => {
+                self.front = tail.to;
+                Ok(())
+            }
+            Err(front) => {
+                self.front = front;
+                Err(AllocError)
+            }
+        }
+    }
+
+    /// The value at an address at a number.
+    fn value_at(&self, address: &Address, number: u64) -> Result<Value, AllocError>
+        ensures { IfOk result (λ value. value ≡ spec.value_at self.now address.now number) }
+    {
+        match self.kept.get(address) {
+            Some(versions) => copied(versions.at(number)),
+            None => Ok(default_value(self.alloc, address.kind)),
+        }
+    }
+
+    /// The front, and the value at an address there. The cost is that of a look-up and a copy of the value.
+    pub fn read(&self, address: &Address) -> Result<Snap, AllocError>
+        requires { IsIn self.now address.now }
+        ensures base { IfOk result (λ snap. snap.base ≡ self.now.front) }
+        ensures value { (journal : Journal) → Holds journal self.now → IfOk result (λ snap. snap.value ≡ state journal self.now.front address.now) }
+    {
+        let value = self.value_at(address, self.front)?;
+        Ok(Snap {
+            base: self.front,
+            value,
+        })
+    }
+
+    /// The value at an address at a number, which is late below the horizon.
+    pub fn read_at(&self, address: &Address, number: u64) -> Result<Value, AtError>
+        requires here { IsIn self.now address.now }
+        requires within { number ≤ self.now.front }
+        ensures { (journal : Journal) → Holds journal self.now → ReadsAt journal self.now address.now number result }
+    {
+        let horizon = self.horizon();
+        if number < horizon {
+            return Err(AtError::Late(number, horizon));
+        }
+        Ok(self.value_at(address, number)?)
+    }
+
+    /// Whether no commit past the bases of some observations and up to the front clashes with them: late where a base is below
+    /// the horizon, and else a clash where one does. It goes through the versions past the bases alone, and takes memory for
+    /// the witness of a clash alone.
+    pub fn validate<L: Ledger>(
+        &self,
+        based: &[Based],
+        steps: &mut Steps<L>,
+    ) -> Result<Prepared, Refusal>
+        requires here { AllByRecursion (λ observation. IsIn self.now observation.address) based.now }
+        requires kinds { AllByRecursion IsBasedOfOneKind based.now }
+        ensures answers { (journal : Journal) → Holds journal self.now → Validates journal self.now based.now result }
+        ensures steps { (journal : Journal) → Holds journal self.now → steps.new ≤ steps.old + most_steps based.now (changes journal) }
+    {
+        let horizon = self.horizon();
+        if let Some(base) = late_base(horizon, based) {
+            return Err(Refusal::Late(base, horizon));
+        }
+        match least_hit(&self.kept, based, steps) {
+            Some(hit) => Err(Refusal::Clash(witness_of(hit.based, hit.version)?)),
+            None => Ok(Prepared {
+                shard: self.number,
+                front: self.front,
+            }),
+        }
+    }
+}
