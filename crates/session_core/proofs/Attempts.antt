@@ -35,7 +35,7 @@ use Rattle.docc_prepare.specs.Attempts.{SnapList, ran, base_in, base_at, with_ba
 use Rattle.docc_prepare.specs.Calls.{Known}
 use Rattle.docc_prepare.specs.Backends.{IsGiven, CanValidate}
 use Rattle.session_core.specs.Holding.{IsRead}
-use Rattle.session_core.proofs.Short.{runs_ask_short}
+use Rattle.txn_lang.proofs.Observed.{runs_ask_short}
 
 -- ---- what the next event says of the run
 

@@ -1,5 +1,5 @@
 -- The body of a verb.
-use Rattle.std.proofs.Common.{◌≡◌, ℕ, Bool, true, false, Option, Some, None, Result, Ok, Err, refl, ap, sym, ◌∙◌, subst, rules}
+use Rattle.std.proofs.Common.{◌≡◌, ℕ, Bool, true, false, Option, Some, None, Result, Ok, Err, refl, ap, sym, ◌∙◌, subst, arith, ◌≤◌, length}
 use Rattle.std.specs.Prelude.{IsTrue}
 use Rattle.std.specs.Option.{unwrap_or}
 use Rattle.session_text.specs.declared.reply.Why.{Why}
@@ -23,6 +23,9 @@ use Rattle.session_core.specs.declared.line.Line.{Line}
 use Rattle.session_core.specs.declared.line.Line.TheVariants as asks
 use Rattle.session_core.specs.Lines.{with_body}
 use Rattle.session_core.specs.Reading.{ReadsBody}
+use Rattle.journal_core.specs.declared.limits.TheConstants.{LONGEST_BODY}
+use Rattle.session_core.specs.Holding.{IsReady}
+use Rattle.session_core.proofs.Same.{checked_same}
 use Rattle.session_core.proofs.Trims.{parsed_trimmed}
 
 -- the text that is kept is read as the text that came
@@ -30,9 +33,6 @@ pub kept_reads : (text source : Text) (body : Body) → source ≡ trimmed_end t
 kept_reads text source body trimmed read = ap parsed trimmed ∙ parsed_trimmed text ∙ read
 
 -- ---- what may run
-
-checked_same : (c d : Checked) → c.body ≡ d.body → c.source ≡ d.source → c.read_only ≡ d.read_only → c ≡ d
-checked_same c d b s r = search rules
 
 -- a checked body is the one that is read from its text
 module _ (read_only : Bool) (text : Text) (c : Checked) (only : c.read_only ≡ read_only) (trimmed : c.source ≡ trimmed_end text) where
@@ -120,6 +120,28 @@ pub syntax-reads : (read_only : Bool) (text : Text) (column told : ℕ) → IsSy
     → ReadsBody (Err (Cause (why.Syntax told))) (body_of read_only text)
 syntax-reads read_only text column told x is reason e =
     let k : why.Syntax told ≡ reason = cc in refuses_syntax read_only text column x ∙ ap (λ n. Err (why.Syntax n)) (sym is) ∙ ap (λ r. Err r) k
+
+pub type-reads : (read_only : Bool) (text : Text) (body : Body) (column told : ℕ) → parsed text ≡ Some body → judge body ≡ Err column → told ≡ column
+    → ReadsBody (Err (Cause (why.BadType told))) (body_of read_only text)
+type-reads read_only text body column told read fails is reason e =
+    let k : why.BadType told ≡ reason = cc in refuses_type read_only text body column read fails ∙ ap (λ n. Err (why.BadType n)) (sym is) ∙ ap (λ r. Err r) k
+
+pub writes-reads : (read_only : Bool) (text : Text) (body : Body) (column told : ℕ) → parsed text ≡ Some body → WritesAt body read_only column → told ≡ column
+    → ReadsBody (Err (Cause (why.Writes told))) (body_of read_only text)
+writes-reads read_only text body column told read w is reason e =
+    let k : why.Writes told ≡ reason = cc in
+    ap (λ o. body_of o text) w.only_reads ∙ refuses_writes text body column read w.typed w.first ∙ ap (λ n. Err (why.Writes n)) (sym is) ∙ ap (λ r. Err r) k
+
+-- what was read, by its parts
+module _ (read_only : Bool) (text : Text) (body : Body) (c : Checked) (b : c.body ≡ body) (trimmed : c.source ≡ trimmed_end text) (read : parsed text ≡ Some body) (typed : IsTyped body) where
+  pub reads-checked : c.read_only ≡ read_only → (IsTrue read_only → first_write body ≡ None) → body_of read_only text ≡ Ok c
+  reads-checked only pure = accepts read_only text c only trimmed (read ∙ ap (λ x. Some x) (sym b)) (subst IsTyped (sym b) typed) (λ h. ap first_write b ∙ pure h)
+
+  pub is-ready : length c.source ≤ LONGEST_BODY → IsReady c
+  is-ready short = record {
+    text = tree_of_typed c.source c.body (ap parsed trimmed ∙ (parsed_trimmed text ∙ (read ∙ ap (λ x. Some x) (sym b)))) (subst IsTyped (sym b) typed);
+    short = short;
+  }
 
 -- what a verb with a body asks for, by what is read
 pub with_read : (f : Checked → Line) (r : Result Checked Why) (checked : Checked) → r ≡ Ok checked → with_body f r ≡ f checked

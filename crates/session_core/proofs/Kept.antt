@@ -34,6 +34,7 @@ use Rattle.docc_prepare.proofs.Growing.{fits_stays}
 use Rattle.session_core.specs.declared.session.Session.{Session}
 use Rattle.session_core.specs.Phases.{with_attempt, closed, ended, within_shards, opened, afresh}
 use Rattle.session_core.specs.Holding.{IsRead, FrontsGiven, Holds, IsReady, Counts, Attends}
+use Rattle.session_core.proofs.Same.{attempt_same}
 use Rattle.session_core.proofs.Attempts.{needs, appends, prepares, IsPreparing, least-below, each-inserted, may-validate, validate-here, few-here}
 
 -- ---- journals
@@ -275,6 +276,9 @@ within-is n least most = max-eq_right (le-min' n least most) ∙ min-eq n most
 
     le-min' : (n : ℕ) → LEAST_SHARDS ≤ n → n ≤ MOST_SHARDS → LEAST_SHARDS ≤ min n MOST_SHARDS
     le-min' n l h = omega arith
+
+pub opened-is : (a : Attempt) (n : ℕ) (body : Checked) → (LEAST_SHARDS ≤ n) × (n ≤ MOST_SHARDS) → a.body ≡ body → a.shards ≡ n → a.snaps ≡ [] → a.fronts ≡ [] → a ≡ opened n body
+opened-is a n body h b s u f = attempt_same a (opened n body) b (s ∙ sym (within-is n h.0 h.1)) u f
 
 pub opened-holds : (k : Known) (s : Session) (body : Checked) → Attends k s → IsReady body → Holds k (opened k.shards body)
 opened-holds k s body is ready = record {

@@ -1,11 +1,9 @@
+pub mod Same
 pub mod Trims
 pub mod Bodies
 pub mod Forms
-pub mod Short
 pub mod Attempts
 pub mod Kept
 pub mod Phases
 pub mod Steps
 pub mod Starts
-pub mod Explaining
-pub mod Explained

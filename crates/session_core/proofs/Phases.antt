@@ -27,7 +27,7 @@ use Rattle.session_core.specs.declared.moved.Moved.{Moved}
 use Rattle.session_core.specs.declared.moved.Moved.TheVariants as moved
 use Rattle.session_core.specs.Phases.{Phase, with_attempt, closed, ended, afresh, opened, event_call, call_of, moved_at, moved_by, said, stepped, after_end, gone, look_by, look_on, look_from, asks, after, start}
 use Rattle.session_core.specs.Holding.{Holds, IsReady, BodyIsReady, Attends}
-use Rattle.session_core.proofs.Short.{runs_ask_short}
+use Rattle.txn_lang.proofs.Observed.{runs_ask_short}
 use Rattle.session_core.proofs.Kept.{attends-on, closed-on, opened-on, committed-on, holds-on, anew-holds, afresh-holds, read-holds, prepare-holds, opened-holds}
 
 -- what a line keeps to on its way

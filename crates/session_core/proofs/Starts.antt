@@ -1,10 +1,13 @@
 -- The first phases of lines that need an attempt, or need that none is open.
-use Rattle.std.proofs.Common.{◌≡◌, ℕ, ◌+◌, ◌-◌, ◌≤◌, List, [], Option, Some, None, Result, Ok, Err, refl, sym, ap, ◌∙◌, subst, arith}
+use Rattle.std.proofs.Common.{◌≡◌, ℕ, ◌+◌, ◌-◌, ◌≤◌, Bool, true, false, List, [], Option, Some, None, Result, Ok, Err, refl, sym, ap, ◌∙◌, subst, arith}
+use Rattle.std.specs.Option.{is_some}
 use Rattle.session_text.specs.declared.reply.Reply.{Reply}
 use Rattle.session_text.specs.declared.reply.Reply.TheVariants as reply
 use Rattle.session_text.specs.declared.reply.Why.TheVariants as why
 use Rattle.docc_prepare.specs.declared.attempt.Attempt.{Attempt}
-use Rattle.docc_prepare.specs.Calls.{Known, Call, Answer}
+use Rattle.docc_prepare.specs.Calls.{Known, Call, Answer, number_answered}
+use Rattle.docc_prepare.specs.Calls.Call.{refresh}
+use Rattle.docc_prepare.specs.declared.backend.StoreError.{StoreError}
 use Rattle.docc_prepare.specs.Backends.{Goes}
 use Rattle.session_core.specs.declared.limits.TheConstants.{MOST_CALLS, MOST_EVENTS}
 use Rattle.session_core.specs.declared.error.SessionError.{SessionError}
@@ -15,7 +18,8 @@ use Rattle.session_core.specs.declared.session.Session.{Session}
 use Rattle.session_core.specs.declared.turn.Turn.{Turn}
 use Rattle.session_core.specs.Phases.{Phase, with_attempt, closed, seq_after, ended, said, refused, if_open, unless_open}
 use Rattle.session_core.specs.Leading.{Leads, Reaches, Stops, Moves, Tries, Drives, Closes, Replies}
-use Rattle.session_core.proofs.Steps.{at-once, step-more, step-end, step-stops, reach-more}
+use Rattle.session_core.proofs.Steps.{at-once, step-more, step-end, step-stops, reach-more, refresh-stops, begun}
+use Rattle.session_core.specs.Errors.{error_of}
 
 -- the session after an end, by its parts
 pub ended-as : (s : Session) (o : Option Attempt) (q : ℕ) (r : Reply) → o ≡ None → q ≡ seq_after s.seq r → ended (closed s) r ≡ record s { seq = q; attempt = o }
@@ -28,9 +32,46 @@ module _ {B : Type 0} (known : B → Known) (goes : B → Call → Answer → B 
   pub not-open : (p : Phase) → s.attempt ≡ None → unless_open s p ≡ p
   not-open p e = ap (λ x. unless_open (with_attempt s x) p) e
 
-  pub is-busy : (b : B) (p : Phase) (a : Attempt) → s.attempt ≡ Some a → Reaches known goes b (unless_open s p) MOST_CALLS b (Phase.over s (said (reply.Refused why.Busy)))
+  is-busy : (b : B) (p : Phase) (a : Attempt) → s.attempt ≡ Some a → Reaches known goes b (unless_open s p) MOST_CALLS b (Phase.over s (said (reply.Refused why.Busy)))
   is-busy b p a e = at-once known goes b (unless_open s p) (said (reply.Refused why.Busy)) s
       (ap (λ x. unless_open (with_attempt s x) p) e ∙ ap (λ x. Phase.over (with_attempt s x) (said (reply.Refused why.Busy))) (sym e))
+
+  pub busy : (b : B) (p : Phase) → is_some s.attempt ≡ true → Reaches known goes b (unless_open s p) MOST_CALLS b (Phase.over s (said (reply.Refused why.Busy)))
+  busy b p h = by s.attempt refl h
+    where
+      by : (o : Option Attempt) → s.attempt ≡ o → is_some o ≡ true → Reaches known goes b (unless_open s p) MOST_CALLS b (Phase.over s (said (reply.Refused why.Busy)))
+      by None e h = absurd (cc)
+      by (Some a) e h = is-busy b p a e
+
+  pub free : is_some s.attempt ≡ false → s.attempt ≡ None
+  free h = by s.attempt h
+    where
+      by : (o : Option Attempt) → is_some o ≡ false → o ≡ None
+      by None h = refl
+      by (Some a) h = absurd (cc)
+
+  -- `begin`
+  pub begin-fails : (b c : B) (a : Attempt) (e : SessionError) (x : StoreError) → s.attempt ≡ None → e ≡ error_of x → Goes known goes b refresh (number_answered (Err x)) c
+      → Stops known goes b (unless_open s (Phase.beginning (closed s) a)) e c
+  begin-fails b c a e x none is step = subst (λ p. Stops known goes b p e c) (sym (not-open (Phase.beginning (closed s) a) none))
+      (refresh-stops known goes b (Phase.beginning (closed s) a) 0 b (Phase.beginning (closed s) a) e x c refl (λ f. refl) is Leads.stays step)
+
+  pub begins : (b c : B) (a made : Attempt) (n : ℕ) → s.attempt ≡ None → made ≡ a → Goes known goes b refresh (Answer.number n) c
+      → Reaches known goes b (unless_open s (Phase.beginning (closed s) a)) MOST_CALLS c (Phase.over (with_attempt s (Some made)) (said (reply.Seen n)))
+  begins b c a made n none is step = subst (λ p. Reaches known goes b p MOST_CALLS c (Phase.over (with_attempt s (Some made)) (said (reply.Seen n)))) (sym (not-open (Phase.beginning (closed s) a) none))
+      (reach-more known goes b (Phase.beginning (closed s) a) MOST_CALLS MOST_CALLS c (Phase.over (with_attempt s (Some a)) (said (reply.Seen n))) (Phase.over (with_attempt s (Some made)) (said (reply.Seen n)))
+      (omega arith) (ap (λ x. Phase.over (with_attempt s (Some x)) (said (reply.Seen n))) (sym is)) (begun known goes b c (closed s) a n step))
+
+  -- `do` and `try`
+  pub commit-fails : (b c : B) (a made : Attempt) (left : ℕ) (e : SessionError) → s.attempt ≡ None → made ≡ a → Closes known goes s b (Phase.trying s left made) (Err e) c
+      → Stops known goes b (unless_open s (Phase.trying (closed s) left a)) e c
+  commit-fails b c a made left e none is stops = subst (λ p. Stops known goes b p e c) (ap (λ x. Phase.trying s left x) is ∙ (ap (λ x. Phase.trying (with_attempt s x) left a) none ∙ sym (not-open (Phase.trying (closed s) left a) none))) stops
+
+  pub commits : (b c : B) (a made : Attempt) (left q : ℕ) (r : Reply) → s.attempt ≡ None → made ≡ a → q ≡ seq_after s.seq r → Closes known goes s b (Phase.trying s left made) (Ok r) c
+      → Reaches known goes b (unless_open s (Phase.trying (closed s) left a)) MOST_CALLS c (Phase.over (record s { seq = q }) (said r))
+  commits b c a made left q r none is seq_is h = reach-more known goes b (unless_open s (Phase.trying (closed s) left a)) MOST_CALLS MOST_CALLS c (Phase.over (ended s r) (said r)) (Phase.over (record s { seq = q }) (said r))
+      (omega arith) (ap (λ t. Phase.over t (said r)) (ended-as s s.attempt q r none seq_is))
+      (subst (λ p. Reaches known goes b p MOST_CALLS c (Phase.over (ended s r) (said r))) (ap (λ x. Phase.trying s left x) is ∙ (ap (λ x. Phase.trying (with_attempt s x) left a) none ∙ sym (not-open (Phase.trying (closed s) left a) none))) h)
 
   module _ (o : Option Attempt) (none : o ≡ None) where
     pub none-open : (b : B) (f : Attempt → Phase) → s.attempt ≡ None → Reaches known goes b (if_open s f) MOST_CALLS b (Phase.over (with_attempt s o) (said (reply.Refused why.NoAttempt)))

@@ -1,5 +1,5 @@
 -- Steps put together.
-use Rattle.std.proofs.Common.{◌≡◌, ℕ, zero, suc, ◌+◌, ◌-◌, ◌*◌, ◌≤◌, ◌<◌, Bool, true, false, cond, List, [], ◌∷◌, length, set, Option, Some, None, Result, Ok, Err, refl, sym, ap, ◌∙◌, subst, arith}
+use Rattle.std.proofs.Common.{◌≡◌, ℕ, zero, suc, ◌+◌, ◌-◌, ◌*◌, ◌≤◌, ◌<◌, Bool, true, false, cond, inl, inr, ◌⊎◌, List, [], ◌∷◌, length, set, Option, Some, None, Result, Ok, Err, refl, sym, ap, ◌∙◌, subst, arith}
 use Rattle.std.specs.Prelude.{nat_lt}
 use Rattle.std.specs.BTreeMap.{insert_entry}
 use Rattle.std.proofs.lemmas.Bool.Decides.{nat_tests}
@@ -31,6 +31,7 @@ use Rattle.session_core.specs.declared.turn.Turn.{Turn}
 use Rattle.session_core.specs.Errors.{error_of}
 use Rattle.session_core.specs.Phases.{Phase, with_attempt, closed, ended, afresh, event_call, call_of, moved_at, moved_by, said, stepped, is_abort, after_end, gone, look_by, look_on, look_from, asks, after}
 use Rattle.session_core.specs.Leading.{Leads, Reaches, Stops, Went, Turned, Moves, Tries, Makes, Drives, Closes, Replies, LooksAt, Valued, turn_of}
+use Rattle.session_core.specs.Holding.{Holds, Attends}
 use Rattle.session_core.proofs.Phases.{PhaseHolds, phase-kept}
 
 -- one step
@@ -65,6 +66,32 @@ moved-failed a f = by (next_event a)
     by (next.Read address) = refl
     by (next.Prepare shard run) = refl
     by (next.Append run) = refl
+
+-- ---- tries
+
+-- an end is shown where no other attempt may follow, and where it is no abort
+pub shown-last : (s : Session) (left : ℕ) (a : Attempt) (r : Reply) → left ≡ 0 → after_end s left a r ≡ Phase.over (ended s r) (said r)
+shown-last s zero a r e = refl
+shown-last s (suc left) a r e = absurd (omega arith)
+
+pub shown-other : (s : Session) (left : ℕ) (a : Attempt) (r : Reply) → is_abort r ≡ false → after_end s left a r ≡ Phase.over (ended s r) (said r)
+shown-other s zero a r e = refl
+shown-other s (suc left) a (reply.Abort w) e = absurd (cc)
+shown-other s (suc left) a r e = refl
+
+-- behind an abort another attempt follows
+pub tried-again : (s : Session) (left : ℕ) (a : Attempt) (r : Reply) → is_abort r ≡ true → after_end s (suc left) a r ≡ Phase.trying s left (afresh a)
+tried-again s left a (reply.Abort w) e = refl
+tried-again s left a r e = absurd (cc)
+
+-- what follows an end
+pub none-follows : (s : Session) (left : ℕ) (a : Attempt) (r : Reply) → (left ≡ 0) ⊎ (is_abort r ≡ false) → after_end s left a r ≡ Phase.over (ended s r) (said r)
+none-follows s left a r (inl e) = shown-last s left a r e
+none-follows s left a r (inr e) = shown-other s left a r e
+
+pub one-follows : (s : Session) (left : ℕ) (a : Attempt) (r : Reply) → 0 < left → is_abort r ≡ true → after_end s left a r ≡ Phase.trying s (left - 1) (afresh a)
+one-follows s zero a r some e = absurd (omega arith)
+one-follows s (suc left) a r some e = tried-again s left a r e ∙ ap (λ (n : ℕ). Phase.trying s n (afresh a)) (omega arith)
 
 module _ {B : Type 0} (known : B → Known) (goes : B → Call → Answer → B → Type 0) where
   -- it has come somewhere, for want of memory
@@ -190,23 +217,6 @@ module _ {B : Type 0} (known : B → Known) (goes : B → Call → Answer → B 
     cause = λ h. fault-broken q x breaks (sym is ∙ h);
   }
 
-  -- ---- tries
-
-  -- an end is shown where no other attempt may follow, and where it is no abort
-  pub shown-last : (s : Session) (left : ℕ) (a : Attempt) (r : Reply) → left ≡ 0 → after_end s left a r ≡ Phase.over (ended s r) (said r)
-  shown-last s zero a r e = refl
-  shown-last s (suc left) a r e = absurd (omega arith)
-
-  pub shown-other : (s : Session) (left : ℕ) (a : Attempt) (r : Reply) → is_abort r ≡ false → after_end s left a r ≡ Phase.over (ended s r) (said r)
-  shown-other s zero a r e = refl
-  shown-other s (suc left) a (reply.Abort w) e = absurd (cc)
-  shown-other s (suc left) a r e = refl
-
-  -- behind an abort another attempt follows
-  pub tried-again : (s : Session) (left : ℕ) (a : Attempt) (r : Reply) → is_abort r ≡ true → after_end s (suc left) a r ≡ Phase.trying s left (afresh a)
-  tried-again s left a (reply.Abort w) e = refl
-  tried-again s left a r e = absurd (cc)
-
   -- ---- looks
 
   module _ (s : Session) (m : ℕ) (body : Checked) (b c d : B) (n : ℕ) (snaps : SnapList) (led : Leads (Goes known goes) b (look_on s m body []) n c (look_on s m body snaps)) where
@@ -255,6 +265,40 @@ module _ {B : Type 0} (known : B → Known) (goes : B → Call → Answer → B 
       → Goes known goes c refresh (Answer.number n) c' → Drives known goes s a c' (Err e) d → Stops known goes b p e d
   tried-stops b p t c s left a n c' d e first step drives =
       stops-on known goes b p (first.count + 1) c' (Phase.going s left a) e d (Leads.by_step refresh (Answer.number n) first.leads refl step refl) (drives left)
+
+  -- before the first attempt
+  pub tries-begin : (b : B) (s : Session) (n m : ℕ) (a : Attempt) → n ≡ m → Reaches known goes b (Phase.trying s n a) 0 b (Phase.trying s m a)
+  tries-begin b s n m a e = record { count = 0; few = omega arith; leads = subst (λ (k : ℕ). Leads (Goes known goes) b (Phase.trying s n a) 0 b (Phase.trying s k a)) e Leads.stays }
+
+  -- another attempt follows
+  pub another : (b : B) (p : Phase) (t : ℕ) (c : B) (s : Session) (left : ℕ) (a : Attempt) (n : ℕ) (c' d : B) (end : Ended) (further : ℕ) (next : Attempt)
+      → Reaches known goes b p (t * (MOST_EVENTS + 1)) c (Phase.trying s left a) → Goes known goes c refresh (Answer.number n) c' → Drives known goes s a c' (Ok end) d
+      → after_end s left end.attempt end.reply ≡ Phase.trying s further next → Reaches known goes b p ((t + 1) * (MOST_EVENTS + 1)) d (Phase.trying s further next)
+  another b p t c s left a n c' d end further next first step drives is = reach-more b p ((t + 1) * (MOST_EVENTS + 1)) ((t + 1) * (MOST_EVENTS + 1)) d
+      (after_end s left end.attempt end.reply) (Phase.trying s further next) (omega arith) is (tried b p t c s left a n c' d end first step drives)
+
+  -- none follows
+  pub tries-end : (b : B) (p : Phase) (t : ℕ) (c : B) (s : Session) (left : ℕ) (a : Attempt) (n : ℕ) (c' d : B) (end : Ended) (reply : Reply) → t < 255
+      → Reaches known goes b p (t * (MOST_EVENTS + 1)) c (Phase.trying s left a) → Goes known goes c refresh (Answer.number n) c' → Drives known goes s a c' (Ok end) d
+      → after_end s left end.attempt end.reply ≡ Phase.over (ended s reply) (said reply) → Reaches known goes b p MOST_CALLS d (Phase.over (ended s reply) (said reply))
+  tries-end b p t c s left a n c' d end reply few first step drives is = reach-more b p ((t + 1) * (MOST_EVENTS + 1)) MOST_CALLS d
+      (after_end s left end.attempt end.reply) (Phase.over (ended s reply) (said reply)) (omega arith) is (tried b p t c s left a n c' d end first step drives)
+
+  -- what holds of an attempt holds after a refresh
+  pub refreshed : (b c : B) (s : Session) (a : Attempt) (n : ℕ) → Attends (known b) (closed s) → Holds (known b) a → Goes known goes b refresh (Answer.number n) c
+      → Attends (known c) (closed s) × Holds (known c) a
+  refreshed b c s a n at holds step = phase-kept (known b) (known c) (Phase.trying s 0 a) refresh (Answer.number n) (at, holds) refl step.answered
+
+  -- and of the one that follows
+  pub another-holds : (c d : B) (s : Session) (left : ℕ) (a : Attempt) (end : Ended) (further : ℕ) (next : Attempt) → Attends (known c) (closed s) → Holds (known c) a
+      → Drives known goes s a c (Ok end) d → after_end s left end.attempt end.reply ≡ Phase.trying s further next → Attends (known d) (closed s) × Holds (known d) next
+  another-holds c d s left a end further next at holds drives is = let rest = drives left in
+      subst (PhaseHolds (known d)) is (led-holds known goes c (Phase.going s left a) rest.count d (after_end s left end.attempt end.reply) (at, holds) rest.leads)
+
+  -- a refresh before an attempt that failed
+  pub tries-stop : (b : B) (p : Phase) (t : ℕ) (c : B) (s : Session) (left : ℕ) (a : Attempt) (e : SessionError) (x : StoreError) (d : B) → e ≡ error_of x
+      → Reaches known goes b p t c (Phase.trying s left a) → Goes known goes c refresh (number_answered (Err x)) d → Stops known goes b p e d
+  tries-stop b p t c s left a e x d is first step = refresh-stops known goes b p first.count c (Phase.trying s left a) e x d refl (λ f. refl) is first.leads step
 
   -- a look, by the prefix on which it runs
   pub looked-from : (b : B) (s : Session) (upto : Option ℕ) (body : Checked) (seen m : ℕ) (c d : B) (result : Result Reply SessionError) → look_from s seen upto body ≡ look_on s m body []

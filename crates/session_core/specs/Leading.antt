@@ -1,5 +1,5 @@
 -- The steps that a line takes.
-use Rattle.std.specs.Prelude.{◌≡◌, ℕ, ◌+◌, ◌≤◌, true, [], Option, Some, None, Result, Ok, Err}
+use Rattle.std.specs.Prelude.{◌≡◌, ℕ, ◌+◌, ◌-◌, ◌≤◌, true, [], Option, Some, None, Result, Ok, Err}
 use Rattle.std.specs.BTreeMap.{insert_entry}
 use Rattle.rdt_types.specs.declared.address.Address.{Address}
 use Rattle.rdt_types.specs.Addresses.{address_cmp}
@@ -14,6 +14,8 @@ use Rattle.session_core.specs.declared.limits.TheConstants.{MOST_CALLS, MOST_EVE
 use Rattle.session_core.specs.declared.line.Line.TheVariants as asked
 use Rattle.session_core.specs.declared.moved.Moved.{Moved}
 use Rattle.session_core.specs.declared.moved.Ended.{Ended}
+use Rattle.session_core.specs.declared.moved.Followed.{Followed}
+use Rattle.session_core.specs.declared.moved.Followed.TheVariants as followed
 use Rattle.session_core.specs.declared.session.Session.{Session}
 use Rattle.session_core.specs.declared.error.SessionError.{SessionError}
 use Rattle.session_core.specs.declared.error.SessionError.TheVariants as error
@@ -80,6 +82,11 @@ Makes known goes s a old (Err e) new = Tries known goes s a old e new
 abbrev pub Drives : {B : Type 0} → (B → Known) → (B → Call → Answer → B → Type 0) → Session → Attempt → B → Result Ended SessionError → B → Type 0
 Drives known goes s a old (Ok end) new = (left : ℕ) → Reaches known goes old (Phase.going s left a) MOST_EVENTS new (after_end s left end.attempt end.reply)
 Drives known goes s a old (Err e) new = (left : ℕ) → Stops known goes old (Phase.going s left a) e new
+
+-- the phase behind an attempt's end, where so many attempts may follow
+abbrev pub followed_by : Session → ℕ → Followed → Phase
+followed_by s left (followed.Again a) = Phase.trying s (left - 1) a
+followed_by s left (followed.Shown reply) = Phase.over (ended s reply) (said reply)
 
 -- what a verb comes to: one reply, and the session after it
 abbrev pub Replies : {B : Type 0} → (B → Known) → (B → Call → Answer → B → Type 0) → B → Phase → Result Reply SessionError → B → Session → Type 0

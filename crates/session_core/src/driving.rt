@@ -3,13 +3,13 @@
 ghost use Rattle.std.specs.Prelude.{◌≡◌, ◌-◌, ◌<◌, ◌^◌, None};
 ghost use Rattle.docc_prepare.specs.Calls.{Known};
 ghost use Rattle.session_core.specs.Phases as spec;
-ghost use Rattle.session_core.specs.Phases.{Phase, closed};
+ghost use Rattle.session_core.specs.Phases.{Phase, closed, after_end};
 ghost use Rattle.session_core.specs.Holding.{Attends, Holds};
-ghost use Rattle.session_core.specs.Leading.{Drives, Closes};
+ghost use Rattle.session_core.specs.Leading.{Drives, Closes, followed_by};
 
 use crate::event::event;
 use crate::limits::MOST_EVENTS;
-use crate::moved::{Ended, Moved};
+use crate::moved::{Ended, Followed, Moved};
 use crate::error::SessionError;
 use crate::session::Session;
 use docc_prepare::{Attempt, Backend};
@@ -61,6 +61,17 @@ fn is_abort(reply: &Reply) -> bool
     }
 }
 
+/// What follows an attempt's end, where so many attempts may follow: another attempt, or the reply is shown.
+fn following(alloc: Global, left: u8, end: Ended) -> Followed
+    ensures { (s : Session) → after_end s left end.attempt end.reply ≡ followed_by s left result }
+{
+    let Ended { attempt, reply } = end;
+    if left == 0 || !is_abort(&reply) {
+        return Followed::Shown(reply);
+    }
+    Followed::Again(afresh(alloc, attempt))
+}
+
 /// Makes attempts at a body, at most so many, until one doesn't end in an abort. Each begins with a refresh.
 pub fn try_times<B: Backend>(
     alloc: Global,
@@ -77,11 +88,11 @@ pub fn try_times<B: Backend>(
     let mut attempt = attempt;
     for turn in 0..tries {
         backend.refresh()?;
-        let Ended { attempt: tried, reply } = drive(alloc, backend, session, attempt)?;
-        if turn + 1 == tries || !is_abort(&reply) {
-            return Ok(reply);
+        let end = drive(alloc, backend, session, attempt)?;
+        match following(alloc, tries - 1 - turn, end) {
+            Followed::Again(next) => attempt = next,
+            Followed::Shown(reply) => return Ok(reply),
         }
-        attempt = afresh(alloc, tried);
     }
     Err(SessionError::NoMemory)
 }

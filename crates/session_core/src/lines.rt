@@ -6,7 +6,6 @@ ghost use Rattle.session_core.specs.Lines.{line_of};
 ghost use Rattle.session_core.specs.Phases.{start};
 ghost use Rattle.session_core.specs.Holding.{Follows};
 ghost use Rattle.session_core.specs.Leading.{Went, AnswersAgain};
-ghost use Rattle.session_core.specs.Explained.{IsExplained};
 
 use crate::acting::turn;
 use crate::error::SessionError;
@@ -42,9 +41,6 @@ impl Session {
 
         // It goes the way of the machine of phases, by steps of the backend's relation, and answers what stands at its end.
         ensures went { self.old.over ≡ None → Went B.known B.goes backend.old (start (B.known backend.old).shards (B.known backend.old).seen self.old (line_of bytes.now)) result backend.new self.new }
-
-        // What it answers passes, where the backend tells its journal.
-        ensures explained { self.old.over ≡ None → IsExplained (B.known backend.old) (B.known backend.new) self.old (line_of bytes.now) result self.new }
 
         // The next line may follow.
         ensures follows { Follows (B.known backend.new) self.new }

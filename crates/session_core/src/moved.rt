@@ -18,3 +18,12 @@ pub struct Ended {
     pub attempt: Attempt,
     pub reply: Reply,
 }
+
+/// What follows an attempt's end.
+#[derive(Debug, Drop)]
+pub enum Followed {
+    /// Another attempt at the same body.
+    Again(Attempt),
+    /// Nothing: this reply shows the end.
+    Shown(Reply),
+}

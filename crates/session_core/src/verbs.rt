@@ -1,6 +1,7 @@
 //! The verbs of a session, each with one reply.
 
 ghost use Rattle.std.specs.Prelude.{◌≡◌, ◌<◌, ◌^◌, ◌-◌};
+ghost use Rattle.session_core.specs.Phases as spec;
 ghost use Rattle.session_core.specs.Phases.{start, seq_after};
 ghost use Rattle.session_core.specs.Holding.{Attends, IsReady};
 ghost use Rattle.session_core.specs.Leading.{Replies, Drops};
@@ -27,6 +28,13 @@ fn next_seq(seq: u64, reply: &Reply) -> u64
     }
 }
 
+/// An attempt at a body, of which nothing is read.
+fn opened<B: Backend>(alloc: Global, backend: &B, body: Checked) -> Attempt
+    ensures { result ≡ spec.opened (B.known backend.now).shards body }
+{
+    Attempt::begin(alloc, body, backend.shards())
+}
+
 /// `begin`: a refresh, and an attempt is open.
 pub fn begin<B: Backend>(
     alloc: Global,
@@ -42,7 +50,7 @@ pub fn begin<B: Backend>(
     if session.attempt.is_some() {
         return Ok(Reply::Refused(Why::Busy));
     }
-    let attempt = Attempt::begin(alloc, body, backend.shards());
+    let attempt = opened(alloc, backend, body);
     let seen = backend.refresh()?;
     session.attempt = Some(attempt);
     Ok(Reply::Seen(seen))
@@ -65,7 +73,7 @@ pub fn commit<B: Backend>(
     if session.attempt.is_some() {
         return Ok(Reply::Refused(Why::Busy));
     }
-    let attempt = Attempt::begin(alloc, body, backend.shards());
+    let attempt = opened(alloc, backend, body);
     let reply = try_times(alloc, backend, session, tries, attempt)?;
     session.seq = next_seq(session.seq, &reply);
     Ok(reply)

@@ -5,7 +5,7 @@ use Rattle.txn_eval.specs.Running.{ran_of, values_of}
 use Rattle.docc_prepare.specs.Calls.{value_answered}
 use Rattle.session_core.specs.declared.error.SessionError.{SessionError}
 use Rattle.session_core.specs.Leading.{Leads, Valued}
-use Rattle.session_core.proofs.Short.{runs_ask_short}
+use Rattle.txn_lang.proofs.Observed.{runs_ask_short}
 use Rattle.session_core.proofs.Steps.{look-more, look-late, look-stops, looks-err, none-else}
 use Rattle.session_core.proofs.looking.look_at.Goals as goal
 
