@@ -32,6 +32,7 @@ use Rattle.session_core.specs.Errors.{error_of}
 use Rattle.session_core.specs.Phases.{Phase, with_attempt, closed, ended, afresh, event_call, call_of, moved_at, moved_by, said, stepped, is_abort, after_end, gone, look_by, look_on, look_from, asks, after}
 use Rattle.session_core.specs.Leading.{Leads, Reaches, Stops, Went, Turned, Moves, Tries, Makes, Drives, Closes, Replies, LooksAt, Valued, turn_of}
 use Rattle.session_core.specs.Holding.{Holds, Attends}
+use Rattle.session_core.proofs.Kept.{attends-on}
 use Rattle.session_core.proofs.Phases.{PhaseHolds, phase-kept}
 
 -- one step
@@ -299,6 +300,9 @@ module _ {B : Type 0} (known : B → Known) (goes : B → Call → Answer → B 
   pub tries-stop : (b : B) (p : Phase) (t : ℕ) (c : B) (s : Session) (left : ℕ) (a : Attempt) (e : SessionError) (x : StoreError) (d : B) → e ≡ error_of x
       → Reaches known goes b p t c (Phase.trying s left a) → Goes known goes c refresh (number_answered (Err x)) d → Stops known goes b p e d
   tries-stop b p t c s left a e x d is first step = refresh-stops known goes b p first.count c (Phase.trying s left a) e x d refl (λ f. refl) is first.leads step
+
+  pub look-attends : (b c : B) (s : Session) (n : ℕ) → Attends (known b) s → Goes known goes b refresh (Answer.number n) c → Attends (known c) s
+  look-attends b c s n is step = attends-on (known b) (known c) s refresh (Answer.number n) step.answered (λ old new own. own) step.answered.keeps is
 
   -- a look, by the prefix on which it runs
   pub looked-from : (b : B) (s : Session) (upto : Option ℕ) (body : Checked) (seen m : ℕ) (c d : B) (result : Result Reply SessionError) → look_from s seen upto body ≡ look_on s m body []
