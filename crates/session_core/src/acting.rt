@@ -91,6 +91,7 @@ pub fn turn<B: Backend>(
     requires attends { Attends (B.known backend.old) session.old }
     requires short { length bytes.now ≤ LONGEST_LINE }
     ensures went { Went B.known B.goes backend.old (start (B.known backend.old).shards (B.known backend.old).seen session.old (line_of bytes.now)) result backend.new session.new }
+    ensures attends { IfOk result (λ turn. Attends (B.known backend.new) session.new) }
     ensures home { B.home backend.new ≡ B.home backend.old }
 {
     if session.seq == u64::MAX {
