@@ -1,8 +1,7 @@
 -- What a line asks for, by its form.
-use Rattle.std.proofs.Common.{◌≡◌, ℕ, Bool, true, false, cond, Option, Some, None, refl, ap, ◌∙◌}
+use Rattle.std.proofs.Common.{◌≡◌, true, false, cond, Option, ap, ◌∙◌}
 use Rattle.session_text.specs.declared.verb.Verb.{Verb}
 use Rattle.txn_grammar.specs.Characters.{Text}
-use Rattle.session_core.specs.declared.line.Line.{Line}
 use Rattle.session_core.specs.declared.line.Line.TheVariants as asks
 use Rattle.session_core.specs.Words.{trimmed_start, is_quiet}
 use Rattle.session_core.specs.Lines.{asked, of_form, line_of}

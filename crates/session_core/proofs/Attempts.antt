@@ -1,5 +1,5 @@
 -- Attempts: what the next event says of the run, and what is read and observed.
-use Rattle.std.proofs.Common.{◌≡◌, ℕ, ◌≤◌, ◌<◌, ◌%◌, Bool, true, false, cond, min, List, [], ◌∷◌, filter, map, length, Option, Some, None, refl, sym, ap, ◌∙◌, subst, arith}
+use Rattle.std.proofs.Common.{◌≡◌, ℕ, ◌≤◌, ◌<◌, Bool, true, false, cond, List, [], ◌∷◌, length, Option, Some, None, refl, sym, ap, ◌∙◌, subst, arith}
 use Rattle.std.specs.Prelude.{IfSome, ◌==◌}
 use Rattle.std.specs.List.{AllByRecursion}
 use Rattle.std.specs.Map.{lookup}
@@ -11,12 +11,10 @@ use Rattle.std.specs.declared.cmp.Ordering.TheVariants.{Less, Equal, Greater}
 use Rattle.std.proofs.lemmas.Bool.Decides.{nat_tests}
 use Rattle.plain_data.proofs.Entries.{equal}
 use Rattle.rdt_types.specs.declared.address.Address.{Address}
-use Rattle.rdt_types.specs.declared.value.Value.{Value}
 use Rattle.rdt_types.specs.Addresses.{address_cmp}
 use Rattle.rdt_types.specs.Shards.{shard_of}
 use Rattle.rdt_types.specs.Values.{kind_of}
 use Rattle.rdt_types.proofs.Addresses.{address_cmp-equal}
-use Rattle.conflict_table.specs.Observing.{kind_observed}
 use Rattle.abort_witness.specs.declared.witness.Based.{Based}
 use Rattle.abort_witness.specs.Kinds.{IsBasedOfOneKind}
 use Rattle.txn_lang.specs.declared.run.Run.{Run}
@@ -29,9 +27,8 @@ use Rattle.txn_lang.proofs.Observed.{observed_is_there}
 use Rattle.txn_eval.specs.Running.{values_of}
 use Rattle.journal_core.specs.declared.ready.PreparedFront.{PreparedFront}
 use Rattle.docc_prepare.specs.declared.attempt.Attempt.{Attempt}
-use Rattle.docc_prepare.specs.declared.attempt.Next.{Next}
 use Rattle.docc_prepare.specs.declared.attempt.Next.TheVariants as next
-use Rattle.docc_prepare.specs.Attempts.{SnapList, ran, base_in, base_at, with_base, based, in_shard, has_front, lesser, least_unprepared, next_of, next_of_run, next_event}
+use Rattle.docc_prepare.specs.Attempts.{SnapList, ran, base_in, with_base, based, in_shard, has_front, lesser, least_unprepared, next_of, next_of_run, next_event}
 use Rattle.docc_prepare.specs.Calls.{Known}
 use Rattle.docc_prepare.specs.Backends.{IsGiven, CanValidate}
 use Rattle.session_core.specs.Holding.{IsRead}

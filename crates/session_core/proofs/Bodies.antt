@@ -1,5 +1,5 @@
 -- The body of a verb.
-use Rattle.std.proofs.Common.{◌≡◌, ℕ, Bool, true, false, Option, Some, None, Result, Ok, Err, refl, ap, sym, ◌∙◌, subst, arith, ◌≤◌, length}
+use Rattle.std.proofs.Common.{◌≡◌, ℕ, Bool, true, false, Option, Some, None, Result, Ok, Err, refl, ap, sym, ◌∙◌, subst, ◌≤◌, length}
 use Rattle.std.specs.Prelude.{IsTrue}
 use Rattle.std.specs.Option.{unwrap_or}
 use Rattle.session_text.specs.declared.reply.Why.{Why}
@@ -10,9 +10,8 @@ use Rattle.txn_grammar.specs.Characters.{Text}
 use Rattle.txn_grammar.specs.Parsed.{parsed, IsSyntaxColumn}
 use Rattle.txn_grammar.proofs.Parses.{column_is_computed, column_of_none}
 use Rattle.txn_lang.specs.declared.checked.Checked.{Checked}
-use Rattle.txn_lang.specs.Types.{Names}
-use Rattle.txn_lang.specs.Typing.{Judged, judge, IsTyped}
-use Rattle.txn_lang.specs.Tree.{tree, if_typed}
+use Rattle.txn_lang.specs.Typing.{judge, IsTyped}
+use Rattle.txn_lang.specs.Tree.{tree}
 use Rattle.txn_lang.specs.Writes.{first_write}
 use Rattle.txn_lang.specs.code.Checking.{WritesAt}
 use Rattle.txn_lang.proofs.Typing.{bodies_are_judged}
@@ -99,9 +98,9 @@ unfolding refusal_of
 refuses_type read_only text body column read fails =
     refused_by read_only text (why.BadType column)
     (unread_none read_only text (λ b e typed.
-        let same : b ≡ body = (let s : Some b ≡ Some body = sym e ∙ read in cc) in
-        let found = (bodies_are_judged b).1 typed in
-        let h : Ok found.0 ≡ Err column = sym found.1 ∙ (ap judge same ∙ fails) in cc))
+    let same : b ≡ body = (let s : Some b ≡ Some body = sym e ∙ read in cc) in
+    let found = (bodies_are_judged b).1 typed in
+    let h : Ok found.0 ≡ Err column = sym found.1 ∙ (ap judge same ∙ fails) in cc))
     (ap (unread text) read ∙ ap (ill_typed body) fails)
 
 writes_unread : (text : Text) (body : Body) (column : ℕ) → parsed text ≡ Some body → IsTyped body → first_write body ≡ Some column → checked_of true text ≡ None

@@ -1,5 +1,5 @@
 -- What holds of a session after a line.
-use Rattle.std.proofs.Common.{◌≡◌, Option, Some, None, Result, Ok, Err, refl, sym, subst}
+use Rattle.std.proofs.Common.{◌≡◌, Result, Ok, Err, refl, sym, subst}
 use Rattle.std.specs.Prelude.{IfOk}
 use Rattle.docc_prepare.specs.Calls.{Known, Call, Answer}
 use Rattle.session_core.specs.declared.error.SessionError.{SessionError}

@@ -1,5 +1,5 @@
 -- What a session keeps to, over each of its calls.
-use Rattle.std.proofs.Common.{◌≡◌, ℕ, ◌+◌, ◌≤◌, ◌<◌, ◌^◌, Bool, true, false, cond, max, min, List, [], ◌∷◌, ◌++◌, take, drop, length, Option, Some, None, refl, sym, ap, ◌∙◌, subst, arith}
+use Rattle.std.proofs.Common.{◌≡◌, ℕ, ◌+◌, ◌≤◌, ◌<◌, ◌^◌, Bool, true, cond, min, [], ◌∷◌, ◌++◌, drop, length, Option, Some, None, refl, sym, ap, ◌∙◌, subst, arith}
 use Rattle.std.specs.Prelude.{IfSome, ◌==◌}
 use Rattle.std.specs.List.{AllByRecursion}
 use Rattle.std.proofs.Math.Nat.{max-eq_right}
@@ -10,21 +10,17 @@ use Rattle.dio_core.specs.Told.{WhereTold}
 use Rattle.dio_core.proofs.Told.{IfSome-WhereTold}
 use Rattle.rdt_types.specs.declared.address.Address.{Address}
 use Rattle.rdt_types.specs.declared.limits.TheConstants.{LEAST_SHARDS, MOST_SHARDS}
-use Rattle.rdt_types.specs.Values.{kind_of}
 use Rattle.rdt_types.specs.Shards.{shard_of}
-use Rattle.abort_witness.specs.declared.witness.Based.{Based}
 use Rattle.txn_lang.specs.declared.checked.Checked.{Checked}
 use Rattle.txn_lang.specs.declared.commit.Commit.{Commit}
 use Rattle.txn_lang.specs.declared.run.Run.{Run}
 use Rattle.txn_lang.specs.declared.snaps.Snap.{Snap}
-use Rattle.txn_lang.specs.States.{Journal, state}
+use Rattle.txn_lang.specs.States.{Journal}
 use Rattle.txn_lang.specs.Execution.{Ran, need, done}
 use Rattle.txn_lang.specs.Journals.{own}
-use Rattle.journal_core.specs.declared.ready.PreparedFront.{PreparedFront}
 use Rattle.journal_core.specs.declared.ready.Ready.{Ready}
 use Rattle.version_shard.specs.declared.prepared.Prepared.{Prepared}
 use Rattle.docc_prepare.specs.declared.attempt.Attempt.{Attempt}
-use Rattle.docc_prepare.specs.declared.attempt.Next.{Next}
 use Rattle.docc_prepare.specs.declared.attempt.Next.TheVariants as next
 use Rattle.docc_prepare.specs.Attempts.{ran, based, in_shard, next_event, with_snap, with_front, ready_of, SnapFits, FrontFits, FrontsFit, Fits}
 use Rattle.docc_prepare.specs.Calls.{Known, Call, Answer}
@@ -32,10 +28,10 @@ use Rattle.docc_prepare.specs.Backends.{IsPrefix, IsGiven, CanValidate, CanPrepa
 use Rattle.docc_prepare.proofs.Each.{each-more, each-push}
 use Rattle.docc_prepare.proofs.Growing.{fits_stays}
 use Rattle.session_core.specs.declared.session.Session.{Session}
-use Rattle.session_core.specs.Phases.{with_attempt, closed, ended, within_shards, opened, afresh}
+use Rattle.session_core.specs.Phases.{with_attempt, closed, within_shards, opened, afresh}
 use Rattle.session_core.specs.Holding.{IsRead, FrontsGiven, Holds, IsReady, Counts, Attends}
 use Rattle.session_core.proofs.Same.{attempt_same}
-use Rattle.session_core.proofs.Attempts.{needs, appends, prepares, IsPreparing, least-below, each-inserted, may-validate, validate-here, few-here}
+use Rattle.session_core.proofs.Attempts.{needs, appends, prepares, least-below, each-inserted, may-validate, validate-here, few-here}
 
 -- ---- journals
 

@@ -1,34 +1,32 @@
 -- What holds at each phase of a line.
-use Rattle.std.proofs.Common.{◌≡◌, ℕ, zero, suc, ◌≤◌, Bool, true, false, cond, List, [], Option, Some, None, refl, sym, ap, ◌∙◌, subst, arith}
+use Rattle.std.proofs.Common.{◌≡◌, ℕ, zero, suc, ◌≤◌, Bool, true, false, cond, [], Option, Some, None, refl, sym, subst, arith}
 use Rattle.std.specs.Prelude.{nat_lt, IfSome}
 use Rattle.std.specs.BTreeMap.{insert_entry}
 use Rattle.std.proofs.lemmas.Bool.Decides.{nat_tests}
-use Rattle.rdt_types.specs.declared.address.Address.{Address}
 use Rattle.rdt_types.specs.Addresses.{address_cmp}
 use Rattle.session_text.specs.declared.reply.Reply.{Reply}
 use Rattle.session_text.specs.declared.reply.Reply.TheVariants as reply
 use Rattle.txn_lang.specs.declared.checked.Checked.{Checked}
-use Rattle.txn_lang.specs.declared.run.Run.{Run}
 use Rattle.txn_lang.specs.Short.{IsShortAddress}
 use Rattle.txn_lang.specs.Execution.{Ran, need, done, exec}
 use Rattle.txn_eval.specs.Running.{values_of}
 use Rattle.docc_prepare.specs.declared.attempt.Attempt.{Attempt}
 use Rattle.docc_prepare.specs.declared.attempt.Next.{Next}
 use Rattle.docc_prepare.specs.declared.attempt.Next.TheVariants as next
-use Rattle.docc_prepare.specs.Attempts.{SnapList, in_shard, based, next_event, with_snap, with_front, ready_of}
+use Rattle.docc_prepare.specs.Attempts.{SnapList, next_event, with_snap, with_front, ready_of}
 use Rattle.docc_prepare.specs.Calls.{Known, Call, Answer, is_fault}
-use Rattle.docc_prepare.specs.Calls.Call.{refresh, read, prepare, append, read_at}
-use Rattle.docc_prepare.specs.Calls.Answer.{number, snap, prepared, value, late, clash, full, disk, failed}
+use Rattle.docc_prepare.specs.Calls.Call.{refresh, read, read_at}
+use Rattle.docc_prepare.specs.Calls.Answer.{number, snap, prepared, value, late, clash, full, disk}
 use Rattle.docc_prepare.specs.Backends.{IsAnswered}
 use Rattle.session_core.specs.declared.line.Line.{Line}
 use Rattle.session_core.specs.declared.line.Line.TheVariants as asked
 use Rattle.session_core.specs.declared.session.Session.{Session}
 use Rattle.session_core.specs.declared.moved.Moved.{Moved}
 use Rattle.session_core.specs.declared.moved.Moved.TheVariants as moved
-use Rattle.session_core.specs.Phases.{Phase, with_attempt, closed, ended, afresh, opened, event_call, call_of, moved_at, moved_by, said, stepped, after_end, gone, look_by, look_on, look_from, asks, after, start}
-use Rattle.session_core.specs.Holding.{Holds, IsReady, BodyIsReady, Attends}
+use Rattle.session_core.specs.Phases.{Phase, with_attempt, closed, ended, afresh, event_call, call_of, moved_at, moved_by, said, stepped, after_end, gone, look_by, look_on, look_from, asks, after, start}
+use Rattle.session_core.specs.Holding.{Holds, BodyIsReady, Attends}
 use Rattle.txn_lang.proofs.Observed.{runs_ask_short}
-use Rattle.session_core.proofs.Kept.{attends-on, closed-on, opened-on, committed-on, holds-on, anew-holds, afresh-holds, read-holds, prepare-holds, opened-holds}
+use Rattle.session_core.proofs.Kept.{attends-on, closed-on, opened-on, committed-on, holds-on, anew-holds, read-holds, prepare-holds, opened-holds}
 
 -- what a line keeps to on its way
 abbrev pub PhaseHolds : Known → Phase → Type 0

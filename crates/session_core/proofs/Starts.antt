@@ -1,5 +1,5 @@
 -- The first phases of lines that need an attempt, or need that none is open.
-use Rattle.std.proofs.Common.{◌≡◌, ℕ, ◌+◌, ◌-◌, ◌≤◌, Bool, true, false, List, [], Option, Some, None, Result, Ok, Err, refl, sym, ap, ◌∙◌, subst, arith}
+use Rattle.std.proofs.Common.{◌≡◌, ℕ, true, false, Option, Some, None, Ok, Err, refl, sym, ap, ◌∙◌, subst, arith}
 use Rattle.std.specs.Option.{is_some}
 use Rattle.session_text.specs.declared.reply.Reply.{Reply}
 use Rattle.session_text.specs.declared.reply.Reply.TheVariants as reply
@@ -11,13 +11,11 @@ use Rattle.docc_prepare.specs.declared.backend.StoreError.{StoreError}
 use Rattle.docc_prepare.specs.Backends.{Goes}
 use Rattle.session_core.specs.declared.limits.TheConstants.{MOST_CALLS, MOST_EVENTS}
 use Rattle.session_core.specs.declared.error.SessionError.{SessionError}
-use Rattle.session_core.specs.declared.moved.Moved.{Moved}
 use Rattle.session_core.specs.declared.moved.Moved.TheVariants as moved
 use Rattle.session_core.specs.declared.moved.Ended.{Ended}
 use Rattle.session_core.specs.declared.session.Session.{Session}
-use Rattle.session_core.specs.declared.turn.Turn.{Turn}
-use Rattle.session_core.specs.Phases.{Phase, with_attempt, closed, seq_after, ended, said, refused, if_open, unless_open}
-use Rattle.session_core.specs.Leading.{Leads, Reaches, Stops, Moves, Tries, Drives, Closes, Replies}
+use Rattle.session_core.specs.Phases.{Phase, with_attempt, closed, seq_after, ended, said, if_open, unless_open}
+use Rattle.session_core.specs.Leading.{Leads, Reaches, Stops, Moves, Tries, Drives, Closes}
 use Rattle.session_core.proofs.Steps.{at-once, step-more, step-end, step-stops, reach-more, refresh-stops, begun}
 use Rattle.session_core.specs.Errors.{error_of}
 

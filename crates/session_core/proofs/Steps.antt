@@ -1,15 +1,13 @@
 -- Steps put together.
 use Rattle.std.proofs.Common.{◌≡◌, ℕ, zero, suc, ◌+◌, ◌-◌, ◌*◌, ◌≤◌, ◌<◌, Bool, true, false, cond, inl, inr, ◌⊎◌, List, [], ◌∷◌, length, set, Option, Some, None, Result, Ok, Err, refl, sym, ap, ◌∙◌, subst, arith}
 use Rattle.std.specs.Prelude.{nat_lt}
-use Rattle.std.specs.BTreeMap.{insert_entry}
 use Rattle.std.proofs.lemmas.Bool.Decides.{nat_tests}
 use Rattle.rdt_types.specs.declared.address.Address.{Address}
-use Rattle.rdt_types.specs.Addresses.{address_cmp}
 use Rattle.session_text.specs.declared.reply.Reply.{Reply}
 use Rattle.session_text.specs.declared.reply.Reply.TheVariants as reply
 use Rattle.txn_lang.specs.declared.checked.Checked.{Checked}
 use Rattle.txn_lang.specs.declared.run.Run.{Run}
-use Rattle.txn_lang.specs.Execution.{Ran, need, done, exec}
+use Rattle.txn_lang.specs.Execution.{need, done, exec}
 use Rattle.txn_eval.specs.Running.{values_of}
 use Rattle.docc_prepare.specs.declared.attempt.Attempt.{Attempt}
 use Rattle.docc_prepare.specs.declared.attempt.Next.{Next}

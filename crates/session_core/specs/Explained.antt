@@ -1,5 +1,5 @@
 -- Replies that a journal explains: which reply passes for which line, when the replies before it have shown so much. No program
--- stands in it, and no store but its journal.
+-- stands in it, and no store but its journal. These are definitions: no law ties them to the lines of a session yet.
 use Rattle.std.specs.Prelude.{◌≡◌, ℕ, ◌+◌, ◌≤◌, ◌<◌, max, List, [], ◌∷◌, ◌++◌, fold, length, take, Option, Some, None, Result, Ok, Err, refl}
 use Rattle.dio_core.specs.Told.{WhereTold}
 use Rattle.rdt_types.specs.declared.address.Address.{Address}

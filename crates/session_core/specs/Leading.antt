@@ -53,7 +53,6 @@ pub record AnswersAgain {B : Type 0} (e : SessionError) (result : Result Turn Se
   pub backend : new ≡ old
   pub session : t ≡ s
 
-
 -- ---- one event
 
 -- what an answered event comes to

@@ -1,7 +1,7 @@
 -- What a line asks for. A line is tested in this order: whether it asks for nothing; whether it has a verb's form; whether the
 -- verb's body is of the grammar; whether it is well typed; and whether it writes where it may only read. The first test that
 -- fails is the refusal.
-use Rattle.std.specs.Prelude.{◌≡◌, ◌↔◌, ℕ, Bool, true, false, if◌then◌else◌, List, Option, Some, None, Result, Ok, Err}
+use Rattle.std.specs.Prelude.{◌≡◌, ◌↔◌, ℕ, true, false, if◌then◌else◌, List, Option, Some, None, Result, Ok, Err}
 use Rattle.predictive_parsing.specs.Reading.{whole}
 use Rattle.session_text.specs.declared.reply.Why.{Why}
 use Rattle.session_text.specs.declared.reply.Why.TheVariants as why

@@ -1,6 +1,6 @@
 -- What a line does, as a machine of phases: what each asks of the store, and which phase follows its answer. There is no journal
 -- in it and no store.
-use Rattle.std.specs.Prelude.{ℕ, zero, suc, ◌+◌, ◌-◌, nat_lt, Bool, true, false, if◌then◌else◌, [], ◌∷◌, Option, Some, None, min, max}
+use Rattle.std.specs.Prelude.{ℕ, suc, ◌+◌, ◌-◌, nat_lt, Bool, true, false, if◌then◌else◌, [], ◌∷◌, Option, Some, None, min, max}
 use Rattle.std.specs.BTreeMap.{insert_entry}
 use Rattle.std.proofs.Common.{lit≤}
 use Rattle.std.proofs.Math.Nat.{le-max_left, max-le, min-le_right}

@@ -6,10 +6,10 @@ ghost use Rattle.session_core.specs.Phases.{start};
 ghost use Rattle.session_core.specs.Holding.{Attends, BodyIsReady};
 ghost use Rattle.session_core.specs.Leading.{Went, turn_of};
 
+use crate::error::SessionError;
 use crate::line::Line;
 use crate::looking::look;
 use crate::reading::read_line;
-use crate::error::SessionError;
 use crate::session::Session;
 use crate::turn::{ReplyList, Turn};
 use crate::verbs::{begin, commit, give_up, go, step};

@@ -7,10 +7,10 @@ ghost use Rattle.session_core.specs.Phases.{Phase, closed, after_end};
 ghost use Rattle.session_core.specs.Holding.{Attends, Holds};
 ghost use Rattle.session_core.specs.Leading.{Drives, Closes, followed_by};
 
+use crate::error::SessionError;
 use crate::event::event;
 use crate::limits::MOST_EVENTS;
 use crate::moved::{Ended, Followed, Moved};
-use crate::error::SessionError;
 use crate::session::Session;
 use docc_prepare::{Attempt, Backend};
 use session_text::Reply;

@@ -7,9 +7,9 @@ ghost use Rattle.session_core.specs.Phases.{closed};
 ghost use Rattle.session_core.specs.Holding.{Attends, Holds};
 ghost use Rattle.session_core.specs.Leading.{Turned, Makes};
 
+use crate::error::SessionError;
 use crate::limits::MOST_OBSERVATIONS;
 use crate::moved::Moved;
-use crate::error::SessionError;
 use crate::session::Session;
 use abort_witness::BasedList;
 use docc_prepare::{AppendError, Attempt, Backend, Next, PrepareError, StoreError};
@@ -62,7 +62,10 @@ fn after_prepare(
             }
         }
         Err(error) => match error {
-            PrepareError::Late(base, horizon) => Ok(Moved::End(attempt, Reply::Late(base, horizon))),
+            PrepareError::Late(base, horizon) => Ok(Moved::End(
+                attempt,
+                Reply::Late(base, horizon),
+            )),
             PrepareError::Clash(witness) => Ok(Moved::End(attempt, Reply::Abort(witness))),
             PrepareError::Fault => Err(SessionError::StoreFault),
             PrepareError::NoMemory => Err(SessionError::NoMemory),

@@ -3,8 +3,8 @@
 //! (`txn_parse`, `txn_lang`) and on `docc_prepare` (attempts, and what every backend promises); a script and a server cut input
 //! into lines, hand each to a session, and print what it answers.
 //!
-//! Read first `specs/Phases` (what a line does, as a machine of phases), `specs/Leading` (the steps of a line over a backend) and
-//! `specs/Explained` (which replies a journal explains).
+//! Read first `specs/Phases` (what a line does, as a machine of phases) and `specs/Leading` (the steps of a line over a backend).
+//! `specs/Explained` says which replies a journal explains; no law ties it to the code yet.
 #![tactic(auto)]
 
 mod acting;
@@ -12,6 +12,7 @@ mod body;
 mod driving;
 mod error;
 mod event;
+mod laws;
 mod limits;
 mod line;
 mod lines;
@@ -25,6 +26,7 @@ mod words;
 
 pub use body::body_of;
 pub use error::SessionError;
+pub use laws::verbs_are_forms;
 pub use limits::{MOST_CALLS, MOST_EVENTS};
 pub use line::Line;
 pub use reading::read_line;

@@ -6,8 +6,8 @@ ghost use Rattle.session_core.specs.Phases.{Phase};
 ghost use Rattle.session_core.specs.Holding.{Attends};
 ghost use Rattle.session_core.specs.Leading.{Replies, LooksAt, Valued};
 
-use crate::limits::MOST_EVENTS;
 use crate::error::SessionError;
+use crate::limits::MOST_EVENTS;
 use crate::session::Session;
 use docc_prepare::{Backend, ReadAtError};
 use rdt_types::{Address, Value};
@@ -26,7 +26,13 @@ fn valued(
     ensures { Valued snaps.old address number (value_answered answer) result snaps.new }
 {
     match answer {
-        Ok(value) => match snaps.insert(address, Snap { base: number, value }) {
+        Ok(value) => match snaps.insert(
+            address,
+            Snap {
+                base: number,
+                value,
+            },
+        ) {
             Ok(()) => Ok(None),
             Err(AllocError) => Err(SessionError::NoMemory),
         },

@@ -7,10 +7,10 @@ ghost use Rattle.session_core.specs.Holding.{Attends, IsReady};
 ghost use Rattle.session_core.specs.Leading.{Replies, Drops};
 
 use crate::driving::{drive, try_times};
+use crate::error::SessionError;
 use crate::event::event;
 use crate::line::Line;
 use crate::moved::{Ended, Moved};
-use crate::error::SessionError;
 use crate::session::Session;
 use docc_prepare::{Attempt, Backend};
 use session_text::{Reply, Why};

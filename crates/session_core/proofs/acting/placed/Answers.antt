@@ -1,4 +1,4 @@
-use Rattle.std.proofs.Common.{◌≡◌, ◌∙◌}
+use Rattle.std.proofs.Common.{◌∙◌}
 use Rattle.session_core.proofs.Steps.{placed-one}
 use Rattle.session_core.proofs.acting.placed.Goals as goal
 

@@ -1,4 +1,4 @@
-use Rattle.std.proofs.Common.{◌≡◌, ◌≤◌, ℕ, length, Some, Ok, Err, refl, ap, sym, subst, ◌∙◌, arith}
+use Rattle.std.proofs.Common.{◌≡◌, length, ap, ◌∙◌, arith}
 use Rattle.session_core.proofs.Bodies.{kept_reads, syntax-reads, type-reads, writes-reads, reads-checked, is-ready}
 use Rattle.session_core.proofs.body.body_of.Goals as goal
 

@@ -1,6 +1,6 @@
-use Rattle.std.proofs.Common.{◌≡◌, ◌-◌, inl, inr, refl, sym, ap, subst, ◌∙◌, arith}
+use Rattle.std.proofs.Common.{◌-◌, sym, ap, ◌∙◌, arith}
 use Rattle.session_core.specs.Phases.{Phase}
-use Rattle.session_core.proofs.Steps.{none-follows, one-follows}
+use Rattle.session_core.proofs.Steps.{one-follows}
 use Rattle.session_core.proofs.driving.following.Goals as goal
 
 pub returns : goal.returns

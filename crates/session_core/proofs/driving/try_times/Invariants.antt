@@ -1,4 +1,4 @@
-use Rattle.std.proofs.Common.{◌≡◌, ℕ, ◌+◌, ◌-◌, ◌*◌}
+use Rattle.std.proofs.Common.{◌≡◌, ◌+◌, ◌-◌, ◌*◌}
 use Rattle.session_core.specs.declared.limits.TheConstants.{MOST_EVENTS}
 use Rattle.session_core.specs.Phases.{Phase, closed}
 use Rattle.session_core.specs.Holding.{Attends, Holds}

@@ -1,4 +1,4 @@
-use Rattle.std.proofs.Common.{◌≡◌, ◌∙◌, refl, sym, ap, subst, rules}
+use Rattle.std.proofs.Common.{◌∙◌, refl}
 use Rattle.std.proofs.lemmas.Result.{err_from_is_err_and}
 use Rattle.docc_prepare.specs.Calls.{snap_answered}
 use Rattle.docc_prepare.specs.declared.attempt.Next.TheVariants as next

@@ -1,7 +1,7 @@
-use Rattle.std.proofs.Common.{◌≡◌, ℕ, Option, Some, None, refl, sym, ap, subst, ◌∙◌, arith}
+use Rattle.std.proofs.Common.{refl, arith}
 use Rattle.std.proofs.lemmas.Result.{err_from_is_err_and}
 use Rattle.session_core.specs.Phases.{Phase}
-use Rattle.session_core.specs.Leading.{Leads, Reaches, Replies}
+use Rattle.session_core.specs.Leading.{Leads}
 use Rattle.session_core.proofs.Steps.{replies-err, refresh-stops, look-attends, looked-from, looked-ahead, not-ahead}
 use Rattle.session_core.proofs.looking.look.Goals as goal
 
@@ -10,7 +10,7 @@ returns-in_err-seen-clause-replies g c =
     let p = err_from_is_err_and c.from_residual.result c.from_residual.ensures.1 in
     replies-err g.B.Backend.known g.B.Backend.goes c.args.backend.now (Phase.looking c.args.session.now c.args.upto c.args.body.now) c.from_residual.result p.0 c.refresh.new.self c.args.session.now p.1
     (refresh-stops g.B.Backend.known g.B.Backend.goes c.args.backend.now (Phase.looking c.args.session.now c.args.upto c.args.body.now) 0 c.args.backend.now (Phase.looking c.args.session.now c.args.upto c.args.body.now)
-        p.0 c.in_err-seen.field-0.0 c.refresh.new.self refl (λ f. refl) p.2 Leads.stays c.in_err-seen.ensures.goes)
+    p.0 c.in_err-seen.field-0.0 c.refresh.new.self refl (λ f. refl) p.2 Leads.stays c.in_err-seen.ensures.goes)
 
 pub look_at-requires-clause-attends : goal.look_at-requires-clause-attends
 look_at-requires-clause-attends g c = look-attends g.B.Backend.known g.B.Backend.goes c.args.backend.now c.refresh.new.self c.args.session.now c.in_ok-seen.seen c.requires.attends c.in_ok-seen.ensures.goes

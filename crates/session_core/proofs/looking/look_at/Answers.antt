@@ -1,4 +1,4 @@
-use Rattle.std.proofs.Common.{◌≡◌, ℕ, ◌+◌, Option, Some, None, Ok, Err, refl, subst, sym, ap, ◌∙◌, rules, arith}
+use Rattle.std.proofs.Common.{Option, Ok, Err, refl, subst, sym, ap, ◌∙◌, arith}
 use Rattle.std.proofs.lemmas.Result.{err_from_is_err_and}
 use Rattle.session_text.specs.declared.reply.Reply.{Reply}
 use Rattle.txn_eval.specs.Running.{ran_of, values_of}
@@ -20,8 +20,8 @@ returns-in_err-reply-in-Need-clause-looks g c =
     let p = err_from_is_err_and c.from_residual-in_err-reply-in-Need.result c.from_residual-in_err-reply-in-Need.ensures.1 in
     looks-err g.B.Backend.known g.B.Backend.goes c.args.session.now c.args.number c.args.body.now c.args.backend.now c.from_residual-in_err-reply-in-Need.result p.0 c.read_at-answer.new.self p.1
     (look-stops g.B.Backend.known g.B.Backend.goes c.args.session.now c.args.number c.args.body.now c.args.backend.now c.loop.backend c.read_at-answer.new.self c.loop.counter c.loop.snaps c.loop.invariant.led
-        c.in-Need.address (sym c.in_ok-run.ensures ∙ ap ran_of c.in-Need.is) (value_answered c.read_at-answer.result) c.valued.new.snaps p.0 c.read_at-answer.ensures.goes
-        (subst (λ (e : SessionError). Valued c.loop.snaps c.in-Need.address c.args.number (value_answered c.read_at-answer.result) (Err e) c.valued.new.snaps) (sym p.2) c.in_err-reply-in-Need.ensures))
+    c.in-Need.address (sym c.in_ok-run.ensures ∙ ap ran_of c.in-Need.is) (value_answered c.read_at-answer.result) c.valued.new.snaps p.0 c.read_at-answer.ensures.goes
+    (subst (λ (e : SessionError). Valued c.loop.snaps c.in-Need.address c.args.number (value_answered c.read_at-answer.result) (Err e) c.valued.new.snaps) (sym p.2) c.in_err-reply-in-Need.ensures))
 
 pub returns-in-Some-clause-looks : goal.returns-in-Some-clause-looks
 returns-in-Some-clause-looks g c =

@@ -1,4 +1,4 @@
-use Rattle.std.proofs.Common.{◌≡◌, ℕ, ◌≤◌, []}
+use Rattle.std.proofs.Common.{◌≡◌, ◌≤◌, []}
 use Rattle.docc_prepare.specs.Backends.{Goes}
 use Rattle.session_core.specs.Phases.{look_on}
 use Rattle.session_core.specs.Leading.{Leads}

@@ -1,4 +1,4 @@
-use Rattle.std.proofs.Common.{◌≡◌, Bool, true, false, Some, None, refl, sym, ap, subst, ◌∙◌}
+use Rattle.std.proofs.Common.{Some, None, sym, ap, subst, ◌∙◌}
 use Rattle.session_text.proofs.Within.{verb_within}
 use Rattle.dio_core.specs.declared.line.TheConstants.{LONGEST_LINE}
 use Rattle.session_core.specs.declared.line.Line.{Line}
@@ -20,7 +20,7 @@ of_verb-requires c = verb_within c.args.bytes.now c.in-Ok.verb LONGEST_LINE c.in
 pub returns-in-Ok : goal.returns-in-Ok
 returns-in-Ok c = subst (λ (x : Line). ReadsLine c.of_verb.result x)
     (sym (line-asks c.args.bytes.now (Some c.in-Ok.verb) (ap is_quiet (sym c.trimmed_start.ensures.value) ∙ (sym c.is_quiet.ensures ∙ c.if-is_quiet.false))
-        (asked_complete c.args.bytes.now c.in-Ok.verb c.in-Ok.ensures.read)))
+    (asked_complete c.args.bytes.now c.in-Ok.verb c.in-Ok.ensures.read)))
     c.of_verb.ensures
 
 pub returns-in-Err-BadVerb : goal.returns-in-Err-BadVerb

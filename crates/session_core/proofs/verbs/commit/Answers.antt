@@ -1,4 +1,4 @@
-use Rattle.std.proofs.Common.{◌≡◌, ◌-◌, Some, None, Err, refl, sym, ap, subst, ◌∙◌}
+use Rattle.std.proofs.Common.{◌-◌, Err, sym, subst, ◌∙◌}
 use Rattle.std.proofs.lemmas.Result.{err_from_is_err_and}
 use Rattle.session_core.specs.declared.error.SessionError.{SessionError}
 use Rattle.session_core.specs.Phases.{Phase, closed, opened, unless_open}
@@ -21,7 +21,7 @@ returns-in_err-reply-clause-replies g c =
     (commit-fails g.B.Backend.known g.B.Backend.goes c.args.session.now c.args.backend.now c.try_times.new.backend (opened (g.B.Backend.known c.args.backend.now).shards c.args.body) c.opened-attempt.result
     (c.args.tries - 1) p.0 (free g.B.Backend.known g.B.Backend.goes c.args.session.now (sym c.is_some.ensures ∙ c.if-is_some.false)) c.opened-attempt.ensures
     (subst (λ (e : SessionError). Closes g.B.Backend.known g.B.Backend.goes c.args.session.now c.args.backend.now (Phase.trying c.args.session.now (c.args.tries - 1) c.opened-attempt.result) (Err e) c.try_times.new.backend)
-        (sym p.2) c.in_err-reply.ensures.closes))
+    (sym p.2) c.in_err-reply.ensures.closes))
 
 pub returns-clause-replies : goal.returns-clause-replies
 returns-clause-replies g c =

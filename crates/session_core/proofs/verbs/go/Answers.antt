@@ -1,7 +1,6 @@
-use Rattle.std.proofs.Common.{◌≡◌, Some, None, Err, Ok, refl, sym, ap, subst, ◌∙◌}
+use Rattle.std.proofs.Common.{Err, sym, subst, ◌∙◌}
 use Rattle.std.proofs.lemmas.Result.{err_from_is_err_and}
 use Rattle.session_core.specs.declared.error.SessionError.{SessionError}
-use Rattle.session_core.specs.declared.moved.Ended.{Ended}
 use Rattle.session_core.specs.Phases.{Phase, with_attempt, closed, if_open}
 use Rattle.session_core.specs.Leading.{Drives}
 use Rattle.session_core.proofs.Steps.{replies-err}

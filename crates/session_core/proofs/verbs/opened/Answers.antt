@@ -1,4 +1,4 @@
-use Rattle.std.proofs.Common.{◌≡◌, ℕ, ◌≤◌, subst, ◌∙◌}
+use Rattle.std.proofs.Common.{ℕ, ◌≤◌, subst, ◌∙◌}
 use Rattle.rdt_types.specs.declared.limits.TheConstants.{LEAST_SHARDS, MOST_SHARDS}
 use Rattle.session_core.proofs.Kept.{opened-is}
 use Rattle.session_core.proofs.verbs.opened.Goals as goal

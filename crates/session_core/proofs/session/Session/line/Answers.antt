@@ -1,4 +1,3 @@
-use Rattle.std.proofs.Common.{◌≡◌, refl}
 use Rattle.session_core.specs.Holding.{Attends}
 use Rattle.session_core.proofs.Ends.{follows-on, where-ok}
 use Rattle.session_core.proofs.session.Session.line.Goals as goal
