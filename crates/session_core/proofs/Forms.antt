@@ -1,0 +1,37 @@
+-- The verb of a line.
+use Rattle.std.proofs.Common.{◌≡◌, ℕ, List, Option, Some, None, Result, Ok, Err, refl, ap}
+use Rattle.predictive_parsing.specs.Reading.{whole}
+use Rattle.predictive_parsing.specs.Bytes.{IsByte}
+use Rattle.predictive_parsing.proofs.Wholes.{whole_sound, whole_complete}
+use Rattle.session_text.specs.declared.verb.Verb.{Verb}
+use Rattle.session_text.specs.Lines.{VerbRule, IsVerb}
+use Rattle.session_text.specs.code.Lines.{line}
+use Rattle.session_text.specs.Follows.{at_end}
+use Rattle.session_text.proofs.LineFits.{line_fits}
+use Rattle.txn_grammar.specs.Characters.{Text}
+use Rattle.session_core.specs.Lines.{if_form, asked, VerbsAreForms}
+
+read_by : (r : Result Verb (List ℕ)) (v : Verb) → if_form r ≡ Some v → r ≡ Ok v
+read_by (Ok found) v e = let k : found ≡ v = cc in ap (λ x. Ok x) k
+read_by (Err rest) v e = absurd (cc)
+
+-- what is asked for is of its form
+asked_sound : (text : Text) (v : Verb) → asked text ≡ Some v → IsVerb text v
+unfolding asked
+asked_sound text v e = whole_sound IsByte line VerbRule at_end line_fits refl text v (read_by (whole line text) v e)
+
+-- and each form is asked for
+pub asked_complete : (text : Text) (v : Verb) → IsVerb text v → asked text ≡ Some v
+unfolding asked
+asked_complete text v r = ap if_form (whole_complete IsByte line VerbRule at_end line_fits refl text v r)
+
+pub verbs_are_forms : VerbsAreForms
+verbs_are_forms text v = (asked_sound text v, asked_complete text v)
+
+-- a text of no form asks for nothing
+pub none_asked : (text : Text) → ((v : Verb) → IsVerb text v → ⊥) → asked text ≡ None
+none_asked text none = by (asked text) refl
+  where
+    by : (o : Option Verb) → asked text ≡ o → o ≡ None
+    by (Some v) e = absurd (none v (asked_sound text v e))
+    by None e = refl

@@ -1,0 +1,11 @@
+pub mod Same
+pub mod Trims
+pub mod Bodies
+pub mod Forms
+pub mod Asked
+pub mod Attempts
+pub mod Kept
+pub mod Phases
+pub mod Steps
+pub mod Starts
+pub mod Ends

@@ -1,0 +1,10 @@
+-- What failed calls make of a session.
+use Rattle.docc_prepare.specs.declared.backend.StoreError.{StoreError}
+use Rattle.docc_prepare.specs.declared.backend.StoreError.TheVariants as store
+use Rattle.session_core.specs.declared.error.SessionError.{SessionError}
+use Rattle.session_core.specs.declared.error.SessionError.TheVariants as error
+
+-- a fault stays a fault, and want of memory stays that
+abbrev pub error_of : StoreError → SessionError
+error_of store.Fault = error.StoreFault
+error_of store.NoMemory = error.NoMemory

@@ -1,0 +1,318 @@
+-- Replies that a journal explains: which reply passes for which line, when the replies before it have shown so much. No program
+-- stands in it, and no store but its journal. These are definitions: no law ties them to the lines of a session yet.
+use Rattle.std.specs.Prelude.{◌≡◌, ℕ, ◌+◌, ◌≤◌, ◌<◌, max, List, [], ◌∷◌, ◌++◌, fold, length, take, Option, Some, None, Result, Ok, Err, refl}
+use Rattle.dio_core.specs.Told.{WhereTold}
+use Rattle.rdt_types.specs.declared.address.Address.{Address}
+use Rattle.rdt_types.specs.declared.outcome.Outcome.{Outcome}
+use Rattle.abort_witness.specs.declared.witness.Based.{Based}
+use Rattle.abort_witness.specs.declared.witness.Witness.{Witness}
+use Rattle.session_text.specs.declared.reply.Reply.{Reply}
+use Rattle.session_text.specs.declared.reply.Reply.TheVariants as reply
+use Rattle.session_text.specs.declared.reply.Why.TheVariants as why
+use Rattle.txn_lang.specs.declared.checked.Checked.{Checked}
+use Rattle.txn_lang.specs.declared.commit.Commit.{Commit}
+use Rattle.txn_lang.specs.declared.run.Run.{Run}
+use Rattle.txn_lang.specs.declared.snaps.Snap.{Snap}
+use Rattle.txn_lang.specs.States.{Journal, known, state}
+use Rattle.txn_lang.specs.Execution.{exec, done}
+use Rattle.journal_core.specs.Pairs.{pairs}
+use Rattle.docc_prepare.specs.declared.attempt.Attempt.{Attempt}
+use Rattle.docc_prepare.specs.declared.attempt.Next.TheVariants as next
+use Rattle.docc_prepare.specs.Attempts.{based, in_shard, next_event, Prepares, with_snap, with_front, Fits}
+use Rattle.docc_prepare.specs.Witnesses.{least_witness}
+use Rattle.docc_prepare.specs.Calls.{Known}
+use Rattle.docc_prepare.specs.Backends.{IsPrefix, IsLeastBase}
+use Rattle.session_core.specs.declared.line.Line.{Line}
+use Rattle.session_core.specs.declared.line.Line.TheVariants as asked
+use Rattle.session_core.specs.declared.session.Session.{Session}
+use Rattle.session_core.specs.declared.error.SessionError.{SessionError}
+use Rattle.session_core.specs.declared.turn.Turn.{Turn}
+use Rattle.session_core.specs.declared.turn.Turn.TheVariants as turn
+use Rattle.session_core.specs.Phases.{with_attempt, closed, ended, opened, said}
+
+-- the store's settings, as far as replies tell of them
+pub record Setting : Type 0 where
+  pub shards : ℕ
+  pub window : ℕ
+  pub limit : ℕ
+
+-- What the replies have shown so far: the greatest number; what that was when the open attempt began; and the next seq and the
+-- open attempt, with its bases and fronts.
+pub record Story : Type 0 where
+  pub low : ℕ
+  pub begun : ℕ
+  pub session : Session
+
+-- ---- numbers
+
+-- not below what was shown, and a number of the journal
+pub record IsShown (low : ℕ) (journal : Journal) (n : ℕ) : Type 0 where
+  pub not_back : low ≤ n
+  pub within : n ≤ length journal
+
+-- below a horizon, which is so far behind the journal's end at least as the window is wide
+pub record IsLate (window n horizon : ℕ) (journal : Journal) : Type 0 where
+  pub below : n < horizon
+  pub behind : horizon + window ≤ length journal
+
+-- ---- ends of an attempt
+
+-- what a run observed, with its bases, in one shard and in all
+abbrev pub based_here : Attempt → ℕ → Run → List Based
+based_here a shard run = in_shard a.shards shard (based a.snaps run.observations)
+
+abbrev pub based_all : Attempt → Run → List Based
+based_all a run = based a.snaps run.observations
+
+-- the commit of a run
+abbrev pub commit_by : Session → Attempt → Run → ℕ → Commit
+commit_by s a run n = record { number = n; client = s.client; seq = s.seq; body = a.body.source; outcome = run.outcome; deltas = run.deltas }
+
+-- The commit that is named stands at its number, by the client, with its next seq and the body's text, outcome and writes,
+-- behind commits with which nothing that was observed clashes, past all that was shown.
+pub record IsCommitted (low : ℕ) (journal : Journal) (s : Session) (a : Attempt) (n : ℕ) (outcome : Outcome) : Type 0 where
+  pub run : Run
+  pub next : next_event a ≡ next.Append run
+  pub before : Journal
+  pub there : IsPrefix (before ++ commit_by s a run n ∷ []) journal
+  pub number : n ≡ length before + 1
+  pub above : low < n
+  pub clear : pairs (based_all a run) before ≡ []
+  pub outcome_is : outcome ≡ run.outcome
+
+-- The least pair is named: of what was observed in the shard that is prepared next; or of all that was observed.
+pub data IsAborted (journal : Journal) (a : Attempt) (w : Witness) : Type 0 where
+  at_prepare : (shard : ℕ) (run : Run) → next_event a ≡ next.Prepare shard run → least_witness (based_here a shard run) journal ≡ Some w → IsAborted journal a w
+  at_append : (run : Run) → next_event a ≡ next.Append run → least_witness (based_all a run) journal ≡ Some w → IsAborted journal a w
+
+-- The least base in the shard that is prepared next is below a horizon.
+pub record IsLateAttempt (set : Setting) (journal : Journal) (a : Attempt) (base horizon : ℕ) : Type 0 where
+  pub shard : ℕ
+  pub run : Run
+  pub next : next_event a ≡ next.Prepare shard run
+  pub least : IsLeastBase (based_here a shard run) base
+  pub late : IsLate set.window base horizon journal
+
+-- The journal has as many commits as its limit, and none of the first ones clashes.
+pub record IsFull (set : Setting) (journal : Journal) (a : Attempt) (limit : ℕ) : Type 0 where
+  pub run : Run
+  pub next : next_event a ≡ next.Append run
+  pub limit_is : limit ≡ set.limit
+  pub within : limit ≤ length journal
+  pub clear : pairs (based_all a run) (take limit journal) ≡ []
+
+-- the attempt was about to be appended
+pub record IsAppended (a : Attempt) : Type 0 where
+  pub run : Run
+  pub next : next_event a ≡ next.Append run
+
+-- an end, a row a reply
+abbrev pub EndPasses : Setting → Journal → ℕ → Session → Attempt → Reply → Type 0
+EndPasses set journal low s a (reply.Commit n outcome) = IsCommitted low journal s a n outcome
+EndPasses set journal low s a (reply.Abort w) = IsAborted journal a w
+EndPasses set journal low s a (reply.Late base horizon) = IsLateAttempt set journal a base horizon
+EndPasses set journal low s a (reply.Full limit) = IsFull set journal a limit
+EndPasses set journal low s a reply.Disk = IsAppended a
+EndPasses set journal low s a r = ⊥
+
+-- From one attempt to another by events that no reply shows: reads at bases that are not below what was shown when the attempt
+-- began, and fronts.
+pub data Hides (begun : ℕ) (a : Attempt) : Attempt → Type 0 where
+  nothing : Hides begun a a
+  a_read : {b : Attempt} (address : Address) (snap : Snap) → Hides begun a b → next_event b ≡ next.Read address → begun ≤ snap.base → Hides begun a (with_snap b address snap)
+  a_front : {b : Attempt} (shard front : ℕ) → Hides begun a b → Prepares b shard → Hides begun a (with_front b shard front)
+
+-- some hidden events with which the attempt fits the journal, and then the end
+pub record HiddenEnd (set : Setting) (journal : Journal) (y : Story) (first : Attempt) (r : Reply) : Type 0 where
+  pub attempt : Attempt
+  pub hidden : Hides y.begun first attempt
+  pub fits : Fits journal attempt
+  pub passes : EndPasses set journal y.low y.session attempt r
+
+-- ---- one event that is shown, a row a reply
+
+abbrev pub StepPasses : Setting → Journal → Story → Attempt → Reply → Type 0
+StepPasses set journal y a (reply.Read address base) = (next_event a ≡ next.Read address) × IsShown y.low journal base
+StepPasses set journal y a (reply.Prepared shard front) = Prepares a shard × Fits journal (with_front a shard front)
+StepPasses set journal y a r = EndPasses set journal y.low y.session a r
+
+-- ---- looks
+
+-- the outcome is that of the body on the first n commits
+pub record IsOutcomeAt (journal : Journal) (body : Checked) (n : ℕ) (outcome : Outcome) : Type 0 where
+  pub run : Run
+  pub ran : exec body.body (known (state journal n)) ≡ done run
+  pub outcome_is : outcome ≡ run.outcome
+
+-- `look`, a row a reply
+abbrev pub LookPasses : Setting → Journal → ℕ → Checked → Reply → Type 0
+LookPasses set journal low body (reply.At n outcome) = IsShown low journal n × IsOutcomeAt journal body n outcome
+LookPasses set journal low body (reply.Late n horizon) = IsShown low journal n × IsLate set.window n horizon journal
+LookPasses set journal low body r = ⊥
+
+-- `at`, whose number is the user's, a row a reply
+abbrev pub AtPasses : Setting → Journal → ℕ → ℕ → Checked → Reply → Type 0
+AtPasses set journal low asked_for body (reply.At n outcome) = (n ≡ asked_for) × (n ≤ length journal) × IsOutcomeAt journal body n outcome
+AtPasses set journal low asked_for body (reply.Late n horizon) = (n ≡ asked_for) × IsLate set.window n horizon journal
+AtPasses set journal low asked_for body (reply.Ahead n m) = (n ≡ asked_for) × (m < n) × IsShown low journal m
+AtPasses set journal low asked_for body r = ⊥
+
+abbrev pub SeenPasses : Journal → ℕ → Reply → Type 0
+SeenPasses journal low (reply.Seen n) = IsShown low journal n
+SeenPasses journal low r = ⊥
+
+-- ---- lines
+
+-- one reply, which passes
+abbrev pub By : (Reply → Type 0) → Turn → Type 0
+By P (turn.Replies (r ∷ [])) = P r
+By P t = ⊥
+
+-- by whether an attempt is open
+abbrev pub IfOpen : Option Attempt → Type 0 → (Attempt → Type 0) → Type 0
+IfOpen None P Q = P
+IfOpen (Some a) P Q = Q a
+
+abbrev pub is_busy : Turn
+is_busy = said (reply.Refused why.Busy)
+
+abbrev pub none_open : Turn
+none_open = said (reply.Refused why.NoAttempt)
+
+-- an attempt that begins with the line
+abbrev pub begun_now : Story → Story
+begun_now y = record y { begun = y.low }
+
+-- WHICH ANSWER PASSES FOR A LINE, a row a form of line.
+abbrev pub Passes : Setting → Journal → Story → Line → Turn → Type 0
+Passes set journal y asked.Quiet t = t ≡ turn.Quiet
+Passes set journal y asked.Unbuilt t = t ≡ turn.Unbuilt
+Passes set journal y (asked.Refused reason) t = t ≡ said (reply.Refused reason)
+Passes set journal y (asked.Begin body) t = IfOpen y.session.attempt (By (SeenPasses journal y.low) t) (λ a. t ≡ is_busy)
+Passes set journal y (asked.Try tries body) t =
+    IfOpen y.session.attempt (By (HiddenEnd set journal (begun_now y) (opened set.shards body)) t) (λ a. t ≡ is_busy)
+Passes set journal y asked.Step t = IfOpen y.session.attempt (t ≡ none_open) (λ a. By (StepPasses set journal y a) t)
+Passes set journal y asked.Go t = IfOpen y.session.attempt (t ≡ none_open) (λ a. By (HiddenEnd set journal y a) t)
+Passes set journal y asked.Drop t = IfOpen y.session.attempt (t ≡ none_open) (λ a. t ≡ said reply.Dropped)
+Passes set journal y (asked.Look body) t = By (LookPasses set journal y.low body) t
+Passes set journal y (asked.At n body) t = By (AtPasses set journal y.low n body) t
+Passes set journal y asked.Seen t = By (SeenPasses journal y.low) t
+Passes set journal y asked.Quit t = t ≡ turn.Ended (reply.Dropped ∷ [])
+
+-- ---- what the replies have shown then
+
+-- the greatest number that was shown
+abbrev pub low_by : ℕ → Reply → ℕ
+low_by low (reply.Seen n) = max low n
+low_by low (reply.Followed shard front) = max low front
+low_by low (reply.Read address base) = max low base
+low_by low (reply.Prepared shard front) = max low front
+low_by low (reply.Commit n outcome) = max low n
+low_by low (reply.Abort w) = max low w.number
+low_by low (reply.Full limit) = max low limit
+low_by low (reply.Ran name n outcome) = max low n
+low_by low (reply.Current n) = max low n
+low_by low (reply.Ahead n m) = max low m
+low_by low r = low
+
+-- the number at which a look ran, but not one that the user names
+abbrev pub looked_at : ℕ → Reply → ℕ
+looked_at low (reply.At n outcome) = max low n
+looked_at low r = low_by low r
+
+abbrev pub replies_in : Turn → List Reply
+replies_in (turn.Replies rs) = rs
+replies_in (turn.Ended rs) = rs
+replies_in t = []
+
+abbrev pub low_after : ℕ → Line → Turn → ℕ
+low_after low (asked.Look body) t = fold looked_at low (replies_in t)
+low_after low l t = fold low_by low (replies_in t)
+
+-- the session after an event that is shown
+abbrev pub stepped_on : Journal → Session → Attempt → Reply → Session
+stepped_on journal s a (reply.Read address base) = with_attempt s (Some (with_snap a address (record { base = base; value = state journal base address })))
+stepped_on journal s a (reply.Prepared shard front) = with_attempt s (Some (with_front a shard front))
+stepped_on journal s a r = ended s r
+
+abbrev pub by_reply : (Reply → Session) → Session → Turn → Session
+by_reply f s (turn.Replies (r ∷ rs)) = f r
+by_reply f s t = s
+
+abbrev pub if_attempt : Option Attempt → Session → (Attempt → Session) → Session
+if_attempt None s f = s
+if_attempt (Some a) s f = f a
+
+-- The session after a line, as its answer shows it: `begin` opens an attempt; `go` and a try close one; `step` shows how it
+-- goes on.
+abbrev pub session_after : Setting → Journal → Session → Line → Turn → Session
+session_after set journal s (asked.Begin body) t = if_attempt s.attempt (with_attempt s (Some (opened set.shards body))) (λ a. s)
+session_after set journal s (asked.Try tries body) t = if_attempt s.attempt (by_reply (ended s) s t) (λ a. s)
+session_after set journal s asked.Step t = if_attempt s.attempt s (λ a. by_reply (stepped_on journal s a) s t)
+session_after set journal s asked.Go t = if_attempt s.attempt s (λ a. by_reply (ended s) s t)
+session_after set journal s asked.Drop t = closed s
+session_after set journal s asked.Quit t = closed s
+session_after set journal s l t = s
+
+abbrev pub begun_if : Option Attempt → ℕ → ℕ → ℕ
+begun_if None now before = now
+begun_if (Some a) now before = before
+
+abbrev pub begun_after : Story → Line → Turn → ℕ
+begun_after y (asked.Begin body) t = begun_if y.session.attempt (low_after y.low (asked.Begin body) t) y.begun
+begun_after y l t = y.begun
+
+abbrev pub story_after : Setting → Journal → Story → Line → Turn → Story
+story_after set journal y l t = record {
+  low = low_after y.low l t;
+  begun = begun_after y l t;
+  session = session_after set journal y.session l t;
+}
+
+-- THE ANSWERS TO THE LINES ARE EXPLAINED BY THE JOURNAL: each passes after those before it.
+abbrev pub Explains : Setting → Journal → Story → List Line → List Turn → Type 0
+Explains set journal y [] [] = Unit {0}
+Explains set journal y (l ∷ ls) (t ∷ ts) = Passes set journal y l t × Explains set journal (story_after set journal y l t) ls ts
+Explains set journal y [] (t ∷ ts) = ⊥
+Explains set journal y (l ∷ ls) [] = ⊥
+
+-- ---- one line, as a clause
+
+abbrev pub setting_of : Known → Setting
+setting_of k = record { shards = k.shards; window = k.window; limit = k.limit }
+
+-- of a journal that is told, which may have grown
+pub record LinePasses (k l : Known) (y : Story) (line : Line) (t : Turn) (after : Session) (old new : Journal) : Type 0 where
+  pub grows : IsPrefix old new
+  pub passes : Passes (setting_of k) new y line t
+  pub session : after ≡ session_after (setting_of k) new y.session line t
+  pub shown : low_after y.low line t ≤ l.seen
+
+-- a story that the backend's client may have been told: no number above what it has seen
+pub record MayBeTold (k : Known) (y : Story) : Type 0 where
+  pub seen : y.low ≤ k.seen
+  pub before : y.begun ≤ y.low
+
+-- Whatever was shown before, if no number was above what is seen, the answer passes, where the backend tells its journal.
+abbrev pub IsExplained : Known → Known → Session → Line → Result Turn SessionError → Session → Type 0
+IsExplained k l s line (Ok t) after =
+    (low begun : ℕ) → MayBeTold k (record { low = low; begun = begun; session = s })
+    → WhereTold (LinePasses k l (record { low = low; begun = begun; session = s }) line t after) k.journal l.journal
+IsExplained k l s line (Err e) after = Unit {0}
+
+-- ---- worked lines
+
+-- a number that is named by `at` shows nothing, and the number at which `look` ran does
+at-shows-nothing : (outcome : Outcome) → low_by 3 (reply.At 5 outcome) ≡ 3
+at-shows-nothing outcome = refl
+
+look-shows : (outcome : Outcome) → looked_at 3 (reply.At 5 outcome) ≡ 5
+look-shows outcome = refl
+
+-- `late` shows nothing
+late-shows-nothing : low_by 3 (reply.Late 4 9) ≡ 3
+late-shows-nothing = refl
+
+-- a commit takes a seq
+commit-takes-a-seq : (s : Session) (outcome : Outcome) → (ended s (reply.Commit 7 outcome)).seq ≡ s.seq + 1
+commit-takes-a-seq s outcome = refl

@@ -1,0 +1,9 @@
+pub mod Errors
+pub mod Words
+pub mod Bodies
+pub mod Lines
+pub mod Phases
+pub mod Holding
+pub mod Reading
+pub mod Leading
+pub mod Explained

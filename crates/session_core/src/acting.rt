@@ -1,0 +1,102 @@
+//! What a line does.
+
+ghost use Rattle.std.specs.Prelude.{◌≡◌, ◌≤◌, ◌<◌, ◌-◌, ◌^◌, length, ◌∷◌, [], IfOk};
+ghost use Rattle.session_core.specs.Lines.{line_of};
+ghost use Rattle.session_core.specs.Phases.{start};
+ghost use Rattle.session_core.specs.Holding.{Attends, BodyIsReady};
+ghost use Rattle.session_core.specs.Leading.{Went, turn_of};
+
+use crate::error::SessionError;
+use crate::line::Line;
+use crate::looking::look;
+use crate::reading::read_line;
+use crate::session::Session;
+use crate::turn::{ReplyList, Turn};
+use crate::verbs::{begin, commit, give_up, go, step};
+use dio_core::LONGEST_LINE;
+use docc_prepare::Backend;
+use session_text::Reply;
+use std::alloc::{AllocError, Global};
+
+/// Memory for one reply, which stands in its place.
+fn place(alloc: Global) -> Result<ReplyList, AllocError>
+    ensures { IfOk result (λ place. length place ≡ 1) }
+{
+    let mut place = ReplyList::new(alloc);
+    place.push(Reply::Idle)?;
+    Ok(place)
+}
+
+/// One reply, in the memory that was taken for it.
+fn placed(place: ReplyList, reply: Reply) -> ReplyList
+    requires { length place ≡ 1 }
+    ensures { result ≡ reply ∷ [] }
+{
+    let mut place = place;
+    place.set(0, reply);
+    place
+}
+
+/// The turn of a line with one reply.
+fn said(place: ReplyList, reply: Result<Reply, SessionError>) -> Result<Turn, SessionError>
+    requires { length place ≡ 1 }
+    ensures { result ≡ turn_of reply }
+{
+    match reply {
+        Ok(reply) => Ok(Turn::Replies(placed(place, reply))),
+        Err(error) => Err(error),
+    }
+}
+
+/// Does what a line asks for. The memory for its reply is taken before.
+fn act<B: Backend>(
+    alloc: Global,
+    backend: &mut B,
+    session: &mut Session,
+    line: Line,
+) -> Result<Turn, SessionError>
+    requires attends { Attends (B.known backend.old) session.old }
+    requires ready { BodyIsReady line }
+    requires room { session.old.seq < 2 ^ 64 - 1 }
+    ensures went { Went B.known B.goes backend.old (start (B.known backend.old).shards (B.known backend.old).seen session.old line) result backend.new session.new }
+    ensures home { B.home backend.new ≡ B.home backend.old }
+{
+    let place = place(alloc)?;
+    match line {
+        Line::Quiet => Ok(Turn::Quiet),
+        Line::Unbuilt => Ok(Turn::Unbuilt),
+        Line::Refused(reason) => said(place, Ok(Reply::Refused(reason))),
+        Line::Begin(body) => said(place, begin(alloc, backend, session, body)),
+        Line::Try(tries, body) => said(place, commit(alloc, backend, session, tries, body)),
+        Line::Step => said(place, step(alloc, backend, session)),
+        Line::Go => said(place, go(alloc, backend, session)),
+        Line::Drop => said(place, Ok(give_up(session))),
+        Line::Look(body) => said(place, look(alloc, backend, session, None, &body)),
+        Line::At(number, body) => said(place, look(alloc, backend, session, Some(number), &body)),
+        Line::Seen => said(place, Ok(Reply::Seen(backend.seen()))),
+        Line::Quit => {
+            session.attempt = None;
+            Ok(Turn::Ended(placed(place, Reply::Dropped)))
+        }
+    }
+}
+
+/// Does a line of a session that isn't over.
+pub fn turn<B: Backend>(
+    alloc: Global,
+    backend: &mut B,
+    session: &mut Session,
+    bytes: &[u8],
+) -> Result<Turn, SessionError>
+    requires attends { Attends (B.known backend.old) session.old }
+    requires short { length bytes.now ≤ LONGEST_LINE }
+    ensures went { Went B.known B.goes backend.old (start (B.known backend.old).shards (B.known backend.old).seen session.old (line_of bytes.now)) result backend.new session.new }
+    ensures attends { IfOk result (λ turn. Attends (B.known backend.new) session.new) }
+    ensures home { B.home backend.new ≡ B.home backend.old }
+{
+    if session.seq == u64::MAX {
+        return Err(SessionError::NoMemory);
+    }
+    let line = read_line(alloc, bytes)?;
+    act(alloc, backend, session, line)
+}

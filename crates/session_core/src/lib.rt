@@ -1,0 +1,35 @@
+//! Sessions over any backend: a session does the lines of one client. It reads what a line asks for, drives the client's attempt
+//! by calls of a backend, and answers replies. It stands on `session_text` (the texts of lines and replies), on the language
+//! (`txn_parse`, `txn_lang`) and on `docc_prepare` (attempts, and what every backend promises); a script and a server cut input
+//! into lines, hand each to a session, and print what it answers.
+//!
+//! Read first `specs/Phases` (what a line does, as a machine of phases) and `specs/Leading` (the steps of a line over a backend).
+//! `specs/Explained` says which replies a journal explains; no law ties it to the code yet.
+#![tactic(auto)]
+
+mod acting;
+mod body;
+mod driving;
+mod error;
+mod event;
+mod laws;
+mod limits;
+mod line;
+mod lines;
+mod looking;
+mod moved;
+mod reading;
+mod session;
+mod turn;
+mod verbs;
+mod words;
+
+pub use body::body_of;
+pub use error::SessionError;
+pub use laws::verbs_are_forms;
+pub use limits::{MOST_CALLS, MOST_EVENTS};
+pub use line::Line;
+pub use reading::read_line;
+pub use session::Session;
+pub use turn::{ReplyList, Turn};
+pub use words::{is_quiet, trimmed_end, trimmed_start};

@@ -1,0 +1,63 @@
+//! A session, line by line.
+
+ghost use Rattle.std.specs.Prelude.{◌≡◌, ◌≤◌, ◌+◌, length, None, Some, Err};
+ghost use Rattle.session_core.specs.Lines.{line_of};
+ghost use Rattle.session_core.specs.Phases.{start};
+ghost use Rattle.session_core.specs.Holding.{Follows};
+ghost use Rattle.session_core.specs.Leading.{Went, AnswersAgain};
+
+use crate::acting::turn;
+use crate::error::SessionError;
+use crate::session::Session;
+use crate::turn::Turn;
+use dio_core::LONGEST_LINE;
+use docc_prepare::Backend;
+use std::alloc::Global;
+
+impl Session {
+    /// The session of a client that has no commit, where so many commits are seen.
+    pub fn new(client: u32, at: u64) -> Session
+        ensures { result ≡ record { client = client; seq = 1; at = at; attempt = None; over = None } }
+    {
+        Session {
+            client,
+            seq: 1,
+            at,
+            attempt: None,
+            over: None,
+        }
+    }
+
+    /// Does a line. After an error the session is over.
+    pub fn line<B: Backend>(
+        &mut self,
+        alloc: Global,
+        backend: &mut B,
+        bytes: &[u8],
+    ) -> Result<Turn, SessionError>
+        requires follows { Follows (B.known backend.old) self.old }
+        requires short { length bytes.now ≤ LONGEST_LINE }
+
+        // It goes the way of the machine of phases, by steps of the backend's relation, and answers what stands at its end.
+        ensures went { self.old.over ≡ None → Went B.known B.goes backend.old (start (B.known backend.old).shards (B.known backend.old).seen self.old (line_of bytes.now)) result backend.new self.new }
+
+        // The next line may follow.
+        ensures follows { Follows (B.known backend.new) self.new }
+
+        // After an error it is over, and then it answers that error again.
+        ensures over { (e : SessionError) → result ≡ Err e → self.new.over ≡ Some e }
+        ensures again { (e : SessionError) → self.old.over ≡ Some e → AnswersAgain e result backend.old backend.new self.old self.new }
+
+        // The backend stays where it stands.
+        ensures home { B.home backend.new ≡ B.home backend.old }
+    {
+        if let Some(error) = self.over {
+            return Err(error);
+        }
+        let turn = turn(alloc, backend, self, bytes);
+        if let Err(error) = &turn {
+            self.over = Some(*error);
+        }
+        turn
+    }
+}

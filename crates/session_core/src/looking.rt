@@ -1,0 +1,97 @@
+//! Looks: runs on a prefix of the journal, by reads at its number.
+
+ghost use Rattle.std.specs.Prelude.{◌≡◌, ◌≤◌};
+ghost use Rattle.docc_prepare.specs.Calls.{value_answered};
+ghost use Rattle.session_core.specs.Phases.{Phase};
+ghost use Rattle.session_core.specs.Holding.{Attends};
+ghost use Rattle.session_core.specs.Leading.{Replies, LooksAt, Valued};
+
+use crate::error::SessionError;
+use crate::limits::MOST_EVENTS;
+use crate::session::Session;
+use docc_prepare::{Backend, ReadAtError};
+use rdt_types::{Address, Value};
+use session_text::Reply;
+use std::alloc::{AllocError, Global};
+use txn_eval::{Step, run};
+use txn_lang::{Checked, Snap, Snaps};
+
+/// What an answered read at a number comes to: a value more, or a reply.
+fn valued(
+    snaps: &mut Snaps,
+    address: Address,
+    number: u64,
+    answer: Result<Value, ReadAtError>,
+) -> Result<Option<Reply>, SessionError>
+    ensures { Valued snaps.old address number (value_answered answer) result snaps.new }
+{
+    match answer {
+        Ok(value) => match snaps.insert(
+            address,
+            Snap {
+                base: number,
+                value,
+            },
+        ) {
+            Ok(()) => Ok(None),
+            Err(AllocError) => Err(SessionError::NoMemory),
+        },
+        Err(error) => match error {
+            ReadAtError::Late(named, horizon) => Ok(Some(Reply::Late(named, horizon))),
+            ReadAtError::Fault => Err(SessionError::StoreFault),
+            ReadAtError::NoMemory => Err(SessionError::NoMemory),
+        },
+    }
+}
+
+/// Runs a body on the prefix of so many commits.
+fn look_at<B: Backend>(
+    alloc: Global,
+    backend: &mut B,
+    session: &Session,
+    number: u64,
+    body: &Checked,
+) -> Result<Reply, SessionError>
+    requires attends { Attends (B.known backend.old) session.now }
+    requires seen { number ≤ (B.known backend.old).seen }
+    ensures looks { LooksAt B.known B.goes session.now number body.now backend.old result backend.new }
+    ensures home { B.home backend.new ≡ B.home backend.old }
+{
+    let mut snaps = Snaps::new(alloc);
+    for _ in 0..MOST_EVENTS {
+        match run(alloc, body, &snaps)? {
+            Step::Done(run) => return Ok(Reply::At(number, run.outcome)),
+            Step::Need(address) => {
+                let answer = backend.read_at(&address, number);
+                if let Some(reply) = valued(&mut snaps, address, number, answer)? {
+                    return Ok(reply);
+                }
+            }
+        }
+    }
+    Err(SessionError::NoMemory)
+}
+
+/// Runs a body on the prefix of so many commits, or on all that is seen now.
+pub fn look<B: Backend>(
+    alloc: Global,
+    backend: &mut B,
+    session: &Session,
+    upto: Option<u64>,
+    body: &Checked,
+) -> Result<Reply, SessionError>
+    requires attends { Attends (B.known backend.old) session.now }
+    ensures replies { Replies B.known B.goes backend.old (Phase.looking session.now upto body.now) result backend.new session.now }
+    ensures home { B.home backend.new ≡ B.home backend.old }
+{
+    let seen = backend.refresh()?;
+    match upto {
+        None => look_at(alloc, backend, session, seen, body),
+        Some(number) => {
+            if seen < number {
+                return Ok(Reply::Ahead(number, seen));
+            }
+            look_at(alloc, backend, session, number, body)
+        }
+    }
+}

@@ -1,0 +1,113 @@
+//! Reading a line: what it asks for.
+
+ghost use Rattle.std.specs.Prelude.{◌≡◌, ◌≤◌, length, false, true, IfOk};
+ghost use Rattle.session_text.specs.Bodies.{IsWithin};
+ghost use Rattle.session_core.specs.Lines as spec;
+ghost use Rattle.session_core.specs.Holding.{BodyIsReady};
+ghost use Rattle.session_core.specs.Reading.{ReadsLine};
+
+use crate::body::body_of;
+use crate::line::Line;
+use crate::words::{is_quiet, trimmed_start};
+use dio_core::LONGEST_LINE;
+use plain_data::OrNoMemory;
+use session_text::{Verb, VerbError, Why, read_verb};
+use std::alloc::{AllocError, Global};
+
+/// `begin`.
+fn begin(alloc: Global, text: &[u8]) -> Result<Line, AllocError>
+    requires { length text.now ≤ LONGEST_LINE }
+    ensures { ReadsLine result (spec.of_begin text.now) }
+{
+    match body_of(alloc, text, false) {
+        Ok(body) => Ok(Line::Begin(body)),
+        Err(OrNoMemory::Cause(reason)) => Ok(Line::Refused(reason)),
+        Err(OrNoMemory::NoMemory) => Err(AllocError),
+    }
+}
+
+/// `do` and `try`.
+fn try_times(alloc: Global, tries: u8, text: &[u8]) -> Result<Line, AllocError>
+    requires { length text.now ≤ LONGEST_LINE }
+    ensures { ReadsLine result (spec.of_try tries text.now) }
+{
+    match body_of(alloc, text, false) {
+        Ok(body) => Ok(Line::Try(tries, body)),
+        Err(OrNoMemory::Cause(reason)) => Ok(Line::Refused(reason)),
+        Err(OrNoMemory::NoMemory) => Err(AllocError),
+    }
+}
+
+/// `look`.
+fn look(alloc: Global, text: &[u8]) -> Result<Line, AllocError>
+    requires { length text.now ≤ LONGEST_LINE }
+    ensures { ReadsLine result (spec.of_look text.now) }
+{
+    match body_of(alloc, text, true) {
+        Ok(body) => Ok(Line::Look(body)),
+        Err(OrNoMemory::Cause(reason)) => Ok(Line::Refused(reason)),
+        Err(OrNoMemory::NoMemory) => Err(AllocError),
+    }
+}
+
+/// `at`.
+fn look_at(alloc: Global, number: u64, text: &[u8]) -> Result<Line, AllocError>
+    requires { length text.now ≤ LONGEST_LINE }
+    ensures { ReadsLine result (spec.of_at number text.now) }
+{
+    match body_of(alloc, text, true) {
+        Ok(body) => Ok(Line::At(number, body)),
+        Err(OrNoMemory::Cause(reason)) => Ok(Line::Refused(reason)),
+        Err(OrNoMemory::NoMemory) => Err(AllocError),
+    }
+}
+
+/// `watch`.
+fn watch(alloc: Global, text: &[u8]) -> Result<Line, AllocError>
+    requires { length text.now ≤ LONGEST_LINE }
+    ensures { ReadsLine result (spec.of_watch text.now) }
+{
+    match body_of(alloc, text, true) {
+        Ok(_) => Ok(Line::Unbuilt),
+        Err(OrNoMemory::Cause(reason)) => Ok(Line::Refused(reason)),
+        Err(OrNoMemory::NoMemory) => Err(AllocError),
+    }
+}
+
+/// What a verb asks for.
+fn of_verb(alloc: Global, verb: &Verb) -> Result<Line, AllocError>
+    requires { IsWithin LONGEST_LINE verb.now }
+    ensures { ReadsLine result (spec.of_verb verb.now) }
+{
+    match verb {
+        Verb::Begin(text) => begin(alloc, text.as_slice()),
+        Verb::Do(text) => try_times(alloc, 1, text.as_slice()),
+        Verb::Try(tries, text) => try_times(alloc, *tries, text.as_slice()),
+        Verb::Look(text) => look(alloc, text.as_slice()),
+        Verb::At(number, text) => look_at(alloc, *number, text.as_slice()),
+        Verb::Watch(_, text) => watch(alloc, text.as_slice()),
+        Verb::Step => Ok(Line::Step),
+        Verb::Go => Ok(Line::Go),
+        Verb::Drop => Ok(Line::Drop),
+        Verb::Seen => Ok(Line::Seen),
+        Verb::Quit => Ok(Line::Quit),
+        Verb::Unwatch(_) => Ok(Line::Unbuilt),
+        Verb::Sync => Ok(Line::Unbuilt),
+        Verb::Wait => Ok(Line::Unbuilt),
+    }
+}
+
+/// What a line asks for.
+pub fn read_line(alloc: Global, bytes: &[u8]) -> Result<Line, AllocError>
+    requires { length bytes.now ≤ LONGEST_LINE }
+    ensures { ReadsLine result (spec.line_of bytes.now) }
+{
+    if is_quiet(trimmed_start(bytes)) {
+        return Ok(Line::Quiet);
+    }
+    match read_verb(alloc, bytes) {
+        Ok(verb) => of_verb(alloc, &verb),
+        Err(VerbError::BadVerb) => Ok(Line::Refused(Why::Verb)),
+        Err(VerbError::NoMemory) => Err(AllocError),
+    }
+}

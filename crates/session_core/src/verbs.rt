@@ -1,0 +1,137 @@
+//! The verbs of a session, each with one reply.
+
+ghost use Rattle.std.specs.Prelude.{◌≡◌, ◌<◌, ◌^◌, ◌-◌};
+ghost use Rattle.session_core.specs.Phases as spec;
+ghost use Rattle.session_core.specs.Phases.{start, seq_after};
+ghost use Rattle.session_core.specs.Holding.{Attends, IsReady};
+ghost use Rattle.session_core.specs.Leading.{Replies, Drops};
+
+use crate::driving::{drive, try_times};
+use crate::error::SessionError;
+use crate::event::event;
+use crate::line::Line;
+use crate::moved::{Ended, Moved};
+use crate::session::Session;
+use docc_prepare::{Attempt, Backend};
+use session_text::{Reply, Why};
+use std::alloc::Global;
+use txn_lang::Checked;
+
+/// The seq after a reply: a commit takes one.
+fn next_seq(seq: u64, reply: &Reply) -> u64
+    requires { seq < 2 ^ 64 - 1 }
+    ensures { result ≡ seq_after seq reply.now }
+{
+    match reply {
+        Reply::Commit(_, _) => seq + 1,
+        _ => seq,
+    }
+}
+
+/// An attempt at a body, of which nothing is read.
+fn opened<B: Backend>(alloc: Global, backend: &B, body: Checked) -> Attempt
+    ensures { result ≡ spec.opened (B.known backend.now).shards body }
+{
+    Attempt::begin(alloc, body, backend.shards())
+}
+
+/// `begin`: a refresh, and an attempt is open.
+pub fn begin<B: Backend>(
+    alloc: Global,
+    backend: &mut B,
+    session: &mut Session,
+    body: Checked,
+) -> Result<Reply, SessionError>
+    requires attends { Attends (B.known backend.old) session.old }
+    requires ready { IsReady body }
+    ensures replies { Replies B.known B.goes backend.old (start (B.known backend.old).shards (B.known backend.old).seen session.old (Line.Begin body)) result backend.new session.new }
+    ensures home { B.home backend.new ≡ B.home backend.old }
+{
+    if session.attempt.is_some() {
+        return Ok(Reply::Refused(Why::Busy));
+    }
+    let attempt = opened(alloc, backend, body);
+    let seen = backend.refresh()?;
+    session.attempt = Some(attempt);
+    Ok(Reply::Seen(seen))
+}
+
+/// `do` and `try`: attempts, until one doesn't end in an abort.
+pub fn commit<B: Backend>(
+    alloc: Global,
+    backend: &mut B,
+    session: &mut Session,
+    tries: u8,
+    body: Checked,
+) -> Result<Reply, SessionError>
+    requires attends { Attends (B.known backend.old) session.old }
+    requires ready { IsReady body }
+    requires room { session.old.seq < 2 ^ 64 - 1 }
+    ensures replies { Replies B.known B.goes backend.old (start (B.known backend.old).shards (B.known backend.old).seen session.old (Line.Try tries body)) result backend.new session.new }
+    ensures home { B.home backend.new ≡ B.home backend.old }
+{
+    if session.attempt.is_some() {
+        return Ok(Reply::Refused(Why::Busy));
+    }
+    let attempt = opened(alloc, backend, body);
+    let reply = try_times(alloc, backend, session, tries, attempt)?;
+    session.seq = next_seq(session.seq, &reply);
+    Ok(reply)
+}
+
+/// `step`: one event of the open attempt.
+pub fn step<B: Backend>(
+    alloc: Global,
+    backend: &mut B,
+    session: &mut Session,
+) -> Result<Reply, SessionError>
+    requires attends { Attends (B.known backend.old) session.old }
+    requires room { session.old.seq < 2 ^ 64 - 1 }
+    ensures replies { Replies B.known B.goes backend.old (start (B.known backend.old).shards (B.known backend.old).seen session.old Line.Step) result backend.new session.new }
+    ensures home { B.home backend.new ≡ B.home backend.old }
+{
+    match session.attempt.take() {
+        None => Ok(Reply::Refused(Why::NoAttempt)),
+        Some(attempt) => match event(alloc, backend, session, attempt)? {
+            Moved::More(attempt, reply) => {
+                session.attempt = Some(attempt);
+                Ok(reply)
+            }
+            Moved::End(_, reply) => {
+                session.seq = next_seq(session.seq, &reply);
+                Ok(reply)
+            }
+        },
+    }
+}
+
+/// `go`: events of the open attempt until its end.
+pub fn go<B: Backend>(
+    alloc: Global,
+    backend: &mut B,
+    session: &mut Session,
+) -> Result<Reply, SessionError>
+    requires attends { Attends (B.known backend.old) session.old }
+    requires room { session.old.seq < 2 ^ 64 - 1 }
+    ensures replies { Replies B.known B.goes backend.old (start (B.known backend.old).shards (B.known backend.old).seen session.old Line.Go) result backend.new session.new }
+    ensures home { B.home backend.new ≡ B.home backend.old }
+{
+    match session.attempt.take() {
+        None => Ok(Reply::Refused(Why::NoAttempt)),
+        Some(attempt) => {
+            let Ended { reply, .. } = drive(alloc, backend, session, attempt)?;
+            session.seq = next_seq(session.seq, &reply);
+            Ok(reply)
+        }
+    }
+}
+
+/// `drop`: the open attempt is given up.
+pub fn give_up(session: &mut Session) -> Reply
+    ensures { Drops session.old result session.new }
+{
+    match session.attempt.take() {
+        None => Reply::Refused(Why::NoAttempt),
+        Some(_) => Reply::Dropped,
+    }
+}
