@@ -9,3 +9,4 @@ pub mod Phases
 pub mod Steps
 pub mod Starts
 pub mod Ends
+pub mod Faults

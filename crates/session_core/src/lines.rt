@@ -1,6 +1,7 @@
 //! A session, line by line.
 
-ghost use Rattle.std.specs.Prelude.{◌≡◌, ◌≤◌, ◌+◌, length, None, Some, Err};
+ghost use Rattle.std.specs.Prelude.{◌⊎◌, ◌≡◌, ◌≤◌, ◌+◌, length, None, Some, Err};
+ghost use Rattle.dio_core.specs.Counts.{Rose};
 ghost use Rattle.session_core.specs.Lines.{line_of};
 ghost use Rattle.session_core.specs.Phases.{start};
 ghost use Rattle.session_core.specs.Holding.{Follows};
@@ -47,6 +48,9 @@ impl Session {
         // After an error it is over, and then it answers that error again.
         ensures over { (e : SessionError) → result ≡ Err e → self.new.over ≡ Some e }
         ensures again { (e : SessionError) → self.old.over ≡ Some e → AnswersAgain e result backend.old backend.new self.old self.new }
+
+        // A fault of the store is counted by the store.
+        ensures fault { result ≡ Err SessionError.StoreFault → (self.old.over ≡ Some SessionError.StoreFault) ⊎ Rose (B.known backend.old).faults (B.known backend.new).faults }
 
         // The backend stays where it stands.
         ensures home { B.home backend.new ≡ B.home backend.old }

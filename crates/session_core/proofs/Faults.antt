@@ -1,0 +1,120 @@
+-- The backend's count of faults along a line: it rises where a line breaks by a fault, and nowhere else.
+use Rattle.std.proofs.Common.{◌≡◌, ℕ, zero, suc, Bool, true, false, cond, [], Option, Some, None, Result, Ok, Err, refl, sym, ◌∙◌, subst}
+use Rattle.std.specs.Prelude.{nat_lt}
+use Rattle.dio_core.specs.Counts.{Rose, IsCounted}
+use Rattle.session_text.specs.declared.reply.Reply.{Reply}
+use Rattle.session_text.specs.declared.reply.Reply.TheVariants as reply
+use Rattle.txn_lang.specs.declared.checked.Checked.{Checked}
+use Rattle.txn_lang.specs.Execution.{Ran, need, done, exec}
+use Rattle.txn_eval.specs.Running.{values_of}
+use Rattle.docc_prepare.specs.declared.attempt.Attempt.{Attempt}
+use Rattle.docc_prepare.specs.Attempts.{SnapList}
+use Rattle.docc_prepare.specs.Calls.{Known, Call, Answer, is_fault}
+use Rattle.docc_prepare.specs.Calls.Answer.{number, value, late}
+use Rattle.docc_prepare.specs.Backends.{Goes}
+use Rattle.session_core.specs.declared.error.SessionError.{SessionError}
+use Rattle.session_core.specs.declared.error.SessionError.TheVariants as error
+use Rattle.session_core.specs.declared.line.Line.{Line}
+use Rattle.session_core.specs.declared.line.Line.TheVariants as asked
+use Rattle.session_core.specs.declared.moved.Moved.{Moved}
+use Rattle.session_core.specs.declared.moved.Moved.TheVariants as moved
+use Rattle.session_core.specs.declared.session.Session.{Session}
+use Rattle.session_core.specs.declared.turn.Turn.{Turn}
+use Rattle.session_core.specs.Phases.{Phase, with_attempt, said, stepped, after_end, gone, look_by, look_on, look_from, moved_by, asks, after, start}
+use Rattle.session_core.specs.Leading.{Leads, Went}
+use Rattle.session_core.proofs.Steps.{moved-failed}
+
+abbrev FaultsBy : Phase → ℕ → ℕ → Type 0
+FaultsBy (Phase.broken true) old new = Rose old new
+FaultsBy p old new = new ≡ old
+
+no-fault : (a : Attempt) (answer : Answer) (m : Moved) → moved_by a answer ≡ Some m → is_fault answer ≡ false
+no-fault a (Answer.failed f) m e = absurd (let h : None ≡ Some m = sym (moved-failed a f) ∙ e in cc)
+no-fault a answer m e = refl
+
+module _ (old new : ℕ) where
+  breaks : (f : Bool) → IsCounted f old new → FaultsBy (Phase.broken f) old new
+  breaks true h = h
+  breaks false h = h
+
+  look-same : (s : Session) (n : ℕ) (body : Checked) (snaps : SnapList) (r : Ran) → new ≡ old → FaultsBy (look_by s n body snaps r) old new
+  look-same s n body snaps (need address) e = e
+  look-same s n body snaps (done run) e = e
+
+  from-same : (s : Session) (seen : ℕ) (upto : Option ℕ) (body : Checked) → new ≡ old → FaultsBy (look_from s seen upto body) old new
+  from-same s seen None body e = look-same s seen body [] (exec body.body (values_of [])) e
+  from-same s seen (Some n) body e = by (nat_lt seen n)
+    where
+      by : (x : Bool) → FaultsBy (cond x (Phase.over s (said (reply.Ahead n seen))) (look_on s n body [])) old new
+      by true = e
+      by false = look-same s n body [] (exec body.body (values_of [])) e
+
+  end-same : (s : Session) (left : ℕ) (a : Attempt) (r : Reply) → new ≡ old → FaultsBy (after_end s left a r) old new
+  end-same s (suc left) a (reply.Abort w) e = e
+  end-same s zero a r e = e
+  end-same s (suc left) a r e = e
+
+  stepped-counted : (s : Session) (f : Bool) (o : Option Moved) → ((m : Moved) → o ≡ Some m → f ≡ false) → IsCounted f old new → FaultsBy (stepped s f o) old new
+  stepped-counted s f None whole h = breaks f h
+  stepped-counted s f (Some (moved.More a r)) whole h = subst (λ x. IsCounted x old new) (whole (moved.More a r) refl) h
+  stepped-counted s f (Some (moved.End a r)) whole h = subst (λ x. IsCounted x old new) (whole (moved.End a r) refl) h
+
+  gone-counted : (s : Session) (left : ℕ) (f : Bool) (o : Option Moved) → ((m : Moved) → o ≡ Some m → f ≡ false) → IsCounted f old new → FaultsBy (gone s left f o) old new
+  gone-counted s left f None whole h = breaks f h
+  gone-counted s left f (Some (moved.More a r)) whole h = subst (λ x. IsCounted x old new) (whole (moved.More a r) refl) h
+  gone-counted s left f (Some (moved.End a r)) whole h = end-same s left a r (subst (λ x. IsCounted x old new) (whole (moved.End a r) refl) h)
+
+  after-counted : (q : Phase) (call : Call) (answer : Answer) → asks q ≡ Some call → IsCounted (is_fault answer) old new → FaultsBy (after q answer) old new
+  after-counted (Phase.stepping s a) call answer e h = stepped-counted s (is_fault answer) (moved_by a answer) (no-fault a answer) h
+  after-counted (Phase.going s left a) call answer e h = gone-counted s left (is_fault answer) (moved_by a answer) (no-fault a answer) h
+  after-counted (Phase.beginning s a) call (number n) e h = h
+  after-counted (Phase.beginning s a) call answer e h = breaks (is_fault answer) h
+  after-counted (Phase.trying s left a) call (number n) e h = h
+  after-counted (Phase.trying s left a) call answer e h = breaks (is_fault answer) h
+  after-counted (Phase.looking s upto body) call (number n) e h = from-same s n upto body h
+  after-counted (Phase.looking s upto body) call answer e h = breaks (is_fault answer) h
+  after-counted (Phase.looked s n body snaps address) call (value v) e h = look-same s n body _ (exec body.body (values_of _)) h
+  after-counted (Phase.looked s n body snaps address) call (late m horizon) e h = h
+  after-counted (Phase.looked s n body snaps address) call answer e h = breaks (is_fault answer) h
+  after-counted (Phase.over s t) call answer e h = absurd (cc)
+  after-counted (Phase.broken f) call answer e h = absurd (cc)
+
+asked-same : (old new : ℕ) (q : Phase) (call : Call) → asks q ≡ Some call → FaultsBy q old new → new ≡ old
+asked-same old new (Phase.over s t) call e h = absurd (cc)
+asked-same old new (Phase.broken f) call e h = absurd (cc)
+asked-same old new q call e h = h
+
+start-same : (n shards seen : ℕ) (s : Session) (o : Option Attempt) (l : Line) → FaultsBy (start shards seen (with_attempt s o) l) n n
+start-same n shards seen s o asked.Quiet = refl
+start-same n shards seen s o asked.Unbuilt = refl
+start-same n shards seen s o (asked.Refused reason) = refl
+start-same n shards seen s None (asked.Begin body) = refl
+start-same n shards seen s (Some a) (asked.Begin body) = refl
+start-same n shards seen s None (asked.Try tries body) = refl
+start-same n shards seen s (Some a) (asked.Try tries body) = refl
+start-same n shards seen s None asked.Step = refl
+start-same n shards seen s (Some a) asked.Step = refl
+start-same n shards seen s None asked.Go = refl
+start-same n shards seen s (Some a) asked.Go = refl
+start-same n shards seen s None asked.Drop = refl
+start-same n shards seen s (Some a) asked.Drop = refl
+start-same n shards seen s o (asked.Look body) = refl
+start-same n shards seen s o (asked.At upto body) = refl
+start-same n shards seen s o asked.Seen = refl
+start-same n shards seen s o asked.Quit = refl
+
+module _ {B : Type 0} (known : B → Known) (goes : B → Call → Answer → B → Type 0) where
+  led-counted : (b : B) (p : Phase) (n : ℕ) (c : B) (q : Phase) → FaultsBy p (known b).faults (known b).faults → Leads (Goes known goes) b p n c q → FaultsBy q (known b).faults (known c).faults
+  led-counted b p n c q h Leads.stays = h
+  led-counted b p k c r h (Leads.by_step {n = m} {c = c'} {q = q'} call answer led asked step is) =
+      let same = asked-same (known b).faults (known c').faults q' call asked (led-counted b p m c' q' h led) in
+      subst (λ x. FaultsBy x (known b).faults (known c).faults) is
+      (after-counted (known b).faults (known c).faults q' call answer asked (subst (λ (x : ℕ). IsCounted (is_fault answer) x (known c).faults) same step.answered.goes_on.faults))
+
+  -- where a line answers a fault, it was counted
+  pub went-fault : (b : B) (s : Session) (l : Line) (r : Result Turn SessionError) (c : B) (t : Session) → Went known goes b (start (known b).shards (known b).seen s l) r c t → r ≡ Err error.StoreFault
+      → Rose (known b).faults (known c).faults
+  went-fault b s l (Ok turn) c t went e = absurd (cc)
+  went-fault b s l (Err x) c t went e = let fault : x ≡ error.StoreFault = cc in
+      subst (λ q. FaultsBy q (known b).faults (known c).faults) (went.cause fault)
+      (led-counted b (start (known b).shards (known b).seen s l) went.count c went.phase (start-same (known b).faults (known b).shards (known b).seen s s.attempt l) went.leads)
