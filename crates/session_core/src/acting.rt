@@ -58,7 +58,9 @@ fn act<B: Backend>(
     requires attends { Attends (B.known backend.old) session.old }
     requires ready { BodyIsReady line }
     requires room { session.old.seq < 2 ^ 64 - 1 }
-    ensures went { Went B.known B.goes backend.old (start (B.known backend.old).shards (B.known backend.old).seen session.old line) result backend.new session.new }
+    ensures went { Went B.known B.goes backend.old
+        (start (B.known backend.old).shards (B.known backend.old).seen session.old line)
+        result backend.new session.new }
     ensures home { B.home backend.new ≡ B.home backend.old }
 {
     let place = place(alloc)?;
@@ -90,7 +92,9 @@ pub fn turn<B: Backend>(
 ) -> Result<Turn, SessionError>
     requires attends { Attends (B.known backend.old) session.old }
     requires short { length bytes.now ≤ LONGEST_LINE }
-    ensures went { Went B.known B.goes backend.old (start (B.known backend.old).shards (B.known backend.old).seen session.old (line_of bytes.now)) result backend.new session.new }
+    ensures went { Went B.known B.goes backend.old
+        (start (B.known backend.old).shards (B.known backend.old).seen session.old (line_of bytes.now))
+        result backend.new session.new }
     ensures attends { IfOk result (λ turn. Attends (B.known backend.new) session.new) }
     ensures home { B.home backend.new ≡ B.home backend.old }
 {

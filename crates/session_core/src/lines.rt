@@ -40,7 +40,9 @@ impl Session {
         requires short { length bytes.now ≤ LONGEST_LINE }
 
         // It goes the way of the machine of phases, by steps of the backend's relation, and answers what stands at its end.
-        ensures went { self.old.over ≡ None → Went B.known B.goes backend.old (start (B.known backend.old).shards (B.known backend.old).seen self.old (line_of bytes.now)) result backend.new self.new }
+        ensures went { self.old.over ≡ None → Went B.known B.goes backend.old
+            (start (B.known backend.old).shards (B.known backend.old).seen self.old (line_of bytes.now))
+            result backend.new self.new }
 
         // The next line may follow.
         ensures follows { Follows (B.known backend.new) self.new }
@@ -50,7 +52,8 @@ impl Session {
         ensures again { (e : SessionError) → self.old.over ≡ Some e → AnswersAgain e result backend.old backend.new self.old self.new }
 
         // A fault of the store is counted by the store.
-        ensures fault { result ≡ Err SessionError.StoreFault → (self.old.over ≡ Some SessionError.StoreFault) ⊎ Rose (B.known backend.old).faults (B.known backend.new).faults }
+        ensures fault { result ≡ Err SessionError.StoreFault
+            → (self.old.over ≡ Some SessionError.StoreFault) ⊎ Rose (B.known backend.old).faults (B.known backend.new).faults }
 
         // The backend stays where it stands.
         ensures home { B.home backend.new ≡ B.home backend.old }

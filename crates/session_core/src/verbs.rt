@@ -44,7 +44,9 @@ pub fn begin<B: Backend>(
 ) -> Result<Reply, SessionError>
     requires attends { Attends (B.known backend.old) session.old }
     requires ready { IsReady body }
-    ensures replies { Replies B.known B.goes backend.old (start (B.known backend.old).shards (B.known backend.old).seen session.old (Line.Begin body)) result backend.new session.new }
+    ensures replies { Replies B.known B.goes backend.old
+        (start (B.known backend.old).shards (B.known backend.old).seen session.old (Line.Begin body))
+        result backend.new session.new }
     ensures home { B.home backend.new ≡ B.home backend.old }
 {
     if session.attempt.is_some() {
@@ -67,7 +69,9 @@ pub fn commit<B: Backend>(
     requires attends { Attends (B.known backend.old) session.old }
     requires ready { IsReady body }
     requires room { session.old.seq < 2 ^ 64 - 1 }
-    ensures replies { Replies B.known B.goes backend.old (start (B.known backend.old).shards (B.known backend.old).seen session.old (Line.Try tries body)) result backend.new session.new }
+    ensures replies { Replies B.known B.goes backend.old
+        (start (B.known backend.old).shards (B.known backend.old).seen session.old (Line.Try tries body))
+        result backend.new session.new }
     ensures home { B.home backend.new ≡ B.home backend.old }
 {
     if session.attempt.is_some() {
@@ -87,7 +91,9 @@ pub fn step<B: Backend>(
 ) -> Result<Reply, SessionError>
     requires attends { Attends (B.known backend.old) session.old }
     requires room { session.old.seq < 2 ^ 64 - 1 }
-    ensures replies { Replies B.known B.goes backend.old (start (B.known backend.old).shards (B.known backend.old).seen session.old Line.Step) result backend.new session.new }
+    ensures replies { Replies B.known B.goes backend.old
+        (start (B.known backend.old).shards (B.known backend.old).seen session.old Line.Step)
+        result backend.new session.new }
     ensures home { B.home backend.new ≡ B.home backend.old }
 {
     match session.attempt.take() {
@@ -113,7 +119,9 @@ pub fn go<B: Backend>(
 ) -> Result<Reply, SessionError>
     requires attends { Attends (B.known backend.old) session.old }
     requires room { session.old.seq < 2 ^ 64 - 1 }
-    ensures replies { Replies B.known B.goes backend.old (start (B.known backend.old).shards (B.known backend.old).seen session.old Line.Go) result backend.new session.new }
+    ensures replies { Replies B.known B.goes backend.old
+        (start (B.known backend.old).shards (B.known backend.old).seen session.old Line.Go)
+        result backend.new session.new }
     ensures home { B.home backend.new ≡ B.home backend.old }
 {
     match session.attempt.take() {
