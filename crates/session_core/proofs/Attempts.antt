@@ -31,32 +31,11 @@ use Rattle.docc_prepare.specs.declared.attempt.Next.TheVariants as next
 use Rattle.docc_prepare.specs.Attempts.{SnapList, ran, base_in, with_base, based, in_shard, has_front, lesser, least_unprepared, next_of, next_of_run, next_event}
 use Rattle.docc_prepare.specs.Calls.{Known}
 use Rattle.docc_prepare.specs.Backends.{IsGiven, CanValidate}
+use Rattle.docc_prepare.proofs.Nexts.{needs}
 use Rattle.session_core.specs.Holding.{IsRead}
 use Rattle.txn_lang.proofs.Observed.{runs_ask_short}
 
 -- ---- what the next event says of the run
-
-pub needs : (a : Attempt) (address : Address) → next_event a ≡ next.Read address → ran a ≡ need address
-needs a address e = by (ran a) refl e
-  where
-    last : (run : Run) (o : Option ℕ) → next_of_run run o ≡ next.Read address → done run ≡ need address
-    last run None e = absurd (cc)
-    last run (Some shard) e = absurd (cc)
-
-    by : (r : Ran) → ran a ≡ r → next_of a.shards a.fronts r ≡ next.Read address → ran a ≡ need address
-    by (need b) is e = let same : b ≡ address = cc in is ∙ ap (λ c. need c) same
-    by (done run) is e = is ∙ last run (least_unprepared a.shards a.fronts run.observations) e
-
-pub appends : (a : Attempt) (run : Run) → next_event a ≡ next.Append run → ran a ≡ done run
-appends a run e = by (ran a) refl e
-  where
-    last : (other : Run) (o : Option ℕ) → next_of_run other o ≡ next.Append run → done other ≡ done run
-    last other None e = let same : other ≡ run = cc in ap (λ r. done r) same
-    last other (Some shard) e = absurd (cc)
-
-    by : (r : Ran) → ran a ≡ r → next_of a.shards a.fronts r ≡ next.Append run → ran a ≡ done run
-    by (need b) is e = absurd (cc)
-    by (done other) is e = is ∙ last other (least_unprepared a.shards a.fronts other.observations) e
 
 -- the run is done, and the shard is the least that isn't prepared
 pub record IsPreparing (a : Attempt) (shard : ℕ) (run : Run) : Type 0 where

@@ -31,7 +31,8 @@ use Rattle.session_core.specs.declared.session.Session.{Session}
 use Rattle.session_core.specs.Phases.{with_attempt, closed, within_shards, opened, afresh}
 use Rattle.session_core.specs.Holding.{IsRead, FrontsGiven, Holds, IsReady, Counts, Attends}
 use Rattle.session_core.proofs.Same.{attempt_same}
-use Rattle.session_core.proofs.Attempts.{needs, appends, prepares, least-below, each-inserted, may-validate, validate-here, few-here}
+use Rattle.docc_prepare.proofs.Nexts.{needs, appends}
+use Rattle.session_core.proofs.Attempts.{prepares, least-below, each-inserted, may-validate, validate-here, few-here}
 
 -- ---- journals
 
