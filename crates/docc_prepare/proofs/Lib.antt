@@ -8,6 +8,7 @@ pub mod Lowest
 pub mod Witnessed
 pub mod Least
 pub mod Nexts
+pub mod EachRead
 pub mod Stored
 pub mod Feeding
 pub mod Answered

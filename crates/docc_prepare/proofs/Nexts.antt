@@ -1,5 +1,5 @@
 -- What the next event says of the run.
-use Rattle.std.proofs.Common.{◌≡◌, ℕ, Option, Some, None, refl, ap, ◌∙◌}
+use Rattle.std.proofs.Common.{◌≡◌, ℕ, Option, Some, None, refl, sym, ap, ◌∙◌}
 use Rattle.rdt_types.specs.declared.address.Address.{Address}
 use Rattle.txn_lang.specs.declared.run.Run.{Run}
 use Rattle.txn_lang.specs.Execution.{Ran, need, done}
@@ -29,13 +29,21 @@ appends attempt run e = by (ran attempt) refl e
     by (need a) is e = absurd (cc)
     by (done other) is e = is ∙ last other (least_unprepared attempt.shards attempt.fronts other.observations) e
 
-pub prepares : (attempt : Attempt) (shard : ℕ) (run : Run) → next_event attempt ≡ next.Prepare shard run → ran attempt ≡ done run
-prepares attempt shard run e = by (ran attempt) refl e
-  where
-    last : (other : Run) (o : Option ℕ) → next_of_run other o ≡ next.Prepare shard run → done other ≡ done run
-    last other None e = absurd (cc)
-    last other (Some k) e = let same : other ≡ run = cc in ap (λ r. done r) same
+-- the run is done, and the shard is the least that isn't prepared
+pub record IsPreparing (a : Attempt) (shard : ℕ) (run : Run) : Type 0 where
+  pub ran : ran a ≡ done run
+  pub least : least_unprepared a.shards a.fronts run.observations ≡ Some shard
 
-    by : (r : Ran) → ran attempt ≡ r → next_of attempt.shards attempt.fronts r ≡ next.Prepare shard run → ran attempt ≡ done run
-    by (need a) is e = absurd (cc)
-    by (done other) is e = is ∙ last other (least_unprepared attempt.shards attempt.fronts other.observations) e
+pub prepares : (a : Attempt) (shard : ℕ) (run : Run) → next_event a ≡ next.Prepare shard run → IsPreparing a shard run
+prepares a shard run e = by (ran a) refl e
+  where
+    last : (other : Run) (o : Option ℕ) → next_of_run other o ≡ next.Prepare shard run → (other ≡ run) × (o ≡ Some shard)
+    last other None e = absurd (cc)
+    last other (Some k) e = let run_is : other ≡ run = cc in let shard_is : k ≡ shard = cc in (run_is, ap (λ n. Some n) shard_is)
+
+    by : (r : Ran) → ran a ≡ r → next_of a.shards a.fronts r ≡ next.Prepare shard run → IsPreparing a shard run
+    by (need b) is e = absurd (cc)
+    by (done other) is e = let parts = last other (least_unprepared a.shards a.fronts other.observations) e in record {
+      ran = is ∙ ap (λ r. done r) parts.0;
+      least = ap (λ (r : Run). least_unprepared a.shards a.fronts r.observations) (sym parts.0) ∙ parts.1;
+    }

@@ -3,10 +3,8 @@ use Rattle.std.proofs.Common.{◌≡◌, ℕ, ◌+◌, ◌-◌, ◌≤◌, Bool,
 use Rattle.std.specs.Prelude.{◌==◌, IfSome}
 use Rattle.std.specs.List.{AllByRecursion}
 use Rattle.std.specs.Map.{lookup}
-use Rattle.std.specs.BTreeMap.{insert_entry, is_at}
-use Rattle.std.specs.Ordering.{is_eq, match_ordering}
-use Rattle.std.specs.declared.cmp.Ordering.{Ordering}
-use Rattle.std.specs.declared.cmp.Ordering.TheVariants.{Less, Equal, Greater}
+use Rattle.std.specs.BTreeMap.{is_at}
+use Rattle.std.specs.Ordering.{is_eq}
 use Rattle.std.proofs.lemmas.List.{get_or-set_same}
 use Rattle.std.proofs.lemmas.Bool.Decides.{nat_tests}
 use Rattle.plain_data.proofs.Entries.{equal}
@@ -35,6 +33,7 @@ use Rattle.docc_prepare.specs.Stores.{Store, CLIENTS, first_store, front_of, see
 use Rattle.docc_prepare.specs.Worlds.{World, Event, attempt_of, holding, observed_in, append_of, call_of, taking, called, IsHeld, IsSound, EventsStaySound, IsOpened, MovesStaySound, FirstIsSound, Turn, first_world, turned, IsTurn, after_turns, AreTurns, EveryWorldIsSound}
 use Rattle.docc_prepare.proofs.Nexts.{needs, appends, prepares}
 use Rattle.docc_prepare.proofs.Each.{each-more, each-push, each-filter}
+use Rattle.docc_prepare.proofs.EachRead.{each-inserted}
 use Rattle.docc_prepare.proofs.Missing.{none-of-least}
 use Rattle.docc_prepare.proofs.Undisturbed.{observed_of_one_kind}
 use Rattle.docc_prepare.proofs.Growing.{fits_stays, legal_is_orderly}
@@ -68,18 +67,6 @@ held-saw : (s : Store) (c n : ℕ) (o : Option Attempt) → HeldMaybe s o → He
 held-saw s c n o held = maybe-grown s (saw s c n) o (saw-grown s c n) held
 
 -- ---- a read
-
--- what holds of a pair that goes in and of all others holds of all
-each-inserted : (P : Address × Snap → Type 0) (snaps : SnapList) (a : Address) (snap : Snap) → P (a, snap) → AllByRecursion P snaps
-    → AllByRecursion P (insert_entry address_cmp snaps a snap)
-each-inserted P [] a snap new all = (new, tt)
-each-inserted P (e ∷ es) a snap new all = by (each-inserted P es a snap new all.1) (address_cmp a e.0) refl
-  where
-    by : AllByRecursion P (insert_entry address_cmp es a snap) → (r : Ordering) → address_cmp a e.0 ≡ r
-        → AllByRecursion P (match_ordering r ((a, snap) ∷ e ∷ es) ((e.0, snap) ∷ es) (e ∷ insert_entry address_cmp es a snap))
-    by rest Less at = (new, all)
-    by rest Equal at = (subst (λ b. P (b, snap)) (address_cmp-equal a e.0 at) new, all.1)
-    by rest Greater at = (all.0, rest)
 
 no-fronts : (journal : Journal) (shards : ℕ) (snaps : SnapList) (fronts : List PreparedFront) (r : Ran) → fronts ≡ [] → FrontsFit journal shards snaps fronts r
 no-fronts journal shards snaps fronts (need a) e = e
@@ -213,7 +200,7 @@ events_stay_sound w c (Event.read a) s here =
 events_stay_sound w c (Event.prepare shard) s here =
     let attempt = here.0 in
     let run = here.2.0 in
-    let is = prepares attempt shard run here.2.1 in
+    let is = (prepares attempt shard run here.2.1).ran in
     let bs = in_shard attempt.shards shard (based attempt.snaps run.observations) in
     let call = Call.prepare shard bs in
     let front = front_of w.store shard in

@@ -1,26 +1,21 @@
--- Attempts: what the next event says of the run, and what is read and observed.
+-- Attempts: which shards they name, and what is read and observed.
 use Rattle.std.proofs.Common.{◌≡◌, ℕ, ◌≤◌, ◌<◌, Bool, true, false, cond, List, [], ◌∷◌, length, Option, Some, None, refl, sym, ap, ◌∙◌, subst, arith}
 use Rattle.std.specs.Prelude.{IfSome, ◌==◌}
 use Rattle.std.specs.List.{AllByRecursion}
 use Rattle.std.specs.Map.{lookup}
 use Rattle.std.specs.Option.{option_map}
-use Rattle.std.specs.BTreeMap.{insert_entry, is_at}
-use Rattle.std.specs.Ordering.{is_eq, match_ordering}
-use Rattle.std.specs.declared.cmp.Ordering.{Ordering}
-use Rattle.std.specs.declared.cmp.Ordering.TheVariants.{Less, Equal, Greater}
+use Rattle.std.specs.BTreeMap.{is_at}
 use Rattle.std.proofs.lemmas.Bool.Decides.{nat_tests}
-use Rattle.plain_data.proofs.Entries.{equal}
 use Rattle.rdt_types.specs.declared.address.Address.{Address}
 use Rattle.rdt_types.specs.Addresses.{address_cmp}
 use Rattle.rdt_types.specs.Shards.{shard_of}
 use Rattle.rdt_types.specs.Values.{kind_of}
-use Rattle.rdt_types.proofs.Addresses.{address_cmp-equal}
 use Rattle.abort_witness.specs.declared.witness.Based.{Based}
 use Rattle.abort_witness.specs.Kinds.{IsBasedOfOneKind}
 use Rattle.txn_lang.specs.declared.run.Run.{Run}
 use Rattle.txn_lang.specs.declared.run.Seen.{Seen}
 use Rattle.txn_lang.specs.declared.snaps.Snap.{Snap}
-use Rattle.txn_lang.specs.Execution.{Ran, need, done}
+use Rattle.txn_lang.specs.Execution.{done}
 use Rattle.txn_lang.specs.Observed.{IsThere}
 use Rattle.txn_lang.specs.Short.{IsShortAddress, IsShortObservation}
 use Rattle.txn_lang.proofs.Observed.{observed_is_there}
@@ -28,33 +23,13 @@ use Rattle.txn_eval.specs.Running.{values_of}
 use Rattle.journal_core.specs.declared.ready.PreparedFront.{PreparedFront}
 use Rattle.docc_prepare.specs.declared.attempt.Attempt.{Attempt}
 use Rattle.docc_prepare.specs.declared.attempt.Next.TheVariants as next
-use Rattle.docc_prepare.specs.Attempts.{SnapList, ran, base_in, with_base, based, in_shard, has_front, lesser, least_unprepared, next_of, next_of_run, next_event}
+use Rattle.docc_prepare.specs.Attempts.{SnapList, ran, base_in, with_base, based, in_shard, has_front, lesser, least_unprepared, next_event}
 use Rattle.docc_prepare.specs.Calls.{Known}
 use Rattle.docc_prepare.specs.Backends.{IsGiven, CanValidate}
 use Rattle.docc_prepare.proofs.Nexts.{needs}
+use Rattle.docc_prepare.proofs.EachRead.{found}
 use Rattle.session_core.specs.Holding.{IsRead}
 use Rattle.txn_lang.proofs.Observed.{runs_ask_short}
-
--- ---- what the next event says of the run
-
--- the run is done, and the shard is the least that isn't prepared
-pub record IsPreparing (a : Attempt) (shard : ℕ) (run : Run) : Type 0 where
-  pub ran : ran a ≡ done run
-  pub least : least_unprepared a.shards a.fronts run.observations ≡ Some shard
-
-pub prepares : (a : Attempt) (shard : ℕ) (run : Run) → next_event a ≡ next.Prepare shard run → IsPreparing a shard run
-prepares a shard run e = by (ran a) refl e
-  where
-    last : (other : Run) (o : Option ℕ) → next_of_run other o ≡ next.Prepare shard run → (other ≡ run) × (o ≡ Some shard)
-    last other None e = absurd (cc)
-    last other (Some k) e = let run_is : other ≡ run = cc in let shard_is : k ≡ shard = cc in (run_is, ap (λ n. Some n) shard_is)
-
-    by : (r : Ran) → ran a ≡ r → next_of a.shards a.fronts r ≡ next.Prepare shard run → IsPreparing a shard run
-    by (need b) is e = absurd (cc)
-    by (done other) is e = let parts = last other (least_unprepared a.shards a.fronts other.observations) e in record {
-      ran = is ∙ ap (λ r. done r) parts.0;
-      least = ap (λ (r : Run). least_unprepared a.shards a.fronts r.observations) (sym parts.0) ∙ parts.1;
-    }
 
 -- ---- shards
 
@@ -78,31 +53,6 @@ least-below shards fronts seen shard some e = subst (λ o. IfSome o (λ k. k < s
     all (z ∷ seen) = by (has_front fronts (shard_of z.address shards)) (shard_of z.address shards) (least_unprepared shards fronts seen) (in_range z.address shards some) (all seen)
 
 -- ---- what is read
-
--- what holds of a pair that goes in and of all others holds of all
-pub each-inserted : (P : Address × Snap → Type 0) (snaps : SnapList) (a : Address) (snap : Snap) → P (a, snap) → AllByRecursion P snaps
-    → AllByRecursion P (insert_entry address_cmp snaps a snap)
-each-inserted P [] a snap new all = (new, tt)
-each-inserted P (e ∷ es) a snap new all = by (each-inserted P es a snap new all.1) (address_cmp a e.0) refl
-  where
-    by : AllByRecursion P (insert_entry address_cmp es a snap) → (r : Ordering) → address_cmp a e.0 ≡ r
-        → AllByRecursion P (match_ordering r ((a, snap) ∷ e ∷ es) ((e.0, snap) ∷ es) (e ∷ insert_entry address_cmp es a snap))
-    by rest Less at = (new, all)
-    by rest Equal at = (subst (λ b. P (b, snap)) (address_cmp-equal a e.0 at) new, all.1)
-    by rest Greater at = (all.0, rest)
-
--- what holds of all that was read holds of what is found at an address
-pub found : (P : Address × Snap → Type 0) (snaps : SnapList) (a : Address) (snap : Snap) → AllByRecursion P snaps → lookup (is_at (address_cmp a)) snaps ≡ Some snap → P (a, snap)
-found P [] a snap all e = absurd (cc)
-found P (pair ∷ snaps) a snap all e = by (found P snaps a snap all.1) (is_eq (address_cmp a pair.0)) refl e
-  where
-    by : (lookup (is_at (address_cmp a)) snaps ≡ Some snap → P (a, snap)) → (x : Bool) → is_eq (address_cmp a pair.0) ≡ x
-        → cond x (Some pair.1) (lookup (is_at (address_cmp a)) snaps) ≡ Some snap → P (a, snap)
-    by rest true is e =
-        let same : pair.1 ≡ snap = cc in
-        let here : a ≡ pair.0 = address_cmp-equal a pair.0 (equal (address_cmp a pair.0) is) in
-        subst (λ b. P (b, snap)) (sym here) (subst (λ s. P (pair.0, s)) same all.0)
-    by rest false is e = rest e
 
 -- ---- what is observed
 

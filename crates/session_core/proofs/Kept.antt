@@ -31,8 +31,9 @@ use Rattle.session_core.specs.declared.session.Session.{Session}
 use Rattle.session_core.specs.Phases.{with_attempt, closed, within_shards, opened, afresh}
 use Rattle.session_core.specs.Holding.{IsRead, FrontsGiven, Holds, IsReady, Counts, Attends}
 use Rattle.session_core.proofs.Same.{attempt_same}
-use Rattle.docc_prepare.proofs.Nexts.{needs, appends}
-use Rattle.session_core.proofs.Attempts.{prepares, least-below, each-inserted, may-validate, validate-here, few-here}
+use Rattle.docc_prepare.proofs.Nexts.{needs, appends, prepares}
+use Rattle.docc_prepare.proofs.EachRead.{each-inserted}
+use Rattle.session_core.proofs.Attempts.{least-below, may-validate, validate-here, few-here}
 
 -- ---- journals
 
