@@ -1,5 +1,6 @@
 -- The least pair that is computed is the least of all pairs.
-use Rattle.std.proofs.Common.{◌≡◌, ℕ, ◌+◌, ◌<◌, ◌≤◌, ◌⊎◌, inl, inr, zero, suc, Bool, true, false, cond, nat_lt, List, [], ◌∷◌, length, get_or, Option, Some, None, slice_get, MatchOption, refl, ap, subst, ◌∙◌, arith}
+use Rattle.std.proofs.Common.{◌≡◌, ℕ, ◌+◌, ◌<◌, ◌≤◌, ◌⊎◌, inl, inr, zero, suc, Bool, true, false, cond, nat_lt, List, [], ◌∷◌, length, get_or, Option}
+use Rattle.std.proofs.Common.{Some, None, slice_get, MatchOption, refl, ap, subst, ◌∙◌, arith}
 use Rattle.std.proofs.lemmas.Bool.{cases_lt}
 use Rattle.std.proofs.lemmas.List.Sorted.{IsNonDecreasingBy-from_all_adjacent}
 use Rattle.std.specs.List.Sorted.{IsNonDecreasingBy}
@@ -61,8 +62,10 @@ module _ (based : Based) (change : Change) (rest : List Change) where
   -- where the first doesn't clash, what clashes is behind it
   behind-at : (number index : ℕ) (other : Change) → clashes based change ≡ false → slice_get (change ∷ rest) index ≡ Some other → other.number ≡ number
       → clashes based other ≡ true → Clashing based rest number
-  behind-at number zero other apart among numbered clashing = absurd (let same : change ≡ other = cc in let yes : clashes based change ≡ true = ap (clashes based) same ∙ clashing in cc)
-  behind-at number (suc index) other apart among numbered clashing = record { index = index; change = other; among = among; numbered = numbered; clashing = clashing }
+  behind-at number zero other apart among numbered clashing = absurd (let same : change ≡ other = cc in let yes : clashes based change
+      ≡ true = ap (clashes based) same ∙ clashing in cc)
+  behind-at number (suc index) other apart among numbered clashing = record
+      { index = index; change = other; among = among; numbered = numbered; clashing = clashing }
 
   behind : (number : ℕ) → clashes based change ≡ false → Clashing based (change ∷ rest) number → Clashing based rest number
   behind number apart c = behind-at number c.index c.change apart c.among c.numbered c.clashing
@@ -76,7 +79,8 @@ first-is : (based : Based) (changes : List Change) → Rises changes → IsFirst
 first-is based [] rising = λ number c. absurd (let e = c.among in cc)
 first-is based (change ∷ rest) rising = by (clashes based change) refl (first_clash based rest) (first-is based rest rising.1)
   where
-    by : (b : Bool) → clashes based change ≡ b → (found : Option ℕ) → IsFirst based rest found → IsFirst based (change ∷ rest) (cond b (Some change.number) found)
+    by : (b : Bool) → clashes based change ≡ b → (found : Option ℕ) → IsFirst based rest found
+        → IsFirst based (change ∷ rest) (cond b (Some change.number) found)
     by true here found later = (
       record { index = zero; change = change; among = refl; numbered = refl; clashing = here },
       λ number c. let h = reached based change rest rising c.index c.change c.among in let n = c.numbered in omega (arith, h, n),
@@ -127,7 +131,8 @@ module _ (place : ℕ) (based : Based) (others : List Based) (changes : List Cha
   first-pair number c = record { ahead = zero; observation = based; at = omega arith; placed = refl; clash = c }
 
   later-pair : (found : Found) → PairFrom (place + 1) others changes found → PairFrom place (based ∷ others) changes found
-  later-pair found pair = record { ahead = suc pair.ahead; observation = pair.observation; at = (let h = pair.at in omega (arith, h)); placed = pair.placed; clash = pair.clash }
+  later-pair found pair = record { ahead = suc pair.ahead; observation = pair.observation; at =
+      (let h = pair.at in omega (arith, h)); placed = pair.placed; clash = pair.clash }
 
   -- the best of one observation and the others
   best-both : (first : Option ℕ) (rest : Option Found) → IsFirst based changes first → IsBest (place + 1) others changes rest
@@ -170,7 +175,8 @@ module _ (place : ℕ) (based : Based) (others : List Based) (changes : List Cha
 best-is : (place : ℕ) (based : List Based) (changes : List Change) → Rises changes → IsBest place based changes (least_from place based changes)
 best-is place [] changes rising = λ found pair. absurd (let e = pair.placed in cc)
 best-is place (first ∷ others) changes rising =
-    best-both place first others changes (first_clash first changes) (least_from (place + 1) others changes) (first-is first changes rising) (best-is (place + 1) others changes rising)
+    best-both place first others changes (first_clash first changes) (least_from (place + 1) others changes) (first-is first changes rising)
+        (best-is (place + 1) others changes rising)
 
 -- ---- all observations
 

@@ -27,7 +27,8 @@ counter key = record { kind = kind.Counter; key = key }
 -- an addition at another address doesn't count, and one of 0 is pending
 pending-example :
     pending (counter (codes "x"))
-    (record { number = 1; address = counter (codes "x"); delta = delta.AddCounter (pos 0) } ∷ record { number = 1; address = counter (codes "y"); delta = delta.AddCounter (pos 5) } ∷ [])
+    (record { number = 1; address = counter (codes "x"); delta = delta.AddCounter (pos 0) }
+        ∷ record { number = 1; address = counter (codes "y"); delta = delta.AddCounter (pos 5) } ∷ [])
     ≡ Some (delta.AddCounter (pos 0))
 pending-example = refl
 

@@ -141,7 +141,8 @@ agree-self values (b ∷ addresses) = (refl, agree-self values addresses)
 -- what is held after the code's two passes is what was held, with the feed's delta applied
 pub held-advanced : (values : Values) (changes : Deltas) (a : Address) → IsStrictlySortedBy address_cmp (keys_of changes)
     → value_at (with_all values (changed_from values changes)) a ≡ option_map (apply_maybe (delta_at changes a)) (value_at values a)
-held-advanced values changes a rising = all_after values values changes a rising (agree-self values (keys_of changes)) ∙ by (delta_at changes a) (value_at values a) refl
+held-advanced values changes a rising = all_after values values changes a rising (agree-self values (keys_of changes))
+    ∙ by (delta_at changes a) (value_at values a) refl
   where
     by : (o : Option Delta) (v : Option Value) → value_at values a ≡ v → after values values a o ≡ option_map (apply_maybe o) (value_at values a)
     by (Some d) v e = refl

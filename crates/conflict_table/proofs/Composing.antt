@@ -39,7 +39,8 @@ or_assoc : (a b c : Bool) → ((a || b) || c) ≡ (a || (b || c))
 or_assoc true b c = refl
 or_assoc false b c = refl
 
-module _ (k : Kind) (test : Delta → Bool) (by_parts : (first second : Delta) → kind_changed first ≡ kind_changed second → test (compose first second) ≡ (test first || test second)) where
+module _ (k : Kind) (test : Delta → Bool) (by_parts : (first second : Delta) → kind_changed first ≡ kind_changed second
+    → test (compose first second) ≡ (test first || test second)) where
   after_one : (d : Delta) (own : List WriteOp) → kind_changed d ≡ k → AllByRecursion (λ o. kind_written o ≡ k) own
       → if_any test (composed_after (Some d) own) ≡ (test d || list_any (λ o. test (delta_of o)) own)
   after_one d [] is all = sym (or_none (test d))

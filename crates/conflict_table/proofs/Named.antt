@@ -121,12 +121,15 @@ hash_names_some f (mark.Put text) = has_some-key _ f (marks_itself f (mark.Put t
 hash_names_some f mark.Removed = has_some-key _ f (marks_itself f mark.Removed)
 
 first_mark_alone : (d : Delta) (w : WriteOp) → first_mark d ≡ Some w → names_some (delta_of w) ≡ true
-first_mark_alone (delta.Set d) w e = let m = map_is (λ e. set_part e.0 e.1) (slice_get (map.entries d.marks) 0) w e in ap (λ w. names_some (delta_of w)) (sym m.1) ∙ set_names_some m.0.0 m.0.1
-first_mark_alone (delta.Hash d) w e = let m = map_is (λ e. hash_part e.0 e.1) (slice_get (map.entries d.marks) 0) w e in ap (λ w. names_some (delta_of w)) (sym m.1) ∙ hash_names_some m.0.0 m.0.1
+first_mark_alone (delta.Set d) w e = let m = map_is (λ e. set_part e.0 e.1) (slice_get (map.entries d.marks) 0) w e
+    in ap (λ w. names_some (delta_of w)) (sym m.1) ∙ set_names_some m.0.0 m.0.1
+first_mark_alone (delta.Hash d) w e = let m = map_is (λ e. hash_part e.0 e.1) (slice_get (map.entries d.marks) 0) w e
+    in ap (λ w. names_some (delta_of w)) (sym m.1) ∙ hash_names_some m.0.0 m.0.1
 first_mark_alone d w e = absurd (cc)
 
 removed_alone : (d : Delta) (w : WriteOp) → first_removed d ≡ Some w → removes (delta_of w) ≡ true
-removed_alone (delta.List d) w e = let m = map_is (λ e. op.ListRemove e.0) (slice_get (map.entries d.removed) 0) w e in ap (λ w. removes (delta_of w)) (sym m.1) ∙ has_some-key _ m.0.0 (marks_itself m.0.0 tt)
+removed_alone (delta.List d) w e = let m = map_is (λ e. op.ListRemove e.0) (slice_get (map.entries d.removed) 0) w e
+    in ap (λ w. removes (delta_of w)) (sym m.1) ∙ has_some-key _ m.0.0 (marks_itself m.0.0 tt)
 removed_alone d w e = absurd (cc)
 
 pushed_alone : (d : Delta) (w : WriteOp) → first_pushed d ≡ Some w → pushes (delta_of w) ≡ true

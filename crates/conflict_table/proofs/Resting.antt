@@ -122,7 +122,8 @@ Field f v w = map.get (hash_in v) f ≡ map.get (hash_in w) f
 
 keeps_field : (f : Bytes) (o : WriteOp) (v w : Value) → Field f v w → Field f (write o v) (write o w)
 keeps_field f (op.HashPut g t) v w r =
-    map.get-insert nat_list_cmp_total (hash_in v) g t f ∙ ap (cond (eq_by_cmp text_cmp f g) (Some t)) r ∙ sym (map.get-insert nat_list_cmp_total (hash_in w) g t f)
+    map.get-insert nat_list_cmp_total (hash_in v) g t f ∙ ap (cond (eq_by_cmp text_cmp f g) (Some t)) r
+        ∙ sym (map.get-insert nat_list_cmp_total (hash_in w) g t f)
 keeps_field f (op.HashRemove g) v w r =
     map.get-remove nat_list_cmp_total (hash_in v) g f ∙ ap (cond (eq_by_cmp text_cmp f g) None) r ∙ sym (map.get-remove nat_list_cmp_total (hash_in w) g f)
 keeps_field f o v w r = refl
@@ -224,7 +225,8 @@ get_rests own v w true puts r = decided Whole keeps_whole is_put puts_whole own 
 get_rests own v w false keeps r = replayed Whole keeps_whole own v w (r refl)
 
 place_rests : (i : ℕ) (own : List WriteOp) (v w : Value) (b : Bool) → list_any is_clear own ≡ b
-    → (b ≡ false → observe (place_observed (pos i) (list_any is_list_remove own) (list_in v)) v ≡ observe (place_observed (pos i) (list_any is_list_remove own) (list_in v)) w)
+    → (b ≡ false → observe (place_observed (pos i) (list_any is_list_remove own) (list_in v)) v
+        ≡ observe (place_observed (pos i) (list_any is_list_remove own) (list_in v)) w)
     → item_at (pos i) (list_in (replay own v)) ≡ item_at (pos i) (list_in (replay own w))
 place_rests i own v w true clears same =
     ap (item_at (pos i)) (decided Items keeps_items is_clear (clears_all Items (λ v. refl)) own v w clears)
@@ -244,7 +246,8 @@ answers_rest read.SetAll own v w kinds same =
 answers_rest (read.HashHas f) own v w kinds same =
     ap (λ o. item.Bool (is_some o)) (by_name (Field f) (keeps_field f) (λ v. refl) (names f) (names_field f) own v w _ refl (λ none. let is = same none in cc))
 answers_rest (read.HashGet f) own v w kinds same =
-    ap (λ o. item.Text (unwrap_or o [])) (by_name (Field f) (keeps_field f) (λ v. refl) (names f) (names_field f) own v w _ refl (λ none. let is = same none in cc))
+    ap (λ o. item.Text (unwrap_or o [])) (by_name (Field f) (keeps_field f) (λ v. refl) (names f) (names_field f) own v w _ refl
+        (λ none. let is = same none in cc))
 answers_rest read.HashFields own v w kinds same =
     ap (λ m. item.Texts (map.keys m)) (by_clear Hash keeps_hash (λ v. refl) own v w _ refl (λ none. let is = same none in cc))
 answers_rest (read.ListAt (pos i)) own v w kinds same = ap item.Text (place_rests i own v w (list_any is_clear own) refl same)
@@ -275,7 +278,8 @@ same_place : (i : ℕ) (v w : Value) (a b : Bool) → nat_lt i (length (list_in 
     → cond (not a && b) (obs.ListAt i) obs.ListAll ≡ cond (not a && nat_lt i (length (list_in w))) (obs.ListAt i) obs.ListAll
 same_place i v w true b within same = refl
 same_place i v w false true within same =
-    let there : i < length (list_in w) = slice_get_within (list_in w) i _ (sym (cc) ∙ slice_get-get_or (list_in v) i [] (ltb-true i (length (list_in v)) within)) in
+    let there : i < length (list_in w) = slice_get_within (list_in w) i _ (sym (cc)
+        ∙ slice_get-get_or (list_in v) i [] (ltb-true i (length (list_in v)) within)) in
     let is : nat_lt i (length (list_in w)) ≡ true = grind (arith, nat_tests) in
     sym (ap (λ b. cond b (obs.ListAt i) obs.ListAll) is)
 same_place i v w false false past same =

@@ -1,5 +1,6 @@
 -- Each step of a store meets the clause of every call.
-use Rattle.std.proofs.Common.{◌≡◌, ℕ, zero, suc, ◌+◌, ◌-◌, ◌≤◌, ◌<◌, Bool, true, false, cond, min, max, ◌&&◌, ◌||◌, not, List, [], ◌∷◌, length, take, get_or, set, Option, Some, None, ◌⊎◌, inl, inr, refl, sym, ap, ◌∙◌, subst, arith}
+use Rattle.std.proofs.Common.{◌≡◌, ℕ, zero, suc, ◌+◌, ◌-◌, ◌≤◌, ◌<◌, Bool, true, false, cond, min, max, ◌&&◌, ◌||◌, not, List, [], ◌∷◌, length, take}
+use Rattle.std.proofs.Common.{get_or, set, Option, Some, None, ◌⊎◌, inl, inr, refl, sym, ap, ◌∙◌, subst, arith}
 use Rattle.std.specs.Prelude.{nat_lt, nat_le, ◌==◌}
 use Rattle.std.specs.List.{AllByRecursion}
 use Rattle.std.specs.Option.{option_and_then}
@@ -28,8 +29,10 @@ use Rattle.docc_prepare.specs.Attempts.{lesser}
 use Rattle.docc_prepare.specs.Serial.{AreOfTheirKinds, IsOrderly}
 use Rattle.docc_prepare.specs.Witnesses.{witness_of, least_witness}
 use Rattle.docc_prepare.specs.Calls.{Known, Call, Answer, is_fault}
-use Rattle.docc_prepare.specs.Backends.{CanValidate, CanPrepare, CanAppend, CanCall, IsLeastBase, IsTaken, Row, OwnRow, SaysOfJournal, Shows, Keeps, Gives, subscribed_after, taken_after, denied_after, KnowsDenials, IsAnswered}
-use Rattle.docc_prepare.specs.Stores.{Store, CLIENTS, front_of, seen_by, saw, moved, committed, telling, took, least_base, late_base, validated, witness_past, decided, read_back, feed_for, step, HasStalled, Does, IsSound, known_by, StepsAreAnswered}
+use Rattle.docc_prepare.specs.Backends.{CanValidate, CanPrepare, CanAppend, CanCall, IsLeastBase, IsTaken, Row, OwnRow, SaysOfJournal, Shows, Keeps}
+use Rattle.docc_prepare.specs.Backends.{Gives, subscribed_after, taken_after, denied_after, KnowsDenials, IsAnswered}
+use Rattle.docc_prepare.specs.Stores.{Store, CLIENTS, front_of, seen_by, saw, moved, committed, telling, took, least_base, late_base, validated}
+use Rattle.docc_prepare.specs.Stores.{witness_past, decided, read_back, feed_for, step, HasStalled, Does, IsSound, known_by, StepsAreAnswered}
 use Rattle.docc_prepare.proofs.Each.{each-more, each-take, each-filter}
 use Rattle.docc_prepare.proofs.OfOneKind.{kind-left}
 use Rattle.docc_prepare.proofs.Growing.{legal_is_orderly}
@@ -37,7 +40,8 @@ use Rattle.docc_prepare.proofs.Missing.{none-of-least}
 use Rattle.docc_prepare.proofs.Nexts.{appends}
 use Rattle.docc_prepare.proofs.Witnessed.{none-of-witness, witness-within, orderly-front, witness-of-front}
 use Rattle.docc_prepare.proofs.Feeding.{fed-is-pending, kinds-of-changes, kinds-fed}
-use Rattle.docc_prepare.proofs.Stored.{IsOf, one-kinds, found-is, all-clear, commits-legally, StepsSoundly, step-sound, with_fronts, stalled-sound, Grown, step-grows, stalled-grows, same-client, kept-given, does-one}
+use Rattle.docc_prepare.proofs.Stored.{IsOf, one-kinds, found-is, all-clear, commits-legally, StepsSoundly, step-sound, with_fronts, stalled-sound}
+use Rattle.docc_prepare.proofs.Stored.{Grown, step-grows, stalled-grows, same-client, kept-given, does-one}
 
 -- ---- tests
 

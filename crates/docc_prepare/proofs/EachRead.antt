@@ -26,7 +26,8 @@ each-inserted P (e ∷ es) a snap new all = by (each-inserted P es a snap new al
     by rest Greater at = (all.0, rest)
 
 -- what holds of all that was read holds of what is found at an address
-pub found : (P : Address × Snap → Type 0) (snaps : SnapList) (a : Address) (snap : Snap) → AllByRecursion P snaps → lookup (is_at (address_cmp a)) snaps ≡ Some snap → P (a, snap)
+pub found : (P : Address × Snap → Type 0) (snaps : SnapList) (a : Address) (snap : Snap) → AllByRecursion P snaps
+    → lookup (is_at (address_cmp a)) snaps ≡ Some snap → P (a, snap)
 found P [] a snap all e = absurd (cc)
 found P (pair ∷ snaps) a snap all e = by (found P snaps a snap all.1) (is_eq (address_cmp a pair.0)) refl e
   where

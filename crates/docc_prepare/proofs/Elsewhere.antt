@@ -1,5 +1,6 @@
 -- What one client's calls do to the others: to each it is as if others had been at work.
-use Rattle.std.proofs.Common.{◌≡◌, ◌≢◌, ℕ, ◌+◌, Bool, true, false, cond, max, ◌&&◌, [], ◌∷◌, ◌++◌, length, get_or, set, Option, Some, None, ◌⊎◌, inl, inr, refl, sym, ap, ◌∙◌, subst, arith}
+use Rattle.std.proofs.Common.{◌≡◌, ◌≢◌, ℕ, ◌+◌, Bool, true, false, cond, max, ◌&&◌, [], ◌∷◌, ◌++◌, length, get_or, set, Option, Some, None, ◌⊎◌, inl}
+use Rattle.std.proofs.Common.{inr, refl, sym, ap, ◌∙◌, subst, arith}
 use Rattle.std.specs.Prelude.{nat_le, ◌==◌}
 use Rattle.std.specs.BTreeMap.{is_at}
 use Rattle.std.proofs.Math.Seq.{take-length, take-append_seam}
@@ -17,8 +18,10 @@ use Rattle.journal_core.specs.declared.ready.Ready.{Ready}
 use Rattle.journal_core.specs.Readies.{made_of}
 use Rattle.docc_prepare.specs.Calls.{Known, Call, Answer}
 use Rattle.docc_prepare.specs.Backends.{CanCall, HasGrown, IsLater}
-use Rattle.docc_prepare.specs.Stores.{Store, front_of, seen_by, saw, committed, telling, witness_past, decided, step, followed, HasStalled, IsSound, known_by, StepsLeaveOthers, ShardsFollow}
-use Rattle.docc_prepare.proofs.Stored.{step-sound, followed-sound, with_fronts, stalled-sound, Grown, step-grows, followed-grows, stalled-grows, same-client, kept-given, does-one}
+use Rattle.docc_prepare.specs.Stores.{Store, front_of, seen_by, saw, committed, telling, witness_past, decided, step, followed, HasStalled, IsSound}
+use Rattle.docc_prepare.specs.Stores.{known_by, StepsLeaveOthers, ShardsFollow}
+use Rattle.docc_prepare.proofs.Stored.{step-sound, followed-sound, with_fronts, stalled-sound, Grown, step-grows, followed-grows, stalled-grows}
+use Rattle.docc_prepare.proofs.Stored.{same-client, kept-given, does-one}
 use Rattle.docc_prepare.proofs.Answered.{owed-soundly}
 
 not-equal : (a b : ℕ) → b ≢ a → (a == b) ≡ false

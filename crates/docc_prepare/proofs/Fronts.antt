@@ -1,5 +1,6 @@
 -- Fronts spare no pair: what clashes up to a front is no pair, and past it the front counts as the base does.
-use Rattle.std.proofs.Common.{◌≡◌, ℕ, ◌+◌, ◌≤◌, ◌<◌, zero, suc, max, Bool, true, false, cond, ◌&&◌, ◌||◌, List, [], ◌∷◌, map, take, refl, sym, ap, ◌∙◌, subst, arith}
+use Rattle.std.proofs.Common.{◌≡◌, ℕ, ◌+◌, ◌≤◌, ◌<◌, zero, suc, max, Bool, true, false, cond, ◌&&◌, ◌||◌, List, [], ◌∷◌, map, take, refl, sym, ap}
+use Rattle.std.proofs.Common.{◌∙◌, subst, arith}
 use Rattle.std.specs.Prelude.{nat_lt, nat_le, ◌==◌}
 use Rattle.std.specs.List.{list_any, AllByRecursion}
 use Rattle.std.specs.BTreeMap.{is_at}

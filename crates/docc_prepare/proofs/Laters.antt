@@ -1,5 +1,6 @@
 -- What others do between a client's calls, together with the next call.
-use Rattle.std.proofs.Common.{◌≡◌, ℕ, ◌+◌, ◌≤◌, ◌<◌, Bool, true, false, cond, ◌&&◌, ◌||◌, not, max, List, length, take, Option, Some, None, ◌⊎◌, inl, inr, refl, sym, ap, ◌∙◌, subst, arith}
+use Rattle.std.proofs.Common.{◌≡◌, ℕ, ◌+◌, ◌≤◌, ◌<◌, Bool, true, false, cond, ◌&&◌, ◌||◌, not, max, List, length, take, Option, Some, None, ◌⊎◌, inl}
+use Rattle.std.proofs.Common.{inr, refl, sym, ap, ◌∙◌, subst, arith}
 use Rattle.std.specs.Prelude.{nat_lt}
 use Rattle.std.specs.BTreeMap.{is_at}
 use Rattle.std.proofs.lemmas.List.{length-take, take-take}
@@ -13,7 +14,8 @@ use Rattle.txn_lang.specs.States.{Journal}
 use Rattle.txn_lang.specs.Journals.{IsLegal, own}
 use Rattle.journal_core.specs.Changes.{changes, between}
 use Rattle.docc_prepare.specs.Calls.{Known, Call, Answer, is_fault}
-use Rattle.docc_prepare.specs.Backends.{IsPrefix, IsBelowHorizon, Row, OwnRow, SaysOfJournal, Shows, IsSameClient, KeepsGiven, Keeps, subscribed_after, taken_after, denied_after, KnowsDenials, IsAnswered, HasGrown, IsLater, OthersCountAsWithin}
+use Rattle.docc_prepare.specs.Backends.{IsPrefix, IsBelowHorizon, Row, OwnRow, SaysOfJournal, Shows, IsSameClient, KeepsGiven, Keeps}
+use Rattle.docc_prepare.specs.Backends.{subscribed_after, taken_after, denied_after, KnowsDenials, IsAnswered, HasGrown, IsLater, OthersCountAsWithin}
 
 -- ---- prefixes and counts
 

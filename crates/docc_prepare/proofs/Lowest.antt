@@ -1,5 +1,6 @@
 -- The lesser of two shards that may be there.
-use Rattle.std.proofs.Common.{◌≡◌, ℕ, ◌+◌, ◌<◌, Bool, true, false, cond, min, List, ◌∷◌, length, drop, slice_index_or, Option, Some, None, refl, sym, ap, ◌∙◌, arith}
+use Rattle.std.proofs.Common.{◌≡◌, ℕ, ◌+◌, ◌<◌, Bool, true, false, cond, min, List, ◌∷◌, length, drop, slice_index_or, Option, Some, None, refl, sym}
+use Rattle.std.proofs.Common.{ap, ◌∙◌, arith}
 use Rattle.std.proofs.lemmas.List.{drop_more}
 use Rattle.rdt_types.specs.Shards.{shard_of}
 use Rattle.txn_lang.specs.declared.run.Seen.{Seen}

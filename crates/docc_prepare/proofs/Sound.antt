@@ -1,5 +1,6 @@
 -- Every event in place, and every move, leaves a sound world.
-use Rattle.std.proofs.Common.{◌≡◌, ℕ, ◌+◌, ◌-◌, ◌≤◌, Bool, true, false, cond, max, List, [], ◌∷◌, ◌++◌, length, take, Option, Some, None, refl, sym, ap, ◌∙◌, subst, arith}
+use Rattle.std.proofs.Common.{◌≡◌, ℕ, ◌+◌, ◌-◌, ◌≤◌, Bool, true, false, cond, max, List, [], ◌∷◌, ◌++◌, length, take, Option, Some, None, refl, sym}
+use Rattle.std.proofs.Common.{ap, ◌∙◌, subst, arith}
 use Rattle.std.specs.Prelude.{◌==◌, IfSome}
 use Rattle.std.specs.List.{AllByRecursion}
 use Rattle.std.specs.Map.{lookup}
@@ -25,12 +26,15 @@ use Rattle.journal_core.specs.declared.ready.PreparedFront.{PreparedFront}
 use Rattle.journal_core.specs.Pairs.{pairs}
 use Rattle.docc_prepare.specs.declared.attempt.Attempt.{Attempt}
 use Rattle.docc_prepare.specs.declared.attempt.Next.TheVariants as next
-use Rattle.docc_prepare.specs.Attempts.{SnapList, ran, base_in, base_at, with_base, based, in_shard, next_event, with_snap, with_front, ready_of, SnapFits, FrontFits, FrontsFit, Fits}
+use Rattle.docc_prepare.specs.Attempts.{SnapList, ran, base_in, base_at, with_base, based, in_shard, next_event, with_snap, with_front, ready_of}
+use Rattle.docc_prepare.specs.Attempts.{SnapFits, FrontFits, FrontsFit, Fits}
 use Rattle.docc_prepare.specs.Witnesses.{least_witness}
 use Rattle.docc_prepare.specs.Calls.{Call}
 use Rattle.docc_prepare.specs.Stores as stores
 use Rattle.docc_prepare.specs.Stores.{Store, CLIENTS, first_store, front_of, seen_by, saw, least_base, late_base, validated, followed}
-use Rattle.docc_prepare.specs.Worlds.{World, Event, attempt_of, holding, observed_in, append_of, call_of, taking, called, IsHeld, IsSound, EventsStaySound, IsOpened, MovesStaySound, FirstIsSound, Turn, first_world, turned, IsTurn, after_turns, AreTurns, EveryWorldIsSound}
+use Rattle.docc_prepare.specs.Worlds.{World, Event, attempt_of, holding, observed_in, append_of, call_of, taking, called, IsHeld, IsSound}
+use Rattle.docc_prepare.specs.Worlds.{EventsStaySound, IsOpened, MovesStaySound, FirstIsSound, Turn, first_world, turned, IsTurn, after_turns}
+use Rattle.docc_prepare.specs.Worlds.{AreTurns, EveryWorldIsSound}
 use Rattle.docc_prepare.proofs.Nexts.{needs, appends, prepares}
 use Rattle.docc_prepare.proofs.Each.{each-more, each-push, each-filter}
 use Rattle.docc_prepare.proofs.EachRead.{each-inserted}
@@ -38,7 +42,8 @@ use Rattle.docc_prepare.proofs.Missing.{none-of-least}
 use Rattle.docc_prepare.proofs.Undisturbed.{observed_of_one_kind}
 use Rattle.docc_prepare.proofs.Growing.{fits_stays, legal_is_orderly}
 use Rattle.docc_prepare.proofs.Witnessed.{orderly-front, none-of-witness}
-use Rattle.docc_prepare.proofs.Stored.{kept, all_alike, commits-legally, StepsSoundly, step-sound, followed-sound, Grown, saw-grown, step-grows, followed-grows, first_store_is_sound}
+use Rattle.docc_prepare.proofs.Stored.{kept, all_alike, commits-legally, StepsSoundly, step-sound, followed-sound, Grown, saw-grown, step-grows}
+use Rattle.docc_prepare.proofs.Stored.{followed-grows, first_store_is_sound}
 
 -- ---- held attempts
 

@@ -1,5 +1,6 @@
 -- Stores step by step: each step leaves a sound store, where its call is in place.
-use Rattle.std.proofs.Common.{◌≡◌, ℕ, zero, suc, ◌+◌, ◌≤◌, ◌<◌, Bool, true, false, cond, max, List, [], ◌∷◌, ◌++◌, length, get_or, set, Option, Some, None, ◌⊎◌, inl, inr, refl, sym, ap, ◌∙◌, subst, arith}
+use Rattle.std.proofs.Common.{◌≡◌, ℕ, zero, suc, ◌+◌, ◌≤◌, ◌<◌, Bool, true, false, cond, max, List, [], ◌∷◌, ◌++◌, length, get_or, set, Option, Some}
+use Rattle.std.proofs.Common.{None, ◌⊎◌, inl, inr, refl, sym, ap, ◌∙◌, subst, arith}
 use Rattle.std.specs.Prelude.{nat_le, ◌==◌, replicate, slice_get}
 use Rattle.std.specs.Option.{option_and_then}
 use Rattle.std.specs.List.{AllByRecursion}
@@ -24,7 +25,8 @@ use Rattle.docc_prepare.specs.Serial.{IsOrderly}
 use Rattle.docc_prepare.specs.Witnesses.{witness_of}
 use Rattle.docc_prepare.specs.Calls.{Call, Answer}
 use Rattle.docc_prepare.specs.Backends.{IsSameClient, KeepsGiven}
-use Rattle.docc_prepare.specs.Stores.{Store, CLIENTS, front_of, seen_by, saw, moved, committed, telling, took, found_past, witness_past, decided, step, followed, HasStalled, Does, IsSound, known_by, FirstStoreIsSound}
+use Rattle.docc_prepare.specs.Stores.{Store, CLIENTS, front_of, seen_by, saw, moved, committed, telling, took, found_past, witness_past, decided}
+use Rattle.docc_prepare.specs.Stores.{step, followed, HasStalled, Does, IsSound, known_by, FirstStoreIsSound}
 use Rattle.docc_prepare.proofs.Missing.{none-of-least}
 use Rattle.docc_prepare.proofs.Undisturbed.{appending_stays_legal, observed_of_one_kind}
 use Rattle.docc_prepare.proofs.Growing.{legal_is_orderly}

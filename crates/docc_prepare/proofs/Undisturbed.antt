@@ -1,5 +1,6 @@
 -- The heart: what no commit disturbs is observed on the whole journal as it was at its base, and so the run is the same.
-use Rattle.std.proofs.Common.{◌≡◌, ℕ, ◌+◌, ◌≤◌, ◌<◌, zero, suc, Bool, true, false, cond, ◌&&◌, ◌||◌, List, [], ◌∷◌, fold, map, take, length, Option, Some, None, refl, sym, ap, ◌∙◌, subst, arith}
+use Rattle.std.proofs.Common.{◌≡◌, ℕ, ◌+◌, ◌≤◌, ◌<◌, zero, suc, Bool, true, false, cond, ◌&&◌, ◌||◌, List, [], ◌∷◌, fold, map, take, length, Option}
+use Rattle.std.proofs.Common.{Some, None, refl, sym, ap, ◌∙◌, subst, arith}
 use Rattle.std.specs.Prelude.{nat_lt, slice_get}
 use Rattle.std.specs.List.{list_any, AllByRecursion}
 use Rattle.std.specs.Option.{option_map}
@@ -246,5 +247,6 @@ appending_stays_legal m client journal attempt run read orderly legal undisturbe
     legal-push m journal (commit_of journal client attempt.body.source run) legal (record {
       number = refl;
       seq = refl;
-      runs = λ _. record { body = attempt.body.body; run = run; read = read; ran = runs_as_it_ran journal attempt run orderly undisturbed; outcome = refl; deltas = refl };
+      runs = λ _. record { body = attempt.body.body; run = run; read = read; ran = runs_as_it_ran journal attempt run orderly undisturbed;
+          outcome = refl; deltas = refl };
     })

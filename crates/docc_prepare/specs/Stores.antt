@@ -1,5 +1,6 @@
 -- The store of one thread, behind each client's backend: each call of a client is one step of it, which gives an answer.
-use Rattle.std.specs.Prelude.{◌≡◌, ◌≢◌, ℕ, ◌+◌, ◌-◌, ◌≤◌, ◌<◌, ◌==◌, Bool, true, false, ◌&&◌, max, nat_lt, nat_le, if◌then◌else◌, List, [], ◌∷◌, ◌++◌, filter, length, take, get_or, set, replicate, Option, Some, None, IfSome, codes, pos, refl}
+use Rattle.std.specs.Prelude.{◌≡◌, ◌≢◌, ℕ, ◌+◌, ◌-◌, ◌≤◌, ◌<◌, ◌==◌, Bool, true, false, ◌&&◌, max, nat_lt, nat_le, if◌then◌else◌, List, [], ◌∷◌, ◌++◌}
+use Rattle.std.specs.Prelude.{filter, length, take, get_or, set, replicate, Option, Some, None, IfSome, codes, pos, refl}
 use Rattle.std.specs.BTreeMap.{is_at}
 use Rattle.std.specs.Option.{option_and_then}
 use Rattle.rdt_types.specs.declared.address.Kind.TheVariants as kind

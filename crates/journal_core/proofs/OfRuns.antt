@@ -106,7 +106,8 @@ module _ (s : PartialState) where
   writes : (a : Address) (o : WriteOp) → kind_written o ≡ a.kind → Both (write_at (own s) a o) (write_at (own s) a o)
   writes a o k = record {
     back = λ p fine. tt;
-    forth = λ p m with_it fine. (own_write a o m, (ap (own_write a o) with_it.0, each-more (λ w. kind_written w.1 ≡ w.0.kind) p.memory.operations (a, o) with_it.1 k), refl);
+    forth = λ p m with_it fine. (own_write a o m, (ap (own_write a o) with_it.0,
+        each-more (λ w. kind_written w.1 ≡ w.0.kind) p.memory.operations (a, o) with_it.1 k), refl);
     bounded = λ p h. h;
     lacking = λ p. tt;
   }
@@ -144,7 +145,8 @@ pub kind-at : (ds : Deltas) (a : Address) (d : Delta) → AreOfTheirKinds ds →
 kind-at [] a d all e = absurd (cc)
 kind-at (pair ∷ ds) a d all e = by (kind-at ds a d all.1) (is_eq (address_cmp a pair.0)) refl e
   where
-    by : (delta_at ds a ≡ Some d → kind_changed d ≡ a.kind) → (b : Bool) → is_eq (address_cmp a pair.0) ≡ b → cond b (Some pair.1) (delta_at ds a) ≡ Some d → kind_changed d ≡ a.kind
+    by : (delta_at ds a ≡ Some d → kind_changed d ≡ a.kind) → (b : Bool) → is_eq (address_cmp a pair.0) ≡ b
+        → cond b (Some pair.1) (delta_at ds a) ≡ Some d → kind_changed d ≡ a.kind
     by rest true is e =
         let same : pair.1 ≡ d = cc in
         ap kind_changed (sym same) ∙ all.0 ∙ ap (λ b. b.kind) (sym (address_cmp-equal a pair.0 (equal (address_cmp a pair.0) is)))

@@ -1,5 +1,6 @@
 -- The least pair among changes is the first of the journal's pairs.
-use Rattle.std.proofs.Common.{◌≡◌, ℕ, ◌+◌, ◌<◌, ◌≤◌, Bool, true, false, nat_lt, ◌||◌, List, [], ◌∷◌, ◌++◌, Option, Some, None, slice_get, refl, sym, ap, ◌∙◌, arith, cond}
+use Rattle.std.proofs.Common.{◌≡◌, ℕ, ◌+◌, ◌<◌, ◌≤◌, Bool, true, false, nat_lt, ◌||◌, List, [], ◌∷◌, ◌++◌, Option, Some, None, slice_get, refl, sym}
+use Rattle.std.proofs.Common.{ap, ◌∙◌, arith, cond}
 use Rattle.std.specs.List.{list_any}
 use Rattle.rdt_types.specs.DeltaMaps.{Deltas}
 use Rattle.change_feed.specs.declared.change.Change.{Change}
@@ -26,7 +27,8 @@ commit-first based n (pair ∷ deltas) rest =
   where
     by_clash : first_clash based (changes_by n deltas ++ rest) ≡ here_or (list_any (clashes based) (changes_by n deltas)) n (first_clash based rest)
         → (b : Bool) → clashes based (record { number = n; address = pair.0; delta = pair.1 }) ≡ b
-        → cond b (Some n) (first_clash based (changes_by n deltas ++ rest)) ≡ here_or (b || list_any (clashes based) (changes_by n deltas)) n (first_clash based rest)
+        → cond b (Some n) (first_clash based (changes_by n deltas ++ rest))
+            ≡ here_or (b || list_any (clashes based) (changes_by n deltas)) n (first_clash based rest)
     by_clash later true here = refl
     by_clash later false here = later
 
@@ -53,7 +55,8 @@ first-behind n based (change ∷ rest) rises = by_clash (first-behind n based re
     by_clash later false = later
 
 -- of two that are behind a number the lesser is
-lesser-behind : (n place : ℕ) (number : Option ℕ) (second : Option Found) → BehindNumber n number → Behind n second → Behind n (lesser (found_at place number) second)
+lesser-behind : (n place : ℕ) (number : Option ℕ) (second : Option Found) → BehindNumber n number → Behind n second
+    → Behind n (lesser (found_at place number) second)
 lesser-behind n place None second first later = later
 lesser-behind n place (Some number) None first later = first
 lesser-behind n place (Some number) (Some found) first later = by_number (nat_lt found.number number)
@@ -84,7 +87,8 @@ hits-start place [] commit = tt
 hits-start place (first ∷ rest) commit = by_clash (hits-start (place + 1) rest commit) (list_any (clashes first) (changes_of commit))
   where
     by_clash : StartsAt commit.number (hits_from (place + 1) rest commit) → (b : Bool)
-        → StartsAt commit.number (cond b (record { place = place; number = commit.number } ∷ hits_from (place + 1) rest commit) (hits_from (place + 1) rest commit))
+        → StartsAt commit.number (cond b (record { place = place; number = commit.number } ∷ hits_from (place + 1) rest commit)
+            (hits_from (place + 1) rest commit))
     by_clash later true = refl
     by_clash later false = later
 
@@ -117,7 +121,8 @@ least-hits place (first ∷ others) commit rest rises =
     (by_clash (list_any (clashes first) (changes_of commit)))
   where
     by_clash : (b : Bool)
-        → lesser (found_at place (here_or b commit.number (first_clash first rest))) (first_or (hits_from (place + 1) others commit) (least_from (place + 1) others rest))
+        → lesser (found_at place (here_or b commit.number (first_clash first rest)))
+            (first_or (hits_from (place + 1) others commit) (least_from (place + 1) others rest))
         ≡ first_or (cond b (record { place = place; number = commit.number } ∷ hits_from (place + 1) others commit) (hits_from (place + 1) others commit))
         (lesser (found_at place (first_clash first rest)) (least_from (place + 1) others rest))
     by_clash true =

@@ -22,7 +22,8 @@ pub first_clash-past : (based : Based) (from : ℕ) (all : List Change) → base
 first_clash-past based from [] within = refl
 first_clash-past based from (change ∷ rest) within = by_number (first_clash-past based from rest within) (nat_lt from change.number) refl
   where
-    by_number : first_clash based (past from rest) ≡ first_clash (moved based from) rest → (b : Bool) → nat_lt from change.number ≡ b → first_clash based (past from (change ∷ rest)) ≡ first_clash (moved based from) (change ∷ rest)
+    by_number : first_clash based (past from rest) ≡ first_clash (moved based from) rest →
+        (b : Bool) → nat_lt from change.number ≡ b → first_clash based (past from (change ∷ rest)) ≡ first_clash (moved based from) (change ∷ rest)
     by_number later true here =
         let also = lower based.base from change.number within here in
         rw (here, also) (ap (λ o. cond (is_at (address_cmp based.address) change.address && clash based.obs change.delta) (Some change.number) o) later)
@@ -34,7 +35,9 @@ pub meets-past : (based : Based) (from : ℕ) (all : List Change) → based.base
 meets-past based from [] within = refl
 meets-past based from (change ∷ rest) within = by_number (meets-past based from rest within) (nat_lt from change.number) refl
   where
-    by_number : filter (meets based) (past from rest) ≡ filter (meets (moved based from)) rest → (b : Bool) → nat_lt from change.number ≡ b → filter (meets based) (past from (change ∷ rest)) ≡ filter (meets (moved based from)) (change ∷ rest)
+    by_number : filter (meets based) (past from rest) ≡ filter (meets (moved based from)) rest →
+        (b : Bool) → nat_lt from change.number ≡ b → filter (meets based) (past from (change ∷ rest))
+        ≡ filter (meets (moved based from)) (change ∷ rest)
     by_number later true here =
         let also = lower based.base from change.number within here in
         rw (here, also) (ap (λ o. cond (is_at (address_cmp based.address) change.address) (change ∷ o) o) later)

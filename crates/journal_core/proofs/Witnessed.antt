@@ -1,5 +1,6 @@
 -- The pair that an append answers is of an observation and a commit that clash, by the one delta at that address.
-use Rattle.std.proofs.Common.{◌≡◌, ℕ, ◌+◌, ◌-◌, ◌<◌, ◌≤◌, ◌==◌, zero, suc, max, Bool, true, false, ◌&&◌, ◌||◌, nat_lt, cond, List, [], ◌∷◌, ◌++◌, map, length, get_or, Option, Some, None, slice_get, Bor, Result, Ok, Err, IfOk, refl, sym, ap, subst, ◌∙◌, arith}
+use Rattle.std.proofs.Common.{◌≡◌, ℕ, ◌+◌, ◌-◌, ◌<◌, ◌≤◌, ◌==◌, zero, suc, max, Bool, true, false, ◌&&◌, ◌||◌, nat_lt, cond, List, [], ◌∷◌, ◌++◌, map}
+use Rattle.std.proofs.Common.{length, get_or, Option, Some, None, slice_get, Bor, Result, Ok, Err, IfOk, refl, sym, ap, subst, ◌∙◌, arith}
 use Rattle.std.specs.Prelude.{IsSome, option_copied}
 use Rattle.std.specs.List.{list_any, AllByRecursion}
 use Rattle.std.specs.List.Sorted.{IsStrictlySortedBy}
@@ -75,17 +76,21 @@ alone based n (pair ∷ rest) d rising some at =
     here is true e = e
     here is false e =
         let same : based.address ≡ pair.0 = address_cmp-equal based.address pair.0 (equal (address_cmp based.address pair.0) is) in
-        let behind = subst (λ a. AllByRecursion (λ key. address_cmp a key ≡ Less) (keys_of rest)) (sym same) (sorted_head address_cmp pair.0 (keys_of rest) rising) in
+        let behind = subst (λ a. AllByRecursion (λ key. address_cmp a key ≡ Less) (keys_of rest)) (sym same)
+            (sorted_head address_cmp pair.0 (keys_of rest) rising) in
         let none = no-clash-behind based n rest behind in
-        let not_first : clashes based (record { number = n; address = pair.0; delta = pair.1 }) ≡ false = rw e (fails-last (nat_lt based.base n) (is_eq (address_cmp based.address pair.0))) in
-        let one = either (clashes based (record { number = n; address = pair.0; delta = pair.1 })) (list_any (clashes based) (changes_by n rest)) not_first some in
+        let not_first : clashes based (record { number = n; address = pair.0; delta = pair.1 })
+            ≡ false = rw e (fails-last (nat_lt based.base n) (is_eq (address_cmp based.address pair.0))) in
+        let one = either (clashes based (record { number = n; address = pair.0; delta = pair.1 }))
+            (list_any (clashes based) (changes_by n rest)) not_first some in
         absurd (cc)
 
     by : (list_any (clashes based) (changes_by n rest) ≡ true → delta_at rest based.address ≡ Some d → clash based.obs d ≡ true) → (b : Bool)
         → is_eq (address_cmp based.address pair.0) ≡ b → cond b (Some pair.1) (delta_at rest based.address) ≡ Some d → clash based.obs d ≡ true
     by later true is e = let same : pair.1 ≡ d = cc in subst (λ x. clash based.obs x ≡ true) same (here is (clash based.obs pair.1) refl)
     by later false is e =
-        let not_first : clashes based (record { number = n; address = pair.0; delta = pair.1 }) ≡ false = rw is (fails-middle (nat_lt based.base n) (clash based.obs pair.1)) in
+        let not_first : clashes based (record { number = n; address = pair.0; delta = pair.1 })
+            ≡ false = rw is (fails-middle (nat_lt based.base n) (clash based.obs pair.1)) in
         later (either (clashes based (record { number = n; address = pair.0; delta = pair.1 })) (list_any (clashes based) (changes_by n rest)) not_first some) e
 
 -- and there is one
@@ -97,7 +102,8 @@ there based n (pair ∷ rest) some = by (there based n rest) (is_eq (address_cmp
         → is_eq (address_cmp based.address pair.0) ≡ b → IsSome (cond b (Some pair.1) (delta_at rest based.address))
     by later true is = refl
     by later false is =
-        let not_first : clashes based (record { number = n; address = pair.0; delta = pair.1 }) ≡ false = rw is (fails-middle (nat_lt based.base n) (clash based.obs pair.1)) in
+        let not_first : clashes based (record { number = n; address = pair.0; delta = pair.1 })
+            ≡ false = rw is (fails-middle (nat_lt based.base n) (clash based.obs pair.1)) in
         later (either (clashes based (record { number = n; address = pair.0; delta = pair.1 })) (list_any (clashes based) (changes_by n rest)) not_first some)
 
 -- ---- the first pair
@@ -111,13 +117,15 @@ record HitOf (place : ℕ) (based : List Based) (commit : Commit) (found : Found
   number : found.number ≡ commit.number
   clashing : list_any (clashes observation) (changes_of commit) ≡ true
 
-first-hit : (place : ℕ) (based : List Based) (commit : Commit) (found : Found) → slice_get (hits_from place based commit) 0 ≡ Some found → HitOf place based commit found
+first-hit : (place : ℕ) (based : List Based) (commit : Commit) (found : Found) → slice_get (hits_from place based commit) 0 ≡ Some found
+    → HitOf place based commit found
 first-hit place [] commit found e = absurd (cc)
 first-hit place (first ∷ rest) commit found e = by (first-hit (place + 1) rest commit found) (list_any (clashes first) (changes_of commit)) refl e
   where
     by : (slice_get (hits_from (place + 1) rest commit) 0 ≡ Some found → HitOf (place + 1) rest commit found) → (b : Bool)
         → list_any (clashes first) (changes_of commit) ≡ b
-        → slice_get (cond b (record { place = place; number = commit.number } ∷ hits_from (place + 1) rest commit) (hits_from (place + 1) rest commit)) 0 ≡ Some found
+        → slice_get (cond b (record { place = place; number = commit.number } ∷ hits_from (place + 1) rest commit)
+            (hits_from (place + 1) rest commit)) 0 ≡ Some found
         → HitOf place (first ∷ rest) commit found
     by behind true hit e =
         let first_found : Found = record { place = place; number = commit.number } in
@@ -127,7 +135,8 @@ first-hit place (first ∷ rest) commit found e = by (first-hit (place + 1) rest
     by behind false hit e =
         let later = behind e in
         let at = later.at in
-        record { ahead = suc later.ahead; observation = later.observation; at = omega (arith, at); placed = later.placed; number = later.number; clashing = later.clashing }
+        record { ahead = suc later.ahead; observation = later.observation; at = omega (arith, at); placed = later.placed; number = later.number;
+            clashing = later.clashing }
 
 -- a journal has this pair, of commits behind a number
 record PairIn (n : ℕ) (based : List Based) (journal : Journal) (found : Found) : Type 0 where
@@ -176,15 +185,18 @@ first-pair n based (commit ∷ rest) found numbered e = by (first-pair (n + 1) b
 -- ---- past the fronts
 
 -- what clashes with an observation as if it was made later clashes with it
-any-moved : (based : Based) (from : ℕ) (all : List Change) → based.base ≤ from → list_any (clashes (moved based from)) all ≡ true → list_any (clashes based) all ≡ true
+any-moved : (based : Based) (from : ℕ) (all : List Change) → based.base ≤ from → list_any (clashes (moved based from)) all ≡ true
+    → list_any (clashes based) all ≡ true
 any-moved based from [] within some = absurd (cc)
 any-moved based from (change ∷ rest) within some =
-    by (nat_lt from change.number) refl (is_at (address_cmp based.address) change.address && clash based.obs change.delta) (any-moved based from rest within) some
+    by (nat_lt from change.number) refl (is_at (address_cmp based.address) change.address && clash based.obs change.delta)
+        (any-moved based from rest within) some
   where
     by : (b : Bool) → nat_lt from change.number ≡ b → Bool → (list_any (clashes (moved based from)) rest ≡ true → list_any (clashes based) rest ≡ true)
         → (((b && is_at (address_cmp based.address) change.address) && clash based.obs change.delta) || list_any (clashes (moved based from)) rest) ≡ true
         → list_any (clashes based) (change ∷ rest) ≡ true
-    by true is t later some = let base = lower based.base from change.number within is in rw base (or-later (is_at (address_cmp based.address) change.address && clash based.obs change.delta) later some)
+    by true is t later some = let base = lower based.base from change.number within is
+        in rw base (or-later (is_at (address_cmp based.address) change.address && clash based.obs change.delta) later some)
       where
         or-later : (x : Bool) → (list_any (clashes (moved based from)) rest ≡ true → list_any (clashes based) rest ≡ true)
             → (x || list_any (clashes (moved based from)) rest) ≡ true → (x || list_any (clashes based) rest) ≡ true
@@ -202,7 +214,8 @@ record Before (shards : ℕ) (fronts : List PreparedFront) (based : List Based) 
   placed : slice_get based place ≡ Some observation
   same : past_front shards fronts observation ≡ seen
 
-before : (shards : ℕ) (fronts : List PreparedFront) (based : List Based) (place : ℕ) (seen : Based) → slice_get (past_fronts shards fronts based) place ≡ Some seen
+before : (shards : ℕ) (fronts : List PreparedFront) (based : List Based) (place : ℕ) (seen : Based)
+    → slice_get (past_fronts shards fronts based) place ≡ Some seen
     → Before shards fronts based place seen
 before shards fronts [] place seen e = absurd (cc)
 before shards fronts (first ∷ rest) zero seen e = record { observation = first; placed = refl; same = cc }
@@ -210,7 +223,8 @@ before shards fronts (first ∷ rest) (suc place) seen e =
     let later = before shards fronts rest place seen e in record { observation = later.observation; placed = later.placed; same = later.same }
 
 -- the commit that stands ahead has the number behind its place
-at-number : (journal : Journal) (number ahead : ℕ) (commit : Commit) → number ≡ 0 + ahead + 1 → slice_get journal ahead ≡ Some commit → commit_at journal number ≡ Some commit
+at-number : (journal : Journal) (number ahead : ℕ) (commit : Commit) → number ≡ 0 + ahead + 1 → slice_get journal ahead ≡ Some commit
+    → commit_at journal number ≡ Some commit
 at-number journal number ahead commit is e = by (number == 0) refl
   where
     place : number - 1 ≡ ahead
@@ -292,7 +306,8 @@ module _ (based : List Based) (commits : Journal) (found : Found) (hit : IsHit b
   pub changed-kind : HasKinds commits → kind_changed d ≡ observation.address.kind
   changed-kind kinds =
       kind-at commit.deltas observation.address d
-      (each-at (λ c. AreOfTheirKinds c.deltas) commits (found.number - 1) commit kinds (stands-at commits (found.number - 1) hit.commit commit its_place numbered)) changed
+      (each-at (λ c. AreOfTheirKinds c.deltas) commits (found.number - 1) commit kinds
+          (stands-at commits (found.number - 1) hit.commit commit its_place numbered)) changed
 
   -- and so is the observation
   pub observed-kind : AreBasedOfOneKind based → IsBasedOfOneKind observation
@@ -313,4 +328,5 @@ module _ (based : List Based) (commits : Journal) (found : Found) (hit : IsHit b
   pub of-one-kind : AreBasedOfOneKind based → HasKinds commits → (witness : Witness)
       → Names observation (record { number = found.number; address = observation.address; delta = d }) witness → IsOfOneKind witness
   of-one-kind all kinds witness names =
-      names-one-kind observation (record { number = found.number; address = observation.address; delta = d }) witness (observed-kind all) (changed-kind kinds) names
+      names-one-kind observation (record { number = found.number; address = observation.address; delta = d }) witness (observed-kind all)
+          (changed-kind kinds) names

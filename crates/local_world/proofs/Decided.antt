@@ -35,7 +35,8 @@ module _ (ready : Ready) (old mid : Standing) (same : mid ≡ record old { room 
         ∙ sym found-same
 
     -- the step, once both tests are known
-    whole : (w : Option Witness) (full : Bool) → witness_past s ready ≡ w → nat_le s.limit (length s.journal) ≡ full → append_to s client ready ≡ decided s client ready w full
+    whole : (w : Option Witness) (full : Bool) → witness_past s ready ≡ w → nat_le s.limit (length s.journal) ≡ full
+        → append_to s client ready ≡ decided s client ready w full
     whole w full first second =
         ap (λ (o : Option Witness). decided s client ready o (nat_le s.limit (length s.journal))) first ∙ ap (decided s client ready w) second
 

@@ -1,5 +1,6 @@
 -- Each call of a world goes by the step of its store.
-use Rattle.std.proofs.Common.{◌≡◌, ℕ, ◌+◌, ◌-◌, ◌≤◌, ◌<◌, Bool, true, false, cond, ◌&&◌, max, List, [], ◌∷◌, ◌++◌, length, get_or, set, Option, Some, None, refl, sym, ap, ◌∙◌, subst, arith}
+use Rattle.std.proofs.Common.{◌≡◌, ℕ, ◌+◌, ◌-◌, ◌≤◌, ◌<◌, Bool, true, false, cond, ◌&&◌, max, List, [], ◌∷◌, ◌++◌, length, get_or, set, Option, Some}
+use Rattle.std.proofs.Common.{None, refl, sym, ap, ◌∙◌, subst, arith}
 use Rattle.std.specs.Prelude.{◌==◌, nat_lt, nat_le}
 use Rattle.std.specs.BTreeMap.{is_at}
 use Rattle.std.proofs.Math.Path.{fun_ext}
@@ -17,7 +18,8 @@ use Rattle.journal_core.specs.declared.ready.Ready.{Ready}
 use Rattle.reactive_registry.specs.Registered.{Registered, is_subscribed}
 use Rattle.docc_prepare.specs.Calls.{Call, Answer}
 use Rattle.docc_prepare.specs.Backends.{CanCall}
-use Rattle.docc_prepare.specs.Stores.{Store, CLIENTS, front_of, seen_by, saw, moved, telling, took, validated, prepare_at, decided, append_to, feed_for, step, HasStalled, Does, IsSound, known_by}
+use Rattle.docc_prepare.specs.Stores.{Store, CLIENTS, front_of, seen_by, saw, moved, telling, took, validated, prepare_at, decided, append_to}
+use Rattle.docc_prepare.specs.Stores.{feed_for, step, HasStalled, Does, IsSound, known_by}
 use Rattle.docc_prepare.proofs.Answered.{steps_are_answered}
 use Rattle.local_world.specs.Stored.{Stored, taken_by, store_of}
 use Rattle.local_world.specs.Standing.{HaveRisen, IsFedBy}
@@ -34,7 +36,8 @@ goes_by old new client c a sound below can does = record {
 }
 
 -- and leaves a sound store
-pub sound_after : (s t : Store) (client : ℕ) (c : Call) (a : Answer) → IsSound s → client < CLIENTS → CanCall (known_by s client) c → Does s client c a t → IsSound t
+pub sound_after : (s t : Store) (client : ℕ) (c : Call) (a : Answer) → IsSound s → client < CLIENTS → CanCall (known_by s client) c
+    → Does s client c a t → IsSound t
 sound_after s t client c a sound below can does = (steps_are_answered s t client c a sound below can does).1
 
 -- ---- for want of memory
@@ -48,14 +51,16 @@ pub unchanged : (s : Store) → IsSound s → HasStalled s s
 unchanged s sound = record { all_shards = refl; risen = λ k. omega arith; reached = sound.reached; same = refl }
 
 -- the registry may have followed
-pub told_alike : (old : Stored) (registry : Registered) → IsSound (store_of old) → ((c : ℕ) (a : Address) → is_subscribed registry c a ≡ is_subscribed old.registry c a)
+pub told_alike : (old : Stored) (registry : Registered) → IsSound (store_of old) →
+    ((c : ℕ) (a : Address) → is_subscribed registry c a ≡ is_subscribed old.registry c a)
     → ((c : ℕ) → taken_by registry c ≡ taken_by old.registry c) → HasStalled (store_of old) (store_of (record old { registry = registry }))
 told_alike old registry sound told taken = record {
   all_shards = refl;
   risen = λ k. omega arith;
   reached = sound.reached;
   same =
-      ap (λ (f : ℕ → Address → Bool). let t : Store = record (store_of old) { subscribed = f; taken = λ c. taken_by registry c } in t) (fun_ext (λ c. fun_ext (told c)))
+      ap (λ (f : ℕ → Address → Bool). let t : Store = record (store_of old) { subscribed = f; taken = λ c. taken_by registry c } in t)
+          (fun_ext (λ c. fun_ext (told c)))
       ∙ ap (λ (f : ℕ → ℕ). let t : Store = record (store_of old) { taken = f } in t) (fun_ext taken);
 }
 
@@ -82,7 +87,8 @@ does-validated s t client shard front horizon based (Some base) w is = is
 does-validated s t client shard front horizon based None (Some witness) is = is
 does-validated s t client shard front horizon based None None is = is
 
-pub does-prepare : (old : Stored) (client shard : ℕ) (based : List Based) (a : Answer) → a ≡ (prepare_at (store_of old) client shard based (get_or old.fronts shard 0)).1
+pub does-prepare : (old : Stored) (client shard : ℕ) (based : List Based) (a : Answer)
+    → a ≡ (prepare_at (store_of old) client shard based (get_or old.fronts shard 0)).1
     → Does (store_of old) client (Call.prepare shard based) a
     (store_of (record old { seens = set old.seens client (max (get_or old.seens client 0) (get_or old.fronts shard 0)) }))
 does-prepare old client shard based a is =
@@ -121,7 +127,8 @@ left-by s client ready (Some w) full left is = ap (λ (j : Journal). let t : Sto
 left-by s client ready None true left is = ap (λ (j : Journal). let t : Store = record s { journal = j; seens = set s.seens client (length j) } in t) is
 left-by s client ready None false left is =
     ap (λ (j : Journal). let t : Store = record s { journal = j; seens = set s.seens client (length j) } in t) is
-    ∙ ap (λ (n : ℕ). let t : Store = record s { journal = (decided s client ready None false).0.journal; seens = set s.seens client n } in t) (length-append s.journal _)
+    ∙ ap (λ (n : ℕ). let t : Store = record s { journal = (decided s client ready None false).0.journal; seens = set s.seens client n } in t)
+        (length-append s.journal _)
 
 pub does-append : (old : Stored) (client : ℕ) (ready : Ready) (a : Answer) (left : Journal) → IsDecided (store_of old) client ready a left
     → Does (store_of old) client (Call.append ready) a (store_of (record old { journal = left; seens = set old.seens client (length left) }))
@@ -137,7 +144,8 @@ pub does-told : (old : Stored) (client : ℕ) (address : Address) (told : Bool) 
     → ((c : ℕ) → taken_by registry c ≡ taken_by old.registry c)
     → store_of (record old { registry = registry }) ≡ telling (store_of old) client address told
 does-told old client address told registry tells taken =
-    ap (λ (f : ℕ → Address → Bool). let t : Store = record (store_of old) { subscribed = f; taken = λ c. taken_by registry c } in t) (fun_ext (λ c. fun_ext (tells c)))
+    ap (λ (f : ℕ → Address → Bool). let t : Store = record (store_of old) { subscribed = f; taken = λ c. taken_by registry c } in t)
+        (fun_ext (λ c. fun_ext (tells c)))
     ∙ ap (λ (f : ℕ → ℕ). let t : Store = record (telling (store_of old) client address told) { taken = f } in t) (fun_ext taken)
 
 -- a client takes
@@ -150,6 +158,8 @@ does-take old client registry feed is told taken =
     let fed : feed ≡ feed_for s client = is old refl refl in
     let n = length old.journal in
     ap (λ (f : Fed). let p : Store × Answer = (store_of (record old { seens = set old.seens client f.to; registry = registry }), Answer.feed f) in p) fed
-    ∙ ap (λ (f : ℕ → Address → Bool). let p : Store × Answer = (record s { seens = set old.seens client n; subscribed = f; taken = λ c. taken_by registry c }, Answer.feed (feed_for s client)) in p)
+    ∙ ap (λ (f : ℕ → Address → Bool). let p : Store × Answer = (record s { seens = set old.seens client n; subscribed = f;
+        taken = λ c. taken_by registry c }, Answer.feed (feed_for s client)) in p)
     (fun_ext (λ c. fun_ext (told c)))
-    ∙ ap (λ (f : ℕ → ℕ). let p : Store × Answer = (record s { seens = set old.seens client n; taken = f }, Answer.feed (feed_for s client)) in p) (fun_ext taken)
+    ∙ ap (λ (f : ℕ → ℕ). let p : Store × Answer = (record s { seens = set old.seens client n; taken = f }, Answer.feed (feed_for s client)) in p)
+        (fun_ext taken)

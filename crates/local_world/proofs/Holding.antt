@@ -1,5 +1,6 @@
 -- A shard that follows the journal goes on holding it, and so do the others.
-use Rattle.std.proofs.Common.{◌≡◌, ℕ, zero, suc, ◌+◌, ◌≤◌, ◌<◌, max, List, [], ◌∷◌, ◌++◌, length, take, map, get_or, set, Some, Result, Ok, Err, OnOk, IfOk, Bool, true, false, cond, ◌-◌, inl, inr, refl, sym, ap, ◌∙◌, subst, arith}
+use Rattle.std.proofs.Common.{◌≡◌, ℕ, zero, suc, ◌+◌, ◌≤◌, ◌<◌, max, List, [], ◌∷◌, ◌++◌, length, take, map, get_or, set, Some, Result, Ok, Err, OnOk}
+use Rattle.std.proofs.Common.{IfOk, Bool, true, false, cond, ◌-◌, inl, inr, refl, sym, ap, ◌∙◌, subst, arith}
 use Rattle.std.specs.Prelude.{◌⊎◌, slice_get, nat_lt}
 use Rattle.std.proofs.lemmas.List.{take-append-le, length-append, length-set, get_or-set_same}
 use Rattle.std.proofs.lemmas.Bool.Decides.{nat_tests}
@@ -100,7 +101,8 @@ front-at [] (suc i) s is = absurd (cc)
 front-at (z ∷ shards) zero s is = let same : z ≡ s = cc in ap (λ (x : Sharded). x.front) same
 front-at (z ∷ shards) (suc i) s is = front-at shards i s is
 
-fronts-up_to : (n : ℕ) (shards : List Sharded) → ((i : ℕ) (s : Sharded) → slice_get shards i ≡ Some s → s.front ≤ n) → (i : ℕ) → get_or (fronts_of shards) i 0 ≤ n
+fronts-up_to : (n : ℕ) (shards : List Sharded) → ((i : ℕ) (s : Sharded) → slice_get shards i ≡ Some s → s.front ≤ n) →
+    (i : ℕ) → get_or (fronts_of shards) i 0 ≤ n
 fronts-up_to n [] each i = omega arith
 fronts-up_to n (s ∷ shards) each zero = each 0 s refl
 fronts-up_to n (s ∷ shards) each (suc i) = fronts-up_to n shards (λ j x is. each (suc j) x is) i
@@ -181,7 +183,8 @@ length-fronts [] = refl
 length-fronts (s ∷ shards) = ap suc (length-fronts shards)
 
 -- the shard of an address has followed to a number
-module _ (journal : Journal) (settings : Settings) (before after : List Sharded) (first : AreHeld journal settings before) (held : AreHeld journal settings after)
+module _ (journal : Journal) (settings : Settings) (before after : List Sharded) (first : AreHeld journal settings before)
+    (held : AreHeld journal settings after)
     (place seen : ℕ) (address : Address) (here : place ≡ shard_of address settings.shards) (below : place < settings.shards)
     (moved : fronts_of after ≡ set (fronts_of before) place (max (get_or (fronts_of before) place 0) seen)) (s : Sharded) (at : s ≡ get_or after place s) where
   abbrev top : ℕ
@@ -213,13 +216,17 @@ module _ (journal : Journal) (settings : Settings) (before after : List Sharded)
         if_ok r (λ snap. snap.base ≡ s.front) (λ snap. fronts_of after ≡ set (fronts_of before) (shard_of address settings.shards) snap.base)
         (λ snap e. moved-top ∙ ap (set (fronts_of before) (shard_of address settings.shards)) (sym (e ∙ reached-top))) base
 
-    pub read-value : ((first : Journal) → Holds first s → IfOk r (λ snap. snap.value ≡ state first s.front address)) → IfOk r (λ snap. snap.value ≡ state journal snap.base address)
+    pub read-value : ((first : Journal) → Holds first s → IfOk r (λ snap. snap.value ≡ state first s.front address))
+        → IfOk r (λ snap. snap.value ≡ state journal snap.base address)
     read-value values =
-        if_both r (λ snap. snap.base ≡ s.front) (λ snap. snap.value ≡ state (take s.front journal) s.front address) (λ snap. snap.value ≡ state journal snap.base address)
-        (λ snap e v. v ∙ state-first journal s.front s.front address (omega arith) ∙ ap (λ (n : ℕ). state journal n address) (sym e)) base (values (take s.front journal) its.holds)
+        if_both r (λ snap. snap.base ≡ s.front) (λ snap. snap.value ≡ state (take s.front journal) s.front address)
+            (λ snap. snap.value ≡ state journal snap.base address)
+        (λ snap e v. v ∙ state-first journal s.front s.front address (omega arith) ∙ ap (λ (n : ℕ). state journal n address) (sym e)) base
+            (values (take s.front journal) its.holds)
 
   -- a read at a number that isn't past the front
-  pub back-value : (value : Value) → ReadsAt (take s.front journal) s address seen (Ok value) → Answer.value value ≡ back_at journal settings.window address seen top
+  pub back-value : (value : Value) → ReadsAt (take s.front journal) s address seen (Ok value)
+      → Answer.value value ≡ back_at journal settings.window address seen top
   back-value value reads =
       let f = reached-top in
       let w = its.window in

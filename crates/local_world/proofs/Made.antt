@@ -1,5 +1,6 @@
 -- A new world is the first store, and its parts stand for the journal without commits.
-use Rattle.std.proofs.Common.{◌≡◌, ℕ, zero, suc, ◌+◌, ◌≤◌, ◌<◌, Bool, true, false, cond, List, [], ◌∷◌, ◌++◌, length, take, Option, Some, None, inl, inr, add-one, refl, sym, ap, ◌∙◌, subst, arith}
+use Rattle.std.proofs.Common.{◌≡◌, ℕ, zero, suc, ◌+◌, ◌≤◌, ◌<◌, Bool, true, false, cond, List, [], ◌∷◌, ◌++◌, length, take, Option, Some, None, inl}
+use Rattle.std.proofs.Common.{inr, add-one, refl, sym, ap, ◌∙◌, subst, arith}
 use Rattle.std.specs.Prelude.{◌⊎◌, IsSome, is_some, nat_lt, replicate, slice_get}
 use Rattle.std.proofs.lemmas.List.{length-append}
 use Rattle.change_feed.specs.declared.tail.Tail.{Tail}
@@ -58,7 +59,8 @@ module _ (registry : Registered) (made : IsEntered CLIENTS registry) where
         let l = settings.limit in
         let told : ℕ → Address → Bool = λ c a. is_subscribed registry c a in
         let taken : ℕ → ℕ = λ c. taken_by registry c in
-        let made' : Journal → List ℕ → List ℕ → (ℕ → Address → Bool) → (ℕ → ℕ) → Store = λ j fs ns s t. record { shards = n; window = w; limit = l; journal = j; fronts = fs; seens = ns; subscribed = s; taken = t } in
+        let made' : Journal → List ℕ → List ℕ → (ℕ → Address → Bool) → (ℕ → ℕ)
+            → Store = λ j fs ns s t. record { shards = n; window = w; limit = l; journal = j; fronts = fs; seens = ns; subscribed = s; taken = t } in
         ap (λ (j : Journal). made' j (fronts_of shards) seens told taken) bare
         ∙ ap (λ (fs : List ℕ). made' [] fs seens told taken) fronts
         ∙ ap (λ (ns : List ℕ). made' [] (replicate n 0) ns told taken) seen
@@ -68,9 +70,11 @@ module _ (registry : Registered) (made : IsEntered CLIENTS registry) where
     pub first-sound : IsSound (store_of (stored settings standing.commits shards seens registry))
     first-sound =
         subst IsSound (sym is-first)
-        (first_store_is_sound settings.shards settings.window settings.limit (let some : LEAST_SHARDS ≤ settings.shards = settings.shards_in_range.0 in omega arith))
+        (first_store_is_sound settings.shards settings.window settings.limit
+            (let some : LEAST_SHARDS ≤ settings.shards = settings.shards_in_range.0 in omega arith))
 
-    pub first-kept : standing.shards ≡ settings.shards → standing.limit ≡ settings.limit → AreHeld [] settings shards → IsKept settings standing shards seens registry
+    pub first-kept : standing.shards ≡ settings.shards → standing.limit ≡ settings.limit → AreHeld [] settings shards
+        → IsKept settings standing shards seens registry
     first-kept all_shards limit held = record {
       sound = first-sound;
       all_shards = all_shards;

@@ -1,5 +1,6 @@
 -- The witness that a shard or the journal names is that of the store.
-use Rattle.std.proofs.Common.{◌≡◌, ℕ, zero, suc, ◌+◌, ◌-◌, ◌≤◌, ◌<◌, Bool, true, false, cond, ◌&&◌, List, [], ◌∷◌, ◌++◌, Option, Some, None, inl, inr, add-one, refl, sym, ap, ◌∙◌, subst, arith}
+use Rattle.std.proofs.Common.{◌≡◌, ℕ, zero, suc, ◌+◌, ◌-◌, ◌≤◌, ◌<◌, Bool, true, false, cond, ◌&&◌, List, [], ◌∷◌, ◌++◌, Option, Some, None, inl, inr}
+use Rattle.std.proofs.Common.{add-one, refl, sym, ap, ◌∙◌, subst, arith}
 use Rattle.std.specs.Prelude.{◌⊎◌, ◌==◌, nat_lt, slice_get, is_some}
 use Rattle.std.specs.List.Sorted.{IsStrictlySortedBy}
 use Rattle.std.specs.Ordering.{is_eq}
@@ -55,7 +56,8 @@ named-first b n (e ∷ deltas) d past clashing there = by (is_at (address_cmp b.
 
     by : (x : Bool) → is_at (address_cmp b.address) e.0 ≡ x → cond x (Some e.1) (delta_at deltas b.address) ≡ Some d
         → (delta_at deltas b.address ≡ Some d → witness_in b (changes_by n deltas) ≡ made b.address d)
-        → cond ((nat_lt b.base n && is_at (address_cmp b.address) e.0) && clash b.obs e.1) (made e.0 e.1) (witness_in b (changes_by n deltas)) ≡ made b.address d
+        → cond ((nat_lt b.base n && is_at (address_cmp b.address) e.0) && clash b.obs e.1) (made e.0 e.1) (witness_in b (changes_by n deltas))
+            ≡ made b.address d
     by true at is rest =
         let same : e.1 ≡ d = cc in
         let here : e.0 ≡ b.address = sym (same_address b.address e.0 at) in
@@ -69,7 +71,8 @@ named-first b n (e ∷ deltas) d past clashing there = by (is_at (address_cmp b.
         ∙ rest is
 
 -- what is named is the part
-witness-made : (b : Based) (n : ℕ) (d : Delta) (o : Option WriteOp) (w : Witness) → o ≡ Some w.part → w.address ≡ b.address → w.obs ≡ b.obs → w.base ≡ b.base → w.number ≡ n
+witness-made : (b : Based) (n : ℕ) (d : Delta) (o : Option WriteOp) (w : Witness) → o ≡ Some w.part → w.address ≡ b.address → w.obs ≡ b.obs
+    → w.base ≡ b.base → w.number ≡ n
     → witness_by b (record { number = n; address = b.address; delta = d }) o ≡ Some w
 witness-made b n d o w part address obs base number =
     ap (witness_by b (record { number = n; address = b.address; delta = d })) part
@@ -78,12 +81,14 @@ witness-made b n d o w part address obs base number =
     fields : (made : Witness) → (let m : Witness = record { address = b.address; obs = b.obs; base = b.base; part = w.part; number = n } in m) ≡ w
     fields made = λ i. record { address = sym address i; obs = sym obs i; base = sym base i; part = w.part; number = sym number i }
 
-delta-kind : (deltas : Deltas) (a : Address) (d : Delta) → AllByRecursion (λ (pair : Address × Delta). kind_changed pair.1 ≡ pair.0.kind) deltas → delta_at deltas a ≡ Some d
+delta-kind : (deltas : Deltas) (a : Address) (d : Delta) → AllByRecursion (λ (pair : Address × Delta). kind_changed pair.1 ≡ pair.0.kind) deltas
+    → delta_at deltas a ≡ Some d
     → kind_changed d ≡ a.kind
 delta-kind [] a d all there = absurd (cc)
 delta-kind (e ∷ deltas) a d all there = by (is_at (address_cmp a) e.0) refl there (delta-kind deltas a d all.1)
   where
-    by : (x : Bool) → is_at (address_cmp a) e.0 ≡ x → cond x (Some e.1) (delta_at deltas a) ≡ Some d → (delta_at deltas a ≡ Some d → kind_changed d ≡ a.kind) → kind_changed d ≡ a.kind
+    by : (x : Bool) → is_at (address_cmp a) e.0 ≡ x → cond x (Some e.1) (delta_at deltas a) ≡ Some d →
+        (delta_at deltas a ≡ Some d → kind_changed d ≡ a.kind) → kind_changed d ≡ a.kind
     by true at is rest =
         let same : e.1 ≡ d = cc in
         ap kind_changed (sym same) ∙ all.0 ∙ ap (λ (x : Address). x.kind) (sym (same_address a e.0 at))
@@ -122,14 +127,16 @@ module _ (based : List Based) (journal : Journal) (found : Found) (orderly : IsO
   -- the observation and the first delta at its address: the witness is what the store names
   pub named-as : (observation : Based) (commit : Commit) (delta : Delta) (w : Witness) → slice_get based found.place ≡ Some observation
       → commit_at journal found.number ≡ Some commit → delta_at commit.deltas observation.address ≡ Some delta
-      → named observation.obs delta ≡ Some w.part → w.address ≡ observation.address → w.obs ≡ observation.obs → w.base ≡ observation.base → w.number ≡ found.number
+      → named observation.obs delta ≡ Some w.part → w.address ≡ observation.address → w.obs ≡ observation.obs → w.base ≡ observation.base
+          → w.number ≡ found.number
       → witness_of based journal found ≡ Some w
   named-as observation commit delta w placed numbered changed part address obs base number =
       let there = witness-there based journal found orderly kinds least in
       let other = there.2 in
       let same : other.observation ≡ observation = some-same (sym other.placed ∙ placed) in
       let same_commit : other.commit ≡ commit = some-same (sym other.there ∙ numbered) in
-      let change_number : other.change.number ≡ commit.number = number-of other.commit.number other.commit.deltas other.index other.change other.among ∙ ap (λ (c : Commit). c.number) same_commit in
+      let change_number : other.change.number ≡ commit.number = number-of other.commit.number other.commit.deltas other.index other.change
+          other.among ∙ ap (λ (c : Commit). c.number) same_commit in
       let commit_number : commit.number ≡ found.number = sym change_number ∙ sym other.names.number ∙ other.number in
       let past : nat_lt observation.base commit.number ≡ true =
       ap (λ (b : Based). nat_lt b.base commit.number) (sym same) ∙ ap (nat_lt other.observation.base) (sym change_number)
@@ -147,11 +154,13 @@ module _ (based : List Based) (journal : Journal) (found : Found) (orderly : IsO
 
   pub named-by-journal : (w : Witness) → IsWitnessOf based journal found w → witness_of based journal found ≡ Some w
   named-by-journal w is =
-      named-as is.observation is.commit is.delta w is.placed is.numbered is.changed is.names.part is.names.address is.names.observed is.names.base is.names.number
+      named-as is.observation is.commit is.delta w is.placed is.numbered is.changed is.names.part is.names.address is.names.observed is.names.base
+          is.names.number
 
 -- ---- a shard's witness
 
-key-in : (P : Address → Type 0) (n : ℕ) (deltas : Deltas) (i : ℕ) (change : Change) → AllByRecursion P (keys_of deltas) → slice_get (changes_by n deltas) i ≡ Some change → P change.address
+key-in : (P : Address → Type 0) (n : ℕ) (deltas : Deltas) (i : ℕ) (change : Change) → AllByRecursion P (keys_of deltas)
+    → slice_get (changes_by n deltas) i ≡ Some change → P change.address
 key-in P n [] i change all is = absurd (cc)
 key-in P n (e ∷ deltas) zero change all is =
     let first : Change = record { number = n; address = e.0; delta = e.1 } in
@@ -159,7 +168,8 @@ key-in P n (e ∷ deltas) zero change all is =
 key-in P n (e ∷ deltas) (suc i) change all is = key-in P n deltas i change all.1 is
 
 -- of deltas by rising address each is the first at its address
-delta-there : (n : ℕ) (deltas : Deltas) (i : ℕ) (change : Change) → IsStrictlySortedBy address_cmp (keys_of deltas) → slice_get (changes_by n deltas) i ≡ Some change
+delta-there : (n : ℕ) (deltas : Deltas) (i : ℕ) (change : Change) → IsStrictlySortedBy address_cmp (keys_of deltas)
+    → slice_get (changes_by n deltas) i ≡ Some change
     → delta_at deltas change.address ≡ Some change.delta
 unfolding IsStrictlySortedBy
 delta-there n [] i change rising is = absurd (cc)
@@ -179,7 +189,8 @@ delta-there n (e ∷ deltas) (suc i) change rising is = by (is_at (address_cmp c
         absurd (let no : Less ≡ Equal = sym less ∙ equal in cc)
     by false at rest = rest
 
-in-either : {A : Type 0} (xs ys : List A) (i : ℕ) (x : A) → slice_get (xs ++ ys) i ≡ Some x → ((j : ℕ) × (slice_get xs j ≡ Some x)) ⊎ ((j : ℕ) × (slice_get ys j ≡ Some x))
+in-either : {A : Type 0} (xs ys : List A) (i : ℕ) (x : A) → slice_get (xs ++ ys) i ≡ Some x →
+    ((j : ℕ) × (slice_get xs j ≡ Some x)) ⊎ ((j : ℕ) × (slice_get ys j ≡ Some x))
 in-either [] ys i x is = inr (i, is)
 in-either (z ∷ xs) ys zero x is = inl (0, is)
 in-either (z ∷ xs) ys (suc i) x is = elim (in-either xs ys i x is) [ inl p ↦ inl (suc p.0, p.1) | inr p ↦ inr p ]
@@ -193,11 +204,13 @@ commit-there journal k n is = by (n == 0) refl
 
 -- a change among those of a journal is one of its commit
 in-commit : (m n : ℕ) (journal : Journal) (i : ℕ) (change : Change) → AreNumberedFrom m journal → slice_get (changes journal) i ≡ Some change
-    → (k : ℕ) × (commit : Commit) × (j : ℕ) × (slice_get journal k ≡ Some commit) × (slice_get (changes_of commit) j ≡ Some change) × (change.number ≡ m + k + 1)
+    → (k : ℕ) × (commit : Commit) × (j : ℕ) × (slice_get journal k ≡ Some commit) × (slice_get (changes_of commit) j ≡ Some change)
+        × (change.number ≡ m + k + 1)
 in-commit m n [] i change numbered is = absurd (cc)
 in-commit m n (commit ∷ journal) i change numbered is = elim (in-either (changes_of commit) (changes journal) i change is) [
   | inl p ↦ (0, commit, p.0, refl, p.1, let h = number-of commit.number commit.deltas p.0 change p.1 in let g = numbered.0 in omega arith)
-  | inr p ↦ let r = in-commit (m + 1) n journal p.0 change numbered.1 p.1 in (r.0 + 1, r.1, r.2, after commit journal r.0 r.1 r.3, r.4, let h = r.5 in omega arith)
+  | inr p ↦ let r = in-commit (m + 1) n journal p.0 change numbered.1 p.1 in
+      (r.0 + 1, r.1, r.2, after commit journal r.0 r.1 r.3, r.4, let h = r.5 in omega arith)
 ]
   where
     after : (c : Commit) (rest : Journal) (k : ℕ) (x : Commit) → slice_get rest k ≡ Some x → slice_get (c ∷ rest) (k + 1) ≡ Some x
@@ -212,9 +225,11 @@ named-by-shard based journal w readable orderly kinds is =
     let at : commit_at journal is.found.number ≡ Some here.1 = commit-there journal here.0 is.found.number numbered ∙ here.3 in
     let rising = each-at (λ (c : Commit). IsStrictlySortedBy address_cmp (keys_of c.deltas)) journal here.0 here.1 readable.rising here.3 in
     let meeting = both-true (meets pair.observation pair.change) (clash pair.observation.obs pair.change.delta) pair.clashing in
-    let address : pair.observation.address ≡ pair.change.address = same_address pair.observation.address pair.change.address (second-true (nat_lt pair.observation.base pair.change.number) _ meeting) in
+    let address : pair.observation.address ≡ pair.change.address = same_address pair.observation.address pair.change.address
+        (second-true (nat_lt pair.observation.base pair.change.number) _ meeting) in
     let delta : delta_at here.1.deltas pair.observation.address ≡ Some pair.change.delta =
     ap (delta_at here.1.deltas) address ∙ delta-there here.1.number here.1.deltas here.2 pair.change rising here.4 in
     ap (option_and_then (witness_of based journal)) is.least
-    ∙ named-as based journal is.found orderly kinds is.least pair.observation here.1 pair.change.delta w pair.placed at delta is.names.part is.names.address is.names.observed is.names.base
+    ∙ named-as based journal is.found orderly kinds is.least pair.observation here.1 pair.change.delta w pair.placed at delta is.names.part
+        is.names.address is.names.observed is.names.base
     (is.names.number ∙ pair.numbered)

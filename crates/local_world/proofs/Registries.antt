@@ -1,5 +1,6 @@
 -- The registry goes on following the journal, and what it has for a client is what the store has.
-use Rattle.std.proofs.Common.{◌≡◌, ℕ, zero, suc, ◌+◌, ◌≤◌, ◌<◌, Bool, true, false, cond, ◌&&◌, List, [], ◌∷◌, ◌++◌, filter, length, take, drop, Option, Some, None, option_map, option_and_then, Result, Ok, Err, OnOk, OnErr, refl, sym, ap, ◌∙◌, subst, arith}
+use Rattle.std.proofs.Common.{◌≡◌, ℕ, zero, suc, ◌+◌, ◌≤◌, ◌<◌, Bool, true, false, cond, ◌&&◌, List, [], ◌∷◌, ◌++◌, filter, length, take, drop}
+use Rattle.std.proofs.Common.{Option, Some, None, option_map, option_and_then, Result, Ok, Err, OnOk, OnErr, refl, sym, ap, ◌∙◌, subst, arith}
 use Rattle.std.specs.Prelude.{◌==◌, IsSome, nat_lt}
 use Rattle.std.specs.Option.{option_map_or}
 use Rattle.std.specs.List.{AllByRecursion}
@@ -34,7 +35,8 @@ use Rattle.journal_core.specs.Changes.{changes_of, changes, up_to, between, of_a
 use Rattle.journal_core.specs.Pairs.{AreNumbered}
 use Rattle.journal_core.specs.Tails.{HasAll}
 use Rattle.journal_core.proofs.ByShard.{changes-up_to, changes-between}
-use Rattle.reactive_registry.specs.Registered.{Kept, Registered, kept_of, with_kept, is_address, is_subscribed, told, emptied, subscribed, unsubscribed, changes_at, pending_for, pending_of}
+use Rattle.reactive_registry.specs.Registered.{Kept, Registered, kept_of, with_kept, is_address, is_subscribed, told, emptied, subscribed}
+use Rattle.reactive_registry.specs.Registered.{unsubscribed, changes_at, pending_for, pending_of}
 use Rattle.reactive_registry.specs.Standing.{since, KeptFor, StandsFor}
 use Rattle.reactive_registry.proofs.Pairs.{same_number, turned}
 use Rattle.reactive_registry.proofs.Standing.{deltas-chosen, takes_stand}
@@ -49,7 +51,8 @@ use Rattle.local_world.proofs.SamePairs.{same_pairs, at_itself}
 
 changes-append : (journal later : Journal) → changes (journal ++ later) ≡ changes journal ++ changes later
 changes-append [] later = refl
-changes-append (commit ∷ journal) later = ap (λ more. changes_of commit ++ more) (changes-append journal later) ∙ sym (append_assoc (changes_of commit) (changes journal) (changes later))
+changes-append (commit ∷ journal) later = ap (λ more. changes_of commit ++ more) (changes-append journal later)
+    ∙ sym (append_assoc (changes_of commit) (changes journal) (changes later))
 
 -- those up to a number and those past it are all
 changes-split : (journal : Journal) (front : ℕ) → AreNumbered journal
@@ -233,7 +236,8 @@ rising-with_changes : (changes : List Change) (deltas : Deltas) → IsStrictlySo
     → IsStrictlySortedBy address_cmp (keys_of (with_changes deltas changes))
 rising-with_changes [] deltas rising = rising
 rising-with_changes (c ∷ changes) deltas rising =
-    rising-with_changes changes (with_delta deltas c.address c.delta) (sorted-insert_entry address_cmp addresses.total-law c.address (after_maybe (delta_at deltas c.address) c.delta) deltas rising)
+    rising-with_changes changes (with_delta deltas c.address c.delta) (sorted-insert_entry address_cmp addresses.total-law c.address
+        (after_maybe (delta_at deltas c.address) c.delta) deltas rising)
 
 module _ (journal : Journal) (registry : Registered) (client : ℕ) (following : IsFollowing journal registry) (ended : registry.front ≡ length journal) where
   abbrev since_taken : List Change
@@ -340,7 +344,8 @@ missed-is journal front from address missed k taken all =
 taken-subscribed : (address : Address) (missed : List Change) (k : Kept) → (subscribed address missed k).taken ≡ k.taken
 taken-subscribed address missed k = by (is_address k address)
   where
-    by : (b : Bool) → (cond b k (record k { addresses = insert_key address_cmp k.addresses address; changes = k.changes ++ changes_at address missed })).taken ≡ k.taken
+    by : (b : Bool) → (cond b k (record k { addresses = insert_key address_cmp k.addresses address;
+        changes = k.changes ++ changes_at address missed })).taken ≡ k.taken
     by true = refl
     by false = refl
 
@@ -376,7 +381,8 @@ told-untold (Err e) old new same = told-same old new same
 
 module _ (journal : Journal) (old new : Registered) (client : ℕ) (address : Address) (following : IsFollowing journal old) (front : new.front ≡ old.front)
     (is : (s : ℕ) → kept_of new s ≡ with_kept old client (option_map (unsubscribed address) (kept_of old client)) s)
-    (tells : (s : ℕ) (a : Address) → is_subscribed new s a ≡ cond (is_at (nat_cmp client) s && is_at (address_cmp address) a) false (is_subscribed old s a)) where
+    (tells : (s : ℕ) (a : Address) → is_subscribed new s a ≡ cond (is_at (nat_cmp client) s && is_at (address_cmp address) a) false
+        (is_subscribed old s a)) where
   pub following-hush : IsFollowing journal new
   following-hush =
       following-one journal old new client (unsubscribed address) following front is
@@ -410,13 +416,15 @@ following-longer journal later registry first whole f =
 pub last-taken : (o : Option Kept) (n : ℕ) → Some n ≡ option_map (λ (kept : Kept). kept.taken) o → (k : Kept) → o ≡ Some k → n ≡ k.taken
 last-taken o n is k e = let both : Some n ≡ Some k.taken = is ∙ ap (option_map (λ (kept : Kept). kept.taken)) e in cc
 
-pub last-within : (o : Option Kept) (n front : ℕ) → Some n ≡ option_map (λ (kept : Kept). kept.taken) o → ((k : Kept) → o ≡ Some k → k.taken ≤ front) → n ≤ front
+pub last-within : (o : Option Kept) (n front : ℕ) → Some n ≡ option_map (λ (kept : Kept). kept.taken) o →
+    ((k : Kept) → o ≡ Some k → k.taken ≤ front) → n ≤ front
 last-within None n front is each = absurd (cc)
 last-within (Some k) n front is each = subst (λ (m : ℕ). m ≤ front) (sym (last-taken (Some k) n is k refl)) (each k refl)
 
 pub nothing-taken : (o : Option Kept) (n : ℕ) → None ≡ option_map (λ (kept : Kept). kept.taken) o → (k : Kept) → o ≡ Some k → n ≡ k.taken
 nothing-taken o n is k e = absurd (let no : None ≡ Some k.taken = is ∙ ap (option_map (λ (kept : Kept). kept.taken)) e in cc)
 
-pub missed-from : (journal : Journal) (missed : Tail) (address : Address) (from f g : ℕ) → f ≡ g → HasAll from f (of_address address (between from f (changes journal))) missed
+pub missed-from : (journal : Journal) (missed : Tail) (address : Address) (from f g : ℕ) → f ≡ g
+    → HasAll from f (of_address address (between from f (changes journal))) missed
     → HasAll from g (of_address address (between from g (changes journal))) missed
 missed-from journal missed address from f g same all = subst (λ (x : ℕ). HasAll from x (of_address address (between from x (changes journal))) missed) same all

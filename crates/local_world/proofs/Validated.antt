@@ -24,7 +24,8 @@ least-same [] = refl
 least-same (b ∷ based) = by (shard.least_base based) (least_base based) (least-same based)
   where
     by : (o p : Option ℕ) → o ≡ p
-        → elim o as (λ _. Option ℕ) [ None ↦ Some b.base | Some other ↦ Some (min b.base other) ] ≡ Some (elim p as (λ _. ℕ) [ None ↦ b.base | Some other ↦ min b.base other ])
+        → elim o as (λ _. Option ℕ) [ None ↦ Some b.base | Some other ↦ Some (min b.base other) ]
+            ≡ Some (elim p as (λ _. ℕ) [ None ↦ b.base | Some other ↦ min b.base other ])
     by None None e = refl
     by None (Some y) e = absurd (cc)
     by (Some x) None e = absurd (cc)
@@ -52,7 +53,8 @@ module _ (journal : Journal) (s : Sharded) (based : List Based) where
       ap (Answer.late base) v.1
       ∙ ap (λ o. validated s.number s.front (s.front - s.window) o (least_witness based journal)) (sym v.0 ∙ late-is)
 
-  pub as-clash : (w : Witness) → IsReadable journal → IsOrderly journal → AllByRecursion IsBasedOfOneKind based → Validates journal s based (Err (refusal.Clash w))
+  pub as-clash : (w : Witness) → IsReadable journal → IsOrderly journal → AllByRecursion IsBasedOfOneKind based
+      → Validates journal s based (Err (refusal.Clash w))
       → Answer.clash w ≡ expected
   as-clash w readable orderly kinds v =
       ap (λ x. validated s.number s.front (s.front - s.window) None x) (sym (named-by-shard based journal w readable orderly kinds v.1))

@@ -1,5 +1,6 @@
 -- Each call of a world goes by the step, and leaves its parts standing for its journal.
-use Rattle.std.proofs.Common.{◌≡◌, ℕ, ◌+◌, ◌-◌, ◌≤◌, ◌<◌, Bool, true, false, cond, ◌&&◌, max, List, [], ◌∷◌, ◌++◌, length, take, get_or, set, Option, Some, None, inl, inr, refl, sym, ap, ◌∙◌, subst, arith}
+use Rattle.std.proofs.Common.{◌≡◌, ℕ, ◌+◌, ◌-◌, ◌≤◌, ◌<◌, Bool, true, false, cond, ◌&&◌, max, List, [], ◌∷◌, ◌++◌, length, take, get_or, set, Option}
+use Rattle.std.proofs.Common.{Some, None, inl, inr, refl, sym, ap, ◌∙◌, subst, arith}
 use Rattle.std.specs.Prelude.{◌⊎◌, ◌==◌}
 use Rattle.std.specs.List.{AllByRecursion}
 use Rattle.std.specs.BTreeMap.{is_at}
@@ -38,7 +39,8 @@ use Rattle.local_world.specs.Answering.{GoesBy, back_at}
 use Rattle.local_world.specs.Deciding.{MayDecide, HasJournal, IsDecided}
 use Rattle.local_world.proofs.Holding.{front-at, shard-there, held-there, held-all-longer}
 use Rattle.local_world.proofs.Registries.{following-longer}
-use Rattle.local_world.proofs.Going.{goes_by, sound_after, stalled, unchanged, told_alike, does-read, does-prepare, does-read_at, does-append, does-told, does-take}
+use Rattle.local_world.proofs.Going.{goes_by, sound_after, stalled, unchanged, told_alike, does-read, does-prepare, does-read_at, does-append}
+use Rattle.local_world.proofs.Going.{does-told, does-take}
 
 -- what an append leaves is the journal, or one commit more
 left-cases : (s : Store) (client : ℕ) (ready : Ready) (o : Option Witness) (full : Bool) (left : Journal) → left ≡ (decided s client ready o full).0.journal
@@ -61,7 +63,8 @@ module _ (settings : Settings) (standing : Standing) (shards : List Sharded) (se
 
   pub stays : (standing' : Standing) (shards' : List Sharded) (seens' : List ℕ) (registry' : Registered) (c : Call) (a : Answer)
       → CanCall (known_by (store_of old) client) c → Does (store_of old) client c a (store_of (stored settings standing'.commits shards' seens' registry'))
-      → standing'.shards ≡ standing.shards → standing'.limit ≡ standing.limit → AreHeld standing'.commits settings shards' → IsFollowing standing'.commits registry'
+      → standing'.shards ≡ standing.shards → standing'.limit ≡ standing.limit → AreHeld standing'.commits settings shards'
+          → IsFollowing standing'.commits registry'
       → IsKept settings standing' shards' seens' registry'
   stays standing' shards' seens' registry' c a can does all_shards limit held following = record {
     sound = sound_after (store_of old) (store_of (stored settings standing'.commits shards' seens' registry')) client c a kept.sound below can does;
@@ -90,11 +93,13 @@ module _ (settings : Settings) (standing : Standing) (shards : List Sharded) (se
   want shards' risen = stalled old (fronts_of shards') risen
 
   pub reading : (address : Address) (shards' : List Sharded) (seens' : List ℕ) (snap : Snap)
-      → snap.base ≡ max (get_or (fronts_of shards) (shard_of address settings.shards) 0) (get_or seens client 0) → snap.value ≡ state standing.commits snap.base address
+      → snap.base ≡ max (get_or (fronts_of shards) (shard_of address settings.shards) 0) (get_or seens client 0)
+          → snap.value ≡ state standing.commits snap.base address
       → fronts_of shards' ≡ set (fronts_of shards) (shard_of address settings.shards) snap.base → seens' ≡ set seens client snap.base
       → Does (store_of old) client (Call.read address) (Answer.snap snap) (store_of (stored settings standing.commits shards' seens' registry))
   reading address shards' seens' snap base value moved seen =
-      subst (λ (ns : List ℕ). Does (store_of old) client (Call.read address) (Answer.snap snap) (store_of (stored settings standing.commits shards' ns registry))) (sym seen)
+      subst (λ (ns : List ℕ). Does (store_of old) client (Call.read address) (Answer.snap snap)
+          (store_of (stored settings standing.commits shards' ns registry))) (sym seen)
       (does-read old client address (fronts_of shards') snap base value moved)
 
   pub taking : (feed : Fed) (seens' : List ℕ) (registry' : Registered) → IsFedBy standing.commits registry client feed
@@ -102,7 +107,8 @@ module _ (settings : Settings) (standing : Standing) (shards : List Sharded) (se
       → ((c : ℕ) → taken_by registry' c ≡ cond (c == client) (length standing.commits) (taken_by registry c)) → seens' ≡ set seens client feed.to
       → Does (store_of old) client Call.take (Answer.feed feed) (store_of (stored settings standing.commits shards seens' registry'))
   taking feed seens' registry' fed told taken seen =
-      subst (λ (ns : List ℕ). Does (store_of old) client Call.take (Answer.feed feed) (store_of (stored settings standing.commits shards ns registry'))) (sym seen)
+      subst (λ (ns : List ℕ). Does (store_of old) client Call.take (Answer.feed feed)
+          (store_of (stored settings standing.commits shards ns registry'))) (sym seen)
       (does-take old client registry' feed fed told taken)
 
   pub not_taking : (registry' : Registered) → ((c : ℕ) (a : Address) → is_subscribed registry' c a ≡ is_subscribed registry c a)
@@ -117,7 +123,8 @@ module _ (settings : Settings) (standing : Standing) (shards : List Sharded) (se
   telling-to address told registry' tells taken = does-told old client address told registry' tells taken
 
   pub backing : (address : Address) (number : ℕ) (shards' : List Sharded) (a : Answer)
-      → fronts_of shards' ≡ set (fronts_of shards) (shard_of address settings.shards) (max (get_or (fronts_of shards) (shard_of address settings.shards) 0) number)
+      → fronts_of shards' ≡ set (fronts_of shards) (shard_of address settings.shards)
+          (max (get_or (fronts_of shards) (shard_of address settings.shards) 0) number)
       → a ≡ back_at standing.commits settings.window address number (max (get_or (fronts_of shards) (shard_of address settings.shards) 0) number)
       → Does (store_of old) client (Call.read_at address number) a (store_of (stored settings standing.commits shards' seens registry))
   backing address number shards' a moved is = does-read_at old client address number (fronts_of shards') a moved is
@@ -152,7 +159,8 @@ module _ (settings : Settings) (standing : Standing) (shards : List Sharded) (se
         (sym (seen ∙ ap (λ (f : ℕ). set seens client (max (get_or seens client 0) f)) (sym same)))
         (does-prepare old client shard based a
         (is standing.commits kept.sound.legal here.holds
-        ∙ ap (λ (bs : List Based). validated s.number s.front (s.front - s.window) (late_base (s.front - s.window) (least_base bs)) (least_witness bs (take s.front standing.commits))) alike
+        ∙ ap (λ (bs : List Based). validated s.number s.front (s.front - s.window) (late_base (s.front - s.window) (least_base bs))
+            (least_witness bs (take s.front standing.commits))) alike
         ∙ ap (λ k. made k s.front s.window) here.number ∙ ap (λ f. made shard f s.window) (sym same) ∙ ap (made shard front) here.window))
 
   -- ---- an append
@@ -207,7 +215,8 @@ module _ (settings : Settings) (standing : Standing) (shards : List Sharded) (se
         → standing'.shards ≡ standing.shards → standing'.limit ≡ standing.limit → IsKept settings standing' shards seens' registry
     appended a standing' seens' n decides number seen all_shards limit =
         let new : Store = store_of (stored settings standing'.commits shards seens' registry) in
-        let sound : IsSound new = sound_after (store_of old) new client (Call.append ready) a kept.sound below can (appending a standing' seens' n decides number seen) in
+        let sound : IsSound new = sound_after (store_of old) new client (Call.append ready) a kept.sound below can
+            (appending a standing' seens' n decides number seen) in
         let orderly = legal_is_orderly standing'.commits sound.legal in
         elim (left-cases (store_of old) client ready _ _ standing'.commits (decides (store_of old) client has-journal).journal) [
           | inl e ↦ record {
@@ -221,7 +230,8 @@ module _ (settings : Settings) (standing : Standing) (shards : List Sharded) (se
             sound = sound;
             all_shards = all_shards ∙ kept.all_shards;
             limit_is = limit ∙ kept.limit_is;
-            held = subst (λ (j : Journal). AreHeld j settings shards) (sym e) (held-all-longer standing.commits (made_of standing.commits ready ∷ []) settings shards kept.held);
+            held = subst (λ (j : Journal). AreHeld j settings shards) (sym e)
+                (held-all-longer standing.commits (made_of standing.commits ready ∷ []) settings shards kept.held);
             following = subst (λ (j : Journal). IsFollowing j registry) (sym e)
                 (following-longer standing.commits (made_of standing.commits ready ∷ []) registry (legal_is_orderly standing.commits kept.sound.legal).numbered
                 (subst AreNumbered e orderly.numbered) kept.following);
@@ -242,7 +252,8 @@ module _ (settings : Settings) (standing : Standing) (shards : List Sharded) (se
     pub stands_still : (standing' : Standing) → standing'.commits ≡ standing.commits
         → Does (store_of old) client (Call.append ready) (Answer.failed false) (store_of (stored settings standing'.commits shards seens registry))
     stands_still standing' same =
-        (refl, subst (λ (j : Journal). HasStalled (store_of old) (store_of (stored settings j shards seens registry))) (sym same) (unchanged (store_of old) kept.sound))
+        (refl, subst (λ (j : Journal). HasStalled (store_of old) (store_of (stored settings j shards seens registry))) (sym same)
+            (unchanged (store_of old) kept.sound))
 
   -- ---- a shard follows
 

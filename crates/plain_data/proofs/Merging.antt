@@ -60,7 +60,8 @@ module _ {V : Type 0} (key : Bytes) (out rest total : List (Bytes × V)) (sofar 
       ∙ sofar
 
 -- one mark is merged
-pub one_merged : {V M : Type 0} (left : M → Option V) (out low more rest above : List (Bytes × V)) (value : Option V) (mark : Bytes × M) (over marks : List (Bytes × M)) (total : List (Bytes × V))
+pub one_merged : {V M : Type 0} (left : M → Option V) (out low more rest above : List (Bytes × V)) (value : Option V) (mark : Bytes × M)
+    (over marks : List (Bytes × M)) (total : List (Bytes × V))
     → over ≡ mark ∷ marks → low ≡ out ++ before mark.0 rest → above ≡ after mark.0 rest → value ≡ left mark.1
     → more ≡ low ++ pair_at mark.0 value
     → out ++ merged left rest over ≡ total → more ++ merged left above marks ≡ total

@@ -111,7 +111,8 @@ module _ {M V : Type 0} (left : M → Option V) where
       by q mark (Some later) e found = kept later mark (is_some (left later)) refl found
   form-fields d marks false is first second =
       let one = len-some marks second in
-      some-len _ one.0 one.1 (get-overlaid (mark_after left false) d.marks marks one.0 ∙ ap (λ o. found_after (mark_after left false) o (map.get d.marks one.0)) one.2)
+      some-len _ one.0 one.1 (get-overlaid (mark_after left false) d.marks marks one.0
+          ∙ ap (λ o. found_after (mark_after left false) o (map.get d.marks one.0)) one.2)
 
   -- what is composed with a delta that doesn't clear keeps the form
   pub form-composed : (d e : Keyed M) → e.cleared ≡ false → T (has_form left d) → T (has_form left e)

@@ -27,7 +27,8 @@ one_stands changes old new subscriber kept stands front is one = record {
 -- each subscriber stands, since it is told of all
 pub all_stand : AllStand
 all_stand changes later old new stands tail is = record {
-  followed = up_to-append new.front changes later (up_to-more old.front new.front changes tail.rises stands.followed) (up_to-tail old.front new.front later tail);
+  followed = up_to-append new.front changes later (up_to-more old.front new.front changes tail.rises stands.followed)
+      (up_to-tail old.front new.front later tail);
   kept = λ s k e. by k (kept_of old s) (stands.kept s) (sym (is s) ∙ e);
 }
   where

@@ -28,7 +28,8 @@ module _ {X : Type 0} (p q : X → Bool) where
   both-pass also [] = refl
   both-pass also (x ∷ xs) = by (p x) (q x) refl refl (both-pass also xs)
     where
-      by : (a b : Bool) → p x ≡ a → q x ≡ b → filter p (filter q xs) ≡ filter p xs → filter p (cond b (x ∷ filter q xs) (filter q xs)) ≡ cond a (x ∷ filter p xs) (filter p xs)
+      by : (a b : Bool) → p x ≡ a → q x ≡ b → filter p (filter q xs) ≡ filter p xs
+          → filter p (cond b (x ∷ filter q xs) (filter q xs)) ≡ cond a (x ∷ filter p xs) (filter p xs)
       by true true e f rest = rw e (ap (λ ys. x ∷ ys) rest)
       by true false e f rest = absurd (let g = also x e in cc)
       by false true e f rest = rw e rest
@@ -49,7 +50,8 @@ module _ {X : Type 0} (p q : X → Bool) where
   any-of_both also [] = refl
   any-of_both also (x ∷ xs) = by (p x) (q x) refl refl (any-of_both also xs)
     where
-      by : (a b : Bool) → p x ≡ a → q x ≡ b → list_any p (filter q xs) ≡ list_any p xs → list_any p (cond b (x ∷ filter q xs) (filter q xs)) ≡ (a || list_any p xs)
+      by : (a b : Bool) → p x ≡ a → q x ≡ b → list_any p (filter q xs) ≡ list_any p xs
+          → list_any p (cond b (x ∷ filter q xs) (filter q xs)) ≡ (a || list_any p xs)
       by true true e f rest = rw e refl
       by true false e f rest = absurd (let g = also x e in cc)
       by false true e f rest = rw e rest
@@ -100,7 +102,8 @@ flipped : (b c : Bool) → b ≡ c → not b ≡ not c
 flipped b c e = ap not e
 
 -- an address more is one of them
-any-inserted : (a address : Address) (xs : List Address) → list_any (is_at (address_cmp a)) (insert_key address_cmp xs address) ≡ (is_at (address_cmp a) address || list_any (is_at (address_cmp a)) xs)
+any-inserted : (a address : Address) (xs : List Address) → list_any (is_at (address_cmp a)) (insert_key address_cmp xs address)
+    ≡ (is_at (address_cmp a) address || list_any (is_at (address_cmp a)) xs)
 any-inserted a address [] = refl
 any-inserted a address (x ∷ xs) = by (address_cmp address x) refl (any-inserted a address xs)
   where
@@ -135,23 +138,28 @@ unsubscribes_stand changes front kept address stands = record {
   deltas = λ a. by a (is_at (address_cmp address) a) refl;
 }
   where
-    there : deltas_at address (changes_elsewhere address kept.changes) ≡ cond (is_address (unsubscribed address kept) address) (deltas_at address (since kept.taken changes)) []
+    there : deltas_at address (changes_elsewhere address kept.changes) ≡ cond (is_address (unsubscribed address kept) address)
+        (deltas_at address (since kept.taken changes)) []
     there =
-        ap of (none-passes (λ c. is_at (address_cmp address) c.address) (λ c. not (is_at (address_cmp address) c.address)) (λ c e. flipped (is_at (address_cmp address) c.address) true e) kept.changes)
+        ap of (none-passes (λ c. is_at (address_cmp address) c.address) (λ c. not (is_at (address_cmp address) c.address))
+            (λ c e. flipped (is_at (address_cmp address) c.address) true e) kept.changes)
         ∙ sym (ap (λ b. cond b (deltas_at address (since kept.taken changes)) [])
-        (any-of_none (is_at (address_cmp address)) (λ x. not (is_at (address_cmp address) x)) (λ x e. flipped (is_at (address_cmp address) x) true e) kept.addresses))
+        (any-of_none (is_at (address_cmp address)) (λ x. not (is_at (address_cmp address) x))
+            (λ x e. flipped (is_at (address_cmp address) x) true e) kept.addresses))
 
     by : (a : Address) (b : Bool) → is_at (address_cmp address) a ≡ b
         → deltas_at a (changes_elsewhere address kept.changes) ≡ cond (is_address (unsubscribed address kept) a) (deltas_at a (since kept.taken changes)) []
     by a true e =
-        subst (λ x. deltas_at x (changes_elsewhere address kept.changes) ≡ cond (is_address (unsubscribed address kept) x) (deltas_at x (since kept.taken changes)) [])
+        subst (λ x. deltas_at x (changes_elsewhere address kept.changes) ≡ cond (is_address (unsubscribed address kept) x)
+            (deltas_at x (since kept.taken changes)) [])
         (same_address address a e) there
     by a false e =
         ap of (both-pass (λ c. is_at (address_cmp a) c.address) (λ c. not (is_at (address_cmp address) c.address))
         (λ c h. flipped (is_at (address_cmp address) c.address) false (apart a address c.address e h)) kept.changes)
         ∙ stands.deltas a
         ∙ sym (ap (λ b. cond b (deltas_at a (since kept.taken changes)) [])
-        (any-of_both (is_at (address_cmp a)) (λ x. not (is_at (address_cmp address) x)) (λ x h. flipped (is_at (address_cmp address) x) false (apart a address x e h)) kept.addresses))
+        (any-of_both (is_at (address_cmp a)) (λ x. not (is_at (address_cmp address) x))
+            (λ x h. flipped (is_at (address_cmp address) x) false (apart a address x e h)) kept.addresses))
 
 module _ (changes missed : List Change) (front : ℕ) (kept : Kept) (address : Address) (stands : KeptFor changes front kept)
     (all : deltas_at address missed ≡ deltas_at address (since kept.taken changes)) where
@@ -162,19 +170,23 @@ module _ (changes missed : List Change) (front : ℕ) (kept : Kept) (address : A
       → deltas_at address more.changes ≡ cond (is_address more address) (deltas_at address (since kept.taken changes)) []
   here new self =
       deltas-append address kept.changes (changes_at address missed)
-      ∙ ap (λ ds. ds ++ deltas_at address (changes_at address missed)) (stands.deltas address ∙ ap (λ b. cond b (deltas_at address (since kept.taken changes)) []) new)
+      ∙ ap (λ ds. ds ++ deltas_at address (changes_at address missed)) (stands.deltas address
+          ∙ ap (λ b. cond b (deltas_at address (since kept.taken changes)) []) new)
       ∙ ap of (both-pass (λ c. is_at (address_cmp address) c.address) (λ c. is_at (address_cmp address) c.address) (λ c e. e) missed)
       ∙ all
-      ∙ sym (ap (λ b. cond b (deltas_at address (since kept.taken changes)) []) (any-inserted address address kept.addresses ∙ ap (λ b. b || is_address kept address) self))
+      ∙ sym (ap (λ b. cond b (deltas_at address (since kept.taken changes)) [])
+          (any-inserted address address kept.addresses ∙ ap (λ b. b || is_address kept address) self))
 
   elsewhere : (a : Address) → is_at (address_cmp address) a ≡ false
       → deltas_at a more.changes ≡ cond (is_address more a) (deltas_at a (since kept.taken changes)) []
   elsewhere a other =
       deltas-append a kept.changes (changes_at address missed)
-      ∙ ap (λ ds. deltas_at a kept.changes ++ of ds) (none-passes (λ c. is_at (address_cmp a) c.address) (λ c. is_at (address_cmp address) c.address) (λ c h. apart a address c.address other h) missed)
+      ∙ ap (λ ds. deltas_at a kept.changes ++ of ds) (none-passes (λ c. is_at (address_cmp a) c.address) (λ c. is_at (address_cmp address) c.address)
+          (λ c h. apart a address c.address other h) missed)
       ∙ nothing (deltas_at a kept.changes)
       ∙ stands.deltas a
-      ∙ sym (ap (λ b. cond b (deltas_at a (since kept.taken changes)) []) (any-inserted a address kept.addresses ∙ ap (λ b. b || is_address kept a) (turned a address ∙ other)))
+      ∙ sym (ap (λ b. cond b (deltas_at a (since kept.taken changes)) []) (any-inserted a address kept.addresses
+          ∙ ap (λ b. b || is_address kept a) (turned a address ∙ other)))
     where
       nothing : (ds : List Delta) → ds ++ [] ≡ ds
       nothing [] = refl
@@ -183,7 +195,8 @@ module _ (changes missed : List Change) (front : ℕ) (kept : Kept) (address : A
   one-more : is_address kept address ≡ false → KeptFor changes front more
   one-more new = record { taken = stands.taken; deltas = λ a. by a (is_at (address_cmp address) a) refl }
     where
-      by : (a : Address) (b : Bool) → is_at (address_cmp address) a ≡ b → deltas_at a more.changes ≡ cond (is_address more a) (deltas_at a (since kept.taken changes)) []
+      by : (a : Address) (b : Bool) → is_at (address_cmp address) a ≡ b → deltas_at a more.changes
+          ≡ cond (is_address more a) (deltas_at a (since kept.taken changes)) []
       by a true e =
           let same : address ≡ a = same_address address a e in
           subst (λ x. deltas_at x more.changes ≡ cond (is_address more x) (deltas_at x (since kept.taken changes)) []) same
@@ -194,6 +207,7 @@ pub subscribes_stand : SubscribesStand
 subscribes_stand changes missed front kept address stands all = by (is_address kept address) refl
   where
     by : (b : Bool) → is_address kept address ≡ b
-        → KeptFor changes front (cond b kept (record kept { addresses = insert_key address_cmp kept.addresses address; changes = kept.changes ++ changes_at address missed }))
+        → KeptFor changes front (cond b kept (record kept { addresses = insert_key address_cmp kept.addresses address;
+            changes = kept.changes ++ changes_at address missed }))
     by true e = stands
     by false e = one-more changes missed front kept address stands all e

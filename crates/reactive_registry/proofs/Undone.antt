@@ -1,5 +1,6 @@
 -- What is left of changes that were told and taken back, and what telling them one by one comes to.
-use Rattle.std.proofs.Common.{◌≡◌, ℕ, ◌<◌, ◌≤◌, nat_le, Bool, true, false, cond, suc, List, [], ◌∷◌, ◌++◌, filter, Option, Some, None, option_map, refl, sym, ap, subst, ◌||◌, ◌∙◌, arith}
+use Rattle.std.proofs.Common.{◌≡◌, ℕ, ◌<◌, ◌≤◌, nat_le, Bool, true, false, cond, suc, List, [], ◌∷◌, ◌++◌, filter, Option, Some, None, option_map}
+use Rattle.std.proofs.Common.{refl, sym, ap, subst, ◌||◌, ◌∙◌, arith}
 use Rattle.std.specs.List.{All}
 use Rattle.std.specs.Option.{option_map_or}
 use Rattle.std.proofs.lemmas.List.{append_assoc, append-nil}
@@ -98,7 +99,8 @@ module _ (from to : ℕ) (changes : List Change) (tail : IsTail from to changes)
     followed = λ q kept e. all (kept_in es q) (old.followed q) kept (sym (is q) ∙ e);
   }
     where
-      same : (a : Address) (o : Option Kept) → option_map_or (λ k. is_address k a) o false ≡ option_map_or (λ k. is_address k a) (option_map (told changes) o) false
+      same : (a : Address) (o : Option Kept) → option_map_or (λ k. is_address k a) o false
+          ≡ option_map_or (λ k. is_address k a) (option_map (told changes) o) false
       same a None = refl
       same a (Some kept) = refl
 

@@ -9,7 +9,8 @@ use Rattle.change_feed.specs.Feeds.{Fed, AreOfTheirKinds}
 use Rattle.change_feed.specs.Tails.{IsTail}
 use Rattle.client_cache.specs.Cached.{Cached, Advances}
 use Rattle.client_cache.specs.Laws.{HoldsState}
-use Rattle.reactive_registry.specs.Registered.{Kept, Registered, kept_of, with_kept, entered, subscribed, unsubscribed, emptied, told, is_address, pending_for, pending_of}
+use Rattle.reactive_registry.specs.Registered.{Kept, Registered, kept_of, with_kept, entered, subscribed, unsubscribed, emptied, told, is_address}
+use Rattle.reactive_registry.specs.Registered.{pending_for, pending_of}
 use Rattle.reactive_registry.specs.Standing.{since, KeptFor, StandsFor}
 
 -- What is pending for one that stands for changes is, at each of its addresses, what those past the number taken last come to.

@@ -34,7 +34,8 @@ kept_code address change =
 
 abbrev pub registered_code : Coded Kept → Coded Registered
 registered_code kept =
-    code_by (ℕ × List (ℕ × Kept)) (coded× coded_ℕ (coded_list (coded× coded_ℕ kept))) (λ r. (r.front, r.subscribers)) (λ p. record { front = p.0; subscribers = p.1 }) (λ _. refl)
+    code_by (ℕ × List (ℕ × Kept)) (coded× coded_ℕ (coded_list (coded× coded_ℕ kept))) (λ r. (r.front, r.subscribers))
+        (λ p. record { front = p.0; subscribers = p.1 }) (λ _. refl)
 
 -- nobody has entered
 abbrev pub empty : ℕ → Registered
@@ -113,7 +114,8 @@ abbrev addition : ℕ → Change
 addition n = record { number = n; address = counter (codes "x"); delta = delta.AddCounter (pos 2) }
 
 -- one that subscribes after a missed addition of 2, and is told of another, has an addition of 4 pending
-pending-example : pending_for (told (addition 5 ∷ []) (subscribed (counter (codes "x")) (addition 4 ∷ []) (entered 3))) (counter (codes "x")) ≡ Some (delta.AddCounter (pos 4))
+pending-example : pending_for (told (addition 5 ∷ []) (subscribed (counter (codes "x")) (addition 4 ∷ []) (entered 3))) (counter (codes "x"))
+    ≡ Some (delta.AddCounter (pos 4))
 pending-example = refl
 
 -- one that isn't subscribed is told nothing

@@ -30,6 +30,7 @@ counter key = record { kind = kind.Counter; key = key }
 -- of an addition in commit 1 and one in commit 2 a subscriber that has taken up to 1 has the second pending
 since-example :
     pending (counter (codes "x"))
-    (since 1 (record { number = 1; address = counter (codes "x"); delta = delta.AddCounter (pos 5) } ∷ record { number = 2; address = counter (codes "x"); delta = delta.AddCounter (pos 2) } ∷ []))
+    (since 1 (record { number = 1; address = counter (codes "x"); delta = delta.AddCounter (pos 5) }
+        ∷ record { number = 2; address = counter (codes "x"); delta = delta.AddCounter (pos 2) } ∷ []))
     ≡ Some (delta.AddCounter (pos 2))
 since-example = refl

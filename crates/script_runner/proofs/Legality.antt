@@ -21,7 +21,8 @@ use Rattle.txn_lang.proofs.Observed.{whole_runs_are_done}
 use Rattle.script_runner.specs.declared.reply.Early.TheVariants as early
 use Rattle.script_runner.specs.Words.{trimmed_start, trimmed_end, first_word, after_word, is_quiet, client_named}
 use Rattle.script_runner.specs.Verbs.{asked}
-use Rattle.script_runner.specs.Play.{body_of, committed, run_on, ran, of_verb, of_asked, tells, client_line, line_of_client, text_line, does, Played, one_more, play, nothing_played}
+use Rattle.script_runner.specs.Play.{body_of, committed, run_on, ran, of_verb, of_asked, tells, client_line, line_of_client, text_line, does, Played}
+use Rattle.script_runner.specs.Play.{one_more, play, nothing_played}
 use Rattle.script_runner.proofs.Bodies.{tree_there}
 
 -- the journal of an answer is legal
@@ -69,7 +70,8 @@ module _ (limit : ℕ) (journal : Journal) (legal : IsLegal 0 journal) where
 
   of_client : (client : ℕ) (text : Text) → Keeps (client_line limit journal client text)
   unfolding client_line
-  of_client client text = keeps_either (is_quiet text) (journal, None) (tells (Some client) (of_asked limit journal client (asked text))) legal (of_text_asked client (asked text))
+  of_client client text = keeps_either (is_quiet text) (journal, None) (tells (Some client) (of_asked limit journal client (asked text))) legal
+      (of_text_asked client (asked text))
 
   of_word : (text : Text) (o : Option ℕ) → Keeps (line_of_client limit journal text o)
   of_word text None = legal
@@ -77,7 +79,8 @@ module _ (limit : ℕ) (journal : Journal) (legal : IsLegal 0 journal) where
 
   of_text : (text : Text) → Keeps (text_line limit journal text)
   unfolding text_line
-  of_text text = keeps_either (is_quiet text) (journal, None) (line_of_client limit journal text (client_named (first_word text))) legal (of_word text (client_named (first_word text)))
+  of_text text = keeps_either (is_quiet text) (journal, None) (line_of_client limit journal text (client_named (first_word text))) legal
+      (of_word text (client_named (first_word text)))
 
   of_line : (l : Line) → Keeps (does limit journal l)
   of_line (line.Bytes bytes) = of_text (trimmed_start bytes)

@@ -30,7 +30,8 @@ take-last z n some within =
     let inside : n - 1 < length z = omega arith in
     ap (λ (k : ℕ). take k z) more ∙ take_more z (n - 1) 0 inside
 
-pub trimmed_end-take-blank : (z : List ℕ) (n : ℕ) → 0 < n → n ≤ length z → is_blank (get_or z (n - 1) 0) ≡ true → trimmed_end (take n z) ≡ trimmed_end (take (n - 1) z)
+pub trimmed_end-take-blank : (z : List ℕ) (n : ℕ) → 0 < n → n ≤ length z → is_blank (get_or z (n - 1) 0) ≡ true
+    → trimmed_end (take n z) ≡ trimmed_end (take (n - 1) z)
 trimmed_end-take-blank z n some within blank = ap trimmed_end (take-last z n some within) ∙ trimmed_end-blank (take (n - 1) z) _ blank
 
 pub trimmed_end-take-solid : (z : List ℕ) (n : ℕ) → 0 < n → n ≤ length z → is_blank (get_or z (n - 1) 0) ≡ false → trimmed_end (take n z) ≡ take n z

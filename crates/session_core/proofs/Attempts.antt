@@ -37,7 +37,8 @@ in_range : (address : Address) (shards : ℕ) → 0 < shards → shard_of addres
 in_range address shards some = omega arith
 
 -- the least unprepared shard is one of the store's
-pub least-below : (shards : ℕ) (fronts : List PreparedFront) (seen : List Seen) (shard : ℕ) → 0 < shards → least_unprepared shards fronts seen ≡ Some shard → shard < shards
+pub least-below : (shards : ℕ) (fronts : List PreparedFront) (seen : List Seen) (shard : ℕ) → 0 < shards
+    → least_unprepared shards fronts seen ≡ Some shard → shard < shards
 least-below shards fronts seen shard some e = subst (λ o. IfSome o (λ k. k < shards)) e (all seen)
   where
     one : (k : ℕ) (o : Option ℕ) → k < shards → IfSome o (λ l. l < shards) → lesser k o < shards
@@ -50,7 +51,8 @@ least-below shards fronts seen shard some e = subst (λ o. IfSome o (λ k. k < s
 
     all : (seen : List Seen) → IfSome (least_unprepared shards fronts seen) (λ k. k < shards)
     all [] = tt
-    all (z ∷ seen) = by (has_front fronts (shard_of z.address shards)) (shard_of z.address shards) (least_unprepared shards fronts seen) (in_range z.address shards some) (all seen)
+    all (z ∷ seen) = by (has_front fronts (shard_of z.address shards)) (shard_of z.address shards) (least_unprepared shards fronts seen)
+        (in_range z.address shards some) (all seen)
 
 -- ---- what is read
 
@@ -67,7 +69,8 @@ some-same x y e = cc
 observed_right : (k : Known) (snaps : SnapList) (z : Seen) → AllByRecursion (IsRead k) snaps → IsThere (values_of snaps) z → IsBasedRight k (with_base snaps z)
 observed_right k snaps z all there = by (lookup (is_at (address_cmp z.address)) snaps) refl there.is
   where
-    by : (o : Option Snap) → lookup (is_at (address_cmp z.address)) snaps ≡ o → option_map (λ snap. snap.value) o ≡ Some there.value → IsBasedRight k (with_base snaps z)
+    by : (o : Option Snap) → lookup (is_at (address_cmp z.address)) snaps ≡ o → option_map (λ snap. snap.value) o ≡ Some there.value
+        → IsBasedRight k (with_base snaps z)
     by None e is = absurd (cc)
     by (Some snap) e is =
         let read = found (IsRead k) snaps z.address snap all e in
@@ -76,7 +79,8 @@ observed_right k snaps z all there = by (lookup (is_at (address_cmp z.address)) 
           one_kind = record { observed = there.kind (ap kind_of (sym same) ∙ read.kind) };
         }
 
-observed_each : (k : Known) (shards : ℕ) (snaps : SnapList) (seen : List Seen) → shards ≡ k.shards → AllByRecursion (IsRead k) snaps → AllByRecursion (IsThere (values_of snaps)) seen
+observed_each : (k : Known) (shards : ℕ) (snaps : SnapList) (seen : List Seen) → shards ≡ k.shards → AllByRecursion (IsRead k) snaps
+    → AllByRecursion (IsThere (values_of snaps)) seen
     → AllByRecursion (λ z. IsShortObservation z.address z.obs) seen → AllByRecursion (λ b. CanValidate k (shard_of b.address shards) b) (based snaps seen)
 observed_each k shards snaps [] e all there short = tt
 observed_each k shards snaps (z ∷ seen) e all there short = let right = observed_right k snaps z all there.0 in (
@@ -109,7 +113,8 @@ pub few-here : (shards shard : ℕ) (bs : List Based) → length (in_shard shard
 few-here shards shard [] = omega arith
 few-here shards shard (b ∷ bs) = by (shard_of b.address shards == shard) (few-here shards shard bs)
   where
-    by : (x : Bool) → length (in_shard shards shard bs) ≤ length bs → length (cond x (b ∷ in_shard shards shard bs) (in_shard shards shard bs)) ≤ length (b ∷ bs)
+    by : (x : Bool) → length (in_shard shards shard bs) ≤ length bs → length
+        (cond x (b ∷ in_shard shards shard bs) (in_shard shards shard bs)) ≤ length (b ∷ bs)
     by true h = omega arith
     by false h = omega arith
 

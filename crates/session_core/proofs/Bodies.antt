@@ -35,16 +35,19 @@ kept_reads text source body trimmed read = ap parsed trimmed ∙ parsed_trimmed 
 
 -- a checked body is the one that is read from its text
 module _ (read_only : Bool) (text : Text) (c : Checked) (only : c.read_only ≡ read_only) (trimmed : c.source ≡ trimmed_end text) where
-  pure_is : (body : Body) (e : tree (trimmed_end text) ≡ Some body) (o : Option ℕ) (w : first_write body ≡ o) → c.body ≡ body → (IsTrue read_only → first_write body ≡ None)
+  pure_is : (body : Body) (e : tree (trimmed_end text) ≡ Some body) (o : Option ℕ) (w : first_write body ≡ o) → c.body ≡ body →
+      (IsTrue read_only → first_write body ≡ None)
       → if_pure read_only (trimmed_end text) body e o w ≡ Some c
   pure_is body e None w b pure = ap (λ x. Some x) (checked_same _ c (sym b) (sym trimmed) (sym only))
   pure_is body e (Some column) w b pure = by read_only refl only pure
     where
-      by : (ro : Bool) → read_only ≡ ro → c.read_only ≡ ro → (IsTrue ro → first_write body ≡ None) → if_pure ro (trimmed_end text) body e (Some column) w ≡ Some c
+      by : (ro : Bool) → read_only ≡ ro → c.read_only ≡ ro → (IsTrue ro → first_write body ≡ None)
+          → if_pure ro (trimmed_end text) body e (Some column) w ≡ Some c
       by true is only pure = absurd (let h : Some column ≡ None = sym w ∙ pure refl in cc)
       by false is only pure = ap (λ x. Some x) (checked_same _ c (sym b) (sym trimmed) (sym only))
 
-  tree_is : (o : Option Body) (e : tree (trimmed_end text) ≡ o) → o ≡ Some c.body → (IsTrue read_only → first_write c.body ≡ None) → if_tree read_only (trimmed_end text) o e ≡ Some c
+  tree_is : (o : Option Body) (e : tree (trimmed_end text) ≡ o) → o ≡ Some c.body →
+      (IsTrue read_only → first_write c.body ≡ None) → if_tree read_only (trimmed_end text) o e ≡ Some c
   tree_is None e is pure = absurd (cc)
   tree_is (Some body) e is pure =
       let same : body ≡ c.body = cc in pure_is body e (first_write body) refl (sym same) (λ h. ap first_write same ∙ pure h)
@@ -62,13 +65,16 @@ none_of_tree : (read_only : Bool) (source : Text) (o : Option Body) (e : tree so
 none_of_tree read_only source None e h = refl
 none_of_tree read_only source (Some body) e h = absurd (cc)
 
-none_writes : (source : Text) (body : Body) (e : tree source ≡ Some body) (o : Option ℕ) (w : first_write body ≡ o) (column : ℕ) → o ≡ Some column → if_pure true source body e o w ≡ None
+none_writes : (source : Text) (body : Body) (e : tree source ≡ Some body) (o : Option ℕ) (w : first_write body ≡ o) (column : ℕ) → o ≡ Some column
+    → if_pure true source body e o w ≡ None
 none_writes source body e None w column h = absurd (cc)
 none_writes source body e (Some other) w column h = refl
 
-writes_none : (source : Text) (body : Body) (column : ℕ) (o : Option Body) (e : tree source ≡ o) → o ≡ Some body → first_write body ≡ Some column → if_tree true source o e ≡ None
+writes_none : (source : Text) (body : Body) (column : ℕ) (o : Option Body) (e : tree source ≡ o) → o ≡ Some body → first_write body ≡ Some column
+    → if_tree true source o e ≡ None
 writes_none source body column None e h w = refl
-writes_none source body column (Some other) e h w = let same : other ≡ body = cc in none_writes source other e (first_write other) refl column (ap first_write same ∙ w)
+writes_none source body column (Some other) e h w = let same : other ≡ body = cc in none_writes source other e (first_write other) refl column
+    (ap first_write same ∙ w)
 
 no_tree : (text : Text) → ((b : Body) → tree (trimmed_end text) ≡ Some b → ⊥) → tree (trimmed_end text) ≡ None
 no_tree text none = by (tree (trimmed_end text)) refl
@@ -93,7 +99,8 @@ refuses_syntax read_only text column x =
     refused_by read_only text (why.Syntax column) (unread_none read_only text (λ b e typed. let h : Some b ≡ None = sym e ∙ missing in cc))
     (ap (unread text) missing ∙ ap (λ n. why.Syntax n) (sym (column_is_computed text column x)))
 
-pub refuses_type : (read_only : Bool) (text : Text) (body : Body) (column : ℕ) → parsed text ≡ Some body → judge body ≡ Err column → body_of read_only text ≡ Err (why.BadType column)
+pub refuses_type : (read_only : Bool) (text : Text) (body : Body) (column : ℕ) → parsed text ≡ Some body → judge body ≡ Err column
+    → body_of read_only text ≡ Err (why.BadType column)
 unfolding refusal_of
 refuses_type read_only text body column read fails =
     refused_by read_only text (why.BadType column)
@@ -108,7 +115,8 @@ unfolding checked_of
 writes_unread text body column read typed writes =
     writes_none (trimmed_end text) body column (tree (trimmed_end text)) refl (tree_of_typed (trimmed_end text) body (parsed_trimmed text ∙ read) typed) writes
 
-pub refuses_writes : (text : Text) (body : Body) (column : ℕ) → parsed text ≡ Some body → IsTyped body → first_write body ≡ Some column → body_of true text ≡ Err (why.Writes column)
+pub refuses_writes : (text : Text) (body : Body) (column : ℕ) → parsed text ≡ Some body → IsTyped body → first_write body ≡ Some column
+    → body_of true text ≡ Err (why.Writes column)
 unfolding refusal_of
 refuses_writes text body column read typed writes =
     refused_by true text (why.Writes column) (writes_unread text body column read typed writes)
@@ -132,9 +140,11 @@ writes-reads read_only text body column told read w is reason e =
     ap (λ o. body_of o text) w.only_reads ∙ refuses_writes text body column read w.typed w.first ∙ ap (λ n. Err (why.Writes n)) (sym is) ∙ ap (λ r. Err r) k
 
 -- what was read, by its parts
-module _ (read_only : Bool) (text : Text) (body : Body) (c : Checked) (b : c.body ≡ body) (trimmed : c.source ≡ trimmed_end text) (read : parsed text ≡ Some body) (typed : IsTyped body) where
+module _ (read_only : Bool) (text : Text) (body : Body) (c : Checked) (b : c.body ≡ body) (trimmed : c.source ≡ trimmed_end text)
+    (read : parsed text ≡ Some body) (typed : IsTyped body) where
   pub reads-checked : c.read_only ≡ read_only → (IsTrue read_only → first_write body ≡ None) → body_of read_only text ≡ Ok c
-  reads-checked only pure = accepts read_only text c only trimmed (read ∙ ap (λ x. Some x) (sym b)) (subst IsTyped (sym b) typed) (λ h. ap first_write b ∙ pure h)
+  reads-checked only pure = accepts read_only text c only trimmed (read ∙ ap (λ x. Some x) (sym b)) (subst IsTyped (sym b) typed)
+      (λ h. ap first_write b ∙ pure h)
 
   pub is-ready : length c.source ≤ LONGEST_BODY → IsReady c
   is-ready short = record {

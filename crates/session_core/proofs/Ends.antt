@@ -12,7 +12,8 @@ use Rattle.session_core.specs.Leading.{Went}
 use Rattle.session_core.proofs.Phases.{phase-begins}
 use Rattle.session_core.proofs.Steps.{led-holds}
 
-pub went-attends : {B : Type 0} (known : B → Known) (goes : B → Call → Answer → B → Type 0) (b : B) (s : Session) (l : Line) (r : Result Turn SessionError) (c : B) (t : Session) → Attends (known b) s
+pub went-attends : {B : Type 0} (known : B → Known) (goes : B → Call → Answer → B → Type 0) (b : B) (s : Session) (l : Line)
+    (r : Result Turn SessionError) (c : B) (t : Session) → Attends (known b) s
     → BodyIsReady l → Went known goes b (start (known b).shards (known b).seen s l) r c t → IfOk r (λ turn. Attends (known c) t)
 went-attends known goes b s l (Ok turn) c t is ready went =
     led-holds known goes b (start (known b).shards (known b).seen s l) went.count c (Phase.over t turn) (phase-begins (known b) s l is ready) went.leads

@@ -54,12 +54,14 @@ module _ (old new : ℕ) where
   end-same s zero a r e = e
   end-same s (suc left) a r e = e
 
-  stepped-counted : (s : Session) (f : Bool) (o : Option Moved) → ((m : Moved) → o ≡ Some m → f ≡ false) → IsCounted f old new → FaultsBy (stepped s f o) old new
+  stepped-counted : (s : Session) (f : Bool) (o : Option Moved) → ((m : Moved) → o ≡ Some m → f ≡ false) → IsCounted f old new
+      → FaultsBy (stepped s f o) old new
   stepped-counted s f None whole h = breaks f h
   stepped-counted s f (Some (moved.More a r)) whole h = subst (λ x. IsCounted x old new) (whole (moved.More a r) refl) h
   stepped-counted s f (Some (moved.End a r)) whole h = subst (λ x. IsCounted x old new) (whole (moved.End a r) refl) h
 
-  gone-counted : (s : Session) (left : ℕ) (f : Bool) (o : Option Moved) → ((m : Moved) → o ≡ Some m → f ≡ false) → IsCounted f old new → FaultsBy (gone s left f o) old new
+  gone-counted : (s : Session) (left : ℕ) (f : Bool) (o : Option Moved) → ((m : Moved) → o ≡ Some m → f ≡ false) → IsCounted f old new
+      → FaultsBy (gone s left f o) old new
   gone-counted s left f None whole h = breaks f h
   gone-counted s left f (Some (moved.More a r)) whole h = subst (λ x. IsCounted x old new) (whole (moved.More a r) refl) h
   gone-counted s left f (Some (moved.End a r)) whole h = end-same s left a r (subst (λ x. IsCounted x old new) (whole (moved.End a r) refl) h)
@@ -104,17 +106,21 @@ start-same n shards seen s o asked.Seen = refl
 start-same n shards seen s o asked.Quit = refl
 
 module _ {B : Type 0} (known : B → Known) (goes : B → Call → Answer → B → Type 0) where
-  led-counted : (b : B) (p : Phase) (n : ℕ) (c : B) (q : Phase) → FaultsBy p (known b).faults (known b).faults → Leads (Goes known goes) b p n c q → FaultsBy q (known b).faults (known c).faults
+  led-counted : (b : B) (p : Phase) (n : ℕ) (c : B) (q : Phase) → FaultsBy p (known b).faults (known b).faults → Leads (Goes known goes) b p n c q
+      → FaultsBy q (known b).faults (known c).faults
   led-counted b p n c q h Leads.stays = h
   led-counted b p k c r h (Leads.by_step {n = m} {c = c'} {q = q'} call answer led asked step is) =
       let same = asked-same (known b).faults (known c').faults q' call asked (led-counted b p m c' q' h led) in
       subst (λ x. FaultsBy x (known b).faults (known c).faults) is
-      (after-counted (known b).faults (known c).faults q' call answer asked (subst (λ (x : ℕ). IsCounted (is_fault answer) x (known c).faults) same step.answered.goes_on.faults))
+      (after-counted (known b).faults (known c).faults q' call answer asked
+          (subst (λ (x : ℕ). IsCounted (is_fault answer) x (known c).faults) same step.answered.goes_on.faults))
 
   -- where a line answers a fault, it was counted
-  pub went-fault : (b : B) (s : Session) (l : Line) (r : Result Turn SessionError) (c : B) (t : Session) → Went known goes b (start (known b).shards (known b).seen s l) r c t → r ≡ Err error.StoreFault
+  pub went-fault : (b : B) (s : Session) (l : Line) (r : Result Turn SessionError) (c : B) (t : Session)
+      → Went known goes b (start (known b).shards (known b).seen s l) r c t → r ≡ Err error.StoreFault
       → Rose (known b).faults (known c).faults
   went-fault b s l (Ok turn) c t went e = absurd (cc)
   went-fault b s l (Err x) c t went e = let fault : x ≡ error.StoreFault = cc in
       subst (λ q. FaultsBy q (known b).faults (known c).faults) (went.cause fault)
-      (led-counted b (start (known b).shards (known b).seen s l) went.count c went.phase (start-same (known b).faults (known b).shards (known b).seen s s.attempt l) went.leads)
+      (led-counted b (start (known b).shards (known b).seen s l) went.count c went.phase
+          (start-same (known b).faults (known b).shards (known b).seen s s.attempt l) went.leads)

@@ -1,5 +1,6 @@
 -- What a session keeps to, over each of its calls.
-use Rattle.std.proofs.Common.{◌≡◌, ℕ, ◌+◌, ◌≤◌, ◌<◌, ◌^◌, Bool, true, cond, min, [], ◌∷◌, ◌++◌, drop, length, Option, Some, None, refl, sym, ap, ◌∙◌, subst, arith}
+use Rattle.std.proofs.Common.{◌≡◌, ℕ, ◌+◌, ◌≤◌, ◌<◌, ◌^◌, Bool, true, cond, min, [], ◌∷◌, ◌++◌, drop, length, Option, Some, None, refl, sym, ap, ◌∙◌}
+use Rattle.std.proofs.Common.{subst, arith}
 use Rattle.std.specs.Prelude.{IfSome, ◌==◌}
 use Rattle.std.specs.List.{AllByRecursion}
 use Rattle.std.proofs.Math.Nat.{max-eq_right}
@@ -51,15 +52,18 @@ fits-on old new a e fits = subst (λ journal. Fits journal a) (grown old new e) 
 pub some-shards : (a : Attempt) → 0 < a.shards
 some-shards a = let h = a.shards_in_range.0 in omega arith
 
-pub can-prepare : (k : Known) (a : Attempt) (shard : ℕ) (run : Run) → Holds k a → 0 < a.shards → length run.observations < 2 ^ 32 → next_event a ≡ next.Prepare shard run
+pub can-prepare : (k : Known) (a : Attempt) (shard : ℕ) (run : Run) → Holds k a → 0 < a.shards → length run.observations < 2 ^ 32
+    → next_event a ≡ next.Prepare shard run
     → CanPrepare k shard (in_shard a.shards shard (based a.snaps run.observations))
 can-prepare k a shard run h some few e = let p = prepares a shard run e in record {
   below = subst (λ (n : ℕ). shard < n) h.shards (least-below a.shards a.fronts run.observations shard some p.least);
   each = validate-here k a.shards shard (based a.snaps run.observations) (may-validate k a run h.shards h.reads p.ran);
-  few = let here = few-here a.shards shard (based a.snaps run.observations) in let all : length (based a.snaps run.observations) ≡ length run.observations = length-map run.observations _ in omega arith;
+  few = let here = few-here a.shards shard (based a.snaps run.observations) in let all : length (based a.snaps run.observations)
+      ≡ length run.observations = length-map run.observations _ in omega arith;
 }
 
-pub can-append : (k : Known) (s : Session) (a : Attempt) (run : Run) → Attends k s → Holds k a → length run.observations < 2 ^ 32 → next_event a ≡ next.Append run
+pub can-append : (k : Known) (s : Session) (a : Attempt) (run : Run) → Attends k s → Holds k a → length run.observations < 2 ^ 32
+    → next_event a ≡ next.Append run
     → CanAppend k (ready_of a run s.client s.seq)
 can-append k s a run is h few e = record {
   attempt = a;
@@ -69,7 +73,8 @@ can-append k s a run is h few e = record {
   short = h.short;
   all_shards = h.shards;
   given = each-more (IsRead k) (λ (read : Address × Snap). IsGiven k read.0 read.1.base) a.snaps (λ read r. r.given) h.reads;
-  fronted = subst (λ (n : ℕ). AllByRecursion (λ prepared. k.fronted prepared.shard (in_shard n prepared.shard (based a.snaps run.observations)) prepared.front ≡ true) a.fronts) h.shards
+  fronted = subst (λ (n : ℕ). AllByRecursion (λ prepared. k.fronted prepared.shard
+      (in_shard n prepared.shard (based a.snaps run.observations)) prepared.front ≡ true) a.fronts) h.shards
       (subst (FrontsGiven k a) (appends a run e) h.fronts);
   each = subst (λ (n : ℕ). AllByRecursion (λ b. CanValidate k (shard_of b.address n) b) (based a.snaps run.observations)) h.shards
       (may-validate k a run h.shards h.reads (appends a run e));
@@ -87,7 +92,8 @@ can-append k s a run is h few e = record {
 abbrev pub SameOwn : Known → Call → Answer → Type 0
 SameOwn k c answer = (old new : Journal) → OwnRow k.client old new c answer → own k.client new ≡ own k.client old
 
-pub counts-on : (k l : Known) (seq : ℕ) (c : Call) (answer : Answer) → IsAnswered k c answer l → SameOwn k c answer → IfSome k.journal (Counts k seq) → IfSome l.journal (Counts l seq)
+pub counts-on : (k l : Known) (seq : ℕ) (c : Call) (answer : Answer) → IsAnswered k c answer l → SameOwn k c answer → IfSome k.journal (Counts k seq)
+    → IfSome l.journal (Counts l seq)
 counts-on k l seq c answer event same h = IfSome-WhereTold (SaysOfJournal k l c answer) (Counts k seq) (Counts l seq) k.journal l.journal
     (λ old new counts says. record {
       seq_is = counts.seq_is ∙ ap (λ (xs : Journal). length xs + 1) (sym (same old new says.same_own) ∙ ap (λ (n : ℕ). own n new) (sym event.client.client));
@@ -105,7 +111,8 @@ fronts-on k l a (done run) keeps h = each-more
     (λ prepared. l.fronted prepared.shard (in_shard a.shards prepared.shard (based a.snaps run.observations)) prepared.front ≡ true) a.fronts
     (λ prepared g. keeps.fronts prepared.shard (in_shard a.shards prepared.shard (based a.snaps run.observations)) prepared.front g) h
 
-told-on : (k l : Known) (a : Attempt) (c : Call) (answer : Answer) → WhereTold (SaysOfJournal k l c answer) k.journal l.journal → IfSome k.journal (λ journal. Fits journal a)
+told-on : (k l : Known) (a : Attempt) (c : Call) (answer : Answer) → WhereTold (SaysOfJournal k l c answer) k.journal l.journal
+    → IfSome k.journal (λ journal. Fits journal a)
     → IfSome l.journal (λ journal. Fits journal a)
 told-on k l a c answer told h = IfSome-WhereTold (SaysOfJournal k l c answer) (λ journal. Fits journal a) (λ journal. Fits journal a) k.journal l.journal
     (λ old new fits says. fits-on old new a says.grows fits) h told
@@ -121,12 +128,14 @@ holds-on k l a c answer event keeps h = record {
   told = told-on k l a c answer event.told h.told;
 }
 
-maybe-holds : (k l : Known) (o : Option Attempt) (c : Call) (answer : Answer) → IsAnswered k c answer l → KeepsGiven k l → IfSome o (Holds k) → IfSome o (Holds l)
+maybe-holds : (k l : Known) (o : Option Attempt) (c : Call) (answer : Answer) → IsAnswered k c answer l → KeepsGiven k l → IfSome o (Holds k)
+    → IfSome o (Holds l)
 maybe-holds k l None c answer event keeps h = tt
 maybe-holds k l (Some a) c answer event keeps h = holds-on k l a c answer event keeps h
 
 -- a session goes on after a call that adds none of its commits
-pub attends-on : (k l : Known) (s : Session) (c : Call) (answer : Answer) → IsAnswered k c answer l → SameOwn k c answer → KeepsGiven k l → Attends k s → Attends l s
+pub attends-on : (k l : Known) (s : Session) (c : Call) (answer : Answer) → IsAnswered k c answer l → SameOwn k c answer → KeepsGiven k l
+    → Attends k s → Attends l s
 attends-on k l s c answer event same keeps h = record {
   on = h.on;
   shards = subst (λ (n : ℕ). (LEAST_SHARDS ≤ n) × (n ≤ MOST_SHARDS)) (sym event.client.shards) h.shards;
@@ -158,7 +167,8 @@ own-more client before c e =
     ap length (filter-append (λ (x : Commit). x.client == client) before (c ∷ [])) ∙ (length-append (own client before) (own client (c ∷ []))
     ∙ ap (λ (b : Bool). length (own client before) + length (cond b (c ∷ []) [])) is)
 
-pub committed-on : (k l : Known) (s : Session) (ready : Ready) (n : ℕ) → ready.client ≡ s.client → IsAnswered k (Call.append ready) (Answer.number n) l → Attends k s
+pub committed-on : (k l : Known) (s : Session) (ready : Ready) (n : ℕ) → ready.client ≡ s.client
+    → IsAnswered k (Call.append ready) (Answer.number n) l → Attends k s
     → Attends l (record s { seq = s.seq + 1; attempt = None })
 committed-on k l s ready n mine event h = record {
   on = h.on;
@@ -180,7 +190,8 @@ committed-on k l s ready n mine event h = record {
 -- an attempt of which nothing is read holds
 unread-fronts : (l : Known) (a : Attempt) (r : Ran) → a.fronts ≡ [] → FrontsGiven l a r
 unread-fronts l a (need address) e = e
-unread-fronts l a (done run) e = subst (AllByRecursion (λ prepared. l.fronted prepared.shard (in_shard a.shards prepared.shard (based a.snaps run.observations)) prepared.front ≡ true)) (sym e) tt
+unread-fronts l a (done run) e = subst (AllByRecursion (λ prepared. l.fronted prepared.shard
+    (in_shard a.shards prepared.shard (based a.snaps run.observations)) prepared.front ≡ true)) (sym e) tt
 
 no-fronts : (journal : Journal) (a : Attempt) (r : Ran) → a.fronts ≡ [] → FrontsFit journal a.shards a.snaps a.fronts r
 no-fronts journal a (need address) e = e
@@ -188,7 +199,8 @@ no-fronts journal a (done run) e =
     subst (AllByRecursion (λ prepared. FrontFits journal (in_shard a.shards prepared.shard (based a.snaps run.observations)) prepared)) (sym e) tt
 
 pub unread-fits : (journal : Journal) (a : Attempt) → a.snaps ≡ [] → a.fronts ≡ [] → Fits journal a
-unread-fits journal a unread unprepared = record { snaps = subst (AllByRecursion (SnapFits journal)) (sym unread) tt; fronts = no-fronts journal a (ran a) unprepared }
+unread-fits journal a unread unprepared = record { snaps = subst (AllByRecursion (SnapFits journal)) (sym unread) tt;
+    fronts = no-fronts journal a (ran a) unprepared }
 
 maybe-unread : (o : Option Journal) (a : Attempt) → a.snaps ≡ [] → a.fronts ≡ [] → IfSome o (λ journal. Fits journal a)
 maybe-unread None a unread unprepared = tt
@@ -205,14 +217,18 @@ afresh-holds k a h = record {
 }
 
 module _ (k l : Known) (a : Attempt) (h : Holds k a) where
-  read-fits : (old new : Journal) (address : Address) (s : Snap) → next_event a ≡ next.Read address → s.base ≡ l.seen → SaysOfJournal k l (Call.read address) (Answer.snap s) old new
+  read-fits : (old new : Journal) (address : Address) (s : Snap) → next_event a ≡ next.Read address → s.base ≡ l.seen
+      → SaysOfJournal k l (Call.read address) (Answer.snap s) old new
       → Fits old a → Fits new (with_snap a address s)
   read-fits old new address s e base says fits = record {
-    snaps = each-inserted (SnapFits new) a.snaps address s (record { within = let w = says.within in omega arith; value = says.row }) (fits-on old new a says.grows fits).snaps;
-    fronts = no-fronts new (with_snap a address s) (ran (with_snap a address s)) (subst (FrontsFit old a.shards a.snaps a.fronts) (needs a address e) fits.fronts);
+    snaps = each-inserted (SnapFits new) a.snaps address s (record { within = let w = says.within in omega arith; value = says.row })
+        (fits-on old new a says.grows fits).snaps;
+    fronts = no-fronts new (with_snap a address s) (ran (with_snap a address s))
+        (subst (FrontsFit old a.shards a.snaps a.fronts) (needs a address e) fits.fronts);
   }
 
-  pub read-holds : (address : Address) (s : Snap) → next_event a ≡ next.Read address → IsAnswered k (Call.read address) (Answer.snap s) l → Holds l (with_snap a address s)
+  pub read-holds : (address : Address) (s : Snap) → next_event a ≡ next.Read address → IsAnswered k (Call.read address) (Answer.snap s) l
+      → Holds l (with_snap a address s)
   read-holds address s e event = record {
     shards = h.shards ∙ sym event.client.shards;
     text = h.text;
@@ -220,32 +236,38 @@ module _ (k l : Known) (a : Attempt) (h : Holds k a) where
     reads = each-inserted (IsRead l) a.snaps address s (record { given = (let b = event.shows.0 in omega arith, event.gives); kind = event.shows.1 })
         (reads-on k l a event.goes_on.seen event.keeps h.reads);
     fronts = unread-fronts l (with_snap a address s) (ran (with_snap a address s)) (subst (FrontsGiven k a) (needs a address e) h.fronts);
-    told = IfSome-WhereTold (SaysOfJournal k l (Call.read address) (Answer.snap s)) (λ journal. Fits journal a) (λ journal. Fits journal (with_snap a address s)) k.journal l.journal
+    told = IfSome-WhereTold (SaysOfJournal k l (Call.read address) (Answer.snap s)) (λ journal. Fits journal a)
+        (λ journal. Fits journal (with_snap a address s)) k.journal l.journal
         (λ old new fits says. read-fits old new address s e event.shows.0 says fits) h.told event.told;
   }
 
   front-given : (shard front : ℕ) (run : Run) (r : Ran) → r ≡ done run → FrontsGiven l a r
       → l.fronted shard (in_shard a.shards shard (based a.snaps run.observations)) front ≡ true → FrontsGiven l (with_front a shard front) r
   front-given shard front run r is all one = subst (FrontsGiven l (with_front a shard front)) (sym is)
-      (each-push (λ prepared. l.fronted prepared.shard (in_shard a.shards prepared.shard (based a.snaps run.observations)) prepared.front ≡ true) a.fronts (record { shard = shard; front = front })
+      (each-push (λ prepared. l.fronted prepared.shard (in_shard a.shards prepared.shard (based a.snaps run.observations)) prepared.front
+          ≡ true) a.fronts (record { shard = shard; front = front })
       (subst (FrontsGiven l a) is all) one)
 
   front-fits : (journal : Journal) (shard front : ℕ) (run : Run) (r : Ran) → r ≡ done run → FrontsFit journal a.shards a.snaps a.fronts r
       → FrontFits journal (in_shard a.shards shard (based a.snaps run.observations)) (record { shard = shard; front = front })
       → FrontsFit journal a.shards a.snaps (a.fronts ++ record { shard = shard; front = front } ∷ []) r
-  front-fits journal shard front run r is all one = subst (FrontsFit journal a.shards a.snaps (a.fronts ++ record { shard = shard; front = front } ∷ [])) (sym is)
-      (each-push (λ prepared. FrontFits journal (in_shard a.shards prepared.shard (based a.snaps run.observations)) prepared) a.fronts (record { shard = shard; front = front })
+  front-fits journal shard front run r is all one = subst (FrontsFit journal a.shards a.snaps
+      (a.fronts ++ record { shard = shard; front = front } ∷ [])) (sym is)
+      (each-push (λ prepared. FrontFits journal (in_shard a.shards prepared.shard (based a.snaps run.observations)) prepared) a.fronts
+          (record { shard = shard; front = front })
       (subst (FrontsFit journal a.shards a.snaps a.fronts) is all) one)
 
   pub prepare-holds : (shard : ℕ) (run : Run) (p : Prepared) → next_event a ≡ next.Prepare shard run
-      → IsAnswered k (Call.prepare shard (in_shard a.shards shard (based a.snaps run.observations))) (Answer.prepared p) l → Holds l (with_front a shard p.front)
+      → IsAnswered k (Call.prepare shard (in_shard a.shards shard (based a.snaps run.observations))) (Answer.prepared p) l
+          → Holds l (with_front a shard p.front)
   prepare-holds shard run p e event = let is = (prepares a shard run e).ran in record {
     shards = h.shards ∙ sym event.client.shards;
     text = h.text;
     short = h.short;
     reads = reads-on k l a event.goes_on.seen event.keeps h.reads;
     fronts = front-given shard p.front run (ran a) is (fronts-on k l a (ran a) event.keeps h.fronts) event.gives;
-    told = IfSome-WhereTold (SaysOfJournal k l (Call.prepare shard (in_shard a.shards shard (based a.snaps run.observations))) (Answer.prepared p)) (λ journal. Fits journal a)
+    told = IfSome-WhereTold (SaysOfJournal k l (Call.prepare shard (in_shard a.shards shard (based a.snaps run.observations))) (Answer.prepared p))
+        (λ journal. Fits journal a)
         (λ journal. Fits journal (with_front a shard p.front)) k.journal l.journal
         (λ old new fits says. let on = fits-on old new a says.grows fits in record {
           snaps = on.snaps;
@@ -275,7 +297,8 @@ within-is n least most = max-eq_right (le-min' n least most) ∙ min-eq n most
     le-min' : (n : ℕ) → LEAST_SHARDS ≤ n → n ≤ MOST_SHARDS → LEAST_SHARDS ≤ min n MOST_SHARDS
     le-min' n l h = omega arith
 
-pub opened-is : (a : Attempt) (n : ℕ) (body : Checked) → (LEAST_SHARDS ≤ n) × (n ≤ MOST_SHARDS) → a.body ≡ body → a.shards ≡ n → a.snaps ≡ [] → a.fronts ≡ [] → a ≡ opened n body
+pub opened-is : (a : Attempt) (n : ℕ) (body : Checked) → (LEAST_SHARDS ≤ n) × (n ≤ MOST_SHARDS) → a.body ≡ body → a.shards ≡ n → a.snaps ≡ []
+    → a.fronts ≡ [] → a ≡ opened n body
 opened-is a n body h b s u f = attempt_same a (opened n body) b (s ∙ sym (within-is n h.0 h.1)) u f
 
 pub opened-holds : (k : Known) (s : Session) (body : Checked) → Attends k s → IsReady body → Holds k (opened k.shards body)

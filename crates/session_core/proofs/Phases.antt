@@ -23,7 +23,8 @@ use Rattle.session_core.specs.declared.line.Line.TheVariants as asked
 use Rattle.session_core.specs.declared.session.Session.{Session}
 use Rattle.session_core.specs.declared.moved.Moved.{Moved}
 use Rattle.session_core.specs.declared.moved.Moved.TheVariants as moved
-use Rattle.session_core.specs.Phases.{Phase, with_attempt, closed, ended, afresh, event_call, call_of, moved_at, moved_by, said, stepped, after_end, gone, look_by, look_on, look_from, asks, after, start}
+use Rattle.session_core.specs.Phases.{Phase, with_attempt, closed, ended, afresh, event_call, call_of, moved_at, moved_by, said, stepped, after_end}
+use Rattle.session_core.specs.Phases.{gone, look_by, look_on, look_from, asks, after, start}
 use Rattle.session_core.specs.Holding.{Holds, BodyIsReady, Attends}
 use Rattle.txn_lang.proofs.Observed.{runs_ask_short}
 use Rattle.session_core.proofs.Kept.{attends-on, closed-on, opened-on, committed-on, holds-on, anew-holds, read-holds, prepare-holds, opened-holds}
@@ -50,14 +51,18 @@ module _ (k l : Known) (s : Session) (a : Attempt) (is : Attends k (closed s)) (
   more : (b : Attempt) (r : Reply) (m : Moved) → Some (moved.More b r) ≡ Some m → Attends l (closed s) → Holds l b → MovedHolds l s m
   more b r m e on h = subst (MovedHolds l s) (let same : moved.More b r ≡ m = cc in same) (on, h)
 
-  end : (c : Call) (answer : Answer) (r : Reply) (m : Moved) → Some (moved.End a r) ≡ Some m → Attends l (ended s r) → IsAnswered k c answer l → MovedHolds l s m
+  end : (c : Call) (answer : Answer) (r : Reply) (m : Moved) → Some (moved.End a r) ≡ Some m → Attends l (ended s r) → IsAnswered k c answer l
+      → MovedHolds l s m
   end c answer r m e on event = subst (MovedHolds l s) (let same : moved.End a r ≡ m = cc in same) (on, anew-holds k l a c answer event holds)
 
-  pub held-by : (n : Next) (answer : Answer) (m : Moved) → next_event a ≡ n → IsAnswered k (event_call s a n) answer l → moved_at a n answer ≡ Some m → MovedHolds l s m
+  pub held-by : (n : Next) (answer : Answer) (m : Moved) → next_event a ≡ n → IsAnswered k (event_call s a n) answer l → moved_at a n answer ≡ Some m
+      → MovedHolds l s m
   held-by (next.Read address) (snap v) m e event h =
-      more (with_snap a address v) (reply.Read address v.base) m h (closed-on k l (closed s) (read address) (snap v) event (λ old new own. own) is) (read-holds k l a holds address v e event)
+      more (with_snap a address v) (reply.Read address v.base) m h (closed-on k l (closed s) (read address) (snap v) event (λ old new own. own) is)
+          (read-holds k l a holds address v e event)
   held-by (next.Prepare shard run) (prepared p) m e event h =
-      more (with_front a shard p.front) (reply.Prepared shard p.front) m h (closed-on k l (closed s) (event_call s a (next.Prepare shard run)) (prepared p) event (λ old new own. own) is)
+      more (with_front a shard p.front) (reply.Prepared shard p.front) m h (closed-on k l (closed s) (event_call s a (next.Prepare shard run))
+          (prepared p) event (λ old new own. own) is)
       (prepare-holds k l a holds shard run p e event)
   held-by (next.Prepare shard run) (late base horizon) m e event h =
       end (event_call s a (next.Prepare shard run)) (late base horizon) (reply.Late base horizon) m h
@@ -66,13 +71,17 @@ module _ (k l : Known) (s : Session) (a : Attempt) (is : Attends k (closed s)) (
       end (event_call s a (next.Prepare shard run)) (clash w) (reply.Abort w) m h
       (closed-on k l (closed s) (event_call s a (next.Prepare shard run)) (clash w) event (λ old new own. own) is) event
   held-by (next.Append run) (number n) m e event h =
-      end (event_call s a (next.Append run)) (number n) (reply.Commit n run.outcome) m h (committed-on k l (closed s) (ready_of a run s.client s.seq) n refl event is) event
+      end (event_call s a (next.Append run)) (number n) (reply.Commit n run.outcome) m h
+          (committed-on k l (closed s) (ready_of a run s.client s.seq) n refl event is) event
   held-by (next.Append run) (clash w) m e event h =
-      end (event_call s a (next.Append run)) (clash w) (reply.Abort w) m h (closed-on k l (closed s) (event_call s a (next.Append run)) (clash w) event (λ old new own. own) is) event
+      end (event_call s a (next.Append run)) (clash w) (reply.Abort w) m h (closed-on k l (closed s) (event_call s a (next.Append run))
+          (clash w) event (λ old new own. own) is) event
   held-by (next.Append run) (full limit) m e event h =
-      end (event_call s a (next.Append run)) (full limit) (reply.Full limit) m h (closed-on k l (closed s) (event_call s a (next.Append run)) (full limit) event (λ old new own. own) is) event
+      end (event_call s a (next.Append run)) (full limit) (reply.Full limit) m h
+          (closed-on k l (closed s) (event_call s a (next.Append run)) (full limit) event (λ old new own. own) is) event
   held-by (next.Append run) disk m e event h =
-      end (event_call s a (next.Append run)) disk reply.Disk m h (closed-on k l (closed s) (event_call s a (next.Append run)) disk event (λ old new own. own) is) event
+      end (event_call s a (next.Append run)) disk reply.Disk m h (closed-on k l (closed s) (event_call s a (next.Append run)) disk event
+          (λ old new own. own) is) event
   held-by n answer m e event h = absurd (cc)
 
   pub held : (answer : Answer) (m : Moved) → IsAnswered k (call_of s a) answer l → moved_by a answer ≡ Some m → MovedHolds l s m
@@ -80,7 +89,8 @@ module _ (k l : Known) (s : Session) (a : Attempt) (is : Attends k (closed s)) (
 
 -- ---- one step
 
-look-holds : (l : Known) (s : Session) (n : ℕ) (body : Checked) (snaps : SnapList) (r : Ran) → Attends l s → n ≤ l.seen → exec body.body (values_of snaps) ≡ r → PhaseHolds l (look_by s n body snaps r)
+look-holds : (l : Known) (s : Session) (n : ℕ) (body : Checked) (snaps : SnapList) (r : Ran) → Attends l s → n ≤ l.seen
+    → exec body.body (values_of snaps) ≡ r → PhaseHolds l (look_by s n body snaps r)
 look-holds l s n body snaps (need address) is within e = (is, within, runs_ask_short.needed body.body (values_of snaps) address e)
 look-holds l s n body snaps (done run) is within e = is
 
@@ -109,7 +119,8 @@ gone-holds l s left f (Some (moved.More a r)) h = h (moved.More a r) refl
 gone-holds l s left f (Some (moved.End a r)) h = let on = h (moved.End a r) refl in end-holds l s left a r on.0 on.1
 
 -- each step of a line keeps to it
-pub phase-kept : (k l : Known) (q : Phase) (call : Call) (answer : Answer) → PhaseHolds k q → asks q ≡ Some call → IsAnswered k call answer l → PhaseHolds l (after q answer)
+pub phase-kept : (k l : Known) (q : Phase) (call : Call) (answer : Answer) → PhaseHolds k q → asks q ≡ Some call → IsAnswered k call answer l
+    → PhaseHolds l (after q answer)
 phase-kept k l (Phase.stepping s a) call answer h asks_it event =
     let e : call_of s a ≡ call = cc in
     step-holds l s (is_fault answer) (moved_by a answer) (λ m is. held k l s a h.0 h.1 answer m (subst (λ c. IsAnswered k c answer l) (sym e) event) is)
@@ -151,7 +162,8 @@ pub closes : (k : Known) (s : Session) → Attends k s → Attends k (closed s)
 closes k s is = record { on = is.on; shards = is.shards; client = is.client; begun = is.begun; counts = is.counts; attempt = tt }
 
 -- a line begins so, by whether an attempt is open
-begins-by : (k : Known) (s : Session) (l : Line) (o : Option Attempt) → s.attempt ≡ o → Attends k s → BodyIsReady l → PhaseHolds k (start k.shards k.seen (with_attempt s o) l)
+begins-by : (k : Known) (s : Session) (l : Line) (o : Option Attempt) → s.attempt ≡ o → Attends k s → BodyIsReady l
+    → PhaseHolds k (start k.shards k.seen (with_attempt s o) l)
 begins-by k s asked.Quiet o e is ready = subst (λ x. Attends k (with_attempt s x)) e is
 begins-by k s asked.Unbuilt o e is ready = subst (λ x. Attends k (with_attempt s x)) e is
 begins-by k s (asked.Refused reason) o e is ready = subst (λ x. Attends k (with_attempt s x)) e is

@@ -16,27 +16,34 @@ use Rattle.docc_prepare.specs.Attempts.{SnapList}
 
 -- ---- bodies
 
-abbrev checked_from : (body : Body) (source : Text) (read_only : Bool) → ∥ tree source ≡ Some body ∥₁ → ∥ IsTyped body ∥₁ → ∥ (IsTrue read_only → first_write body ≡ None) ∥₁ → Checked
+abbrev checked_from : (body : Body) (source : Text) (read_only : Bool) → ∥ tree source ≡ Some body ∥₁ → ∥ IsTyped body ∥₁
+    → ∥ (IsTrue read_only → first_write body ≡ None) ∥₁ → Checked
 checked_from body source read_only r t w = record { body = body; source = source; read_only = read_only; read = r; typed = t; writes_none = w }
 
-one_checked : (body : Body) (source : Text) (o : Bool) (r q : ∥ tree source ≡ Some body ∥₁) (t u : ∥ IsTyped body ∥₁) (w v : ∥ (IsTrue o → first_write body ≡ None) ∥₁)
+one_checked : (body : Body) (source : Text) (o : Bool) (r q : ∥ tree source ≡ Some body ∥₁) (t u : ∥ IsTyped body ∥₁)
+    (w v : ∥ (IsTrue o → first_write body ≡ None) ∥₁)
     → checked_from body source o r t w ≡ checked_from body source o q u v
 one_checked body source o r q t u w v = ap (λ x. checked_from body source o x t w) (∥∥₁_prop r q)
     ∙ (ap (λ x. checked_from body source o q x w) (∥∥₁_prop t u) ∙ ap (λ x. checked_from body source o q u x) (∥∥₁_prop w v))
 
-by_read_only : (c : Checked) (o : Bool) → c.read_only ≡ o → (r : ∥ tree c.source ≡ Some c.body ∥₁) (t : ∥ IsTyped c.body ∥₁) (w : ∥ (IsTrue o → first_write c.body ≡ None) ∥₁)
+by_read_only : (c : Checked) (o : Bool) → c.read_only ≡ o → (r : ∥ tree c.source ≡ Some c.body ∥₁) (t : ∥ IsTyped c.body ∥₁)
+    (w : ∥ (IsTrue o → first_write c.body ≡ None) ∥₁)
     → c ≡ checked_from c.body c.source o r t w
-by_read_only c o e = subst (λ (x : Bool). (r : ∥ tree c.source ≡ Some c.body ∥₁) (t : ∥ IsTyped c.body ∥₁) (w : ∥ (IsTrue x → first_write c.body ≡ None) ∥₁) → c ≡ checked_from c.body c.source x r t w) e
+by_read_only c o e = subst (λ (x : Bool). (r : ∥ tree c.source ≡ Some c.body ∥₁) (t : ∥ IsTyped c.body ∥₁)
+    (w : ∥ (IsTrue x → first_write c.body ≡ None) ∥₁) → c ≡ checked_from c.body c.source x r t w) e
     (λ r t w. one_checked c.body c.source c.read_only c.read r c.typed t c.writes_none w)
 
 by_source : (c : Checked) (source : Text) (o : Bool) → c.source ≡ source → c.read_only ≡ o → (r : ∥ tree source ≡ Some c.body ∥₁) (t : ∥ IsTyped c.body ∥₁)
     (w : ∥ (IsTrue o → first_write c.body ≡ None) ∥₁) → c ≡ checked_from c.body source o r t w
-by_source c source o s e = subst (λ (x : Text). (r : ∥ tree x ≡ Some c.body ∥₁) (t : ∥ IsTyped c.body ∥₁) (w : ∥ (IsTrue o → first_write c.body ≡ None) ∥₁) → c ≡ checked_from c.body x o r t w) s
+by_source c source o s e = subst (λ (x : Text). (r : ∥ tree x ≡ Some c.body ∥₁) (t : ∥ IsTyped c.body ∥₁)
+    (w : ∥ (IsTrue o → first_write c.body ≡ None) ∥₁) → c ≡ checked_from c.body x o r t w) s
     (by_read_only c o e)
 
-by_body : (c : Checked) (body : Body) (source : Text) (o : Bool) → c.body ≡ body → c.source ≡ source → c.read_only ≡ o → (r : ∥ tree source ≡ Some body ∥₁) (t : ∥ IsTyped body ∥₁)
+by_body : (c : Checked) (body : Body) (source : Text) (o : Bool) → c.body ≡ body → c.source ≡ source → c.read_only ≡ o →
+    (r : ∥ tree source ≡ Some body ∥₁) (t : ∥ IsTyped body ∥₁)
     (w : ∥ (IsTrue o → first_write body ≡ None) ∥₁) → c ≡ checked_from body source o r t w
-by_body c body source o b s e = subst (λ (x : Body). (r : ∥ tree source ≡ Some x ∥₁) (t : ∥ IsTyped x ∥₁) (w : ∥ (IsTrue o → first_write x ≡ None) ∥₁) → c ≡ checked_from x source o r t w) b
+by_body c body source o b s e = subst (λ (x : Body). (r : ∥ tree source ≡ Some x ∥₁) (t : ∥ IsTyped x ∥₁)
+    (w : ∥ (IsTrue o → first_write x ≡ None) ∥₁) → c ≡ checked_from x source o r t w) b
     (by_source c source o s e)
 
 pub checked_same : (c d : Checked) → c.body ≡ d.body → c.source ≡ d.source → c.read_only ≡ d.read_only → c ≡ d
@@ -53,7 +60,8 @@ attempt_from body n snaps fronts r = record { body = body; shards = n; snaps = s
 one_range : (n : ℕ) (r q : InRange n) → r ≡ q
 one_range n r q = ap (λ x. (x, r.1)) (le_prop r.0 q.0) ∙ ap (λ y. (q.0, y)) (le_prop r.1 q.1)
 
-by_shards : (body : Checked) (n m : ℕ) (snaps : SnapList) (fronts : List PreparedFront) (r : InRange n) → n ≡ m → (q : InRange m) → attempt_from body n snaps fronts r ≡ attempt_from body m snaps fronts q
+by_shards : (body : Checked) (n m : ℕ) (snaps : SnapList) (fronts : List PreparedFront) (r : InRange n) → n ≡ m →
+    (q : InRange m) → attempt_from body n snaps fronts r ≡ attempt_from body m snaps fronts q
 by_shards body n m snaps fronts r e = subst (λ (x : ℕ). (q : InRange x) → attempt_from body n snaps fronts r ≡ attempt_from body x snaps fronts q) e
     (λ q. ap (λ x. attempt_from body n snaps fronts x) (one_range n r q))
 

@@ -1,5 +1,6 @@
 -- Steps put together.
-use Rattle.std.proofs.Common.{◌≡◌, ℕ, zero, suc, ◌+◌, ◌-◌, ◌*◌, ◌≤◌, ◌<◌, Bool, true, false, cond, inl, inr, ◌⊎◌, List, [], ◌∷◌, length, set, Option, Some, None, Result, Ok, Err, refl, sym, ap, ◌∙◌, subst, arith}
+use Rattle.std.proofs.Common.{◌≡◌, ℕ, zero, suc, ◌+◌, ◌-◌, ◌*◌, ◌≤◌, ◌<◌, Bool, true, false, cond, inl, inr, ◌⊎◌, List, [], ◌∷◌, length, set, Option}
+use Rattle.std.proofs.Common.{Some, None, Result, Ok, Err, refl, sym, ap, ◌∙◌, subst, arith}
 use Rattle.std.specs.Prelude.{nat_lt}
 use Rattle.std.proofs.lemmas.Bool.Decides.{nat_tests}
 use Rattle.rdt_types.specs.declared.address.Address.{Address}
@@ -27,14 +28,16 @@ use Rattle.session_core.specs.declared.moved.Ended.{Ended}
 use Rattle.session_core.specs.declared.session.Session.{Session}
 use Rattle.session_core.specs.declared.turn.Turn.{Turn}
 use Rattle.session_core.specs.Errors.{error_of}
-use Rattle.session_core.specs.Phases.{Phase, with_attempt, closed, ended, afresh, event_call, call_of, moved_at, moved_by, said, stepped, is_abort, after_end, gone, look_by, look_on, look_from, asks, after}
+use Rattle.session_core.specs.Phases.{Phase, with_attempt, closed, ended, afresh, event_call, call_of, moved_at, moved_by, said, stepped, is_abort}
+use Rattle.session_core.specs.Phases.{after_end, gone, look_by, look_on, look_from, asks, after}
 use Rattle.session_core.specs.Leading.{Leads, Reaches, Stops, Went, Turned, Moves, Tries, Makes, Drives, Closes, Replies, LooksAt, Valued, turn_of}
 use Rattle.session_core.specs.Holding.{Holds, Attends}
 use Rattle.session_core.proofs.Kept.{attends-on}
 use Rattle.session_core.proofs.Phases.{PhaseHolds, phase-kept}
 
 -- one step
-pub one-led : {B : Type 0} (goes : B → Call → Answer → B → Type 0) (b c : B) (p q : Phase) (call : Call) (answer : Answer) → asks p ≡ Some call → goes b call answer c → after p answer ≡ q
+pub one-led : {B : Type 0} (goes : B → Call → Answer → B → Type 0) (b c : B) (p q : Phase) (call : Call) (answer : Answer) → asks p ≡ Some call
+    → goes b call answer c → after p answer ≡ q
     → Leads goes b p 1 c q
 one-led goes b c p q call answer asked step e = subst (λ (k : ℕ). Leads goes b p k c q) (omega arith) (Leads.by_step call answer Leads.stays asked step e)
 
@@ -84,17 +87,20 @@ tried-again s left a (reply.Abort w) e = refl
 tried-again s left a r e = absurd (cc)
 
 -- what follows an end
-pub none-follows : (s : Session) (left : ℕ) (a : Attempt) (r : Reply) → (left ≡ 0) ⊎ (is_abort r ≡ false) → after_end s left a r ≡ Phase.over (ended s r) (said r)
+pub none-follows : (s : Session) (left : ℕ) (a : Attempt) (r : Reply) → (left ≡ 0) ⊎ (is_abort r ≡ false)
+    → after_end s left a r ≡ Phase.over (ended s r) (said r)
 none-follows s left a r (inl e) = shown-last s left a r e
 none-follows s left a r (inr e) = shown-other s left a r e
 
-pub one-follows : (s : Session) (left : ℕ) (a : Attempt) (r : Reply) → 0 < left → is_abort r ≡ true → after_end s left a r ≡ Phase.trying s (left - 1) (afresh a)
+pub one-follows : (s : Session) (left : ℕ) (a : Attempt) (r : Reply) → 0 < left → is_abort r ≡ true
+    → after_end s left a r ≡ Phase.trying s (left - 1) (afresh a)
 one-follows s zero a r some e = absurd (omega arith)
 one-follows s (suc left) a r some e = tried-again s left a r e ∙ ap (λ (n : ℕ). Phase.trying s n (afresh a)) (omega arith)
 
 module _ {B : Type 0} (known : B → Known) (goes : B → Call → Answer → B → Type 0) where
   -- it has come somewhere, for want of memory
-  pub stopped-here : (b : B) (p : Phase) (n : ℕ) (c : B) (q : Phase) (e : SessionError) → e ≡ error.NoMemory → Leads (Goes known goes) b p n c q → Stops known goes b p e c
+  pub stopped-here : (b : B) (p : Phase) (n : ℕ) (c : B) (q : Phase) (e : SessionError) → e ≡ error.NoMemory → Leads (Goes known goes) b p n c q
+      → Stops known goes b p e c
   stopped-here b p n c q e want led = record { count = n; phase = q; leads = led; cause = λ h. absurd (not-both e want h) }
 
   -- nothing was done
@@ -102,11 +108,14 @@ module _ {B : Type 0} (known : B → Known) (goes : B → Call → Answer → B 
   none-done b p e want = stopped-here b p 0 b p e want Leads.stays
 
   -- more steps in front
-  pub stops-on : (b : B) (p : Phase) (n : ℕ) (c : B) (q : Phase) (e : SessionError) (d : B) → Leads (Goes known goes) b p n c q → Stops known goes c q e d → Stops known goes b p e d
-  stops-on b p n c q e d first rest = record { count = n + rest.count; phase = rest.phase; leads = leads-on (Goes known goes) b p c q n d rest.phase rest.count first rest.leads; cause = rest.cause }
+  pub stops-on : (b : B) (p : Phase) (n : ℕ) (c : B) (q : Phase) (e : SessionError) (d : B) → Leads (Goes known goes) b p n c q
+      → Stops known goes c q e d → Stops known goes b p e d
+  stops-on b p n c q e d first rest = record { count = n + rest.count; phase = rest.phase;
+      leads = leads-on (Goes known goes) b p c q n d rest.phase rest.count first rest.leads; cause = rest.cause }
 
   -- and of what it leads to
-  pub reaches-on : (b : B) (p : Phase) (n : ℕ) (c : B) (q : Phase) (most more : ℕ) (d : B) (r : Phase) → n + more ≤ most → Leads (Goes known goes) b p n c q → Reaches known goes c q more d r
+  pub reaches-on : (b : B) (p : Phase) (n : ℕ) (c : B) (q : Phase) (most more : ℕ) (d : B) (r : Phase) → n + more ≤ most
+      → Leads (Goes known goes) b p n c q → Reaches known goes c q more d r
       → Reaches known goes b p most d r
   reaches-on b p n c q most more d r few first rest = record {
     count = n + rest.count;
@@ -115,13 +124,16 @@ module _ {B : Type 0} (known : B → Known) (goes : B → Call → Answer → B 
   }
 
   -- by the result
-  pub closes-err : (s : Session) (b : B) (p : Phase) (result : Result Reply SessionError) (e : SessionError) (c : B) → result ≡ Err e → Stops known goes b p e c → Closes known goes s b p result c
+  pub closes-err : (s : Session) (b : B) (p : Phase) (result : Result Reply SessionError) (e : SessionError) (c : B) → result ≡ Err e
+      → Stops known goes b p e c → Closes known goes s b p result c
   closes-err s b p result e c is stops = subst (λ r. Closes known goes s b p r c) (sym is) stops
 
-  pub replies-err : (b : B) (p : Phase) (result : Result Reply SessionError) (e : SessionError) (c : B) (s : Session) → result ≡ Err e → Stops known goes b p e c → Replies known goes b p result c s
+  pub replies-err : (b : B) (p : Phase) (result : Result Reply SessionError) (e : SessionError) (c : B) (s : Session) → result ≡ Err e
+      → Stops known goes b p e c → Replies known goes b p result c s
   replies-err b p result e c s is stops = subst (λ r. Replies known goes b p r c s) (sym is) stops
 
-  pub looks-err : (s : Session) (n : ℕ) (body : Checked) (b : B) (result : Result Reply SessionError) (e : SessionError) (c : B) → result ≡ Err e → Stops known goes b (look_on s n body []) e c
+  pub looks-err : (s : Session) (n : ℕ) (body : Checked) (b : B) (result : Result Reply SessionError) (e : SessionError) (c : B) → result ≡ Err e
+      → Stops known goes b (look_on s n body []) e c
       → LooksAt known goes s n body b result c
   looks-err s n body b result e c is stops = subst (λ r. LooksAt known goes s n body b r c) (sym is) stops
 
@@ -129,11 +141,13 @@ module _ {B : Type 0} (known : B → Known) (goes : B → Call → Answer → B 
       → ((left : ℕ) → Stops known goes b (Phase.going s left a) e c) → Drives known goes s a b result c
   drives-err s a b result e c is stops = subst (λ r. Drives known goes s a b r c) (sym is) stops
 
-  pub went-err : (b : B) (p : Phase) (result : Result Turn SessionError) (e : SessionError) (c : B) (s : Session) → result ≡ Err e → Stops known goes b p e c → Went known goes b p result c s
+  pub went-err : (b : B) (p : Phase) (result : Result Turn SessionError) (e : SessionError) (c : B) (s : Session) → result ≡ Err e
+      → Stops known goes b p e c → Went known goes b p result c s
   went-err b p result e c s is stops = subst (λ r. Went known goes b p r c s) (sym is) stops
 
   -- the turn of a line with one reply
-  pub went-by : (b : B) (p : Phase) (r : Result Reply SessionError) (x : Result Turn SessionError) (c : B) (s : Session) → x ≡ turn_of r → Replies known goes b p r c s → Went known goes b p x c s
+  pub went-by : (b : B) (p : Phase) (r : Result Reply SessionError) (x : Result Turn SessionError) (c : B) (s : Session) → x ≡ turn_of r
+      → Replies known goes b p r c s → Went known goes b p x c s
   went-by b p r x c s is replies = subst (λ y. Went known goes b p y c s) (sym is) (by r replies)
     where
       by : (r : Result Reply SessionError) → Replies known goes b p r c s → Went known goes b p (turn_of r) c s
@@ -147,24 +161,29 @@ module _ {B : Type 0} (known : B → Known) (goes : B → Call → Answer → B 
   -- ---- one event
 
   -- what an answered event makes of an attempt, as a result
-  pub answered : (s : Session) (a : Attempt) (b c : B) (n : Next) (answer : Answer) (result : Result Moved SessionError) → next_event a ≡ n → Goes known goes b (event_call s a n) answer c
+  pub answered : (s : Session) (a : Attempt) (b c : B) (n : Next) (answer : Answer) (result : Result Moved SessionError) → next_event a ≡ n
+      → Goes known goes b (event_call s a n) answer c
       → Turned a answer result → Makes known goes s a b result c
-  answered s a b c n answer (Ok m) e step turned = record { answer = answer; step = subst (λ x. Goes known goes b (event_call s a x) answer c) (sym e) step; moved = turned }
+  answered s a b c n answer (Ok m) e step turned = record { answer = answer;
+      step = subst (λ x. Goes known goes b (event_call s a x) answer c) (sym e) step; moved = turned }
   answered s a b c n answer (Err x) e step turned = Tries.made answer (subst (λ y. Goes known goes b (event_call s a y) answer c) (sym e) step) turned
 
   -- an error before the call
-  pub unmade : (s : Session) (a : Attempt) (b : B) (result : Result Moved SessionError) (e : SessionError) → result ≡ Err e → e ≡ error.NoMemory → Makes known goes s a b result b
+  pub unmade : (s : Session) (a : Attempt) (b : B) (result : Result Moved SessionError) (e : SessionError) → result ≡ Err e → e ≡ error.NoMemory
+      → Makes known goes s a b result b
   unmade s a b result e is want = subst (λ r. Makes known goes s a b r b) (sym is) (Tries.not_made refl want)
 
   module _ (b : B) (p : Phase) (n : ℕ) (c d : B) (s : Session) (left : ℕ) (a : Attempt) (led : Leads (Goes known goes) b p n c (Phase.going s left a)) where
-    pub more-led : (following : Attempt) (r : Reply) → Moves known goes s a c (moved.More following r) d → Leads (Goes known goes) b p (n + 1) d (Phase.going s left following)
+    pub more-led : (following : Attempt) (r : Reply) → Moves known goes s a c (moved.More following r) d
+        → Leads (Goes known goes) b p (n + 1) d (Phase.going s left following)
     more-led following r m = Leads.by_step (call_of s a) m.answer led refl m.step (ap (gone s left (is_fault m.answer)) m.moved)
 
     pub end-led : (last : Attempt) (r : Reply) → Moves known goes s a c (moved.End last r) d → Leads (Goes known goes) b p (n + 1) d (after_end s left last r)
     end-led last r m = Leads.by_step (call_of s a) m.answer led refl m.step (ap (gone s left (is_fault m.answer)) m.moved)
 
     pub made-stops : (e : SessionError) → Tries known goes s a c e d → Stops known goes b p e d
-    made-stops e (Tries.not_made same want) = stopped-here b p n d (Phase.going s left a) e want (subst (λ x. Leads (Goes known goes) b p n x (Phase.going s left a)) (sym same) led)
+    made-stops e (Tries.not_made same want) = stopped-here b p n d (Phase.going s left a) e want
+        (subst (λ x. Leads (Goes known goes) b p n x (Phase.going s left a)) (sym same) led)
     made-stops e (Tries.made answer step cause) = record {
       count = n + 1;
       phase = after (Phase.going s left a) answer;
@@ -187,7 +206,8 @@ module _ {B : Type 0} (known : B → Known) (goes : B → Call → Answer → B 
   step-end s a last r b c m = record {
     count = 1;
     few = omega arith;
-    leads = one-led (Goes known goes) b c (Phase.stepping s a) (Phase.over (ended s r) (said r)) (call_of s a) m.answer refl m.step (ap (stepped s (is_fault m.answer)) m.moved);
+    leads = one-led (Goes known goes) b c (Phase.stepping s a) (Phase.over (ended s r) (said r)) (call_of s a) m.answer refl m.step
+        (ap (stepped s (is_fault m.answer)) m.moved);
   }
 
   pub step-stops : (s : Session) (a : Attempt) (e : SessionError) (b c : B) → Tries known goes s a b e c → Stops known goes b (Phase.stepping s a) e c
@@ -202,12 +222,14 @@ module _ {B : Type 0} (known : B → Known) (goes : B → Call → Answer → B 
 
   -- ---- refreshes
 
-  fault-broken : (p : Phase) (x : StoreError) → ((f : Bool) → after p (Answer.failed f) ≡ Phase.broken f) → error_of x ≡ error.StoreFault → after p (store_failed x) ≡ Phase.broken true
+  fault-broken : (p : Phase) (x : StoreError) → ((f : Bool) → after p (Answer.failed f) ≡ Phase.broken f) → error_of x ≡ error.StoreFault
+      → after p (store_failed x) ≡ Phase.broken true
   fault-broken p store.Fault breaks h = breaks true
   fault-broken p store.NoMemory breaks h = absurd (cc)
 
   -- a refresh that failed
-  pub refresh-stops : (b : B) (p : Phase) (n : ℕ) (c : B) (q : Phase) (e : SessionError) (x : StoreError) (d : B) → asks q ≡ Some refresh → ((f : Bool) → after q (Answer.failed f) ≡ Phase.broken f)
+  pub refresh-stops : (b : B) (p : Phase) (n : ℕ) (c : B) (q : Phase) (e : SessionError) (x : StoreError) (d : B) → asks q ≡ Some refresh →
+      ((f : Bool) → after q (Answer.failed f) ≡ Phase.broken f)
       → e ≡ error_of x → Leads (Goes known goes) b p n c q → Goes known goes c refresh (number_answered (Err x)) d → Stops known goes b p e d
   refresh-stops b p n c q e x d asked breaks is led step = record {
     count = n + 1;
@@ -218,9 +240,12 @@ module _ {B : Type 0} (known : B → Known) (goes : B → Call → Answer → B 
 
   -- ---- looks
 
-  module _ (s : Session) (m : ℕ) (body : Checked) (b c d : B) (n : ℕ) (snaps : SnapList) (led : Leads (Goes known goes) b (look_on s m body []) n c (look_on s m body snaps)) where
-    pub look-done : (run : Run) → n ≤ MOST_EVENTS → exec body.body (values_of snaps) ≡ done run → Reaches known goes b (look_on s m body []) MOST_EVENTS c (Phase.over s (said (reply.At m run.outcome)))
-    look-done run few e = record { count = n; few = few; leads = subst (λ q. Leads (Goes known goes) b (look_on s m body []) n c q) (ap (look_by s m body snaps) e) led }
+  module _ (s : Session) (m : ℕ) (body : Checked) (b c d : B) (n : ℕ) (snaps : SnapList)
+      (led : Leads (Goes known goes) b (look_on s m body []) n c (look_on s m body snaps)) where
+    pub look-done : (run : Run) → n ≤ MOST_EVENTS → exec body.body (values_of snaps) ≡ done run
+        → Reaches known goes b (look_on s m body []) MOST_EVENTS c (Phase.over s (said (reply.At m run.outcome)))
+    look-done run few e = record { count = n; few = few; leads = subst (λ q. Leads (Goes known goes) b (look_on s m body []) n c q)
+        (ap (look_by s m body snaps) e) led }
 
     module _ (address : Address) (e : exec body.body (values_of snaps) ≡ need address) where
       looked-led : Leads (Goes known goes) b (look_on s m body []) n c (Phase.looked s m body snaps address)
@@ -231,12 +256,15 @@ module _ {B : Type 0} (known : B → Known) (goes : B → Call → Answer → B 
       look-more (Answer.value v) longer step h = rw h (Leads.by_step (read_at address m) (Answer.value v) looked-led refl step refl)
       look-more answer longer step h = absurd h
 
-      pub look-late : (answer : Answer) (longer : SnapList) (r : Reply) → n + 1 ≤ MOST_EVENTS → Goes known goes c (read_at address m) answer d → Valued snaps address m answer (Ok (Some r)) longer
+      pub look-late : (answer : Answer) (longer : SnapList) (r : Reply) → n + 1 ≤ MOST_EVENTS → Goes known goes c (read_at address m) answer d
+          → Valued snaps address m answer (Ok (Some r)) longer
           → Reaches known goes b (look_on s m body []) MOST_EVENTS d (Phase.over s (said r))
-      look-late (Answer.late x horizon) longer r few step h = rw h (record { count = n + 1; few = few; leads = Leads.by_step (read_at address m) (Answer.late x horizon) looked-led refl step refl })
+      look-late (Answer.late x horizon) longer r few step h = rw h (record { count = n + 1; few = few;
+          leads = Leads.by_step (read_at address m) (Answer.late x horizon) looked-led refl step refl })
       look-late answer longer r few step h = absurd h
 
-      pub look-stops : (answer : Answer) (longer : SnapList) (x : SessionError) → Goes known goes c (read_at address m) answer d → Valued snaps address m answer (Err x) longer
+      pub look-stops : (answer : Answer) (longer : SnapList) (x : SessionError) → Goes known goes c (read_at address m) answer d
+          → Valued snaps address m answer (Err x) longer
           → Stops known goes b (look_on s m body []) x d
       look-stops answer longer x step h = record {
         count = n + 1;
@@ -248,11 +276,14 @@ module _ {B : Type 0} (known : B → Known) (goes : B → Call → Answer → B 
 module _ {B : Type 0} (known : B → Known) (goes : B → Call → Answer → B → Type 0) where
   -- more steps may be allowed
   pub reach-more : (b : B) (p : Phase) (m n : ℕ) (c : B) (q r : Phase) → m ≤ n → q ≡ r → Reaches known goes b p m c q → Reaches known goes b p n c r
-  reach-more b p m n c q r up is h = record { count = h.count; few = let f = h.few in omega arith; leads = subst (λ x. Leads (Goes known goes) b p h.count c x) is h.leads }
+  reach-more b p m n c q r up is h = record { count = h.count; few = let f = h.few in omega arith;
+      leads = subst (λ x. Leads (Goes known goes) b p h.count c x) is h.leads }
 
   -- one attempt of several
-  pub tried : (b : B) (p : Phase) (t : ℕ) (c : B) (s : Session) (left : ℕ) (a : Attempt) (n : ℕ) (c' d : B) (end : Ended) → Reaches known goes b p (t * (MOST_EVENTS + 1)) c (Phase.trying s left a)
-      → Goes known goes c refresh (Answer.number n) c' → Drives known goes s a c' (Ok end) d → Reaches known goes b p ((t + 1) * (MOST_EVENTS + 1)) d (after_end s left end.attempt end.reply)
+  pub tried : (b : B) (p : Phase) (t : ℕ) (c : B) (s : Session) (left : ℕ) (a : Attempt) (n : ℕ) (c' d : B) (end : Ended)
+      → Reaches known goes b p (t * (MOST_EVENTS + 1)) c (Phase.trying s left a)
+      → Goes known goes c refresh (Answer.number n) c' → Drives known goes s a c' (Ok end) d
+          → Reaches known goes b p ((t + 1) * (MOST_EVENTS + 1)) d (after_end s left end.attempt end.reply)
   tried b p t c s left a n c' d end first step drives = let rest = drives left in record {
     count = first.count + 1 + rest.count;
     few = let f = first.few in let r = rest.few in omega arith;
@@ -260,52 +291,65 @@ module _ {B : Type 0} (known : B → Known) (goes : B → Call → Answer → B 
         (Leads.by_step refresh (Answer.number n) first.leads refl step refl) rest.leads;
   }
 
-  pub tried-stops : (b : B) (p : Phase) (t : ℕ) (c : B) (s : Session) (left : ℕ) (a : Attempt) (n : ℕ) (c' d : B) (e : SessionError) → Reaches known goes b p t c (Phase.trying s left a)
+  pub tried-stops : (b : B) (p : Phase) (t : ℕ) (c : B) (s : Session) (left : ℕ) (a : Attempt) (n : ℕ) (c' d : B) (e : SessionError)
+      → Reaches known goes b p t c (Phase.trying s left a)
       → Goes known goes c refresh (Answer.number n) c' → Drives known goes s a c' (Err e) d → Stops known goes b p e d
   tried-stops b p t c s left a n c' d e first step drives =
       stops-on known goes b p (first.count + 1) c' (Phase.going s left a) e d (Leads.by_step refresh (Answer.number n) first.leads refl step refl) (drives left)
 
   -- before the first attempt
   pub tries-begin : (b : B) (s : Session) (n m : ℕ) (a : Attempt) → n ≡ m → Reaches known goes b (Phase.trying s n a) 0 b (Phase.trying s m a)
-  tries-begin b s n m a e = record { count = 0; few = omega arith; leads = subst (λ (k : ℕ). Leads (Goes known goes) b (Phase.trying s n a) 0 b (Phase.trying s k a)) e Leads.stays }
+  tries-begin b s n m a e = record { count = 0; few = omega arith; leads = subst (λ (k : ℕ). Leads (Goes known goes) b (Phase.trying s n a) 0 b
+      (Phase.trying s k a)) e Leads.stays }
 
   -- another attempt follows
   pub another : (b : B) (p : Phase) (t : ℕ) (c : B) (s : Session) (left : ℕ) (a : Attempt) (n : ℕ) (c' d : B) (end : Ended) (further : ℕ) (next : Attempt)
-      → Reaches known goes b p (t * (MOST_EVENTS + 1)) c (Phase.trying s left a) → Goes known goes c refresh (Answer.number n) c' → Drives known goes s a c' (Ok end) d
-      → after_end s left end.attempt end.reply ≡ Phase.trying s further next → Reaches known goes b p ((t + 1) * (MOST_EVENTS + 1)) d (Phase.trying s further next)
+      → Reaches known goes b p (t * (MOST_EVENTS + 1)) c (Phase.trying s left a) → Goes known goes c refresh (Answer.number n) c'
+          → Drives known goes s a c' (Ok end) d
+      → after_end s left end.attempt end.reply ≡ Phase.trying s further next
+          → Reaches known goes b p ((t + 1) * (MOST_EVENTS + 1)) d (Phase.trying s further next)
   another b p t c s left a n c' d end further next first step drives is = reach-more b p ((t + 1) * (MOST_EVENTS + 1)) ((t + 1) * (MOST_EVENTS + 1)) d
       (after_end s left end.attempt end.reply) (Phase.trying s further next) (omega arith) is (tried b p t c s left a n c' d end first step drives)
 
   -- none follows
   pub tries-end : (b : B) (p : Phase) (t : ℕ) (c : B) (s : Session) (left : ℕ) (a : Attempt) (n : ℕ) (c' d : B) (end : Ended) (reply : Reply) → t < 255
-      → Reaches known goes b p (t * (MOST_EVENTS + 1)) c (Phase.trying s left a) → Goes known goes c refresh (Answer.number n) c' → Drives known goes s a c' (Ok end) d
-      → after_end s left end.attempt end.reply ≡ Phase.over (ended s reply) (said reply) → Reaches known goes b p MOST_CALLS d (Phase.over (ended s reply) (said reply))
+      → Reaches known goes b p (t * (MOST_EVENTS + 1)) c (Phase.trying s left a) → Goes known goes c refresh (Answer.number n) c'
+          → Drives known goes s a c' (Ok end) d
+      → after_end s left end.attempt end.reply ≡ Phase.over (ended s reply) (said reply)
+          → Reaches known goes b p MOST_CALLS d (Phase.over (ended s reply) (said reply))
   tries-end b p t c s left a n c' d end reply few first step drives is = reach-more b p ((t + 1) * (MOST_EVENTS + 1)) MOST_CALLS d
       (after_end s left end.attempt end.reply) (Phase.over (ended s reply) (said reply)) (omega arith) is (tried b p t c s left a n c' d end first step drives)
 
   -- what holds of an attempt holds after a refresh
-  pub refreshed : (b c : B) (s : Session) (a : Attempt) (n : ℕ) → Attends (known b) (closed s) → Holds (known b) a → Goes known goes b refresh (Answer.number n) c
+  pub refreshed : (b c : B) (s : Session) (a : Attempt) (n : ℕ) → Attends (known b) (closed s) → Holds (known b) a
+      → Goes known goes b refresh (Answer.number n) c
       → Attends (known c) (closed s) × Holds (known c) a
   refreshed b c s a n at holds step = phase-kept (known b) (known c) (Phase.trying s 0 a) refresh (Answer.number n) (at, holds) refl step.answered
 
   -- and of the one that follows
-  pub another-holds : (c d : B) (s : Session) (left : ℕ) (a : Attempt) (end : Ended) (further : ℕ) (next : Attempt) → Attends (known c) (closed s) → Holds (known c) a
-      → Drives known goes s a c (Ok end) d → after_end s left end.attempt end.reply ≡ Phase.trying s further next → Attends (known d) (closed s) × Holds (known d) next
+  pub another-holds : (c d : B) (s : Session) (left : ℕ) (a : Attempt) (end : Ended) (further : ℕ) (next : Attempt) → Attends (known c) (closed s)
+      → Holds (known c) a
+      → Drives known goes s a c (Ok end) d → after_end s left end.attempt end.reply ≡ Phase.trying s further next
+          → Attends (known d) (closed s) × Holds (known d) next
   another-holds c d s left a end further next at holds drives is = let rest = drives left in
-      subst (PhaseHolds (known d)) is (led-holds known goes c (Phase.going s left a) rest.count d (after_end s left end.attempt end.reply) (at, holds) rest.leads)
+      subst (PhaseHolds (known d)) is (led-holds known goes c (Phase.going s left a) rest.count d (after_end s left end.attempt end.reply)
+          (at, holds) rest.leads)
 
   -- a refresh before an attempt that failed
   pub tries-stop : (b : B) (p : Phase) (t : ℕ) (c : B) (s : Session) (left : ℕ) (a : Attempt) (e : SessionError) (x : StoreError) (d : B) → e ≡ error_of x
       → Reaches known goes b p t c (Phase.trying s left a) → Goes known goes c refresh (number_answered (Err x)) d → Stops known goes b p e d
-  tries-stop b p t c s left a e x d is first step = refresh-stops known goes b p first.count c (Phase.trying s left a) e x d refl (λ f. refl) is first.leads step
+  tries-stop b p t c s left a e x d is first step = refresh-stops known goes b p first.count c (Phase.trying s left a) e x d refl
+      (λ f. refl) is first.leads step
 
   pub look-attends : (b c : B) (s : Session) (n : ℕ) → Attends (known b) s → Goes known goes b refresh (Answer.number n) c → Attends (known c) s
   look-attends b c s n is step = attends-on (known b) (known c) s refresh (Answer.number n) step.answered (λ old new own. own) step.answered.keeps is
 
   -- a look, by the prefix on which it runs
-  pub looked-from : (b : B) (s : Session) (upto : Option ℕ) (body : Checked) (seen m : ℕ) (c d : B) (result : Result Reply SessionError) → look_from s seen upto body ≡ look_on s m body []
+  pub looked-from : (b : B) (s : Session) (upto : Option ℕ) (body : Checked) (seen m : ℕ) (c d : B) (result : Result Reply SessionError)
+      → look_from s seen upto body ≡ look_on s m body []
       → Goes known goes b refresh (Answer.number seen) c → LooksAt known goes s m body c result d → Replies known goes b (Phase.looking s upto body) result d s
-  looked-from b s upto body seen m c d (Ok r) is step looks = reaches-on known goes b (Phase.looking s upto body) 1 c (look_on s m body []) MOST_CALLS MOST_EVENTS d (Phase.over s (said r)) (omega arith)
+  looked-from b s upto body seen m c d (Ok r) is step looks = reaches-on known goes b (Phase.looking s upto body) 1 c
+      (look_on s m body []) MOST_CALLS MOST_EVENTS d (Phase.over s (said r)) (omega arith)
       (one-led (Goes known goes) b c (Phase.looking s upto body) (look_on s m body []) refresh (Answer.number seen) refl step is) looks
   looked-from b s upto body seen m c d (Err e) is step looks = stops-on known goes b (Phase.looking s upto body) 1 c (look_on s m body []) e d
       (one-led (Goes known goes) b c (Phase.looking s upto body) (look_on s m body []) refresh (Answer.number seen) refl step is) looks
@@ -320,12 +364,14 @@ module _ {B : Type 0} (known : B → Known) (goes : B → Call → Answer → B 
   }
 
   pub not-ahead : (s : Session) (body : Checked) (seen n : ℕ) → n ≤ seen → look_from s seen (Some n) body ≡ look_on s n body []
-  not-ahead s body seen n h = let test : nat_lt seen n ≡ false = grind (arith, nat_tests) in ap (λ x. cond x (Phase.over s (said (reply.Ahead n seen))) (look_on s n body [])) test
+  not-ahead s body seen n h = let test : nat_lt seen n ≡ false = grind (arith, nat_tests)
+      in ap (λ x. cond x (Phase.over s (said (reply.Ahead n seen))) (look_on s n body [])) test
 
   -- `begin`
   pub begun : (b c : B) (s : Session) (a : Attempt) (n : ℕ) → Goes known goes b refresh (Answer.number n) c
       → Reaches known goes b (Phase.beginning s a) MOST_CALLS c (Phase.over (with_attempt s (Some a)) (said (reply.Seen n)))
-  begun b c s a n step = record { count = 1; few = omega arith; leads = one-led (Goes known goes) b c (Phase.beginning s a) (Phase.over (with_attempt s (Some a)) (said (reply.Seen n))) refresh (Answer.number n) refl step refl }
+  begun b c s a n step = record { count = 1; few = omega arith; leads = one-led (Goes known goes) b c (Phase.beginning s a)
+      (Phase.over (with_attempt s (Some a)) (said (reply.Seen n))) refresh (Answer.number n) refl step refl }
 
 -- a reply in the place of another
 pub placed-one : (place : List Reply) (r : Reply) → length place ≡ 1 → set place 0 r ≡ r ∷ []

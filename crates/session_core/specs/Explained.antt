@@ -119,7 +119,8 @@ EndPasses set journal low s a r = ⊥
 -- began, and fronts.
 pub data Hides (begun : ℕ) (a : Attempt) : Attempt → Type 0 where
   nothing : Hides begun a a
-  a_read : {b : Attempt} (address : Address) (snap : Snap) → Hides begun a b → next_event b ≡ next.Read address → begun ≤ snap.base → Hides begun a (with_snap b address snap)
+  a_read : {b : Attempt} (address : Address) (snap : Snap) → Hides begun a b → next_event b ≡ next.Read address → begun ≤ snap.base
+      → Hides begun a (with_snap b address snap)
   a_front : {b : Attempt} (shard front : ℕ) → Hides begun a b → Prepares b shard → Hides begun a (with_front b shard front)
 
 -- some hidden events with which the attempt fits the journal, and then the end

@@ -25,11 +25,13 @@ use Rattle.session_core.specs.Phases.{Phase, asks, after, call_of, moved_by, end
 -- From one state and phase to another by so many steps of a relation, each of them the call that the phase asks for.
 pub data Leads {B : Type 0} (goes : B → Call → Answer → B → Type 0) (b : B) (p : Phase) : ℕ → B → Phase → Type 0 where
   stays : Leads goes b p 0 b p
-  by_step : {n : ℕ} {c d : B} {q r : Phase} (call : Call) (answer : Answer) → Leads goes b p n c q → asks q ≡ Some call → goes c call answer d → after q answer ≡ r
+  by_step : {n : ℕ} {c d : B} {q r : Phase} (call : Call) (answer : Answer) → Leads goes b p n c q → asks q ≡ Some call → goes c call answer d
+      → after q answer ≡ r
       → Leads goes b p (n + 1) d r
 
 -- it leads to the phase, by few enough steps
-pub record Reaches {B : Type 0} (known : B → Known) (goes : B → Call → Answer → B → Type 0) (old : B) (p : Phase) (most : ℕ) (new : B) (q : Phase) : Type 0 where
+pub record Reaches {B : Type 0} (known : B → Known) (goes : B → Call → Answer → B → Type 0) (old : B) (p : Phase) (most : ℕ) (new : B)
+    (q : Phase) : Type 0 where
   pub count : ℕ
   pub few : count ≤ most
   pub leads : Leads (Goes known goes) old p count new q
@@ -61,15 +63,18 @@ Turned a answer (Ok m) = moved_by a answer ≡ Some m
 Turned a answer (Err e) = e ≡ error.StoreFault → answer ≡ Answer.failed true
 
 -- one event of an attempt, and what it makes of that
-pub record Moves {B : Type 0} (known : B → Known) (goes : B → Call → Answer → B → Type 0) (s : Session) (a : Attempt) (old : B) (m : Moved) (new : B) : Type 0 where
+pub record Moves {B : Type 0} (known : B → Known) (goes : B → Call → Answer → B → Type 0) (s : Session) (a : Attempt) (old : B) (m : Moved)
+    (new : B) : Type 0 where
   pub answer : Answer
   pub step : Goes known goes old (call_of s a) answer new
   pub moved : moved_by a answer ≡ Some m
 
 -- the event was made or not
-pub data Tries {B : Type 0} (known : B → Known) (goes : B → Call → Answer → B → Type 0) (s : Session) (a : Attempt) (old : B) (e : SessionError) (new : B) : Type 0 where
+pub data Tries {B : Type 0} (known : B → Known) (goes : B → Call → Answer → B → Type 0) (s : Session) (a : Attempt) (old : B) (e : SessionError)
+    (new : B) : Type 0 where
   not_made : new ≡ old → e ≡ error.NoMemory → Tries known goes s a old e new
-  made : (answer : Answer) → Goes known goes old (call_of s a) answer new → (e ≡ error.StoreFault → answer ≡ Answer.failed true) → Tries known goes s a old e new
+  made : (answer : Answer) → Goes known goes old (call_of s a) answer new →
+      (e ≡ error.StoreFault → answer ≡ Answer.failed true) → Tries known goes s a old e new
 
 abbrev pub Makes : {B : Type 0} → (B → Known) → (B → Call → Answer → B → Type 0) → Session → Attempt → B → Result Moved SessionError → B → Type 0
 Makes known goes s a old (Ok m) new = Moves known goes s a old m new

@@ -1,5 +1,6 @@
 -- What expressions make is within the limits, so what a read asks for is short.
-use Rattle.std.proofs.Common.{◌≡◌, ℕ, zero, suc, ◌+◌, ◌-◌, ◌≤◌, ◌%◌, ◌/◌, ◌==◌, ℤ, pos, negsuc, Bool, true, false, nat_lt, ◌||◌, cond, List, [], ◌∷◌, length, fold, Option, Some, None, unwrap_or, refl, lit≤, arith}
+use Rattle.std.proofs.Common.{◌≡◌, ℕ, zero, suc, ◌+◌, ◌-◌, ◌≤◌, ◌%◌, ◌/◌, ◌==◌, ℤ, pos, negsuc, Bool, true, false, nat_lt, ◌||◌, cond, List, [], ◌∷◌}
+use Rattle.std.proofs.Common.{length, fold, Option, Some, None, unwrap_or, refl, lit≤, arith}
 use Rattle.std.specs.List.{AllByRecursion}
 use Rattle.std.specs.Fmt.{digits, digits_onto, digit_glyph, decimal, signed_decimal}
 use Rattle.std.specs.Ordering.{eq_by_cmp}

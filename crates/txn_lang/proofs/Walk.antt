@@ -24,10 +24,12 @@ use Rattle.txn_lang.specs.declared.progress.Progress.{Progress}
 use Rattle.txn_lang.specs.declared.progress.Stop.TheVariants as stop
 use Rattle.txn_lang.specs.Steps.{Memory, Step, stopped, gives, Stepping, and_then, ◌>>=◌, pure, stop_by, charge, carry, emit, read_at, write_at}
 use Rattle.txn_lang.specs.Items.{Names, bool_in, text_in, texts_in, size_of, is_big, decides, joined, read_of, write_of, text_size, elements_in}
-use Rattle.txn_lang.specs.Rules.{Expression, Statement, sized, all_values, link, chain, address_of, of_node, of_expr, of_operand, node_run, expr_run, operand_run, body_run, all_steps, block, turns, write_maybe, of_step, of_stmt, step_run, stmt_run}
+use Rattle.txn_lang.specs.Rules.{Expression, Statement, sized, all_values, link, chain, address_of, of_node, of_expr, of_operand, node_run, expr_run}
+use Rattle.txn_lang.specs.Rules.{operand_run, body_run, all_steps, block, turns, write_maybe, of_step, of_stmt, step_run, stmt_run}
 use Rattle.txn_lang.proofs.Each.{each-push, each-take}
 use Rattle.txn_lang.proofs.Words.{IsOfKind, write_fits, Suits, read_suits}
-use Rattle.txn_lang.proofs.Sizes.{IsShortText, IsSmall, AllSmall, AreSmall, small_text, small_texts, small_sized, small_decimal, small_named, IsShortRead, read_short}
+use Rattle.txn_lang.proofs.Sizes.{IsShortText, IsSmall, AllSmall, AreSmall, small_text, small_texts, small_sized, small_decimal, small_named}
+use Rattle.txn_lang.proofs.Sizes.{IsShortRead, read_short}
 
 abbrev unit : Unit {0}
 unit = tt
@@ -280,12 +282,14 @@ module _ {S T : Type 0} (Rel : ℕ → (A : Type 0) → Stepping S A → Steppin
               → AsStatement (turns x (map (stmt_of m) (map hS ss)) ts) (turns x (map (stmt_of n) (map hS ss)) ts)
           turns_go x ss [] short names small = pure_goes AreSmall names small
           turns_go x ss (t ∷ ts) short names small =
-              then_goes (then_goes (charge_goes 1) (λ _ _. then_goes (all_go ss (names ++ (x, item.Text t) ∷ []) (bind_small names x (item.Text t) small short.0))
+              then_goes (then_goes (charge_goes 1) (λ _ _. then_goes (all_go ss (names ++ (x, item.Text t) ∷ [])
+                  (bind_small names x (item.Text t) small short.0))
               (λ after all. forget_goes names after all)))
               (λ after all. turns_go x ss ts short.1 after all)
 
           step_layer_goes : (y : StmtNode-F N X)
-              → AsStatement (of_step m (deep_step m (map-StmtNode N X StmtNode Stmt hN hS y))) (of_step n (deep_step n (map-StmtNode N X StmtNode Stmt hN hS y)))
+              → AsStatement (of_step m (deep_step m (map-StmtNode N X StmtNode Stmt hN hS y)))
+                  (of_step n (deep_step n (map-StmtNode N X StmtNode Stmt hN hS y)))
           step_layer_goes (StmtNode-F.Let x e) names small =
               then_goes (expr_goes e names small) (λ i one. pure_goes AreSmall (names ++ (x, i) ∷ []) (bind_small names x i small one))
           step_layer_goes (StmtNode-F.Emit e) names small =

@@ -1,5 +1,6 @@
 -- The least hit among a shard's versions is the least pair of a journal for which the shard holds.
-use Rattle.std.proofs.Common.{◌≡◌, ℕ, ◌+◌, ◌-◌, ◌≤◌, suc, Bool, true, false, cond, ◌&&◌, nat_lt, List, [], ◌∷◌, filter, length, slice_get, Option, Some, None, option_map, refl, sym, ap, ◌∙◌, subst, arith}
+use Rattle.std.proofs.Common.{◌≡◌, ℕ, ◌+◌, ◌-◌, ◌≤◌, suc, Bool, true, false, cond, ◌&&◌, nat_lt, List, [], ◌∷◌, filter, length, slice_get, Option}
+use Rattle.std.proofs.Common.{Some, None, option_map, refl, sym, ap, ◌∙◌, subst, arith}
 use Rattle.std.proofs.lemmas.List.{length-map}
 use Rattle.std.specs.List.{AllByRecursion}
 use Rattle.std.specs.BTreeMap.{is_at}
@@ -102,18 +103,21 @@ at_itself a = by (address_cmp a a) (order.total-law.antisymm a a)
     by Greater e = absurd (cc)
 
 first-versions : (based : Based) (later : List Version)
-    → first_change based (as_changes based.address (past based.base later)) ≡ option_map (as_change based.address) (first_clashing based.obs (past based.base later))
+    → first_change based (as_changes based.address (past based.base later))
+        ≡ option_map (as_change based.address) (first_clashing based.obs (past based.base later))
 first-versions based [] = refl
 first-versions based (x ∷ rest) = by (nat_lt based.base x.number) refl (first-versions based rest)
   where
-    fits : (b : Bool) → first_change based (as_changes based.address (past based.base rest)) ≡ option_map (as_change based.address) (first_clashing based.obs (past based.base rest))
+    fits : (b : Bool) → first_change based (as_changes based.address (past based.base rest))
+        ≡ option_map (as_change based.address) (first_clashing based.obs (past based.base rest))
         → cond b (Some (as_change based.address x)) (first_change based (as_changes based.address (past based.base rest)))
         ≡ option_map (as_change based.address) (cond b (Some x) (first_clashing based.obs (past based.base rest)))
     fits true e = refl
     fits false e = e
 
     by : (p : Bool) → nat_lt based.base x.number ≡ p
-        → first_change based (as_changes based.address (past based.base rest)) ≡ option_map (as_change based.address) (first_clashing based.obs (past based.base rest))
+        → first_change based (as_changes based.address (past based.base rest))
+            ≡ option_map (as_change based.address) (first_clashing based.obs (past based.base rest))
         → first_change based (as_changes based.address (cond p (x ∷ past based.base rest) (past based.base rest)))
         ≡ option_map (as_change based.address) (first_clashing based.obs (cond p (x ∷ past based.base rest) (past based.base rest)))
     by true e again = rw (e, at_itself based.address) (fits (clash based.obs x.delta) again)
@@ -188,10 +192,12 @@ agree place kept all (b ∷ rest) finds =
     by (Some v) (Some n) e (Some h) (Some f) a =
         let is : v.number ≡ n = cc in
         let same : nat_lt h.1.number v.number ≡ nat_lt f.number n = ap (λ m. nat_lt m v.number) (sym a.0) ∙ ap (nat_lt f.number) is in
-        subst (λ (c : Bool). Agree place (b ∷ rest) (cond (nat_lt h.1.number v.number) (Some h) (Some (b, v))) (cond c (Some f) (Some (record { place = place; number = n }))))
+        subst (λ (c : Bool). Agree place (b ∷ rest) (cond (nat_lt h.1.number v.number) (Some h) (Some (b, v)))
+            (cond c (Some f) (Some (record { place = place; number = n }))))
         same (choose is (nat_lt h.1.number v.number))
       where
-        choose : v.number ≡ n → (c : Bool) → Agree place (b ∷ rest) (cond c (Some h) (Some (b, v))) (cond c (Some f) (Some (record { place = place; number = n })))
+        choose : v.number ≡ n → (c : Bool) → Agree place (b ∷ rest) (cond c (Some h) (Some (b, v)))
+            (cond c (Some f) (Some (record { place = place; number = n })))
         choose is true = behind h f a
         choose is false = first v n is
 
@@ -220,7 +226,8 @@ first-clashes b (x ∷ rest) kinds one = by (clash b.obs x.delta) refl (first-cl
     by true e again = record { kind = one.observed ∙ sym kinds.0; clash = e }
     by false e again = again
 
-pub hits-clash : (front : ℕ) (kept : Kept) (based : List Based) → AreKept front kept → AllByRecursion IsBasedOfOneKind based → IfHit IsClash (least_hit kept based)
+pub hits-clash : (front : ℕ) (kept : Kept) (based : List Based) → AreKept front kept → AllByRecursion IsBasedOfOneKind based
+    → IfHit IsClash (least_hit kept based)
 hits-clash front kept [] are ones = tt
 hits-clash front kept (b ∷ rest) are ones =
     if-lesser IsClash (hit_by b (clashing_in kept b)) (least_hit kept rest)

@@ -1,5 +1,6 @@
 -- The values that a journal leaves are those that its changes leave, one by one.
-use Rattle.std.proofs.Common.{◌≡◌, ℕ, ◌≤◌, zero, suc, Bool, true, false, cond, nat_le, nat_lt, List, [], ◌∷◌, ◌++◌, fold, take, Some, None, refl, sym, ap, ◌∙◌, subst, arith}
+use Rattle.std.proofs.Common.{◌≡◌, ℕ, ◌≤◌, zero, suc, Bool, true, false, cond, nat_le, nat_lt, List, [], ◌∷◌, ◌++◌, fold, take, Some, None, refl, sym}
+use Rattle.std.proofs.Common.{ap, ◌∙◌, subst, arith}
 use Rattle.std.specs.List.{AllByRecursion}
 use Rattle.std.specs.List.Sorted.{IsStrictlySortedBy}
 use Rattle.std.specs.Map.{keys_of}
@@ -45,7 +46,8 @@ commit-left a n [] value rising = refl
 commit-left a n (pair ∷ deltas) value rising = by (is_at (address_cmp a) pair.0) refl (commit-left a n deltas value rising.1)
   where
     by : (b : Bool) → is_at (address_cmp a) pair.0 ≡ b → left value (of_address a (changes_by n deltas)) ≡ apply_maybe (delta_at deltas a) value
-        → left value (cond b (record { number = n; address = pair.0; delta = pair.1 } ∷ of_address a (changes_by n deltas)) (of_address a (changes_by n deltas)))
+        → left value (cond b (record { number = n; address = pair.0; delta = pair.1 } ∷ of_address a (changes_by n deltas))
+            (of_address a (changes_by n deltas)))
         ≡ apply_maybe (cond b (Some pair.1) (delta_at deltas a)) value
     by true e again =
         let is : a ≡ pair.0 = address_cmp-equal a pair.0 (equal _ e) in
@@ -125,7 +127,8 @@ pub followed-part : (journal : Journal) (shards : ℕ) (a : Address) (front r to
     → up_to r (of_address a (changes (take front journal)) ++ of_address a (of_shard shards (shard_of a shards) (between front to (changes journal))))
     ≡ of_address a (changes (take r journal))
 followed-part journal shards a front r to numbered low high =
-    filter-append (λ change. nat_le change.number r) (of_address a (changes (take front journal))) (of_address a (of_shard shards (shard_of a shards) (between front to all)))
+    filter-append (λ change. nat_le change.number r) (of_address a (changes (take front journal)))
+        (of_address a (of_shard shards (shard_of a shards) (between front to all)))
     ∙ ap (λ l. l ++ up_to r (of_address a (of_shard shards (shard_of a shards) (between front to all)))) first
     ∙ ap (λ l. of_address a (up_to front all) ++ l) second
     ∙ sym (filter-append (λ change. is_at (address_cmp a) change.address) (up_to front all) (past front (up_to r all)))

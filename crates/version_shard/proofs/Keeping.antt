@@ -1,5 +1,6 @@
 -- What stands at each address after a call on the map, and after a tail.
-use Rattle.std.proofs.Common.{◌≡◌, ℕ, ◌-◌, ◌<◌, ◌≤◌, zero, suc, Bool, true, false, cond, List, [], ◌∷◌, length, take, drop, get_or, Some, None, unwrap_or, Result, Ok, Err, OnOk, OnErr, is_err, refl, sym, ap, ◌∙◌, subst, arith}
+use Rattle.std.proofs.Common.{◌≡◌, ℕ, ◌-◌, ◌<◌, ◌≤◌, zero, suc, Bool, true, false, cond, List, [], ◌∷◌, length, take, drop, get_or, Some, None}
+use Rattle.std.proofs.Common.{unwrap_or, Result, Ok, Err, OnOk, OnErr, is_err, refl, sym, ap, ◌∙◌, subst, arith}
 use Rattle.std.specs.List.{AllByRecursion}
 use Rattle.std.specs.List.Sorted.{IsNonDecreasingBy}
 use Rattle.std.specs.Map.{lookup}
@@ -154,7 +155,8 @@ module _ (window : ℕ) (tail : Tail) (old : Kept) (kept : AreKept tail.from old
       let low = (tail.in_order.within i next within).0 in
       subst (λ (v : Versioned). AllByRecursion (λ version. version.number ≤ next.number) v.later) (sym same)
       (up_to-followed next.number (take i tail.changes) a (omega (arith, low, number))
-      (all-more _ _ (take i tail.changes) (λ c le. omega (arith, le, number)) (before_it tail.from tail.changes i next (tail-rising tail.from tail.to tail.changes tail.in_order) within)))
+      (all-more _ _ (take i tail.changes) (λ c le. omega (arith, le, number))
+          (before_it tail.from tail.changes i next (tail-rising tail.from tail.to tail.changes tail.in_order) within)))
 
   -- where there is no memory for the next change
   pub stops : (now : Kept) (i : ℕ) (next : Change) → next ≡ get_or tail.changes i next → i < length tail.changes

@@ -36,7 +36,8 @@ IsRising deltas = IsStrictlySortedBy address_cmp (keys_of deltas)
 with-rises : (own : Operations) (deltas : Deltas) → IsRising deltas → IsRising (fold (λ ds w. with_delta ds w.0 (delta_of w.1)) deltas own)
 with-rises [] deltas is = is
 with-rises (w ∷ own) deltas is =
-    with-rises own (with_delta deltas w.0 (delta_of w.1)) (sorted-insert_entry address_cmp order.total-law w.0 (after_maybe (delta_at deltas w.0) (delta_of w.1)) deltas is)
+    with-rises own (with_delta deltas w.0 (delta_of w.1)) (sorted-insert_entry address_cmp order.total-law w.0
+        (after_maybe (delta_at deltas w.0) (delta_of w.1)) deltas is)
 
 nothing-rises : IsRising []
 unfolding IsStrictlySortedBy

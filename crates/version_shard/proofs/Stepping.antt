@@ -1,5 +1,6 @@
 -- The versions of one address, change by change.
-use Rattle.std.proofs.Common.{◌≡◌, ℕ, ◌-◌, ◌<◌, ◌≤◌, zero, suc, Bool, true, false, cond, nat_lt, nat_le, List, [], ◌∷◌, ◌++◌, filter, fold, take, length, get_or, refl, sym, ap, ◌∙◌, subst, arith, append-nil, append_assoc, ◌⊎◌, inl, inr}
+use Rattle.std.proofs.Common.{◌≡◌, ℕ, ◌-◌, ◌<◌, ◌≤◌, zero, suc, Bool, true, false, cond, nat_lt, nat_le, List, [], ◌∷◌, ◌++◌, filter, fold, take}
+use Rattle.std.proofs.Common.{length, get_or, refl, sym, ap, ◌∙◌, subst, arith, append-nil, append_assoc, ◌⊎◌, inl, inr}
 use Rattle.std.specs.List.{AllByRecursion}
 use Rattle.std.specs.BTreeMap.{is_at}
 use Rattle.std.specs.Ordering.{is_eq, ordering_reverse}
@@ -150,7 +151,8 @@ trimmed-past h n base (x ∷ rest) within = by (nat_le x.number h) refl (trimmed
     by true e again = let out : nat_lt n x.number ≡ false = grind (arith, within, e) in again ∙ sym (rw out refl)
     by false e again = refl
 
-pub trimmed-all : (P : Version → Type 0) (h : ℕ) (base : Value) (later : List Version) → AllByRecursion P later → AllByRecursion P (trimmed_from h base later).later
+pub trimmed-all : (P : Version → Type 0) (h : ℕ) (base : Value) (later : List Version) → AllByRecursion P later
+    → AllByRecursion P (trimmed_from h base later).later
 trimmed-all P h base [] all = tt
 trimmed-all P h base (x ∷ rest) all = by (nat_le x.number h) (trimmed-all P h x.value rest all.1)
   where
@@ -165,15 +167,18 @@ module _ (a : Address) (h : ℕ) (base : Value) (own : List Change) (c : Change)
     (at : c.address ≡ a) (stands : Stands a h base own v) (behind : AllByRecursion (λ d. d.number ≤ c.number) own) where
   changed-at : (n : ℕ) → h ≤ n → value_at (changed c.number c.delta v) n ≡ left base (journals.up_to n (own ++ c ∷ []))
   changed-at n within =
-      ap (value_after v.base) (filter-append (λ x. nat_le x.number n) v.later (record { number = c.number; delta = c.delta; value = apply c.delta (latest v) } ∷ []))
+      ap (value_after v.base) (filter-append (λ x. nat_le x.number n) v.later
+          (record { number = c.number; delta = c.delta; value = apply c.delta (latest v) } ∷ []))
       ∙ by (nat_le c.number n) refl
       ∙ ap (left base) (sym (filter-append (λ d. nat_le d.number n) own (c ∷ [])))
     where
       by : (b : Bool) → nat_le c.number n ≡ b
-          → value_after v.base (below (λ (x : Version). x.number) n v.later ++ cond b (record { number = c.number; delta = c.delta; value = apply c.delta (latest v) } ∷ []) [])
+          → value_after v.base (below (λ (x : Version). x.number) n v.later
+              ++ cond b (record { number = c.number; delta = c.delta; value = apply c.delta (latest v) } ∷ []) [])
           ≡ left base (journals.up_to n own ++ cond b (c ∷ []) [])
       by true e =
-          value_after-append v.base (below (λ (x : Version). x.number) n v.later) (record { number = c.number; delta = c.delta; value = apply c.delta (latest v) } ∷ [])
+          value_after-append v.base (below (λ (x : Version). x.number) n v.later)
+              (record { number = c.number; delta = c.delta; value = apply c.delta (latest v) } ∷ [])
           ∙ ap (apply c.delta) stands.newest
           ∙ sym (left-append base (journals.up_to n own) (c ∷ [])
           ∙ ap (λ l. apply c.delta (left base l))
@@ -186,7 +191,8 @@ module _ (a : Address) (h : ℕ) (base : Value) (own : List Change) (c : Change)
   changed-past : (n : ℕ) → h ≤ n → as_changes a (past n (changed c.number c.delta v).later) ≡ journals.past n (own ++ c ∷ [])
   changed-past n within =
       ap (as_changes a) (filter-append (λ x. nat_lt n x.number) v.later (record { number = c.number; delta = c.delta; value = apply c.delta (latest v) } ∷ []))
-      ∙ map-append (λ x. record { number = x.number; address = a; delta = x.delta }) (past n v.later) (past n (record { number = c.number; delta = c.delta; value = apply c.delta (latest v) } ∷ []))
+      ∙ map-append (λ x. record { number = x.number; address = a; delta = x.delta }) (past n v.later)
+          (past n (record { number = c.number; delta = c.delta; value = apply c.delta (latest v) } ∷ []))
       ∙ ap (λ l. l ++ as_changes a (past n (record { number = c.number; delta = c.delta; value = apply c.delta (latest v) } ∷ []))) (stands.changes n within)
       ∙ ap (λ l. journals.past n own ++ l) (by (nat_lt n c.number))
       ∙ sym (filter-append (λ d. nat_lt n d.number) own (c ∷ []))
@@ -209,7 +215,8 @@ module _ (a : Address) (h : ℕ) (base : Value) (own : List Change) (c : Change)
   }
 
 -- versions that are trimmed at a horizon go on standing from it on, or from a greater one
-pub trimmed-stands : (a : Address) (h k : ℕ) (base : Value) (own : List Change) (v : Versioned) → Stands a h base own v → k ≤ h → Stands a h base own (trimmed k v)
+pub trimmed-stands : (a : Address) (h k : ℕ) (base : Value) (own : List Change) (v : Versioned) → Stands a h base own v → k ≤ h
+    → Stands a h base own (trimmed k v)
 trimmed-stands a h k base own v stands within = record {
   values = λ n le. trimmed-at k n v.base v.later (omega (arith, le, within)) ∙ stands.values n le;
   changes = λ n le. ap (as_changes a) (trimmed-past k n v.base v.later (omega (arith, le, within))) ∙ stands.changes n le;
@@ -311,12 +318,14 @@ cut-or-not r a (c ∷ rest) x = by (is_at (address_cmp c.address) a) refl (cut-o
     twice = ap (λ l. record x { later = l }) (below-lesser (λ (y : Version). y.number) r r x.later (omega arith))
 
     by : (b : Bool) → is_at (address_cmp c.address) a ≡ b
-        → ((y : Versioned) → (cut_along r a rest y ≡ up_to r y) ⊎ ((cut_along r a rest y ≡ y) × AllByRecursion (λ c. is_at (address_cmp c.address) a ≡ false) rest))
+        → ((y : Versioned) → (cut_along r a rest y ≡ up_to r y) ⊎ ((cut_along r a rest y ≡ y)
+            × AllByRecursion (λ c. is_at (address_cmp c.address) a ≡ false) rest))
         → (cut_along r a rest (cond b (up_to r x) x) ≡ up_to r x)
         ⊎ ((cut_along r a rest (cond b (up_to r x) x) ≡ x) × AllByRecursion (λ c. is_at (address_cmp c.address) a ≡ false) (c ∷ rest))
     by true e again = first (again (up_to r x))
       where
-        first : (cut_along r a rest (up_to r x) ≡ up_to r (up_to r x)) ⊎ ((cut_along r a rest (up_to r x) ≡ up_to r x) × AllByRecursion (λ c. is_at (address_cmp c.address) a ≡ false) rest)
+        first : (cut_along r a rest (up_to r x) ≡ up_to r (up_to r x)) ⊎ ((cut_along r a rest (up_to r x) ≡ up_to r x)
+            × AllByRecursion (λ c. is_at (address_cmp c.address) a ≡ false) rest)
             → (cut_along r a rest (up_to r x) ≡ up_to r x)
             ⊎ ((cut_along r a rest (up_to r x) ≡ x) × AllByRecursion (λ c. is_at (address_cmp c.address) a ≡ false) (c ∷ rest))
         first (inl is) = inl (is ∙ twice)
@@ -379,7 +388,8 @@ take-none (x ∷ xs) = refl
 pub value_after-none : (base : Value) (later : List Version) (i : ℕ) → i ≡ 0 → value_after base (take i later) ≡ base
 value_after-none base later i none = ap (λ n. value_after base (take n later)) none ∙ ap (value_after base) (take-none later)
 
-pub value_after-taken : (base : Value) (later : List Version) (i : ℕ) (d : Version) → i < length later → value_after base (take (suc i) later) ≡ (get_or later i d).value
+pub value_after-taken : (base : Value) (later : List Version) (i : ℕ) (d : Version) → i < length later
+    → value_after base (take (suc i) later) ≡ (get_or later i d).value
 value_after-taken base [] i d within = absurd (omega (arith, within))
 value_after-taken base (x ∷ rest) zero d within = ap (value_after x.value) (take-none rest)
 value_after-taken base (x ∷ rest) (suc i) d within = value_after-taken x.value rest i d (omega (arith, within))

@@ -8,4 +8,5 @@ pub as_tail-requires : goal.as_tail-requires
 as_tail-requires c =
     let commits = c.args.log.now.commits in
     rw c.in_ok-changes.ensures.changes
-    (some-are-tail (λ change. is_at (address_cmp c.args.address.now) change.address) c.args.from c.args.to (changes commits) c.requires (changes-rise 0 commits c.between_at.ensures.numbered))
+    (some-are-tail (λ change. is_at (address_cmp c.args.address.now) change.address) c.args.from c.args.to (changes commits) c.requires
+        (changes-rise 0 commits c.between_at.ensures.numbered))

@@ -16,8 +16,10 @@ returns-in-Equal-clause-copied g c =
 
 pub loop-pair-preserved : goal.loop-pair-preserved
 loop-pair-preserved g c = (
-  one_copied c.args.key.now c.loop-pair.pairs.items c.loop-pair.rest.now _ c.loop-pair.invariant.0 c.in-Some.pair.now c.in-Some.behind.now c.push.new.self.items c.in-Some.ensures.cases.0 (search rules) (search rules),
-  sym (ap (after c.args.key.now) c.in-Some.ensures.cases.0 ∙ after_above c.args.key.now c.in-Some.pair.now c.in-Some.behind.now (search rules)) ∙ c.loop-pair.invariant.1,
+  one_copied c.args.key.now c.loop-pair.pairs.items c.loop-pair.rest.now _ c.loop-pair.invariant.0 c.in-Some.pair.now c.in-Some.behind.now
+      c.push.new.self.items c.in-Some.ensures.cases.0 (search rules) (search rules),
+  sym (ap (after c.args.key.now) c.in-Some.ensures.cases.0 ∙ after_above c.args.key.now c.in-Some.pair.now c.in-Some.behind.now (search rules))
+      ∙ c.loop-pair.invariant.1,
 )
 
 pub returns-clause-copied : goal.returns-clause-copied

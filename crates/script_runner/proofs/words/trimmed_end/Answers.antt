@@ -11,6 +11,7 @@ loop-end-preserved c =
 pub returns-clause-value : goal.returns-clause-value
 returns-clause-value c =
     elim c.loop-end-test.branch [
-      | then-loop-end-test+else-is_blank w ↦ sym (trimmed_end-take-solid c.args.text.now c.loop-end.end (omega arith) c.loop-end.invariant.1 (grind arith)) ∙ c.loop-end.invariant.0
+      | then-loop-end-test+else-is_blank w ↦ sym (trimmed_end-take-solid c.args.text.now c.loop-end.end (omega arith) c.loop-end.invariant.1
+          (grind arith)) ∙ c.loop-end.invariant.0
       | else-loop-end-test w ↦ grind (arith, common_steps)
     ]

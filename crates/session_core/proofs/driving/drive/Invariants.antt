@@ -7,7 +7,8 @@ use Rattle.session_core.proofs.driving.drive.Given as goal
 
 abbrev pub invariant-loop : goal.invariant-loop
 invariant-loop g l = record {
-  led : (left : ℕ) → Leads (Goes g.B.Backend.known g.B.Backend.goes) l.fn.backend (Phase.going l.session left l.fn.attempt) l.counter l.backend (Phase.going l.session left l.attempt);
+  led : (left : ℕ) → Leads (Goes g.B.Backend.known g.B.Backend.goes) l.fn.backend (Phase.going l.session left l.fn.attempt) l.counter l.backend
+      (Phase.going l.session left l.attempt);
   attends : Attends (g.B.Backend.known l.backend) (closed l.session);
   holds : Holds (g.B.Backend.known l.backend) l.attempt;
   home : g.B.Backend.home l.backend ≡ g.B.Backend.home l.fn.backend;

@@ -6,7 +6,8 @@ use Rattle.session_core.proofs.looking.look_at.Given as goal
 
 abbrev pub invariant-loop : goal.invariant-loop
 invariant-loop g l = record {
-  led : Leads (Goes g.B.Backend.known g.B.Backend.goes) l.fn.backend (look_on l.session l.number l.body []) l.counter l.backend (look_on l.session l.number l.body l.snaps);
+  led : Leads (Goes g.B.Backend.known g.B.Backend.goes) l.fn.backend (look_on l.session l.number l.body []) l.counter l.backend
+      (look_on l.session l.number l.body l.snaps);
   seen : l.number ≤ (g.B.Backend.known l.backend).seen;
   home : g.B.Backend.home l.backend ≡ g.B.Backend.home l.fn.backend;
 }

@@ -5,4 +5,5 @@ use Rattle.rdt_types.proofs.Listed.{form-clearing}
 use Rattle.rdt_types.proofs.list_delta.ListDelta.clearing.Goals as goal
 
 pub invariant_of-result : goal.invariant_of-result
-invariant_of-result c = subst (λ (texts : SetOfTexts). T (has_form (record { cleared = true; removed = texts; pushed = c.new-2.result }))) (sym c.new.ensures) form-clearing
+invariant_of-result c = subst (λ (texts : SetOfTexts). T (has_form (record { cleared = true; removed = texts; pushed = c.new-2.result })))
+    (sym c.new.ensures) form-clearing
