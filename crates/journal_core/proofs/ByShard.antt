@@ -46,6 +46,7 @@ apart_all : (a c : Bool) → ((a && false) && c) ≡ false
 apart_all true c = refl
 apart_all false c = refl
 
+-- nor is it past the base and at the address, whatever its number
 apart_one : (a : Bool) → (a && false) ≡ false
 apart_one true = refl
 apart_one false = refl
@@ -131,6 +132,7 @@ all_of : (p : ℕ → Bool) (n : ℕ) (deltas : Deltas) → p n ≡ true → fil
 all_of p n [] here = refl
 all_of p n (pair ∷ deltas) here = rw here (ap (λ more. record { number = n; address = pair.0; delta = pair.1 } ∷ more) (all_of p n deltas here))
 
+-- and fail it together, since all have the commit's number
 none_of : (p : ℕ → Bool) (n : ℕ) (deltas : Deltas) → p n ≡ false → filter (λ change. p change.number) (changes_by n deltas) ≡ []
 none_of p n [] here = refl
 none_of p n (pair ∷ deltas) here = rw here (none_of p n deltas here)
@@ -155,12 +157,15 @@ failing p commit rest more here later =
 is_up_to : (k m : ℕ) → k ≤ m → nat_le k m ≡ true
 is_up_to k m order = grind (arith, order)
 
+-- a number isn't up to a lesser one
 isnt_up_to : (k m : ℕ) → m < k → nat_le k m ≡ false
 isnt_up_to k m order = grind (arith, order)
 
+-- a number is past each lesser one
 is_past : (k m : ℕ) → m < k → nat_lt m k ≡ true
 is_past k m order = grind (arith, order)
 
+-- a number isn't past one that it is up to
 isnt_past : (k m : ℕ) → k ≤ m → nat_lt m k ≡ false
 isnt_past k m order = grind (arith, order)
 

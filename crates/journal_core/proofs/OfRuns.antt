@@ -41,6 +41,7 @@ each-more P (y ∷ ys) x all holds = (all.0, each-more P ys x all.1 holds)
 
 -- ---- deltas of operations
 
+-- a delta keeps its kind when it is composed after another, by the kind of a composition
 kind-after : (before : Option Delta) (d : Delta) → kind_changed (after_maybe before d) ≡ kind_changed d
 kind-after None d = refl
 kind-after (Some b) d = kind-compose b d
@@ -56,9 +57,11 @@ kinds-inserted (e ∷ es) a d is all = by (kinds-inserted es a d is all.1) (addr
     by rest Equal at = (is ∙ ap (λ b. b.kind) (address_cmp-equal a e.0 at), all.1)
     by rest Greater at = (all.0, rest)
 
+-- a delta that is composed with what stands at its address keeps the kinds: it goes in with its own kind
 pub kinds-with : (ds : Deltas) (a : Address) (d : Delta) → kind_changed d ≡ a.kind → AreOfTheirKinds ds → AreOfTheirKinds (with_delta ds a d)
 kinds-with ds a d is all = kinds-inserted ds a (after_maybe (delta_at ds a) d) (kind-after (delta_at ds a) d ∙ is) all
 
+-- operations of their kinds make deltas of their kinds, by each of them in turn
 kinds-of-deltas : (own : Operations) (ds : Deltas) → owns.AreOfTheirKinds own → AreOfTheirKinds ds
     → AreOfTheirKinds (fold (λ deltas w. with_delta deltas w.0 (delta_of w.1)) ds own)
 kinds-of-deltas [] ds all there = there
@@ -68,18 +71,23 @@ kinds-of-deltas (w ∷ own) ds all there =
 -- ---- runs: the operations are of their kinds at each step
 
 module _ (s : PartialState) where
+  -- two memories are one, and its operations are of the kinds of their addresses
   abbrev Always : Own → Own → Type 0
   Always o p = (o ≡ p) × owns.AreOfTheirKinds o.operations
 
+  -- of a memory alone nothing more is asked
   abbrev Good : Own → Type 0
   Good o = Unit {0}
 
+  -- each address may be read and written
   abbrev Any : Address → Type 0
   Any a = Unit {0}
 
+  -- two steps keep this rule of their memories together
   abbrev Both : {A : Type 0} → Stepping Own A → Stepping Own A → Type 0
   Both f g = Simulates Always Good Any Any f g
 
+  -- what two steps came to keeps this rule of their memories
   abbrev Along : {A : Type 0} → Step Own A → Step Own A → Type 0
   Along u v = Same Always Good Any Any u v
 
@@ -94,6 +102,7 @@ module _ (s : PartialState) where
     along false None all = (p.memory, (refl, all), refl)
     along false (Some v) all = (_, (refl, all), refl)
 
+  -- a read keeps the kinds of the operations: it leaves the body's own writes as they are
   reads : (r : ReadOp) (a : Address) → Suits a.kind r → Both (read_at (own s) r a) (read_at (own s) r a)
   reads r a suits = record {
     back = λ p fine. tt;
@@ -103,6 +112,7 @@ module _ (s : PartialState) where
     lacking = λ p. answered_lacking Always Good Any Any a (own_read s r a p.memory) p (λ e. tt);
   }
 
+  -- a write keeps the kinds of the operations: the one that it adds is of the kind of its address
   writes : (a : Address) (o : WriteOp) → kind_written o ≡ a.kind → Both (write_at (own s) a o) (write_at (own s) a o)
   writes a o k = record {
     back = λ p fine. tt;
@@ -112,13 +122,16 @@ module _ (s : PartialState) where
     lacking = λ p. tt;
   }
 
+  -- so a whole body keeps them, since its reads and its writes do
   run_simulates : (b : Body) → Both (body_run (own s) b) (body_run (own s) b)
   run_simulates b = body_simulates Always Good Any Any (own s) (own s) reads writes b
 
+  -- a run that is done has deltas of the kinds of their addresses
   abbrev Told : Ran → Type 0
   Told (need a) = Unit {0}
   Told (done r) = AreOfTheirKinds r.deltas
 
+  -- a run that gives a result has the deltas of its operations, which are of their kinds; any other has none
   told_by : (u v : Step Own Names) → (Fine Always Good Any Any u → Along u v) → Told (ended u)
   told_by (gives x p) v sim = kinds-of-deltas p.memory.operations [] (sim tt).1.1 tt
   told_by (stopped (stop.Need a) p) v sim = tt

@@ -37,6 +37,7 @@ abbrev Behind : ℕ → Option Found → Type 0
 Behind n None = Unit {0}
 Behind n (Some found) = n < found.number
 
+-- a number is behind another, if there is one
 abbrev BehindNumber : ℕ → Option ℕ → Type 0
 BehindNumber n None = Unit {0}
 BehindNumber n (Some number) = n < number
@@ -92,9 +93,11 @@ hits-start place (first ∷ rest) commit = by_clash (hits-start (place + 1) rest
     by_clash later true = refl
     by_clash later false = later
 
+-- a number isn't below one that is no greater
 not_below : (m n : ℕ) → n ≤ m → nat_lt m n ≡ false
 not_below m n within = grind (arith, within)
 
+-- a lesser number is below a greater one
 is_below : (m n : ℕ) → m < n → nat_lt m n ≡ true
 is_below m n within = grind (arith, within)
 

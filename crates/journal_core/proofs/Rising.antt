@@ -137,9 +137,11 @@ between-rises : (first last : ℕ) (all : List Change) → Rises 0 all → Rises
 between-rises first last all rises =
     rises-filter (λ change. nat_lt first change.number) 0 (up_to last all) (rises-filter (λ change. nat_le change.number last) 0 all rises)
 
+-- the changes between two numbers are past the first, which is the outer test
 between-low : (first last : ℕ) (all : List Change) → All (λ change. nat_lt first change.number ≡ true) (past first (up_to last all))
 between-low first last all = all_pass (λ change. nat_lt first change.number) (up_to last all)
 
+-- and up to the second, which the outer test can't undo
 between-high : (first last : ℕ) (all : List Change) → All (λ change. nat_le change.number last ≡ true) (past first (up_to last all))
 between-high first last all =
     All-filter (λ change. nat_lt first change.number) (λ change. nat_le change.number last ≡ true) (up_to last all)

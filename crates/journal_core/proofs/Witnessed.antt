@@ -61,6 +61,7 @@ fails-last true true = refl
 fails-last true false = refl
 fails-last false b = refl
 
+-- nor does one hold whose middle part fails
 fails-middle : (a b : Bool) → ((a && false) && b) ≡ false
 fails-middle true b = refl
 fails-middle false b = refl
@@ -117,6 +118,7 @@ record HitOf (place : ℕ) (based : List Based) (commit : Commit) (found : Found
   number : found.number ≡ commit.number
   clashing : list_any (clashes observation) (changes_of commit) ≡ true
 
+-- the first hit of a commit is the first observation with which a change of it clashes; its place is counted from the first
 first-hit : (place : ℕ) (based : List Based) (commit : Commit) (found : Found) → slice_get (hits_from place based commit) 0 ≡ Some found
     → HitOf place based commit found
 first-hit place [] commit found e = absurd (cc)
@@ -148,6 +150,7 @@ record PairIn (n : ℕ) (based : List Based) (journal : Journal) (found : Found)
   placed : slice_get based found.place ≡ Some observation
   clashing : list_any (clashes observation) (changes_of commit) ≡ true
 
+-- the first pair of a journal is the first hit of the first commit that has one
 first-pair : (n : ℕ) (based : List Based) (journal : Journal) (found : Found) → AreNumberedFrom n journal → slice_get (pairs based journal) 0 ≡ Some found
     → PairIn n based journal found
 first-pair n based [] found numbered e = absurd (cc)
@@ -214,6 +217,7 @@ record Before (shards : ℕ) (fronts : List PreparedFront) (based : List Based) 
   placed : slice_get based place ≡ Some observation
   same : past_front shards fronts observation ≡ seen
 
+-- the observation at a place past the fronts is the one at that place before them, moved
 before : (shards : ℕ) (fronts : List PreparedFront) (based : List Based) (place : ℕ) (seen : Based)
     → slice_get (past_fronts shards fronts based) place ≡ Some seen
     → Before shards fronts based place seen
@@ -299,6 +303,7 @@ if_ok (Err e) P Q more holds = tt
 module _ (based : List Based) (commits : Journal) (found : Found) (hit : IsHit based commits found) (observation : Based) (commit : Commit) (d : Delta)
     (placed : observation ≡ get_or based found.place observation) (numbered : commit ≡ get_or commits (found.number - 1) commit)
     (changed : delta_at commit.deltas observation.address ≡ Some d) where
+  -- the commit of the hit stands at the place before its number
   abbrev its_place : slice_get commits (found.number - 1) ≡ Some hit.commit
   its_place = (number-within commits found.number hit.commit hit.numbered).2
 
@@ -313,6 +318,7 @@ module _ (based : List Based) (commits : Journal) (found : Found) (hit : IsHit b
   pub observed-kind : AreBasedOfOneKind based → IsBasedOfOneKind observation
   observed-kind all = each-at IsBasedOfOneKind based found.place observation all (stands-at based found.place hit.observation observation hit.placed placed)
 
+  -- what names the pair is its witness: the observation and the commit that were read at their places are those of the hit
   pub witnessed : (witness : Witness) → Names observation (record { number = found.number; address = observation.address; delta = d }) witness
       → IsWitnessOf based commits found witness
   witnessed witness names = record {
@@ -325,6 +331,7 @@ module _ (based : List Based) (commits : Journal) (found : Found) (hit : IsHit b
     names = names;
   }
 
+  -- the witness is of one kind, since the observation that it names and the delta both are of the kind of the address
   pub of-one-kind : AreBasedOfOneKind based → HasKinds commits → (witness : Witness)
       → Names observation (record { number = found.number; address = observation.address; delta = d }) witness → IsOfOneKind witness
   of-one-kind all kinds witness names =
