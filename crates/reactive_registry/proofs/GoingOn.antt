@@ -46,6 +46,7 @@ module _ {X : Type 0} (p q : X → Bool) where
       by false true e f rest = rw e rest
       by false false e f rest = rest
 
+  -- whether any passes is the same among those that pass the second, where what passes the first passes it too
   any-of_both : ((x : X) → p x ≡ true → q x ≡ true) → (xs : List X) → list_any p (filter q xs) ≡ list_any p xs
   any-of_both also [] = refl
   any-of_both also (x ∷ xs) = by (p x) (q x) refl refl (any-of_both also xs)
@@ -57,6 +58,7 @@ module _ {X : Type 0} (p q : X → Bool) where
       by false true e f rest = rw e rest
       by false false e f rest = rest
 
+  -- none of those that pass the second passes the first, where what passes the first fails the second
   any-of_none : ((x : X) → p x ≡ true → q x ≡ false) → (xs : List X) → list_any p (filter q xs) ≡ false
   any-of_none fails [] = refl
   any-of_none fails (x ∷ xs) = by (p x) (q x) refl refl (any-of_none fails xs)
@@ -98,6 +100,7 @@ without-all p (x ∷ xs) e = by (without-all p xs) (p x) refl e
 apart : (a address x : Address) → is_at (address_cmp address) a ≡ false → is_at (address_cmp a) x ≡ true → is_at (address_cmp address) x ≡ false
 apart a address x other here = ap (is_at (address_cmp address)) (sym (same_address a x here)) ∙ other
 
+-- equal truths are equal when both are negated
 flipped : (b c : Bool) → b ≡ c → not b ≡ not c
 flipped b c e = ap not e
 
@@ -129,9 +132,11 @@ any-inserted a address (x ∷ xs) = by (address_cmp address x) refl (any-inserte
 
 -- ---- the laws
 
+-- the deltas of changes
 abbrev of : List Change → List Delta
 of all = map (λ change. change.delta) all
 
+-- at the address that went nothing is left, of changes and of the address; elsewhere both are as they were
 pub unsubscribes_stand : UnsubscribesStand
 unsubscribes_stand changes front kept address stands = record {
   taken = stands.taken;
@@ -163,9 +168,11 @@ unsubscribes_stand changes front kept address stands = record {
 
 module _ (changes missed : List Change) (front : ℕ) (kept : Kept) (address : Address) (stands : KeptFor changes front kept)
     (all : deltas_at address missed ≡ deltas_at address (since kept.taken changes)) where
+  -- what is kept with the address and with what it missed there
   abbrev more : Kept
   more = record kept { addresses = insert_key address_cmp kept.addresses address; changes = kept.changes ++ changes_at address missed }
 
+  -- at the new address nothing was kept, so what it missed there is all that is past the number taken last
   here : is_address kept address ≡ false → is_at (address_cmp address) address ≡ true
       → deltas_at address more.changes ≡ cond (is_address more address) (deltas_at address (since kept.taken changes)) []
   here new self =
@@ -177,6 +184,7 @@ module _ (changes missed : List Change) (front : ℕ) (kept : Kept) (address : A
       ∙ sym (ap (λ b. cond b (deltas_at address (since kept.taken changes)) [])
           (any-inserted address address kept.addresses ∙ ap (λ b. b || is_address kept address) self))
 
+  -- at another address neither the missed changes nor the new address count, so it stands as before
   elsewhere : (a : Address) → is_at (address_cmp address) a ≡ false
       → deltas_at a more.changes ≡ cond (is_address more a) (deltas_at a (since kept.taken changes)) []
   elsewhere a other =
@@ -192,6 +200,7 @@ module _ (changes missed : List Change) (front : ℕ) (kept : Kept) (address : A
       nothing [] = refl
       nothing (d ∷ ds) = ap (λ es. d ∷ es) (nothing ds)
 
+  -- so it goes on standing with one address more, by whether an address is the new one
   one-more : is_address kept address ≡ false → KeptFor changes front more
   one-more new = record { taken = stands.taken; deltas = λ a. by a (is_at (address_cmp address) a) refl }
     where
@@ -203,6 +212,7 @@ module _ (changes missed : List Change) (front : ℕ) (kept : Kept) (address : A
           (here new (ap (is_at (address_cmp address)) same ∙ e))
       by a false e = elsewhere a e
 
+-- by whether it is subscribed already: then nothing changes, else it has one address more
 pub subscribes_stand : SubscribesStand
 subscribes_stand changes missed front kept address stands all = by (is_address kept address) refl
   where

@@ -27,9 +27,11 @@ turned a b = ap is_eq (order.total-law.antisymm a b) ∙ by (address_cmp b a)
     by Equal = refl
     by Greater = refl
 
+-- numbers that compare as equal are one
 pub same_number : (s t : ℕ) → is_at (nat_cmp s) t ≡ true → s ≡ t
 same_number s t e = exact_unsigned s t (equal (nat_cmp s t) e)
 
+-- addresses that compare as equal are one
 pub same_address : (a b : Address) → is_at (address_cmp a) b ≡ true → a ≡ b
 same_address a b e = address_cmp-equal a b (equal (address_cmp a b) e)
 
@@ -140,6 +142,7 @@ told_pair es es' s k w kept kept' found puts has q a = ap (λ o. option_map_or (
 abbrev pub UpTo : ℕ → List Change → Type 0
 UpTo front changes = AllByRecursion (λ c. c.number ≤ front) changes
 
+-- some of the changes up to a front are up to it too
 pub up_to-filter : (front : ℕ) (test : Change → Bool) (changes : List Change) → UpTo front changes → UpTo front (filter test changes)
 up_to-filter front test [] all = tt
 up_to-filter front test (c ∷ changes) all = by (test c) (up_to-filter front test changes all.1)
@@ -148,6 +151,7 @@ up_to-filter front test (c ∷ changes) all = by (test c) (up_to-filter front te
     by true rest = (all.0, rest)
     by false rest = rest
 
+-- two lists of changes up to a front are up to it when they are joined
 pub up_to-append : (front : ℕ) (changes later : List Change) → UpTo front changes → UpTo front later → UpTo front (changes ++ later)
 up_to-append front [] later first second = second
 up_to-append front (c ∷ changes) later first second = (first.0, up_to-append front changes later first.1 second)

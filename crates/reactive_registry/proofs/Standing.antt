@@ -12,6 +12,7 @@ use Rattle.reactive_registry.specs.Standing.{since}
 use Rattle.reactive_registry.specs.Laws.{PendingIsSince, EntriesStand, TakesStand, FollowsStand}
 use Rattle.reactive_registry.proofs.Pairs.{same_address}
 
+-- at an address of its own the untaken deltas are those past the number taken last, and so their composition is the same
 pub pending_is_since : PendingIsSince
 pending_is_since changes front kept address stands is =
     ap (composed_after None) (stands.deltas address ∙ ap (λ b. cond b (deltas_at address (since kept.taken changes)) []) is)
@@ -25,13 +26,16 @@ since-front (c ∷ changes) front all = by (nat_lt front c.number) refl (since-f
     by true e rest = absurd (grind (arith, all.0))
     by false e rest = rest
 
+-- no deltas are left, whether the address is its own or not
 either_nothing : (b : Bool) (deltas : List Delta) → deltas ≡ [] → [] ≡ cond b deltas []
 either_nothing true deltas e = sym e
 either_nothing false deltas e = refl
 
+-- it has no address and no change, so nothing is to be taken anywhere
 pub entries_stand : EntriesStand
 entries_stand changes front all = record { taken = omega arith; deltas = λ a. refl }
 
+-- nothing up to the front is past the number taken last, which is now the front
 pub takes_stand : TakesStand
 takes_stand changes front kept all = record {
   taken = omega arith;
@@ -107,6 +111,7 @@ deltas-chosen a chosen (c ∷ later) = by (chosen c.address) (is_at (address_cmp
     by false true p q e = gone (chosen a) (ap chosen (same_address a c.address q) ∙ p) e
     by false false p q e = e
 
+-- at each of its addresses the later deltas come behind the kept ones, and all later changes are past what it took
 pub follows_stand : FollowsStand
 follows_stand changes later front to kept le stands past = record {
   taken = omega (arith, stands.taken);

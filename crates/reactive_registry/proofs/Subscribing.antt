@@ -21,6 +21,7 @@ up_to-subscribed front k missed kept old new = by (is_address kept k)
     by true = old
     by false = up_to-append front kept.changes (changes_at k missed) old (up_to-filter front (λ c. is_at (address_cmp k) c.address) missed new)
 
+-- by the answer: Ok puts the pair in both directions and keeps only changes up to the front, an error leaves both as before
 pub linked_subscribed : {E : Type 0} (r : Result (Unit {0}) E) (front : ℕ) (es es' : List (ℕ × Kept)) (p p' : Places) (s : ℕ) (k : Address)
     (missed : List Change) (kept kept' : Kept) → AreLinked front es p → kept_in es s ≡ Some kept
     → ((q : ℕ) → kept_in es' q ≡ cond (is_at (nat_cmp s) q) (Some kept') (kept_in es q)) → UpTo front missed

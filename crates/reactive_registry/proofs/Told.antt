@@ -35,6 +35,7 @@ done_nowhere es s does none q = by (is_at (nat_cmp s) q) refl
 
 -- ---- one of a set, and then the rest
 
+-- numbers compare as equal either way round
 turned_number : (s q : ℕ) → is_at (nat_cmp s) q ≡ is_at (nat_cmp q) s
 turned_number s q = ap is_eq (nat_cmp_total.antisymm s q) ∙ by (nat_cmp q s)
   where
@@ -43,6 +44,7 @@ turned_number s q = ap is_eq (nat_cmp_total.antisymm s q) ∙ by (nat_cmp q s)
     by Equal = refl
     by Greater = refl
 
+-- done where one test holds and then where another does is done where either holds, if they never hold together
 done_twice : (b c : Bool) (does : Kept → Kept) (o : Option Kept) → (b ≡ true → c ≡ false)
     → done_where c does (done_where b does o) ≡ done_where (b || c) does o
 done_twice true true does o apart = absurd (let e = apart refl in cc)
@@ -68,6 +70,7 @@ done_next all rest s q does o o' split rising is =
     ∙ ap (λ b. done_where (b || list_any (is_at (nat_cmp q)) rest) does o) (turned_number s q)
     ∙ ap (λ (l : List ℕ). done_where (list_any (is_at (nat_cmp q)) l) does o) (sym split)
 
+-- what is left of a rising list behind its first number rises
 pub rising_next : (all rest : List ℕ) (s : ℕ) → all ≡ s ∷ rest → IsStrictlySortedBy nat_cmp all → IsStrictlySortedBy nat_cmp rest
 unfolding IsStrictlySortedBy
 rising_next all rest s split rising = (subst (IsStrictlySortedBy nat_cmp) split rising).1
@@ -123,6 +126,7 @@ cut_pushed front change true None past = refl
 cut_pushed front change true (Some kept) past = ap (λ l. Some (record kept { changes = l })) (cut_last front change kept.changes past)
 cut_pushed front change false o past = refl
 
+-- where the test fails, nothing is done
 pub not_done : (b : Bool) (does : Kept → Kept) (o : Option Kept) → b ≡ false → done_where b does o ≡ o
 not_done true does o e = absurd (cc)
 not_done false does o e = refl

@@ -25,6 +25,7 @@ cut_same front (c ∷ changes) all = by (nat_le c.number front) refl (cut_same f
     by true e rest = ap (λ l. c ∷ l) rest
     by false e rest = absurd (grind (arith, all.0))
 
+-- one whose changes are all up to the front loses none of them when the rest is cut away
 pub kept_up_to : (front : ℕ) (o : Option Kept) → ((kept : Kept) → o ≡ Some kept → IsUpTo front kept.changes) → option_map (cut front) o ≡ o
 kept_up_to front None up_to = refl
 kept_up_to front (Some kept) up_to = ap (λ l. Some (record kept { changes = l })) (cut_same front kept.changes (up_to kept refl))
@@ -73,6 +74,7 @@ told_none places q (c ∷ changes) = by (links places c.address q) (told_none pl
     by true e = e
     by false e = e
 
+-- by whether one is kept: it is told of the changes at its addresses, and where none is kept none is told
 pub told_each : (places : Places) (q : ℕ) (changes : List Change) (o : Option Kept)
     → ((a : Address) → links places a q ≡ option_map_or (λ k. is_address k a) o false) → told_along places q changes o ≡ option_map (told changes) o
 told_each places q changes None are = told_none places q changes
@@ -80,6 +82,7 @@ told_each places q changes (Some kept) are = told_one_by_one places q kept chang
 
 -- ---- both directions afterwards
 
+-- changes up to a front are up to each later one
 pub up_to-more : (front to : ℕ) (changes : List Change) → front ≤ to → IsUpTo front changes → IsUpTo to changes
 up_to-more front to [] le all = tt
 up_to-more front to (c ∷ changes) le all = (omega (arith, all.0), up_to-more front to changes le all.1)
@@ -93,6 +96,7 @@ past-tail from to changes tail = each changes tail.within
     each (c ∷ changes) all = ((all 0 c (omega arith)).0, each changes (λ k d h. all (suc k) d (omega arith)))
 
 module _ (from to : ℕ) (changes : List Change) (tail : IsTail from to changes) (es es' : List (ℕ × Kept)) (places : Places) where
+  -- telling changes no address, so the links stay; what is told is of the tail, and so up to its end
   pub linked_told : AreLinked from es places → ((q : ℕ) → kept_in es' q ≡ option_map (told changes) (kept_in es q)) → AreLinked to es' places
   linked_told old is = record {
     both_ways = λ q a. old.both_ways q a ∙ same a (kept_in es q) ∙ sym (ap (λ o. option_map_or (λ k. is_address k a) o false) (is q));
