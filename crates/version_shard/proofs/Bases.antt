@@ -22,6 +22,7 @@ lesser_base-more least b rest = by least (least_base rest)
     by (Some first) None = refl
     by (Some first) (Some other) = ap (λ n. Some n) (omega arith)
 
+-- what is given where a test holds isn't there, so the test fails
 none_there : {X : Type 0} (b : Bool) (x : X) → cond b (Some x) None ≡ None → b ≡ false
 none_there true x e = absurd (cc)
 none_there false x e = refl

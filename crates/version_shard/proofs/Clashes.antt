@@ -51,6 +51,7 @@ pub record Stands (based : Based) (all : List Change) (c : Change) : Type 0 wher
   pub at : slice_get all index ≡ Some c
   pub clashing : clashes based c ≡ true
 
+-- the first change that clashes stands where the search stopped
 pub first-stands : (based : Based) (all : List Change) (c : Change) → first_change based all ≡ Some c → Stands based all c
 first-stands based [] c e = absurd (cc)
 first-stands based (d ∷ rest) c e = by (clashes based d) refl (λ f. first-stands based rest c f) e
@@ -94,6 +95,7 @@ meets-own based (c ∷ rest) = by (nat_lt based.base c.number) (is_at (address_c
 abbrev pub as_change : Address → Version → Change
 as_change address version = record { number = version.number; address = address; delta = version.delta }
 
+-- an address is at itself, since the order turned round is the order
 at_itself : (a : Address) → is_at (address_cmp a) a ≡ true
 at_itself a = by (address_cmp a a) (order.total-law.antisymm a a)
   where
@@ -102,6 +104,7 @@ at_itself a = by (address_cmp a a) (order.total-law.antisymm a a)
     by Less e = absurd (cc)
     by Greater e = absurd (cc)
 
+-- past the base every version of the address meets the observation, so only whether it clashes decides
 first-versions : (based : Based) (later : List Version)
     → first_change based (as_changes based.address (past based.base later))
         ≡ option_map (as_change based.address) (first_clashing based.obs (past based.base later))
@@ -130,12 +133,14 @@ abbrev pub Finds : Kept → List Change → Based → Type 0
 Finds kept all b = option_map (as_change b.address) (clashing_in kept b) ≡ first_change b all
 
 module _ (journal : Journal) (shard : Sharded) (holds : Holds journal shard) where
+  -- the shard's changes past the base are the journal's at the address, and no others can clash
   finds : (b : Based) → IsIn shard b.address → horizon shard ≤ b.base → Finds shard.kept (changes journal) b
   finds b here low =
       sym (first-versions b (versions_of shard.kept b.address).later)
       ∙ ap (first_change b) (holds.changes b.address b.base here low)
       ∙ first-own b (changes journal)
 
+  -- so for all observations that are in the shard and none of which is late
   pub all-found : (based : List Based) → AllByRecursion (λ b. IsIn shard b.address) based → AllByRecursion (λ b. horizon shard ≤ b.base) based
       → AllByRecursion (Finds shard.kept (changes journal)) based
   all-found [] here low = tt
@@ -158,6 +163,7 @@ Agree place based None (Some found) = ⊥
 Agree place based (Some hit) None = ⊥
 Agree place based (Some hit) (Some found) = (found.number ≡ hit.1.number) × (place ≤ found.place) × (slice_get based (found.place - place) ≡ Some hit.0)
 
+-- the least hit and the least pair are chosen alike: for each observation the shard and the journal find one number
 pub agree : (place : ℕ) (kept : Kept) (all : List Change) (based : List Based) → AllByRecursion (Finds kept all) based
     → Agree place based (least_hit kept based) (least_from place based all)
 agree place kept all [] finds = tt
@@ -207,6 +213,7 @@ abbrev pub IfHit : (Hit → Type 0) → Option Hit → Type 0
 IfHit Q None = Unit {0}
 IfHit Q (Some hit) = Q hit
 
+-- what holds of both hits holds of the lesser, which is one of them
 if-lesser : (Q : Hit → Type 0) (first second : Option Hit) → IfHit Q first → IfHit Q second → IfHit Q (lesser first second)
 if-lesser Q None second p q = q
 if-lesser Q (Some h) None p q = p
@@ -216,6 +223,7 @@ if-lesser Q (Some h) (Some k) p q = by (nat_lt k.1.number h.1.number)
     by true = q
     by false = p
 
+-- a version that is found clashes, and is of the kind of its address, as the observation is
 first-clashes : (b : Based) (later : List Version) → AllByRecursion (λ v. kind_changed v.delta ≡ b.address.kind) later → IsBasedOfOneKind b
     → IfHit IsClash (hit_by b (first_clashing b.obs later))
 first-clashes b [] kinds one = tt
@@ -226,6 +234,7 @@ first-clashes b (x ∷ rest) kinds one = by (clash b.obs x.delta) refl (first-cl
     by true e again = record { kind = one.observed ∙ sym kinds.0; clash = e }
     by false e again = again
 
+-- so the least hit is a clash, since each version that is kept is of its address' kind
 pub hits-clash : (front : ℕ) (kept : Kept) (based : List Based) → AreKept front kept → AllByRecursion IsBasedOfOneKind based
     → IfHit IsClash (least_hit kept based)
 hits-clash front kept [] are ones = tt
@@ -239,6 +248,7 @@ hits-clash front kept (b ∷ rest) are ones =
 abbrev pub IsFirst : List Change → Hit → Type 0
 IsFirst all hit = first_change hit.0 all ≡ Some (as_change hit.0.address hit.1)
 
+-- the least hit is found for some observation, and what a shard finds is the first change of the journal
 pub hits-first : (kept : Kept) (all : List Change) (based : List Based) → AllByRecursion (Finds kept all) based → IfHit (IsFirst all) (least_hit kept based)
 hits-first kept all [] finds = tt
 hits-first kept all (b ∷ rest) finds =

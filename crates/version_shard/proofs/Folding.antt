@@ -34,6 +34,7 @@ none_there : (a : Address) (n : ℕ) (deltas : Deltas) → AllByRecursion (λ y.
 none_there a n [] less = refl
 none_there a n (pair ∷ deltas) less = rw less.0 (none_there a n deltas less.1)
 
+-- so no delta is there
 none_found : (a : Address) (deltas : Deltas) → AllByRecursion (λ y. address_cmp a y ≡ Less) (keys_of deltas) → delta_at deltas a ≡ None
 none_found a [] less = refl
 none_found a (pair ∷ deltas) less = rw less.0 (none_found a deltas less.1)
@@ -61,6 +62,7 @@ commit-left a n (pair ∷ deltas) value rising = by (is_at (address_cmp a) pair.
 abbrev pub AreRising : Journal → Type 0
 AreRising journal = AllByRecursion (λ commit. IsStrictlySortedBy address_cmp (keys_of commit.deltas)) journal
 
+-- the changes of each commit at an address leave what its delta there does, one commit after another
 pub journal-left : (a : Address) (journal : Journal) (value : Value) → AreRising journal
     → left value (of_address a (changes journal)) ≡ fold (λ v commit. after commit.deltas a v) value journal
 journal-left a [] value rising = refl
@@ -70,6 +72,7 @@ journal-left a (commit ∷ rest) value rising =
     ∙ ap (λ v. left v (of_address a (changes rest))) (commit-left a commit.number commit.deltas value rising.0)
     ∙ journal-left a rest (after commit.deltas a value) rising.1
 
+-- the deltas of the first commits rise as all do
 pub rising-take : (n : ℕ) (journal : Journal) → AreRising journal → AreRising (take n journal)
 rising-take zero [] rising = tt
 rising-take (suc n) [] rising = tt
@@ -80,6 +83,7 @@ rising-take (suc n) (commit ∷ rest) rising = (rising.0, rising-take n rest ris
 pub readable-take : (n : ℕ) (journal : Journal) → IsReadable journal → IsReadable (take n journal)
 readable-take n journal is = record { numbered = numbered-take 0 n journal is.numbered; rising = rising-take n journal is.rising }
 
+-- the changes up to a number are those of so many commits, since these are numbered from 1
 pub up_to-is : (n : ℕ) (journal : Journal) → AreNumbered journal → up_to n (changes journal) ≡ changes (take n journal)
 up_to-is n journal numbered = changes-up_to n 0 n journal (omega arith) numbered
 
@@ -101,6 +105,7 @@ none-up_to k n (c ∷ rest) rises e =
     let out : nat_le c.number n ≡ false = grind (arith, r, e) in
     rw out (none-up_to c.number n rest rises.1 out)
 
+-- in a list that rises from past a number, all is past that number
 all-past : (k n : ℕ) (rest : List Change) → Rises k rest → nat_le k n ≡ false → past n rest ≡ rest
 all-past k n [] rises e = refl
 all-past k n (c ∷ rest) rises e =

@@ -40,6 +40,7 @@ stands journal shard kept holds a here = record {
     mine : Versioned
     mine = versions_of shard.kept a
 
+-- the first of changes in order are in order
 rising-first : (m n : ℕ) (xs : List Change) → Rising m xs → Rising m (take n xs)
 rising-first m zero [] rising = tt
 rising-first m (suc n) [] rising = tt
@@ -80,6 +81,7 @@ module _ (journal : Journal) (old new : Sharded) (tail : Tail) (kept : AreKept o
   later : horizon old ≤ horizon new
   later = let w = alike.window in omega (arith, w, low)
 
+  -- the versions stand for the journal up to the new front: old ones stand on, follow the tail, and are cut back to the front
   after : (a : Address) → IsIn old a
       → Stands a (horizon new) (default_of a.kind) (of_address a (changes (take new.front journal))) (versions_of new.kept a)
   after a here =
@@ -103,6 +105,7 @@ module _ (journal : Journal) (old new : Sharded) (tail : Tail) (kept : AreKept o
       (next.exact.exact ∙ ap (λ k. of_shard old.shards k (between old.front tail.to (changes journal))) (sym here))
       ∙ followed-part journal old.shards a old.front new.front tail.to next.readable.numbered low high) third)
 
+  -- so the shard holds for as many commits as its new front: each of its addresses has the values and changes of these
   pub held-after : Holds (take new.front journal) new
   held-after = record {
     readable = readable-take new.front journal next.readable;

@@ -26,10 +26,12 @@ pub on_ok : {V E : Type 0} (r : Result V E) (P Q : Type 0) → (P → Q) → OnO
 on_ok (Ok v) P Q f p = f p
 on_ok (Err e) P Q f p = tt
 
+-- what follows from what holds on an error
 pub on_err : {V E : Type 0} (r : Result V E) (P Q : Type 0) → (P → Q) → OnErr r P → OnErr r Q
 on_err (Ok v) P Q f p = tt
 on_err (Err e) P Q f p = f p
 
+-- what holds on an error holds where the answer is one
 pub at_err : {V E : Type 0} (r : Result V E) (P : Type 0) → is_err r ≡ true → OnErr r P → P
 at_err (Ok v) P e p = absurd (cc)
 at_err (Err x) P e p = p
@@ -73,15 +75,18 @@ cut_nowhere old k r none a = by (is_at (address_cmp k) a) refl
 
 -- ---- changes in order
 
+-- each change of a rising list is at or past the number that it rises from
 pub rising-at : (m : ℕ) (xs : List Change) (i : ℕ) (d : Change) → Rising m xs → i < length xs → m ≤ (get_or xs i d).number
 rising-at m [] i d rising within = absurd (omega (arith, within))
 rising-at m (x ∷ xs) zero d rising within = rising.0
 rising-at m (x ∷ xs) (suc i) d rising within = let later = rising-at x.number xs i d rising.1 (omega (arith, within)) in omega (arith, later, rising.0)
 
+-- so all of them are
 rising-all : (m : ℕ) (xs : List Change) → Rising m xs → AllByRecursion (λ c. m ≤ c.number) xs
 rising-all m [] rising = tt
 rising-all m (x ∷ xs) rising = (rising.0, all-more _ _ xs (λ c le. let r = rising.0 in omega (arith, le, r)) (rising-all x.number xs rising.1))
 
+-- what stands before a place in a rising list isn't past what stands there
 before_it : (m : ℕ) (xs : List Change) (i : ℕ) (d : Change) → Rising m xs → i < length xs
     → AllByRecursion (λ c. c.number ≤ (get_or xs i d).number) (take i xs)
 before_it m [] i d rising within = absurd (omega (arith, within))
@@ -89,12 +94,14 @@ before_it m (x ∷ xs) zero d rising within = tt
 before_it m (x ∷ xs) (suc i) d rising within =
     (rising-at x.number xs i d rising.1 (omega (arith, within)), before_it x.number xs i d rising.1 (omega (arith, within)))
 
+-- and what stands from it on isn't below it
 behind_it : (m : ℕ) (xs : List Change) (i : ℕ) (d : Change) → Rising m xs → i < length xs
     → AllByRecursion (λ c. (get_or xs i d).number ≤ c.number) (drop i xs)
 behind_it m [] i d rising within = absurd (omega (arith, within))
 behind_it m (x ∷ xs) zero d rising within = (omega arith, rising-all x.number xs rising.1)
 behind_it m (x ∷ xs) (suc i) d rising within = behind_it x.number xs i d rising.1 (omega (arith, within))
 
+-- changes that are neither below a number nor out of order rise from it
 rising-from : (m : ℕ) (xs : List Change) → ((k : ℕ) (d : Change) → k < length xs → m ≤ (get_or xs k d).number)
     → IsNonDecreasingBy (λ c. c.number) xs → Rising m xs
 rising-from m [] low order = tt
@@ -110,23 +117,28 @@ tail-rising from to changes tail =
     rising-from from changes (λ k d within. let l = (tail.within k d within).0 in omega (arith, l))
     (IsNonDecreasingBy-from_all_adjacent (λ c. c.number) changes tail.in_order)
 
+-- what holds at each place holds of the whole list
 each : (P : Change → Type 0) (xs : List Change) → ((k : ℕ) (d : Change) → k < length xs → P (get_or xs k d)) → AllByRecursion P xs
 each P [] at = tt
 each P (x ∷ xs) at = (at 0 x (omega arith), each P xs (λ k d within. at (suc k) d (omega (arith, within))))
 
+-- each change of a tail is up to where the tail goes
 pub tail-within : (from to : ℕ) (changes : List Change) → IsTail from to changes → AllByRecursion (λ c. c.number ≤ to) changes
 tail-within from to changes tail = each (λ c. c.number ≤ to) changes (λ k d within. (tail.within k d within).1)
 
+-- what holds of all holds of the first of them
 all-take : {X : Type 0} (P : X → Type 0) (n : ℕ) (xs : List X) → AllByRecursion P xs → AllByRecursion P (take n xs)
 all-take P zero [] all = tt
 all-take P (suc n) [] all = tt
 all-take P zero (x ∷ xs) all = tt
 all-take P (suc n) (x ∷ xs) all = (all.0, all-take P n xs all.1)
 
+-- as many as a list has are the whole list
 pub take-whole : {X : Type 0} (xs : List X) → take (length xs) xs ≡ xs
 take-whole [] = refl
 take-whole (x ∷ xs) = ap (λ l. x ∷ l) (take-whole xs)
 
+-- and behind them nothing is left
 drop-whole : {X : Type 0} (xs : List X) → drop (length xs) xs ≡ []
 drop-whole [] = refl
 drop-whole (x ∷ xs) = drop-whole xs
@@ -217,6 +229,7 @@ suits : (front : ℕ) (a : Address) (later : List Version) → AllByRecursion (�
 suits front a [] low kinds = tt
 suits front a (x ∷ later) low kinds = (record { reached = low.0; of_kind = kinds.0 }, suits front a later low.1 kinds.1)
 
+-- versions that were followed are of the kinds of their changes, and the cut leaves none past the front
 pub kept-after : (window from front : ℕ) (changes : List Change) (old new : Kept) → AreKept from old → AreOfTheirKinds changes
     → Reaches window changes front old new → AreKept front new
 kept-after window from front changes old new kept kinds reaches a =

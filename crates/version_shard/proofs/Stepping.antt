@@ -42,6 +42,7 @@ module _ {X : Type 0} (number : X → ℕ) where
       by true e rest = ap (λ l. cond (nat_le (number x) m) (x ∷ l) l) rest
       by false e rest = let out : nat_le (number x) m ≡ false = grind (arith, within, e) in rest ∙ sym (rw out refl)
 
+  -- and cut at a greater number afterwards, it stays as it is
   pub below-greater : (m n : ℕ) (xs : List X) → m ≤ n → below n (below m xs) ≡ below m xs
   below-greater m n [] within = refl
   below-greater m n (x ∷ xs) within = by (nat_le (number x) m) refl (below-greater m n xs within)
@@ -92,10 +93,12 @@ all-filter P p (x ∷ xs) all = by (p x) (all-filter P p xs all.1)
     by true rest = (all.0, rest)
     by false rest = rest
 
+-- what holds of two lists holds of them joined
 pub all-append : {X : Type 0} (P : X → Type 0) (xs ys : List X) → AllByRecursion P xs → AllByRecursion P ys → AllByRecursion P (xs ++ ys)
 all-append P [] ys first second = second
 all-append P (x ∷ xs) ys first second = (first.0, all-append P xs ys first.1 second)
 
+-- what follows for each holds of all
 pub all-more : {X : Type 0} (P Q : X → Type 0) (xs : List X) → ((x : X) → P x → Q x) → AllByRecursion P xs → AllByRecursion Q xs
 all-more P Q [] each all = tt
 all-more P Q (x ∷ xs) each all = (each x all.0, all-more P Q xs each all.1)
@@ -106,10 +109,12 @@ all-more P Q (x ∷ xs) each all = (each x all.0, all-more P Q xs each all.1)
 abbrev pub left : Value → List Change → Value
 left base own = fold (λ value change. apply change.delta value) base own
 
+-- changes and then others leave what the others make of what the first leave
 pub left-append : (base : Value) (xs ys : List Change) → left base (xs ++ ys) ≡ left (left base xs) ys
 left-append base [] ys = refl
 left-append base (x ∷ xs) ys = left-append (apply x.delta base) xs ys
 
+-- the value after versions and then others is that after the others, where there are any
 pub value_after-append : (base : Value) (xs ys : List Version) → value_after base (xs ++ ys) ≡ value_after (value_after base xs) ys
 value_after-append base [] ys = refl
 value_after-append base (x ∷ xs) ys = value_after-append x.value xs ys
@@ -122,6 +127,7 @@ pub record Stands (address : Address) (horizon : ℕ) (base : Value) (own : List
 
 -- ---- what is let go at a horizon
 
+-- the newest value stays: it is the last version's, or where all went it has become the value before
 pub trimmed-newest : (h : ℕ) (base : Value) (later : List Version) → latest (trimmed_from h base later) ≡ value_after base later
 trimmed-newest h base [] = refl
 trimmed-newest h base (x ∷ rest) = by (nat_le x.number h) (trimmed-newest h x.value rest)
@@ -131,6 +137,7 @@ trimmed-newest h base (x ∷ rest) = by (nat_le x.number h) (trimmed-newest h x.
     by true again = again
     by false again = refl
 
+-- from the horizon on each number has its value, since all that was let go is up to it
 pub trimmed-at : (h n : ℕ) (base : Value) (later : List Version) → h ≤ n
     → value_at (trimmed_from h base later) n ≡ value_after base (below (λ (x : Version). x.number) n later)
 trimmed-at h n base [] within = refl
@@ -142,6 +149,7 @@ trimmed-at h n base (x ∷ rest) within = by (nat_le x.number h) refl (trimmed-a
     by true e again = let here : nat_le x.number n ≡ true = grind (arith, within, e) in again ∙ sym (rw here refl)
     by false e again = refl
 
+-- and nothing past it was let go
 pub trimmed-past : (h n : ℕ) (base : Value) (later : List Version) → h ≤ n → past n (trimmed_from h base later).later ≡ past n later
 trimmed-past h n base [] within = refl
 trimmed-past h n base (x ∷ rest) within = by (nat_le x.number h) refl (trimmed-past h n x.value rest within)
@@ -151,6 +159,7 @@ trimmed-past h n base (x ∷ rest) within = by (nat_le x.number h) refl (trimmed
     by true e again = let out : nat_lt n x.number ≡ false = grind (arith, within, e) in again ∙ sym (rw out refl)
     by false e again = refl
 
+-- what holds of each version holds of those that stay
 pub trimmed-all : (P : Version → Type 0) (h : ℕ) (base : Value) (later : List Version) → AllByRecursion P later
     → AllByRecursion P (trimmed_from h base later).later
 trimmed-all P h base [] all = tt
@@ -165,6 +174,7 @@ trimmed-all P h base (x ∷ rest) all = by (nat_le x.number h) (trimmed-all P h 
 
 module _ (a : Address) (h : ℕ) (base : Value) (own : List Change) (c : Change) (v : Versioned)
     (at : c.address ≡ a) (stands : Stands a h base own v) (behind : AllByRecursion (λ d. d.number ≤ c.number) own) where
+  -- at its number and past it the new version's value counts, which is the newest changed; before it the old ones do
   changed-at : (n : ℕ) → h ≤ n → value_at (changed c.number c.delta v) n ≡ left base (journals.up_to n (own ++ c ∷ []))
   changed-at n within =
       ap (value_after v.base) (filter-append (λ x. nat_le x.number n) v.later
@@ -188,6 +198,7 @@ module _ (a : Address) (h : ℕ) (base : Value) (own : List Change) (c : Change)
           ∙ stands.values n within
           ∙ sym (left-append base (journals.up_to n own) [])
 
+  -- past a number stand the changes as before, and the new one where its number is past it
   changed-past : (n : ℕ) → h ≤ n → as_changes a (past n (changed c.number c.delta v).later) ≡ journals.past n (own ++ c ∷ [])
   changed-past n within =
       ap (as_changes a) (filter-append (λ x. nat_lt n x.number) v.later (record { number = c.number; delta = c.delta; value = apply c.delta (latest v) } ∷ []))
@@ -204,6 +215,7 @@ module _ (a : Address) (h : ℕ) (base : Value) (own : List Change) (c : Change)
       by true = ap (λ (d : Change). d ∷ []) same
       by false = refl
 
+  -- so the versions with one more stand for the changes with one more
   pub changed-stands : Stands a h base (own ++ c ∷ []) (changed c.number c.delta v)
   changed-stands = record {
     values = changed-at;
@@ -233,6 +245,7 @@ stands-later a h k base own v stands within = record {
 
 -- ---- changes one by one
 
+-- addresses are equal either way round
 turned : (a b : Address) → is_at (address_cmp a) b ≡ is_at (address_cmp b) a
 turned a b = ap is_eq (order.total-law.antisymm a b) ∙ by (address_cmp b a)
   where
@@ -247,6 +260,7 @@ Rising from [] = Unit {0}
 Rising from (c ∷ rest) = (from ≤ c.number) × Rising c.number rest
 
 module _ (a : Address) (window h : ℕ) (base : Value) where
+  -- each change at the address adds a version, and lets go only what is up to the horizon; others leave all as it is
   pub along-stands : (m : ℕ) (changes own : List Change) (v : Versioned) → Stands a h base own v → Rising m changes
       → AllByRecursion (λ d. d.number ≤ m) own → AllByRecursion (λ c. horizon_at window (c.number - 1) ≤ h) changes
       → Stands a h base (own ++ of_address a changes) (followed_along window a changes v)
@@ -276,6 +290,7 @@ module _ (a : Address) (window h : ℕ) (base : Value) where
 
 -- ---- the way back
 
+-- cut back to a number not below the horizon, the versions stand for the changes up to it, by which cut is the lesser
 pub cut-stands : (a : Address) (h r : ℕ) (base : Value) (own : List Change) (v : Versioned) → Stands a h base own v → h ≤ r
     → Stands a h base (journals.up_to r own) (up_to r v)
 cut-stands a h r base own v stands within = record {
@@ -365,6 +380,7 @@ cut_back r window a changes count v same = by (cut-or-not r a changes (followed_
 
 module _ (P : Version → Type 0) (Q : Change → Type 0) (a : Address) (window : ℕ)
     (fits : (c : Change) (value : Value) → c.address ≡ a → Q c → P (record { number = c.number; delta = c.delta; value = value })) where
+  -- what fits each change at the address holds of the version made of it, and trimming keeps it of those that stay
   pub along-all : (changes : List Change) (v : Versioned) → AllByRecursion Q changes → AllByRecursion P v.later
       → AllByRecursion P (followed_along window a changes v).later
   along-all [] v are all = all
@@ -385,9 +401,11 @@ take-none : {X : Type 0} (xs : List X) → take zero xs ≡ []
 take-none [] = refl
 take-none (x ∷ xs) = refl
 
+-- after no version it is the value before them
 pub value_after-none : (base : Value) (later : List Version) (i : ℕ) → i ≡ 0 → value_after base (take i later) ≡ base
 value_after-none base later i none = ap (λ n. value_after base (take n later)) none ∙ ap (value_after base) (take-none later)
 
+-- after the versions up to a place it is the value of the one there
 pub value_after-taken : (base : Value) (later : List Version) (i : ℕ) (d : Version) → i < length later
     → value_after base (take (suc i) later) ≡ (get_or later i d).value
 value_after-taken base [] i d within = absurd (omega (arith, within))

@@ -19,12 +19,15 @@ use Rattle.version_shard.proofs.Clashes.{Finds, all-found, Agree, agree, IfHit, 
 
 module _ (journal : Journal) (shard : Sharded) (holds : Holds journal shard) (based : List Based)
     (here : AllByRecursion (λ b. IsIn shard b.address) based) (timely : late shard based ≡ None) where
+  -- no base is late, so for each observation the shard finds what the journal has
   found : AllByRecursion (Finds shard.kept (changes journal)) based
   found = all-found journal shard holds based here (in_time (horizon shard) based timely)
 
+  -- the journal is numbered, so the least pair in its changes is its first
   least-is : least based (changes journal) ≡ least_pair based journal
   least-is = least-is-first based journal holds.readable.numbered
 
+  -- so the shard's least hit and the journal's least pair are one
   agrees : (o : Option Hit) → least_hit shard.kept based ≡ o → Agree 0 based o (least based (changes journal))
   agrees o e = subst (λ h. Agree 0 based h (least based (changes journal))) e (agree 0 shard.kept (changes journal) based found)
 
