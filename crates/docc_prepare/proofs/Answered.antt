@@ -45,23 +45,29 @@ use Rattle.docc_prepare.proofs.Stored.{Grown, step-grows, stalled-grows, same-cl
 
 -- ---- tests
 
+-- a number that is the front counts as reached
 is-reached : (n front : ℕ) → front ≡ n → nat_le n front ≡ true
 is-reached n front e = grind (arith, nat_tests)
 
+-- what counts as reached is at most the front
 reached-is : (n front : ℕ) → nat_le n front ≡ true → n ≤ front
 reached-is n front e = grind (arith, nat_tests)
 
+-- what is tested as below is below
 below-is : (a b : ℕ) → nat_lt a b ≡ true → a < b
 below-is a b e = grind (arith, nat_tests)
 
+-- a number is itself
 itself : (n : ℕ) → (n == n) ≡ true
 itself n = grind (arith, nat_tests)
 
+-- a client that subscribes is told of the address, and of what it was told of before
 told-now : (mine here was : Bool) → mine ≡ true → cond (mine && here) true was ≡ (here || was)
 told-now true true was e = refl
 told-now true false was e = refl
 told-now false here was e = absurd (cc)
 
+-- a client that unsubscribes is told of the address no longer, and of all else as before
 untold-now : (mine here was : Bool) → mine ≡ true → cond (mine && here) false was ≡ (not here && was)
 untold-now true true was e = refl
 untold-now true false was e = refl
@@ -69,10 +75,12 @@ untold-now false here was e = absurd (cc)
 
 -- ---- the least base
 
+-- without a least base there is no observation
 no-base : (P : Based → Type 0) (bs : List Based) → least_base bs ≡ None → AllByRecursion P bs
 no-base P [] e = tt
 no-base P (b ∷ bs) e = absurd (cc)
 
+-- by whether the first observation has the lesser base or the others do
 least-is : (bs : List Based) (base : ℕ) → least_base bs ≡ Some base → IsLeastBase bs base
 least-is [] base e = absurd (cc)
 least-is (b ∷ bs) base e = by (least_base bs) refl e (λ m h. least-is bs m h)
@@ -111,6 +119,7 @@ least-is (b ∷ bs) base e = by (least_base bs) refl e (λ m h. least-is bs m h)
         }
     by (Some m) is e rest = let same : min b.base m ≡ base = cc in of-two m same (nat_le b.base m) refl (rest m is)
 
+-- a late base is the least one, and below the horizon
 late-is : (h : ℕ) (o : Option ℕ) (base : ℕ) → late_base h o ≡ Some base → (o ≡ Some base) × (base < h)
 late-is h None base e = absurd (cc)
 late-is h (Some b) base e = by (nat_lt b h) refl e
@@ -133,12 +142,15 @@ of-append s c ready can = record {
 }
 
 module _ (s : Store) (sound : IsSound s) (c : ℕ) (ours : c < CLIENTS) where
+  -- what the client knows before the call
   abbrev k : Known
   k = known_by s c
 
+  -- the store's journal is legal, and so orderly
   orderly : IsOrderly s.journal
   orderly = legal_is_orderly s.journal sound.legal
 
+  -- what a client has just seen is what it has seen
   seen-set : (n : ℕ) → get_or (set s.seens c n) c 0 ≡ n
   seen-set n = let all = sound.all_clients in get_or-set_same s.seens c n 0 (omega arith)
 
@@ -151,9 +163,11 @@ module _ (s : Store) (sound : IsSound s) (c : ℕ) (ours : c < CLIENTS) where
       × (0 ≡ denied_after k call a)
       × KnowsDenials k (known_by t c) call a
 
+  -- what the answer shows and its row hold where the journal stays as it is
   abbrev Says : Store → Call → Answer → Type 0
   Says t call a = Shows k (known_by t c) call a × Row k (known_by t c) s.journal s.journal call a × OwnRow c s.journal s.journal call a
 
+  -- what was given stays given, since fronts only rise
   keeps-of : (t : Store) (call : Call) → Grown s t → Keeps call k (known_by t c)
   keeps-of t (Call.append ready) grown = tt
   keeps-of t call grown = kept-given s t c grown
@@ -180,6 +194,7 @@ module _ (s : Store) (sound : IsSound s) (c : ℕ) (ours : c < CLIENTS) where
         (record { grows = take-length s.journal; legal = sound.legal; within = within; row = says.1; same_own = says.2 });
   }
 
+  -- a refresh answers the journal's length, and the client has then seen as many
   refreshed : IsAnswered k Call.refresh (Answer.number (length s.journal)) (known_by (saw s c (length s.journal)) c)
   refreshed =
       let e = seen-set (length s.journal) in
@@ -189,9 +204,11 @@ module _ (s : Store) (sound : IsSound s) (c : ℕ) (ours : c < CLIENTS) where
 
   -- ---- reads
 
+  -- the state at an address is of its kind, since all deltas of an orderly journal are of theirs
   kind-of-state : (n : ℕ) (a : Address) → kind_of (state s.journal n a) ≡ a.kind
   kind-of-state n a = kind-left (take n s.journal) a (each-take (λ (commit : Commit). AreOfTheirKinds commit.deltas) n s.journal orderly.kinds)
 
+  -- a read moves its shard to what the client has seen, if it is behind, and gives the state at that front
   read-answered : (a : Address) (f : ℕ) → f ≡ max (front_of s (shard_of a s.shards)) (seen_by s c) → Grown s (saw (moved s (shard_of a s.shards) f) c f)
       → IsAnswered k (Call.read a) (Answer.snap (record { base = f; value = state s.journal f a })) (known_by (saw (moved s (shard_of a s.shards) f) c f) c)
   read-answered a f is grown =
@@ -205,6 +222,7 @@ module _ (s : Store) (sound : IsSound s) (c : ℕ) (ours : c < CLIENTS) where
       answered (saw (moved s i f) c f) (Call.read a) (Answer.snap (record { base = f; value = state s.journal f a })) grown refl (omega arith) (omega arith)
       (refl, (λ b. refl), refl, refl, omega arith) (is-reached f (get_or (set s.fronts i f) i 0) here) ((sym e, kind-of-state f a), refl, refl)
 
+  -- by whether the number is below the horizon: then it is late, and else the state there is given
   read-back : (a : Address) (n f : ℕ) → n ≤ seen_by s c → f ≡ max (front_of s (shard_of a s.shards)) n → Grown s (moved s (shard_of a s.shards) f)
       → IsAnswered k (Call.read_at a n) (read_back s a n f).1 (known_by (read_back s a n f).0 c)
   read-back a n f seen is grown = by (nat_lt n (f - s.window)) refl
@@ -343,11 +361,13 @@ module _ (s : Store) (sound : IsSound s) (c : ℕ) (ours : c < CLIENTS) where
 
   -- ---- what a client is told of
 
+  -- the feed has at each address that is told what is pending there since the last take
   taken-is : (n : ℕ) → n ≡ length s.journal → IsTaken k n (feed_for s c) s.journal
   taken-is n e address =
       fed-is-pending (s.subscribed c) address (between (s.taken c) (length s.journal) (changes s.journal))
       ∙ ap (λ (m : ℕ). cond (s.subscribed c address) (pending address (between (s.taken c) m (changes s.journal))) None) (sym e)
 
+  -- the changes of the feed are made of some of the journal's, which are of the kinds of their addresses
   kinds-told : AreOfTheirKinds (feed_for s c).changes
   kinds-told =
       let all = changes s.journal in
@@ -359,6 +379,7 @@ module _ (s : Store) (sound : IsSound s) (c : ℕ) (ours : c < CLIENTS) where
       (each-filter (λ (change : Change). kind_changed change.delta ≡ change.address.kind) (λ change. nat_le change.number (length s.journal)) all
       (kinds-of-changes s.journal orderly.kinds)))) tt
 
+  -- a take hands that feed on, and all of the journal then counts as seen and taken
   took-answered : IsAnswered k Call.take (Answer.feed (feed_for s c)) (known_by (took (saw s c (length s.journal)) c (length s.journal)) c)
   took-answered =
       let e = seen-set (length s.journal) in
@@ -368,11 +389,13 @@ module _ (s : Store) (sound : IsSound s) (c : ℕ) (ours : c < CLIENTS) where
       (refl, (λ a. refl), ap (λ b. cond b (length s.journal) (s.taken c)) (itself c), refl, omega arith) tt
       ((sym e, kinds-told), taken-is (seen_by (saw s c (length s.journal)) c) e, refl)
 
+  -- a subscription changes only what the client is told of
   subscribed-answered : (a : Address) → IsAnswered k (Call.subscribe a) Answer.done (known_by (telling s c a true) c)
   subscribed-answered a =
       answered (telling s c a true) (Call.subscribe a) Answer.done (step-grows s c (Call.subscribe a)) refl (omega arith) (sound.seen c)
       (refl, (λ b. told-now (c == c) (is_at (address_cmp a) b) (s.subscribed c b) (itself c)), refl, refl, omega arith) tt (refl, tt, refl)
 
+  -- and so does the end of one
   unsubscribed-answered : (a : Address) → IsAnswered k (Call.unsubscribe a) Answer.done (known_by (telling s c a false) c)
   unsubscribed-answered a =
       answered (telling s c a false) (Call.unsubscribe a) Answer.done (step-grows s c (Call.unsubscribe a)) refl (omega arith) (sound.seen c)
@@ -399,6 +422,7 @@ module _ (s : Store) (sound : IsSound s) (c : ℕ) (ours : c < CLIENTS) where
 
   -- ---- the step
 
+  -- by the call, each as shown above
   step-answered : (call : Call) → CanCall k call → IsAnswered k call (step s c call).1 (known_by (step s c call).0 c)
   step-answered Call.refresh can = refreshed
   step-answered (Call.read a) can = read-answered a (max (front_of s (shard_of a s.shards)) (seen_by s c)) refl (step-grows s c (Call.read a))
@@ -426,6 +450,7 @@ does-sound s t c call a sound can does = by (does-one s t c call a does)
     by (inl stalled) = stalled-sound s t sound stalled.1
     by (inr e) = subst (λ (x : Store × Answer). IsSound x.0) (sym e) (step-sound s c sound call (owed-soundly s sound c call can))
 
+-- a call went by the step or failed for want of memory, and both are within the clause
 pub steps_are_answered : StepsAreAnswered
 steps_are_answered s t c call a sound ours can does = (by (does-one s t c call a does), does-sound s t c call a sound can does)
   where

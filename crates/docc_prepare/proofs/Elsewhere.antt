@@ -24,6 +24,7 @@ use Rattle.docc_prepare.proofs.Stored.{step-sound, followed-sound, with_fronts, 
 use Rattle.docc_prepare.proofs.Stored.{same-client, kept-given, does-one}
 use Rattle.docc_prepare.proofs.Answered.{owed-soundly}
 
+-- numbers that differ fail the test of equality
 not-equal : (a b : ℕ) → b ≢ a → (a == b) ≡ false
 not-equal a b h = grind (arith, nat_tests)
 
@@ -33,11 +34,13 @@ own-other d journal x h =
     filter-append (λ (y : Commit). y.client == d) journal (x ∷ [])
     ∙ ap (λ (b : Bool). own d journal ++ cond b (x ∷ []) []) (not-equal x.client d h) ∙ append-nil (own d journal)
 
+-- what one client is told of from now on changes nothing for another
 others-told : (mine here told was : Bool) → mine ≡ false → cond (mine && here) told was ≡ was
 others-told true here told was e = absurd (cc)
 others-told false here told was e = refl
 
 module _ (s : Store) (sound : IsSound s) (c d : ℕ) (others : d ≢ c) where
+  -- what the other client knows before the call
   abbrev k : Known
   k = known_by s d
 
@@ -59,15 +62,19 @@ module _ (s : Store) (sound : IsSound s) (c d : ℕ) (others : d ≢ c) where
     told = grown;
   }
 
+  -- what one client sees counts as seen by no other
   unseen : (n : ℕ) → get_or (set s.seens c n) d 0 ≡ get_or s.seens d 0
   unseen n = get_or-set_other s.seens c d n 0 others
 
+  -- a journal that stays as it is has nothing new of anyone
   ungrown : HasGrown k s.journal s.journal
   ungrown = record { grows = take-length s.journal; legal = sound.legal; same_own = refl }
 
+  -- the other client isn't the one that calls
   not-mine : (d == c) ≡ false
   not-mine = not-equal d c (λ e. others (sym e))
 
+  -- by the decision: a refusal leaves the journal as it is, and a commit is the calling client's own
   decided-later : (ready : Ready) (w : Option Witness) (full : Bool) → ready.client ≡ c → IsSound (decided s c ready w full).0
       → Grown s (decided s c ready w full).0
       → IsLater k (known_by (decided s c ready w full).0 d)
@@ -86,6 +93,7 @@ module _ (s : Store) (sound : IsSound s) (c d : ℕ) (others : d ≢ c) where
   IsOurs (Call.append ready) = ready.client ≡ c
   IsOurs call = Unit {0}
 
+  -- by the call: each sets only what its own client has seen, is told of or has taken, and lets the store grow
   later-by : (call : Call) → IsOurs call → IsSound (step s c call).0 → Grown s (step s c call).0 → IsLater k (known_by (step s c call).0 d)
   later-by Call.refresh ours now grows = later (step s c Call.refresh).0 now grows (unseen (length s.journal)) (λ a. refl) refl ungrown
   later-by (Call.read a) ours now grows =
@@ -102,24 +110,29 @@ module _ (s : Store) (sound : IsSound s) (c d : ℕ) (others : d ≢ c) where
       later (step s c Call.take).0 now grows (unseen (length s.journal)) (λ a. refl) (ap (λ b. cond b (length s.journal) (s.taken d)) not-mine) ungrown
   later-by Call.wait ours now grows = later s now grows refl (λ a. refl) refl ungrown
 
+  -- what a client may hand on carries its own number
   owed-ours : (call : Call) → CanCall (known_by s c) call → IsOurs call
   owed-ours (Call.append ready) can = ap (λ (r : Ready). r.client) can.made
   owed-ours call can = tt
 
+  -- so after each step the other finds the store as if others had been at work
   step-later : (call : Call) → CanCall (known_by s c) call → IsLater k (known_by (step s c call).0 d)
   step-later call can = later-by call (owed-ours call can) (step-sound s c sound call (owed-soundly s sound c call can)) (step-grows s c call)
 
+  -- where memory was wanting only fronts may have risen
   stalled-later : (t : Store) → HasStalled s t → IsLater k (known_by t d)
   stalled-later t stalled =
       subst (λ (x : Store). IsLater k (known_by x d)) (sym stalled.same)
       (later (with_fronts s t.fronts) (subst IsSound stalled.same (stalled-sound s t sound stalled)) (stalled-grows s t.fronts stalled.risen) refl
       (λ a. refl) refl ungrown)
 
+  -- a shard that follows has a higher front, and only its own client has seen more
   follow-later : (shard : ℕ) → IsLater k (known_by (followed s c shard) d)
   follow-later shard =
       later (followed s c shard) (followed-sound s c sound shard) (followed-grows s c shard sound) (unseen (max (seen_by s c) (length s.journal)))
       (λ a. refl) refl ungrown
 
+-- a call went by the step or failed for want of memory
 pub steps_leave_others : StepsLeaveOthers
 steps_leave_others s t c d call a sound others can does = by (does-one s t c call a does)
   where
@@ -127,6 +140,7 @@ steps_leave_others s t c d call a sound others can does = by (does-one s t c cal
     by (inl stalled) = stalled-later s sound c d others t stalled.1
     by (inr e) = subst (λ (x : Store × Answer). IsLater (known_by s d) (known_by x.0 d)) (sym e) (step-later s sound c d others call can)
 
+-- the shard's front and what the client has seen go to the journal's end, and nothing else changes
 pub shards_follow : ShardsFollow
 shards_follow s c shard sound ours inside =
     let n = sound.seen c in

@@ -22,12 +22,15 @@ use Rattle.journal_core.proofs.OfRuns.{kinds-with}
 -- ---- by addresses
 
 module _ (told : Address → Bool) (a : Address) where
+  -- the changes at addresses that are told
   abbrev among : List Change → List Change
   among all = filter (λ change. told change.address) all
 
+  -- the changes at the one address
   abbrev here : List Change → List Change
   here all = filter (λ change. is_at (address_cmp a) change.address) all
 
+  -- an address that compares as equal is told alike
   same-address : (b : Address) → is_at (address_cmp a) b ≡ true → told b ≡ told a
   same-address b e = ap told (sym (address_cmp-equal a b (equal (address_cmp a b) e)))
 
@@ -65,6 +68,7 @@ module _ (told : Address → Bool) (a : Address) where
 
 -- ---- by kinds
 
+-- the changes of a commit are of the kinds of their addresses, as its deltas are
 kinds-by : (n : ℕ) (ds : Deltas) → AreOfTheirKinds ds → feeds.AreOfTheirKinds (changes_by n ds)
 kinds-by n [] all = tt
 kinds-by n (pair ∷ ds) all = (all.0, kinds-by n ds all.1)

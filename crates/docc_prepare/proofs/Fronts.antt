@@ -37,9 +37,11 @@ past_alike base front n h = by (nat_lt base n) refl
 below_front : (base front n : ℕ) → n ≤ front → nat_lt (max base front) n ≡ false
 below_front base front n h = grind (arith, nat_tests)
 
+-- an observation as if it was made at a front, where that is past its base
 abbrev at_front : Based → ℕ → Based
 at_front b front = record b { base = max b.base front }
 
+-- a delta at an address, as a change of the commit of a number
 abbrev change_at : ℕ → Address × Delta → Change
 change_at n pair = record { number = n; address = pair.0; delta = pair.1 }
 
@@ -60,6 +62,7 @@ any-below b front n (pair ∷ ds) below =
     (below_front b.base front n below)
     ∙ any-below b front n ds below
 
+-- by whether the commit is past the front: there both are hit alike, and up to it neither is hit
 hit-alike : (b : Based) (front : ℕ) (commit : Commit) → (commit.number ≤ front → Misses b commit) → hit (at_front b front) commit ≡ hit b commit
 hit-alike b front commit clear = by (nat_le commit.number front) refl
   where
@@ -82,13 +85,16 @@ numbered_first P m n zero (commit ∷ journal) upto numbers all =
 numbered_first P m n (suc front) (commit ∷ journal) upto numbers all = (λ h. all.0, numbered_first P m (n + 1) front journal (omega arith) numbers.1 all.1)
 
 module _ (journal : Journal) (shards : ℕ) (observed : List Based) where
+  -- each commit up to a front misses each of some observations
   abbrev Clear : ℕ → List Based → Type 0
   Clear front bs = AllByRecursion (λ commit. AllByRecursion (λ b. Misses b commit) bs) (take front journal)
 
+  -- up to 0 there is no commit
   nothing_clear : (bs : List Based) (xs : Journal) → AllByRecursion (λ commit. AllByRecursion (λ b. Misses b commit) bs) (take zero xs)
   nothing_clear bs [] = tt
   nothing_clear bs (x ∷ xs) = tt
 
+  -- numbers that pass the test of equality are one
   same_shard : (k l : ℕ) → (k == l) ≡ true → k ≡ l
   same_shard k l e = grind (arith, nat_tests)
 
@@ -137,6 +143,7 @@ module _ (journal : Journal) (shards : ℕ) (observed : List Based) where
         (λ commit. AllByRecursion (λ b. hit (past_front shards fronts b) commit ≡ hit b commit) observed) journal
         (λ commit. pick commit observed) in_each_shard)
 
+-- the fronts of an attempt that fits are clear, so to look past them misses no pair
 pub fronts_spare_no_pair : FrontsSpareNoPair
 fronts_spare_no_pair journal attempt run numbers fits is =
     spare journal attempt.shards (based attempt.snaps run.observations) attempt.fronts numbers

@@ -20,15 +20,18 @@ use Rattle.journal_core.proofs.OfRuns.{kinds-of-run}
 -- ---- what fits
 
 module _ (journal later : Journal) where
+  -- a journal that has grown is no shorter
   longer : length journal ≤ length (journal ++ later)
   longer = let l = length-append journal later in omega arith
 
+  -- the first commits stay, so what they left at a base is the same
   snap-stays : (read : Address × Snap) → SnapFits journal read → SnapFits (journal ++ later) read
   snap-stays read fits = let l = longer in let w = fits.within in record {
     within = omega arith;
     value = fits.value ∙ ap (λ (first : Journal). left_by first read.0) (sym (take-append-le read.1.base journal later fits.within));
   }
 
+  -- the first commits stay, so none up to a front clashes now
   front-stays : (observed : List Based) (prepared : PreparedFront) → FrontFits journal observed prepared → FrontFits (journal ++ later) observed prepared
   front-stays observed prepared fits = let l = longer in let w = fits.within in record {
     within = omega arith;
@@ -36,6 +39,7 @@ module _ (journal later : Journal) where
     clear = ap (pairs observed) (take-append-le prepared.front journal later fits.within) ∙ fits.clear;
   }
 
+-- what was read and what was prepared rest on first commits alone
 pub fits_stays : FitsStays
 fits_stays journal later attempt fits = record {
   snaps = each-more (SnapFits journal) (SnapFits (journal ++ later)) attempt.snaps (snap-stays journal later) fits.snaps;
@@ -49,18 +53,22 @@ fits_stays journal later attempt fits = record {
 
 -- ---- legal journals
 
+-- the deltas of a commit are those of its run
 kinds-of-commit : (before : Journal) (commit : Commit) → IsRunAfter before commit → AreOfTheirKinds commit.deltas
 kinds-of-commit before commit runs = subst AreOfTheirKinds (sym runs.deltas) (kinds-of-run runs.body (known (left_by before)) runs.run runs.ran)
 
+-- a legal commit has the number behind those of the commits before it
 legal-numbered : (before journal : Journal) → IsLawfulAfter MayFollow 0 before journal → AreNumberedFrom (length before) journal
 legal-numbered before [] legal = tt
 legal-numbered before (commit ∷ journal) legal =
     (legal.0.number, subst (λ (n : ℕ). AreNumberedFrom n journal) (length-append before (commit ∷ [])) (legal-numbered (before ++ commit ∷ []) journal legal.1))
 
+-- each commit of a legal journal is one of a run, nothing being taken on trust
 legal-kinds : (before journal : Journal) → IsLawfulAfter MayFollow 0 before journal → AllByRecursion (λ commit. AreOfTheirKinds commit.deltas) journal
 legal-kinds before [] legal = tt
 legal-kinds before (commit ∷ journal) legal =
     (kinds-of-commit before commit (legal.0.runs (let n = legal.0.number in omega arith)), legal-kinds (before ++ commit ∷ []) journal legal.1)
 
+-- its commits are numbered from 1, and their deltas are of the kinds of their addresses
 pub legal_is_orderly : LegalIsOrderly
 legal_is_orderly journal legal = record { numbered = legal-numbered [] journal legal; kinds = legal-kinds [] journal legal }

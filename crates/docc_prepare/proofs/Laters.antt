@@ -27,6 +27,7 @@ prefix-again first second third p q =
     let shorter : length first ≤ length second = omega arith in
     sym (take-take (length first) (length second) third shorter) ∙ ap (λ (xs : Journal). take (length first) xs) q ∙ p
 
+-- what rose from a count has risen from a lesser one, by whether that one is below where it came to
 rose-since : (k l m : ℕ) → k ≤ l → Rose l m → Rose k m
 rose-since k l m h (inl up) = inl (omega arith)
 rose-since k l m h (inr last) = by (nat_lt k m) refl
@@ -35,11 +36,13 @@ rose-since k l m h (inr last) = by (nat_lt k m) refl
     by true e = inl (let up : k < m = grind (arith, nat_tests) in up)
     by false e = let over : m ≤ k = grind (arith, nat_tests) in let was = last.0 in let is = last.1 in inr (omega arith, is)
 
+-- others only raised the denials that are known, so what the call says of them holds from before on
 denials-since : (k l m : Known) (c : Call) (a : Answer) → k.denials ≤ l.denials → KnowsDenials l m c a → KnowsDenials k m c a
 denials-since k l m (Call.append ready) Answer.disk h d = rose-since k.denials l.denials m.denials h d
 denials-since k l m c a h d = omega arith
 
 module _ (k l m : Known) (later : IsLater k l) where
+  -- the client and the store's settings are the same before and later
   client-since : IsSameClient l m → IsSameClient k m
   client-since same = record {
     client = same.client ∙ later.client.client;
@@ -49,34 +52,41 @@ module _ (k l m : Known) (later : IsLater k l) where
     limit = same.limit ∙ later.client.limit;
   }
 
+  -- what was given before is given later, and the call keeps it
   given-since : KeepsGiven l m → KeepsGiven k m
   given-since keeps = record {
     bases = λ address base h. keeps.bases address base (later.keeps.bases address base h);
     fronts = λ shard based front h. keeps.fronts shard based front (later.keeps.fronts shard based front h);
   }
 
+  -- others added nothing to the client's own commits, so what the call left alone is as before
   own-since : (old mid new : Journal) → HasGrown k old mid → own l.client new ≡ own l.client mid → own k.client new ≡ own k.client old
   own-since old mid new grown same = subst (λ (c : ℕ). own c new ≡ own c mid) later.client.client same ∙ grown.same_own
 
   -- ---- a call
 
+  -- others didn't change what the client is told of, so the call makes the same of it
   subscribed-since : (c : Call) (a : Answer) (address : Address) → subscribed_after l c a address ≡ subscribed_after k c a address
   subscribed-since (Call.subscribe x) Answer.done address = ap (λ b. is_at (address_cmp x) address || b) (later.subscribed address)
   subscribed-since (Call.unsubscribe x) Answer.done address = ap (λ b. not (is_at (address_cmp x) address) && b) (later.subscribed address)
   subscribed-since c a address = later.subscribed address
 
+  -- nor up to where it has taken
   taken-since : (c : Call) (a : Answer) → taken_after l c a ≡ taken_after k c a
   taken-since Call.take (Answer.feed f) = refl
   taken-since c a = later.taken
 
+  -- nor how many of its commits the disk denied
   denied-since : (c : Call) (a : Answer) → denied_after l c a ≡ denied_after k c a
   denied-since (Call.append ready) Answer.disk = ap one_more later.denied
   denied-since c a = later.denied
 
+  -- an append may give up what was given, and each other call keeps it
   keeps-since : (c : Call) → Keeps c l m → Keeps c k m
   keeps-since (Call.append ready) keeps = tt
   keeps-since c keeps = given-since keeps
 
+  -- what an answer shows goes by what the client had seen, which others didn't change
   shows-since : (c : Call) (a : Answer) → Shows l m c a → Shows k m c a
   shows-since (Call.read_at address n) (Answer.value v) shows = (shows.0 ∙ later.seen, shows.1)
   shows-since (Call.read_at address n) (Answer.late o h) shows = (shows.0 ∙ later.seen, shows.1)
@@ -85,10 +95,12 @@ module _ (k l m : Known) (later : IsLater k l) where
   shows-since Call.wait Answer.done shows = let seen = later.seen in omega arith
   shows-since c a shows = shows
 
+  -- the window is the same, so the horizon is as far behind
   horizon-since : (number horizon : ℕ) (journal : Journal) → IsBelowHorizon l number horizon journal → IsBelowHorizon k number horizon journal
   horizon-since number horizon journal late =
       let behind = late.behind in let window = later.client.window in record { below = late.below; behind = omega arith }
 
+  -- by the row: it goes by what the client knew, which is the same, and by a journal that had only grown
   row-since : (old mid new : Journal) → HasGrown k old mid → (c : Call) (a : Answer) → Row l m mid new c a → Row k m old new c a
   row-since old mid new grown (Call.prepare shard based) (Answer.prepared p) row =
       record { seen = row.seen ∙ ap (λ (n : ℕ). max n p.front) later.seen; bases = row.bases; clear = row.clear }
@@ -111,10 +123,12 @@ module _ (k l m : Known) (later : IsLater k l) where
       ∙ ap (λ (n : ℕ). cond (k.subscribed address) (pending address (between n m.seen (changes new))) None) later.taken
   row-since old mid new grown c a row = row
 
+  -- an append with its number adds the client's own commit, and nothing else adds one
   own-row-since : (old mid new : Journal) → HasGrown k old mid → (c : Call) (a : Answer) → OwnRow l.client mid new c a → OwnRow k.client old new c a
   own-row-since old mid new grown (Call.append ready) (Answer.number n) row = tt
   own-row-since old mid new grown c a row = own-since old mid new grown row
 
+  -- by who tells the journal; where all do, others let it grow before the call did
   told-since : (c : Call) (a : Answer) (o p q : Option Journal) → WhereTold (HasGrown k) o p → WhereTold (SaysOfJournal l m c a) p q
       → WhereTold (SaysOfJournal k m c a) o q
   told-since c a None None None grown says = tt
@@ -130,6 +144,7 @@ module _ (k l m : Known) (later : IsLater k l) where
     same_own = own-row-since old mid new grown c a says.same_own;
   }
 
+  -- so each part of the clause holds of the call together with what others did before it
   answered-since : (c : Call) (a : Answer) → IsAnswered l c a m → IsAnswered k c a m
   answered-since c a answered =
       let was = later.seen in
@@ -158,6 +173,7 @@ module _ (k l m : Known) (later : IsLater k l) where
 
   -- ---- later again
 
+  -- by who tells the journal; where all do, it has grown twice
   grown-since : (o p q : Option Journal) → WhereTold (HasGrown k) o p → WhereTold (HasGrown l) p q → WhereTold (HasGrown k) o q
   grown-since None None None grown more = tt
   grown-since None None (Some new) grown more = more
@@ -170,6 +186,7 @@ module _ (k l m : Known) (later : IsLater k l) where
     same_own = own-since old mid new grown more.same_own;
   }
 
+  -- so what is later than later is later, part by part
   later-again : IsLater l m → IsLater k m
   later-again more =
       let denials = more.denials in
@@ -192,6 +209,7 @@ module _ (k l m : Known) (later : IsLater k l) where
         told = grown-since k.journal l.journal m.journal later.told more.told;
       }
 
+-- both parts of the law, as shown above
 pub others_count_as_within : OthersCountAsWithin
 others_count_as_within = record {
   again = λ k l m later more. later-again k l m later more;

@@ -26,6 +26,7 @@ of-place : {A : Type 0} (P : A → Type 0) (x : A) (xs : List A) (i : ℕ) (y : 
 of-place P x xs zero y e here rest = let same : x ≡ y = cc in subst P same here
 of-place P x xs (suc j) y e here rest = rest j e
 
+-- no change of a rising list is numbered below where it rises from
 risen : (m : ℕ) (all : List Change) (i : ℕ) (change : Change) → Rises m all → slice_get all i ≡ Some change → m ≤ change.number
 risen m [] i change rises e = absurd (cc)
 risen m (x ∷ xs) zero change rises e = let same : x ≡ change = cc in subst (λ (c : Change). m ≤ c.number) same rises.0
@@ -40,9 +41,11 @@ record IsFirst (b : Based) (all : List Change) (n : ℕ) : Type 0 where
   numbered : change.number ≡ n
   first : (i : ℕ) (other : Change) → slice_get all i ≡ Some other → clashes b other ≡ true → n ≤ other.number
 
+-- no change clashes with the observation
 abbrev NoneClashes : Based → List Change → Type 0
 NoneClashes b all = (i : ℕ) (other : Change) → slice_get all i ≡ Some other → clashes b other ≡ true → ⊥
 
+-- in a rising list the first change that clashes has the least number of those that do
 first-clash : (b : Based) (m : ℕ) (all : List Change) → Rises m all → MatchOption (first_clash b all) (NoneClashes b all) (IsFirst b all)
 first-clash b m [] rises = λ i other e h. absurd (cc)
 first-clash b m (x ∷ xs) rises = by (first_clash b xs) (first-clash b x.number xs rises.1) (clashes b x) refl
@@ -85,6 +88,7 @@ record PairFrom (place : ℕ) (bs : List Based) (all : List Change) (found : Fou
   numbered : change.number ≡ found.number
   clashing : clashes observation change ≡ true
 
+-- the observations from a place on make no pair
 abbrev NoneFrom : ℕ → List Based → List Change → Type 0
 NoneFrom place bs all = (found : Found) → PairFrom place bs all found → ⊥
 
@@ -115,6 +119,7 @@ module _ (place : ℕ) (b : Based) (bs : List Based) (all : List Change) where
         clashing = p.clashing;
       })
 
+  -- a pair of the others is a pair of all, since its place counts from one further on
   behind : (found : Found) → PairFrom (place + 1) bs all found → PairFrom place (b ∷ bs) all found
   behind found p = let here = p.here in record {
     offset = suc p.offset;
@@ -128,6 +133,7 @@ module _ (place : ℕ) (b : Based) (bs : List Based) (all : List Change) where
     clashing = p.clashing;
   }
 
+  -- the first clash of the first observation makes a pair at the first place
   in-front : (n : ℕ) → IsFirst b all n → PairFrom place (b ∷ bs) all (record { place = place; number = n })
   in-front n f = record {
     offset = zero;
@@ -160,9 +166,11 @@ module _ (place : ℕ) (b : Based) (bs : List Based) (all : List Change) where
       by true e = inl (let l : n < other.number = grind (arith, nat_tests) in l)
       by false e = let l : other.number ≤ n = grind (arith, nat_tests) in let number = same.0 in inr (omega arith, far)
 
+  -- a pair of the others isn't at an earlier place
   far-behind : (other : Found) → PairFrom (place + 1) bs all other → place ≤ other.place
   far-behind other p = let here = p.here in omega arith
 
+  -- by which of the two there are and which has the lesser number; where they are equal the earlier place counts
   least-of-both : (o : Option ℕ) (rest : Option Found) → MatchOption o (NoneClashes b all) (IsFirst b all)
       → MatchOption rest (NoneFrom (place + 1) bs all) (LeastFrom (place + 1) bs all)
       → MatchOption (lesser (found_at place o) rest) (NoneFrom place (b ∷ bs) all) (LeastFrom place (b ∷ bs) all)
@@ -192,6 +200,7 @@ module _ (place : ℕ) (b : Based) (bs : List Based) (all : List Change) where
                 (λ q. up-to-behind n found l other (far-behind other q) (rest.below other q));
           }
 
+-- observation by observation, the lesser of its first clash and the least pair of the others
 least-from : (place : ℕ) (bs : List Based) (all : List Change) → Rises 0 all
     → MatchOption (least_from place bs all) (NoneFrom place bs all) (LeastFrom place bs all)
 least-from place [] all rises = λ found p. absurd (let no = p.placed in cc)
@@ -200,6 +209,7 @@ least-from place (b ∷ bs) all rises =
 
 -- ---- the least pair
 
+-- a pair is one of the observations from place 0 on
 pair-from : (bs : List Based) (all : List Change) (found : Found) → IsPair bs all found → PairFrom 0 bs all found
 pair-from bs all found p = record {
   offset = found.place;
@@ -213,6 +223,7 @@ pair-from bs all found p = record {
   clashing = p.clashing;
 }
 
+-- and the other way round
 from-pair : (bs : List Based) (all : List Change) (found : Found) → PairFrom 0 bs all found → IsPair bs all found
 from-pair bs all found p = record {
   observation = p.observation;
@@ -224,6 +235,7 @@ from-pair bs all found p = record {
   clashing = p.clashing;
 }
 
+-- a find, by its place and its number
 abbrev found_of : ℕ → ℕ → Found
 found_of place number = record { place = place; number = number }
 
@@ -252,6 +264,7 @@ least-is-found bs journal found orderly is =
         ap (λ (x : Found). Some x)
         (up-to-both f found (l.below found (pair-from bs (changes journal) found is.pair)) (is.least f (from-pair bs (changes journal) f l.pair)))
 
+-- the least pair is the journal's first, which has a witness that names both
 pub witness_is_named : WitnessIsNamed
 witness_is_named bs journal found orderly each is =
     let least = least-is-found bs journal found orderly is in

@@ -11,9 +11,11 @@ abbrev pub lesser_of : Option ℕ → Option ℕ → Option ℕ
 lesser_of None rest = rest
 lesser_of (Some found) rest = Some (lesser found rest)
 
+-- the least of three is the same whichever two are compared first
 least-of-three : (a b c : ℕ) → min (min b a) c ≡ min a (min b c)
 least-of-three a b c = grind arith
 
+-- a shard is counted with one found before it as with those behind it
 more : (shard : ℕ) (found rest : Option ℕ) → lesser_of (Some (lesser shard found)) rest ≡ lesser_of found (Some (lesser shard rest))
 more shard None rest = refl
 more shard (Some a) None = ap (λ x. Some x) (grind arith)

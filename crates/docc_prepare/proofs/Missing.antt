@@ -22,6 +22,7 @@ both-none : {A : Type 0} (xs ys : List A) → xs ++ ys ≡ [] → (xs ≡ []) ×
 both-none [] ys e = (refl, e)
 both-none (x ∷ xs) ys e = absurd (cc)
 
+-- a commit without a hit misses each observation
 misses-of-hits : (place : ℕ) (bs : List Based) (commit : Commit) → hits_from place bs commit ≡ [] → AllByRecursion (λ b. Misses b commit) bs
 misses-of-hits place [] commit e = tt
 misses-of-hits place (b ∷ bs) commit e = by (misses-of-hits (place + 1) bs commit) (hit b commit) refl e
@@ -47,6 +48,7 @@ none-of-least (x ∷ xs) e = absurd (cc)
 
 -- observations that are hit alike make the same pairs
 module _ (f : Based → Based) where
+  -- by each observation: it is hit at the same places
   hits-alike : (place : ℕ) (bs : List Based) (commit : Commit) → AllByRecursion (λ b. hit (f b) commit ≡ hit b commit) bs
       → hits_from place (map f bs) commit ≡ hits_from place bs commit
   hits-alike place [] commit all = refl
@@ -55,6 +57,7 @@ module _ (f : Based → Based) where
       (hits_from (place + 1) (map f bs) commit)) all.0
       ∙ ap (λ found. cond (hit b commit) (record { place = place; number = commit.number } ∷ found) found) (hits-alike (place + 1) bs commit all.1)
 
+  -- so each commit has the same hits, and the journal the same pairs
   pub pairs-alike : (bs : List Based) (journal : Journal) → AllByRecursion (λ commit. AllByRecursion (λ b. hit (f b) commit ≡ hit b commit) bs) journal
       → pairs (map f bs) journal ≡ pairs bs journal
   pairs-alike bs [] all = refl

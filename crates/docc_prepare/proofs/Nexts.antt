@@ -7,6 +7,7 @@ use Rattle.docc_prepare.specs.declared.attempt.Attempt.{Attempt}
 use Rattle.docc_prepare.specs.declared.attempt.Next.TheVariants as next
 use Rattle.docc_prepare.specs.Attempts.{ran, least_unprepared, next_of, next_of_run, next_event}
 
+-- a read comes next only where the run needs its address
 pub needs : (attempt : Attempt) (address : Address) → next_event attempt ≡ next.Read address → ran attempt ≡ need address
 needs attempt address e = by (ran attempt) refl e
   where
@@ -18,6 +19,7 @@ needs attempt address e = by (ran attempt) refl e
     by (need a) is e = let same : a ≡ address = cc in is ∙ ap (λ b. need b) same
     by (done run) is e = is ∙ last run (least_unprepared attempt.shards attempt.fronts run.observations) e
 
+-- an append comes next only where its run is done
 pub appends : (attempt : Attempt) (run : Run) → next_event attempt ≡ next.Append run → ran attempt ≡ done run
 appends attempt run e = by (ran attempt) refl e
   where
@@ -34,6 +36,7 @@ pub record IsPreparing (a : Attempt) (shard : ℕ) (run : Run) : Type 0 where
   pub ran : ran a ≡ done run
   pub least : least_unprepared a.shards a.fronts run.observations ≡ Some shard
 
+-- a preparing comes next only where its run is done, and its shard is the least one without a front
 pub prepares : (a : Attempt) (shard : ℕ) (run : Run) → next_event a ≡ next.Prepare shard run → IsPreparing a shard run
 prepares a shard run e = by (ran a) refl e
   where

@@ -17,6 +17,7 @@ use Rattle.journal_core.proofs.OfRuns.{kind-at}
 
 -- ---- values that a journal leaves
 
+-- what a delta leaves is of the delta's kind, whatever stood there before
 kind-apply : (d : Delta) (v : Value) → kind_of (apply d v) ≡ kind_changed d
 kind-apply (delta.PutBool b) v = refl
 kind-apply (delta.PutCounter n) v = refl
@@ -26,6 +27,7 @@ kind-apply (delta.Set d) v = refl
 kind-apply (delta.Hash d) v = refl
 kind-apply (delta.List d) v = refl
 
+-- by whether a commit changes the address: its delta there is of the kind of the address
 kind-changed : (ds : Deltas) (a : Address) (v : Value) → AreOfTheirKinds ds → kind_of v ≡ a.kind → kind_of (after ds a v) ≡ a.kind
 kind-changed ds a v all is = by (delta_at ds a) refl
   where
@@ -33,6 +35,7 @@ kind-changed ds a v all is = by (delta_at ds a) refl
     by None e = is
     by (Some d) e = kind-apply d v ∙ kind-at ds a d all e
 
+-- the default of a kind is of that kind
 kind-default : (k : Kind) → kind_of (default_of k) ≡ k
 kind-default kind.Bool = refl
 kind-default kind.Counter = refl
@@ -41,6 +44,7 @@ kind-default kind.Set = refl
 kind-default kind.Hash = refl
 kind-default kind.List = refl
 
+-- so commit after commit leaves a value of the kind of the address
 kind-folded : (journal : Journal) (a : Address) (v : Value) → AllByRecursion (λ commit. AreOfTheirKinds commit.deltas) journal → kind_of v ≡ a.kind
     → kind_of (fold (λ value (commit : Commit). after commit.deltas a value) v journal) ≡ a.kind
 kind-folded [] a v all is = is

@@ -47,6 +47,7 @@ use Rattle.docc_prepare.proofs.Stored.{followed-grows, first_store_is_sound}
 
 -- ---- held attempts
 
+-- a client's open attempt is held, if it has one
 abbrev HeldMaybe : Store → Option Attempt → Type 0
 HeldMaybe s o = IfSome o (IsHeld s)
 
@@ -64,20 +65,24 @@ held-grown s t attempt grown held = record {
   text = held.text;
 }
 
+-- and so does one that may be open
 maybe-grown : (s t : Store) (o : Option Attempt) → Grown s t → HeldMaybe s o → HeldMaybe t o
 maybe-grown s t None grown held = held
 maybe-grown s t (Some attempt) grown held = held-grown s t attempt grown held
 
+-- what a client has seen matters to no attempt
 held-saw : (s : Store) (c n : ℕ) (o : Option Attempt) → HeldMaybe s o → HeldMaybe (saw s c n) o
 held-saw s c n o held = maybe-grown s (saw s c n) o (saw-grown s c n) held
 
 -- ---- a read
 
+-- where no front stands, all that stand fit
 no-fronts : (journal : Journal) (shards : ℕ) (snaps : SnapList) (fronts : List PreparedFront) (r : Ran) → fronts ≡ [] → FrontsFit journal shards snaps fronts r
 no-fronts journal shards snaps fronts (need a) e = e
 no-fronts journal shards snaps fronts (done run) e =
     subst (AllByRecursion (λ prepared. FrontFits journal (in_shard shards prepared.shard (based snaps run.observations)) prepared)) (sym e) tt
 
+-- a run that needs a value has no fronts yet, and the new snap is what the journal leaves at a front that is reached
 held-read : (s : Store) (attempt : Attempt) (a : Address) (f : ℕ) → IsHeld s attempt → next_event attempt ≡ next.Read a → f ≤ length s.journal
     → f ≤ front_of s (shard_of a attempt.shards) → IsHeld s (with_snap attempt a (record { base = f; value = state s.journal f a }))
 held-read s attempt a f held is within reached =
@@ -95,6 +100,7 @@ held-read s attempt a f held is within reached =
 -- ---- a preparing
 
 module _ (s : Store) (shards : ℕ) where
+  -- by whether the first snap is that of the address; without a snap the base is 0
   base-reached : (snaps : SnapList) (a : Address) → AllByRecursion (Reached s shards) snaps → base_at snaps a ≤ front_of s (shard_of a shards)
   base-reached [] a all = omega arith
   base-reached (pair ∷ snaps) a all = by (base-reached snaps a all.1) (is_eq (address_cmp a pair.0)) refl
@@ -105,6 +111,7 @@ module _ (s : Store) (shards : ℕ) where
           subst (λ b. pair.1.base ≤ front_of s (shard_of b shards)) (sym (address_cmp-equal a pair.0 (equal (address_cmp a pair.0) e))) all.0
       by rest false e = rest
 
+  -- so the base of each observation in a shard is at most its front
   bases-reached : (snaps : SnapList) (shard : ℕ) (seen : List Seen) → AllByRecursion (Reached s shards) snaps
       → AllByRecursion (λ b. b.base ≤ front_of s shard) (in_shard shards shard (based snaps seen))
   bases-reached snaps shard [] all = tt
@@ -118,6 +125,7 @@ module _ (s : Store) (shards : ℕ) where
           (subst (λ (k : ℕ). base_at snaps z.address ≤ front_of s k) same (base-reached snaps z.address all), rest)
       by rest false e = rest
 
+-- the new front is within the journal, no base in its shard is above it, and up to it nothing clashes
 held-prepared : (s : Store) (attempt : Attempt) (shard : ℕ) (run : Run) → IsHeld s attempt → ran attempt ≡ done run → front_of s shard ≤ length s.journal
     → pairs (in_shard attempt.shards shard (based attempt.snaps run.observations)) (take (front_of s shard) s.journal) ≡ []
     → IsHeld s (with_front attempt shard (front_of s shard))
@@ -147,9 +155,11 @@ called-sound w c call s soundly mine = record {
 }
 
 module _ (w : World) (c : ℕ) (s : IsSound w) where
+  -- the world's store
   abbrev store : Store
   store = w.store
 
+  -- in a sound world each open attempt is held
   held-there : (attempt : Attempt) → attempt_of w c ≡ Some attempt → IsHeld store attempt
   held-there attempt e = subst (HeldMaybe store) e (s.held c)
 
@@ -157,6 +167,7 @@ module _ (w : World) (c : ℕ) (s : IsSound w) where
   held-on : (call : Call) → HeldMaybe (stores.step store c call).0 (attempt_of w c)
   held-on call = maybe-grown store (stores.step store c call).0 (attempt_of w c) (step-grows store c call) (s.held c)
 
+  -- a read moves its shard's front to the base of what it gives, so that base is reached
   read-held : (attempt : Attempt) (a : Address) (f : ℕ) → attempt_of w c ≡ Some attempt → next_event attempt ≡ next.Read a
       → f ≡ max (front_of store (shard_of a store.shards)) (seen_by store c)
       → IsHeld (stores.step store c (Call.read a)).0 (with_snap attempt a (record { base = f; value = state store.journal f a }))
@@ -171,6 +182,7 @@ module _ (w : World) (c : ℕ) (s : IsSound w) where
       (held-grown store (stores.step store c (Call.read a)).0 attempt (step-grows store c (Call.read a)) held) is (omega arith)
       (subst (λ (n : ℕ). f ≤ front_of (stores.step store c (Call.read a)).0 (shard_of a n)) (sym held.same_shards) (omega arith))
 
+  -- by the answer: late or a clash leaves the attempt as it is, and a front is given only where no pair is up to it
   prepare-held : (attempt : Attempt) (shard : ℕ) (run : Run) → attempt_of w c ≡ Some attempt → ran attempt ≡ done run
       → (bs : List Based) → bs ≡ in_shard attempt.shards shard (based attempt.snaps run.observations) → (late : Option ℕ) (o : Option Witness)
       → least_witness bs (take (front_of store shard) store.journal) ≡ o
@@ -188,6 +200,7 @@ module _ (w : World) (c : ℕ) (s : IsSound w) where
       (ap (λ (all : List Based). pairs all (take (front_of store shard) store.journal)) (sym same)
       ∙ none-of-least (pairs bs (take (front_of store shard) store.journal)) none)
 
+  -- an attempt that is held fits the journal, so what it hands on may be committed
   appends-soundly : (attempt : Attempt) (run : Run) → attempt_of w c ≡ Some attempt → ran attempt ≡ done run
       → StepsSoundly store c (Call.append (ready_of attempt run c (length (own c store.journal) + 1)))
   appends-soundly attempt run there is =
@@ -195,6 +208,7 @@ module _ (w : World) (c : ℕ) (s : IsSound w) where
       commits-legally store s.stored c (ready_of attempt run c (length (own c store.journal) + 1)) attempt
       (record { fits = held.fits; runs = is; made = refl; text = held.text; all_shards = held.same_shards; next = refl })
 
+-- by the event: its call leaves a sound store, and each attempt is held, the client's with what it took
 pub events_stay_sound : EventsStaySound
 events_stay_sound w c Event.refresh s here = called-sound w c Call.refresh s tt (held-on w c s Call.refresh)
 events_stay_sound w c (Event.read a) s here =
@@ -236,6 +250,7 @@ events_stay_sound w c (Event.follow shard) s here = record {
 
 -- ---- moves, and the first world
 
+-- an attempt that has just been opened has read and prepared nothing that could fail to fit
 none-held : (w : World) (attempt : Attempt) → IsOpened w attempt → IsHeld w.store attempt
 none-held w attempt opened = record {
   fits = record {
@@ -247,15 +262,18 @@ none-held w attempt opened = record {
   text = opened.text;
 }
 
+-- a move changes only its client's attempt
 holding-sound : (w : World) (c : ℕ) (o : Option Attempt) → IsSound w → HeldMaybe w.store o → IsSound (holding w c o)
 holding-sound w c o s h = record { stored = s.stored; held = λ d. kept (HeldMaybe w.store) w.attempts c o None d h (s.held d) }
 
+-- an opened attempt is held, and where none is open none need be
 pub moves_stay_sound : MovesStaySound
 moves_stay_sound = record {
   opening = λ w c attempt s opened. holding-sound w c (Some attempt) s (none-held w attempt opened);
   closing = λ w c s. holding-sound w c None s tt;
 }
 
+-- the first store is sound, and no attempt is open
 pub first_is_sound : FirstIsSound
 first_is_sound shards window limit some = record {
   stored = first_store_is_sound shards window limit some;
@@ -264,15 +282,18 @@ first_is_sound shards window limit some = record {
 
 -- ---- lists of turns
 
+-- a turn is an event or a move, and both leave a sound world
 turn-sound : (w : World) (turn : Turn) → IsSound w → IsTurn w turn → IsSound (turned w turn)
 turn-sound w (Turn.event c e) s here = events_stay_sound w c e s here
 turn-sound w (Turn.opens c attempt) s here = moves_stay_sound.opening w c attempt s here.1
 turn-sound w (Turn.closes c) s here = moves_stay_sound.closing w c s
 
+-- so do turns, one after another
 turns-sound : (w : World) (turns : List Turn) → IsSound w → AreTurns w turns → IsSound (after_turns w turns)
 turns-sound w [] s here = s
 turns-sound w (turn ∷ rest) s here = turns-sound (turned w turn) rest (turn-sound w turn s here.0) here.1
 
+-- the first world is sound, and each turn leaves it so
 pub every_world_is_sound : EveryWorldIsSound
 every_world_is_sound shards window limit turns some here =
     turns-sound (first_world shards window limit) turns (first_is_sound shards window limit some) here

@@ -51,6 +51,7 @@ rises (x ∷ xs) zero v (suc j) h = omega arith
 rises (x ∷ xs) (suc i) v zero h = omega arith
 rises (x ∷ xs) (suc i) v (suc j) h = rises xs i v j h
 
+-- what holds of an item holds at each place of a list of copies, and past its end
 pub all_alike : {A : Type 0} (P : A → Type 0) (n j : ℕ) (x : A) → P x → P (get_or (replicate n x) j x)
 all_alike P zero j x h = h
 all_alike P (suc n) zero x h = h
@@ -58,6 +59,7 @@ all_alike P (suc n) (suc j) x h = all_alike P n j x h
 
 -- ---- one change of the store
 
+-- only what a client has seen changes, and it is within the journal
 pub saw-sound : (s : Store) (c n : ℕ) → IsSound s → n ≤ length s.journal → IsSound (saw s c n)
 saw-sound s c n sound h = record {
   legal = sound.legal;
@@ -70,6 +72,7 @@ saw-sound s c n sound h = record {
   taken = sound.taken;
 }
 
+-- only a shard's front changes, and it is within the journal
 pub moved-sound : (s : Store) (k f : ℕ) → IsSound s → f ≤ length s.journal → IsSound (moved s k f)
 moved-sound s k f sound h = record {
   legal = sound.legal;
@@ -82,6 +85,7 @@ moved-sound s k f sound h = record {
   taken = sound.taken;
 }
 
+-- there was room for the commit, the journal with it is legal, and what was within the journal still is
 committed-sound : (s : Store) (ready : Ready) → IsSound s → length s.journal < s.limit → IsLegal 0 (committed s ready).journal → IsSound (committed s ready)
 committed-sound s ready sound room legal =
     let l = length-append s.journal (made_of s.journal ready ∷ []) in record {
@@ -95,6 +99,7 @@ committed-sound s ready sound room legal =
       taken = λ d. let u = sound.taken d in omega arith;
     }
 
+-- what a client is told of may be anything
 telling-sound : (s : Store) (c : ℕ) (address : Address) (told : Bool) → IsSound s → IsSound (telling s c address told)
 telling-sound s c address told sound = record {
   legal = sound.legal;
@@ -107,6 +112,7 @@ telling-sound s c address told sound = record {
   taken = sound.taken;
 }
 
+-- only up to where a client has taken changes, and it is within the journal
 took-sound : (s : Store) (c n : ℕ) → IsSound s → n ≤ length s.journal → IsSound (took s c n)
 took-sound s c n sound h = record {
   legal = sound.legal;
@@ -127,6 +133,7 @@ took-sound s c n sound h = record {
 abbrev pub with_fronts : Store → List ℕ → Store
 with_fronts s fronts = record s { fronts = fronts }
 
+-- only fronts have risen, within the journal
 pub stalled-sound : (s t : Store) → IsSound s → HasStalled s t → IsSound t
 stalled-sound s t sound stalled = subst IsSound (sym stalled.same) now
   where
@@ -154,15 +161,19 @@ pub record IsOf (s : Store) (client : ℕ) (ready : Ready) (attempt : Attempt) :
   pub next : ready.seq ≡ length (own client s.journal) + 1
 
 module _ (s : Store) (sound : IsSound s) (client : ℕ) (ready : Ready) (attempt : Attempt) (of : IsOf s client ready attempt) where
+  -- the attempt's observations, with their bases
   abbrev observed : List Based
   observed = based attempt.snaps ready.run.observations
 
+  -- the store's journal is legal, and so orderly
   orderly : IsOrderly s.journal
   orderly = legal_is_orderly s.journal sound.legal
 
+  -- what is handed on has these observations
   based-is : ready.based ≡ observed
   based-is = ap (λ (r : Ready). r.based) of.made
 
+  -- each is of its address' kind, since the attempt fits the journal
   pub one-kinds : AllByRecursion IsBasedOfOneKind ready.based
   one-kinds = subst (AllByRecursion IsBasedOfOneKind) (sym based-is) (observed_of_one_kind s.journal attempt ready.run orderly of.fits of.runs)
 
@@ -184,6 +195,7 @@ module _ (s : Store) (sound : IsSound s) (client : ℕ) (ready : Ready) (attempt
           let w = witness-there ready.based s.journal found orderly one-kinds e in
           absurd (let no : None ≡ Some w.0 = sym none ∙ (ap (option_and_then (witness_of ready.based s.journal)) (found-is ∙ e) ∙ w.1) in cc)
 
+  -- the commit that is made of what is handed on is that of the attempt's run
   made-is : made_of s.journal ready ≡ commit_of s.journal client attempt.body.source ready.run
   made-is = ap (made_of s.journal) of.made ∙ ap (λ (n : ℕ). made_of s.journal (ready_of attempt ready.run client n)) of.next
 
@@ -205,6 +217,7 @@ StepsSoundly s c (Call.read_at address number) = number ≤ seen_by s c
 StepsSoundly s c call = Unit {0}
 
 module _ (s : Store) (c : ℕ) (sound : IsSound s) where
+  -- by the decision: a refusal changes only what was seen, and a commit is legal and has room
   decided-sound : (ready : Ready) (o : Option Witness) (full : Bool) → nat_le s.limit (length s.journal) ≡ full
       → (o ≡ None → IsLegal 0 (committed s ready).journal)
       → IsSound (decided s c ready o full).0
@@ -215,6 +228,7 @@ module _ (s : Store) (c : ℕ) (sound : IsSound s) where
       let l = length-append s.journal (made_of s.journal ready ∷ []) in
       saw-sound (committed s ready) c (length s.journal + 1) (committed-sound s ready sound room (legal refl)) (omega arith)
 
+  -- by the call: each changes the store in the ways shown above
   pub step-sound : (call : Call) → StepsSoundly s c call → IsSound (step s c call).0
   step-sound Call.refresh h = saw-sound s c (length s.journal) sound (omega arith)
   step-sound (Call.read address) h =
@@ -238,6 +252,7 @@ module _ (s : Store) (c : ℕ) (sound : IsSound s) where
   step-sound Call.take h = took-sound (saw s c (length s.journal)) c (length s.journal) (saw-sound s c (length s.journal) sound (omega arith)) (omega arith)
   step-sound Call.wait h = sound
 
+  -- the front and what the client has seen go to the journal's end, and so are within it
   pub followed-sound : (shard : ℕ) → IsSound (followed s c shard)
   followed-sound shard =
       let n = sound.seen c in
@@ -296,15 +311,18 @@ module _ (s : Store) where
     followed-grows shard sound =
         moved-grown shard (length s.journal) (set s.seens c (max (seen_by s c) (length s.journal))) (sound.reached shard)
 
+  -- where only fronts have risen the store has gone on
   pub stalled-grows : (fronts : List ℕ) → ((shard : ℕ) → front_of s shard ≤ get_or fronts shard 0) → Grown s (with_fronts s fronts)
   stalled-grows fronts risen = risen-grown fronts s.seens s.subscribed s.taken risen
 
 -- ---- what clients know of it
 
+-- what a front has reached is reached by each higher one
 still-reached : (a b n : ℕ) → a ≤ b → nat_le n a ≡ true → nat_le n b ≡ true
 still-reached a b n h e = grind (arith, nat_tests)
 
 module _ (s t : Store) (d : ℕ) (grown : Grown s t) where
+  -- the settings stay, so it is the same client of the same store
   pub same-client : IsSameClient (known_by s d) (known_by t d)
   same-client = record { client = refl; trusted = refl; shards = grown.shards; window = grown.window; limit = grown.limit }
 
@@ -323,6 +341,7 @@ pub does-one : (s t : Store) (c : ℕ) (call : Call) (a : Answer) → Does s c c
 does-one s t c call (Answer.failed by_fault) does = inl (ap (λ (b : Bool). Answer.failed b) does.0, does.1)
 does-one s t c call a does = inr does
 
+-- its journal has no commits, and all that was reached, seen or taken is 0
 pub first_store_is_sound : FirstStoreIsSound
 first_store_is_sound shards window limit some = record {
   legal = tt;

@@ -51,14 +51,17 @@ use Rattle.docc_prepare.proofs.Missing.{Misses, misses-of-pairs}
 
 -- ---- one delta
 
+-- answers that are the same have the same item
 item-same : (a b : Option Bytes) → answer.Maybe a ≡ answer.Maybe b → a ≡ b
 item-same a b e = cc
 
+-- a place where an item stands is within the list
 within-of-item : (xs : List Bytes) (i : ℕ) (x : Bytes) → slice_get xs i ≡ Some x → i < length xs
 within-of-item [] i x e = absurd (cc)
 within-of-item (y ∷ ys) zero x e = omega arith
 within-of-item (y ∷ ys) (suc i) x e = let h = within-of-item ys i x e in omega arith
 
+-- at each place within the list an item stands
 item-within : (xs : List Bytes) (i : ℕ) → i < length xs → (x : Bytes) × (slice_get xs i ≡ Some x)
 item-within [] i h = absurd (omega arith)
 item-within (x ∷ xs) zero h = (x, refl)
@@ -84,11 +87,13 @@ still-within obs.ListAll v w h e = tt
 abbrev changes_at : ℕ → Deltas → List Change
 changes_at n ds = map (λ pair. record { number = n; address = pair.0; delta = pair.1 }) ds
 
+-- of three that don't all hold the last fails where the first two hold
 past_test : (b c d : Bool) → b ≡ true → c ≡ true → ((b && c) && d) ≡ false → d ≡ false
 past_test true true d p q e = e
 past_test true false d p q e = absurd (cc)
 past_test false c d p q e = absurd (cc)
 
+-- of two of which neither holds each fails
 neither : (x y : Bool) → (x || y) ≡ false → (x ≡ false) × (y ≡ false)
 neither true y e = absurd (cc)
 neither false y e = (refl, e)
@@ -122,6 +127,7 @@ missed b commit v kind kinds past misses within = by (delta_at commit.deltas b.a
 -- ---- a journal
 
 module _ (b : Based) (kind : kind_observed b.obs ≡ b.address.kind) where
+  -- a value at the observation's address, through some commits
   abbrev carried : Value → Journal → Value
   carried v journal = fold (λ value (commit : Commit). after commit.deltas b.address value) v journal
 
@@ -136,6 +142,7 @@ module _ (b : Based) (kind : kind_observed b.obs ≡ b.address.kind) where
       past-base journal (n + 1) (after commit.deltas b.address v) (omega arith) numbers.1 kinds.1 misses.1
       (still-within b.obs v (after commit.deltas b.address v) within step) ∙ step
 
+  -- up to the base the commits count on both sides, and past it none changes what was observed
   from-base : (journal : Journal) (n k : ℕ) (v : Value) → n + k ≡ b.base → AreNumberedFrom n journal
       → AllByRecursion (λ commit. AreOfTheirKinds commit.deltas) journal
       → AllByRecursion (Misses b) journal → IsWithin b.obs (carried v (take k journal))
@@ -169,6 +176,7 @@ snap-at journal (pair ∷ snaps) a snap all e = by (snap-at journal snaps a snap
         subst (λ b. snap.value ≡ state journal snap.base b) (sym here) (subst (λ (s : Snap). s.value ≡ state journal s.base pair.0) same all.0.value)
     by rest false is e = rest e
 
+-- two that are there and the same are one
 some-same : {A : Type 0} (x y : A) → Some x ≡ Some y → x ≡ y
 some-same x y e = cc
 
@@ -186,6 +194,7 @@ observed-kind journal snaps z orderly fit there = record { observed = by (lookup
         there.kind (ap kind_of (sym same ∙ value_is)
         ∙ kind-left (take snap.base journal) z.address (each-take (λ (commit : Commit). AreOfTheirKinds commit.deltas) snap.base journal orderly.kinds))
 
+-- so is each of its observations
 observed-kinds : (journal : Journal) (snaps : SnapList) (seen : List Seen) → IsOrderly journal → AllByRecursion (SnapFits journal) snaps
     → AllByRecursion (IsThere (values_of snaps)) seen → AllByRecursion IsBasedOfOneKind (based snaps seen)
 observed-kinds journal snaps [] orderly fit there = tt
@@ -225,6 +234,7 @@ agrees journal snaps z orderly fit there misses = record {
               (there.kind (ap kind_of same ∙ kind_read)) journal orderly misses within),
         )
 
+-- so does each observation of the run
 agree : (journal : Journal) (snaps : SnapList) (seen : List Seen) → IsOrderly journal → AllByRecursion (SnapFits journal) snaps
     → AllByRecursion (IsThere (values_of snaps)) seen
     → AllByRecursion (λ b. AllByRecursion (Misses b) journal) (based snaps seen) → Agree (values_of snaps) (known (left_by journal)) seen
@@ -234,6 +244,7 @@ agree journal snaps (z ∷ seen) orderly fit there misses = (
   agree journal snaps seen orderly fit there.1 misses.1,
 )
 
+-- a run is determined by what it observed, and the journal leaves all of that as it was read
 pub runs_as_it_ran : RunsAsItRan
 runs_as_it_ran journal attempt run orderly undisturbed =
     let there = observed_is_there attempt.body.body (values_of attempt.snaps) run undisturbed.runs in
@@ -242,6 +253,7 @@ runs_as_it_ran journal attempt run orderly undisturbed =
     runs_are_determined attempt.body.body (values_of attempt.snaps) (known (left_by journal)) run undisturbed.runs
     (agree journal attempt.snaps run.observations orderly undisturbed.fits.snaps there misses)
 
+-- the run is the same on what the journal leaves, so its commit is what its body does there
 pub appending_stays_legal : AppendingStaysLegal
 appending_stays_legal m client journal attempt run read orderly legal undisturbed =
     legal-push m journal (commit_of journal client attempt.body.source run) legal (record {

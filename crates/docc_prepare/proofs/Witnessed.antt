@@ -56,26 +56,32 @@ abbrev OfKind : Kind → Option WriteOp → Type 0
 OfKind k None = Unit {0}
 OfKind k (Some o) = kind_written o ≡ k
 
+-- the first that is there is of the kind, if both are that may be
 of-either : (k : Kind) (a b : Option WriteOp) → OfKind k a → OfKind k b → OfKind k (option_or a b)
 of-either k None b first second = second
 of-either k (Some o) b first second = first
 
+-- an operation that stands for a clear is of its kind where something was cleared
 of-cleared : (k : Kind) (cleared : Bool) (o : WriteOp) → kind_written o ≡ k → OfKind k (then_some cleared o)
 of-cleared k true o is = is
 of-cleared k false o is = tt
 
+-- an operation that is made of an item is of the kind that each such operation has
 of-mapped : {A : Type 0} (k : Kind) (f : A → WriteOp) (o : Option A) → ((x : A) → kind_written (f x) ≡ k) → OfKind k (option_map f o)
 of-mapped k f None is = tt
 of-mapped k f (Some x) is = is x
 
+-- the part of a mark in a set is one of sets, whether the element is there or not
 set-kind : (x : Bytes) (there : Bool) → kind_written (set_part x there) ≡ kinds.Set
 set-kind x true = refl
 set-kind x false = refl
 
+-- the part of a mark in a hash is one of hashes, whether it puts or removes
 hash-kind : (f : Bytes) (m : Mark) → kind_written (hash_part f m) ≡ kinds.Hash
 hash-kind f (mark.Put text) = refl
 hash-kind f mark.Removed = refl
 
+-- the whole delta of a bool, counter or text is an operation of that kind; the others have no such part
 of-whole : (d : Delta) → OfKind (kind_changed d) (whole_part d)
 of-whole (delta.PutBool b) = refl
 of-whole (delta.PutCounter n) = refl
@@ -83,30 +89,36 @@ of-whole (delta.AddCounter n) = refl
 of-whole (delta.PutText text) = refl
 of-whole d = tt
 
+-- the clear of a set, hash or list is an operation of that kind
 of-clear : (d : Delta) → OfKind (kind_changed d) (clear_part d)
 of-clear (delta.Set d) = of-cleared kinds.Set d.cleared op.SetClear refl
 of-clear (delta.Hash d) = of-cleared kinds.Hash d.cleared op.HashClear refl
 of-clear (delta.List d) = of-cleared kinds.List d.cleared op.ListClear refl
 of-clear d = tt
 
+-- the mark at an element or field is an operation on a set or hash, as the delta is
 of-mark : (x : Bytes) (d : Delta) → OfKind (kind_changed d) (mark_part x d)
 of-mark x (delta.Set d) = of-mapped kinds.Set (set_part x) (map.get d.marks x) (set-kind x)
 of-mark x (delta.Hash d) = of-mapped kinds.Hash (hash_part x) (map.get d.marks x) (hash-kind x)
 of-mark x d = tt
 
+-- so is the first mark of all
 of-first : (d : Delta) → OfKind (kind_changed d) (first_mark d)
 of-first (delta.Set d) = of-mapped kinds.Set (λ e. set_part e.0 e.1) (slice_get (map.entries d.marks) 0) (λ e. set-kind e.0 e.1)
 of-first (delta.Hash d) = of-mapped kinds.Hash (λ e. hash_part e.0 e.1) (slice_get (map.entries d.marks) 0) (λ e. hash-kind e.0 e.1)
 of-first d = tt
 
+-- the first removal is an operation on a list, as the delta is
 of-removed : (d : Delta) → OfKind (kind_changed d) (first_removed d)
 of-removed (delta.List d) = of-mapped kinds.List (λ e. op.ListRemove e.0) (slice_get (map.entries d.removed) 0) (λ e. refl)
 of-removed d = tt
 
+-- so is the first push
 of-pushed : (d : Delta) → OfKind (kind_changed d) (first_pushed d)
 of-pushed (delta.List d) = of-mapped kinds.List (λ item. op.ListPush item) (slice_get d.pushed 0) (λ item. refl)
 of-pushed d = tt
 
+-- by the observation: the part that is named for it is one of those above
 of-named : (o : Obs) (d : Delta) → OfKind (kind_changed d) (named o d)
 of-named obs.BoolIs d = of-whole d
 of-named obs.CounterIs d = of-whole d
@@ -134,9 +146,11 @@ clashing-part o d same clashing = by (named o d) refl
 
 -- ---- the witness in the changes of a commit
 
+-- a delta at an address, as a change of the commit of a number
 abbrev change_of : ℕ → Address × Delta → Change
 change_of n pair = record { number = n; address = pair.0; delta = pair.1 }
 
+-- where three hold together each does
 all_true : (b c d : Bool) → ((b && c) && d) ≡ true → (b ≡ true) × (c ≡ true) × (d ≡ true)
 all_true true true true e = (refl, refl, refl)
 all_true true true false e = absurd (cc)
@@ -155,6 +169,7 @@ record Within (b : Based) (all : List Change) : Type 0 where
   one_kind : IsOfOneKind witness
   numbered : (n : ℕ) → AllByRecursion (λ c. c.number ≡ n) all → change.number ≡ n
 
+-- a change that clashes is at the observation's address, so both are of one kind, and a part of it clashes
 witnessed-here : (b : Based) (n : ℕ) (pair : Address × Delta) (ds : Deltas) → kind_observed b.obs ≡ b.address.kind → kind_changed pair.1 ≡ pair.0.kind
     → clashes b (change_of n pair) ≡ true → Within b (change_of n pair ∷ changes_by n ds)
 witnessed-here b n pair ds observed kind clashing =
@@ -174,6 +189,7 @@ witnessed-here b n pair ds observed kind clashing =
       numbered = λ m all. all.0;
     }
 
+-- by whether the first change clashes, else it is one of the others
 witnessed-in : (b : Based) (n : ℕ) (ds : Deltas) → kind_observed b.obs ≡ b.address.kind → AreOfTheirKinds ds
     → list_any (clashes b) (changes_by n ds) ≡ true → Within b (changes_by n ds)
 witnessed-in b n [] observed kinds hits = absurd (cc)
@@ -195,6 +211,7 @@ witnessed-in b n (pair ∷ ds) observed kinds hits =
       numbered = λ m all. r.numbered m all.1;
     }
 
+-- each change of a commit has its number
 numbers-of : (n : ℕ) (ds : Deltas) → AllByRecursion (λ (c : Change). c.number ≡ n) (changes_by n ds)
 numbers-of n [] = tt
 numbers-of n (pair ∷ ds) = (refl, numbers-of n ds)
@@ -210,6 +227,7 @@ record HitAt (place : ℕ) (bs : List Based) (commit : Commit) (found : Found) :
   numbered : found.number ≡ commit.number
   hits : hit observation commit ≡ true
 
+-- by whether the first observation is hit, else it is one of the others
 first-hit : (place : ℕ) (bs : List Based) (commit : Commit) (found : Found) → slice_get (hits_from place bs commit) 0 ≡ Some found
     → HitAt place bs commit found
 first-hit place [] commit found e = absurd (cc)
@@ -249,6 +267,7 @@ record Stands (bs : List Based) (n : ℕ) (journal : Journal) (found : Found) : 
   same : found.number ≡ commit.number
   hits : hit observation commit ≡ true
 
+-- the first pair is the first hit of the first commit that has one
 first-pair : (bs : List Based) (n : ℕ) (journal : Journal) (found : Found) → AreNumberedFrom n journal → slice_get (pairs bs journal) 0 ≡ Some found
     → Stands bs n journal found
 first-pair bs n [] found numbers e = absurd (cc)
@@ -281,6 +300,7 @@ first-pair bs n (commit ∷ journal) found numbers e = by (first-pair bs (n + 1)
           hits = r.hits;
         }
 
+-- the commit of a number stands at the place before it
 commit-there : (journal : Journal) (i n : ℕ) → n ≡ i + 1 → commit_at journal n ≡ slice_get journal i
 commit-there journal i n e = by (n == 0) refl
   where
@@ -347,15 +367,18 @@ pair-of-witness bs journal witness orderly each is = by (least_pair bs journal) 
 
 -- ---- fronts of a journal
 
+-- the pairs of some commits and then others are theirs in turn
 pairs-append : (bs : List Based) (xs ys : Journal) → pairs bs (xs ++ ys) ≡ pairs bs xs ++ pairs bs ys
 pairs-append bs [] ys = refl
 pairs-append bs (x ∷ xs) ys = ap (λ found. hits_from 0 bs x ++ found) (pairs-append bs xs ys)
     ∙ sym (append_assoc (hits_from 0 bs x) (pairs bs xs) (pairs bs ys))
 
+-- what stands first stays first where more comes behind
 first-append : {A : Type 0} (xs ys : List A) (x : A) → slice_get xs 0 ≡ Some x → slice_get (xs ++ ys) 0 ≡ Some x
 first-append [] ys x e = absurd (cc)
 first-append (y ∷ xs) ys x e = e
 
+-- what stands in the front of a list stands in the list at the same place
 front-item : {A : Type 0} (xs : List A) (n i : ℕ) (x : A) → slice_get (take n xs) i ≡ Some x → slice_get xs i ≡ Some x
 front-item [] zero i x e = absurd (cc)
 front-item [] (suc n) i x e = absurd (cc)
@@ -363,6 +386,7 @@ front-item (y ∷ ys) zero i x e = absurd (cc)
 front-item (y ∷ ys) (suc n) zero x e = e
 front-item (y ∷ ys) (suc n) (suc i) x e = front-item ys n i x e
 
+-- so the commit of a number in a journal's front is the journal's
 front-commit : (journal : Journal) (f n : ℕ) (commit : Commit) → commit_at (take f journal) n ≡ Some commit → commit_at journal n ≡ Some commit
 front-commit journal f n commit e = by (n == 0) e
   where
@@ -370,6 +394,7 @@ front-commit journal f n commit e = by (n == 0) e
     by true e = absurd (cc)
     by false e = front-item journal f (n - 1) commit e
 
+-- a number that a commit has is within the journal
 within-journal : (journal : Journal) (n : ℕ) (commit : Commit) → commit_at journal n ≡ Some commit → n ≤ length journal
 within-journal journal n commit e = by (n == 0) e
   where
@@ -385,12 +410,14 @@ witness-within bs journal witness orderly each is =
     let within = within-journal journal p.0.number p.2.commit p.2.there in
     let number = p.2.number in (omega arith, p.2.one_kind)
 
+-- the first commits are numbered as they are in the whole
 numbered-front : (f n : ℕ) (journal : Journal) → AreNumberedFrom n journal → AreNumberedFrom n (take f journal)
 numbered-front zero n [] numbers = tt
 numbered-front zero n (x ∷ journal) numbers = tt
 numbered-front (suc f) n [] numbers = tt
 numbered-front (suc f) n (x ∷ journal) numbers = (numbers.0, numbered-front f (n + 1) journal numbers.1)
 
+-- so the front of an orderly journal is orderly
 pub orderly-front : (f : ℕ) (journal : Journal) → IsOrderly journal → IsOrderly (take f journal)
 orderly-front f journal orderly = record {
   numbered = numbered-front f 0 journal orderly.numbered;
