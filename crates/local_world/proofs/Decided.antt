@@ -21,9 +21,11 @@ use Rattle.local_world.specs.Deciding.{MayDecide, HasJournal, IsDecided}
 use Rattle.local_world.proofs.Naming.{named-by-journal}
 
 module _ (ready : Ready) (old mid : Standing) (same : mid ≡ record old { room = mid.room }) (may : MayDecide ready old) where
+  -- what was made ready beforehand is memory alone, so the commits are the same
   commits-same : mid.commits ≡ old.commits
   commits-same = ap (λ (s : Standing). s.commits) same
 
+  -- and so is the pair past the fronts
   found-same : journals.found_past ready mid ≡ journals.found_past ready old
   found-same = ap (λ (s : Standing). journals.found_past ready s) same
 

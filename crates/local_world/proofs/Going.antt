@@ -87,6 +87,7 @@ does-validated s t client shard front horizon based (Some base) w is = is
 does-validated s t client shard front horizon based None (Some witness) is = is
 does-validated s t client shard front horizon based None None is = is
 
+-- what a preparing leaves is what the step does, and each answer that may come is one that the step gives
 pub does-prepare : (old : Stored) (client shard : ℕ) (based : List Based) (a : Answer)
     → a ≡ (prepare_at (store_of old) client shard based (get_or old.fronts shard 0)).1
     → Does (store_of old) client (Call.prepare shard based) a
@@ -102,6 +103,7 @@ does-chosen : (s t : Store) (client number horizon : ℕ) (address : Address) (b
 does-chosen s t client number horizon address true is = is
 does-chosen s t client number horizon address false is = is
 
+-- a read at a number moves its shard as the step does, and answers as that does at the front it moved to
 pub does-read_at : (old : Stored) (client : ℕ) (address : Address) (number : ℕ) (fronts : List ℕ) (a : Answer)
     → fronts ≡ set old.fronts (shard_of address old.shards) (max (get_or old.fronts (shard_of address old.shards) 0) number)
     → a ≡ back_at old.journal old.window address number (max (get_or old.fronts (shard_of address old.shards) 0) number)
@@ -121,6 +123,7 @@ does-decided s t client ready (Some w) full left is = ap (λ (x : Store). let p 
 does-decided s t client ready None true left is = ap (λ (x : Store). let p : Store × Answer = (x, Answer.full s.limit) in p) left ∙ is
 does-decided s t client ready None false left is = ap (λ (x : Store). let p : Store × Answer = (x, Answer.number (length s.journal + 1)) in p) left ∙ is
 
+-- by the decision: what a client has seen is the length of the journal that is left
 left-by : (s : Store) (client : ℕ) (ready : Ready) (o : Option Witness) (full : Bool) (left : Journal) → left ≡ (decided s client ready o full).0.journal
     → (let t : Store = record s { journal = left; seens = set s.seens client (length left) } in t) ≡ (decided s client ready o full).0
 left-by s client ready (Some w) full left is = ap (λ (j : Journal). let t : Store = record s { journal = j; seens = set s.seens client (length j) } in t) is
@@ -130,6 +133,7 @@ left-by s client ready None false left is =
     ∙ ap (λ (n : ℕ). let t : Store = record s { journal = (decided s client ready None false).0.journal; seens = set s.seens client n } in t)
         (length-append s.journal _)
 
+-- what was decided is the step's answer, and the journal that is left is the step's
 pub does-append : (old : Stored) (client : ℕ) (ready : Ready) (a : Answer) (left : Journal) → IsDecided (store_of old) client ready a left
     → Does (store_of old) client (Call.append ready) a (store_of (record old { journal = left; seens = set old.seens client (length left) }))
 does-append old client ready a left decides =

@@ -89,6 +89,7 @@ set-cases (z ∷ xs) zero (suc j) x y is = inr is
 set-cases (z ∷ xs) (suc i) zero x y is = inr is
 set-cases (z ∷ xs) (suc i) (suc j) x y is = elim (set-cases xs i j x y is) [ inl p ↦ inl (ap suc p.0, p.1) | inr h ↦ inr h ]
 
+-- where one shard was set, its front was
 fronts-set : (shards : List Sharded) (i : ℕ) (new : Sharded) → fronts_of (set shards i new) ≡ set (fronts_of shards) i new.front
 fronts-set [] i new = refl
 fronts-set (s ∷ shards) zero new = refl
@@ -101,6 +102,7 @@ front-at [] (suc i) s is = absurd (cc)
 front-at (z ∷ shards) zero s is = let same : z ≡ s = cc in ap (λ (x : Sharded). x.front) same
 front-at (z ∷ shards) (suc i) s is = front-at shards i s is
 
+-- where each shard's front is up to a number so is the front at each place; past the shards it is 0
 fronts-up_to : (n : ℕ) (shards : List Sharded) → ((i : ℕ) (s : Sharded) → slice_get shards i ≡ Some s → s.front ≤ n) →
     (i : ℕ) → get_or (fronts_of shards) i 0 ≤ n
 fronts-up_to n [] each i = omega arith
@@ -117,6 +119,7 @@ module _ (journal : Journal) (settings : Settings) (shards : List Sharded) (held
   pub shard-there : (s : Sharded) → place < settings.shards → s ≡ get_or shards place s → slice_get shards place ≡ Some s
   shard-there s below is = slice_get_read shards settings.shards place s (sym held.as_many) below is
 
+  -- the shard at each place holds the journal up to its front
   pub held-there : (s : Sharded) → place < settings.shards → s ≡ get_or shards place s → IsHeld journal settings place s
   held-there s below is = held.each place s (shard-there s below is)
 
@@ -170,14 +173,17 @@ state-first journal n front address within = ap (λ (first : Journal). left_by f
 
 -- ---- a read in a shard
 
+-- what follows from a fact at each value follows at the answer
 if_ok : {V E : Type 0} (r : Result V E) (P Q : V → Type 0) → ((v : V) → P v → Q v) → IfOk r P → IfOk r Q
 if_ok (Ok v) P Q f p = f v p
 if_ok (Err e) P Q f p = tt
 
+-- what follows from two facts at each value follows at the answer
 if_both : {V E : Type 0} (r : Result V E) (P Q R : V → Type 0) → ((v : V) → P v → Q v → R v) → IfOk r P → IfOk r Q → IfOk r R
 if_both (Ok v) P Q R f p q = f v p q
 if_both (Err e) P Q R f p q = tt
 
+-- there are as many fronts as shards
 length-fronts : (shards : List Sharded) → length (fronts_of shards) ≡ length shards
 length-fronts [] = refl
 length-fronts (s ∷ shards) = ap suc (length-fronts shards)
@@ -187,15 +193,19 @@ module _ (journal : Journal) (settings : Settings) (before after : List Sharded)
     (held : AreHeld journal settings after)
     (place seen : ℕ) (address : Address) (here : place ≡ shard_of address settings.shards) (below : place < settings.shards)
     (moved : fronts_of after ≡ set (fronts_of before) place (max (get_or (fronts_of before) place 0) seen)) (s : Sharded) (at : s ≡ get_or after place s) where
+  -- the front to which the shard of the address goes, for a read at a number
   abbrev top : ℕ
   top = max (get_or (fronts_of before) (shard_of address settings.shards) 0) seen
 
+  -- the shard that was read is held
   its : IsHeld journal settings place s
   its = held-there journal settings after held place s below at
 
+  -- the address is in that shard, which has the settings' shards and its place as its number
   pub is-in : IsIn s address
   is-in = ap (shard_of address) its.shards ∙ sym here ∙ sym its.number
 
+  -- its front was set to that number, at a place within the shards
   pub reached-top : s.front ≡ top
   reached-top =
       let within : place < length (fronts_of before) = let l = length-fronts before in let m = first.as_many in omega arith in
@@ -204,6 +214,7 @@ module _ (journal : Journal) (settings : Settings) (before after : List Sharded)
       ∙ get_or-set_same (fronts_of before) place (max (get_or (fronts_of before) place 0) seen) 0 within
       ∙ ap (λ (k : ℕ). max (get_or (fronts_of before) k 0) seen) here
 
+  -- the place that was set is that of the address
   pub moved-top : fronts_of after ≡ set (fronts_of before) (shard_of address settings.shards) top
   moved-top = moved ∙ ap (λ (k : ℕ). set (fronts_of before) k (max (get_or (fronts_of before) k 0) seen)) here
 
@@ -235,6 +246,7 @@ module _ (journal : Journal) (settings : Settings) (before after : List Sharded)
       ap (λ v. Answer.value v) (reads.1 ∙ state-first journal seen s.front address (omega arith))
       ∙ sym (ap (λ b. cond b (Answer.late seen (top - settings.window)) (Answer.value (state journal seen address))) no)
 
+  -- a read at a number below the horizon, which is the front less the window
   pub back-late : (asked horizon : ℕ) → ReadsAt (take s.front journal) s address seen (Err (at_error.Late asked horizon))
       → Answer.late asked horizon ≡ back_at journal settings.window address seen top
   back-late asked horizon reads =

@@ -24,6 +24,7 @@ use Rattle.local_world.specs.Standing.{IsHeld, AreHeldTo, AreHeld, IsFollowing, 
 use Rattle.local_world.specs.Making.{IsEntered}
 
 module _ (registry : Registered) (made : IsEntered CLIENTS registry) where
+  -- each client has entered with no address, or hasn't entered
   nobody-told : (c : ℕ) (a : Address) → is_subscribed registry c a ≡ false
   nobody-told c a = ap (λ (o : Option Kept). option_map_or (λ k. is_address k a) o false) (made.kept c) ∙ by (nat_lt c CLIENTS)
     where
@@ -31,6 +32,7 @@ module _ (registry : Registered) (made : IsEntered CLIENTS registry) where
       by true = refl
       by false = refl
 
+  -- each has taken up to 0, where the registry begins
   nothing-taken : (c : ℕ) → taken_by registry c ≡ 0
   nothing-taken c = ap (λ (o : Option Kept). option_map_or (λ (k : Kept). k.taken) o 0) (made.kept c) ∙ by (nat_lt c CLIENTS)
     where
@@ -38,6 +40,7 @@ module _ (registry : Registered) (made : IsEntered CLIENTS registry) where
       by true = refl
       by false = refl
 
+  -- there are no changes to stand for, and every client has entered
   following-first : IsFollowing [] registry
   following-first = record {
     reached = let f = made.front in omega arith;
@@ -85,16 +88,19 @@ module _ (registry : Registered) (made : IsEntered CLIENTS registry) where
 
 -- ---- shards that have followed nothing
 
+-- an item of a list with one more is that one, at the end, or was there before
 push-cases : {A : Type 0} (xs : List A) (y : A) (j : ℕ) (x : A) → slice_get (xs ++ y ∷ []) j ≡ Some x → ((length xs ≡ j) × (y ≡ x)) ⊎ (slice_get xs j ≡ Some x)
 push-cases [] y zero x is = let same : y ≡ x = cc in inl (refl, same)
 push-cases [] y (suc j) x is = absurd (cc)
 push-cases (z ∷ xs) y zero x is = inr is
 push-cases (z ∷ xs) y (suc j) x is = elim (push-cases xs y j x is) [ inl p ↦ inl (ap suc p.0, p.1) | inr h ↦ inr h ]
 
+-- a shard more has its front behind the others
 fronts-push : (shards : List Sharded) (s : Sharded) → fronts_of (shards ++ s ∷ []) ≡ fronts_of shards ++ s.front ∷ []
 fronts-push [] s = refl
 fronts-push (z ∷ shards) s = ap (λ ns. z.front ∷ ns) (fronts-push shards s)
 
+-- a copy more at the end is as good as one more in front
 replicate-push : (n x : ℕ) → replicate n x ++ x ∷ [] ≡ replicate (suc n) x
 replicate-push zero x = refl
 replicate-push (suc n) x = ap (λ ns. x ∷ ns) (replicate-push n x)
@@ -117,6 +123,7 @@ one-made settings n none s first last nothing same holds =
           }));
     }
 
+-- one shard more, made of no changes, holds the journal without commits as the others do, and its front is 0
 pub more-made : (settings : Settings) (n : ℕ) (shards all : List Sharded) (s : Sharded) → AreHeldTo [] settings n shards × (fronts_of shards ≡ replicate n 0)
     → IsHeld [] settings n s → s.front ≡ 0 → all ≡ shards ++ s ∷ [] → AreHeldTo [] settings (n + 1) all × (fronts_of all ≡ replicate (n + 1) 0)
 more-made settings n shards all s before held front is =

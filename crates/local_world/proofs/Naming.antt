@@ -81,6 +81,7 @@ witness-made b n d o w part address obs base number =
     fields : (made : Witness) → (let m : Witness = record { address = b.address; obs = b.obs; base = b.base; part = w.part; number = n } in m) ≡ w
     fields made = λ i. record { address = sym address i; obs = sym obs i; base = sym base i; part = w.part; number = sym number i }
 
+-- by whether the first delta is the one at the address: each is of its own address' kind
 delta-kind : (deltas : Deltas) (a : Address) (d : Delta) → AllByRecursion (λ (pair : Address × Delta). kind_changed pair.1 ≡ pair.0.kind) deltas
     → delta_at deltas a ≡ Some d
     → kind_changed d ≡ a.kind
@@ -96,6 +97,7 @@ delta-kind (e ∷ deltas) a d all there = by (is_at (address_cmp a) e.0) refl th
 
 -- ---- a journal's witness
 
+-- each change of a commit has its number
 number-of : (n : ℕ) (deltas : Deltas) (i : ℕ) (change : Change) → slice_get (changes_by n deltas) i ≡ Some change → change.number ≡ n
 number-of n [] i change is = absurd (cc)
 number-of n (e ∷ deltas) zero change is =
@@ -111,13 +113,16 @@ placed-at journal n commit is = by (n == 0) is
     by true e = absurd (cc)
     by false e = (n - 1, e)
 
+-- two that are there and the same are one
 some-same : {A : Type 0} {x y : A} → Some x ≡ Some y → x ≡ y
 some-same e = cc
 
+-- where two hold together the second does
 second-true : (a b : Bool) → (a && b) ≡ true → b ≡ true
 second-true true b e = e
 second-true false b e = absurd (cc)
 
+-- where two hold together the first does
 both-true : (a b : Bool) → (a && b) ≡ true → a ≡ true
 both-true true b e = refl
 both-true false b e = absurd (cc)
@@ -152,6 +157,7 @@ module _ (based : List Based) (journal : Journal) (found : Found) (orderly : IsO
       ∙ named-first observation commit.number commit.deltas delta past clashing changed
       ∙ witness-made observation commit.number delta (named observation.obs delta) w part address obs base (number ∙ sym commit_number)
 
+  -- the journal's witness names its observation and the delta at its address, so it is the store's
   pub named-by-journal : (w : Witness) → IsWitnessOf based journal found w → witness_of based journal found ≡ Some w
   named-by-journal w is =
       named-as is.observation is.commit is.delta w is.placed is.numbered is.changed is.names.part is.names.address is.names.observed is.names.base
@@ -159,6 +165,7 @@ module _ (based : List Based) (journal : Journal) (found : Found) (orderly : IsO
 
 -- ---- a shard's witness
 
+-- what holds of each address of some deltas holds of that of a change which they make
 key-in : (P : Address → Type 0) (n : ℕ) (deltas : Deltas) (i : ℕ) (change : Change) → AllByRecursion P (keys_of deltas)
     → slice_get (changes_by n deltas) i ≡ Some change → P change.address
 key-in P n [] i change all is = absurd (cc)
@@ -189,12 +196,14 @@ delta-there n (e ∷ deltas) (suc i) change rising is = by (is_at (address_cmp c
         absurd (let no : Less ≡ Equal = sym less ∙ equal in cc)
     by false at rest = rest
 
+-- an item of two lists joined is in the first or in the second
 in-either : {A : Type 0} (xs ys : List A) (i : ℕ) (x : A) → slice_get (xs ++ ys) i ≡ Some x →
     ((j : ℕ) × (slice_get xs j ≡ Some x)) ⊎ ((j : ℕ) × (slice_get ys j ≡ Some x))
 in-either [] ys i x is = inr (i, is)
 in-either (z ∷ xs) ys zero x is = inl (0, is)
 in-either (z ∷ xs) ys (suc i) x is = elim (in-either xs ys i x is) [ inl p ↦ inl (suc p.0, p.1) | inr p ↦ inr p ]
 
+-- the commit of a number stands at the place before it
 commit-there : (journal : Journal) (k n : ℕ) → n ≡ k + 1 → commit_at journal n ≡ slice_get journal k
 commit-there journal k n is = by (n == 0) refl
   where
@@ -216,6 +225,7 @@ in-commit m n (commit ∷ journal) i change numbered is = elim (in-either (chang
     after : (c : Commit) (rest : Journal) (k : ℕ) (x : Commit) → slice_get rest k ≡ Some x → slice_get (c ∷ rest) (k + 1) ≡ Some x
     after c rest k x e = rw add-one e
 
+-- a shard's witness names a change of a commit, and its delta is the only one at the address, as these rise
 pub named-by-shard : (based : List Based) (journal : Journal) (w : Witness) → IsReadable journal → IsOrderly journal → AllByRecursion IsBasedOfOneKind based
     → NamesLeast based journal w → least_witness based journal ≡ Some w
 named-by-shard based journal w readable orderly kinds is =

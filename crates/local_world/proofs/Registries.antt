@@ -49,6 +49,7 @@ use Rattle.local_world.proofs.SamePairs.{same_pairs, at_itself}
 
 -- ---- the changes of a journal
 
+-- the changes of some commits and then others are theirs in turn
 changes-append : (journal later : Journal) → changes (journal ++ later) ≡ changes journal ++ changes later
 changes-append [] later = refl
 changes-append (commit ∷ journal) later = ap (λ more. changes_of commit ++ more) (changes-append journal later)
@@ -69,6 +70,7 @@ changes-split journal front numbered =
 
 -- ---- numbers
 
+-- a number compares as equal to itself
 itself : (n : ℕ) → is_at (nat_cmp n) n ≡ true
 itself n = ap is_eq (at_itself nat_cmp nat_cmp_total n)
 
@@ -91,11 +93,13 @@ kept-there : (o : Option Kept) → IsSome o → (kept : Kept) × (o ≡ Some kep
 kept-there None there = absurd (let no : false ≡ true = there in cc)
 kept-there (Some kept) there = (kept, refl)
 
+-- what is made of something that is there is there
 some-mapped : {A B : Type 0} (f : A → B) (o : Option A) → IsSome o → IsSome (option_map f o)
 some-mapped f None there = there
 some-mapped f (Some x) there = there
 
 module _ (journal : Journal) (old new : Registered) where
+  -- the changes that the registry stands for: those up to its front
   abbrev followed : List Change
   followed = up_to old.front (changes journal)
 
@@ -134,6 +138,7 @@ module _ (journal : Journal) (old new : Registered) where
         entered = λ client below. subst IsSome (sym (is client)) (some-mapped (told tail.changes) (kept_of old client) (f.entered client below));
       }
 
+  -- by the answer: Ok follows to the journal's end, an error leaves what is kept as it was
   pub following-after : {E : Type 0} (r : Result (Unit {0}) E) (tail : Tail) → AreNumbered journal → IsFollowing journal old
       → HasAll old.front (length journal) (between old.front (length journal) (changes journal)) tail → OnOk r (new.front ≡ tail.to)
       → OnOk r ((s : ℕ) → kept_of new s ≡ option_map (told tail.changes) (kept_of old s))
@@ -160,9 +165,11 @@ module _ (journal : Journal) (old new : Registered) where
 
 -- ---- who is told, and what was taken
 
+-- whether what is kept, if it is, has an address
 abbrev told_in : Address → Option Kept → Bool
 told_in a o = option_map_or (λ kept. is_address kept a) o false
 
+-- up to where what is kept, if it is, has taken
 abbrev taken_in : Option Kept → ℕ
 taken_in o = option_map_or (λ kept. kept.taken) o 0
 
@@ -176,6 +183,7 @@ module _ (old new : Registered) where
       by None = refl
       by (Some kept) = refl
 
+  -- nor does it alter up to where a subscriber has taken
   pub taken-as : (changes : List Change) → ((s : ℕ) → kept_of new s ≡ option_map (told changes) (kept_of old s)) → (c : ℕ) → taken_by new c ≡ taken_by old c
   taken-as changes is c = ap taken_in (is c) ∙ by (kept_of old c)
     where
@@ -183,9 +191,11 @@ module _ (old new : Registered) where
       by None = refl
       by (Some kept) = refl
 
+  -- where all that is kept is the same, the addresses are
   pub told-same : ((s : ℕ) → kept_of new s ≡ kept_of old s) → (c : ℕ) (a : Address) → is_subscribed new c a ≡ is_subscribed old c a
   told-same is c a = ap (told_in a) (is c)
 
+  -- and so is up to where each has taken
   pub taken-same : ((s : ℕ) → kept_of new s ≡ kept_of old s) → (c : ℕ) → taken_by new c ≡ taken_by old c
   taken-same is c = ap taken_in (is c)
 
@@ -227,6 +237,7 @@ module _ (old new : Registered) where
 
 -- ---- what a client takes
 
+-- an empty list of deltas has its addresses in order
 none-rising : IsStrictlySortedBy address_cmp (keys_of (let ds : Deltas = [] in ds))
 unfolding IsStrictlySortedBy
 none-rising = tt
@@ -240,6 +251,7 @@ rising-with_changes (c ∷ changes) deltas rising =
         (after_maybe (delta_at deltas c.address) c.delta) deltas rising)
 
 module _ (journal : Journal) (registry : Registered) (client : ℕ) (following : IsFollowing journal registry) (ended : registry.front ≡ length journal) where
+  -- the changes since the client took last
   abbrev since_taken : List Change
   since_taken = between (taken_by registry client) (length journal) (changes journal)
 
@@ -258,6 +270,7 @@ module _ (journal : Journal) (registry : Registered) (client : ℕ) (following :
       ∙ ap (λ (n : ℕ). cond (is_subscribed registry client a) (deltas_at a (since (taken_by registry client) (up_to n (changes journal)))) []) ended
       ∙ sym (deltas-chosen a (is_subscribed registry client) since_taken))
 
+  -- a feed with its addresses in order is determined by what it has at each, and that is what is pending there
   pub fed : (feed : Fed) → client < CLIENTS → IsStrictlySortedBy address_cmp (keys_of feed.changes) → feed.to ≡ registry.front
       → ((a : Address) → delta_at feed.changes a ≡ pending_of registry client a)
       → feed ≡ record { to = length journal; changes = with_changes [] (filter (λ change. is_subscribed registry client change.address) since_taken) }
@@ -292,17 +305,20 @@ fed-by journal old mid client feed following ended told taken below rising to is
 
 -- ---- by an answer
 
+-- a tail of all changes stays one where its ends are named otherwise
 pub all-from : (journal : Journal) (tail : Tail) (f g m n : ℕ) → f ≡ g → m ≡ n → HasAll f m (between f m (changes journal)) tail
     → HasAll g n (between g n (changes journal)) tail
 all-from journal tail f g m n from to all =
     subst (λ (x : ℕ). HasAll x n (between x n (changes journal)) tail) from (subst (λ (x : ℕ). HasAll f x (between f x (changes journal)) tail) to all)
 
+-- by the answer: to be told alters nobody's addresses, and an error alters nothing
 pub told-after : {E : Type 0} (r : Result (Unit {0}) E) (old new : Registered) (changes : List Change)
     → OnOk r ((s : ℕ) → kept_of new s ≡ option_map (told changes) (kept_of old s)) → OnErr r ((s : ℕ) → kept_of new s ≡ kept_of old s)
     → (c : ℕ) (a : Address) → is_subscribed new c a ≡ is_subscribed old c a
 told-after (Ok u) old new changes is same = told-as old new changes is
 told-after (Err e) old new changes is same = told-same old new same
 
+-- nor, by the answer, up to where any subscriber has taken
 pub taken-after : {E : Type 0} (r : Result (Unit {0}) E) (old new : Registered) (changes : List Change)
     → OnOk r ((s : ℕ) → kept_of new s ≡ option_map (told changes) (kept_of old s)) → OnErr r ((s : ℕ) → kept_of new s ≡ kept_of old s)
     → (c : ℕ) → taken_by new c ≡ taken_by old c
@@ -313,14 +329,17 @@ taken-after (Err e) old new changes is same = taken-same old new same
 
 module _ (journal : Journal) (old new : Registered) (client : ℕ) (following : IsFollowing journal old) (front : new.front ≡ old.front)
     (is : (s : ℕ) → kept_of new s ≡ with_kept old client (option_map (emptied old.front) (kept_of old client)) s) where
+  -- one that has taken up to the front has nothing left to take, and the others are as they were
   pub following-taken : IsFollowing journal new
   following-taken =
       following-one journal old new client (emptied old.front) following front is
       (λ k e. takes_stand (up_to old.front (changes journal)) old.front k following.stands.followed)
 
+  -- a take alters nobody's addresses
   pub told-taken : (c : ℕ) (a : Address) → is_subscribed new c a ≡ is_subscribed old c a
   told-taken = told-one old new client (emptied old.front) is (λ k a. refl)
 
+  -- the one that takes has then taken up to the front, which is the journal's end
   pub taken-taken : client < CLIENTS → old.front ≡ length journal → (c : ℕ) → taken_by new c ≡ cond (c == client) (length journal) (taken_by old c)
   taken-taken below ended c =
       taken-up_to old new client (emptied old.front) is old.front (following.entered client below) (λ k. refl) c
@@ -328,6 +347,7 @@ module _ (journal : Journal) (old new : Registered) (client : ℕ) (following : 
 
 -- ---- an address comes or goes
 
+-- an address compares as equal to itself
 address_itself : (a : Address) → is_at (address_cmp a) a ≡ true
 address_itself a = ap is_eq (at_itself address_cmp addresses.total-law a)
 
@@ -341,6 +361,7 @@ missed-is journal front from address missed k taken all =
     ∙ ap (λ b. cond b (deltas_at address (between from front (changes journal))) []) (address_itself address)
     ∙ ap (λ (n : ℕ). deltas_at address (since n (up_to front (changes journal)))) taken
 
+-- by whether it is subscribed already: to subscribe never alters up to where one has taken
 taken-subscribed : (address : Address) (missed : List Change) (k : Kept) → (subscribed address missed k).taken ≡ k.taken
 taken-subscribed address missed k = by (is_address k address)
   where
@@ -352,6 +373,7 @@ taken-subscribed address missed k = by (is_address k address)
 module _ (journal : Journal) (old new : Registered) (client from : ℕ) (address : Address) (missed : Tail) (following : IsFollowing journal old)
     (taken : (k : Kept) → kept_of old client ≡ Some k → from ≡ k.taken)
     (all : HasAll from old.front (of_address address (between from old.front (changes journal))) missed) (front : new.front ≡ old.front) where
+  -- by the answer: one that subscribes goes on standing with what it missed since it took, an error leaves all as it was
   pub following-tell : {E : Type 0} (r : Result (Unit {0}) E)
       → OnOk r ((s : ℕ) → kept_of new s ≡ with_kept old client (option_map (subscribed address missed.changes) (kept_of old client)) s)
       → OnErr r ((s : ℕ) → kept_of new s ≡ kept_of old s) → IsFollowing journal new
@@ -361,12 +383,14 @@ module _ (journal : Journal) (old new : Registered) (client from : ℕ) (address
       (missed-is journal old.front from address missed k (taken k e) all))
   following-tell (Err e) is same = following-same journal old new following front same
 
+  -- by the answer: neither alters up to where anyone has taken
   pub taken-tell : {E : Type 0} (r : Result (Unit {0}) E)
       → OnOk r ((s : ℕ) → kept_of new s ≡ with_kept old client (option_map (subscribed address missed.changes) (kept_of old client)) s)
       → OnErr r ((s : ℕ) → kept_of new s ≡ kept_of old s) → (c : ℕ) → taken_by new c ≡ taken_by old c
   taken-tell (Ok u) is same = taken-one old new client (subscribed address missed.changes) is (taken-subscribed address missed.changes)
   taken-tell (Err e) is same = taken-same old new same
 
+-- at Ok one address changes for one client, and both ways to compare numbers agree on which
 pub told-tell : {E : Type 0} (r : Result (Unit {0}) E) (old new : Registered) (client : ℕ) (address : Address) (w : Bool)
     → OnOk r ((s : ℕ) (a : Address) → is_subscribed new s a ≡ cond (is_at (nat_cmp client) s && is_at (address_cmp address) a) w (is_subscribed old s a))
     → OnOk r ((c : ℕ) (a : Address) → is_subscribed new c a ≡ cond ((c == client) && is_at (address_cmp address) a) w (is_subscribed old c a))
@@ -374,6 +398,7 @@ told-tell (Ok u) old new client address w tells =
     λ c a. tells c a ∙ ap (λ b. cond (b && is_at (address_cmp address) a) w (is_subscribed old c a)) (same_test client c)
 told-tell (Err e) old new client address w tells = tt
 
+-- after an error what is kept is the same, and so are the addresses
 pub told-untold : {E : Type 0} (r : Result (Unit {0}) E) (old new : Registered) → OnErr r ((s : ℕ) → kept_of new s ≡ kept_of old s)
     → OnErr r ((c : ℕ) (a : Address) → is_subscribed new c a ≡ is_subscribed old c a)
 told-untold (Ok u) old new same = tt
@@ -383,19 +408,23 @@ module _ (journal : Journal) (old new : Registered) (client : ℕ) (address : Ad
     (is : (s : ℕ) → kept_of new s ≡ with_kept old client (option_map (unsubscribed address) (kept_of old client)) s)
     (tells : (s : ℕ) (a : Address) → is_subscribed new s a ≡ cond (is_at (nat_cmp client) s && is_at (address_cmp address) a) false
         (is_subscribed old s a)) where
+  -- one that unsubscribes goes on standing, and the others are as they were
   pub following-hush : IsFollowing journal new
   following-hush =
       following-one journal old new client (unsubscribed address) following front is
       (λ k e. unsubscribes_stand (up_to old.front (changes journal)) old.front k address (following.stands.kept client k e))
 
+  -- to unsubscribe never alters up to where one has taken
   pub taken-hush : (c : ℕ) → taken_by new c ≡ taken_by old c
   taken-hush = taken-one old new client (unsubscribed address) is (λ k. refl)
 
+  -- one address goes for one client, and both ways to compare numbers agree on which
   pub told-hush : (c : ℕ) (a : Address) → is_subscribed new c a ≡ cond ((c == client) && is_at (address_cmp address) a) false (is_subscribed old c a)
   told-hush c a = tells c a ∙ ap (λ b. cond (b && is_at (address_cmp address) a) false (is_subscribed old c a)) (same_test client c)
 
 -- ---- the journal grows
 
+-- the first commits stay, so the changes up to the registry's front do
 pub following-longer : (journal later : Journal) (registry : Registered) → AreNumbered journal → AreNumbered (journal ++ later) → IsFollowing journal registry
     → IsFollowing (journal ++ later) registry
 following-longer journal later registry first whole f =
@@ -413,17 +442,21 @@ following-longer journal later registry first whole f =
 
 -- ---- what was taken last
 
+-- what was read of the one that is kept is its own number
 pub last-taken : (o : Option Kept) (n : ℕ) → Some n ≡ option_map (λ (kept : Kept). kept.taken) o → (k : Kept) → o ≡ Some k → n ≡ k.taken
 last-taken o n is k e = let both : Some n ≡ Some k.taken = is ∙ ap (option_map (λ (kept : Kept). kept.taken)) e in cc
 
+-- so it is within the front, as each number taken is
 pub last-within : (o : Option Kept) (n front : ℕ) → Some n ≡ option_map (λ (kept : Kept). kept.taken) o →
     ((k : Kept) → o ≡ Some k → k.taken ≤ front) → n ≤ front
 last-within None n front is each = absurd (cc)
 last-within (Some k) n front is each = subst (λ (m : ℕ). m ≤ front) (sym (last-taken (Some k) n is k refl)) (each k refl)
 
+-- where nothing was read nobody is kept
 pub nothing-taken : (o : Option Kept) (n : ℕ) → None ≡ option_map (λ (kept : Kept). kept.taken) o → (k : Kept) → o ≡ Some k → n ≡ k.taken
 nothing-taken o n is k e = absurd (let no : None ≡ Some k.taken = is ∙ ap (option_map (λ (kept : Kept). kept.taken)) e in cc)
 
+-- what was missed up to a front was missed up to an equal one
 pub missed-from : (journal : Journal) (missed : Tail) (address : Address) (from f g : ℕ) → f ≡ g
     → HasAll from f (of_address address (between from f (changes journal))) missed
     → HasAll from g (of_address address (between from g (changes journal))) missed

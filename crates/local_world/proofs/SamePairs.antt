@@ -20,6 +20,7 @@ module _ {K V : Type 0} (R : K → K → Ordering) where
       ∙ ap (find R q) (map.entries-from_sorted R es (sorted-from_rising R es rising))
       ∙ sym (lookup-is-find R q es)
 
+  -- both are the entries of maps that find the same at each key, and such maps are one
   pub same_pairs : IsTotalOrder R → IsAntisymmetric R → (es fs : List (K × V)) → IsStrictlySortedBy R (keys_of es) → IsStrictlySortedBy R (keys_of fs)
       → ((q : K) → lookup (is_at (R q)) es ≡ lookup (is_at (R q)) fs) → es ≡ fs
   same_pairs total exact es fs rising risen same =

@@ -19,6 +19,7 @@ use Rattle.docc_prepare.specs.Witnesses.{witness_of, least_witness}
 use Rattle.docc_prepare.specs.Stores.{least_base, late_base, validated}
 use Rattle.local_world.proofs.Naming.{named-by-shard}
 
+-- a shard's least base is the store's: both take the lesser, observation by observation
 least-same : (based : List Based) → shard.least_base based ≡ least_base based
 least-same [] = refl
 least-same (b ∷ based) = by (shard.least_base based) (least_base based) (least-same based)
@@ -31,28 +32,34 @@ least-same (b ∷ based) = by (shard.least_base based) (least_base based) (least
     by (Some x) None e = absurd (cc)
     by (Some x) (Some y) e = let same : x ≡ y = cc in ap (λ n. Some (min b.base n)) same
 
+-- a shard's late base is the store's, by whether there is a least one
 late-same : (horizon : ℕ) (o : Option ℕ) → shard.late_base horizon o ≡ late_base horizon o
 late-same horizon None = refl
 late-same horizon (Some base) = refl
 
 module _ (journal : Journal) (s : Sharded) (based : List Based) where
+  -- what the store answers at the shard's front
   abbrev expected : Answer
   expected = validated s.number s.front (s.front - s.window) (late_base (s.front - s.window) (least_base based)) (least_witness based journal)
 
+  -- so what the shard calls late the store does
   late-is : late s based ≡ late_base (s.front - s.window) (least_base based)
   late-is = late-same (s.front - s.window) (shard.least_base based) ∙ ap (late_base (s.front - s.window)) (least-same based)
 
+  -- without a late base and without a pair both answer the front
   pub as-ok : (p : Prepared) → Validates journal s based (Ok p) → Answer.prepared p ≡ expected
   as-ok p v =
       ap (λ x. Answer.prepared x) v.2
       ∙ ap (λ w. validated s.number s.front (s.front - s.window) None w) (sym (ap (option_and_then (witness_of based journal)) v.1))
       ∙ ap (λ o. validated s.number s.front (s.front - s.window) o (least_witness based journal)) (sym v.0 ∙ late-is)
 
+  -- with a late base both name it and the horizon
   pub as-late : (base horizon : ℕ) → Validates journal s based (Err (refusal.Late base horizon)) → Answer.late base horizon ≡ expected
   as-late base horizon v =
       ap (Answer.late base) v.1
       ∙ ap (λ o. validated s.number s.front (s.front - s.window) o (least_witness based journal)) (sym v.0 ∙ late-is)
 
+  -- without one, and with a pair, both answer its witness, which names the same
   pub as-clash : (w : Witness) → IsReadable journal → IsOrderly journal → AllByRecursion IsBasedOfOneKind based
       → Validates journal s based (Err (refusal.Clash w))
       → Answer.clash w ≡ expected

@@ -51,6 +51,7 @@ left-cases s client ready None false left is = inr is
 
 module _ (settings : Settings) (standing : Standing) (shards : List Sharded) (seens : List ℕ) (registry : Registered)
     (kept : IsKept settings standing shards seens registry) (client : ℕ) (below : client < CLIENTS) where
+  -- the world before the call
   abbrev old : Stored
   old = stored settings standing.commits shards seens registry
 
@@ -61,6 +62,7 @@ module _ (settings : Settings) (standing : Standing) (shards : List Sharded) (se
       let here : CanCall (known_by (store_of old) client) c = subst (λ (o : Stored). CanCall (known_by (store_of o) client) c) (sym is) can in
       subst (λ (o : Stored). GoesBy o client c a new) is (goes_by old new client c a kept.sound below here (does here))
 
+  -- what goes by the step is a sound store, and the parts stand for its journal as before
   pub stays : (standing' : Standing) (shards' : List Sharded) (seens' : List ℕ) (registry' : Registered) (c : Call) (a : Answer)
       → CanCall (known_by (store_of old) client) c → Does (store_of old) client c a (store_of (stored settings standing'.commits shards' seens' registry'))
       → standing'.shards ≡ standing.shards → standing'.limit ≡ standing.limit → AreHeld standing'.commits settings shards'
@@ -74,24 +76,29 @@ module _ (settings : Settings) (standing : Standing) (shards : List Sharded) (se
     following = following;
   }
 
+  -- the client is one of those whose number of seen commits is kept
   pub client-there : client < length seens
   client-there = let n = kept.sound.all_clients in omega arith
 
+  -- what the client has seen is within the journal
   pub seen-within : get_or seens client 0 ≤ length standing.commits
   seen-within = kept.sound.seen client
 
   -- ---- calls
 
+  -- a refresh sets what the client has seen to the journal's length, which it answers
   pub refreshing : (seens' : List ℕ) (n : ℕ) → n ≡ length standing.commits → seens' ≡ set seens client n
       → Does (store_of old) client Call.refresh (Answer.number n) (store_of (stored settings standing.commits shards seens' registry))
   refreshing seens' n is seen =
       ap (λ (ns : List ℕ). let p : Store × Answer = (store_of (stored settings standing.commits shards ns registry), Answer.number n) in p) seen
       ∙ ap (λ (k : ℕ). let p : Store × Answer = (store_of (stored settings standing.commits shards (set seens client k) registry), Answer.number k) in p) is
 
+  -- where memory was wanting only fronts have risen, within the journal
   pub want : (shards' : List Sharded) → HaveRisen standing.commits (fronts_of shards) (fronts_of shards')
       → HasStalled (store_of old) (store_of (stored settings standing.commits shards' seens registry))
   want shards' risen = stalled old (fronts_of shards') risen
 
+  -- a read gives the state at the front that its shard has then reached, and the client has seen as much
   pub reading : (address : Address) (shards' : List Sharded) (seens' : List ℕ) (snap : Snap)
       → snap.base ≡ max (get_or (fronts_of shards) (shard_of address settings.shards) 0) (get_or seens client 0)
           → snap.value ≡ state standing.commits snap.base address
@@ -102,6 +109,7 @@ module _ (settings : Settings) (standing : Standing) (shards : List Sharded) (se
           (store_of (stored settings standing.commits shards' ns registry))) (sym seen)
       (does-read old client address (fronts_of shards') snap base value moved)
 
+  -- a take hands on the store's feed, and the client has then taken and seen all of the journal
   pub taking : (feed : Fed) (seens' : List ℕ) (registry' : Registered) → IsFedBy standing.commits registry client feed
       → ((c : ℕ) (a : Address) → is_subscribed registry' c a ≡ is_subscribed registry c a)
       → ((c : ℕ) → taken_by registry' c ≡ cond (c == client) (length standing.commits) (taken_by registry c)) → seens' ≡ set seens client feed.to
@@ -111,6 +119,7 @@ module _ (settings : Settings) (standing : Standing) (shards : List Sharded) (se
           (store_of (stored settings standing.commits shards ns registry'))) (sym seen)
       (does-take old client registry' feed fed told taken)
 
+  -- where memory was wanting the registry may have followed, which alters nobody's addresses and nothing taken
   pub not_taking : (registry' : Registered) → ((c : ℕ) (a : Address) → is_subscribed registry' c a ≡ is_subscribed registry c a)
       → ((c : ℕ) → taken_by registry' c ≡ taken_by registry c) → HasStalled (store_of old) (store_of (stored settings standing.commits shards seens registry'))
   not_taking registry' told taken = told_alike old registry' kept.sound told taken
@@ -122,6 +131,7 @@ module _ (settings : Settings) (standing : Standing) (shards : List Sharded) (se
       → store_of (stored settings standing.commits shards seens registry') ≡ telling (store_of old) client address told
   telling-to address told registry' tells taken = does-told old client address told registry' tells taken
 
+  -- a read at a number moves its shard's front to it, and answers what the step does there
   pub backing : (address : Address) (number : ℕ) (shards' : List Sharded) (a : Answer)
       → fronts_of shards' ≡ set (fronts_of shards) (shard_of address settings.shards)
           (max (get_or (fronts_of shards) (shard_of address settings.shards) 0) number)
@@ -129,6 +139,7 @@ module _ (settings : Settings) (standing : Standing) (shards : List Sharded) (se
       → Does (store_of old) client (Call.read_at address number) a (store_of (stored settings standing.commits shards' seens registry))
   backing address number shards' a moved is = does-read_at old client address number (fronts_of shards') a moved is
 
+  -- where memory was wanting from the first, nothing changed
   pub want_nothing : HasStalled (store_of old) (store_of old)
   want_nothing = unchanged (store_of old) kept.sound
 
