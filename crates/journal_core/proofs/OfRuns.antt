@@ -92,9 +92,11 @@ module _ (s : PartialState) where
   Along u v = Same Always Good Any Any u v
 
   module _ (r : ReadOp) (a : Address) (p : Progress Own) where
+    -- the body's own writes at the address so far
     abbrev ops : List WriteOp
     ops = at_address a p.memory.operations
 
+    -- by whether the own writes decide the read, else by whether the value is there: neither adds a write
     along : (b : Bool) (v : Option Value) → owns.AreOfTheirKinds p.memory.operations
         → Along (answered a (cond b (Some (answer r (replay ops (default_of a.kind)), p.memory)) (own_value r a v p.memory)) p)
         (answered a (cond b (Some (answer r (replay ops (default_of a.kind)), p.memory)) (own_value r a v p.memory)) p)
