@@ -139,6 +139,7 @@ told_pair es es' s k w kept kept' found puts has q a = ap (λ o. option_map_or (
 
 -- ---- changes up to a front
 
+-- each change is of a commit up to a front
 abbrev pub UpTo : ℕ → List Change → Type 0
 UpTo front changes = AllByRecursion (λ c. c.number ≤ front) changes
 
