@@ -4,6 +4,7 @@ use Rattle.std.specs.List.{AllByRecursion}
 use Rattle.abort_witness.specs.declared.witness.Based.{Based}
 use Rattle.version_shard.specs.Bases.{least_base, late_base}
 
+-- the lesser of two bases that may be there
 abbrev pub lesser_base : Option ℕ → Option ℕ → Option ℕ
 lesser_base None second = second
 lesser_base (Some first) None = Some first

@@ -31,6 +31,7 @@ use Rattle.version_shard.proofs.Stepping.{all-filter, all-more}
 
 -- ---- the first change that clashes
 
+-- the first change that clashes with an observation, if there is one
 abbrev pub first_change : Based → List Change → Option Change
 first_change based [] = None
 first_change based (c ∷ rest) = cond (clashes based c) (Some c) (first_change based rest)
@@ -92,6 +93,7 @@ meets-own based (c ∷ rest) = by (nat_lt based.base c.number) (is_at (address_c
 
 -- ---- versions as changes
 
+-- a version of an address, as the change of its commit
 abbrev pub as_change : Address → Version → Change
 as_change address version = record { number = version.number; address = address; delta = version.delta }
 
@@ -209,6 +211,7 @@ agree place kept all (b ∷ rest) finds =
 
 -- ---- what is said of a hit
 
+-- what is said of a hit, if there is one
 abbrev pub IfHit : (Hit → Type 0) → Option Hit → Type 0
 IfHit Q None = Unit {0}
 IfHit Q (Some hit) = Q hit

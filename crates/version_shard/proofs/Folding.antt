@@ -59,6 +59,7 @@ commit-left a n (pair ∷ deltas) value rising = by (is_at (address_cmp a) pair.
 
 -- ---- a journal
 
+-- the deltas of each commit stand by rising address
 abbrev pub AreRising : Journal → Type 0
 AreRising journal = AllByRecursion (λ commit. IsStrictlySortedBy address_cmp (keys_of commit.deltas)) journal
 

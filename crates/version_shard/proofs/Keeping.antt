@@ -38,6 +38,7 @@ at_err (Err x) P e p = p
 
 -- ---- one address of a map
 
+-- at one address a map has what was put there, and at all others what it had
 abbrev pub IsPut : Kept → Kept → Address → Versioned → Type 0
 IsPut old new k put = (q : Address) → lookup (is_at (address_cmp q)) new ≡ cond (is_at (address_cmp k) q) (Some put) (lookup (is_at (address_cmp q)) old)
 

@@ -27,9 +27,11 @@ use Rattle.version_shard.specs.code.Following.{followed, followed_along, cut_alo
 -- ---- lists that are cut by numbers
 
 module _ {X : Type 0} (number : X → ℕ) where
+  -- what is numbered up to a number
   abbrev pub below : ℕ → List X → List X
   below n xs = filter (λ x. nat_le (number x) n) xs
 
+  -- what is numbered past it
   abbrev pub above : ℕ → List X → List X
   above n xs = filter (λ x. nat_lt n (number x)) xs
 
