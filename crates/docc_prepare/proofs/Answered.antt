@@ -243,20 +243,25 @@ module _ (s : Store) (sound : IsSound s) (c : ℕ) (ours : c < CLIENTS) where
 
   -- ---- preparings
   module _ (shard : ℕ) (based : List Based) (can : CanPrepare k shard based) where
+    -- the front of the shard
     abbrev front : ℕ
     front = front_of s shard
 
+    -- the store after it: the client has seen up to the front
     abbrev t : Store
     t = saw s c (max (seen_by s c) front)
 
+    -- each observation is of its address' kind, as the client owes it
     kinds-here : AllByRecursion IsBasedOfOneKind based
     kinds-here = each-more (CanValidate k shard) IsBasedOfOneKind based (λ b h. h.one_kind) can.each
 
+    -- each base was given, so the shard of its address has reached it
     bases-here : AllByRecursion (λ (b : Based). b.base ≤ front) based
     bases-here =
         each-more (CanValidate k shard) (λ (b : Based). b.base ≤ front) based
         (λ b h. subst (λ (i : ℕ). b.base ≤ front_of s i) h.here (reached-is b.base (front_of s (shard_of b.address s.shards)) h.given.1)) can.each
 
+    -- an answer of which its own part of the clause holds meets all of it, since the journal stays as it is
     validation : (a : Answer) → IsCounted (is_fault a) 0 0 → ((b : Address) → s.subscribed c b ≡ subscribed_after k (Call.prepare shard based) a b)
         → (s.taken c ≡ taken_after k (Call.prepare shard based) a) → (0 ≡ denied_after k (Call.prepare shard based) a)
         → KnowsDenials k (known_by t c) (Call.prepare shard based) a
@@ -268,6 +273,7 @@ module _ (s : Store) (sound : IsSound s) (c : ℕ) (ours : c < CLIENTS) where
         answered t (Call.prepare shard based) a (step-grows s c (Call.prepare shard based)) refl (omega arith) (omega arith)
         (counted, told, taken, denied, denials) gives says
 
+    -- by the answer: a late base is the least, a clash is the journal's least pair, and without either no pair is up to the front
     validated-by : (late : Option ℕ) (w : Option Witness) → late_base (front - s.window) (least_base based) ≡ late
         → least_witness based (take front s.journal) ≡ w
         → IsAnswered k (Call.prepare shard based) (validated shard front (front - s.window) late w) (known_by t c)
@@ -291,12 +297,15 @@ module _ (s : Store) (sound : IsSound s) (c : ℕ) (ours : c < CLIENTS) where
 
   -- ---- appends
   module _ (ready : Ready) (can : CanAppend k ready) where
+    -- what is handed on is of the attempt that the client owes
     of : IsOf s c ready can.attempt
     of = of-append s c ready can
 
+    -- the store after a refusal: the client has seen all of the journal
     abbrev u : Store
     u = saw s c (length s.journal)
 
+    -- and so does a refusal
     refused : (a : Answer) → IsCounted (is_fault a) 0 0 → ((b : Address) → s.subscribed c b ≡ subscribed_after k (Call.append ready) a b)
         → (s.taken c ≡ taken_after k (Call.append ready) a) → (0 ≡ denied_after k (Call.append ready) a) → KnowsDenials k (known_by u c) (Call.append ready) a
         → Gives (Call.append ready) a (known_by u c) → Says u (Call.append ready) a → IsAnswered k (Call.append ready) a (known_by u c)
@@ -305,6 +314,7 @@ module _ (s : Store) (sound : IsSound s) (c : ℕ) (ours : c < CLIENTS) where
         let n = sound.seen c in
         answered u (Call.append ready) a (step-grows s c Call.refresh) refl (omega arith) (omega arith) (counted, told, taken, denied, denials) gives says
 
+    -- without a clash the commit goes behind the journal, which stays legal, and no pair is among those before it
     added : witness_past s ready ≡ None
         → IsAnswered k (Call.append ready) (Answer.number (length s.journal + 1)) (known_by (saw (committed s ready) c (length s.journal + 1)) c)
     added none =
@@ -344,6 +354,7 @@ module _ (s : Store) (sound : IsSound s) (c : ℕ) (ours : c < CLIENTS) where
           };
         }
 
+    -- by the decision: a clash names the journal's least pair, a full journal has none, and else the commit is added
     decided-by : (w : Option Witness) (full : Bool) → witness_past s ready ≡ w → nat_le s.limit (length s.journal) ≡ full
         → IsAnswered k (Call.append ready) (decided s c ready w full).1 (known_by (decided s c ready w full).0 c)
     decided-by (Some w) full ew ef =
@@ -408,13 +419,16 @@ module _ (s : Store) (sound : IsSound s) (c : ℕ) (ours : c < CLIENTS) where
   Failing t call = Quiet t call (Answer.failed false) × Gives call (Answer.failed false) (known_by t c) × Says t call (Answer.failed false)
 
   module _ (fronts : List ℕ) (risen : (i : ℕ) → front_of s i ≤ get_or fronts i 0) where
+    -- the store with fronts that have risen
     abbrev v : Store
     v = with_fronts s fronts
 
+    -- for want of memory nothing was asked for, given or shown, by any call
     failing : (call : Call) → Failing v call
     failing Call.refresh = ((refl, (λ a. refl), refl, refl, omega arith), tt, (tt, tt, refl))
     failing call = ((refl, (λ a. refl), refl, refl, omega arith), tt, (tt, tt, refl))
 
+    -- so such a failure is within the clause of every call
     failed-answered : (call : Call) → IsAnswered k call (Answer.failed false) (known_by v c)
     failed-answered call =
         let parts = failing call in

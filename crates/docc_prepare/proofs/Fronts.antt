@@ -113,6 +113,7 @@ module _ (journal : Journal) (shards : ℕ) (observed : List Based) where
 
   module _ (fronts : List PreparedFront) (numbers : AreNumberedFrom 0 journal)
       (all : AllByRecursion (λ prepared. FrontFits journal (in_shard shards prepared.shard observed) prepared) fronts) where
+    -- a commit misses an observation, if that is in a shard
     abbrev MissesInShard : Commit → ℕ → Based → Type 0
     MissesInShard commit k b = (shard_of b.address shards == k) ≡ true → Misses b commit
 
@@ -125,9 +126,11 @@ module _ (journal : Journal) (shards : ℕ) (observed : List Based) where
         (λ commit. AllByRecursion (MissesInShard commit k) observed) (take (front_at fronts k) journal)
         (λ commit. each-passing (λ b. Misses b commit) (λ b. shard_of b.address shards == k) observed) (clear_upto fronts all k)))
 
+    -- a number passes the test of equality with itself
     itself : (k : ℕ) → (k == k) ≡ true
     itself k = grind (arith, nat_tests)
 
+    -- each observation is in its own shard, so the commit misses it up to that shard's front
     pick : (commit : Commit) (bs : List Based) → ((k : ℕ) → commit.number ≤ front_at fronts k → AllByRecursion (MissesInShard commit k) bs)
         → AllByRecursion (λ b. hit (past_front shards fronts b) commit ≡ hit b commit) bs
     pick commit [] clear = tt
@@ -137,6 +140,7 @@ module _ (journal : Journal) (shards : ℕ) (observed : List Based) where
       pick commit bs (λ k below. (clear k below).1),
     )
 
+    -- each commit is hit past the fronts as it is without them, so the pairs are the same
     pub spare : pairs (past_fronts shards fronts observed) journal ≡ pairs observed journal
     spare = pairs-alike (past_front shards fronts) observed journal
         (each-more (λ commit. (k : ℕ) → commit.number ≤ front_at fronts k → AllByRecursion (MissesInShard commit k) observed)

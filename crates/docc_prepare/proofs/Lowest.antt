@@ -7,6 +7,7 @@ use Rattle.txn_lang.specs.declared.run.Seen.{Seen}
 use Rattle.journal_core.specs.declared.ready.PreparedFront.{PreparedFront}
 use Rattle.docc_prepare.specs.Attempts.{has_front, lesser, least_unprepared}
 
+-- the lesser of two numbers that may be there
 abbrev pub lesser_of : Option ℕ → Option ℕ → Option ℕ
 lesser_of None rest = rest
 lesser_of (Some found) rest = Some (lesser found rest)

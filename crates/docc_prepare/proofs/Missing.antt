@@ -14,6 +14,7 @@ use Rattle.journal_core.specs.Pairs.{hits_from, pairs}
 abbrev pub hit : Based → Commit → Bool
 hit b commit = list_any (clashes b) (changes_of commit)
 
+-- no change of a commit clashes with an observation
 abbrev pub Misses : Based → Commit → Type 0
 Misses b commit = hit b commit ≡ false
 

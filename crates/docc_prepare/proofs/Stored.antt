@@ -282,18 +282,22 @@ module _ (s : Store) where
   same-grown seens subscribed taken = risen-grown s.fronts seens subscribed taken (λ i. omega arith)
 
   module _ (c : ℕ) where
+    -- only what a client has seen changes
     pub saw-grown : (n : ℕ) → Grown s (saw s c n)
     saw-grown n = same-grown (set s.seens c n) s.subscribed s.taken
 
+    -- by the decision: a refusal changes only what was seen, and a commit goes behind the journal
     decided-grows : (ready : Ready) (w : Option Witness) (full : Bool) → Grown s (decided s c ready w full).0
     decided-grows ready (Some w) full = saw-grown (length s.journal)
     decided-grows ready None true = saw-grown (length s.journal)
     decided-grows ready None false =
         record { shards = refl; window = refl; limit = refl; more = made_of s.journal ready ∷ []; journal = refl; risen = λ i. omega arith }
 
+    -- a front that is set no lower has risen, and the others stay
     moved-grown : (i f : ℕ) (seens : List ℕ) → front_of s i ≤ f → Grown s (record s { fronts = set s.fronts i f; seens = seens })
     moved-grown i f seens up = risen-grown (set s.fronts i f) seens s.subscribed s.taken (λ j. rises s.fronts i f j up)
 
+    -- by the call: fronts only rise, and only an append adds to the journal
     pub step-grows : (call : Call) → Grown s (step s c call).0
     step-grows Call.refresh = saw-grown (length s.journal)
     step-grows (Call.read a) =
@@ -307,6 +311,7 @@ module _ (s : Store) where
     step-grows Call.take = same-grown (set s.seens c (length s.journal)) s.subscribed (step s c Call.take).0.taken
     step-grows Call.wait = same-grown s.seens s.subscribed s.taken
 
+    -- no front is past the journal's end, so to go there is to rise
     pub followed-grows : (shard : ℕ) → IsSound s → Grown s (followed s c shard)
     followed-grows shard sound =
         moved-grown shard (length s.journal) (set s.seens c (max (seen_by s c) (length s.journal))) (sound.reached shard)
