@@ -30,6 +30,7 @@ module _ (ready : Ready) (old mid : Standing) (same : mid ≡ record old { room 
   found-same = ap (λ (s : Standing). journals.found_past ready s) same
 
   module _ (s : Store) (client : ℕ) (of : HasJournal s old) where
+    -- the store has the journal and its settings, so the pair past the fronts is the same
     found-is : found_past s ready ≡ journals.found_past ready mid
     found-is =
         ap (λ (n : ℕ). least_pair (past_fronts n ready.fronts ready.based) s.journal) of.shards
@@ -42,9 +43,11 @@ module _ (ready : Ready) (old mid : Standing) (same : mid ≡ record old { room 
     whole w full first second =
         ap (λ (o : Option Witness). decided s client ready o (nat_le s.limit (length s.journal))) first ∙ ap (decided s client ready w) second
 
+    -- without a pair there is no witness
     none-past : journals.found_past ready mid ≡ None → witness_past s ready ≡ None
     none-past clear = ap (option_and_then (witness_of ready.based s.journal)) (found-is ∙ clear)
 
+    -- without a pair and below the limit the store adds the commit too, with the same number
     pub by-number : (n : ℕ) (new : Standing) → Decides ready mid (appended.Number n) new → IsDecided s client ready (Answer.number n) new.commits
     by-number n new d =
         let journal : mid.commits ≡ s.journal = commits-same ∙ sym of.journal in
@@ -60,6 +63,7 @@ module _ (ready : Ready) (old mid : Standing) (same : mid ≡ record old { room 
               ∙ sym (ap (λ (p : Store × Answer). p.0.journal) all);
         }
 
+    -- what is a witness of the least pair is the one that the store names, and both leave the journal as it is
     pub by-clash : (found : Found) (w : Witness) (new : Standing) → Decides ready mid (appended.Clash found) new → IsWitnessOf ready.based new.commits found w
         → IsDecided s client ready (Answer.clash w) new.commits
     by-clash found w new d is =
@@ -79,6 +83,7 @@ module _ (ready : Ready) (old mid : Standing) (same : mid ≡ record old { room 
           journal = left ∙ sym of.journal ∙ sym (ap (λ (p : Store × Answer). p.0.journal) all);
         }
 
+    -- without a pair and at the limit the store answers that it is full too, and both leave the journal as it is
     pub by-full : (limit : ℕ) (new : Standing) → Decides ready mid (appended.Full limit) new → IsDecided s client ready (Answer.full limit) new.commits
     by-full limit new d =
         let limits : mid.limit ≡ s.limit = ap (λ (x : Standing). x.limit) same ∙ sym of.limit in

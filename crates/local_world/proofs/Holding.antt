@@ -134,6 +134,7 @@ module _ (journal : Journal) (settings : Settings) (shards : List Sharded) (held
       ];
     }
 
+    -- the one front that was set is no lower than before, and none is past the journal's end
     pub risen-set : old.front ≤ new.front → HaveRisen journal (fronts_of shards) (fronts_of (set shards place new))
     risen-set up =
         let at : get_or (fronts_of shards) place 0 ≤ new.front = subst (λ (n : ℕ). n ≤ new.front) (sym (front-at shards place old there)) up in
@@ -145,6 +146,7 @@ module _ (journal : Journal) (settings : Settings) (shards : List Sharded) (held
               (fronts-up_to (length journal) shards (λ j s is. (held.each j s is).reached) k);
         })
 
+    -- the one front went to a number, if it was behind that
     pub fronts-moved : (to : ℕ) → new.front ≡ max old.front to
         → fronts_of (set shards place new) ≡ set (fronts_of shards) place (max (get_or (fronts_of shards) place 0) to)
     fronts-moved to is =
@@ -219,14 +221,17 @@ module _ (journal : Journal) (settings : Settings) (before after : List Sharded)
   moved-top = moved ∙ ap (λ (k : ℕ). set (fronts_of before) k (max (get_or (fronts_of before) k 0) seen)) here
 
   module _ {E : Type 0} (r : Result Snap E) (base : IfOk r (λ snap. snap.base ≡ s.front)) where
+    -- the base of what was read is the shard's front
     pub read-base : IfOk r (λ snap. snap.base ≡ top)
     read-base = if_ok r (λ snap. snap.base ≡ s.front) (λ snap. snap.base ≡ top) (λ snap e. e ∙ reached-top) base
 
+    -- so that front was set to the base
     pub read-moved : IfOk r (λ snap. fronts_of after ≡ set (fronts_of before) (shard_of address settings.shards) snap.base)
     read-moved =
         if_ok r (λ snap. snap.base ≡ s.front) (λ snap. fronts_of after ≡ set (fronts_of before) (shard_of address settings.shards) snap.base)
         (λ snap e. moved-top ∙ ap (set (fronts_of before) (shard_of address settings.shards)) (sym (e ∙ reached-top))) base
 
+    -- what the first commits up to the front leave is what they leave of the whole journal
     pub read-value : ((first : Journal) → Holds first s → IfOk r (λ snap. snap.value ≡ state first s.front address))
         → IfOk r (λ snap. snap.value ≡ state journal snap.base address)
     read-value values =

@@ -55,6 +55,7 @@ module _ (registry : Registered) (made : IsEntered CLIENTS registry) where
 
   module _ (settings : Settings) (standing : Standing) (shards : List Sharded) (seens : List ℕ) (bare : standing.commits ≡ [])
       (fronts : fronts_of shards ≡ replicate settings.shards 0) (seen : seens ≡ replicate CLIENTS 0) where
+    -- it has no commits, its fronts and what was seen are 0, nobody is told of anything and nothing was taken
     pub is-first : store_of (stored settings standing.commits shards seens registry) ≡ first_store settings.shards settings.window settings.limit
     is-first =
         let n = settings.shards in
@@ -70,12 +71,14 @@ module _ (registry : Registered) (made : IsEntered CLIENTS registry) where
         ∙ ap (λ (s : ℕ → Address → Bool). made' [] (replicate n 0) (replicate CLIENTS 0) s taken) (fun_ext (λ c. fun_ext (nobody-told c)))
         ∙ ap (λ (t : ℕ → ℕ). made' [] (replicate n 0) (replicate CLIENTS 0) (λ c a. false) t) (fun_ext nothing-taken)
 
+    -- the first store is sound, over at least one shard
     pub first-sound : IsSound (store_of (stored settings standing.commits shards seens registry))
     first-sound =
         subst IsSound (sym is-first)
         (first_store_is_sound settings.shards settings.window settings.limit
             (let some : LEAST_SHARDS ≤ settings.shards = settings.shards_in_range.0 in omega arith))
 
+    -- its shards and its registry stand for the journal without commits
     pub first-kept : standing.shards ≡ settings.shards → standing.limit ≡ settings.limit → AreHeld [] settings shards
         → IsKept settings standing shards seens registry
     first-kept all_shards limit held = record {

@@ -212,6 +212,7 @@ module _ (old new : Registered) where
         by true e = each (kept_of old client) ∙ ap (λ (n : ℕ). is_subscribed old n a) (same_number client c e)
         by false e = refl
 
+    -- where the client has taken up to the same number as before, so has everyone
     pub taken-one : ((k : Kept) → (f k).taken ≡ k.taken) → (c : ℕ) → taken_by new c ≡ taken_by old c
     taken-one same c = ap taken_in (is c) ∙ by (is_at (nat_cmp client) c) refl
       where

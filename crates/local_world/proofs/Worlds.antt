@@ -146,17 +146,21 @@ module _ (settings : Settings) (standing : Standing) (shards : List Sharded) (se
   -- ---- a preparing
 
   module _ (shard : ℕ) (based : List Based) (s : Sharded) (can : CanPrepare (known_by (store_of old) client) shard based) (at : s ≡ get_or shards shard s) where
+    -- the shard holds the journal up to its front
     here : IsHeld standing.commits settings shard s
     here = held-there standing.commits settings shards kept.held shard s can.below at
 
+    -- each observation is in the shard, as the client owes it
     pub all-here : AllByRecursion (λ b. shard_of b.address s.shards ≡ s.number) based
     all-here =
         each-more (CanValidate (known_by (store_of old) client) shard) (λ (b : Based). shard_of b.address s.shards ≡ s.number) based
         (λ b v. ap (shard_of b.address) here.shards ∙ v.here ∙ sym here.number) can.each
 
+    -- and it is of its address' kind
     pub all-kinds : AllByRecursion IsBasedOfOneKind based
     all-kinds = each-more (CanValidate (known_by (store_of old) client) shard) IsBasedOfOneKind based (λ b v. v.one_kind) can.each
 
+    -- what the shard answers at its front is what the step does, as its number and window are those of the world
     pub preparing : (a : Answer) (seens' : List ℕ) (all : List Based) → all ≡ based
         → ((journal : Journal) → IsLegal 0 journal → Holds (take s.front journal) s
         → a ≡ validated s.number s.front (s.front - s.window) (late_base (s.front - s.window) (least_base all)) (least_witness all (take s.front journal)))
@@ -177,6 +181,7 @@ module _ (settings : Settings) (standing : Standing) (shards : List Sharded) (se
   -- ---- an append
 
   module _ (ready : Ready) (can : CanAppend (known_by (store_of old) client) ready) where
+    -- what is handed on is of the attempt that the client owes
     of : IsOf (store_of old) client ready can.attempt
     of = record {
       fits = can.told.fits;
@@ -187,6 +192,7 @@ module _ (settings : Settings) (standing : Standing) (shards : List Sharded) (se
       next = can.told.seq;
     }
 
+    -- the attempt fits the journal and its run is done, so the journal may decide on what it hands on
     pub may-decide : MayDecide ready standing
     may-decide = record {
       legal = kept.sound.legal;
@@ -205,9 +211,11 @@ module _ (settings : Settings) (standing : Standing) (shards : List Sharded) (se
       few = can.few;
     }
 
+    -- the store of the world has the journal's commits and settings
     has-journal : HasJournal (store_of old) standing
     has-journal = record { journal = refl; shards = sym kept.all_shards; limit = sym kept.limit_is }
 
+    -- what the journal decides is the step's answer and leaves the step's journal, which the client has then seen
     pub appending : (a : Answer) (standing' : Standing) (seens' : List ℕ) (n : ℕ)
         → ((s : Store) (c : ℕ) → HasJournal s standing → IsDecided s c ready a standing'.commits) → n ≡ length standing'.commits → seens' ≡ set seens client n
         → Does (store_of old) client (Call.append ready) a (store_of (stored settings standing'.commits shards seens' registry))
@@ -260,6 +268,7 @@ module _ (settings : Settings) (standing : Standing) (shards : List Sharded) (se
       following = subst (λ (j : Journal). IsFollowing j registry) (sym same) kept.following;
     }
 
+    -- for want of memory the journal stays as it is, and the store with it
     pub stands_still : (standing' : Standing) → standing'.commits ≡ standing.commits
         → Does (store_of old) client (Call.append ready) (Answer.failed false) (store_of (stored settings standing'.commits shards seens registry))
     stands_still standing' same =
@@ -271,6 +280,7 @@ module _ (settings : Settings) (standing : Standing) (shards : List Sharded) (se
   module _ (shard : ℕ) (shards' : List Sharded) (seens' : List ℕ) (n : ℕ) (end : n ≡ length standing.commits)
       (moved : fronts_of shards' ≡ set (fronts_of shards) shard (max (get_or (fronts_of shards) shard 0) n))
       (seen : seens' ≡ set seens client (max (get_or seens client 0) n)) where
+    -- no front is past the journal's end, so the shard's goes there and the client has seen as much
     pub followed-to : store_of (stored settings standing.commits shards' seens' registry) ≡ followed (store_of old) client shard
     followed-to =
         let made : List ℕ → List ℕ → Store = λ fs ns. store_of (record old { fronts = fs; seens = ns }) in
@@ -279,6 +289,7 @@ module _ (settings : Settings) (standing : Standing) (shards : List Sharded) (se
         ap (λ fs. made fs seens') (moved ∙ ap (set (fronts_of shards) shard) all)
         ∙ ap (made (set (fronts_of shards) shard (length standing.commits))) (seen ∙ ap (λ (k : ℕ). set seens client (max (get_or seens client 0) k)) end)
 
+    -- a shard that follows leaves a sound store, and the other parts as they are
     pub followed-kept : AreHeld standing.commits settings shards' → IsKept settings standing shards' seens' registry
     followed-kept held = record {
       sound = subst IsSound (sym followed-to) (followed-sound (store_of old) client kept.sound shard);
