@@ -192,6 +192,7 @@ clears-composed d e = by e.cleared refl
             pushed = without e.removed d.pushed ++ e.pushed })).cleared) is
         ∙ sym (or_none d.cleared)
 
+-- whether a delta clears or takes items out
 abbrev pub takes : Listed → Bool
 takes d = d.cleared || has_some d.removed
 
