@@ -28,6 +28,7 @@ item-read [] i change d e = absurd (cc)
 item-read (first ∷ rest) zero change d e = cc
 item-read (first ∷ rest) (suc i) change d e = item-read rest i change d e
 
+-- numbers that don't fall from any place to a later one don't fall from the first to those behind it, nor among these
 rises : (changes : List Change) → IsNonDecreasingBy (λ change. change.number) changes → Rises changes
 rises [] order = tt
 rises (change ∷ rest) order = (
@@ -67,6 +68,7 @@ module _ (based : Based) (change : Change) (rest : List Change) where
   behind-at number (suc index) other apart among numbered clashing = record
       { index = index; change = other; among = among; numbered = numbered; clashing = clashing }
 
+  -- a clash among all stands at some place, and not at the first
   behind : (number : ℕ) → clashes based change ≡ false → Clashing based (change ∷ rest) number → Clashing based rest number
   behind number apart c = behind-at number c.index c.change apart c.among c.numbered c.clashing
 
@@ -75,6 +77,7 @@ module _ (based : Based) (change : Change) (rest : List Change) where
   reached rising zero other among = let same : change ≡ other = cc in let n : change.number ≡ other.number = ap (λ c. c.number) same in omega arith
   reached rising (suc index) other among = rising.0 index other among
 
+-- a first change that clashes has the least number, as numbers don't fall; one that doesn't leaves it to those behind it
 first-is : (based : Based) (changes : List Change) → Rises changes → IsFirst based changes (first_clash based changes)
 first-is based [] rising = λ number c. absurd (let e = c.among in cc)
 first-is based (change ∷ rest) rising = by (clashes based change) refl (first_clash based rest) (first-is based rest rising.1)
@@ -127,9 +130,11 @@ module _ (place : ℕ) (based : Based) (others : List Based) (changes : List Cha
       by zero at placed = let same : pair.observation ≡ based = cc in inl (omega (arith, at), subst (λ b. Clashing b changes found.number) same pair.clash)
       by (suc ahead) at placed = inr (record { ahead = ahead; observation = pair.observation; at = omega (arith, at); placed = placed; clash = pair.clash })
 
+  -- what clashes with the first observation is a pair at its place
   first-pair : (number : ℕ) → Clashing based changes number → PairFrom place (based ∷ others) changes (record { place = place; number = number })
   first-pair number c = record { ahead = zero; observation = based; at = omega arith; placed = refl; clash = c }
 
+  -- a pair of the other observations is one of all, at the same place
   later-pair : (found : Found) → PairFrom (place + 1) others changes found → PairFrom place (based ∷ others) changes found
   later-pair found pair = record { ahead = suc pair.ahead; observation = pair.observation; at =
       (let h = pair.at in omega (arith, h)); placed = pair.placed; clash = pair.clash }
@@ -172,6 +177,7 @@ module _ (place : ℕ) (based : Based) (others : List Based) (changes : List Cha
               let n : first ≤ second.number = grind (arith, below) in
               up_to-along (record { place = place; number = first }) second other n (omega (arith, p)) (later.1 other h)
 
+-- observation by observation: the best of all is the lesser of the first one's first clash and the best of the others
 best-is : (place : ℕ) (based : List Based) (changes : List Change) → Rises changes → IsBest place based changes (least_from place based changes)
 best-is place [] changes rising = λ found pair. absurd (let e = pair.placed in cc)
 best-is place (first ∷ others) changes rising =
@@ -180,6 +186,7 @@ best-is place (first ∷ others) changes rising =
 
 -- ---- all observations
 
+-- a pair of all observations is one of those from place 0 on
 pair-is : (based : List Based) (changes : List Change) (found : Found) → IsPair based changes found → PairFrom 0 based changes found
 pair-is based changes found pair = record {
   ahead = found.place;
@@ -189,6 +196,7 @@ pair-is based changes found pair = record {
   clash = record { index = pair.index; change = pair.change; among = pair.among; numbered = pair.numbered; clashing = pair.clashing };
 }
 
+-- and a pair of those from place 0 on is one of all
 is-pair : (based : List Based) (changes : List Change) (found : Found) → PairFrom 0 based changes found → IsPair based changes found
 is-pair based changes found pair =
     let c = pair.clash in
@@ -202,6 +210,7 @@ is-pair based changes found pair =
       clashing = c.clashing;
     }
 
+-- numbers of a tail don't fall, and the best of the observations from place 0 on is the least of all pairs
 pub least-is-least : LeastIsLeast
 least-is-least based first last changes tail =
     by (least based changes) (best-is 0 based changes (rises changes (IsNonDecreasingBy-from_all_adjacent (λ change. change.number) changes tail.in_order)))

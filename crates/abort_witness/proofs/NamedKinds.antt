@@ -43,14 +43,17 @@ made : {A : Type 0} (kind : Kind) (f : A → WriteOp) (o : Option A) → ((a : A
 made kind f None is = tt
 made kind f (Some a) is = is a
 
+-- a mark of a set is done by an operation on sets, whether it adds or removes
 set-part : (x : Bytes) (b : Bool) (d : Delta) → kind_changed d ≡ kind_written (set_part x true) → kind_written (set_part x b) ≡ kind_changed d
 set-part x true d is = sym is
 set-part x false d is = sym is
 
+-- a mark of a hash is done by an operation on hashes, whether it puts or removes
 hash-part : (f : Bytes) (m : Mark) (d : Delta) → kind_changed d ≡ kind_written (hash_part f mark.Removed) → kind_written (hash_part f m) ≡ kind_changed d
 hash-part f (mark.Put text) d is = sym is
 hash-part f mark.Removed d is = sym is
 
+-- a put and an addition write the kind that they change
 whole-is : (d : Delta) → IsOf (kind_changed d) (whole_part d)
 whole-is (delta.PutBool b) = refl
 whole-is (delta.PutCounter n) = refl
@@ -60,6 +63,7 @@ whole-is (delta.Set d) = tt
 whole-is (delta.Hash d) = tt
 whole-is (delta.List d) = tt
 
+-- the clear that is named is that of the delta's own kind
 clear-is : (d : Delta) → IsOf (kind_changed d) (clear_part d)
 clear-is (delta.PutBool b) = tt
 clear-is (delta.PutCounter n) = tt
@@ -69,6 +73,7 @@ clear-is (delta.Set d) = under _ d.cleared _ refl
 clear-is (delta.Hash d) = under _ d.cleared _ refl
 clear-is (delta.List d) = under _ d.cleared _ refl
 
+-- a mark that is named is of an element where the delta is a set's, and of a field where it is a hash's
 mark-is : (x : Bytes) (d : Delta) → IsOf (kind_changed d) (mark_part x d)
 mark-is x (delta.PutBool b) = tt
 mark-is x (delta.PutCounter n) = tt
@@ -78,6 +83,7 @@ mark-is x (delta.Set d) = made _ (set_part x) (map.get d.marks x) (λ b. set-par
 mark-is x (delta.Hash d) = made _ (hash_part x) (map.get d.marks x) (λ m. hash-part x m (delta.Hash d) refl)
 mark-is x (delta.List d) = tt
 
+-- and so is the first mark
 first-mark-is : (d : Delta) → IsOf (kind_changed d) (first_mark d)
 first-mark-is (delta.PutBool b) = tt
 first-mark-is (delta.PutCounter n) = tt
@@ -87,6 +93,7 @@ first-mark-is (delta.Set d) = made _ _ _ (λ e. set-part e.0 e.1 (delta.Set d) r
 first-mark-is (delta.Hash d) = made _ _ _ (λ e. hash-part e.0 e.1 (delta.Hash d) refl)
 first-mark-is (delta.List d) = tt
 
+-- a text is taken out by a delta of a list alone
 first-removed-is : (d : Delta) → IsOf (kind_changed d) (first_removed d)
 first-removed-is (delta.PutBool b) = tt
 first-removed-is (delta.PutCounter n) = tt
@@ -96,6 +103,7 @@ first-removed-is (delta.Set d) = tt
 first-removed-is (delta.Hash d) = tt
 first-removed-is (delta.List d) = made _ _ _ (λ e. refl)
 
+-- and an item is pushed by one alone
 first-pushed-is : (d : Delta) → IsOf (kind_changed d) (first_pushed d)
 first-pushed-is (delta.PutBool b) = tt
 first-pushed-is (delta.PutCounter n) = tt
@@ -105,6 +113,7 @@ first-pushed-is (delta.Set d) = tt
 first-pushed-is (delta.Hash d) = tt
 first-pushed-is (delta.List d) = made _ _ _ (λ item. refl)
 
+-- row by row: each names some of these parts
 named-is : (o : Obs) (d : Delta) → IsOf (kind_changed d) (named o d)
 named-is obs.BoolIs d = whole-is d
 named-is obs.CounterIs d = whole-is d

@@ -32,6 +32,7 @@ delta_at-with_delta deltas address delta q =
 
 -- ---- changes one by one
 
+-- change by change: each is composed at its own address with what stood there, and leaves every other as it was
 kept_pending : (deltas : Deltas) (changes : List Change) (q : Address)
     → delta_at (with_changes deltas changes) q ≡ composed_after (delta_at deltas q) (deltas_at q changes)
 kept_pending deltas [] q = refl
@@ -47,6 +48,7 @@ kept_pending deltas (change ∷ changes) q =
     by true = refl
     by false = refl
 
+-- a feed begins with nothing, and so its deltas are composed as what is pending is
 pub feeds_keep_pending : FeedsKeepPending
 feeds_keep_pending changes q = kept_pending [] changes q
 
@@ -60,6 +62,7 @@ none_behind q address (pair ∷ deltas) same below =
     ap (λ r. cond (is_eq r) (Some pair.1) (delta_at deltas q)) (addresses.total-law.congr q address pair.0 same ∙ below.0)
     ∙ none_behind q address deltas same below.1
 
+-- pair by pair: each is added at its address, and since addresses rise no later pair is at the same one
 pub feeds_join : FeedsJoin
 unfolding IsStrictlySortedBy
 feeds_join changes [] q rising = refl

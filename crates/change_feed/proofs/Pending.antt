@@ -19,9 +19,11 @@ use Rattle.change_feed.specs.Feeds.{after_both, AreOfTheirKinds, PendingJoins}
 -- ---- deltas of one kind
 
 module _ (k : Kind) where
+  -- deltas of one kind
   abbrev AreOfKind : List Delta → Type 0
   AreOfKind deltas = AllByRecursion (λ d. kind_changed d ≡ k) deltas
 
+  -- a delta of this kind, or none
   abbrev IsOfKind : Option Delta → Type 0
   IsOfKind None = Unit {0}
   IsOfKind (Some d) = kind_changed d ≡ k
@@ -47,10 +49,12 @@ module _ (k : Kind) where
       ∙ two_first a d (composed_after None deltas) is all.0 (of_kind None deltas tt all.1)
       ∙ ap (after_both (Some a)) (sym (after_one d deltas all.0 all.1))
 
+  -- after nothing there is what comes next
   nothing_before : (o : Option Delta) → o ≡ after_both None o
   nothing_before None = refl
   nothing_before (Some d) = refl
 
+  -- with one before them or none, deltas come to what is composed of that and of what they come to alone
   after_any : (before : Option Delta) (deltas : List Delta) → IsOfKind before → AreOfKind deltas
       → composed_after before deltas ≡ after_both before (composed_after None deltas)
   after_any None deltas is all = nothing_before (composed_after None deltas)
@@ -62,6 +66,7 @@ module _ (k : Kind) where
 abbrev at : Address → List Change → List Change
 at address changes = filter (λ c. is_at (address_cmp address) c.address) changes
 
+-- the deltas of changes, in order
 abbrev deltas_of : List Change → List Delta
 deltas_of changes = map (λ c. c.delta) changes
 
@@ -92,6 +97,7 @@ at-of_kind address (change ∷ changes) all = by (is_at (address_cmp address) ch
     by true here rest = (all.0 ∙ ap (λ (a : Address). a.kind) (sym (address_cmp-equal address change.address (equal _ here))), rest)
     by false there rest = rest
 
+-- the deltas at the address are all of its kind, so those of the later changes may be composed first
 pub pending_joins : PendingJoins
 pending_joins changes later address first second =
     deltas_at-append address None changes later

@@ -21,6 +21,7 @@ use Rattle.client_cache.specs.Histories.{apply_maybe}
 use Rattle.client_cache.specs.Cached.{Values}
 use Rattle.client_cache.specs.code.Changing.{changed_one, changed_from, with_all}
 
+-- the value at an address, if there is one
 abbrev pub value_at : Values → Address → Option Value
 value_at values address = lookup (is_at (address_cmp address)) values
 

@@ -24,6 +24,7 @@ use Rattle.client_cache.specs.Laws.{PendingAppliesInTurn, HoldsState, CachesFoll
 -- ---- deltas of one kind
 
 module _ (k : Kind) where
+  -- a delta of this kind, or none
   abbrev IsOfKind : Option Delta → Type 0
   IsOfKind None = Unit {0}
   IsOfKind (Some d) = kind_changed d ≡ k
@@ -43,6 +44,7 @@ module _ (k : Kind) where
 abbrev at : Address → List Change → List Change
 at address changes = filter (λ c. is_at (address_cmp address) c.address) changes
 
+-- the deltas of changes, in order
 abbrev deltas_of : List Change → List Delta
 deltas_of changes = map (λ c. c.delta) changes
 
@@ -58,6 +60,7 @@ at-of_kind address (change ∷ changes) all = by (is_at (address_cmp address) ch
     by true here rest = (all.0 ∙ ap (λ (a : Address). a.kind) (sym (address_cmp-equal address change.address (equal _ here))), rest)
     by false there rest = rest
 
+-- what is pending is a composition of deltas of the address's kind, with none before it
 pub pending_applies_in_turn : PendingAppliesInTurn
 pending_applies_in_turn changes address value kinds =
     in_turn address.kind None (deltas_at address changes) value tt (at-of_kind address changes kinds)

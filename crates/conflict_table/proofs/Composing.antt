@@ -35,12 +35,14 @@ use Rattle.conflict_table.proofs.Items.{clears-composed}
 
 -- ---- a test that a composition passes where one of the two deltas does
 
+-- of three tests it is one which two are joined first
 or_assoc : (a b c : Bool) → ((a || b) || c) ≡ (a || (b || c))
 or_assoc true b c = refl
 or_assoc false b c = refl
 
 module _ (k : Kind) (test : Delta → Bool) (by_parts : (first second : Delta) → kind_changed first ≡ kind_changed second
     → test (compose first second) ≡ (test first || test second)) where
+  -- operation by operation: each is composed with what came before, and that passes where one of the two does
   after_one : (d : Delta) (own : List WriteOp) → kind_changed d ≡ k → AllByRecursion (λ o. kind_written o ≡ k) own
       → if_any test (composed_after (Some d) own) ≡ (test d || list_any (λ o. test (delta_of o)) own)
   after_one d [] is all = sym (or_none (test d))
@@ -80,6 +82,7 @@ list_any-or p q (o ∷ own) = ap (λ b. (p o || q o) || b) (list_any-or p q own)
 
 -- ---- each test of deltas, and of operations
 
+-- pair by pair: a put stays one under an addition, and covers what was before it
 one_kind-puts : (first second : Delta) → OfOneKind first second
     → composed.puts (compose first second) ≡ (composed.puts first || composed.puts second)
 one_kind-puts first second (bools b c) = refl
@@ -92,6 +95,7 @@ one_kind-puts first second (sets d e) = refl
 one_kind-puts first second (hashes d e) = refl
 one_kind-puts first second (lists d e) = refl
 
+-- operation by operation: just the puts of a bool, a counter or a text have a delta that puts
 puts-delta_of : (o : WriteOp) → composed.puts (delta_of o) ≡ is_put o
 puts-delta_of (op.PutBool b) = refl
 puts-delta_of (op.PutCounter n) = refl
@@ -111,6 +115,7 @@ puts-delta_of op.ListClear = refl
 alone : (a b c : Bool) → (a || false) ≡ ((b || false) || (c || false)) → a ≡ (b || c)
 alone a b c is = sym (or_none a) ∙ is ∙ (λ i. or_none b i || or_none c i)
 
+-- pair by pair: a clear of the second stays, and so does one of the first where the second has none
 one_kind-clears : (first second : Delta) → OfOneKind first second → clears (compose first second) ≡ (clears first || clears second)
 one_kind-clears first second (bools b c) = refl
 one_kind-clears first second (puts m n) = refl
@@ -122,6 +127,7 @@ one_kind-clears first second (sets d e) = alone _ _ _ (clears_alone-composed add
 one_kind-clears first second (hashes d e) = alone _ _ _ (clears_alone-composed put_by d e)
 one_kind-clears first second (lists d e) = clears-composed d e
 
+-- operation by operation: just the clears have a delta that clears
 clears-delta_of : (o : WriteOp) → clears (delta_of o) ≡ is_clear o
 clears-delta_of (op.PutBool b) = refl
 clears-delta_of (op.PutCounter n) = refl
@@ -147,6 +153,7 @@ one_mark {M} x y mark =
     by true = refl
     by false = refl
 
+-- operation by operation: the delta of a clear clears, and the one mark of another stands at the text that it names
 names-delta_of : (x : Bytes) (o : WriteOp) → (clears (delta_of o) || names x (delta_of o)) ≡ (is_clear o || reads.names x o)
 names-delta_of x (op.PutBool b) = refl
 names-delta_of x (op.PutCounter n) = refl
@@ -162,6 +169,7 @@ names-delta_of x (op.ListPush y) = refl
 names-delta_of x (op.ListRemove y) = refl
 names-delta_of x op.ListClear = refl
 
+-- operation by operation: the delta of a clear clears, and just that of a removal from a list takes items out
 removes-delta_of : (o : WriteOp) → (clears (delta_of o) || removes (delta_of o)) ≡ (is_clear o || is_list_remove o)
 removes-delta_of (op.PutBool b) = refl
 removes-delta_of (op.PutCounter n) = refl
@@ -180,23 +188,28 @@ removes-delta_of op.ListClear = refl
 -- ---- the law
 
 module _ (k : Kind) (own : List WriteOp) (all : AllByRecursion (λ o. kind_written o ≡ k) own) where
+  -- the composition puts where one of the operations does
   puts_alike : if_any composed.puts (composed_of own) ≡ list_any is_put own
   puts_alike = any-operation k composed.puts (λ d e same. one_kind-puts d e (of_one_kind d e same)) is_put puts-delta_of own all
 
+  -- it clears where one of them does
   clears_alike : if_any clears (composed_of own) ≡ list_any is_clear own
   clears_alike = any-operation k clears (λ d e same. one_kind-clears d e (of_one_kind d e same)) is_clear clears-delta_of own all
 
+  -- it clears or marks a text where one of them clears or names it: this is the clash of an element, which goes by parts
   names_alike : (x : Bytes)
       → if_any (λ d. clears d || names x d) (composed_of own) ≡ (list_any is_clear own || list_any (reads.names x) own)
   names_alike x =
       any-operation k (clash (obs.SetHas x)) (compositions_clash_by_parts (obs.SetHas x)) (λ o. is_clear o || reads.names x o) (names-delta_of x) own all
       ∙ list_any-or is_clear (reads.names x) own
 
+  -- it clears or takes items out where one of them does: this is the clash of a place, which goes by parts
   takes_alike : if_any (λ d. clears d || removes d) (composed_of own) ≡ (list_any is_clear own || list_any is_list_remove own)
   takes_alike =
       any-operation k (clash (obs.ListAt 0)) (compositions_clash_by_parts (obs.ListAt 0)) (λ o. is_clear o || is_list_remove o) removes-delta_of own all
       ∙ list_any-or is_clear is_list_remove own
 
+  -- read by read, by the test that decides it
   pub decided_alike : (r : ReadOp) → is_decided_by r (composed_of own) ≡ is_decided r own
   decided_alike read.Get = puts_alike
   decided_alike (read.SetHas x) = names_alike x
@@ -207,6 +220,7 @@ module _ (k : Kind) (own : List WriteOp) (all : AllByRecursion (λ o. kind_writt
   decided_alike (read.ListAt i) = ap (λ b. is_negative i || b) clears_alike
   decided_alike read.ListAll = clears_alike
 
+  -- a delta, if there is one, passes one of two tests where it passes the first or the second
   either_if_any : (d : Option Delta) → if_any (λ d. clears d || removes d) d ≡ (if_any clears d || if_any removes d)
   either_if_any None = refl
   either_if_any (Some d) = refl
@@ -219,6 +233,7 @@ module _ (k : Kind) (own : List WriteOp) (all : AllByRecursion (λ o. kind_writt
       ∙ takes_alike
       ∙ ap (λ b. b || list_any is_list_remove own) none
 
+  -- what is observed goes by removals at a place of a list alone, and there is no clear where that isn't decided
   pub observed_alike : (r : ReadOp) (v : Value) → is_decided r own ≡ false → observed_by r (composed_of own) v ≡ observed r own v
   observed_alike (read.ListAt i) v none =
       ap (λ b. observed_where (read.ListAt i) b v) (removes_alike (or_parts (is_negative i) (list_any is_clear own) none).1)
@@ -226,6 +241,7 @@ module _ (k : Kind) (own : List WriteOp) (all : AllByRecursion (λ o. kind_writt
 
 -- a composition leaves what the operations leave
 module _ (k : Kind) where
+  -- operation by operation: a composition, applied, is one delta after the other, and the delta of an operation is what it writes
   left_after : (d : Delta) (own : List WriteOp) (v : Value) → kind_changed d ≡ k → AllByRecursion (λ o. kind_written o ≡ k) own
       → left_by (composed_after (Some d) own) v ≡ replay own (apply d v)
   left_after d [] v is all = refl
@@ -234,10 +250,12 @@ module _ (k : Kind) where
       left_after (compose d (delta_of o)) own v (kind-compose d (delta_of o) ∙ kind-delta_of o ∙ all.0) all.1
       ∙ ap (replay own) (compositions_apply_in_turn d (delta_of o) v same ∙ deltas_write o (apply d v))
 
+  -- so the composition of all operations leaves what they leave, and no operations leave the value itself
   pub left_alike : (own : List WriteOp) (v : Value) → AllByRecursion (λ o. kind_written o ≡ k) own
       → left_by (composed_of own) v ≡ replay own v
   left_alike [] v all = refl
   left_alike (o ∷ own) v all = left_after (delta_of o) own v (kind-delta_of o ∙ all.0) all.1 ∙ ap (replay own) (deltas_write o v)
 
+-- the three parts of the law: what is decided, what is observed, and what is left
 pub reads_go_by_compositions : ReadsGoByCompositions
 reads_go_by_compositions r k own v all = (decided_alike k own all r, observed_alike k own all r v, left_alike k own v all)

@@ -19,9 +19,11 @@ use Rattle.conflict_table.proofs.Keys.{empty-has_some, key-has_some, has_some-ov
 abbrev pub has_items : List Bytes → Bool
 has_items xs = not (nat_eq (length xs) 0)
 
+-- a list whose length is 0 is empty
 pub has_no_items : (xs : List Bytes) → has_items xs ≡ false → xs ≡ []
 has_no_items xs none = empty-length xs (eqb-true (length xs) 0 (not-false _ none))
 
+-- two lists after one another have items where one of them has
 has_items-append : (xs ys : List Bytes) → has_items (xs ++ ys) ≡ (has_items xs || has_items ys)
 has_items-append [] ys = refl
 has_items-append (x ∷ xs) ys = ap not (eqb-suc-zero (length (xs ++ ys))) ∙ sym (ap (λ b. not b || has_items ys) (eqb-suc-zero (length xs)))
@@ -37,6 +39,7 @@ slice_get-replicate : (i : ℕ) (x : Bytes) → slice_get (replicate (suc i) x) 
 slice_get-replicate zero x = refl
 slice_get-replicate (suc i) x = slice_get-replicate i x
 
+-- whether the first item stays goes by whether its text is taken out
 without_step : (removed : SetOfTexts) (b : Bool) (x : Bytes) (xs : List Bytes) → has_text removed x ≡ b
     → without removed (x ∷ xs) ≡ cond (not b) (x ∷ without removed xs) (without removed xs)
 without_step removed b x xs is = ap (λ b. cond (not b) (x ∷ without removed xs) (without removed xs)) is
@@ -92,6 +95,7 @@ all_gone i d x gone other = (
   λ same. other (sym (ap (λ xs. slice_get xs i) gone) ∙ same ∙ slice_get-replicate i x),
 )
 
+-- after a clear there is only what the delta pushes
 cleared_goes : (d : Listed) (xs : List Bytes) → d.cleared ≡ true → applied d xs ≡ d.pushed
 cleared_goes d xs clears = ap (λ b. cond b [] (without d.removed xs) ++ d.pushed) clears
 
@@ -103,6 +107,7 @@ cleared_changes i d clears = by (not_both (slice_get d.pushed i) [])
     by (inl other) = all_gone i d [] (cleared_goes d (replicate (suc i) []) clears) other
     by (inr other) = all_gone i d (0 ∷ []) (cleared_goes d (replicate (suc i) (0 ∷ [])) clears) other
 
+-- where equal items are all taken out there is only what the delta pushes, as after a clear
 removed_goes : (b : Bool) (d : Listed) (n : ℕ) (x : Bytes) → d.cleared ≡ b → has_text d.removed x ≡ true
     → applied d (replicate n x) ≡ d.pushed
 removed_goes true d n x clears there = cleared_goes d _ clears
@@ -153,6 +158,7 @@ changed_at i d h = by d.cleared refl h
     by true clears some = cleared_changes i d clears
     by false keeps some = let key = key-has_some d.removed some in removed_changes i d key.0 keeps key.1
 
+-- an empty list has nothing to clear or to take out
 of_nothing : (b : Bool) (d : Listed) → cond b [] (without d.removed []) ++ d.pushed ≡ d.pushed
 of_nothing true d = refl
 of_nothing false d = refl
@@ -167,6 +173,7 @@ changed d h = by (d.cleared || has_some d.removed) refl h
 
 -- ---- compositions
 
+-- a union has texts where one of the two sets has
 has_some-union : (r s : SetOfTexts) → has_some (union r s) ≡ (has_some r || has_some s)
 has_some-union r s = has_some-overlaid (λ text. Some text) (λ text. refl) r s
 
@@ -185,9 +192,11 @@ clears-composed d e = by e.cleared refl
             pushed = without e.removed d.pushed ++ e.pushed })).cleared) is
         ∙ sym (or_none d.cleared)
 
+-- whether a delta clears or takes items out
 abbrev pub takes : Listed → Bool
 takes d = d.cleared || has_some d.removed
 
+-- a second that clears stands alone, and a first that clears stays so; else what is taken out is the union
 takes_parts : (c : Bool) (r : SetOfTexts) (p : List Bytes) (b : Bool) (s : SetOfTexts) (q : List Bytes)
     → takes (composed (record { cleared = c; removed = r; pushed = p }) (record { cleared = b; removed = s; pushed = q }))
     ≡ ((c || has_some r) || (b || has_some s))
@@ -195,6 +204,7 @@ takes_parts c r p true s q = sym (or-true (c || has_some r))
 takes_parts true r p false s q = refl
 takes_parts false r p false s q = has_some-union r s
 
+-- so a composition clears or takes out where one of the two does
 pub takes-composed : (d e : Listed) → takes (composed d e) ≡ (takes d || takes e)
 takes-composed d e = takes_parts d.cleared d.removed d.pushed e.cleared e.removed e.pushed
 
@@ -204,6 +214,7 @@ still_some true s p q n none = refl
 still_some false true p q n none = sym (or-true p)
 still_some false false p q n none = none refl
 
+-- where the second takes nothing out, all that was pushed stays
 pushed_by : (s : SetOfTexts) (p q : List Bytes) → has_some s ≡ false → has_items (without s p ++ q) ≡ (has_items p || has_items q)
 pushed_by s p q none = ap (λ xs. has_items (xs ++ q)) (without_nothing s p (empty-has_some s none)) ∙ has_items-append p q
 
@@ -211,6 +222,7 @@ pushed_by s p q none = ap (λ xs. has_items (xs ++ q)) (without_nothing s p (emp
 abbrev pub acts : Listed → Bool
 acts d = (d.cleared || has_some d.removed) || has_items d.pushed
 
+-- a clear of either one is left; else what the first pushed stays, or the second takes texts out and so does something itself
 acts_parts : (c : Bool) (r : SetOfTexts) (p : List Bytes) (b : Bool) (s : SetOfTexts) (q : List Bytes)
     → acts (composed (record { cleared = c; removed = r; pushed = p }) (record { cleared = b; removed = s; pushed = q }))
     ≡ (((c || has_some r) || has_items p) || ((b || has_some s) || has_items q))
@@ -220,5 +232,6 @@ acts_parts false r p false s q =
     ap (λ b. b || has_items (without s p ++ q)) (has_some-union r s)
     ∙ still_some (has_some r) (has_some s) (has_items p) (has_items q) _ (pushed_by s p q)
 
+-- so a composition does anything where one of the two does
 pub acts-composed : (d e : Listed) → acts (composed d e) ≡ (acts d || acts e)
 acts-composed d e = acts_parts d.cleared d.removed d.pushed e.cleared e.removed e.pushed

@@ -51,6 +51,7 @@ module _ {V : Type 0} where
   pub empty-has_some : (m : MapOf V) → has_some m ≡ false → m ≡ map.empty
   empty-has_some m none = map.empty_of_len m (eqb-true (map.len m) 0 (not-false _ none))
 
+  -- the length of the empty map is 0
   pub has_some-empty : (m : MapOf V) → m ≡ map.empty → has_some m ≡ false
   has_some-empty m none = ap has_some none ∙ ap (λ n. not (nat_eq n 0)) (map.len-empty text_cmp V)
 
@@ -74,6 +75,7 @@ twice_mapped f key (Some v) = refl
 
 -- marks that each leave something
 module _ {V M : Type 0} (left : M → Option V) (leaves : (mark : M) → is_some (left mark) ≡ true) where
+  -- a mark leaves something, and without a mark there is what was there
   found : (o : Option M) (u : Option V) → is_some (found_after left o u) ≡ (is_some u || is_some o)
   found None u = sym (or_none (is_some u))
   found (Some mark) u = leaves mark ∙ sym (or-true (is_some u))

@@ -19,6 +19,7 @@ differs false true e f = false≢true f
 differs false false e f = false≢true e
 
 module _ {M V : Type 0} (left : M → Option V) where
+  -- without a mark there is what was there
   unmarked : (o : Option M) (u : Option V) → is_some o ≡ false → found_after left o u ≡ u
   unmarked None u none = refl
   unmarked (Some mark) u none = absurd (true≢false none)
@@ -39,6 +40,7 @@ module _ {M V : Type 0} (left : M → Option V) where
   abbrev left_at : Keyed M → Bytes → Option V
   left_at d x = found_after left (map.get d.marks x) None
 
+  -- where all was cleared nothing was there, and else there is a mark, which covers what was
   settled : (b : Bool) (o : Option M) (u : Option V) → (b ≡ true → u ≡ None) → (b || is_some o) ≡ true
       → found_after left o u ≡ found_after left o None
   settled b (Some mark) u cleared h = refl
@@ -57,6 +59,7 @@ module _ {M V : Type 0} (left : M → Option V) where
   opposite v x None = map.insert map.empty x v
   opposite v x (Some w) = map.empty
 
+  -- where nothing is left the opposite has its one value, and where something is it is empty
   is_opposite : (v : V) (x : Bytes) (o : Option V) → is_some o ≡ not (map.contains_key (opposite v x o) x)
   is_opposite v x None =
       sym (ap (λ o. not (is_some o)) (map.get-insert nat_list_cmp_total map.empty x v x
@@ -70,6 +73,7 @@ module _ {M V : Type 0} (left : M → Option V) where
       let m = opposite v x (left_at d x) in
       (m, ap is_some (get-applied_marked d m x h) ∙ is_opposite v x (left_at d x))
 
+  -- a clear touches every key, the empty one too, and without it some mark has its key
   a_key : (b : Bool) (marks : MapOf M) → (b || has_some marks) ≡ true → (x : Bytes) × ((b || map.contains_key marks x) ≡ true)
   a_key true marks h = ([], refl)
   a_key false marks h = key-has_some marks h
@@ -87,6 +91,7 @@ module _ {M V : Type 0} (left : M → Option V) where
     abbrev touches : Keyed M → Bool
     touches d = d.cleared || test d.marks
 
+    -- a second that clears stands alone, and a first that clears stays so; else the marks of both pass by parts
     of_parts : (c : Bool) (ms : MapOf M) (b : Bool) (ns : MapOf M)
         → touches (composed left (record { cleared = c; marks = ms }) (record { cleared = b; marks = ns }))
         ≡ ((c || test ms) || (b || test ns))

@@ -21,38 +21,46 @@ use Rattle.conflict_table.proofs.Keys.{tied, first_item, first-has_some, has_som
 
 -- ---- each part is there exactly where its test holds
 
+-- a function makes something of just what is there
 pub is_some-map : {A B : Type 0} (f : A → B) (o : Option A) → is_some (option_map f o) ≡ is_some o
 is_some-map f None = refl
 is_some-map f (Some x) = refl
 
+-- the first or else the second is there where one of them is
 is_some-or : {A : Type 0} (o p : Option A) (a b : Bool) → is_some o ≡ a → is_some p ≡ b → is_some (option_or o p) ≡ (a || b)
 is_some-or None p a b e f = ap (λ c. c || is_some p) e ∙ ap (λ c. a || c) f
 is_some-or (Some x) p a b e f = ap (λ c. c || b) e
 
+-- what stands under a test is there where the test holds
 is_some-then : {A : Type 0} (b : Bool) (x : A) → is_some (then_some b x) ≡ b
 is_some-then true x = refl
 is_some-then false x = refl
 
+-- a clear is named where the delta clears
 some_clear : (d : Delta) → is_some (clear_part d) ≡ clears d
 some_clear (delta.Set d) = is_some-then d.cleared op.SetClear
 some_clear (delta.Hash d) = is_some-then d.cleared op.HashClear
 some_clear (delta.List d) = is_some-then d.cleared op.ListClear
 some_clear d = refl
 
+-- a mark at a text is named where the delta has one there
 some_mark : (x : Bytes) (d : Delta) → is_some (mark_part x d) ≡ names x d
 some_mark x (delta.Set d) = is_some-map (set_part x) (map.get d.marks x)
 some_mark x (delta.Hash d) = is_some-map (hash_part x) (map.get d.marks x)
 some_mark x d = refl
 
+-- a first mark is named where the delta has any, since pairs have a first one
 some_first_mark : (d : Delta) → is_some (first_mark d) ≡ names_some d
 some_first_mark (delta.Set d) = is_some-map (λ e. set_part e.0 e.1) (slice_get (map.entries d.marks) 0) ∙ first-has_some d.marks
 some_first_mark (delta.Hash d) = is_some-map (λ e. hash_part e.0 e.1) (slice_get (map.entries d.marks) 0) ∙ first-has_some d.marks
 some_first_mark d = refl
 
+-- a first removed text is named where the delta takes any out
 some_removed : (d : Delta) → is_some (first_removed d) ≡ removes d
 some_removed (delta.List d) = is_some-map (λ e. op.ListRemove e.0) (slice_get (map.entries d.removed) 0) ∙ first-has_some d.removed
 some_removed d = refl
 
+-- a first pushed item is named where the delta pushes any
 some_pushed : (d : Delta) → is_some (first_pushed d) ≡ pushes d
 some_pushed (delta.List d) = is_some-map (λ item. op.ListPush item) (slice_get d.pushed 0) ∙ first_item d.pushed
 some_pushed d = refl
@@ -73,10 +81,12 @@ clashes_have_parts o d kinds = absurd (cc)
 
 -- ---- each part passes its test alone
 
+-- what is there under a test is what stands there
 then_is : {A : Type 0} (b : Bool) (x y : A) → then_some b x ≡ Some y → x ≡ y
 then_is true x y e = cc
 then_is false x y e = absurd (cc)
 
+-- what a function made is made of something that was there
 map_is : {A B : Type 0} (f : A → B) (o : Option A) (y : B) → option_map f o ≡ Some y → (x : A) × (f x ≡ y)
 map_is f None y e = absurd (cc)
 map_is f (Some x) y e = (x, cc)
@@ -93,33 +103,40 @@ marks_itself x mark =
     ap is_some (map.get-insert nat_list_cmp_total map.empty x mark x)
     ∙ ap (λ b. is_some (cond b (Some mark) (map.get (map.empty {R = text_cmp}) x))) (tied x)
 
+-- what is named for a clear is the clear of that kind, whose delta clears
 clear_alone : (d : Delta) (w : WriteOp) → clear_part d ≡ Some w → clears (delta_of w) ≡ true
 clear_alone (delta.Set d) w e = ap (λ w. clears (delta_of w)) (sym (then_is d.cleared op.SetClear w e))
 clear_alone (delta.Hash d) w e = ap (λ w. clears (delta_of w)) (sym (then_is d.cleared op.HashClear w e))
 clear_alone (delta.List d) w e = ap (λ w. clears (delta_of w)) (sym (then_is d.cleared op.ListClear w e))
 clear_alone d w e = absurd (cc)
 
+-- the delta of an element's part has its mark at that element
 set_names : (x : Bytes) (b : Bool) → names x (delta_of (set_part x b)) ≡ true
 set_names x true = marks_itself x true
 set_names x false = marks_itself x false
 
+-- and the delta of a field's part has its mark at that field
 hash_names : (f : Bytes) (m : Mark) → names f (delta_of (hash_part f m)) ≡ true
 hash_names f (mark.Put text) = marks_itself f (mark.Put text)
 hash_names f mark.Removed = marks_itself f mark.Removed
 
+-- so the part at a text has a delta that marks this text
 mark_alone : (x : Bytes) (d : Delta) (w : WriteOp) → mark_part x d ≡ Some w → names x (delta_of w) ≡ true
 mark_alone x (delta.Set d) w e = let m = map_is (set_part x) (map.get d.marks x) w e in ap (λ w. names x (delta_of w)) (sym m.1) ∙ set_names x m.0
 mark_alone x (delta.Hash d) w e = let m = map_is (hash_part x) (map.get d.marks x) w e in ap (λ w. names x (delta_of w)) (sym m.1) ∙ hash_names x m.0
 mark_alone x d w e = absurd (cc)
 
+-- the delta of an element's part has a mark at all
 set_names_some : (x : Bytes) (b : Bool) → names_some (delta_of (set_part x b)) ≡ true
 set_names_some x true = has_some-key _ x (marks_itself x true)
 set_names_some x false = has_some-key _ x (marks_itself x false)
 
+-- and so has the delta of a field's part
 hash_names_some : (f : Bytes) (m : Mark) → names_some (delta_of (hash_part f m)) ≡ true
 hash_names_some f (mark.Put text) = has_some-key _ f (marks_itself f (mark.Put text))
 hash_names_some f mark.Removed = has_some-key _ f (marks_itself f mark.Removed)
 
+-- so the part of the first mark has a delta with a mark
 first_mark_alone : (d : Delta) (w : WriteOp) → first_mark d ≡ Some w → names_some (delta_of w) ≡ true
 first_mark_alone (delta.Set d) w e = let m = map_is (λ e. set_part e.0 e.1) (slice_get (map.entries d.marks) 0) w e
     in ap (λ w. names_some (delta_of w)) (sym m.1) ∙ set_names_some m.0.0 m.0.1
@@ -127,11 +144,13 @@ first_mark_alone (delta.Hash d) w e = let m = map_is (λ e. hash_part e.0 e.1) (
     in ap (λ w. names_some (delta_of w)) (sym m.1) ∙ hash_names_some m.0.0 m.0.1
 first_mark_alone d w e = absurd (cc)
 
+-- the part of a removed text has a delta that takes this text out
 removed_alone : (d : Delta) (w : WriteOp) → first_removed d ≡ Some w → removes (delta_of w) ≡ true
 removed_alone (delta.List d) w e = let m = map_is (λ e. op.ListRemove e.0) (slice_get (map.entries d.removed) 0) w e
     in ap (λ w. removes (delta_of w)) (sym m.1) ∙ has_some-key _ m.0.0 (marks_itself m.0.0 tt)
 removed_alone d w e = absurd (cc)
 
+-- the part of a pushed item has a delta that pushes this item
 pushed_alone : (d : Delta) (w : WriteOp) → first_pushed d ≡ Some w → pushes (delta_of w) ≡ true
 pushed_alone (delta.List d) w e = let m = map_is (λ item. op.ListPush item) (slice_get d.pushed 0) w e in ap (λ w. pushes (delta_of w)) (sym m.1)
 pushed_alone d w e = absurd (cc)

@@ -7,10 +7,12 @@ use Rattle.rdt_types.specs.declared.value.Value.TheVariants as value
 use Rattle.rdt_types.specs.Values.{set_in, hash_in}
 use Rattle.conflict_table.proofs.Keys.{no_key}
 
+-- a value that isn't a set holds the empty one
 no_set : (v : Value) → ((s : SetOfTexts) → v ≡ value.Set s → ⊥) → set_in v ≡ map.empty
 no_set (value.Set s) other = absurd (other s refl)
 no_set v other = refl
 
+-- a value that isn't a hash holds the empty one
 no_hash : (v : Value) → ((m : MapOf Bytes) → v ≡ value.Hash m → ⊥) → hash_in v ≡ map.empty
 no_hash (value.Hash m) other = absurd (other m refl)
 no_hash v other = refl

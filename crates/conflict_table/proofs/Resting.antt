@@ -30,6 +30,7 @@ use Rattle.conflict_table.proofs.Items.{slice_get-append}
 
 -- a relation of two values that every write keeps
 module _ (R : Value → Value → Type 0) (kept : (o : WriteOp) (v w : Value) → R v w → R (write o v) (write o w)) where
+  -- so it holds after own writes, one by one
   pub replayed : (own : List WriteOp) (v w : Value) → R v w → R (replay own v) (replay own w)
   replayed [] v w r = r
   replayed (o ∷ own) v w r = replayed own (write o v) (write o w) (kept o v w r)
@@ -45,19 +46,23 @@ module _ (R : Value → Value → Type 0) (kept : (o : WriteOp) (v w : Value) �
 
 -- ---- the whole of a bool, a counter or a text
 
+-- the same whole, and the same number for additions to go on from
 abbrev Whole : Value → Value → Type 0
 Whole v w = (whole v ≡ whole w) × (counter_in v ≡ counter_in w)
 
+-- an addition goes on from the same number, and any other write leaves one whole for all values
 keeps_whole : (o : WriteOp) (v w : Value) → Whole v w → Whole (write o v) (write o w)
 keeps_whole (op.AddCounter n) v w r = (ap (λ m. item.Int (wrapping_sum m n)) r.1, ap (λ m. wrapping_sum m n) r.1)
 keeps_whole o v w r = (refl, refl)
 
+-- a put leaves the same whole for all values
 puts_whole : (o : WriteOp) (v w : Value) → is_put o ≡ true → Whole (write o v) (write o w)
 puts_whole (op.PutBool b) v w h = (refl, refl)
 puts_whole (op.PutCounter n) v w h = (refl, refl)
 puts_whole (op.PutText t) v w h = (refl, refl)
 puts_whole o v w h = absurd (false≢true h)
 
+-- kind by kind: a bool, a counter and a text are observed whole, and a collection has no whole that differs
 same_whole : (v w : Value) → kind_of v ≡ kind_of w → observe (whole_observed v) v ≡ observe (whole_observed v) w → Whole v w
 same_whole (value.Bool b) (value.Bool c) kinds same = (ap item.Bool (cc), refl)
 same_whole (value.Counter m) (value.Counter n) kinds same = (ap item.Int (cc), cc)
@@ -69,9 +74,11 @@ same_whole v w kinds same = absurd (cc)
 
 -- ---- elements and sets
 
+-- an element is in both sets or in none
 abbrev Element : Bytes → Value → Value → Type 0
 Element x v w = has_text (set_in v) x ≡ has_text (set_in w) x
 
+-- a set with a text more has what it had, and what ties with that text
 has-with : (s : SetOfTexts) (y x : Bytes) → has_text (with_text s y) x ≡ (eq_by_cmp text_cmp x y || has_text s x)
 has-with s y x = ap is_some (map.get-insert nat_list_cmp_total s y tt x) ∙ by (eq_by_cmp text_cmp x y)
   where
@@ -79,6 +86,7 @@ has-with s y x = ap is_some (map.get-insert nat_list_cmp_total s y tt x) ∙ by 
     by true = refl
     by false = refl
 
+-- a set without a text has what it had, save what ties with that text
 has-without : (s : SetOfTexts) (y x : Bytes) → has_text (without_text s y) x ≡ (not (eq_by_cmp text_cmp x y) && has_text s x)
 has-without s y x = ap is_some (map.get-remove nat_list_cmp_total s y x) ∙ by (eq_by_cmp text_cmp x y)
   where
@@ -86,6 +94,7 @@ has-without s y x = ap is_some (map.get-remove nat_list_cmp_total s y x) ∙ by 
     by true = refl
     by false = refl
 
+-- an addition and a removal do the same to both at each element, and any other write leaves no element
 keeps_element : (x : Bytes) (o : WriteOp) (v w : Value) → Element x v w → Element x (write o v) (write o w)
 keeps_element x (op.SetAdd y) v w r = has-with (set_in v) y x ∙ ap (λ b. eq_by_cmp text_cmp x y || b) r ∙ sym (has-with (set_in w) y x)
 keeps_element x (op.SetRemove y) v w r =
@@ -94,6 +103,7 @@ keeps_element x (op.SetRemove y) v w r =
     ∙ sym (has-without (set_in w) y x)
 keeps_element x o v w r = refl
 
+-- an operation that names the element leaves it in both or in none, whatever was there
 names_element : (x : Bytes) (o : WriteOp) (v w : Value) → names x o ≡ true → Element x (write o v) (write o w)
 names_element x (op.SetAdd y) v w h =
     has-with (set_in v) y x
@@ -107,9 +117,11 @@ names_element x (op.SetRemove y) v w h =
     ∙ sym (has-without (set_in w) y x)
 names_element x o v w h = refl
 
+-- the same set
 abbrev Set : Value → Value → Type 0
 Set v w = set_in v ≡ set_in w
 
+-- an addition and a removal do the same to equal sets, and any other write leaves the empty set
 keeps_set : (o : WriteOp) (v w : Value) → Set v w → Set (write o v) (write o w)
 keeps_set (op.SetAdd y) v w r = ap (λ s. with_text s y) r
 keeps_set (op.SetRemove y) v w r = ap (λ s. without_text s y) r
@@ -117,9 +129,11 @@ keeps_set o v w r = refl
 
 -- ---- fields and hashes
 
+-- the same text at a field, or none in both
 abbrev Field : Bytes → Value → Value → Type 0
 Field f v w = map.get (hash_in v) f ≡ map.get (hash_in w) f
 
+-- a put and a removal do the same to both at each field, and any other write leaves no field
 keeps_field : (f : Bytes) (o : WriteOp) (v w : Value) → Field f v w → Field f (write o v) (write o w)
 keeps_field f (op.HashPut g t) v w r =
     map.get-insert nat_list_cmp_total (hash_in v) g t f ∙ ap (cond (eq_by_cmp text_cmp f g) (Some t)) r
@@ -128,6 +142,7 @@ keeps_field f (op.HashRemove g) v w r =
     map.get-remove nat_list_cmp_total (hash_in v) g f ∙ ap (cond (eq_by_cmp text_cmp f g) None) r ∙ sym (map.get-remove nat_list_cmp_total (hash_in w) g f)
 keeps_field f o v w r = refl
 
+-- an operation that names the field leaves there what it puts, or nothing, whatever was there
 names_field : (f : Bytes) (o : WriteOp) (v w : Value) → names f o ≡ true → Field f (write o v) (write o w)
 names_field f (op.HashPut g t) v w h =
     map.get-insert nat_list_cmp_total (hash_in v) g t f ∙ ap (λ b. cond b (Some t) (map.get (hash_in v) f)) h
@@ -137,9 +152,11 @@ names_field f (op.HashRemove g) v w h =
     ∙ sym (map.get-remove nat_list_cmp_total (hash_in w) g f ∙ ap (λ b. cond b None (map.get (hash_in w) f)) h)
 names_field f o v w h = refl
 
+-- the same hash
 abbrev Hash : Value → Value → Type 0
 Hash v w = hash_in v ≡ hash_in w
 
+-- a put and a removal do the same to equal hashes, and any other write leaves the empty hash
 keeps_hash : (o : WriteOp) (v w : Value) → Hash v w → Hash (write o v) (write o w)
 keeps_hash (op.HashPut g t) v w r = ap (λ m. map.insert m g t) r
 keeps_hash (op.HashRemove g) v w r = ap (λ m. map.remove m g) r
@@ -147,14 +164,17 @@ keeps_hash o v w r = refl
 
 -- ---- places and lists
 
+-- the same list
 abbrev Items : Value → Value → Type 0
 Items v w = list_in v ≡ list_in w
 
+-- a push and a removal do the same to equal lists, and any other write leaves the empty list
 keeps_items : (o : WriteOp) (v w : Value) → Items v w → Items (write o v) (write o w)
 keeps_items (op.ListPush x) v w r = ap (λ xs. xs ++ x ∷ []) r
 keeps_items (op.ListRemove x) v w r = ap (others x) r
 keeps_items o v w r = refl
 
+-- a clear leaves one value for all, and that has everything in common with itself
 clears_all : (R : Value → Value → Type 0) → ((v : Value) → R v v) → (o : WriteOp) (v w : Value) → is_clear o ≡ true
     → R (write o v) (write o w)
 clears_all R same op.SetClear v w h = same _
@@ -166,6 +186,7 @@ clears_all R same o v w h = absurd (false≢true h)
 abbrev Place : ℕ → Value → Value → Type 0
 Place i v w = Items v w ⊎ ((i < length (list_in v)) × (i < length (list_in w)) × (slice_get (list_in v) i ≡ slice_get (list_in w) i))
 
+-- a push goes behind the place, and any other write but a removal leaves the empty list
 keeps_place : (i : ℕ) (o : WriteOp) (v w : Value) → is_list_remove o ≡ false → Place i v w → Place i (write o v) (write o w)
 keeps_place i (op.ListRemove x) v w none r = absurd (true≢false none)
 keeps_place i (op.ListPush x) v w none (inl same) = inl (ap (λ xs. xs ++ x ∷ []) same)
@@ -177,6 +198,7 @@ keeps_place i (op.ListPush x) v w none (inr r) =
     )
 keeps_place i o v w none r = inl refl
 
+-- so the place is kept by own writes without a removal, one by one
 place_replayed : (i : ℕ) (own : List WriteOp) (v w : Value) → list_any is_list_remove own ≡ false → Place i v w
     → Place i (replay own v) (replay own w)
 place_replayed i [] v w none r = r
@@ -184,6 +206,7 @@ place_replayed i (o ∷ own) v w none r =
     let each = or_parts (is_list_remove o) (list_any is_list_remove own) none in
     place_replayed i own (write o v) (write o w) each.1 (keeps_place i o v w each.0 r)
 
+-- the same list, and the same item at the place, both answer that item
 same_item : (i : ℕ) (v w : Value) → Place i v w → item_at (pos i) (list_in v) ≡ item_at (pos i) (list_in w)
 same_item i v w (inl same) = ap (item_at (pos i)) same
 same_item i v w (inr r) = ap (λ o. unwrap_or o []) r.2
@@ -192,6 +215,7 @@ same_item i v w (inr r) = ap (λ o. unwrap_or o []) r.2
 both_within : (i : ℕ) (v w : Value) → i < length (list_in v) → slice_get (list_in v) i ≡ slice_get (list_in w) i → Place i v w
 both_within i v w within same = inr (within, slice_get_within (list_in w) i _ (sym same ∙ slice_get-get_or (list_in v) i [] within), same)
 
+-- where the place alone was observed no write moves its item, and else the whole lists are equal and stay so
 of_place : (i : ℕ) (own : List WriteOp) (v w : Value) (a b : Bool) → list_any is_list_remove own ≡ a → nat_lt i (length (list_in v)) ≡ b
     → observe (cond (not a && b) (obs.ListAt i) obs.ListAll) v ≡ observe (cond (not a && b) (obs.ListAt i) obs.ListAll) w
     → item_at (pos i) (list_in (replay own v)) ≡ item_at (pos i) (list_in (replay own w))
@@ -219,11 +243,13 @@ module _ (R : Value → Value → Type 0) (kept : (o : WriteOp) (v w : Value) �
       (λ names. decided R kept test made own v w names)
   by_name test made own v w false none r = replayed R kept own v w (r refl)
 
+-- a put decides, and without one the whole is kept
 get_rests : (own : List WriteOp) (v w : Value) (b : Bool) → list_any is_put own ≡ b → (b ≡ false → Whole v w)
     → Whole (replay own v) (replay own w)
 get_rests own v w true puts r = decided Whole keeps_whole is_put puts_whole own v w puts
 get_rests own v w false keeps r = replayed Whole keeps_whole own v w (r refl)
 
+-- a clear decides, and without one what was observed of the place or of the list is kept
 place_rests : (i : ℕ) (own : List WriteOp) (v w : Value) (b : Bool) → list_any is_clear own ≡ b
     → (b ≡ false → observe (place_observed (pos i) (list_any is_list_remove own) (list_in v)) v
         ≡ observe (place_observed (pos i) (list_any is_list_remove own) (list_in v)) w)
@@ -263,6 +289,7 @@ whole_of kind.Bool = obs.BoolIs
 whole_of kind.Text = obs.TextIs
 whole_of _ = obs.CounterIs
 
+-- kind by kind: which whole is observed doesn't depend on what the value holds
 whole_is : (v : Value) → whole_observed v ≡ whole_of (kind_of v)
 unfolding whole_of
 whole_is (value.Bool b) = refl
@@ -286,6 +313,7 @@ same_place i v w false false past same =
     let lists : list_in v ≡ list_in w = cc in
     sym (ap (λ b. cond b (obs.ListAt i) obs.ListAll) (ap (λ xs. nat_lt i (length xs)) (sym lists) ∙ past))
 
+-- only the whole and a place are observed by the value: the one by its kind, the other by the length of the list
 observes_same : (r : ReadOp) (own : List WriteOp) (v w : Value) → kind_of v ≡ kind_of w
     → observe (observed r own v) v ≡ observe (observed r own v) w → observed r own v ≡ observed r own w
 observes_same read.Get own v w kinds same = whole_is v ∙ ap whole_of kinds ∙ sym (whole_is w)

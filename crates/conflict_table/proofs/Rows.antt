@@ -55,12 +55,14 @@ other_number (pos zero) = pos 1
 other_number (pos (suc n)) = pos 0
 other_number (negsuc n) = pos 0
 
+-- 0 has 1, and every other number has 0, so none has itself
 is_other_number : (n : ℤ) → n ≡ other_number n → ⊥
 unfolding other_number
 is_other_number (pos zero) e = absurd (cc)
 is_other_number (pos (suc n)) e = absurd (cc)
 is_other_number (negsuc n) e = absurd (cc)
 
+-- no bool is its own opposite
 is_other_bool : (b : Bool) → b ≡ not b → ⊥
 is_other_bool b e = differs b b e refl
 
@@ -68,6 +70,7 @@ is_other_bool b e = differs b b e refl
 sum_from_0 : (n : ℤ) → FitsSigned w64 n → wrapping_sum (pos 0) n ≡ n
 sum_from_0 n fits = grind (arith, common_steps)
 
+-- so an addition that leaves 0 as it is adds 0
 addition_of_0 : (n : ℤ) → FitsSigned w64 n → wrapping_sum (pos 0) n ≡ pos 0 → delta.AddCounter n ≡ delta.AddCounter (pos 0)
 addition_of_0 n fits none = ap delta.AddCounter (sym (sum_from_0 n fits) ∙ none)
 
@@ -102,6 +105,7 @@ IsPlain (delta.Hash d) = ⊥
 IsPlain (delta.List d) = ⊥
 IsPlain _ = Unit {0}
 
+-- whether it is the whole of a bool, a counter or a text that is observed
 abbrev is_whole : Obs → Bool
 is_whole obs.BoolIs = true
 is_whole obs.CounterIs = true
@@ -118,10 +122,12 @@ plain_clash o (delta.Hash d) plain = absurd plain
 plain_clash o (delta.List d) plain = absurd plain
 plain_clash o d plain = refl
 
+-- a test joined with itself is that test
 twice : (b : Bool) → b ≡ (b || b)
 twice true = refl
 twice false = refl
 
+-- the observation alone decides of each such delta, so it decides the same of all three
 plain_clashes : (o : Obs) (d e f : Delta) → IsPlain d → IsPlain e → IsPlain f → clash o f ≡ (clash o d || clash o e)
 plain_clashes o d e f p q r =
     plain_clash o f r ∙ twice (is_whole o) ∙ sym (ap (λ b. b || clash o e) (plain_clash o d p) ∙ ap (λ b. is_whole o || b) (plain_clash o e q))
@@ -131,19 +137,23 @@ nothing_else : (a b c : Bool) → a ≡ (b || c) → (a || false) ≡ ((b || fal
 nothing_else a b c is = simp or_none is
 
 module _ {M V : Type 0} (left : M → Option V) (d e : Keyed M) where
+  -- a composition clears or marks a text where one of the two does: the keys of laid marks are the keys of both
   pub names-composed : (x : Bytes)
       → ((composed left d e).cleared || map.contains_key (composed left d e).marks x)
       ≡ ((d.cleared || map.contains_key d.marks x) || (e.cleared || map.contains_key e.marks x))
   names-composed x =
       touches-composed left (λ m. map.contains_key m x) (λ under over. contains-overlaid (mark_after left false) (λ mark. refl) under over x) d e
 
+  -- it clears or has any mark where one of the two does
   pub names_some-composed : ((composed left d e).cleared || has_some (composed left d e).marks)
       ≡ ((d.cleared || has_some d.marks) || (e.cleared || has_some e.marks))
   names_some-composed = touches-composed left has_some (has_some-overlaid (mark_after left false) (λ mark. refl)) d e
 
+  -- it clears where one of the two does, whatever its marks are
   pub clears_alone-composed : ((composed left d e).cleared || false) ≡ ((d.cleared || false) || (e.cleared || false))
   clears_alone-composed = touches-composed left (λ m. false) (λ under over. refl) d e
 
+-- row by row, each by its own test of clears and marks
 set_clashes : (o : Obs) (d e : Keyed Bool)
     → clash o (compose (delta.Set d) (delta.Set e)) ≡ (clash o (delta.Set d) || clash o (delta.Set e))
 set_clashes obs.BoolIs d e = refl
@@ -156,6 +166,7 @@ set_clashes obs.HashAll d e = names_some-composed added d e
 set_clashes (obs.ListAt i) d e = clears_alone-composed added d e
 set_clashes obs.ListAll d e = nothing_else _ _ _ (clears_alone-composed added d e)
 
+-- row by row, as of sets
 hash_clashes : (o : Obs) (d e : Keyed Mark)
     → clash o (compose (delta.Hash d) (delta.Hash e)) ≡ (clash o (delta.Hash d) || clash o (delta.Hash e))
 hash_clashes obs.BoolIs d e = refl
@@ -168,6 +179,7 @@ hash_clashes obs.HashAll d e = names_some-composed put_by d e
 hash_clashes (obs.ListAt i) d e = clears_alone-composed put_by d e
 hash_clashes obs.ListAll d e = nothing_else _ _ _ (clears_alone-composed put_by d e)
 
+-- row by row, by clears, removals and pushes
 list_clashes : (o : Obs) (d e : Listed)
     → clash o (compose (delta.List d) (delta.List e)) ≡ (clash o (delta.List d) || clash o (delta.List e))
 list_clashes obs.BoolIs d e = refl
@@ -193,5 +205,6 @@ by_parts o first second (sets d e) = set_clashes o d e
 by_parts o first second (hashes d e) = hash_clashes o d e
 by_parts o first second (lists d e) = list_clashes o d e
 
+-- two deltas of equal kinds are one of the pairs for which it holds
 pub compositions_clash_by_parts : CompositionsClashByParts
 compositions_clash_by_parts o first second kinds = by_parts o first second (of_one_kind first second kinds)

@@ -354,6 +354,7 @@ counter_part_fits =
 module _ (kind : Kind) (mark : ℕ) (own : Reader ℕ WriteOp) (Own : Rule ℕ WriteOp) (own_fits : Fits IsByte own Own any)
     (begins : (ts us : Bytes) (a : WriteOp) → Own ts a us → sees mark (next ts) ≡ true)
     (no_removal : sees mark (Some 114) ≡ false) (no_clear : sees mark (Some 99) ≡ false) where
+  -- what the kind alone has begins with its mark, and a removal or a clear begins with another byte
   collection_fits : Fits IsByte (either (sees mark) own (remove_or_clear kind)) (Or Own (RemoveOrClear (removed kind) (cleared kind))) any
   collection_fits =
       either_fits IsByte (sees mark) own (remove_or_clear kind) Own (RemoveOrClear (removed kind) (cleared kind)) any own_fits

@@ -31,6 +31,7 @@ short_fits = one_fits IsByte short 110 10 refl (omega arith)
 equal : (b n : ℕ) → nat_eq b n ≡ true → b ≡ n
 equal b n e = grind (arith, nat_tests)
 
+-- a byte that is one number fails the test of being another
 other_than : (b n m : ℕ) → (n ≡ m → ⊥) → b ≡ n → nat_eq b m ≡ false
 other_than b n m apart e = grind (arith, nat_tests)
 
@@ -97,6 +98,7 @@ text_fits = onwards IsByte (byte_fits 34 (omega arith)) (λ _. followed IsByte p
     (λ found. seen IsByte (λ _. found) (byte_fits 34 (omega arith)))
     (λ found us vs a r e. quote_ends us vs found a r))
 
+-- the first byte of a text is its quote
 pub text_begins : (ts us a : Bytes) → TextRule ts a us → sees 34 (next ts) ≡ true
 text_begins ts us a r = byte_begins 34 ts r.middle r.value r.first
 

@@ -12,11 +12,13 @@ use Rattle.std.specs.declared.cmp.Ordering.TheVariants.{Less, Equal, Greater}
 use Rattle.std.proofs.lemmas.Map.Keys.{Less-from_sorted}
 use Rattle.std.proofs.lemmas.Bool.{false≢true, cases_lt}
 
+-- only Greater passes the test of being greater
 pub greater : (r : Ordering) → is_gt r ≡ true → r ≡ Greater
 greater Greater e = refl
 greater Less e = absurd (false≢true e)
 greater Equal e = absurd (false≢true e)
 
+-- only Equal passes the test of equality
 pub equal : (r : Ordering) → is_eq r ≡ true → r ≡ Equal
 equal Equal e = refl
 equal Less e = absurd (false≢true e)
@@ -28,6 +30,7 @@ less Less e f = refl
 less Equal e f = absurd (f refl)
 less Greater e f = absurd (false≢true (sym e))
 
+-- where the test of equality fails, the answer isn't Equal, which passes it
 pub unequal : (r : Ordering) → is_eq r ≡ false → r ≡ Equal → ⊥
 unequal r e f = false≢true (sym e ∙ ap is_eq f)
 
@@ -128,17 +131,20 @@ module _ {K V : Type 0} (R : K → K → Ordering) (o : IsTotalOrder R) where
   abbrev pub placed : Ordering → K → V → K × V → List (K × V) → List (K × V)
   placed r k v x es = match_ordering r ((k, v) ∷ x ∷ es) ((x.0, v) ∷ es) (x ∷ insert_entry R es k v)
 
+  -- by where the new key falls: the keys are then the new one and all old ones, the old ones alone, or the first and the rest
   all_keys_placed : (P : K → Type 0) (r : Ordering) (k : K) (v : V) (x : K × V) (es : List (K × V)) → AllByRecursion P (keys_of (x ∷ es))
       → P k → AllByRecursion P (keys_of (insert_entry R es k v)) → AllByRecursion P (keys_of (placed r k v x es))
   all_keys_placed P Less k v x es all p more = (p, all)
   all_keys_placed P Equal k v x es all p more = all
   all_keys_placed P Greater k v x es all p more = (all.0, more)
 
+  -- what holds of all keys and of a new one holds of all after it is put; by induction on the pairs
   all_keys : (P : K → Type 0) (k : K) (v : V) (es : List (K × V)) → AllByRecursion P (keys_of es) → P k
       → AllByRecursion P (keys_of (insert_entry R es k v))
   all_keys P k v [] all p = (p, all)
   all_keys P k v (x ∷ es) all p = all_keys_placed P (R k x.0) k v x es all p (all_keys P k v es all.1 p)
 
+  -- by where the new key falls: below the first it is below all, an equal one changes no key, and a greater one goes behind
   sorted_placed : (r : Ordering) (k : K) (v : V) (x : K × V) (es : List (K × V)) → R k x.0 ≡ r → IsStrictlySortedBy R (keys_of (x ∷ es))
       → IsStrictlySortedBy R (keys_of (insert_entry R es k v)) → IsStrictlySortedBy R (keys_of (placed r k v x es))
   unfolding IsStrictlySortedBy
@@ -169,12 +175,14 @@ within-get (y ∷ ys) (suc i) x e = omega (arith, within-get ys i x e)
 -- ---- what is found after one more entry
 
 module _ {K V : Type 0} (R : K → K → Ordering) (o : IsTotalOrder R) where
+  -- where two tests agree, both answer the new value, or both leave the old one aside and look further
   found_by : (b c : Bool) (v : V) (u w : Option V) → b ≡ c → cond b (Some v) w ≡ cond c (Some v) (cond b u w)
   found_by true true v u w e = refl
   found_by false false v u w e = refl
   found_by true false v u w e = absurd (false≢true (sym e))
   found_by false true v u w e = absurd (false≢true e)
 
+  -- by where the new key falls: in front it is met first, an equal one hides the old value, and behind the first no key is both
   lookup_placed : (r : Ordering) (q k : K) (v : V) (x : K × V) (es : List (K × V)) → R k x.0 ≡ r
       → lookup (is_at (R q)) (insert_entry R es k v) ≡ cond (is_eq (R q k)) (Some v) (lookup (is_at (R q)) es)
       → lookup (is_at (R q)) (placed R o r k v x es) ≡ cond (is_eq (R q k)) (Some v) (lookup (is_at (R q)) (x ∷ es))

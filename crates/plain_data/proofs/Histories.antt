@@ -11,6 +11,7 @@ pub length-own-le : {E : Type 0} (names : E → ℕ) (number : ℕ) (items : Lis
 length-own-le names number items = omega (arith, length-filter_both (λ e. names e == number) (λ e. not (names e == number)) (λ e. refl) items)
 
 module _ {E : Type 0} (may_follow : ℕ → List E → E → Type 0) (base : ℕ) where
+  -- by induction on the items: the new one may follow all of them, and each of them follows what it followed before
   lawful_after-push : (before items : List E) (e : E) → IsLawfulAfter may_follow base before items → may_follow base (before ++ items) e
       → IsLawfulAfter may_follow base before (items ++ e ∷ [])
   lawful_after-push before [] e lawful follows = (subst (λ b. may_follow base b e) (append-nil before) follows, tt)
@@ -22,6 +23,7 @@ module _ {E : Type 0} (may_follow : ℕ → List E → E → Type 0) (base : ℕ
       → IsLawful may_follow base (items ++ e ∷ [])
   IsLawful-push items e lawful follows = lawful_after-push [] items e lawful follows
 
+  -- each item of a front follows the same items as in the whole list
   lawful_after-first : (before items rest : List E) → IsLawfulAfter may_follow base before (items ++ rest)
       → IsLawfulAfter may_follow base before items
   lawful_after-first before [] rest lawful = tt
@@ -31,6 +33,7 @@ module _ {E : Type 0} (may_follow : ℕ → List E → E → Type 0) (base : ℕ
   pub IsLawful-prefix : (items more : List E) → IsPrefix items more → IsLawful may_follow base more → IsLawful may_follow base items
   IsLawful-prefix items more prefix lawful = lawful_after-first [] items prefix.0 (subst (IsLawful may_follow base) (sym prefix.1) lawful)
 
+  -- by induction on the place: the items that are passed join those before the list
   follows_after : (before items : List E) → IsLawfulAfter may_follow base before items → (i : ℕ) (e : E) → slice_get items i ≡ Some e
       → may_follow base (before ++ take i items) e
   follows_after before [] lawful i e here = absurd (cc)

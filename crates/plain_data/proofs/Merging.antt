@@ -13,6 +13,7 @@ module _ {V : Type 0} (key : Bytes) where
   unfolding before
   before_none = refl
 
+  -- nor is there anything behind it
   pub after_none : after {V = V} key [] ≡ []
   unfolding after
   after_none = refl
@@ -23,6 +24,7 @@ module _ {V : Type 0} (key : Bytes) where
     unfolding before
     before_below is = ap (λ r. match_ordering r [] [] (e ∷ before key es)) is
 
+    -- and so all of them are left
     pub after_below : text_cmp key e.0 ≡ Less → after key (e ∷ es) ≡ e ∷ es
     unfolding after
     after_below is = ap (λ r. match_ordering r (e ∷ es) es (after key es)) is
@@ -32,6 +34,7 @@ module _ {V : Type 0} (key : Bytes) where
     unfolding before
     before_at is = ap (λ r. match_ordering r [] [] (e ∷ before key es)) is
 
+    -- and the pair of the key itself is left out
     pub after_at : text_cmp key e.0 ≡ Equal → after key (e ∷ es) ≡ es
     unfolding after
     after_at is = ap (λ r. match_ordering r (e ∷ es) es (after key es)) is
@@ -41,6 +44,7 @@ module _ {V : Type 0} (key : Bytes) where
     unfolding before
     before_above is = ap (λ r. match_ordering r [] [] (e ∷ before key es)) is
 
+    -- and so what is above the key is found in the rest
     pub after_above : text_cmp key e.0 ≡ Greater → after key (e ∷ es) ≡ after key es
     unfolding after
     after_above is = ap (λ r. match_ordering r (e ∷ es) es (after key es)) is

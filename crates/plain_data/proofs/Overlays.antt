@@ -29,11 +29,13 @@ module _ {V : Type 0} where
   entry_at es key None = where_key text_cmp (λ k. not (eq_by_cmp text_cmp key k)) es
   entry_at es key (Some value) = put text_cmp key value es
 
+  -- keys stay in order where one is taken out, and where a value is put
   sorted-entry_at : (es : List (Bytes × V)) (key : Bytes) (o : Option V) → T (is_sorted text_cmp es)
       → T (is_sorted text_cmp (entry_at es key o))
   sorted-entry_at es key None h = is_sorted-where_key text_cmp _ es h
   sorted-entry_at es key (Some v) h = is_sorted-put text_cmp nat_list_cmp_total key v es h
 
+  -- to answer nothing where a test holds is to answer only where its opposite holds
   turned : (a b : Bool) (o : Option V) → a ≡ b → cond a None o ≡ cond (not b) o None
   turned true true o e = refl
   turned true false o e = absurd (cc)
@@ -57,6 +59,7 @@ module _ {V : Type 0} where
           (where_key text_cmp (λ k. not (eq_by_cmp text_cmp key k)) es)) (less _ (halves _ _ h).0)
       ∙ ap (λ xs. e ∷ xs) (none_is key es (halves _ _ h).1)
 
+  -- what is below a key is below all that this key is below, since the order is transitive
   below-through : (x y : Bytes) (es : List (Bytes × V)) → text_cmp x y ≡ Less → T (below_all text_cmp y es) → T (below_all text_cmp x es)
   below-through x y [] first h = tt
   below-through x y (e ∷ es) first h =
@@ -67,6 +70,7 @@ module _ {V : Type 0} where
   parts : Bytes → Option V → List (Bytes × V) → List (Bytes × V)
   parts key o es = before key es ++ pair_at key o ++ after key es
 
+  -- by where the first pair stands: above the key all pairs are behind it, an equal one is replaced, and one below is passed
   entry_at-parts : (es : List (Bytes × V)) (key : Bytes) (o : Option V) → T (is_sorted text_cmp es)
       → entry_at es key o ≡ before key es ++ pair_at key o ++ after key es
   unfolding before after pair_at
@@ -104,6 +108,7 @@ module _ {V : Type 0} where
   abbrev AllBelow : Bytes → List (Bytes × V) → Type 0
   AllBelow key front = AllByRecursion (λ e. text_cmp key e.0 ≡ Greater) front
 
+  -- the pairs below a key, and the one at it, are below every greater key
   AllBelow-before : (key next : Bytes) (o : Option V) (es : List (Bytes × V)) → text_cmp key next ≡ Less
       → AllBelow next (before key es ++ pair_at key o)
   unfolding before pair_at
@@ -122,10 +127,12 @@ module _ {V : Type 0} where
       by rest Greater is =
           subst (λ xs. AllBelow next (xs ++ pair_at key o)) (sym (before_above key e es is)) (greater-through key next e.0 up is, rest)
 
+  -- a front below the key is passed pair by pair
   before-front : (key : Bytes) (front es : List (Bytes × V)) → AllBelow key front → before key (front ++ es) ≡ front ++ before key es
   before-front key [] es all = refl
   before-front key (e ∷ front) es all = before_above key e (front ++ es) all.0 ∙ ap (λ xs. e ∷ xs) (before-front key front es all.1)
 
+  -- nothing in such a front is above the key, so only the rest counts
   after-front : (key : Bytes) (front es : List (Bytes × V)) → AllBelow key front → after key (front ++ es) ≡ after key es
   after-front key [] es all = refl
   after-front key (e ∷ front) es all = after_above key e (front ++ es) all.0 ∙ after-front key front es all.1
@@ -136,6 +143,7 @@ module _ {V : Type 0} where
     IsPassed front [] = Unit {0}
     IsPassed front (mark ∷ marks) = AllBelow mark.0 front
 
+    -- the first mark passes such a front whole, and the later marks meet only what is above the first
     merged-front : (front es : List (Bytes × V)) (marks : List (Bytes × M)) → IsPassed front marks
         → merged left (front ++ es) marks ≡ front ++ merged left es marks
     unfolding merged
@@ -145,14 +153,17 @@ module _ {V : Type 0} where
         ∙ ap (λ xs. xs ++ merged left (after mark.0 es) marks) (append_assoc front (before mark.0 es) (pair_at mark.0 (left mark.1)))
         ∙ append_assoc front (before mark.0 es ++ pair_at mark.0 (left mark.1)) (merged left (after mark.0 es) marks)
 
+    -- what has been merged up to a mark is below the next one, since the marks rise
     passed_next : (es : List (Bytes × V)) (mark : Bytes × M) (marks : List (Bytes × M)) → T (below_all text_cmp mark.0 marks)
         → IsPassed (before mark.0 es ++ pair_at mark.0 (left mark.1)) marks
     passed_next es mark [] h = tt
     passed_next es mark (next ∷ marks) h = AllBelow-before mark.0 next.0 (left mark.1) es (less _ (halves _ _ h).0)
 
+    -- the pairs after marks in order
     abbrev marked_entries : List (Bytes × V) → List (Bytes × M) → List (Bytes × V)
     marked_entries es marks = fold (λ xs mark. entry_at xs mark.0 (left mark.1)) es marks
 
+    -- mark by mark: what is merged up to a mark is settled, as the later marks are above it
     merged-is-marked : (es : List (Bytes × V)) (marks : List (Bytes × M)) → T (is_sorted text_cmp es) → T (is_sorted text_cmp marks)
         → merged left es marks ≡ marked_entries es marks
     unfolding merged
@@ -162,6 +173,7 @@ module _ {V : Type 0} where
         ∙ ap (λ xs. merged left xs marks) (sym (entry_at-parts es mark.0 (left mark.1) h))
         ∙ merged-is-marked (entry_at es mark.0 (left mark.1)) marks (sorted-entry_at es mark.0 (left mark.1) h) (halves _ _ rising).1
 
+    -- a value is put as among the pairs; where nothing is left, both lists rise and the same is found in them at each key
     entries-with_at : (m : MapOf V) (key : Bytes) (o : Option V) → map.entries (with_at m key o) ≡ entry_at (map.entries m) key o
     entries-with_at m key (Some v) = map.entries-insert nat_list_cmp_total m key v
     entries-with_at m key None =
@@ -169,6 +181,7 @@ module _ {V : Type 0} where
         (λ q. sym (map.get-entries _ q) ∙ map.get-remove nat_list_cmp_total m key q ∙ ap (cond (eq_by_cmp text_cmp q key) None) (map.get-entries m q)
             ∙ found (map.entries m) key q)
 
+    -- mark by mark, the pairs of the map go as the list of pairs goes
     entries-marked_by : (m : MapOf V) (marks : List (Bytes × M))
         → map.entries (marked_by left m marks) ≡ marked_entries (map.entries m) marks
     entries-marked_by m [] = refl
@@ -195,17 +208,20 @@ find-none key (e ∷ es) h =
     ap (λ r. cond (is_eq r) (Some e.1) (find text_cmp key es)) (less _ (halves _ _ h).0)
     ∙ find-none key es (halves _ _ h).1
 
+-- only Equal passes the test of equality
 tied : (r : Ordering) → is_eq r ≡ true → r ≡ Equal
 tied Equal e = refl
 tied Less e = absurd (cc)
 tied Greater e = absurd (cc)
 
 module _ {V M : Type 0} (left : M → Option V) where
+  -- at the key stands what was put there, or nothing, and at each other key what was there
   get-with_at : (m : MapOf V) (key : Bytes) (o : Option V) (q : Bytes)
       → map.get (with_at m key o) q ≡ cond (eq_by_cmp text_cmp q key) o (map.get m q)
   get-with_at m key None q = map.get-remove nat_list_cmp_total m key q
   get-with_at m key (Some v) q = map.get-insert nat_list_cmp_total m key v q
 
+  -- mark by mark: the keys of marks rise, so no later mark is at the key of an earlier one
   get-marked_by : (m : MapOf V) (marks : List (Bytes × M)) (q : Bytes) → T (is_sorted text_cmp marks)
       → map.get (marked_by left m marks) q ≡ found_after left (find text_cmp q marks) (map.get m q)
   get-marked_by m [] q rising = refl
@@ -241,6 +257,7 @@ entries-empty {V} = ap map.entries (sym ((empty-from_sorted {V = V} text_cmp [] 
 pub entries-one : {V : Type 0} (key : Bytes) (value : V) → map.entries (map.insert {R = text_cmp} map.empty key value) ≡ (key, value) ∷ []
 entries-one key value = map.entries-insert nat_list_cmp_total map.empty key value ∙ ap (put text_cmp key value) entries-empty
 
+-- it has one pair, so its length is 1
 pub len-one : {V : Type 0} (key : Bytes) (value : V) → map.len (map.insert {R = text_cmp} map.empty key value) ≡ 1
 len-one key value = map.len-entries _ ∙ ap length (entries-one key value)
 
@@ -260,6 +277,7 @@ pub Some_is : {V : Type 0} (x y : V) → Some x ≡ Some y → x ≡ y
 Some_is x y e = ap (λ o. unwrap_or o x) e
 
 module _ {V : Type 0} (p : V → Bool) where
+  -- the value that is found is that of the first pair, or of one behind it
   found_all : (es : List (Bytes × V)) (q : Bytes) (value : V) → T (list_all (λ e. p e.1) es) → find text_cmp q es ≡ Some value → T (p value)
   found_all [] q value all is = absurd (cc)
   found_all (e ∷ es) q value all is = by (found_all es q value (halves _ _ all).1) (eq_by_cmp text_cmp q e.0) is
@@ -272,6 +290,7 @@ module _ {V : Type 0} (p : V → Bool) where
   pub get-all : (m : MapOf V) (q : Bytes) (value : V) → T (list_all (λ e. p e.1) (map.entries m)) → map.get m q ≡ Some value → T (p value)
   get-all m q value all is = found_all (map.entries m) q value all (sym (map.get-entries m q) ∙ is)
 
+  -- the first pair is found at its key, and since keys rise each pair behind it is found at its own
   all_found : (es : List (Bytes × V)) → T (is_sorted text_cmp es)
       → ((q : Bytes) (value : V) → find text_cmp q es ≡ Some value → T (p value)) → T (list_all (λ e. p e.1) es)
   all_found [] rising each = tt

@@ -28,12 +28,14 @@ pub halves : (a b : Bool) → T (a && b) → T a × T b
 halves true b p = (tt, p)
 halves false b p = absurd p
 
+-- only Less passes the test of being less
 pub less : (r : Ordering) → T (is_lt r) → r ≡ Less
 less Less p = refl
 less Equal p = absurd p
 less Greater p = absurd p
 
 module _ {K V : Type 0} (R : K → K → Ordering) where
+  -- a key that is below each other passes the test against all of them
   below_all-from_rising : (k : K) (es : List (K × V)) → AllByRecursion (λ y. R k y ≡ Less) (keys_of es) → T (below_all R k es)
   below_all-from_rising k [] all = tt
   below_all-from_rising k (e ∷ es) all = both _ _ (subst (λ r. T (is_lt r)) (sym all.0) tt) (below_all-from_rising k es all.1)
@@ -44,6 +46,7 @@ module _ {K V : Type 0} (R : K → K → Ordering) where
   sorted-from_rising [] rising = tt
   sorted-from_rising (e ∷ es) rising = both _ _ (below_all-from_rising e.0 es rising.0) (sorted-from_rising es rising.1)
 
+  -- and one that passes this test is below each of them
   rising-from_below_all : (k : K) (es : List (K × V)) → T (below_all R k es) → AllByRecursion (λ y. R k y ≡ Less) (keys_of es)
   rising-from_below_all k [] h = tt
   rising-from_below_all k (e ∷ es) h = (less _ (halves _ _ h).0, rising-from_below_all k es (halves _ _ h).1)
@@ -76,6 +79,7 @@ empty-length [] e = refl
 empty-length (x ∷ xs) e = absurd (cc)
 
 module _ {K V : Type 0} (R : K → K → Ordering) where
+  -- the map of a list in order has this list as its pairs, and so its length
   length-from_sorted : (es : List (K × V)) → T (is_sorted R es) → map.len (map.from_sorted {R = R} es) ≡ length es
   length-from_sorted es h = map.len-entries _ ∙ ap length (map.entries-from_sorted R es h)
 
@@ -99,19 +103,23 @@ module _ {K V : Type 0} (R : K → K → Ordering) where
 
 -- ---- whether keys rise
 
+-- an answer whose test of being less is true is Less
 is_less : (r : Ordering) → is_lt r ≡ true → r ≡ Less
 is_less r h = less r (subst T (sym h) tt)
 
 module _ {V : Type 0} (R : Bytes → Bytes → Ordering) (o : IsTotalOrder R) where
+  -- the key at a place is the key of the pair there
   get_or-keys : (es : List (Bytes × V)) (k : ℕ) (d : Bytes × V) → get_or (keys_of es) k d.0 ≡ (get_or es k d).0
   get_or-keys [] k d = refl
   get_or-keys (e ∷ es) zero d = refl
   get_or-keys (e ∷ es) (suc k) d = get_or-keys es k d
 
+  -- there are as many keys as pairs
   length-keys : (es : List (Bytes × V)) → length (keys_of es) ≡ length es
   length-keys [] = refl
   length-keys (e ∷ es) = ap suc (length-keys es)
 
+  -- so two neighbouring keys compare as the keys of two neighbouring pairs
   next-keys : (es : List (Bytes × V)) (k : ℕ) (d : Bytes × V)
       → R (get_or (keys_of es) k d.0) (get_or (keys_of es) (k + 1) d.0) ≡ R (get_or es k d).0 (get_or es (k + 1) d).0
   next-keys es k d i = R (get_or-keys es k d i) (get_or-keys es (k + 1) d i)

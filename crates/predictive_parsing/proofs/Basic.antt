@@ -25,18 +25,22 @@ cut_twice ts us vs a b e h = e ∙ ap (λ xs. a ++ xs) h ∙ sym (assoc a b vs)
 pub ok_pair : {I A : Type 0} (a b : A) (ts us : List I) → ◌≡◌ {A = Outcome I A} (Ok (a, ts)) (Ok (b, us)) → (a ≡ b) × (ts ≡ us)
 ok_pair {I} {A} a b ts us e = let k : ◌≡◌ {A = A × List I} (a, ts) (b, us) = cc in (ap (λ p. p.0) k, ap (λ p. p.1) k)
 
+-- equal refusals leave equal items
 pub err_same : {I A : Type 0} (ts us : List I) → ◌≡◌ {A = Outcome I A} (Err ts) (Err us) → ts ≡ us
 err_same ts us e = cc
 
+-- a test holds or fails
 pub bool_cases : (b : Bool) → (b ≡ true) ⊎ (b ≡ false)
 bool_cases true = inl refl
 bool_cases false = inr refl
 
+-- of two tests that hold together each holds
 pub both : (a b : Bool) → a && b ≡ true → (a ≡ true) × (b ≡ true)
 both true true e = (refl, refl)
 both true false e = absurd (cc)
 both false b e = absurd (cc)
 
+-- where the opposite of a test holds, the test fails
 pub not_true : (b : Bool) → not b ≡ true → b ≡ false
 not_true true e = absurd (cc)
 not_true false e = refl
@@ -75,6 +79,7 @@ module _ {I A : Type 0} (p q : Reader I A) (P Q : Rule I A) (wider : (ts us : Li
     again = λ vs h. sym (same (x.front ++ vs) (next_kept ts x.front us vs x.cut h)) ∙ x.again vs h;
   }
 
+  -- what a front goes on to is derived by the wider rule too
   pub completes_as : (Possible : I → Type 0) (front : List I) → Completes Possible P front → Completes Possible Q front
   completes_as Possible front x = record {
     rest = x.rest;
@@ -83,6 +88,7 @@ module _ {I A : Type 0} (p q : Reader I A) (P Q : Rule I A) (wider : (ts us : Li
     derives = λ vs. wider (front ++ (x.rest ++ vs)) vs x.value (x.derives vs);
   }
 
+  -- a reader that does the same there is stuck at the same front, which goes on to the same under the wider rule
   pub stuck_as : (Possible : I → Type 0) (ts us : List I) → ((vs : List I) → next vs ≡ next ts → p vs ≡ q vs)
       → Stuck Possible p P ts us → Stuck Possible q Q ts us
   stuck_as Possible ts us same x = record {

@@ -189,6 +189,7 @@ module _ {W : Type 0} (spelled : W → Bytes) (first : W) (others : List W) (tab
   read_as : W → Reader ℕ W
   read_as w = of (λ _. w) (word (spelled w))
 
+  -- a word that is known fits, since it is made of bytes
   read_fits : (w : W) → Fits IsByte (read_as w) (Of (λ _. w) (Word (spelled w))) any
   unfolding read_as
   read_fits w = named_fits (spelled w) w (table.bytes w)
@@ -201,6 +202,7 @@ module _ {W : Type 0} (spelled : W → Bytes) (first : W) (others : List W) (tab
       sym (apart_is spelled (first ∷ others) table.apart w c (table.all w) (table.all c)
       (shared_begins (spelled w) (spelled c) vs (omega (arith, shared_self (spelled w) vs))))
 
+  -- where it is known which word is the closest, the choice reads that word
   by_closest : (ts : Bytes) (w : W) → closest spelled ts first others ≡ w → one_of spelled first others ts ≡ read_as w ts
   unfolding one_of read_as
   by_closest ts w e = ap (λ x. of (λ _. x) (word (spelled x)) ts) e
@@ -209,6 +211,7 @@ module _ {W : Type 0} (spelled : W → Bytes) (first : W) (others : List W) (tab
   ahead_closest : (w a : W) (ts us : Bytes) → Of (λ _. w) (Word (spelled w)) ts a us → closest spelled ts first others ≡ w
   ahead_closest w a ts us r = ap (λ xs. closest spelled xs first others) r.first ∙ closest_is w r.middle
 
+  -- what is read is the closest word; it is ahead then, and so stays the closest whatever follows
   one_takes : (ts us : Bytes) (a : W) → one_of spelled first others ts ≡ Ok (a, us) → Taken (one_of spelled first others) (SpelledBy spelled) ts a us
   one_takes ts us a e =
       let c = closest spelled ts first others in
@@ -220,11 +223,13 @@ module _ {W : Type 0} (spelled : W → Bytes) (first : W) (others : List W) (tab
         again = λ vs h. by_closest (x.front ++ vs) c (ahead_closest c a (x.front ++ vs) vs (x.derives vs)) ∙ x.again vs h;
       }
 
+  -- a word that is ahead is the closest, and so it is the one that is read
   one_reads : (ts us : Bytes) (a : W) → SpelledBy spelled ts a us → one_of spelled first others ts ≡ Ok (a, us)
   one_reads ts us a r =
       by_closest ts a (ap (λ xs. closest spelled xs first others) r ∙ closest_is a us)
       ∙ (read_fits a).reads ts us a (record { value = tt; middle = us; first = r; second = record { is = refl; here = refl } }) refl
 
+  -- giving a value to a word that was read refuses nothing, so the word itself was refused
   refused_word : (w : W) (ts us : Bytes) → read_as w ts ≡ Err us → word (spelled w) ts ≡ Err us
   unfolding read_as
   refused_word w ts us e = by_outcome (word (spelled w) ts) refl e
@@ -233,6 +238,7 @@ module _ {W : Type 0} (spelled : W → Bytes) (first : W) (others : List W) (tab
       by_outcome (Ok (u, vs)) h r = absurd (cc)
       by_outcome (Err vs) h r = let k : vs ≡ us = cc in ap (λ xs. Err xs) k
 
+  -- no word shares more than the front that was read, so where the same byte is ahead all share as much, and the closest stays
   one_refuses : (ts us : Bytes) → one_of spelled first others ts ≡ Err us → Stuck IsByte (one_of spelled first others) (SpelledBy spelled) ts us
   one_refuses ts us e =
       let c = closest spelled ts first others in

@@ -39,10 +39,12 @@ module _ {I : Type 0} (Possible : I → Type 0) where
     pub one_begins : (ts us : List I) (a : A) → One f ts a us → begins f (next ts) ≡ true
     one_begins ts us a r = ap (λ xs. begins f (next xs)) r.first ∙ ap is_made r.made
 
+    -- an item that is taken has its value made by f, and what is behind it is left
     one_ok : (item : I) (ts us : List I) (a : A) (o : Option A) → f item ≡ o → on_made item o ts ≡ Ok (a, us) → (f item ≡ Some a) × (ts ≡ us)
     one_ok item ts us a (Some b) e h = let k = ok_pair b a ts us h in (e ∙ ap (λ x. Some x) k.0, k.1)
     one_ok item ts us a None e h = absurd (cc)
 
+    -- an item that is refused has no value made by f, and is left with what is behind it
     one_err : (item : I) (ts us : List I) (o : Option A) → f item ≡ o → on_made item o ts ≡ Err us → (f item ≡ None) × (item ∷ ts ≡ us)
     one_err item ts us None e h = (e, err_same (item ∷ ts) us h)
     one_err item ts us (Some a) e h = absurd (cc)
@@ -58,11 +60,13 @@ module _ {I : Type 0} (Possible : I → Type 0) where
     one_refused item [] e n = absurd (cc)
     one_refused item (v ∷ vs) e n = let k : v ≡ item = cc in ap (λ o. on_made v o vs) (ap f k ∙ n)
 
+    -- at the end there is nothing to take
     pub one_ended : (vs : List I) → next vs ≡ None → one f vs ≡ Err vs
     unfolding one
     one_ended [] e = refl
     one_ended (v ∷ vs) e = absurd (cc)
 
+    -- the front is the one item: f makes its value again, whatever follows
     one_takes : (ts us : List I) (a : A) → one f ts ≡ Ok (a, us) → Taken (one f) (One f) ts a us
     unfolding one
     one_takes [] us a e = absurd (cc)
@@ -76,6 +80,7 @@ module _ {I : Type 0} (Possible : I → Type 0) where
         }
 
     module _ (example : I) (value : A) (made : f example ≡ Some value) (possible : Possible example) where
+      -- the example alone is an item of which f makes a value
       one_some : Completes Possible (One f) []
       one_some = record {
         rest = example ∷ [];
@@ -84,6 +89,7 @@ module _ {I : Type 0} (Possible : I → Type 0) where
         derives = λ vs. record { item = example; first = refl; made = made };
       }
 
+      -- nothing was taken: the same item, or the end, is refused again, and the example could have come
       one_stuck : (ts us : List I) → one f ts ≡ Err us → Stuck Possible (one f) (One f) ts us
       unfolding one
       one_stuck [] us e =
@@ -105,6 +111,7 @@ module _ {I : Type 0} (Possible : I → Type 0) where
   -- ---- one thing, and then another
 
   module _ {A B : Type 0} (p : Reader I A) (P : Rule I A) (q : A → Reader I B) (Q : A → Rule I B) where
+    -- the first reader, and then the second
     abbrev after : Reader I B
     after ts = and_then (p ts) q
 
@@ -141,6 +148,7 @@ module _ {I : Type 0} (Possible : I → Type 0) where
           };
         }
 
+    -- where the first refuses, both do, and what its front goes on to can be followed by something of the second
     pub first_stuck : (ts us : List I) → ((a : A) → Completes Possible (Q a) []) → Stuck Possible p P ts us → Stuck Possible after (Then P Q) ts us
     first_stuck ts us some x = record {
       front = x.front;
@@ -149,6 +157,7 @@ module _ {I : Type 0} (Possible : I → Type 0) where
       completes = then_completes x.front some x.completes;
     }
 
+    -- where the first took a front and the second refuses, both are stuck behind the two fronts together
     pub second_stuck : (ts us vs : List I) (a : A) → Taken p P ts a us → Stuck Possible (q a) (Q a) us vs → Stuck Possible after (Then P Q) ts vs
     second_stuck ts us vs a x y = record {
       front = x.front ++ y.front;
@@ -174,6 +183,7 @@ module _ {I : Type 0} (Possible : I → Type 0) where
 
     module _ (between follows : Option I → Bool) (fp : Fits Possible p P between) (fq : (a : A) → Fits Possible (q a) (Q a) follows)
         (meets : (a : A) (us vs : List I) (b : B) → Q a us b vs → follows (next vs) ≡ true → between (next us) ≡ true) where
+      -- the first refused, or it took a front and the second refused
       then_refuses : (ts vs : List I) → after ts ≡ Err vs → Stuck Possible after (Then P Q) ts vs
       then_refuses ts vs e = elim (bind_err (p ts) q vs e) [
         | inl h ↦ first_stuck ts vs (λ a. (fq a).some) (fp.refuses ts vs h)
@@ -230,20 +240,25 @@ module _ {I : Type 0} (Possible : I → Type 0) where
       (fp : Fits Possible p P follows) (fq : Fits Possible q Q follows)
       (begins : (ts us : List I) (a : A) → P ts a us → starts (next ts) ≡ true)
       (other : (ts us : List I) (a : A) → Q ts a us → follows (next us) ≡ true → starts (next ts) ≡ false) where
+    -- what the test says of the item ahead decides between the two readers
     by : (b : Bool) (ts : List I) → starts (next ts) ≡ b → either starts p q ts ≡ cond b (p ts) (q ts)
     by b ts s = ap (λ c. cond c (p ts) (q ts)) s
 
+    -- where the same item is ahead, the same reader is chosen
     chosen : (ts : List I) (b : Bool) → starts (next ts) ≡ b → (vs : List I) → next vs ≡ next ts → cond b (p vs) (q vs) ≡ either starts p q vs
     chosen ts b s vs e = sym (by b vs (ap starts e ∙ s))
 
+    -- the chosen reader takes its front, and is chosen again where the same item is ahead
     takes_by : (ts us : List I) (a : A) (b : Bool) → starts (next ts) ≡ b → cond b (p ts) (q ts) ≡ Ok (a, us) → Taken (either starts p q) (Or P Q) ts a us
     takes_by ts us a true s e = taken_as p (either starts p q) P (Or P Q) (λ xs ys c r. inl r) ts us a (chosen ts true s) (fp.takes ts us a e)
     takes_by ts us a false s e = taken_as q (either starts p q) Q (Or P Q) (λ xs ys c r. inr r) ts us a (chosen ts false s) (fq.takes ts us a e)
 
+    -- what the first derives begins so, and what the second derives does not, so the right reader is chosen
     reads_by : (ts us : List I) (a : A) → Or P Q ts a us → follows (next us) ≡ true → either starts p q ts ≡ Ok (a, us)
     reads_by ts us a (inl r) h = by true ts (begins ts us a r) ∙ fp.reads ts us a r h
     reads_by ts us a (inr r) h = by false ts (other ts us a r h) ∙ fq.reads ts us a r h
 
+    -- the chosen reader is stuck, and is chosen again where the same item is ahead
     refuses_by : (ts us : List I) (b : Bool) → starts (next ts) ≡ b → cond b (p ts) (q ts) ≡ Err us → Stuck Possible (either starts p q) (Or P Q) ts us
     refuses_by ts us true s e = stuck_as p (either starts p q) P (Or P Q) (λ xs ys c r. inl r) Possible ts us (chosen ts true s) (fp.refuses ts us e)
     refuses_by ts us false s e = stuck_as q (either starts p q) Q (Or P Q) (λ xs ys c r. inr r) Possible ts us (chosen ts false s) (fq.refuses ts us e)
@@ -353,6 +368,7 @@ module _ {I : Type 0} (Possible : I → Type 0) where
         ap (λ n. Ok (take n (front ++ us), drop n (front ++ us))) (prefix_len-front passes front us all e)
         ∙ ap (λ xs. Ok (xs, drop (length front) (front ++ us))) (take-append_seam front us) ∙ ap (λ xs. Ok (front, xs)) (drop-append_seam front us)
 
+    -- such a front passes whatever follows it, and is read again where again nothing that passes is ahead
     run_takes : (ts us front : List I) → run passes ts ≡ Ok (front, us) → Taken (run passes) (Run passes) ts front us
     run_takes ts us front e =
         let k = run_front ts us front e in
@@ -415,6 +431,7 @@ module _ {I : Type 0} (Possible : I → Type 0) where
           min_is (inl e) = let m = prefix_len-least passes front us all in omega arith
           min_is (inr e) = let m = prefix_len-front passes front us all e in omega arith
 
+      -- such a front is read again: there is still no room for more, or again nothing that passes is ahead
       up_to_takes : (ts us front : List I) → run_up_to limit passes ts ≡ Ok (front, us) → Taken (run_up_to limit passes) (RunUpTo limit passes) ts front us
       up_to_takes ts us front e =
           let k = up_to_front ts us front e in

@@ -44,11 +44,13 @@ module _ {I A : Type 0} (f : I → Option A) where
   taken [] a e = absurd (cc)
   taken (item ∷ ts) a e = ap (λ o. on_made item o ts) e
 
+  -- where nothing is made of the item ahead, or no item is, it is refused
   pub refused : (ts : List I) → made_of f ts ≡ None → one f ts ≡ Err ts
   unfolding one
   refused [] e = refl
   refused (item ∷ ts) e = ap (λ o. on_made item o ts) e
 
+  -- an item of which nothing is made is refused
   none_refused : (item : I) (o : Option A) (ts : List I) → is_made o ≡ false → on_made item o ts ≡ Err (item ∷ ts)
   none_refused item None ts e = refl
   none_refused item (Some a) ts e = absurd (cc)

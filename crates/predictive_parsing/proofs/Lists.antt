@@ -13,10 +13,12 @@ use Rattle.predictive_parsing.proofs.Combined.{pure_fits, then_taken, then_fits,
 module _ {I A : Type 0} (Possible : I → Type 0) (starts : Option I → Bool) (item : Reader I A) (P : Rule I A)
     (between : Option I → Bool) (fi : Fits Possible item P between)
     (begins : (ts us : List I) (a : A) → P ts a us → starts (next ts) ≡ true) (at_end : starts None ≡ false) where
+  -- an empty front would begin at the end, where nothing begins, so the front has an item at least
   shrinks_by : (ts us front : List I) (a : A) → ts ≡ front ++ us → P (front ++ []) a [] → length us < length ts
   shrinks_by ts us [] a e r = absurd (let k = begins [] [] a r in cc)
   shrinks_by ts us (t ∷ front) a e r = omega (arith, ap length e, length-append front us)
 
+  -- so what is left is shorter behind each that is read
   pub shrinks : (ts us : List I) (a : A) → item ts ≡ Ok (a, us) → length us < length ts
   shrinks ts us a e = let x = fi.takes ts us a e in shrinks_by ts us x.front a x.cut (x.derives [])
 
@@ -24,9 +26,11 @@ module _ {I A : Type 0} (Possible : I → Type 0) (starts : Option I → Bool) (
     (between : Option I → Bool) (fi : Fits Possible item P between)
     (begins : (ts us : List I) (a : A) → P ts a us → starts (next ts) ≡ true) (at_end : starts None ≡ false)
     (goes : (h : Option I) → starts h ≡ true → between h ≡ true) where
+  -- as many as begin
   all : Reader I (List A)
   all = many starts item
 
+  -- what is left is shorter after each turn
   shorter : (ts us : List I) (a : A) → item ts ≡ Ok (a, us) → length us < length ts
   shorter = shrinks Possible starts item P between fi begins at_end
 
@@ -36,13 +40,16 @@ module _ {I A : Type 0} (Possible : I → Type 0) (starts : Option I → Bool) (
   and_all : A → Reader I (List A)
   and_all a us = and_then (all us) (λ rest. pure (a ∷ rest))
 
+  -- the rule of one, and then of all the others
   AndAll : A → Rule I (List A)
   AndAll a = Then (Many P) (λ rest. Pure (a ∷ rest))
 
+  -- none is read where none begins
   all_stop : (ts : List I) → starts (next ts) ≡ false → all ts ≡ Ok ([], ts)
   unfolding all
   all_stop ts s = many_stop starts item at_end shorter ts s
 
+  -- where one begins, one is read and then all the others
   all_go : (ts : List I) → starts (next ts) ≡ true → and_then (item ts) and_all ≡ all ts
   unfolding all and_all
   all_go ts s = sym (many_go starts item at_end shorter ts s)
@@ -57,9 +64,11 @@ module _ {I A : Type 0} (Possible : I → Type 0) (starts : Option I → Bool) (
 
   -- ---- what is taken
 
+  -- where none begins the front is empty, and the empty list is read again where the same item is ahead
   none_taken : (ts : List I) → starts (next ts) ≡ false → Taken all (Many P) ts [] ts
   none_taken ts s = record { front = []; cut = refl; derives = λ vs. none vs; again = λ vs h. all_stop vs (ap starts h ∙ s) }
 
+  -- the front of one and the front of all the others, after one another, are a front of all
   more_taken : (ts us vs : List I) (a : A) (rest : List A) → starts (next ts) ≡ true → item ts ≡ Ok (a, us)
       → Taken all (Many P) us rest vs → Taken all (Many P) ts (a ∷ rest) vs
   unfolding and_all AndAll
@@ -70,11 +79,13 @@ module _ {I A : Type 0} (Possible : I → Type 0) (starts : Option I → Bool) (
       let z = then_taken Possible item P and_all AndAll ts us vs a (a ∷ rest) (fi.takes ts us a e) y in
       taken_as (λ xs. and_then (item xs) and_all) all (Then P AndAll) (Many P) one_more ts vs (a ∷ rest) (λ xs h. all_go xs (ap starts h ∙ s)) z
 
+  -- where none begins, whatever was read is the empty list
   nothing_taken : (ts us : List I) (xs : List A) → starts (next ts) ≡ false → all ts ≡ Ok (xs, us) → Taken all (Many P) ts xs us
   nothing_taken ts us xs s e =
       let k = ok_pair [] xs ts us (sym (all_stop ts s) ∙ e) in
       subst (λ ys. Taken all (Many P) ts ys us) k.0 (subst (λ vs. Taken all (Many P) ts [] vs) k.1 (none_taken ts s))
 
+  -- what is read behind one is all the others, and then these with the one in front
   rest_ok : (a : A) (us vs : List I) (xs : List A) → and_all a us ≡ Ok (xs, vs) → Bound (all us) (λ rest. pure (a ∷ rest)) (Ok (xs, vs))
   unfolding and_all
   rest_ok a us vs xs e = bind_ok (all us) (λ rest. pure (a ∷ rest)) xs vs e
@@ -101,6 +112,7 @@ module _ {I A : Type 0} (Possible : I → Type 0) (starts : Option I → Bool) (
   meets ts us xs (none ts') h = h
   meets ts us xs (more ts' us' vs' a rest r rs) h = goes (next ts) (begins ts us' a r)
 
+  -- by the derivation: one that is derived begins and is read, and where none is left none begins
   all_reads : (ts us : List I) (xs : List A) → Many P ts xs us → between (next us) ≡ true → starts (next us) ≡ false → all ts ≡ Ok (xs, us)
   unfolding and_all
   all_reads ts us xs (none ts') h s = all_stop ts s
@@ -111,9 +123,11 @@ module _ {I A : Type 0} (Possible : I → Type 0) (starts : Option I → Bool) (
 
   -- ---- where it is stuck
 
+  -- no items at all are a list of them
   all_some : Completes Possible (Many P) []
   all_some = record { rest = []; value = []; possible = All-nil Possible; derives = λ vs. none vs }
 
+  -- behind one there need be no others
   more_some : (a : A) → Completes Possible (AndAll a) []
   unfolding AndAll
   more_some a = record {
@@ -123,16 +137,19 @@ module _ {I A : Type 0} (Possible : I → Type 0) (starts : Option I → Bool) (
     derives = λ vs. record { value = []; middle = vs; first = none vs; second = record { is = refl; here = refl } };
   }
 
+  -- where one begins, all are stuck where one and the others are
   turn_stuck : (ts us : List I) → starts (next ts) ≡ true
       → Stuck Possible (λ xs. and_then (item xs) and_all) (Then P AndAll) ts us → Stuck Possible all (Many P) ts us
   turn_stuck ts us s x =
       stuck_as (λ xs. and_then (item xs) and_all) all (Then P AndAll) (Many P) one_more Possible ts us
       (λ xs h. all_go xs (ap starts h ∙ s)) x
 
+  -- where the others are stuck, so are they behind one
   rest_stuck : (us vs : List I) (a : A) → Stuck Possible all (Many P) us vs → Stuck Possible (and_all a) (AndAll a) us vs
   unfolding and_all AndAll
   rest_stuck us vs a x = first_stuck Possible all (Many P) (λ xs. pure (a ∷ xs)) (λ xs. Pure (a ∷ xs)) us vs (λ xs. (pure_fits Possible (a ∷ xs)).some) x
 
+  -- putting one in front refuses nothing, so the others were refused
   rest_err : (a : A) (us vs : List I) → and_all a us ≡ Err vs → all us ≡ Err vs
   unfolding and_all
   rest_err a us vs e = elim (bind_err (all us) (λ rest. pure (a ∷ rest)) vs e) [
@@ -140,6 +157,7 @@ module _ {I A : Type 0} (Possible : I → Type 0) (starts : Option I → Bool) (
     | inr x ↦ absurd (let k = x.second in cc)
   ]
 
+  -- turn by turn: the first is stuck, or it is taken and the others are stuck; where none begins nothing is refused
   all_stuck : (n : ℕ) (ts us : List I) → length ts ≤ n → all ts ≡ Err us → Stuck Possible all (Many P) ts us
   all_stuck zero [] us l e = absurd (let k = all_stop [] at_end in cc)
   all_stuck zero (t ∷ ts) us l e = absurd (omega arith)

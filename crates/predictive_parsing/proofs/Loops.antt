@@ -27,14 +27,17 @@ no_front (Err ts) = refl
 -- ---- turns that are counted
 
 module _ {I A : Type 0} (starts : Option I → Bool) (item : Reader I A) where
+  -- the turns that are left behind one value, with that value in front
   after : ℕ → A → Reader I (List A)
   after n a us = and_then (turns starts item n us) (λ rest. pure (a ∷ rest))
 
+  -- where none begins no turn reads anything, however many are left
   turns_stop : (n : ℕ) (ts : List I) → starts (next ts) ≡ false → turns starts item n ts ≡ Ok ([], ts)
   unfolding turns
   turns_stop zero ts s = refl
   turns_stop (suc n) ts s = rw s refl
 
+  -- where one begins, a turn reads one and goes on with the others
   turns_go : (n : ℕ) (ts : List I) → starts (next ts) ≡ true → turns starts item (suc n) ts ≡ and_then (item ts) (after n)
   unfolding turns after
   turns_go n ts s = rw s refl
@@ -48,6 +51,7 @@ module _ {I A : Type 0} (starts : Option I → Bool) (item : Reader I A) where
 
   -- The loop has found these, the items ts are left with so many turns, and all is read as `whole`.
   module _ (found : List A) (n : ℕ) (ts : List I) (whole : Outcome I (List A)) (so_far : with_front found (turns starts item n ts) ≡ whole) where
+    -- where one begins and a turn is left, the whole is what this turn reads behind what was found
     one_of : (m : ℕ) → n ≡ m + 1 → starts (next ts) ≡ true → whole ≡ with_front found (and_then (item ts) (after m))
     one_of m e s =
         let k : n ≡ suc m = omega arith in
@@ -79,9 +83,11 @@ module _ {I A : Type 0} (starts : Option I → Bool) (item : Reader I A) where
 
 module _ {I A : Type 0} (starts : Option I → Bool) (item : Reader I A) (at_end : starts None ≡ false)
     (shrinks : (ts us : List I) (a : A) → item ts ≡ Ok (a, us) → length us < length ts) where
+  -- the turns that are left behind one value
   abbrev next_turns : ℕ → A → Reader I (List A)
   next_turns = after starts item
 
+  -- where two numbers of turns read the same behind one, they read the same with it
   same_after : (m n : ℕ) (ts : List I) (r : Outcome I A) → item ts ≡ r
       → ((us : List I) (a : A) → item ts ≡ Ok (a, us) → turns starts item m us ≡ turns starts item n us)
       → and_then r (next_turns m) ≡ and_then r (next_turns n)
@@ -107,6 +113,7 @@ module _ {I A : Type 0} (starts : Option I → Bool) (item : Reader I A) (at_end
   unfolding many
   many_stop ts s = turns_stop starts item (length ts) ts s
 
+  -- nothing begins at the end, so where one begins an item is left
   pub some_left : (ts : List I) → starts (next ts) ≡ true → (n : ℕ) × (length ts ≡ suc n)
   some_left [] s = absurd (let k = at_end in cc)
   some_left (t ∷ ts) s = (length ts, omega arith)

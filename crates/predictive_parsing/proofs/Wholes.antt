@@ -9,6 +9,7 @@ use Rattle.predictive_parsing.proofs.Basic.{assoc, ok_pair, sound}
 
 module _ {I A : Type 0} (Possible : I → Type 0) (p : Reader I A) (P : Rule I A) (follows : Option I → Bool)
     (fp : Fits Possible p P follows) (ends : follows None ≡ true) where
+  -- what the rule derives of all items is read up to the end, which may follow it
   derived : (ts : List I) (a : A) → Whole P ts a → p ts ≡ Ok (a, [])
   derived ts a r = fp.reads ts [] a r ends
 
@@ -17,6 +18,7 @@ module _ {I A : Type 0} (Possible : I → Type 0) (p : Reader I A) (P : Rule I A
   unfolding whole
   whole_complete ts a r = ap whole_of (derived ts a r)
 
+  -- by what was read: only a value with no item left behind it is the value of them all
   sound_by : (ts : List I) (a : A) (o : Outcome I A) → p ts ≡ o → whole_of o ≡ Ok a → Whole P ts a
   sound_by ts a (Ok (b, [])) e h = let k : b ≡ a = cc in subst (λ x. Whole P ts x) k (sound p P ts [] b (fp.takes ts [] b e))
   sound_by ts a (Ok (b, t ∷ us)) e h = absurd (cc)
@@ -33,9 +35,11 @@ module _ {I A : Type 0} (Possible : I → Type 0) (p : Reader I A) (P : Rule I A
 
   -- ---- where they stop
 
+  -- an outcome isn't both a value and a refusal
   apart : (a : A) (us vs : List I) (o : Outcome I A) → o ≡ Ok (a, us) → o ≡ Err vs → ⊥
   apart a us vs o e h = cc
 
+  -- nor a value with no item left and one with an item left
   past : (a b : A) (t : I) (us : List I) (o : Outcome I A) → o ≡ Ok (a, []) → o ≡ Ok (b, t ∷ us) → ⊥
   past a b t us o e h = let k = (ok_pair a b [] (t ∷ us) (sym e ∙ h)).1 in cc
 
@@ -69,6 +73,7 @@ module _ {I A : Type 0} (Possible : I → Type 0) (p : Reader I A) (P : Rule I A
         (x.again (t ∷ others) refl);
   }
 
+  -- by what was read: either the reader refused an item, or it was done and an item is left
   stops_by : (ts rest : List I) (o : Outcome I A) → p ts ≡ o → whole_of o ≡ Err rest → StopsAt Possible P ts rest
   stops_by ts rest (Ok (a, [])) e h = absurd (cc)
   stops_by ts rest (Ok (a, t ∷ us)) e h =

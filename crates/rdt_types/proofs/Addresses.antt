@@ -17,6 +17,7 @@ use Rattle.rdt_types.specs.Addresses.{address_cmp}
 same_kind : (j k : Kind) → kinds.ghosts.cmp j k ≡ Equal → j ≡ k
 same_kind j k e = same_true the_type tt j k (laws.matches_eq-law j k ∙ ap is_eq e)
 
+-- what is compared by two orders, one after the other, is equal only where both say so
 both_equal : (r s : Ordering) → ordering_then r s ≡ Equal → (r ≡ Equal) × (s ≡ Equal)
 both_equal Equal s e = (refl, e)
 both_equal Less s e = absurd (cc)

@@ -30,10 +30,12 @@ module _ {M V : Type 0} (left : M → Option V) where
       by None e = refl
       by (Some v) e = e
 
+  -- a delta that clears begins with nothing at any key, and another with what was there
   begun-get : (cleared : Bool) (m : MapOf V) (q : Bytes) → map.get (cond cleared map.empty m) q ≡ cond cleared None (map.get m q)
   begun-get true m q = map.get-empty text_cmp q
   begun-get false m q = refl
 
+  -- a second that clears forgets the first; else at each key a later mark leaves what it leaves after the earlier one
   applied-fields : (d : Keyed M) (cleared : Bool) (marks : MapOf M) (m : MapOf V)
       → applied left (composed left d (record { cleared = cleared; marks = marks })) m
       ≡ applied left (record { cleared = cleared; marks = marks }) (applied left d m)
@@ -61,6 +63,7 @@ module _ {M V : Type 0} (left : M → Option V) where
   one_mark cleared None earlier before = refl
   one_mark cleared (Some mark) earlier before = refl
 
+  -- at each key three marks come to the same, whichever two are done as one
   overlaid-twice : (cleared : Bool) (first second third : MapOf M)
       → overlaid (mark_after left cleared) (overlaid (mark_after left cleared) first second) third
       ≡ overlaid (mark_after left cleared) first (overlaid (mark_after left false) second third)
@@ -86,19 +89,24 @@ module _ {M V : Type 0} (left : M → Option V) where
 
   -- ---- forms
 
+  -- a delta of one mark has a mark
   pub form-marking : (key : Bytes) (mark : M) → T (has_form left (marking key mark))
   form-marking key mark = subst (λ n. T (not (nat_eq n 0))) (sym (len-one key mark)) tt
 
+  -- a delta that only clears has no mark that takes anything away
   pub form-clearing : T (has_form left clearing)
   form-clearing = subst (λ es. T (list_all (λ mark. is_some (left mark.1)) es)) (sym entries-empty) tt
 
+  -- whether a mark leaves something at its key
   abbrev leaving : M → Bool
   leaving mark = is_some (left mark)
 
+  -- a mark that is kept over what is cleared is one that leaves something
   kept : (mark other : M) (b : Bool) → is_some (left mark) ≡ b → cond (not b) None (Some mark) ≡ Some other → T (is_some (left other))
   kept mark other true e is = subst (λ x. T (is_some (left x))) (Some_is mark other is) (subst T (sym e) tt)
   kept mark other false e is = absurd (cc)
 
+  -- over a clear each mark is one of the first, which leaves something, or is kept; without a clear a mark of the second is there
   form-fields : (d : Keyed M) (marks : MapOf M) (cleared : Bool) → d.cleared ≡ cleared
       → T (has_form left (record { cleared = cleared; marks = d.marks })) → T (has_form left (record { cleared = false; marks = marks }))
       → T (has_form left (record { cleared = cleared; marks = overlaid (mark_after left cleared) d.marks marks }))

@@ -46,6 +46,7 @@ in_turn first second v (sets d e) = ap value.Set (keyed.applied-composed added d
 in_turn first second v (hashes d e) = ap value.Hash (keyed.applied-composed put_by d e (hash_in v))
 in_turn first second v (lists d e) = ap value.List (listed.applied-composed d e (list_in v))
 
+-- two deltas of equal kinds are one of the pairs for which it holds
 pub compositions_apply_in_turn : CompositionsApplyInTurn
 compositions_apply_in_turn first second v same = in_turn first second v (of_one_kind first second same)
 
@@ -63,6 +64,7 @@ associates first second third (sets d e) (sets e' f) = ap delta.Set (keyed.compo
 associates first second third (hashes d e) (hashes e' f) = ap delta.Hash (keyed.composed-composed put_by d e f)
 associates first second third (lists d e) (lists e' f) = ap delta.List (listed.composed-composed d e f)
 
+-- three deltas of equal kinds are two such pairs
 pub compositions_associate : CompositionsAssociate
 compositions_associate first second third same also =
     associates first second third (of_one_kind first second same) (of_one_kind second third also)

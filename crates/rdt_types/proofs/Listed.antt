@@ -12,10 +12,12 @@ use Rattle.plain_data.proofs.Overlays.{same_map, get-overlaid, len-one, some-len
 use Rattle.rdt_types.specs.Listed.{Listed, of_parts, without, pushing, removing, clearing, has_form, applied, composed}
 use Rattle.rdt_types.specs.Values.{others}
 
+-- tests that agree on every text keep the same items
 filter-alike : (p q : Bytes → Bool) → ((x : Bytes) → p x ≡ q x) → (xs : List Bytes) → filter p xs ≡ filter q xs
 filter-alike p q same [] = refl
 filter-alike p q same (x ∷ xs) = λ i. cond (same x i) (x ∷ filter-alike p q same xs i) (filter-alike p q same xs i)
 
+-- what a test keeps of two lists after one another is what it keeps of each
 filter-append : (p : Bytes → Bool) (xs ys : List Bytes) → filter p (xs ++ ys) ≡ filter p xs ++ filter p ys
 filter-append p [] ys = refl
 filter-append p (x ∷ xs) ys = by (filter-append p xs ys) (p x)
@@ -32,6 +34,7 @@ without-none (x ∷ xs) =
     (λ i. cond (not (is_some (map.get-empty {X = Unit {0}} text_cmp x i))) (x ∷ without map.empty xs) (without map.empty xs))
     ∙ ap (λ ys. x ∷ ys) (without-none xs)
 
+-- a set of one text has what ties with that text
 has-one : (text item : Bytes) → has_text (with_text map.empty text) item ≡ eq_by_cmp text_cmp item text
 has-one text item =
     ap is_some (map.get-insert nat_list_cmp_total map.empty text tt item ∙ ap (cond (eq_by_cmp text_cmp item text) (Some tt)) (map.get-empty text_cmp item))
@@ -41,12 +44,15 @@ has-one text item =
     by true = refl
     by false = refl
 
+-- a push takes nothing out, and its item is the last
 pub applied-pushing : (items : List Bytes) (item : Bytes) → applied (pushing item) items ≡ items ++ item ∷ []
 applied-pushing items item = ap (λ xs. xs ++ item ∷ []) (without-none items)
 
+-- a removal pushes nothing, and an item stays where it doesn't tie with the one text
 pub applied-removing : (items : List Bytes) (text : Bytes) → applied (removing text) items ≡ others text items
 applied-removing items text = append-nil _ ∙ filter-alike _ _ (λ item. ap not (has-one text item)) items
 
+-- a text is in a union where either set has it
 has-union : (some more : SetOfTexts) (x : Bytes) → has_text (union some more) x ≡ (has_text some x || has_text more x)
 has-union some more x = ap is_some (get-overlaid (λ u. Some u) some more x) ∙ by (map.get more x) (map.get some x)
   where
@@ -72,6 +78,7 @@ without-union some more (x ∷ xs) =
         ap (λ ys. x ∷ ys) rest
         ∙ ap (λ c. cond (not c) (x ∷ without more (without some xs)) (without more (without some xs))) (sym e)
 
+-- a second that clears forgets the first; else it takes out of what the first leaves and of what it pushed
 applied-fields : (d : Listed) (cleared : Bool) (removed : SetOfTexts) (pushed items : List Bytes)
     → applied (composed d (record { cleared = cleared; removed = removed; pushed = pushed })) items
     ≡ applied (record { cleared = cleared; removed = removed; pushed = pushed }) (applied d items)
@@ -131,9 +138,11 @@ composed-composed d e f = by e.cleared e.removed e.pushed f.cleared f.removed f.
 
 -- ---- forms
 
+-- a delta that removes has one text to take out
 pub form-removing : (text : Bytes) → T (has_form (removing text))
 form-removing text = subst (λ n. T (not (nat_eq n 0) || false)) (sym (len-one text tt)) tt
 
+-- a delta that clears takes nothing out besides
 pub form-clearing : T (has_form clearing)
 form-clearing = subst (λ n. T (nat_eq n 0)) (sym (map.len-empty text_cmp (Unit {0}))) tt
 
@@ -148,12 +157,14 @@ some-append : (xs ys : List Bytes) → T (not (nat_eq (length ys) 0)) → T (not
 some-append [] ys h = h
 some-append (x ∷ xs) ys h = subst (λ b. T (not b)) (sym (nonzero (length (xs ++ ys)))) tt
 
+-- where one of two tests holds, so does one of the two that follow from them
 either : (a b c d : Bool) → (T a → T c) → (T b → T d) → T (a || b) → T (c || d)
 either true b true d first second h = tt
 either true b false d first second h = absurd (first tt)
 either false b true d first second h = tt
 either false b false d first second h = second h
 
+-- over a clear nothing is taken out besides; else what the second takes out or pushes is taken out or pushed by both
 form-fields : (d : Listed) (cleared : Bool) (removed : SetOfTexts) (pushed : List Bytes)
     → T (has_form (record { cleared = false; removed = removed; pushed = pushed }))
     → T (has_form (record { cleared = cleared; removed = cond cleared map.empty (union d.removed removed); pushed = without removed d.pushed ++ pushed }))

@@ -54,19 +54,23 @@ kind-delta_of (op.ListPush x) = refl
 kind-delta_of (op.ListRemove x) = refl
 kind-delta_of op.ListClear = refl
 
+-- an addition after any delta is a delta of a counter
 kind-add_after : (first : Delta) (n : ℤ) → kind_changed (add_after first n) ≡ kind.Counter
 kind-add_after (delta.PutCounter m) n = refl
 kind-add_after (delta.AddCounter m) n = refl
 kind-add_after first n = refl
 
+-- a delta of a set after any other is one of a set
 kind-set_after : (first : Delta) (e : Keyed Bool) → kind_changed (set_after first e) ≡ kind.Set
 kind-set_after (delta.Set d) e = refl
 kind-set_after first e = refl
 
+-- a delta of a hash after any other is one of a hash
 kind-hash_after : (first : Delta) (e : Keyed Mark) → kind_changed (hash_after first e) ≡ kind.Hash
 kind-hash_after (delta.Hash d) e = refl
 kind-hash_after first e = refl
 
+-- a delta of a list after any other is one of a list
 kind-list_after : (first : Delta) (e : Listed) → kind_changed (list_after first e) ≡ kind.List
 kind-list_after (delta.List d) e = refl
 kind-list_after first e = refl

@@ -60,6 +60,7 @@ blank_no_digit : (h : Option ℕ) → ahead is_blank h ≡ true → no_digit h �
 blank_no_digit None e = absurd (cc)
 blank_no_digit (Some b) e = ap not (blank_is b e).0
 
+-- the same of a name, as it goes on with no blank
 blank_no_word : (h : Option ℕ) → ahead is_blank h ≡ true → no_word h ≡ true
 blank_no_word None e = absurd (cc)
 blank_no_word (Some b) e = ap not (blank_is b e).1
@@ -89,12 +90,14 @@ gap_begins ts us a r = passing_ahead IsByte is_blank ts r.middle r.value r.first
 abbrev Solid : Rule ℕ Bytes
 Solid = Then (One (passing is_solid)) (λ first. Then (Run is_any) (λ others. Pure (first ∷ others)))
 
+-- one solid byte and a run of any bytes, which only the end stops
 solid_fits : Fits IsByte solid Solid at_end
 unfolding solid
 solid_fits =
     onwards IsByte (one_fits IsByte (passing is_solid) 97 97 refl (omega arith))
     (λ first. seen IsByte (λ others. first ∷ others) (run_fits IsByte is_any))
 
+-- the first of these bytes is solid
 solid_begins : (ts us a : Bytes) → Solid ts a us → ahead is_solid (next ts) ≡ true
 solid_begins ts us a r = passing_ahead IsByte is_solid ts r.middle r.value r.first
 
@@ -113,6 +116,7 @@ rest_no_blank ts us a (inr r) e = ap (λ xs. no_blank (next xs)) r.here ∙ at_e
 abbrev Behind : Rule ℕ Bytes
 Behind = Then Gap (λ _. Rest)
 
+-- the blanks end where the rest of the line begins, which has no blank ahead
 behind_fits : Fits IsByte (λ ts. and_then (gap ts) (λ _. rest)) Behind at_end
 behind_fits = followed IsByte gap_fits (λ _. rest_fits) (λ u us vs b r e. rest_no_blank us vs b r e)
 
@@ -159,6 +163,7 @@ alone_after asked ts us a r e =
 digit_solid : (b : ℕ) → 48 ≤ b → b ≤ 57 → is_blank b ≡ false
 digit_solid b l h = grind (arith, nat_tests, l, h)
 
+-- a number has a digit ahead, and a digit is no blank
 natural_solid : (limit : ℕ) → limit < 18446744073709551616 → (ts us : Bytes) (n : ℕ) → NaturalRule limit ts n us → no_blank (next ts) ≡ true
 natural_solid limit l ts us n r =
     let x = digit_first ts us n r.spelled (omega (arith, r.within)) in
@@ -172,6 +177,7 @@ after_gap : {A : Type 0} {p : Reader ℕ A} {P : Rule ℕ A} → Fits IsByte p P
     → Fits IsByte (λ ts. and_then (gap ts) (λ _. p)) (Then Gap (λ _. P)) at_end
 after_gap fp solid = followed IsByte gap_fits (λ _. fp) (λ u us vs b r e. solid us vs b r)
 
+-- a digit ends the blanks, and a blank or the end of the line ends the number of attempts
 tries_fits : Fits IsByte tries (Form word.Try) at_end
 unfolding tries
 tries_fits = after_gap
@@ -180,6 +186,7 @@ tries_fits = after_gap
     (ap (λ xs. at_end (next xs)) r.second.here ∙ e)))
     (λ ts us a r. natural_solid MOST_ATTEMPTS (omega arith) ts r.middle r.value (record { spelled = r.first.spelled; within = r.first.within }))
 
+-- the same of the number of a commit
 at_fits : Fits IsByte at (Form word.At) at_end
 unfolding at
 at_fits = after_gap
@@ -188,6 +195,7 @@ at_fits = after_gap
     (ap (λ xs. at_end (next xs)) r.second.here ∙ e)))
     (λ ts us a r. natural_solid LARGEST (omega arith) ts r.middle r.value r.first)
 
+-- a letter ends the blanks, and a blank or the end of the line ends the name
 watch_fits : Fits IsByte watch (Form word.Watch) at_end
 unfolding watch
 watch_fits = after_gap
@@ -196,12 +204,14 @@ watch_fits = after_gap
     (ap (λ xs. at_end (next xs)) r.second.here ∙ e)))
     (λ ts us a r. letter_solid (next ts) (name_begins ts r.middle r.value r.first))
 
+-- the same, where only blanks follow the name
 unwatch_fits : Fits IsByte unwatch (Form word.Unwatch) at_end
 unfolding unwatch
 unwatch_fits = after_gap
     (followed IsByte name_fits (λ n. alone_fits (verb.Unwatch n)) (λ n us vs b r e. alone_after (verb.Unwatch n) us vs b r e))
     (λ ts us a r. letter_solid (next ts) (name_begins ts r.middle r.value r.first))
 
+-- verb by verb: a body, a number or a name and a body, or nothing more
 form_fits : (w : VerbWord) → Fits IsByte (form w) (Form w) at_end
 unfolding form
 form_fits word.Do = seen IsByte verb.Do body_fits
@@ -272,6 +282,7 @@ word_bytes word.At = refl
 word_bytes word.Watch = refl
 word_bytes word.Unwatch = refl
 
+-- these are all the verbs' words, made of bytes, and none begins another
 words : AreWords word_of word.Do OTHERS
 words = record { all = all_words; bytes = word_bytes; apart = refl }
 

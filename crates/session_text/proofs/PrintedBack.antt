@@ -45,6 +45,7 @@ of f P ts us a r = record { value = a; middle = us; first = r; second = record {
 next : {A B : Type 0} (P : Rule ℕ A) (Q : A → Rule ℕ B) (ts ms us : Bytes) (a : A) (b : B) → P ts a ms → Q a ms b us → Then P Q ts b us
 next P Q ts ms us a b r s = record { value = a; middle = ms; first = r; second = s }
 
+-- a number in decimal is its own spelling, whatever follows
 natural : (limit n : ℕ) (us : Bytes) → n ≤ limit → NaturalRule limit (decimal n ++ us) n us
 natural limit n us h = record { spelled = refl; within = h }
 
@@ -52,15 +53,19 @@ natural limit n us h = record { spelled = refl; within = h }
 last : (limit n : ℕ) → n ≤ limit → NaturalRule limit (decimal n) n []
 last limit n h = record { spelled = sym (append-nil (decimal n)); within = h }
 
+-- a number behind a word, whatever follows
 numbered : (w : Bytes) (n : ℕ) (us : Bytes) → n ≤ LARGEST → Numbered w (w ++ (decimal n ++ us)) n us
 numbered w n us h = behind w (NaturalRule LARGEST) (decimal n ++ us) us n (natural LARGEST n us h)
 
+-- a number behind a word, at the end
 last_number : (w : Bytes) (n : ℕ) → n ≤ LARGEST → Numbered w (w ++ decimal n) n []
 last_number w n h = behind w (NaturalRule LARGEST) (decimal n) [] n (last LARGEST n h)
 
+-- a column at the end stands behind its space
 last_column : (n : ℕ) → n ≤ LARGEST_COLUMN → Column (codes " " ++ decimal n) n []
 last_column n h = behind (codes " ") (NaturalRule LARGEST_COLUMN) (decimal n) [] n (last LARGEST_COLUMN n h)
 
+-- an outcome at the end stands behind its space, and is printed as one of its spellings
 ending : (f : Outcome → Reply) (o : Outcome) → FitsOutcome o → Of f (Behind (codes " ") OutcomeRule) (codes " " ++ printed_outcome o) (f o) []
 ending f o h = of f (Behind (codes " ") OutcomeRule) (codes " " ++ printed_outcome o) [] o
     (behind (codes " ") OutcomeRule (printed_outcome o) [] o (subst (λ ts. OutcomeRule ts o []) (append-nil (printed_outcome o)) (outcome_made o [] h)))
@@ -85,9 +90,11 @@ name_made name us r =
 
 -- ---- observations and parts beside their address
 
+-- a word that stands for one value is its spelling, whatever follows
 word_made : {A : Type 0} (w : Bytes) (a : A) (us : Bytes) → Of (λ _. a) (Word w) (w ++ us) a us
 word_made w a us = record { value = tt; middle = us; first = refl; second = record { is = refl; here = refl } }
 
+-- row by row: an observation is printed as a spelling beside an address of the kind that it observes
 obs_made : (o : Obs) (us : Bytes) → FitsObs o → ObsOf (kind_observed o) (printed_obs o ++ us) o us
 obs_made obs.BoolIs us h = word_made (codes "whole") obs.BoolIs us
 obs_made obs.CounterIs us h = word_made (codes "whole") obs.CounterIs us
@@ -103,12 +110,15 @@ obs_made obs.HashAll us h = inr (word_made (codes "all") obs.HashAll us)
 obs_made (obs.ListAt i) us h = inl (of obs.ListAt (Numbered (codes "at ")) (codes "at " ++ (decimal i ++ us)) us i (numbered (codes "at ") i us h))
 obs_made obs.ListAll us h = inr (word_made (codes "all") obs.ListAll us)
 
+-- so it is one beside every address of that kind
 obs_beside : (kind : Kind) (o : Obs) (us : Bytes) → kind_observed o ≡ kind → FitsObs o → ObsOf kind (printed_obs o ++ us) o us
 obs_beside kind o us e h = subst (λ k. ObsOf k (printed_obs o ++ us) o us) e (obs_made o us h)
 
+-- and so is a part beside every address of the kind that it writes
 part_beside : (kind : Kind) (p : WriteOp) (us : Bytes) → kind_written p ≡ kind → FitsPart p → PartOf kind (printed_part p ++ us) p us
 part_beside kind p us e h = subst (λ k. PartOf k (printed_part p ++ us) p us) e (part_of_made p us h)
 
+-- the address, the observation, its base, the part and the commit, each up to where the next begins
 witness_made : (w : Witness) → FitsWitness w → WitnessRule (codes " " ++ printed_witness w) w []
 witness_made w h =
     let k = w.address.kind in
@@ -146,12 +156,15 @@ witness_made w h =
 
 -- ---- why a line is refused
 
+-- a reason is its word, and then what stands behind it
 reason_made : (r : WhyWord) (a : Why) (ts : Bytes) → WhyForm r ts a [] → WhyRule (why_of r ++ ts) a []
 reason_made r a ts h = record { value = r; middle = ts; first = refl; second = h }
 
+-- nothing stands for a value that needs nothing more
 here : {A : Type 0} (a : A) → Pure {I = ℕ} a [] a []
 here a = record { is = refl; here = refl }
 
+-- reason by reason: the word alone, or the word and a column
 why_made : (y : Why) → FitsWhy y → WhyRule (printed_why y) y []
 why_made why.Long h = reason_made reason.Long why.Long [] (here why.Long)
 why_made why.Client h = reason_made reason.Client why.Client [] (here why.Client)
@@ -171,12 +184,15 @@ why_made why.NoAttempt h = reason_made reason.NoAttempt why.NoAttempt [] (here w
 
 -- ---- replies
 
+-- a reply is its first word, and then what stands behind it
 first_made : (r : ReplyWord) (a : Reply) (ts : Bytes) → Form r ts a [] → ReplyRule (word_of r ++ ts) a []
 first_made r a ts h = record { value = r; middle = ts; first = refl; second = h }
 
+-- a shard's number stands behind its space
 shard_made : (shard : ℕ) (us : Bytes) → shard ≤ LARGEST_SHARD → Behind (codes " ") (NaturalRule LARGEST_SHARD) (codes " " ++ (decimal shard ++ us)) shard us
 shard_made shard us h = behind (codes " ") (NaturalRule LARGEST_SHARD) (decimal shard ++ us) us shard (natural LARGEST_SHARD shard us h)
 
+-- reply by reply, from its parts in their order
 pub reply_made : (a : Reply) → Fits a → ReplyRule (printed_reply a) a []
 reply_made (reply.Commit n o) h =
     first_made word.Commit (reply.Commit n o) (codes " " ++ (decimal n ++ (codes " " ++ printed_outcome o)))

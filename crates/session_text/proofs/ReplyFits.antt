@@ -56,45 +56,55 @@ module _ {A : Type 0} {p : Reader ℕ A} {P : Rule ℕ A} where
 
   -- what begins with a space may follow a number or a name
   module _ {B : Type 0} {q : A → Reader ℕ B} {Q : A → Rule ℕ B} {between follows : Option ℕ → Bool} where
+    -- the space that is ahead of the second is one that may follow the first
     spaced : between (Some 32) ≡ true → Fits IsByte p P between → ((a : A) → Fits IsByte (q a) (Q a) follows)
         → ((a : A) (ts us : Bytes) (b : B) → Q a ts b us → next ts ≡ Some 32)
         → Fits IsByte (λ ts. and_then (p ts) q) (Then P Q) follows
     spaced e fp fq space = combined.followed IsByte fp fq (λ a us vs b r h. ap between (space a us vs b r) ∙ e)
 
+-- a number behind a word ends where no digit follows
 numbered_fits : (w : Bytes) → are_bytes w ≡ true → Fits IsByte (numbered w) (Numbered w) no_digit
 unfolding numbered
 numbered_fits w h = behind_fits w h (natural_fits LARGEST (omega arith) (omega arith))
 
+-- so does a column behind a space
 column_fits : Fits IsByte column Column no_digit
 unfolding column
 column_fits = behind_fits (codes " ") refl (natural_fits LARGEST_COLUMN (omega arith) (omega arith))
 
+-- and so does a shard's number behind a space
 shard_fits : Fits IsByte shard (Behind (codes " ") (NaturalRule LARGEST_SHARD)) no_digit
 unfolding shard
 shard_fits = behind_fits (codes " ") refl (natural_fits LARGEST_SHARD (omega arith) (omega arith))
 
+-- an address ends with its bracket, so anything may follow it
 spaced_address_fits : Fits IsByte spaced_address (Behind (codes " ") AddressRule) any
 unfolding spaced_address
 spaced_address_fits = behind_fits (codes " ") refl address_fits
 
+-- a name ends where no letter, digit or `_` follows
 spaced_name_fits : Fits IsByte spaced_name (Behind (codes " ") NameRule) no_word
 unfolding spaced_name
 spaced_name_fits = behind_fits (codes " ") refl name_fits
 
+-- an outcome ends where neither a digit nor a space follows
 ending_fits : Fits IsByte ending (Behind (codes " ") OutcomeRule) no_more
 unfolding ending
 ending_fits = behind_fits (codes " ") refl outcome_fits
 
 -- ---- observations
 
+-- the whole of a bool, a counter or a text is one word
 whole_fits : (kind : Kind) → Fits IsByte (whole kind) (Of (λ _. whole_of kind) (Word (codes "whole"))) no_digit
 unfolding whole
 whole_fits kind = wide (named_fits (codes "whole") (whole_of kind) refl)
 
+-- the whole of a collection is one word
 all_fits : (kind : Kind) → Fits IsByte (all kind) (Of (λ _. whole_of kind) (Word (codes "all"))) any
 unfolding all
 all_fits kind = named_fits (codes "all") (whole_of kind) refl
 
+-- the first letter tells an element from all of the set
 set_obs_fits : Fits IsByte set_obs (ObsOf kinds.Set) any
 unfolding set_obs
 set_obs_fits = either_fits IsByte (sees 104) _ (all kinds.Set) (Behind (codes "has ") (Of obs.SetHas TextRule)) (Of (λ _. obs.SetAll) (Word (codes "all"))) any
@@ -104,15 +114,19 @@ set_obs_fits = either_fits IsByte (sees 104) _ (all kinds.Set) (Behind (codes "h
 
 -- a place or all, the common letter in front
 module _ (mark : Rule ℕ Obs) (end : Obs) where
+  -- a place, or the rest of the word for all
   abbrev Either : Rule ℕ Obs
   Either = Or mark (Of (λ _. end) (Word (codes "ll")))
 
+-- the rest of the word before a field, and the field
 hash_place : Rule ℕ Obs
 hash_place = Behind (codes "t ") (Of obs.HashAt TextRule)
 
+-- the rest of the word before a place, and the place
 list_place : Rule ℕ Obs
 list_place = Of obs.ListAt (Numbered (codes "t "))
 
+-- behind the common letter the next one tells a field from all of the hash
 hash_obs_factored : Fits IsByte hash_obs (Behind (codes "a") (Either hash_place obs.HashAll)) any
 unfolding hash_obs hash_place
 hash_obs_factored = behind_fits (codes "a") refl (either_fits IsByte (sees 116) _ _ hash_place (Of (λ _. obs.HashAll) (Word (codes "ll"))) any
@@ -120,6 +134,7 @@ hash_obs_factored = behind_fits (codes "a") refl (either_fits IsByte (sees 116) 
     (λ ts us a r. ap (λ xs. sees 116 (next xs)) r.first)
     (λ ts us a r e. ap (λ xs. sees 116 (next xs)) r.first))
 
+-- the common letter in front of either rest makes a spelling of the rule
 hash_obs_to : (ts us : Bytes) (a : Obs) → Behind (codes "a") (Either hash_place obs.HashAll) ts a us → ObsOf kinds.Hash ts a us
 unfolding hash_place
 hash_obs_to ts us a r = by_form r.middle r.first r.second
@@ -128,6 +143,7 @@ hash_obs_to ts us a r = by_form r.middle r.first r.second
     by_form ms e (inl s) = inl (record { value = tt; middle = s.middle; first = e ∙ ap (λ xs. 97 ∷ xs) s.first; second = s.second })
     by_form ms e (inr s) = inr (record { value = tt; middle = s.middle; first = e ∙ ap (λ xs. 97 ∷ xs) s.first; second = s.second })
 
+-- and each spelling of the rule is this letter in front of one of the rests
 hash_obs_from : (ts us : Bytes) (a : Obs) → ObsOf kinds.Hash ts a us → Behind (codes "a") (Either hash_place obs.HashAll) ts a us
 unfolding hash_place
 hash_obs_from ts us a (inl s) =
@@ -145,9 +161,11 @@ hash_obs_from ts us a (inr s) =
       second = inr (record { value = tt; middle = s.middle; first = refl; second = s.second });
     }
 
+-- so both rules derive the same, and the reader fits that of observations
 hash_obs_fits : Fits IsByte hash_obs (ObsOf kinds.Hash) any
 hash_obs_fits = fits_as IsByte hash_obs_to hash_obs_from hash_obs_factored
 
+-- behind the common letter the next one tells a place from all of the list
 list_obs_factored : Fits IsByte list_obs (Behind (codes "a") (Either list_place obs.ListAll)) no_digit
 unfolding list_obs list_place
 list_obs_factored = behind_fits (codes "a") refl (either_fits IsByte (sees 116) _ _ list_place (Of (λ _. obs.ListAll) (Word (codes "ll"))) no_digit
@@ -155,6 +173,7 @@ list_obs_factored = behind_fits (codes "a") refl (either_fits IsByte (sees 116) 
     (λ ts us a r. ap (λ xs. sees 116 (next xs)) r.first.first)
     (λ ts us a r e. ap (λ xs. sees 116 (next xs)) r.first))
 
+-- here too the common letter in front of either rest makes a spelling of the rule
 list_obs_to : (ts us : Bytes) (a : Obs) → Behind (codes "a") (Either list_place obs.ListAll) ts a us → ObsOf kinds.List ts a us
 unfolding list_place
 list_obs_to ts us a r = by_form r.middle r.first r.second
@@ -170,6 +189,7 @@ list_obs_to ts us a r = by_form r.middle r.first r.second
         })
     by_form ms e (inr s) = inr (record { value = tt; middle = s.middle; first = e ∙ ap (λ xs. 97 ∷ xs) s.first; second = s.second })
 
+-- and each spelling of the rule is this letter in front of one of the rests
 list_obs_from : (ts us : Bytes) (a : Obs) → ObsOf kinds.List ts a us → Behind (codes "a") (Either list_place obs.ListAll) ts a us
 unfolding list_place
 list_obs_from ts us a (inl s) =
@@ -192,6 +212,7 @@ list_obs_from ts us a (inr s) =
       second = inr (record { value = tt; middle = s.middle; first = refl; second = s.second });
     }
 
+-- so both rules derive the same, and the reader fits that of observations
 list_obs_fits : Fits IsByte list_obs (ObsOf kinds.List) no_digit
 list_obs_fits = fits_as IsByte list_obs_to list_obs_from list_obs_factored
 
@@ -207,6 +228,7 @@ obs_of_fits kinds.List = list_obs_fits
 
 -- ---- why a line is refused
 
+-- each reason is among the listed ones
 all_whys : (w : WhyWord) → In (reason.Long ∷ whys.OTHERS) w
 all_whys reason.Long = inl refl
 all_whys reason.Client = inr (inl refl)
@@ -218,6 +240,7 @@ all_whys reason.Name = inr (inr (inr (inr (inr (inr (inl refl))))))
 all_whys reason.Busy = inr (inr (inr (inr (inr (inr (inr (inl refl)))))))
 all_whys reason.NoAttempt = inr (inr (inr (inr (inr (inr (inr (inr (inl refl))))))))
 
+-- the word of each is made of bytes
 why_bytes : (w : WhyWord) → are_bytes (why_of w) ≡ true
 why_bytes reason.Long = refl
 why_bytes reason.Client = refl
@@ -229,9 +252,11 @@ why_bytes reason.Name = refl
 why_bytes reason.Busy = refl
 why_bytes reason.NoAttempt = refl
 
+-- these are all the words for reasons, made of bytes, and none begins another
 why_words : AreWords why_of reason.Long whys.OTHERS
 why_words = record { all = all_whys; bytes = why_bytes; apart = refl }
 
+-- reason by reason: nothing more, or a column
 why_form_fits : (w : WhyWord) → Fits IsByte (why_form w) (WhyForm w) no_digit
 unfolding why_form
 why_form_fits reason.Long = wide (pure_fits IsByte why.Long)
@@ -244,12 +269,14 @@ why_form_fits reason.Name = wide (pure_fits IsByte why.Name)
 why_form_fits reason.Busy = wide (pure_fits IsByte why.Busy)
 why_form_fits reason.NoAttempt = wide (pure_fits IsByte why.NoAttempt)
 
+-- a reason's word fits whatever follows, and tells what is read behind it
 why_fits : Fits IsByte why_read WhyRule no_digit
 unfolding why_read
 why_fits = onwards IsByte (one_of_fits why_of reason.Long whys.OTHERS why_words) why_form_fits
 
 -- ---- the forms
 
+-- each part but the first begins with a space, which may follow the part before it
 witness_fits : Fits IsByte witness WitnessRule no_digit
 unfolding witness
 witness_fits = onwards IsByte spaced_address_fits (λ address.
@@ -261,48 +288,58 @@ witness_fits = onwards IsByte spaced_address_fits (λ address.
     (λ a ts us b r. ap next r.first.first))
     (λ a ts us b r. ap next r.first.first))
 
+-- the space before the outcome ends the commit's number
 commit_fits : Fits IsByte commit (Form first.Commit) no_more
 unfolding commit
 commit_fits = spaced refl (numbered_fits (codes " ") refl) (λ n. seen IsByte (reply.Commit n) ending_fits) (λ a ts us b r. ap next r.first.first)
 
+-- anything may follow the address, and the base is a number behind its word
 read_fits : Fits IsByte read (Form first.Read) no_digit
 unfolding read
 read_fits = onwards IsByte spaced_address_fits (λ a. seen IsByte (reply.Read a) (numbered_fits (codes " base ") refl))
 
+-- the space before the front ends the shard's number
 prepared_fits : Fits IsByte prepared (Form first.Prepare) no_digit
 unfolding prepared
 prepared_fits = spaced refl shard_fits (λ k. seen IsByte (reply.Prepared k) (numbered_fits (codes " front ") refl)) (λ a ts us b r. ap next r.first.first)
 
+-- the space before the front ends the shard's number here too
 followed_fits : Fits IsByte followed (Form first.Follow) no_digit
 unfolding followed
 followed_fits = spaced refl shard_fits (λ k. seen IsByte (reply.Followed k) (numbered_fits (codes " front ") refl)) (λ a ts us b r. ap next r.first.first)
 
+-- the space before the outcome ends the number here too
 at_fits : Fits IsByte at (Form first.At) no_more
 unfolding at
 at_fits = spaced refl (numbered_fits (codes " ") refl) (λ n. seen IsByte (reply.At n) ending_fits) (λ a ts us b r. ap next r.first.first)
 
+-- a space ends the name, and another ends the number
 ran_fits : Fits IsByte ran (Form first.Run) no_more
 unfolding ran
 ran_fits =
     spaced refl spaced_name_fits (λ w. spaced refl (numbered_fits (codes " ") refl) (λ n. seen IsByte (reply.Ran w n) ending_fits)
     (λ a ts us b r. ap next r.first.first)) (λ a ts us b r. ap next r.first.first)
 
+-- the space before the second number ends the first
 late_fits : Fits IsByte late (Form first.Late) no_digit
 unfolding late
 late_fits =
     spaced refl (numbered_fits (codes " ") refl) (λ n. seen IsByte (reply.Late n) (numbered_fits (codes " ") refl))
     (λ a ts us b r. ap next r.first.first)
 
+-- the space before the second number ends the first here too
 ahead_fits : Fits IsByte ahead_of (Form first.Ahead) no_digit
 unfolding ahead_of
 ahead_fits =
     spaced refl (numbered_fits (codes " ") refl) (λ n. seen IsByte (reply.Ahead n) (numbered_fits (codes " ") refl))
     (λ a ts us b r. ap next r.first.first)
 
+-- a reason behind a space
 refused_fits : Fits IsByte refused (Form first.Refused) no_digit
 unfolding refused
 refused_fits = seen IsByte reply.Refused (behind_fits (codes " ") refl why_fits)
 
+-- reply by reply, each narrowed to what may follow a reply
 form_fits : (w : ReplyWord) → Fits IsByte (form w) (Form w) no_more
 unfolding form
 form_fits first.Commit = commit_fits
@@ -324,6 +361,7 @@ form_fits first.Refused = closed refused_fits
 
 -- ---- replies
 
+-- each first word is among the listed ones
 all_words : (w : ReplyWord) → In (first.Commit ∷ replies.OTHERS) w
 all_words first.Commit = inl refl
 all_words first.Abort = inr (inl refl)
@@ -342,6 +380,7 @@ all_words first.Disk = inr (inr (inr (inr (inr (inr (inr (inr (inr (inr (inr (in
 all_words first.Dropped = inr (inr (inr (inr (inr (inr (inr (inr (inr (inr (inr (inr (inr (inr (inl refl))))))))))))))
 all_words first.Refused = inr (inr (inr (inr (inr (inr (inr (inr (inr (inr (inr (inr (inr (inr (inr (inl refl)))))))))))))))
 
+-- each is made of bytes
 word_bytes : (w : ReplyWord) → are_bytes (word_of w) ≡ true
 word_bytes first.Commit = refl
 word_bytes first.Abort = refl
@@ -360,9 +399,11 @@ word_bytes first.Disk = refl
 word_bytes first.Dropped = refl
 word_bytes first.Refused = refl
 
+-- these are all the first words, made of bytes, and none begins another
 words : AreWords word_of first.Commit replies.OTHERS
 words = record { all = all_words; bytes = word_bytes; apart = refl }
 
+-- a first word fits whatever follows, and tells what is read behind it
 pub reply_fits : Fits IsByte reply_read ReplyRule no_more
 unfolding reply_read
 reply_fits = onwards IsByte (one_of_fits word_of first.Commit replies.OTHERS words) form_fits

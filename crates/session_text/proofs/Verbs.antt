@@ -15,10 +15,12 @@ use Rattle.session_text.proofs.LineFits.{line_fits}
 
 module _ (bytes cursor : Bytes) (result : Result Verb VerbError) (same : cursor ≡ bytes)
     (told : result ≢ Err NoMemory → result ≡ verb_answer (whole_of (line cursor))) where
+  -- what was told of the bytes at the cursor holds of the line, at whose start the cursor stands
   known : result ≢ Err NoMemory → result ≡ verb_answer (whole line bytes)
   unfolding whole
   known n = told n ∙ ap (λ ts. verb_answer (whole_of (line ts))) same
 
+  -- only a line that was read is answered with a verb
   ok_by : (w : Result Verb Bytes) (verb : Verb) → Ok verb ≡ verb_answer w → w ≡ Ok verb
   ok_by (Ok b) verb e = cc
   ok_by (Err rest) verb e = absurd (cc)
@@ -30,6 +32,7 @@ module _ (bytes cursor : Bytes) (result : Result Verb VerbError) (same : cursor 
       (ok_by (whole line bytes) verb (sym e ∙ known (λ h. let k = sym e ∙ h in cc)))
   verb_read (Err error) e = tt
 
+  -- so the verb that is answered is one that the line asks for
   pub read_is : IfOk result (λ verb. IsVerb bytes verb)
   read_is = verb_read result refl
 

@@ -9,9 +9,11 @@ use Rattle.session_text.specs.declared.verb_word.VerbWord.TheVariants as word
 use Rattle.session_text.specs.Lines.{Gap, Rest, BodyRule, NameRule, Alone, Form, VerbRule, IsVerb}
 use Rattle.session_text.specs.Bodies.{body_in, IsWithin}
 
+-- what is left behind a front is no longer than the whole
 behind : (ts front us : List ℕ) → ts ≡ front ++ us → length us ≤ length ts
 behind ts front us e = omega (arith, ap length e, length-append front us)
 
+-- what is left behind blanks is no longer
 gap_behind : (ts us : List ℕ) (u : Unit {0}) → Gap ts u us → length us ≤ length ts
 gap_behind ts us u r =
     let first = ap length r.first.first in
@@ -19,6 +21,7 @@ gap_behind ts us u r =
     let here = ap length r.second.second.here in
     omega (arith, first, more, here)
 
+-- the rest is a solid byte and those behind it, as they stand in the line, or nothing
 rest_within : (ts us t : List ℕ) → Rest ts t us → length t ≤ length ts
 rest_within ts us t (inl r) =
     let first = ap length r.first.first in
@@ -28,6 +31,7 @@ rest_within ts us t (inl r) =
     omega (arith, first, more, sum, is)
 rest_within ts us t (inr r) = let is = ap length r.is in omega (arith, is)
 
+-- a body is the rest behind blanks, or nothing
 body_within : (ts us t : List ℕ) → BodyRule ts t us → length t ≤ length ts
 body_within ts us t (inl r) =
     let gap = gap_behind ts r.middle r.value r.first in
@@ -35,6 +39,7 @@ body_within ts us t (inl r) =
     omega (arith, gap, rest)
 body_within ts us t (inr r) = let is = ap length r.is in omega (arith, is)
 
+-- what is left behind a name is no longer
 name_behind : (ts us n : List ℕ) → NameRule ts n us → length us ≤ length ts
 name_behind ts us n r =
     let first = ap length r.first.first in
@@ -43,6 +48,7 @@ name_behind ts us n r =
     omega (arith, first, more, here)
 
 module _ (v : Verb) (t : List ℕ) (has : body_in v ≡ Some t) where
+  -- where a verb has a body, that is the body which was derived
   of_within : (f : List ℕ → Verb) → ((a : List ℕ) → body_in (f a) ≡ Some a) → (ts us : List ℕ) → Of f BodyRule ts v us → length t ≤ length ts
   of_within f is ts us r =
       let same : Some t ≡ Some r.value = sym has ∙ (ap body_in r.second.is ∙ is r.value) in
@@ -50,9 +56,11 @@ module _ (v : Verb) (t : List ℕ) (has : body_in v ≡ Some t) where
       let within = body_within ts r.middle r.value r.first in
       omega (arith, within, ap length k)
 
+  -- a verb that stands alone has no body
   alone_within : (asked : Verb) → body_in asked ≡ None → (ts us : List ℕ) → Alone asked ts v us → length t ≤ length ts
   alone_within asked none ts us r = absurd (let k : Some t ≡ None = sym has ∙ (ap body_in r.second.is ∙ none) in cc)
 
+  -- verb by verb: a body stands behind what was read before it, which only shortens what is left
   form_within : (w : VerbWord) (ts us : List ℕ) → Form w ts v us → length t ≤ length ts
   form_within word.Do ts us r = of_within verb.Do (λ a. refl) ts us r
   form_within word.Try ts us r =
@@ -85,6 +93,7 @@ module _ (v : Verb) (t : List ℕ) (has : body_in v ≡ Some t) where
       let none = alone_within (verb.Unwatch r.second.value) refl r.second.middle us r.second.second in
       omega (arith, gap, name, none)
 
+  -- blanks and the verb's word only shorten what is left for the form
   line_within : (ts us : List ℕ) → VerbRule ts v us → length t ≤ length ts
   line_within ts us r =
       let blanks = behind ts r.value r.middle r.first.cut in

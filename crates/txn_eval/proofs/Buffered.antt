@@ -28,27 +28,34 @@ use Rattle.txn_lang.proofs.Simulation.{Suits, Simulates, Fine, Same, onto, body_
 use Rattle.txn_eval.specs.declared.kept.Kept.{Kept}
 use Rattle.txn_eval.specs.code.Buffering.{kept, answered_by, kept_write, nothing_kept, kept_ended, exec_over}
 
+-- what is kept in place of own operations: their deltas, and the same observations
 abbrev overlaid : Own → Kept
 overlaid o = record { buffer = deltas_of o.operations; observations = o.observations }
 
+-- the code keeps just that, and each operation is of the kind of its address
 abbrev GoesWith : Own → Kept → Type 0
 GoesWith o k = (k ≡ overlaid o) × AreOfTheirKinds o.operations
 
+-- operations of their addresses' kinds stay so with one more that is of its own
 all_push : (own : Operations) (w : Address × WriteOp) → AreOfTheirKinds own → kind_written w.1 ≡ w.0.kind → AreOfTheirKinds (own ++ w ∷ [])
 all_push [] w all is = (is, tt)
 all_push (x ∷ own) w all is = (all.0, all_push own w all.1 is)
 
 module _ (s : PartialState) where
+  -- a step over the own operations and one over the deltas go along with each other
   abbrev Both : {A : Type 0} → Stepping Own A → Stepping Kept A → Type 0
   Both f g = Simulates GoesWith (λ _. Unit {0}) (λ _. Unit {0}) (λ _. Unit {0}) f g
 
+  -- two steps ended alike, and what they kept goes with each other
   abbrev Along : {A : Type 0} → Step Own A → Step Kept A → Type 0
   Along u v = Same GoesWith (λ _. Unit {0}) (λ _. Unit {0}) (λ _. Unit {0}) u v
 
   module _ (r : ReadOp) (a : Address) (p : Progress Own) (all : AreOfTheirKinds p.memory.operations) where
+    -- the own operations at the address
     abbrev ops : List WriteOp
     ops = at_address a p.memory.operations
 
+    -- what is kept in place of them
     abbrev over : Kept
     over = overlaid p.memory
 
@@ -58,6 +65,7 @@ module _ (s : PartialState) where
     told false None = Need
     told false (Some v) = Answered (answer r (replay ops v)) (Some (observed r ops v))
 
+    -- by whether they decide and whether a value is there: a composition leaves what its operations leave, and observes the same
     told_by : (b : Bool) (v : Option Value) → is_decided r ops ≡ b
         → cond b (Answered (answer r (left_by (composed_of ops) (default_of a.kind))) None) (with_value r (composed_of ops) v) ≡ told b v
     told_by true v is =
@@ -78,6 +86,7 @@ module _ (s : PartialState) where
         ((reads_go_by_compositions r a.kind ops (default_of a.kind) (AllOf-at_address a p.memory.operations all)).0 ∙ is)
         ∙ told_by b v is
 
+    -- by whether they decide and whether a value is there: both answer and note the same, or both need the value
     told_along : (b : Bool) (v : Option Value)
         → Along (answered a (cond b (Some (answer r (replay ops (default_of a.kind)), p.memory)) (own_value r a v p.memory)) p)
         (answered a (answered_by a over (told b v)) (onto over p))
@@ -86,11 +95,13 @@ module _ (s : PartialState) where
     told_along false (Some v) =
         (record { buffer = over.buffer; observations = with_seen p.memory.observations (record { address = a; obs = observed r ops v }) }, (refl, all), refl)
 
+    -- so a read answers the same of both, as the deltas answer what the own operations do
     read_along : Along (read_at (own s) r a p) (read_at (kept s) r a (onto over p))
     read_along =
         subst (λ t. Along (read_at (own s) r a p) (answered a (answered_by a over t) (onto over p)))
         (sym (asked_is (is_decided r ops) (s a) refl refl)) (told_along (is_decided r ops) (s a))
 
+  -- what goes with the own operations is their deltas, over which a read goes alike
   reads : (r : ReadOp) (a : Address) → Suits a.kind r → Both (read_at (own s) r a) (read_at (kept s) r a)
   reads r a suits = record {
     back = λ p fine. tt;
@@ -99,6 +110,7 @@ module _ (s : PartialState) where
     lacking = λ p. answered_lacking GoesWith (λ _. Unit {0}) (λ _. Unit {0}) (λ _. Unit {0}) a (own_read s r a p.memory) p (λ _. tt);
   }
 
+  -- to add a delta to those of the operations is to take the deltas of the operations with one more
   writes : (a : Address) (o : WriteOp) → kind_written o ≡ a.kind → Both (write_at (own s) a o) (write_at (kept s) a o)
   writes a o k = record {
     back = λ p fine. tt;
@@ -116,6 +128,7 @@ module _ (s : PartialState) where
     lacking = λ p. tt;
   }
 
+  -- by how the run ended: its outcome, deltas and observations are those of the memory that goes with it
   ended_alike : (u : Step Own Names) (v : Step Kept Names)
       → (Fine GoesWith (λ _. Unit {0}) (λ _. Unit {0}) (λ _. Unit {0}) u → Along u v) → ended u ≡ kept_ended v
   ended_alike (gives x p) v sim = let z = sim tt in ap (λ b. kept_ended (gives x (onto b p))) (sym z.1.0) ∙ ap kept_ended (sym z.2)

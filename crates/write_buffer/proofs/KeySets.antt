@@ -29,6 +29,7 @@ module _ {V : Type 0} where
   pub rising-bare : (es : List (Bytes × V)) → IsStrictlySortedBy text_cmp (list_map (λ e. e.0) es) → IsStrictlySortedBy text_cmp (list_map (λ e. e.0) (bare es))
   rising-bare es rising = subst (IsStrictlySortedBy text_cmp) (sym (keys-bare es)) rising
 
+  -- pairs without their values are found at the same keys
   find-bare : (q : Bytes) (es : List (Bytes × V)) → find text_cmp q (bare es) ≡ added (is_some (find text_cmp q es))
   find-bare q [] = refl
   find-bare q (e ∷ es) =
@@ -41,13 +42,16 @@ module _ {V : Type 0} where
   key_set : MapOf V → SetOfTexts
   key_set m = map.from_sorted (bare (map.entries m))
 
+  -- the pairs of a map rise, and without their values they still do
   sorted-bare : (m : MapOf V) → T (is_sorted text_cmp (bare (map.entries m)))
   sorted-bare m = sorted-from_rising text_cmp _ (rising-bare (map.entries m) (rising-from_sorted text_cmp _ (map.entries_sorted m)))
 
+  -- a text is in the set where it is a key of the map
   get-key_set : (m : MapOf V) (q : Bytes) → map.get (key_set m) q ≡ added (map.contains_key m q)
   unfolding key_set
   get-key_set m q = map.get-from_sorted text_cmp _ q (sorted-bare m) ∙ find-bare q (map.entries m) ∙ ap (λ o. added (is_some o)) (sym (map.get-entries m q))
 
+  -- the set lists the keys that the map lists
   keys-key_set : (m : MapOf V) → map.keys (key_set m) ≡ map.keys m
   unfolding key_set
   keys-key_set m = ap (list_map (λ e. e.0)) (map.entries-from_sorted text_cmp _ (sorted-bare m)) ∙ keys-bare (map.entries m)

@@ -24,6 +24,7 @@ use Rattle.write_buffer.specs.code.Kept.{kept_from}
 -- ---- sets and hashes
 
 module _ {M V : Type 0} (left : M → Option V) where
+  -- after a clear there is nothing at any key, and else what was there
   begun : (cleared : Bool) (m : MapOf V) (x : Bytes) → map.get (cond cleared map.empty m) x ≡ cond cleared None (map.get m x)
   begun true m x = map.get-empty text_cmp x
   begun false m x = refl
@@ -36,6 +37,7 @@ module _ {M V : Type 0} (left : M → Option V) where
       ∙ ap (λ u. found_after left (map.get d.marks x) u) (begun d.cleared m x ∙ ap (λ c. cond c None (map.get m x)) is)
       ∙ ap (λ p. found_after left p (cond b None (map.get m x))) marked
 
+-- an element is there exactly where its mark adds it
 pub added-is : (b : Bool) → is_some (added b) ≡ b
 added-is true = refl
 added-is false = refl
@@ -50,6 +52,7 @@ pub has-unmarked : (d : Keyed Bool) (s : SetOfTexts) (x : Bytes) (b : Bool) → 
 has-unmarked d s x true marked is = ap is_some (get-applied added d s x None true marked is)
 has-unmarked d s x false marked is = ap is_some (get-applied added d s x None false marked is)
 
+-- the empty map has no pairs, and so lists no keys
 pub no_keys : (V : Type 0) → map.keys (map.empty {X = V} {R = text_cmp}) ≡ []
 no_keys V = ap (λ (es : List (Bytes × V)). list_map (λ e. e.0) es) entries-empty
 
@@ -81,6 +84,7 @@ place_kept removed (x ∷ items) pushed place = by (has_text removed x) place (p
 kept_list : (d : Listed) (items : List Bytes) → d.cleared ≡ false → listed.applied d items ≡ without d.removed items ++ d.pushed
 kept_list d items is = ap (λ b. cond b [] (without d.removed items) ++ d.pushed) is
 
+-- a place after such a delta is one among the items that stay, or behind them among those that are pushed
 pub kept_place : (d : Listed) (items : List Bytes) (place : ℕ) → d.cleared ≡ false
     → slice_get (listed.applied d items) place ≡ kept_or (kept_from d.removed items place) d.pushed
 kept_place d items place is = ap (λ xs. slice_get xs place) (kept_list d items is) ∙ place_kept d.removed items d.pushed place
@@ -91,35 +95,44 @@ whole_list d items is none = kept_list d items is ∙ ap (λ r. without r items 
 
 -- ---- values and deltas of other kinds
 
+-- a value that isn't a set holds the empty one
 pub not_set : (v : Value) → ((s : SetOfTexts) → v ≡ value.Set s → ⊥) → set_in v ≡ map.empty
 not_set (value.Set s) other = absurd (other s refl)
 not_set _ other = refl
 
+-- a value that isn't a hash holds the empty one
 pub not_hash : (v : Value) → ((m : MapOf Bytes) → v ≡ value.Hash m → ⊥) → hash_in v ≡ map.empty
 not_hash (value.Hash m) other = absurd (other m refl)
 not_hash _ other = refl
 
+-- a value that isn't a list holds the empty one
 pub not_list : (v : Value) → ((items : List Bytes) → v ≡ value.List items → ⊥) → list_in v ≡ []
 not_list (value.List items) other = absurd (other items refl)
 not_list _ other = refl
 
+-- after a delta of another kind a value holds the empty set
 pub other_set : (d : Delta) (v : Value) → ((e : Keyed Bool) → d ≡ delta.Set e → ⊥) → set_in (apply d v) ≡ map.empty
 other_set (delta.Set e) v other = absurd (other e refl)
 other_set _ v other = refl
 
+-- after a delta of another kind a value holds the empty hash
 pub other_hash : (d : Delta) (v : Value) → ((e : Keyed Mark) → d ≡ delta.Hash e → ⊥) → hash_in (apply d v) ≡ map.empty
 other_hash (delta.Hash e) v other = absurd (other e refl)
 other_hash _ v other = refl
 
+-- after a delta of another kind a value holds the empty list
 pub other_list : (d : Delta) (v : Value) → ((e : Listed) → d ≡ delta.List e → ⊥) → list_in (apply d v) ≡ []
 other_list (delta.List e) v other = absurd (other e refl)
 other_list _ v other = refl
 
+-- the empty set has no element
 pub has_none : (s : SetOfTexts) (x : Bytes) → s ≡ map.empty → has_text s x ≡ false
 has_none s x is = ap (λ s. has_text s x) is ∙ ap is_some (map.get-empty text_cmp x)
 
+-- the empty hash has no field
 pub get_none : (m : MapOf Bytes) (x : Bytes) → m ≡ map.empty → map.get m x ≡ None
 get_none m x is = ap (λ m. map.get m x) is ∙ map.get-empty text_cmp x
 
+-- an empty map lists no keys
 pub keys_none : {V : Type 0} (m : MapOf V) → m ≡ map.empty → map.keys m ≡ []
 keys_none {V} m is = ap (λ m. map.keys m) is ∙ no_keys V
