@@ -133,6 +133,7 @@ module _ (Good : Piece → Type 0) (goods : Productions.Goods Good) where
   made_inner None c a e = absurd (cc)
   made_inner {A} (Some x) c a e = let k : ◌≡◌ {A = ℕ × A} (c, x) a = cc in ap (λ (p : ℕ × A). Some p.1) k
 
+  -- what was taken with its column was made of the token of the first spot
   pub made_at : {A : Type 0} (f : Token → Option A) (ts us : List Spot) (a : ℕ × A) → (r : One (at f) ts a us) → f r.item.token ≡ Some a.1
   made_at f ts us a r = made_inner (f r.item.token) r.item.column a r.made
 
@@ -140,22 +141,27 @@ module _ (Good : Piece → Type 0) (goods : Productions.Goods Good) where
   pub good_taken : {A : Type 0} (f : Spot → Option A) (ts us : List Spot) (a : A) → (r : One f ts a us) → Each G ts → G r.item
   good_taken f ts us a r g = (subst (λ xs. Each G xs) r.first g).0
 
+  -- only a number's token has a number, and it is that one's
   number_is : (x : Token) (v : ℤ) → number x ≡ Some v → x ≡ t.Number v
   number_is (t.Number y) v e = let k : y ≡ v = cc in ap t.Number k
   number_is _ v e = absurd (cc)
 
+  -- only a text's token has a text, and it is that one's
   text_is : (x : Token) (v : Bytes) → text x ≡ Some v → x ≡ t.Text v
   text_is (t.Text y) v e = let k : y ≡ v = cc in ap t.Text k
   text_is _ v e = absurd (cc)
 
+  -- only a name's token has a name, and it is that one's
   pub name_is : (x : Token) (v : Bytes) → name x ≡ Some v → x ≡ t.Name v
   name_is (t.Name y) v e = let k : y ≡ v = cc in ap t.Name k
   name_is _ v e = absurd (cc)
 
+  -- a name that was taken is a token of the source, and it isn't malformed
   pub good_name : (ts us : List Spot) (a : ℕ × Bytes) → One (at name) ts a us → Each G ts → Good (spaced (t.Name a.1))
   good_name ts us a r g =
       subst (λ x. is_malformed x ≡ false → Good (spaced x)) (name_is _ a.1 (made_at name ts us a r)) (good_taken (at name) ts us a r g) refl
 
+  -- a number, text or name is a token that was taken, so it is good; the words of truth values are anyway
   leaf_fine : (n : ℕ) → Within LeafRule (Unary n) → AllFine n place.Unary LeafRule
   leaf_fine n f ts us e (inl r) g =
       let c = r.value.0 in let v = r.value.1 in
@@ -190,6 +196,7 @@ module _ (Good : Piece → Type 0) (goods : Productions.Goods Good) where
     pub derived : P from a to
     pub good : Each G from
 
+  -- what stands in parentheses begins behind the opening one, so its tokens are good ones too
   pub inside_parens : {A : Type 0} (P : Rule Spot A) (ts us : List Spot) (a : ℕ × A) → InParens P ts a us → Each G ts → Inside P a.1
   inside_parens P ts us a r g = record {
     from = r.middle;
@@ -410,23 +417,27 @@ module _ (Good : Piece → Type 0) (goods : Productions.Goods Good) where
   abbrev Signs : Rank → Place → Place → Operator → Type 0
   Signs r p q o = (operator_of r (sign o) ≡ Some o) × (chain_place o ≡ p) × (operand_place o ≡ q)
 
+  -- the rank of disjunctions has `or` alone
   or_signs : (x : Symbol) (o : Operator) → operator_of rank.Disjunction x ≡ Some o
       → Signs rank.Disjunction place.Disjunction place.Conjunction o
   or_signs s.Or o e =
       let k : operator.Or ≡ o = cc in subst (λ z. Signs rank.Disjunction place.Disjunction place.Conjunction z) k (refl, refl, refl)
   or_signs _ o e = absurd (cc)
 
+  -- the rank of conjunctions has `and` alone
   and_signs : (x : Symbol) (o : Operator) → operator_of rank.Conjunction x ≡ Some o
       → Signs rank.Conjunction place.Conjunction place.Negation o
   and_signs s.And o e =
       let k : operator.And ≡ o = cc in subst (λ z. Signs rank.Conjunction place.Conjunction place.Negation z) k (refl, refl, refl)
   and_signs _ o e = absurd (cc)
 
+  -- the rank of sums has `+` and `-`, which have the same places
   sum_signs : (x : Symbol) (o : Operator) → operator_of rank.Sum x ≡ Some o → Signs rank.Sum place.Sum place.Product o
   sum_signs s.Plus o e = let k : operator.Plus ≡ o = cc in subst (λ z. Signs rank.Sum place.Sum place.Product z) k (refl, refl, refl)
   sum_signs s.Minus o e = let k : operator.Minus ≡ o = cc in subst (λ z. Signs rank.Sum place.Sum place.Product z) k (refl, refl, refl)
   sum_signs _ o e = absurd (cc)
 
+  -- the rank of products has `*` alone
   product_signs : (x : Symbol) (o : Operator) → operator_of rank.Product x ≡ Some o → Signs rank.Product place.Product place.Unary o
   product_signs s.Times o e =
       let k : operator.Times ≡ o = cc in subst (λ z. Signs rank.Product place.Product place.Unary z) k (refl, refl, refl)
@@ -496,11 +507,13 @@ module _ (Good : Piece → Type 0) (goods : Productions.Goods Good) where
   loosened : (n : ℕ) → AllFine n place.Comparison (ComparisonOf (Unary n)) → AllFine n place.Negation (ComparisonOf (Unary n))
   loosened n fine ts us e r g = looser n place.Comparison place.Negation (canon.shown e) (bare e) (omega arith) (fine ts us e r g)
 
+  -- with a level more, either something opens it, or there is a leaf, which needs none
   unary_at : (n : ℕ) → AllFine (suc n) place.Unary (Opened (Unary n) (Expression n)) → AllFine (suc n) place.Unary (Unary (suc n))
   unfolding Unary
   unary_at n fine ts us e (inl r) g = fine ts us e r g
   unary_at n fine ts us e (inr r) g = leaf_fine (suc n) (λ xs ys x q. inr q) ts us e r g
 
+  -- what stands behind `not` has a level less and is shown where a `not` may stand; all else is a comparison
   negation_at : (n : ℕ) → AllFine n place.Negation (Negation n) → AllFine (suc n) place.Negation (ComparisonOf (Unary (suc n)))
       → AllFine (suc n) place.Negation (Negation (suc n))
   unfolding Unary
@@ -514,14 +527,17 @@ module _ (Good : Piece → Type 0) (goods : Productions.Goods Good) where
       (Productions.not_back Good goods (Negation n) _ _ (f.here place.Negation (omega arith))))))
   negation_at n fine others ts us e (inr r) g = others ts us e r g
 
+  -- without levels there are only leaves
   unary_zero : AllFine zero place.Unary (Unary zero)
   unfolding Unary
   unary_zero ts us e r g = leaf_fine zero (λ xs ys x q. q) ts us e r g
 
+  -- without levels there is no `not`, so each is a comparison of leaves
   negation_zero : AllFine zero place.Negation (Negation zero)
   unfolding Unary
   negation_zero ts us e r g = loosened zero (comparison_fine zero unary_zero) ts us e r g
 
+  -- level by level: a unary has in it what is fine with a level less, and comparisons are built up from the unary ones
   levels : (n : ℕ) → Levels n
   levels zero = record { unary = unary_zero; negation = negation_zero }
   levels (suc n) =

@@ -74,6 +74,7 @@ pub record Goods (Good : Piece → Type 0) : Type 0 where
   pub reads : (w : ReadWord) → Good (spaced (t.Name (read_name w)))
   pub writes : (w : WriteWord) → Good (spaced (t.Name (write_name w)))
 
+-- the test on symbols says true of each one and itself
 same_self : (symbol : Symbol) → same_symbol symbol symbol ≡ true
 unfolding same_symbol
 same_self symbol = true_same the_type symbol symbol refl
@@ -103,19 +104,24 @@ module _ (Good : Piece → Type 0) where
   leaf_back f g piece a w k e h =
       mapped_back Good value_of bare (One (at f)) g (piece ∷ []) a w (at_back f piece a k e) (λ x i. ap (λ y. bare (g (x.0, y))) i ∙ h x.0)
 
+  -- the one token of a number is a leaf
   pub number_back : (v : ℤ) → Good (spaced (t.Number v)) → Back Good bare NumberLeaf (spaced (t.Number v) ∷ []) (expr 0 (made.Number v))
   number_back v g = leaf_back number number_expr (spaced (t.Number v)) v _ g refl (λ c. bared_number c v)
 
+  -- the one token of a text is a leaf
   pub text_back : (b : Bytes) → Good (spaced (t.Text b)) → Back Good bare TextLeaf (spaced (t.Text b) ∷ []) (expr 0 (made.Text b))
   text_back b g = leaf_back text text_expr (spaced (t.Text b)) b _ g refl (λ c. bared_text c b)
 
+  -- the one token of a name is a leaf
   pub name_back : (w : Bytes) → Good (spaced (t.Name w)) → Back Good bare NameLeaf (spaced (t.Name w) ∷ []) (expr 0 (made.Name w))
   name_back w g = leaf_back name name_expr (spaced (t.Name w)) w _ g refl (λ c. bared_name c w)
 
+  -- each of the two words means the truth value that it is printed for
   truth-truth : (b : Bool) → truth_of (truth b) ≡ Some b
   truth-truth true = refl
   truth-truth false = refl
 
+  -- the word of a truth value is a leaf, since it means that value
   pub truth_back : (b : Bool) → Good (word (truth b)) → Back Good bare TruthLeaf (word (truth b) ∷ []) (expr 0 (made.Bool b))
   truth_back b g = leaf_back (of_symbol truth_of) truth_expr (word (truth b)) b _ g (truth-truth b) (λ c. bared_bool c b)
 
