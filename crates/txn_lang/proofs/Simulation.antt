@@ -19,6 +19,7 @@ use Rattle.txn_lang.proofs.Sizes.{IsShortRead}
 use Rattle.txn_lang.proofs.Walk.{Gave, Gives, gave_any, Keeps, body_related}
 pub use Rattle.txn_lang.proofs.Words.{Suits}
 
+-- what is given by a step that gives nothing
 abbrev unit : Unit {0}
 unit = tt
 
@@ -66,9 +67,11 @@ module _ {S T : Type 0} (R : S → T → Type 0) (Good : S → Type 0) (Needs La
     pub bounded : (p : Progress S) → p.ticks ≤ TICK_LIMIT → ticks_of (f p) ≤ TICK_LIMIT
     pub lacking : (p : Progress S) → Lacking (f p)
 
+  -- nothing happens on either side
   pure_simulates : {A : Type 0} (x : A) → Simulates (pure x) (pure x)
   pure_simulates x = record { back = λ p fine. fine; forth = λ p t r fine. (t, r, refl); bounded = λ p h. h; lacking = λ p. tt }
 
+  -- the first parts go alike, and the second ones go on from what those gave and from memories that go together
   then_simulates : {A B : Type 0} (P : A → Type 0) {f : Stepping S A} {g : Stepping T A} {h : A → Stepping S B} {k : A → Stepping T B}
       → Gives P f → Simulates f g → ((x : A) → P x → Simulates (h x) (k x)) → Simulates (f >>= h) (g >>= k)
   then_simulates {A} {B} P {f} {g} {h} {k} given fg hk = record {
@@ -98,9 +101,11 @@ module _ {S T : Type 0} (R : S → T → Type 0) (Good : S → Type 0) (Needs La
       lacking_by (stopped s q) is owes = owes
       lacking_by (gives x q) is owes = (hk x is).lacking q
 
+  -- both sides stop for the same reason, and owe what it owes
   stop_simulates : {A : Type 0} (s : Stop) → Owes s → Simulates {A = A} (stop_by s) (stop_by s)
   stop_simulates s owes = record { back = λ p fine. fine.1; forth = λ p t r fine. (t, r, refl); bounded = λ p h. h; lacking = λ p. owes }
 
+  -- both sides have charged as many ticks, so the limit stops both or neither
   charge_simulates : (n : ℕ) → Simulates (charge n) (charge n)
   charge_simulates n = record {
     back = λ p. back_by p (nat_le (p.ticks + n) TICK_LIMIT);
@@ -128,6 +133,7 @@ module _ {S T : Type 0} (R : S → T → Type 0) (Good : S → Type 0) (Needs La
       lacking_by p true = tt
       lacking_by p false = tt
 
+  -- both sides have as much load, so the limit stops both or neither
   carry_simulates : (n : ℕ) → Simulates (carry n) (carry n)
   carry_simulates n = record {
     back = λ p. back_by p (nat_le (p.load + n) LOAD_LIMIT);
@@ -155,6 +161,7 @@ module _ {S T : Type 0} (R : S → T → Type 0) (Good : S → Type 0) (Needs La
       lacking_by p true = tt
       lacking_by p false = tt
 
+  -- both sides emit the same item, and neither memory changes
   emit_simulates : (i : Item) → Simulates (emit i) (emit i)
   emit_simulates i = record { back = λ p fine. fine; forth = λ p t r fine. (t, r, refl); bounded = λ p h. h; lacking = λ p. tt }
 

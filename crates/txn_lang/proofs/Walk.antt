@@ -31,6 +31,7 @@ use Rattle.txn_lang.proofs.Words.{IsOfKind, write_fits, Suits, read_suits}
 use Rattle.txn_lang.proofs.Sizes.{IsShortText, IsSmall, AllSmall, AreSmall, small_text, small_texts, small_sized, small_decimal, small_named}
 use Rattle.txn_lang.proofs.Sizes.{IsShortRead, read_short}
 
+-- what is given by a step that gives nothing
 abbrev unit : Unit {0}
 unit = tt
 
@@ -44,24 +45,31 @@ module _ {M : Type 0} (m : Memory M) where
   abbrev pub deep : ExprNode-F ExprNode Expr Operand → ExprNode-F (Expression M) (Expression M) (Operator × Expression M)
   deep = map-ExprNode ExprNode Expr Operand (Expression M) (Expression M) (Operator × Expression M) (node_run m) expr_of operand_of
 
+  -- a node does what its rule makes of what stands in it: the equation of the fold
   node_rolled : (z : ExprNode-F ExprNode Expr Operand) → node_run m (roll-ExprNode z) ≡ of_node m (deep z)
   node_rolled z = fold-roll-ExprNode (Expression M) (Expression M) (Operator × Expression M) (of_node m) of_expr of_operand z
 
+  -- an expression does what its node does
   expr_rolled : (z : Expr-F ExprNode Expr Operand) → expr_of (roll-Expr z) ≡ node_run m z.node
   expr_rolled z = fold-roll-Expr (Expression M) (Expression M) (Operator × Expression M) (of_node m) of_expr of_operand z
 
+  -- an operand has its operator, and does what its value does
   operand_rolled : (z : Operand-F ExprNode Expr Operand) → operand_of (roll-Operand z) ≡ (z.operator, expr_of z.value)
   operand_rolled z = fold-roll-Operand (Expression M) (Expression M) (Operator × Expression M) (of_node m) of_expr of_operand z
 
+  -- what a statement does over this memory
   abbrev stmt_of : Stmt → Statement M
   stmt_of = stmt_run m
 
+  -- a statement's node, with what the statements in it do
   abbrev deep_step : StmtNode-F StmtNode Stmt → StmtNode-F (Statement M) (Statement M)
   deep_step = map-StmtNode StmtNode Stmt (Statement M) (Statement M) (step_run m) stmt_of
 
+  -- a statement's node does what its rule makes of what stands in it: the equation of the fold
   step_rolled : (z : StmtNode-F StmtNode Stmt) → step_run m (roll-StmtNode z) ≡ of_step m (deep_step z)
   step_rolled z = fold-roll-StmtNode (Statement M) (Statement M) (of_step m) of_stmt z
 
+  -- a statement charges its tick and does what its node does
   stmt_rolled : (z : Stmt-F StmtNode Stmt) → stmt_of (roll-Stmt z) ≡ of_stmt (map-Stmt StmtNode Stmt (Statement M) (Statement M) (step_run m) stmt_of z)
   stmt_rolled z = fold-roll-Stmt (Statement M) (Statement M) (of_step m) of_stmt z
 
@@ -77,6 +85,7 @@ module _ {S : Type 0} where
   abbrev pub Gives : {A : Type 0} → (A → Type 0) → Stepping S A → Type 0
   Gives P f = (p : Progress S) → Gave P (f p)
 
+  -- of what a step gives nothing is asked
   pub gave_any : {A : Type 0} (u : Step S A) → Gave (λ x. Unit {0}) u
   gave_any (gives x p) = tt
   gave_any (stopped s p) = tt
@@ -99,12 +108,15 @@ module _ {S T : Type 0} (Rel : ℕ → (A : Type 0) → Stepping S A → Steppin
     pub related : Rel owed A f g
     pub given : Gives P f
 
+  -- nothing is asked of what a step gives that gives nothing
   abbrev Any : Unit {0} → Type 0
   Any _ = Unit {0}
 
+  -- nothing happens on either side, and what is given is so
   pure_goes : {A : Type 0} (P : A → Type 0) (x : A) → P x → Goes 0 P (pure x) (pure x)
   pure_goes {A} P x is = record { related = keeps.pure_kept A x; given = λ p. is }
 
+  -- the first parts are related, and the second for all that the first may give; what they owe adds up
   then_owing : {A B : Type 0} (c d : ℕ) {P : A → Type 0} {Q : B → Type 0} {f : Stepping S A} {g : Stepping T A} {h : A → Stepping S B} {k : A → Stepping T B}
       → Goes c P f g → ((x : A) → P x → Goes d Q (h x) (k x)) → Goes (c + d) Q (f >>= h) (g >>= k)
   then_owing {A} {B} c d {P} {Q} {f} {g} {h} {k} fg hk = record {
@@ -116,10 +128,12 @@ module _ {S T : Type 0} (Rel : ℕ → (A : Type 0) → Stepping S A → Steppin
       by (gives x q) is = (hk x is).given q
       by (stopped s q) is = tt
 
+  -- where neither part owes anything, both in turn owe nothing
   then_goes : {A B : Type 0} {P : A → Type 0} {Q : B → Type 0} {f : Stepping S A} {g : Stepping T A} {h : A → Stepping S B} {k : A → Stepping T B}
       → Goes 0 P f g → ((x : A) → P x → Goes 0 Q (h x) (k x)) → Goes 0 Q (f >>= h) (g >>= k)
   then_goes fg hk = then_owing 0 0 fg hk
 
+  -- the tick pays for the one read that is owed behind it
   tick_goes : {A : Type 0} {P : A → Type 0} {f : Stepping S A} {g : Stepping T A} → Goes 1 P f g → Goes 0 P (charge 1 >>= (λ _. f)) (charge 1 >>= (λ _. g))
   tick_goes {A} {P} {f} {g} fg = record { related = keeps.tick_kept A f g fg.related; given = λ p. by (charge 1 p) }
     where
@@ -127,18 +141,23 @@ module _ {S T : Type 0} (Rel : ℕ → (A : Type 0) → Stepping S A → Steppin
       by (gives x q) = fg.given q
       by (stopped s q) = tt
 
+  -- a charge is a step of the rules' own, so it is kept
   charge_goes : (n : ℕ) → Goes 0 Any (charge n) (charge n)
   charge_goes n = record { related = keeps.charge_kept n; given = λ p. gave_any (charge n p) }
 
+  -- both sides charge the same number, however it is reckoned
   charge_alike : {k l : ℕ} → k ≡ l → Goes 0 Any (charge k) (charge l)
   charge_alike {k} {l} e = subst (λ j. Goes 0 Any (charge k) (charge j)) e (charge_goes k)
 
+  -- a load is a step of the rules' own, so it is kept
   carry_goes : (n : ℕ) → Goes 0 Any (carry n) (carry n)
   carry_goes n = record { related = keeps.carry_kept n; given = λ p. gave_any (carry n p) }
 
+  -- what emits is a step of the rules' own, so it is kept
   emit_goes : (i : Item) → Goes 0 Any (emit i) (emit i)
   emit_goes i = record { related = keeps.emit_kept i; given = λ p. tt }
 
+  -- both sides take the same branch, and each branch goes
   if_goes : {A : Type 0} {P : A → Type 0} {f h : Stepping S A} {g k : Stepping T A} (b : Bool)
       → Goes 0 P f g → Goes 0 P h k → Goes 0 P (λ p. cond b f h p) (λ p. cond b g k p)
   if_goes true fg hk = record { related = fg.related; given = fg.given }
@@ -146,6 +165,7 @@ module _ {S T : Type 0} (Rel : ℕ → (A : Type 0) → Stepping S A → Steppin
 
   -- ---- the rules' own combinators
 
+  -- what is big stops both sides, and what isn't is small and given by both
   sized_goes : (i : Item) → Goes 0 IsSmall (sized i) (sized i)
   sized_goes i = by (is_big i) refl
     where
