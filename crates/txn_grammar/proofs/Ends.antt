@@ -16,18 +16,23 @@ use Rattle.txn_grammar.specs.code.Reader.{sees, begins_operator, begins_relation
 
 -- ---- what follows
 
+-- anything but an operator of products
 abbrev pub product_end : Option Spot → Bool
 product_end = unless (begins_operator rank.Product) any
 
+-- anything but an operator of sums, too
 abbrev pub sum_end : Option Spot → Bool
 sum_end = unless (begins_operator rank.Sum) product_end
 
+-- anything but a comparison's symbol, too
 abbrev pub comparison_end : Option Spot → Bool
 comparison_end = unless begins_relation sum_end
 
+-- anything but `and`, too
 abbrev pub conjunction_end : Option Spot → Bool
 conjunction_end = unless (begins_operator rank.Conjunction) comparison_end
 
+-- anything but `or`, too
 abbrev pub expression_end : Option Spot → Bool
 expression_end = unless (begins_operator rank.Disjunction) conjunction_end
 
@@ -62,15 +67,19 @@ or_ends_conjunction column _ e = absurd (cc)
 
 -- ---- what expressions begin with
 
+-- the token ahead is a leaf
 abbrev pub begins_leaf : Option Spot → Bool
 begins_leaf = begins leaf_at
 
+-- the token ahead opens a level
 abbrev pub begins_opened : Option Spot → Bool
 begins_opened = begins opener_at
 
+-- the token ahead is either of these
 abbrev pub begins_unary : Option Spot → Bool
 begins_unary h = begins_opened h || begins_leaf h
 
+-- the token ahead is `not`, or begins a unary
 abbrev pub begins_expression : Option Spot → Bool
 begins_expression h = sees s.Not h || begins_unary h
 

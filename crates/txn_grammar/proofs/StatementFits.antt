@@ -121,6 +121,7 @@ module _ (starts : Option Spot → Bool) (p : Reader Spot Stmt) (P : Rule Spot S
     opens_block : (us vs : List Spot) (c : ℕ) → Word s.OpenBrace us c vs → expression_end (next us) ≡ true
     opens_block us vs c r = ahead_of_word expression_end true s.OpenBrace (λ c. refl) us vs c r
 
+    -- the word, the condition, its block, and an `else` where one is ahead: a brace may follow the condition
     if_fits : Fits Spelled (if_stmt e starts p) (IfStmt E P) statement_end
     unfolding if_stmt
     if_fits = onwards Spelled (word_fits s.If) (λ column. followed Spelled fe (λ condition. onwards Spelled block_fits (λ holds.
@@ -128,6 +129,7 @@ module _ (starts : Option Spot → Bool) (p : Reader Spot Stmt) (P : Rule Spot S
         (optional_fits Spelled (sees s.Else) (otherwise_read starts p) (Otherwise P) any otherwise_fits otherwise_begins)))
         (λ condition us vs b r h. opens_block us r.first.middle r.first.value r.first.first))
 
+    -- the word, the name, `in`, the texts and the block: a brace may follow the texts
     for_fits : Fits Spelled (for_stmt e starts p) (ForStmt E P) any
     unfolding for_stmt
     for_fits = onwards Spelled (word_fits s.For) (λ column. onwards Spelled name_fits (λ found. onwards Spelled (word_fits s.In) (λ _.

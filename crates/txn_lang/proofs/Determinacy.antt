@@ -114,18 +114,23 @@ module _ (s t : PartialState) where
   Both f g = Simulates (λ o p. o ≡ p) Good Needs Anything f g
 
   module _ (r : ReadOp) (a : Address) (p : Progress Own) where
+    -- the run's own operations at the address
     abbrev ops : List WriteOp
     ops = at_address a p.memory.operations
 
+    -- what the read observes of a value there
     abbrev seen_of : Value → Seen
     seen_of v = record { address = a; obs = observed r ops v }
 
+    -- the step of a read that the own operations decide
     abbrev decided_step : Step Own Item
     decided_step = answered a (Some (answer r (replay ops (default_of a.kind)), p.memory)) p
 
+    -- the step of a read that needs the value
     abbrev looked_step : Option Value → Step Own Item
     looked_step v = answered a (own_value r a v p.memory) p
 
+    -- what was observed before the read still is behind it, so the states agreed on it before
     read_back : (b : Bool) (v : Option Value)
         → Fine (λ o p. o ≡ p) Good Needs Anything
         (answered a (cond b (Some (answer r (replay ops (default_of a.kind)), p.memory)) (own_value r a v p.memory)) p)
@@ -134,6 +139,7 @@ module _ (s t : PartialState) where
     read_back false None fine = absurd fine.0
     read_back false (Some v) fine = (parts (AgreesOn s t) p.memory.observations (seen_of v) fine).0
 
+    -- a decided read asks no state; else the states agree on what it observes, and its answer rests on that
     read_forth : (b : Bool) (v : Option Value) → is_decided r ops ≡ b → s a ≡ v
         → Fine (λ o p. o ≡ p) Good Needs Anything
         (answered a (cond b (Some (answer r (replay ops (default_of a.kind)), p.memory)) (own_value r a v p.memory)) p)

@@ -110,9 +110,11 @@ length-with_seen xs z = by (list_any (λ t. seen_eq.ghosts.eq t z) xs)
 
 module _ (s : PartialState) where
   module _ (r : ReadOp) (a : Address) (p : Progress Own) where
+    -- the step of a read, by whether own operations decide it and by the value that may be there
     abbrev at : Bool → Option Value → Step Own Item
     at b v = answered a (cond b (Some (answer r (replay (at_address a p.memory.operations) (default_of a.kind)), p.memory)) (own_value r a v p.memory)) p
 
+    -- a read that a value answers observes once at most, and any other read observes nothing
     read_paid : (b : Bool) (v : Option Value) → seen_by (at b v) + p.ticks ≤ length p.memory.observations + ticks_of (at b v) + 1
     read_paid true v = omega arith
     read_paid false None = omega arith

@@ -122,9 +122,11 @@ module _ (s : PartialState) where
   Along u v = Same Always Good Needs Lacks u v
 
   module _ (r : ReadOp) (a : Address) (suits : Suits a.kind r) (short : IsShortRead a r) (p : Progress Own) where
+    -- the run's own operations at the address
     abbrev ops : List WriteOp
     ops = at_address a p.memory.operations
 
+    -- what the memory answers, by whether own operations decide the read and by the value that may be there
     abbrev step_of : Bool → Option Value → Option (Item × Own)
     step_of b v = cond b (Some (answer r (replay ops (default_of a.kind)), p.memory)) (own_value r a v p.memory)
 
@@ -266,9 +268,11 @@ module _ (s t : PartialState) (more : Extends s t) where
   alike (gives x q) v is = (q.memory, refl, sym is)
 
   module _ (r : ReadOp) (a : Address) (p : Progress Own) where
+    -- the step of a read, by whether own operations decide it and by the value that may be there
     abbrev at : Bool → Option Value → Step Own Item
     at b v = answered a (cond b (Some (answer r (replay (at_address a p.memory.operations) (default_of a.kind)), p.memory)) (own_value r a v p.memory)) p
 
+    -- a decided read asks no state, a value that is there is the same in both, and a missing one is in both
     read_alike : (b : Bool) (v : Option Value) → s a ≡ v → Fit (at b v) → at b v ≡ at b (t a)
     read_alike true v is fine = refl
     read_alike false None is fine = ap (at false) (sym fine.0)

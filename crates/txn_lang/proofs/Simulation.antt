@@ -35,18 +35,22 @@ answered_bounded a (Some x) p h = h
 -- The second memory goes with the first (R), as long as the first ends well (Good) and needs only some addresses (Needs).
 -- What the first needs, it lacks (Lacks).
 module _ {S T : Type 0} (R : S → T → Type 0) (Good : S → Type 0) (Needs Lacks : Address → Type 0) where
+  -- a run may stop for any reason, but for an address only where that may be needed
   abbrev pub Allowed : Stop → Type 0
   Allowed (stop.Need a) = Needs a
   Allowed _ = Unit {0}
 
+  -- the step ends well, and if it stops the run it may
   abbrev pub Fine : {A : Type 0} → Step S A → Type 0
   Fine (stopped s p) = Allowed s × Good p.memory
   Fine (gives x p) = Good p.memory
 
+  -- the second step came to the same as the first, with a memory that goes with the first's
   abbrev pub Same : {A : Type 0} → Step S A → Step T A → Type 0
   Same (stopped s p) u = (t : T) × R p.memory t × (u ≡ stopped s (onto t p))
   Same (gives x p) u = (t : T) × R p.memory t × (u ≡ gives x (onto t p))
 
+  -- stopping for an address owes that the memory lacks it
   abbrev pub Owes : Stop → Type 0
   Owes (stop.Need a) = Lacks a
   Owes _ = Unit {0}
@@ -179,6 +183,7 @@ module _ {S T : Type 0} (R : S → T → Type 0) (Good : S → Type 0) (Needs La
   }
 
   module _ (m : Memory S) (n : Memory T) where
+    -- the memories go together at each write that is of its address's kind
     abbrev WritesAlike : Type 0
     WritesAlike = (a : Address) (o : WriteOp) → kind_written o ≡ a.kind → Simulates (write_at m a o) (write_at n a o)
 
@@ -187,6 +192,7 @@ module _ {S T : Type 0} (R : S → T → Type 0) (Good : S → Type 0) (Needs La
         → WritesAlike → (b : Body) → Simulates (body_run m b) (body_run n b)
     short_reads_simulate reads writes b = body_related (λ owed A f g. Simulates f g) simulations_keep m n reads writes b
 
+    -- memories that go together at all reads do so at those of short texts
     pub body_simulates : ((r : ReadOp) (a : Address) → Suits a.kind r → Simulates (read_at m r a) (read_at n r a))
         → WritesAlike → (b : Body) → Simulates (body_run m b) (body_run n b)
     body_simulates reads writes b = short_reads_simulate (λ r a suits short. reads r a suits) writes b

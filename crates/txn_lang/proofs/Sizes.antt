@@ -21,6 +21,7 @@ use Rattle.txn_lang.specs.Bindings.{later, bound}
 use Rattle.txn_lang.specs.Items.{Names, named, text_in, texts_in, is_big, exceed, first_text, read_of}
 use Rattle.txn_lang.specs.Short.{IsShortAddress}
 
+-- a text that is no longer than texts may be
 abbrev pub IsShortText : List ℕ → Type 0
 IsShortText text = length text ≤ LONGEST_TEXT
 
@@ -34,9 +35,11 @@ IsSmall (item.Text t) = IsShortText t
 IsSmall (item.Texts ts) = AllByRecursion IsShortText ts
 IsSmall _ = Unit {0}
 
+-- items that are all small
 abbrev pub AllSmall : List Item → Type 0
 AllSmall is = AllByRecursion IsSmall is
 
+-- names that all stand for small items
 abbrev pub AreSmall : Names → Type 0
 AreSmall names = AllByRecursion (λ x. IsSmall x.1) names
 

@@ -126,9 +126,11 @@ module _ (names : Names) where
   -- one layer: each child is some expression, by h, and what is found of it is its type
   module _ {N E O : Type 0} (hN : N → ExprNode) (hE : E → Expr) (hO : O → Operand)
       (exprs : (e : E) → Sound (hE e)) (operands : (o : O) → Sound (value_of (hO o))) where
+    -- each expression has the type, by its place
     abbrev Each : ItemType → List E → Type 0
     Each wanted es = (i : ℕ) (a : Expr) → slice_get (map hE es) i ≡ Some a → HasType names a wanted
 
+    -- expression by expression: without a complaint each has the type that is wanted
     each_sound : (wanted : ItemType) (complaint : Option ℕ) (es : List E) → all_of wanted complaint (map typed (map hE es)) names ≡ Ok None
         → (complaint ≡ None) × Each wanted es
     each_sound wanted complaint [] e = (cc, λ i a there. absurd (cc))
@@ -142,11 +144,13 @@ module _ (names : Names) where
         let is = same_is s.0 wanted (unless_none (same s.0 wanted) (typed (hE x)).column none_yet.1) in
         (none_yet.0, first_or_later (λ a. HasType names a wanted) (hE x) (map hE es) (subst (λ t. HasType names (hE x) t) is (exprs x s.0 s.1.0)) r.1)
 
+    -- each operator takes the type, and each operand has it, by its place
     abbrev EachOperand : ItemType → List O → Type 0
     EachOperand t os =
         ((i : ℕ) (o : Operand) → slice_get (map hO os) i ≡ Some o → takes (operator_of o) t ≡ true)
         × ((i : ℕ) (o : Operand) → slice_get (map hO os) i ≡ Some o → HasType names (value_of o) t)
 
+    -- operand by operand: without a complaint each has the type of the chain, and its operator takes that
     operands_sound : (t : ItemType) (complaint : Option ℕ) (os : List O) → operands_of t complaint (map judged_operand (map hO os)) names ≡ Ok None
         → (complaint ≡ None) × EachOperand t os
     operands_sound t complaint [] e = (cc, (λ i a there. absurd (cc), λ i a there. absurd (cc)))
@@ -168,9 +172,11 @@ module _ (names : Names) where
           ),
         )
 
+    -- the node with those expressions in it
     abbrev layer : ExprNode-F N E O → ExprNode-F ExprNode Expr Operand
     layer = map-ExprNode N E O ExprNode Expr Operand hN hE hO
 
+    -- what is found of an expression is what the checker makes of its layer
     judged_layer : (y : ExprNode-F N E O) (e : Expr) → node_of e ≡ layer y → (t : ItemType) → type_of e names ≡ Ok t
         → judge_node (deep (layer y)) (column_of e) names ≡ Ok t
     judged_layer y e is t ok = sym (type_by names e (layer y) is) ∙ ok
@@ -185,6 +191,7 @@ module _ (names : Names) where
         let is = same_is s.0 wanted (unless_none (same s.0 wanted) (typed (hE a)).column r.0) in
         (subst (λ u. HasType names (hE a) u) is (exprs a s.0 s.1.0), r.1)
 
+    -- form by form: what went well in the checker is what the form's rule asks
     layer_sound : (y : ExprNode-F N E O) (e : Expr) → node_of e ≡ layer y → Sound e
     layer_sound (ExprNode-F.Number n) e is t ok =
         let j : type.Int ≡ t = cc (judged_layer (ExprNode-F.Number n) e is t ok) in

@@ -13,6 +13,7 @@ use Rattle.txn_grammar.specs.Grammar.{Negation, Expression, SimpleStmt, Block, N
 use Rattle.txn_print.proofs.Back.{Each}
 
 module _ (G : Spot → Type 0) where
+  -- what holds of each token that the rule is given holds of each that it leaves
   abbrev pub Keeps : {A : Type 0} → Rule Spot A → Type 0
   Keeps {A} R = (ts us : List Spot) (a : A) → R ts a us → Each G ts → Each G us
 

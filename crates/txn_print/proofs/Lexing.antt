@@ -20,6 +20,7 @@ use Rattle.txn_print.proofs.Back.{Each, tokens_of}
 abbrev pub gaps : Bytes
 gaps = 32 ∷ 40 ∷ 41 ∷ 44 ∷ 46 ∷ 59 ∷ 93 ∷ []
 
+-- whether a byte is one of these
 abbrev pub is_gap : ℕ → Bool
 is_gap b = list_any (λ x. b == x) gaps
 

@@ -222,29 +222,35 @@ module _ (Good : Piece → Type 0) (goods : Goods Good) where
 
   -- statements within so many levels
   module _ (n : ℕ) (S : Rule Spot Stmt) (fine : ReadBack S S) (keep : (ts us : List Spot) (x : Stmt) → S ts x us → Each G ts → Each G us) where
+    -- one after another: what each leaves are good tokens
     all_read : (ts us : List Spot) (ss : List Stmt) → Many S ts ss us → Each G ts → Reads S ss
     unfolding ReadBack
     all_read ts us ss (none ts') g = tt
     all_read ts us ss (more ts' us' vs' x rest r rs) g = (fine ts us' x r g, all_read us' us rest rs (keep ts us' x r g))
 
+    -- the statements of a block are derived behind the opening brace
     block_read : (ts us : List Spot) (ss : List Stmt) → Block S ts ss us → Each G ts → Reads S ss
     block_read ts us ss r g =
         subst (λ xs. Reads S xs) (sym r.second.second.second.is)
         (all_read r.middle r.second.middle r.second.value r.second.first (keep_one G _ ts r.middle r.value r.first g))
 
+    -- there is a block behind `else`, or nothing
     other_read : (ts us : List Spot) (m : Option (List Stmt)) → Optional (Otherwise S) ts m us → Each G ts → ReadsOther S m
     other_read ts us m (inl r) g =
         let y = r.first in
         subst (λ o. ReadsOther S o) (sym r.second.is) (block_read y.middle r.middle r.value y.second (keep_one G _ ts y.middle y.value y.first g))
     other_read ts us m (inr r) g = subst (λ o. ReadsOther S o) (sym r.is) tt
 
+    -- a name alone is the word of a write, and how that write is printed means it again
     write_word : (k : Kind) (x : Token) (op : Operation WriteWord) → write_of k x ≡ Some op → write_named k (write_name op.word) ≡ Some op
     write_word k (t.Name w) op e = write_again k w op e
     write_word k _ op e = absurd (cc)
 
+    -- statements that open a level, of which n are left inside
     abbrev Nested : Rule Spot Stmt
     Nested = NestingStmt (Expression (suc n)) (Expression n) S
 
+    -- the condition and both blocks are derived one behind the other, each from good tokens
     if_read : ReadBack (IfStmt (Expression (suc n)) S) Nested
     unfolding ReadBack
     if_read ts us x r g =
@@ -261,6 +267,7 @@ module _ (Good : Piece → Type 0) (goods : Goods Good) where
         moved Nested x (stmt_at c (stmt.If e ss m)) _ _ r.second.second.second.second.is (at_if (stmt_at c (stmt.If e ss m)) e ss m refl) (bared_if c e ss m)
         (within Good bare_stmt (IfStmt (Expression (suc n)) S) Nested _ _ (λ xs ys y q. inl q) (if_back (Expression (suc n)) S _ _ ss m b h k))
 
+    -- the name, the texts and the block are derived one behind the other, each from good tokens
     for_read : ReadBack (ForStmt (Expression (suc n)) S) Nested
     unfolding ReadBack
     for_read ts us x r g =
@@ -278,6 +285,7 @@ module _ (Good : Piece → Type 0) (goods : Goods Good) where
         moved Nested x (stmt_at c (stmt.For v e ss)) _ _ a.second.second.second.is (at_for (stmt_at c (stmt.For v e ss)) v e ss refl) (bared_for c v e ss)
         (within Good bare_stmt (ForStmt (Expression (suc n)) S) Nested _ _ (λ xs ys y q. inr (inl q)) (for_back (Expression (suc n)) S v _ _ ss good b h))
 
+    -- the target's key and the arguments are read back, and the word means the same write again
     write_read : ReadBack (WriteStmt (Expression n)) Nested
     unfolding ReadBack
     write_read ts us x r g =
@@ -298,6 +306,7 @@ module _ (Good : Piece → Type 0) (goods : Goods Good) where
         (within Good bare_stmt (WriteStmt (Expression n)) Nested _ _ (λ xs ys y q. inr (inr q))
         (write_back (Expression n) aim.kind op (expression aim.key) (bare aim.key) es aim.shown found (sym all.length) all.each))
 
+    -- by form
     nesting_read : ReadBack Nested Nested
     unfolding ReadBack
     nesting_read ts us x (inl r) g = if_read ts us x r g

@@ -12,6 +12,7 @@ use Rattle.txn_print.specs.declared.place.Place.{Place}
 use Rattle.txn_print.specs.declared.place.Place.TheVariants as place
 use Rattle.txn_print.specs.Places.{tightness}
 
+-- what P derives Q derives too
 abbrev pub Within : {A : Type 0} → Rule Spot A → Rule Spot A → Type 0
 Within {A} P Q = (ts us : List Spot) (a : A) → P ts a us → Q ts a us
 
