@@ -101,7 +101,7 @@ module _ (s t : PartialState) where
   abbrev Good : Own → Type 0
   Good o = Agree s t o.observations
 
-  -- a run that is done needed no address
+  -- no address may be needed, since the run is done
   abbrev Needs : Address → Type 0
   Needs a = ⊥
 
@@ -130,7 +130,7 @@ module _ (s t : PartialState) where
     abbrev looked_step : Option Value → Step Own Item
     looked_step v = answered a (own_value r a v p.memory) p
 
-    -- what was observed before the read still is behind it, so the states agreed on it before
+    -- a read takes no observation away, so states that agree behind it agreed before it
     read_back : (b : Bool) (v : Option Value)
         → Fine (λ o p. o ≡ p) Good Needs Anything
         (answered a (cond b (Some (answer r (replay ops (default_of a.kind)), p.memory)) (own_value r a v p.memory)) p)
@@ -197,7 +197,7 @@ module _ (s t : PartialState) where
   done_alike (stopped stop.NoMemory p) v r e agree sim =
       let z = sim (tt, agree) in ap ended z.2 ∙ (ap (λ m. ended (stopped stop.NoMemory (onto m p))) (sym z.1) ∙ e)
 
--- observations only come more, so states that agree at the end agreed at each read, and both runs went alike
+-- no observation is ever dropped, so states that agree at the end agreed at each read, and both runs went alike
 pub runs_are_determined : RunsAreDetermined
 unfolding exec
 runs_are_determined b s t r e agree =

@@ -44,7 +44,7 @@ place_within (pos i) false v = by (nat_lt i (length (list_in v))) refl
     by false e = tt
 place_within (negsuc i) takes_out v = tt
 
--- a whole value is observed as such, and no place of it
+-- who observes a whole value observes no single place of it
 whole_within : (v : Value) → IsWithin (whole_observed v) v
 whole_within (value.Bool b) = tt
 whole_within (value.Text t) = tt
@@ -191,12 +191,12 @@ module _ (s : PartialState) where
   told b =
       told_by (own_run b s) (own_run b s) ((run_simulates b).lacking (begun nothing_yet)) ((run_simulates b).forth (begun nothing_yet) nothing_yet (refl, tt))
 
--- a run that needs an address is told to lack it
+-- that is told of a run which needs an address: it lacks that one
 needed : (b : Body) (s : PartialState) (a : Address) → exec b s ≡ need a → Lacks s a
 unfolding exec
 needed b s a e = subst (Told s) e (told s b)
 
--- what a run that is done has observed is told to be there and short
+-- and that of a run which is done: all that it observed is there and short
 seen : (b : Body) (s : PartialState) (r : Run) → exec b s ≡ done r → AllByRecursion (IsSeen s) r.observations
 unfolding exec
 seen b s r e = subst (Told s) e (told s b)

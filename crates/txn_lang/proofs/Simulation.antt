@@ -40,7 +40,7 @@ module _ {S T : Type 0} (R : S → T → Type 0) (Good : S → Type 0) (Needs La
   Allowed (stop.Need a) = Needs a
   Allowed _ = Unit {0}
 
-  -- the step ends well, and if it stops the run it may
+  -- the step ends well, and it stops the run only for a reason that is allowed
   abbrev pub Fine : {A : Type 0} → Step S A → Type 0
   Fine (stopped s p) = Allowed s × Good p.memory
   Fine (gives x p) = Good p.memory

@@ -88,7 +88,7 @@ module _ {S : Type 0} where
   abbrev pub Gives : {A : Type 0} → (A → Type 0) → Stepping S A → Type 0
   Gives P f = (p : Progress S) → Gave P (f p)
 
-  -- of what a step gives nothing is asked
+  -- nothing is asked of what is given, so whatever the step does is fine
   pub gave_any : {A : Type 0} (u : Step S A) → Gave (λ x. Unit {0}) u
   gave_any (gives x p) = tt
   gave_any (stopped s p) = tt
@@ -119,7 +119,7 @@ module _ {S T : Type 0} (Rel : ℕ → (A : Type 0) → Stepping S A → Steppin
   pure_goes : {A : Type 0} (P : A → Type 0) (x : A) → P x → Goes 0 P (pure x) (pure x)
   pure_goes {A} P x is = record { related = keeps.pure_kept A x; given = λ p. is }
 
-  -- the first parts are related, and the second for all that the first may give; what they owe adds up
+  -- the first parts go, and so do the second ones from all that the first may give; what they owe adds up
   then_owing : {A B : Type 0} (c d : ℕ) {P : A → Type 0} {Q : B → Type 0} {f : Stepping S A} {g : Stepping T A} {h : A → Stepping S B} {k : A → Stepping T B}
       → Goes c P f g → ((x : A) → P x → Goes d Q (h x) (k x)) → Goes (c + d) Q (f >>= h) (g >>= k)
   then_owing {A} {B} c d {P} {Q} {f} {g} {h} {k} fg hk = record {
@@ -156,7 +156,7 @@ module _ {S T : Type 0} (Rel : ℕ → (A : Type 0) → Stepping S A → Steppin
   carry_goes : (n : ℕ) → Goes 0 Any (carry n) (carry n)
   carry_goes n = record { related = keeps.carry_kept n; given = λ p. gave_any (carry n p) }
 
-  -- what emits is a step of the rules' own, so it is kept
+  -- an emission is a step of the rules' own, so it is kept
   emit_goes : (i : Item) → Goes 0 Any (emit i) (emit i)
   emit_goes i = record { related = keeps.emit_kept i; given = λ p. tt }
 
