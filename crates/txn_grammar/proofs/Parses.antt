@@ -24,6 +24,7 @@ ends : unless (begins_statement DEEPEST) statement_end None ≡ true
 unfolding same_symbol begins_statement
 ends = refl
 
+-- a body is given only where the reader found it
 read_by : (r : Result Body (List Spot)) (b : Body) → if_read r ≡ Some b → r ≡ Ok b
 read_by (Ok c) b e = let k : c ≡ b = cc in ap (λ x. Ok x) k
 read_by (Err rest) b e = absurd (cc)
@@ -48,6 +49,7 @@ body_unique ts a b r s = whole_unique Spelled body BodyRule _ body_fits ends ts 
 pub refused_stops : (ts rest : List Spot) → whole body ts ≡ Err rest → StopsAt Spelled BodyRule ts rest
 refused_stops ts rest e = whole_stops Spelled body BodyRule _ body_fits ends ts rest e
 
+-- the text stops being a body where the reader refuses, and the column is that of what is left there
 pub refused_column : (z : Text) (rest : List Spot) → whole body (lex z) ≡ Err rest → IsSyntaxColumn z (first_column (length z + 1) rest)
 refused_column z rest e = record { rest = rest; stops = refused_stops (lex z) rest e; place = refl }
 
@@ -69,6 +71,7 @@ column_computed z e = at (whole body (lex z)) refl e
     at (Ok b) k h = absurd (cc)
     at (Err rest) k h = refused_column z rest k
 
+-- the tokens up to the one at which it stops go on to no body, so neither do all of them
 no_body : (ts before rest : List Spot) → ts ≡ before ++ rest → NoFurther BodyRule before rest → (b : Body) → IsBody ts b → ⊥
 no_body ts before [] e none b r = none b (subst (λ xs. IsBody xs b) (e ∙ append-nil before) r)
 no_body ts before (s ∷ rest) e none b r = none rest b (subst (λ xs. IsBody xs b) (e ∙ sym (append_assoc before (s ∷ []) rest)) r)

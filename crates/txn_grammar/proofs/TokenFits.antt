@@ -34,14 +34,17 @@ use Rattle.txn_grammar.specs.code.Reader.{word, sees}
 
 -- ---- the token that a rule takes
 
+-- the test on symbols says true of each one and itself
 same_self : (symbol : Symbol) → same_symbol symbol symbol ≡ true
 unfolding same_symbol
 same_self symbol = true_same the_type symbol symbol refl
 
+-- the test on symbols says true of no two different ones
 same_is : (a b : Symbol) → same_symbol a b ≡ true → a ≡ b
 unfolding same_symbol
 same_is a b e = same_true the_type tt a b e
 
+-- the column is given only of a symbol that passes the test, which is this one
 symbol_by : (symbol : Symbol) (column c : ℕ) (token : Token) → cond (is_symbol symbol token) (Some column) None ≡ Some c → token ≡ t.Symbol symbol
 symbol_by symbol column c (t.Symbol found) e = by (same_symbol found symbol) refl e
   where
@@ -60,10 +63,12 @@ pub record OfSymbol {A : Type 0} (f : Symbol → Option A) (token : Token) : Typ
   pub is : token ≡ t.Symbol symbol
   pub made : is_made (f symbol) ≡ true
 
+-- a table of symbols has nothing of any other token
 symbol_of : {A : Type 0} (f : Symbol → Option A) (token : Token) → is_made (of_symbol f token) ≡ true → OfSymbol f token
 symbol_of f (t.Symbol symbol) e = record { symbol = symbol; is = refl; made = e }
 symbol_of f _ e = absurd (cc)
 
+-- what is made is still made when it is seen as another value
 made_map : {A B : Type 0} (g : A → B) (o : Option A) → is_made (option_map g o) ≡ is_made o
 made_map g (Some a) = refl
 made_map g None = refl
@@ -101,19 +106,23 @@ ahead_seen F b symbol holds (Some item) e = ap (λ token. F (Some (spot item.col
 
 -- ---- each token is spelled by some text
 
+-- each symbol's spelling is cut into that symbol alone
 pub spelled_symbol : (symbol : Symbol) → Spelled (spot 1 (t.Symbol symbol))
 unfolding lex token_at word_at word_token mark_at reserved_word mark spelling same_symbol
 spelled_symbol s.Let = (spelling s.Let, refl)
 spelled_symbol symbol = (spelling symbol, refl)
 
+-- the text `1` is cut into the number 1
 spelled_number : Spelled (spot 1 (t.Number (pos 1)))
 unfolding lex token_at number_at number_value small_value
 spelled_number = (codes "1", refl)
 
+-- two quotes are cut into the text with nothing in it
 spelled_text : Spelled (spot 1 (t.Text []))
 unfolding lex token_at text_at texts.text pieces byte many turns one
 spelled_text = (34 ∷ 34 ∷ [], refl)
 
+-- the text `a` is cut into the name `a`, which isn't reserved
 spelled_name : Spelled (spot 1 (t.Name (codes "a")))
 unfolding lex token_at word_at word_token reserved_word
 spelled_name = (codes "a", refl)
@@ -130,31 +139,39 @@ symbol_fits : {A : Type 0} (f : Symbol → Option A) (example : Symbol) (value :
     → Fits Spelled (one (at (of_symbol f))) (One (at (of_symbol f))) any
 symbol_fits f example value made = token_fits (of_symbol f) (t.Symbol example) value made (spelled_symbol example)
 
+-- the symbol itself is an example, since it is the same as itself
 pub word_fits : (symbol : Symbol) → Fits Spelled (word symbol) (Word symbol) any
 unfolding word
 word_fits symbol = one_fits Spelled (symbol_at symbol) (spot 1 (t.Symbol symbol)) 1 (ap (λ b. cond b (Some 1) None) (same_self symbol)) (spelled_symbol symbol)
 
+-- 1 is an example of a number
 pub number_fits : Fits Spelled (one (at number)) (One (at number)) any
 number_fits = token_fits number (t.Number (pos 1)) (pos 1) refl spelled_number
 
+-- the text with nothing in it is an example of a text
 pub text_fits : Fits Spelled (one (at text)) (One (at text)) any
 text_fits = token_fits text (t.Text []) [] refl spelled_text
 
+-- `a` is an example of a name
 pub name_fits : Fits Spelled (one (at name)) (One (at name)) any
 name_fits = token_fits name (t.Name (codes "a")) (codes "a") refl spelled_name
 
+-- `true` is an example of a truth value
 pub truth_fits : Fits Spelled (one (at (of_symbol truth_of))) (One (at (of_symbol truth_of))) any
 truth_fits = symbol_fits truth_of s.True true refl
 
+-- each rank has an operator as an example
 pub operator_fits : (r : Rank) → Fits Spelled (one (at (of_symbol (operator_of r)))) (One (at (of_symbol (operator_of r)))) any
 operator_fits rank.Disjunction = symbol_fits (operator_of rank.Disjunction) s.Or operator.Or refl
 operator_fits rank.Conjunction = symbol_fits (operator_of rank.Conjunction) s.And operator.And refl
 operator_fits rank.Sum = symbol_fits (operator_of rank.Sum) s.Plus operator.Plus refl
 operator_fits rank.Product = symbol_fits (operator_of rank.Product) s.Times operator.Times refl
 
+-- `==` is an example of a comparison
 pub relation_fits : Fits Spelled (one (at (of_symbol relation_of))) (One (at (of_symbol relation_of))) any
 relation_fits = symbol_fits relation_of s.Equal relation.Equal refl
 
+-- `counter` is an example of a kind
 pub kind_fits : Fits Spelled (one (at (of_symbol kind_of))) (One (at (of_symbol kind_of))) any
 kind_fits = symbol_fits kind_of s.Counter kind.Counter refl
 
@@ -168,6 +185,7 @@ write_fits kind.Set = token_fits (write_of kind.Set) (t.Name (codes "add")) (ope
 write_fits kind.Hash = token_fits (write_of kind.Hash) (t.Name (codes "put")) (operation write.Put 2) refl (codes "put", refl)
 write_fits kind.List = token_fits (write_of kind.List) (t.Name (codes "push")) (operation write.Push 1) refl (codes "push", refl)
 
+-- and here is a read of each kind
 pub read_fits : (k : Kind) → Fits Spelled (one (at (read_of k))) (One (at (read_of k))) any
 unfolding read_named same_kind lex token_at word_at word_token reserved_word
 read_fits kind.Bool = token_fits (read_of kind.Bool) (t.Name (codes "get")) (operation read.Get 0) refl (codes "get", refl)

@@ -5,6 +5,7 @@ use Rattle.std.proofs.lemmas.List.{take_all}
 use Rattle.txn_grammar.specs.declared.limit.TheConstants.{LARGEST}
 use Rattle.txn_grammar.specs.Numbers.{with_digit, digits_value, small_value}
 
+-- digit by digit: the value before is taken ten times, and the digit's worth is added
 grows : (n : ℕ) (digits : List ℕ) → n ≤ fold with_digit n digits
 grows n [] = omega arith
 grows n (d ∷ digits) = let k = grows (with_digit n d) digits in omega arith

@@ -33,10 +33,12 @@ use Rattle.txn_lang.specs.Execution.{Ran, need, done, Own, own, own_read, own_va
 use Rattle.txn_lang.specs.Determinacy.{AgreesOn, Agree, RunsAreDetermined}
 use Rattle.txn_lang.proofs.Simulation.{Suits, Simulates, Fine, Same, onto, body_simulates, answered_bounded, answered_lacking}
 
+-- where two tests pass together each does
 and_parts : (a b : Bool) → (a && b) ≡ true → (a ≡ true) × (b ≡ true)
 and_parts true b e = (refl, e)
 and_parts false b e = absurd (cc)
 
+-- bytes that pass the test one by one are the same text
 text_same : (x y : Bytes) → pointwise nat_eq x y ≡ true → x ≡ y
 text_same [] [] e = refl
 text_same [] (b ∷ y) e = absurd (cc)
@@ -44,9 +46,11 @@ text_same (a ∷ x) [] e = absurd (cc)
 text_same (a ∷ x) (b ∷ y) e = let both = and_parts (nat_eq a b) (pointwise nat_eq x y) e in
     ap (λ c. c ∷ x) (eqb-true a b both.0) ∙ ap (λ z. b ∷ z) (text_same x y both.1)
 
+-- the test on kinds passes no two different ones
 kind_same : (a b : Kind) → kind_eq.ghosts.eq a b ≡ true → a ≡ b
 kind_same a b e = same_true the_kind tt a b e
 
+-- form by form: the test passes the same form alone, with the same text or the same place
 obs_same : (o p : Obs) → obs_eq.ghosts.eq o p ≡ true → o ≡ p
 obs_same obs.BoolIs obs.BoolIs e = refl
 obs_same obs.CounterIs obs.CounterIs e = refl
@@ -59,6 +63,7 @@ obs_same (obs.ListAt i) (obs.ListAt j) e = ap (λ k. obs.ListAt k) (eqb-true i j
 obs_same obs.ListAll obs.ListAll e = refl
 obs_same _ _ e = absurd (cc)
 
+-- kind, key and observation each pass their own test, so each is the same
 seen_alike : (x z : Seen) → seen_eq.ghosts.eq x z ≡ true → x ≡ z
 seen_alike x z e =
     let outer = and_parts (address_eq.ghosts.eq x.address z.address) (obs_eq.ghosts.eq x.obs z.obs) e in
@@ -68,10 +73,12 @@ seen_alike x z e =
     ∙ ap (λ o. record { address = z.address; obs = o }) (obs_same _ _ outer.1))
 
 module _ (P : Seen → Type 0) where
+  -- what holds of a list and one more behind it holds of the list and of that one: item by item
   front : (xs : List Seen) (z : Seen) → AllByRecursion P (xs ++ z ∷ []) → AllByRecursion P xs × P z
   front [] z all = (tt, all.0)
   front (x ∷ xs) z all = let rest = front xs z all.1 in ((all.0, rest.0), rest.1)
 
+  -- what is found in a list is the same as one of its items, and it holds of that one
   listed : (xs : List Seen) (z : Seen) → list_any (λ t. seen_eq.ghosts.eq t z) xs ≡ true → AllByRecursion P xs → P z
   listed [] z e all = absurd (cc)
   listed (x ∷ xs) z e all = by (seen_eq.ghosts.eq x z) refl e (λ later. listed xs z later all.1)
@@ -90,31 +97,40 @@ module _ (P : Seen → Type 0) where
       by false e all = front xs z all
 
 module _ (s t : PartialState) where
+  -- the two states agree on all that was observed so far
   abbrev Good : Own → Type 0
   Good o = Agree s t o.observations
 
+  -- no address may be needed, since the run is done
   abbrev Needs : Address → Type 0
   Needs a = ⊥
 
+  -- nothing is said of what a run lacks
   abbrev Anything : Address → Type 0
   Anything a = Unit {0}
 
+  -- what the first state's run does, from own operations and observations, the second's does from the same ones
   abbrev Both : {A : Type 0} → Stepping Own A → Stepping Own A → Type 0
   Both f g = Simulates (λ o p. o ≡ p) Good Needs Anything f g
 
   module _ (r : ReadOp) (a : Address) (p : Progress Own) where
+    -- the run's own operations at the address
     abbrev ops : List WriteOp
     ops = at_address a p.memory.operations
 
+    -- what the read observes of a value there
     abbrev seen_of : Value → Seen
     seen_of v = record { address = a; obs = observed r ops v }
 
+    -- the step of a read that the own operations decide
     abbrev decided_step : Step Own Item
     decided_step = answered a (Some (answer r (replay ops (default_of a.kind)), p.memory)) p
 
+    -- the step of a read that needs the value
     abbrev looked_step : Option Value → Step Own Item
     looked_step v = answered a (own_value r a v p.memory) p
 
+    -- a read takes no observation away, so states that agree behind it agreed before it
     read_back : (b : Bool) (v : Option Value)
         → Fine (λ o p. o ≡ p) Good Needs Anything
         (answered a (cond b (Some (answer r (replay ops (default_of a.kind)), p.memory)) (own_value r a v p.memory)) p)
@@ -123,6 +139,7 @@ module _ (s t : PartialState) where
     read_back false None fine = absurd fine.0
     read_back false (Some v) fine = (parts (AgreesOn s t) p.memory.observations (seen_of v) fine).0
 
+    -- a decided read asks no state; else the states agree on what it observes, and its answer rests on that
     read_forth : (b : Bool) (v : Option Value) → is_decided r ops ≡ b → s a ≡ v
         → Fine (λ o p. o ≡ p) Good Needs Anything
         (answered a (cond b (Some (answer r (replay ops (default_of a.kind)), p.memory)) (own_value r a v p.memory)) p)
@@ -144,10 +161,12 @@ module _ (s t : PartialState) where
         (ap (λ (i : Item). (i, observed r ops v)) alike ∙ ap (λ o. (answer r (replay ops z.there), o)) (sym same))
         ∙ ap (λ w. answered a (own_value r a w p.memory) p) (sym z.is)
 
+  -- steps that are the same have come to the same memory
   same_step : {A : Type 0} (u v : Step Own A) (p : Progress Own) → u ≡ v → Same (λ o p. o ≡ p) Good Needs Anything u v
   same_step (stopped e q) v p is = (q.memory, refl, sym is)
   same_step (gives x q) v p is = (q.memory, refl, sym is)
 
+  -- the own operations decide a read, or the first state observes it, and the second answers as much where it agrees
   reads : (r : ReadOp) (a : Address) → Suits a.kind r → Both (read_at (own s) r a) (read_at (own t) r a)
   reads r a suits = record {
     back = λ p. read_back r a p (is_decided r (ops r a p)) (s a);
@@ -157,13 +176,16 @@ module _ (s t : PartialState) where
     lacking = λ p. answered_lacking (λ o p. o ≡ p) Good Needs Anything a (own_read s r a p.memory) p (λ _. tt);
   }
 
+  -- a write is one more operation of the run's own, whatever the state
   writes : (a : Address) (o : WriteOp) → kind_written o ≡ a.kind → Both (write_at (own s) a o) (write_at (own t) a o)
   writes a o k = record { back = λ p fine. fine; forth = λ p m is fine. (own_write a o m, ap (own_write a o) is, refl); bounded = λ p h. h; lacking = λ p. tt }
 
+  -- the two states agree on what a run that is done observed
   abbrev AgreeRan : Ran → Type 0
   AgreeRan (need a) = Unit {0}
   AgreeRan (done r) = Agree s t r.observations
 
+  -- however the first run ended, unless it needs an address, the second came to the same end
   done_alike : (u v : Step Own Names) (r : Run) → ended u ≡ done r → AgreeRan (ended u)
       → (Fine (λ o p. o ≡ p) Good Needs Anything u → Same (λ o p. o ≡ p) Good Needs Anything u v) → ended v ≡ done r
   done_alike (gives x p) v r e agree sim = let z = sim agree in ap ended z.2 ∙ (ap (λ m. ended (gives x (onto m p))) (sym z.1) ∙ e)
@@ -175,6 +197,7 @@ module _ (s t : PartialState) where
   done_alike (stopped stop.NoMemory p) v r e agree sim =
       let z = sim (tt, agree) in ap ended z.2 ∙ (ap (λ m. ended (stopped stop.NoMemory (onto m p))) (sym z.1) ∙ e)
 
+-- no observation is ever dropped, so states that agree at the end agreed at each read, and both runs went alike
 pub runs_are_determined : RunsAreDetermined
 unfolding exec
 runs_are_determined b s t r e agree =

@@ -42,11 +42,13 @@ use Rattle.txn_lang.proofs.Walk.{Gave, Keeps, body_related}
 use Rattle.txn_lang.proofs.Determinacy.{runs_are_determined, runs_are_bounded}
 use Rattle.txn_lang.proofs.Observed.{needs_are_missing, whole_runs_are_done, needs_stay}
 
+-- what is given by a step that gives nothing
 abbrev unit : Unit {0}
 unit = tt
 
 -- ---- observations are paid for
 
+-- how many observations were made up to the end of a step
 abbrev seen_by : {A : Type 0} → Step Own A → ℕ
 seen_by (gives x p) = length p.memory.observations
 seen_by (stopped s p) = length p.memory.observations
@@ -55,6 +57,7 @@ seen_by (stopped s p) = length p.memory.observations
 abbrev Paid : ℕ → (A : Type 0) → Stepping Own A → Stepping Own A → Type 0
 Paid owed A f g = (p : Progress Own) → seen_by (f p) + p.ticks ≤ length p.memory.observations + ticks_of (f p) + owed
 
+-- the second part goes on from where the first stopped, so what they observed, charged and owe adds up
 then_paid : (A B : Type 0) (c d : ℕ) (P : A → Type 0) (f : Stepping Own A) (h : A → Stepping Own B) (p : Progress Own) (u : Step Own A) → Gave P u
     → seen_by u + p.ticks ≤ length p.memory.observations + ticks_of u + c
     → ((x : A) → P x → Paid d B (h x) (h x))
@@ -62,18 +65,22 @@ then_paid : (A B : Type 0) (c d : ℕ) (P : A → Type 0) (f : Stepping Own A) (
 then_paid A B c d P f h p (stopped s q) is e more = omega (arith, e)
 then_paid A B c d P f h p (gives x q) is e more = omega (arith, e, more x is q)
 
+-- a charge of n ticks, by whether the limit allows it
 abbrev charged : (n : ℕ) (p : Progress Own) (b : Bool) → Step Own (Unit {0})
 charged n p b = cond b (gives unit (record p { ticks = p.ticks + n })) (stopped stop.Spent p)
 
+-- the tick pays for what is owed behind it, and where the limit stops the run nothing is behind it
 tick_paid : (A : Type 0) (f : Stepping Own A) → Paid 1 A f f → (p : Progress Own) (b : Bool)
     → seen_by (and_then (charged 1 p b) (λ _. f)) + p.ticks ≤ length p.memory.observations + ticks_of (and_then (charged 1 p b) (λ _. f)) + 0
 tick_paid A f paid p true = omega (arith, paid (record p { ticks = p.ticks + 1 }))
 tick_paid A f paid p false = omega arith
 
+-- a charge observes nothing, and it takes no tick back
 charge_paid : (n : ℕ) (p : Progress Own) (b : Bool) → seen_by (charged n p b) + p.ticks ≤ length p.memory.observations + ticks_of (charged n p b) + 0
 charge_paid n p true = omega arith
 charge_paid n p false = omega arith
 
+-- a load observes nothing and charges nothing
 carry_paid : (n : ℕ) (p : Progress Own) (b : Bool)
     → seen_by (cond b (gives unit (record p { load = p.load + n })) (stopped stop.Big p)) + p.ticks
     ≤ length p.memory.observations + ticks_of (cond b (gives unit (record p { load = p.load + n })) (stopped stop.Big p)) + 0
@@ -103,9 +110,11 @@ length-with_seen xs z = by (list_any (λ t. seen_eq.ghosts.eq t z) xs)
 
 module _ (s : PartialState) where
   module _ (r : ReadOp) (a : Address) (p : Progress Own) where
+    -- the step of a read, by whether own operations decide it and by the value that may be there
     abbrev at : Bool → Option Value → Step Own Item
     at b v = answered a (cond b (Some (answer r (replay (at_address a p.memory.operations) (default_of a.kind)), p.memory)) (own_value r a v p.memory)) p
 
+    -- a read that a value answers observes once at most, and any other read observes nothing
     read_paid : (b : Bool) (v : Option Value) → seen_by (at b v) + p.ticks ≤ length p.memory.observations + ticks_of (at b v) + 1
     read_paid true v = omega arith
     read_paid false None = omega arith
@@ -113,17 +122,21 @@ module _ (s : PartialState) where
         let z : Seen = record { address = a; obs = observed r (at_address a p.memory.operations) v } in
         omega (arith, length-with_seen p.memory.observations z)
 
+  -- a read observes once at most, and owes one tick for it
   reads : (r : ReadOp) (a : Address) → Suits a.kind r → IsShortRead a r → Paid 1 Item (read_at (own s) r a) (read_at (own s) r a)
   reads r a suits short p = read_paid r a p (is_decided r (at_address a p.memory.operations)) (s a)
 
+  -- a write observes nothing and charges nothing
   writes : (a : Address) (o : WriteOp) → kind_written o ≡ a.kind → Paid 0 (Unit {0}) (write_at (own s) a o) (write_at (own s) a o)
   writes a o k p = omega arith
 
+  -- a body owes nothing at its end, and charges no more ticks than the limit
   run_paid : (b : Body) → seen_by (own_run b s) ≤ TICK_LIMIT
   run_paid b =
       let paid = body_related (λ owed A f g. Paid owed A f f) ticks_pay (own s) (own s) reads writes b (begun nothing_yet) in
       omega (arith, paid, runs_are_bounded b s)
 
+-- whatever ended the run, it tells all that was observed up to there
 seen_where_done : (u : Step Own Names) (r : Run) → ended u ≡ done r → length r.observations ≡ seen_by u
 seen_where_done (gives x p) r e = ap seen_in (sym e)
   where
@@ -136,21 +149,26 @@ seen_where_done (stopped stop.Spent p) r e = cc
 seen_where_done (stopped stop.Big p) r e = cc
 seen_where_done (stopped stop.NoMemory p) r e = cc
 
+-- what a run tells that it observed was paid for by its ticks
 pub observations_are_few : ObservationsAreFew
 unfolding exec
 observations_are_few b s r e = subst (λ n. n ≤ TICK_LIMIT) (sym (seen_where_done (own_run b s) r e)) (run_paid s b)
 
 -- ---- values that are given in turn
 
+-- whether two addresses are one
 abbrev same : Address → Address → Bool
 same = eq_by_cmp address_cmp
 
+-- addresses that compare as equal are one
 same-is : (a b : Address) → same a b ≡ true → a ≡ b
 same-is a b e = address_cmp-equal a b (equal (address_cmp a b) e)
 
+-- each address compares as equal with itself, since their order is total
 pub same-itself : (a : Address) → same a a ≡ true
 same-itself a = ap is_eq (tied_itself order.total-law a)
 
+-- whether an address is one of a list
 abbrev is_among : List Address → Address → Bool
 is_among list q = list_any (same q) list
 
@@ -179,9 +197,11 @@ needed_on b s t next a was = record {
   others = λ c v is. next.others c v (was.others c v is);
 }
 
+-- an option is either empty or has a value
 pub no_value : {v : Value} {o : Option Value} → o ≡ None → o ≡ Some v → ⊥
 no_value none some = let e : None ≡ Some _ = sym none ∙ some in absurd (cc)
 
+-- what a run needs is missing from its state, and what was needed before is there, so they are two
 another : (b : Body) (s t : PartialState) (next : IsReadNext b s t) (a : Address) → WasNeeded b s a → same next.address a ≡ false
 another b s t next a was = by (same next.address a) refl
   where
@@ -189,10 +209,12 @@ another b s t next a was = by (same next.address a) refl
     by false e = refl
     by true e = absurd (no_value (subst (λ q. s q ≡ None) (same-is next.address a e) (needs_are_missing b s next.address next.needed)) was.there)
 
+-- no address stands twice where none stands
 none_distinct : IsDistinct same []
 unfolding IsDistinct
 none_distinct = tt
 
+-- read by read: the next address is none of those before, and these are still there on the next state
 needed_in_turn : (b : Body) (n : ℕ) (t : PartialState) → AreReadInTurn b n t → Needed b n t
 needed_in_turn b zero t turn = record { addresses = []; all = refl; each = tt; once = none_distinct }
 needed_in_turn b (suc n) t turn = go (needed_in_turn b n turn.0 turn.1)
@@ -214,15 +236,19 @@ module _ (b : Body) (t : PartialState) where
   abbrev filled : State
   filled a = unwrap_or (t a) (default_of a.kind)
 
+  -- that state, but with nothing at one address
   abbrev without : Address → PartialState
   without a q = cond (same a q) None (Some (filled q))
 
+  -- nothing is at that address
   without-itself : (a : Address) → without a a ≡ None
   without-itself a = ap (λ c. cond c None (Some (filled a))) (same-itself a)
 
+  -- at each other address it is the whole state
   without-other : (a q : Address) → same a q ≡ false → without a q ≡ Some (filled q)
   without-other a q e = ap (λ c. cond c None (Some (filled q))) e
 
+  -- a state that lacked the address has only values of other addresses, and these the whole state has
   extends-without : (a : Address) (was : WasNeeded b t a) → Extends was.before (without a)
   extends-without a was q v is = by (same a q) refl
     where
@@ -260,6 +286,7 @@ module _ (b : Body) (t : PartialState) where
           let twice : need a ≡ done r = sym needs ∙ runs_are_determined b (known filled) (without a) r ran (agree-without a r.observations e) in
           absurd (cc)
 
+  -- address by address: each was needed, so the run on the whole state observes it
   among_observed : (r : Run) → exec b (known filled) ≡ done r → (list : List Address) → AllByRecursion (WasNeeded b t) list
       → (q : Address) → is_among list q ≡ true → is_among (map (λ z. z.address) r.observations) q ≡ true
   among_observed r ran [] each q e = absurd (false≢true e)
@@ -270,6 +297,7 @@ module _ (b : Body) (t : PartialState) where
       by true is e rest = subst (λ x. is_among (map (λ z. z.address) r.observations) x ≡ true) (sym (same-is q a is)) (needed_is_observed r ran a each.0)
       by false is e rest = rest e
 
+-- the addresses that were needed are distinct, one run observes them all, and its observations are few
 pub reads_are_few : ReadsAreFew
 reads_are_few b n t turn = few (needed_in_turn b n t turn) (whole_runs_are_done b (filled b t))
   where

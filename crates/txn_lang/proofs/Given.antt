@@ -20,6 +20,7 @@ use Rattle.txn_lang.specs.Few.{IsReadNext, AreReadInTurn}
 use Rattle.txn_lang.proofs.Few.{same-itself, no_value}
 use Rattle.txn_lang.proofs.Observed.{needs_are_missing}
 
+-- the value of a snap that may be there
 abbrev value_in : Option Snap → Option Value
 value_in snap = option_map (λ (snap : Snap). snap.value) snap
 
@@ -28,9 +29,11 @@ abbrev pub given : List (Address × Snap) → PartialState
 given snaps address = value_in (lookup (is_at (address_cmp address)) snaps)
 
 module _ (snaps : List (Address × Snap)) (a : Address) (snap : Snap) where
+  -- the snaps with this one put in at its address
   abbrev more : List (Address × Snap)
   more = insert_entry address_cmp snaps a snap
 
+  -- what was put in is found at its address, and at each other one what was found before
   given-more : (q : Address) → given more q ≡ value_in (cond (is_eq (address_cmp q a)) (Some snap) (lookup (is_at (address_cmp q)) snaps))
   given-more q = ap value_in (lookup-insert_entry address_cmp order.total-law q a snap snaps)
 

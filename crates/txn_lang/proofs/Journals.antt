@@ -17,6 +17,7 @@ left_by-push journal commit a = fold-append (λ value c. after c.deltas a value)
 pub legal-push : (m : ℕ) (journal : Journal) (commit : Commit) → IsLegal m journal → MayFollow m journal commit → IsLegal m (journal ++ commit ∷ [])
 legal-push m journal commit legal follows = IsLawful-push MayFollow m journal commit legal follows
 
+-- a legal journal is a lawful history, whose item at each place may follow those before it
 pub legal_commits_follow : LegalCommitsFollow
 legal_commits_follow m journal legal i commit here = IsLawful-place MayFollow m journal legal i commit here
 

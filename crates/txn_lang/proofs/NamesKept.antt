@@ -30,6 +30,7 @@ type_bound-push bs b x =
     ap (λ ns. fold (later x) None ns) (map-append (λ (b : Binding). (b.name, b.item_type)) bs (b ∷ []))
     ∙ fold-append (later x) None (names_of bs) ((b.name, b.item_type) ∷ [])
 
+-- whichever of the two is chosen, its type is seen
 type_there-cond : (b : Bool) (t : Option ItemType) (o : Option (Option ItemType)) → type_there (cond b (Some t) o) ≡ cond b t (type_there o)
 type_there-cond true t o = refl
 type_there-cond false t o = refl
@@ -51,10 +52,12 @@ keeps-bind types bs b keeps hides = record {
   hidden = IsLawful-push Hides 0 bs b keeps.hidden hides;
 }
 
+-- of the three orderings only Equal is a tie
 is_equal : (o : Ordering) → is_eq o ≡ true → o ≡ Equal
 is_equal Equal e = refl
 is_equal _ e = absurd (cc)
 
+-- name by name: two that tie with each other compare alike with each that is bound
 later-tied : (names : Names) (x y : Bytes) (start : Option ItemType) → text_cmp x y ≡ Equal → fold (later x) start names ≡ fold (later y) start names
 later-tied [] x y start tied = refl
 later-tied (n ∷ names) x y start tied =
@@ -98,9 +101,11 @@ pub keeps-forgotten : (types : MapOf (Option ItemType)) (bs : List Binding) (n :
     → Keeps (fin.insert types b.name b.hidden) (take n bs)
 keeps-forgotten types bs n b keeps e there = keeps-forget types (take n bs) b (subst (Keeps types) (split_last bs n b e there) keeps)
 
+-- the names of the first bindings are the first names
 pub names_of-take : (n : ℕ) (bs : List Binding) → names_of (take n bs) ≡ take n (names_of bs)
 names_of-take n bs = sym (take-map (λ (b : Binding). (b.name, b.item_type)) n bs)
 
+-- each binding has one name
 pub length-names_of : (bs : List Binding) → length (names_of bs) ≡ length bs
 length-names_of bs = length-map bs (λ (b : Binding). (b.name, b.item_type))
 

@@ -44,6 +44,7 @@ place_within (pos i) false v = by (nat_lt i (length (list_in v))) refl
     by false e = tt
 place_within (negsuc i) takes_out v = tt
 
+-- who observes a whole value observes no single place of it
 whole_within : (v : Value) → IsWithin (whole_observed v) v
 whole_within (value.Bool b) = tt
 whole_within (value.Text t) = tt
@@ -96,28 +97,36 @@ module _ (s : PartialState) where
   abbrev IsSeen : Seen → Type 0
   IsSeen z = IsThere s z × IsShortObservation z.address z.obs
 
+  -- both memories are one, and all that it has observed is there and short
   abbrev Always : Own → Own → Type 0
   Always o p = (o ≡ p) × AllByRecursion IsSeen o.observations
 
+  -- nothing is asked of how a run ends
   abbrev Good : Own → Type 0
   Good o = Unit {0}
 
+  -- a run may need any address
   abbrev Needs : Address → Type 0
   Needs a = Unit {0}
 
+  -- an address that the state has no value at, and whose key is short
   abbrev Lacks : Address → Type 0
   Lacks a = (s a ≡ None) × IsShortAddress a
 
+  -- two runs over this state's memory that go on alike
   abbrev Both : {A : Type 0} → Stepping Own A → Stepping Own A → Type 0
   Both f g = Simulates Always Good Needs Lacks f g
 
+  -- two steps over this state's memory that have come to the same
   abbrev Along : {A : Type 0} → Step Own A → Step Own A → Type 0
   Along u v = Same Always Good Needs Lacks u v
 
   module _ (r : ReadOp) (a : Address) (suits : Suits a.kind r) (short : IsShortRead a r) (p : Progress Own) where
+    -- the run's own operations at the address
     abbrev ops : List WriteOp
     ops = at_address a p.memory.operations
 
+    -- what the memory answers, by whether own operations decide the read and by the value that may be there
     abbrev step_of : Bool → Option Value → Option (Item × Own)
     step_of b v = cond b (Some (answer r (replay ops (default_of a.kind)), p.memory)) (own_value r a v p.memory)
 
@@ -139,6 +148,7 @@ module _ (s : PartialState) where
         let brief : IsShortObservation a (observed r ops v) = record { key = short.0; text = observed_short r takes_out v short.1 } in
         (_, (refl, with_one IsSeen p.memory.observations _ all (there, brief)), refl)
 
+  -- a read is answered by what is there, or needs what isn't; what it observes is there, and its texts are short
   reads : (r : ReadOp) (a : Address) → Suits a.kind r → IsShortRead a r → Both (read_at (own s) r a) (read_at (own s) r a)
   reads r a suits short = record {
     back = λ p fine. tt;
@@ -149,6 +159,7 @@ module _ (s : PartialState) where
         (λ none. (unanswered r a suits short p (is_decided r (ops r a suits short p)) (s a) none, short.0));
   }
 
+  -- a write observes nothing
   writes : (a : Address) (o : WriteOp) → kind_written o ≡ a.kind → Both (write_at (own s) a o) (write_at (own s) a o)
   writes a o k = record {
     back = λ p fine. tt;
@@ -157,6 +168,7 @@ module _ (s : PartialState) where
     lacking = λ p. tt;
   }
 
+  -- reads and writes go on alike, so the run of each body does with itself
   run_simulates : (b : Body) → Both (body_run (own s) b) (body_run (own s) b)
   run_simulates b = short_reads_simulate Always Good Needs Lacks (own s) (own s) reads writes b
 
@@ -165,6 +177,7 @@ module _ (s : PartialState) where
   Told (need a) = Lacks a
   Told (done r) = AllByRecursion IsSeen r.observations
 
+  -- a run that stops for an address lacks it, and what any other has observed is there and short, however it ended
   told_by : (u v : Step Own Names) → Lacking Always Good Needs Lacks u → (Fine Always Good Needs Lacks u → Along u v) → Told (ended u)
   told_by (gives x p) v lacks sim = (sim tt).1.1
   told_by (stopped (stop.Need a) p) v lacks sim = lacks
@@ -173,24 +186,30 @@ module _ (s : PartialState) where
   told_by (stopped stop.Big p) v lacks sim = (sim (tt, tt)).1.1
   told_by (stopped stop.NoMemory p) v lacks sim = (sim (tt, tt)).1.1
 
+  -- a run goes on alike with itself from its beginning, where nothing is observed yet
   told : (b : Body) → Told (ended (own_run b s))
   told b =
       told_by (own_run b s) (own_run b s) ((run_simulates b).lacking (begun nothing_yet)) ((run_simulates b).forth (begun nothing_yet) nothing_yet (refl, tt))
 
+-- that is told of a run which needs an address: it lacks that one
 needed : (b : Body) (s : PartialState) (a : Address) → exec b s ≡ need a → Lacks s a
 unfolding exec
 needed b s a e = subst (Told s) e (told s b)
 
+-- and that of a run which is done: all that it observed is there and short
 seen : (b : Body) (s : PartialState) (r : Run) → exec b s ≡ done r → AllByRecursion (IsSeen s) r.observations
 unfolding exec
 seen b s r e = subst (Told s) e (told s b)
 
+-- what a run lacks is missing from the state
 pub needs_are_missing : NeedsAreMissing
 needs_are_missing b s a e = (needed b s a e).0
 
+-- what a run has seen is there
 pub observed_is_there : ObservedIsThere
 observed_is_there b s r e = each-more (IsSeen s) (IsThere s) r.observations (λ z all. all.0) (seen b s r e)
 
+-- what a run lacks is short, and so is all that it has seen
 pub runs_ask_short : RunsAskShort
 runs_ask_short = record {
   needed = λ b s a e. (needed b s a e).1;
@@ -220,37 +239,46 @@ agree_on_more s t more (z ∷ seen) all = (agrees all.0, agree_on_more s t more 
       same = λ v is. let e : v ≡ there.value = some_same v there.value (sym is ∙ there.is) in (ap kind_of e, ap (observe z.obs) e);
     }
 
+-- more values change nothing of what was observed, and a run rests on that alone
 pub runs_stay_done : RunsStayDone
 runs_stay_done b s t r more e = runs_are_determined b s t r e (agree_on_more s t more r.observations (observed_is_there b s r e))
 
 -- ---- needs stay
 
 module _ (s t : PartialState) (more : Extends s t) where
+  -- an address that the larger state has no value at
   abbrev Missing : Address → Type 0
   Missing a = t a ≡ None
 
+  -- the smaller state's run goes on as the larger's does, while the larger misses what the smaller needs
   abbrev Onward : {A : Type 0} → Stepping Own A → Stepping Own A → Type 0
   Onward f g = Simulates (λ o p. o ≡ p) (Good s) Missing (Needs s) f g
 
+  -- if the step stops for an address, the larger state misses it too
   abbrev Fit : {A : Type 0} → Step Own A → Type 0
   Fit u = Fine (λ o p. o ≡ p) (Good s) Missing (Needs s) u
 
+  -- two steps over the two states that have come to the same
   abbrev Alike : {A : Type 0} → Step Own A → Step Own A → Type 0
   Alike u v = Same (λ o p. o ≡ p) (Good s) Missing (Needs s) u v
 
+  -- steps that are the same have come to the same memory
   alike : {A : Type 0} (u v : Step Own A) → u ≡ v → Alike u v
   alike (stopped e q) v is = (q.memory, refl, sym is)
   alike (gives x q) v is = (q.memory, refl, sym is)
 
   module _ (r : ReadOp) (a : Address) (p : Progress Own) where
+    -- the step of a read, by whether own operations decide it and by the value that may be there
     abbrev at : Bool → Option Value → Step Own Item
     at b v = answered a (cond b (Some (answer r (replay (at_address a p.memory.operations) (default_of a.kind)), p.memory)) (own_value r a v p.memory)) p
 
+    -- a decided read asks no state, a value that is there is the same in both, and a missing one is in both
     read_alike : (b : Bool) (v : Option Value) → s a ≡ v → Fit (at b v) → at b v ≡ at b (t a)
     read_alike true v is fine = refl
     read_alike false None is fine = ap (at false) (sym fine.0)
     read_alike false (Some v) is fine = ap (at false) (sym (more a v is))
 
+  -- what the smaller state has the larger has, and what the smaller needs the larger misses too
   reads_on : (r : ReadOp) (a : Address) → Suits a.kind r → Onward (read_at (own s) r a) (read_at (own t) r a)
   reads_on r a suits = record {
     back = λ p fine. tt;
@@ -260,9 +288,11 @@ module _ (s t : PartialState) (more : Extends s t) where
     lacking = λ p. answered_lacking (λ o p. o ≡ p) (Good s) Missing (Needs s) a (own_read s r a p.memory) p (λ e. tt);
   }
 
+  -- a write is one more operation of the run's own, whatever the state
   writes_on : (a : Address) (o : WriteOp) → kind_written o ≡ a.kind → Onward (write_at (own s) a o) (write_at (own t) a o)
   writes_on a o k = record { back = λ p fine. tt; forth = λ p m is fine. (own_write a o m, ap (own_write a o) is, refl); bounded = λ p h. h; lacking = λ p. tt }
 
+  -- the larger state misses the address that stopped the first run, so the second stopped for it too
   need_alike : (u v : Step Own Names) (a : Address) → ended u ≡ need a → t a ≡ None → (Fit u → Alike u v) → ended v ≡ need a
   need_alike (stopped (stop.Need c) p) v a e none sim = let is : c ≡ a = cc in ap ended (sim (subst Missing (sym is) none, tt)).2 ∙ e
   need_alike (gives x p) v a e none sim = absurd (cc)
@@ -271,6 +301,7 @@ module _ (s t : PartialState) (more : Extends s t) where
   need_alike (stopped stop.Big p) v a e none sim = absurd (cc)
   need_alike (stopped stop.NoMemory p) v a e none sim = absurd (cc)
 
+-- both runs go on alike up to the address that both states miss
 pub needs_stay : NeedsStay
 unfolding exec
 needs_stay b s t a more e none =

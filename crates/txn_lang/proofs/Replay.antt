@@ -41,6 +41,7 @@ at_address-cons a w own false e =
     ap (λ b. map (λ u. u.1) (cond b (w ∷ filter (λ u. is_eq (address_cmp a u.0)) own)
     (filter (λ u. is_eq (address_cmp a u.0)) own))) e
 
+-- an operation at the address is composed before the later ones there, and one elsewhere isn't among them
 composed-cons : (a : Address) (w : Address × WriteOp) (d : Option Delta) (own : Operations) (t : Bool) → is_eq (address_cmp a w.0) ≡ t
     → composed_after (cond t (Some (after_maybe d (delta_of w.1))) d) (at_address a own) ≡ composed_after d (at_address a (w ∷ own))
 composed-cons a w d own true e = ap (λ ops. composed_after d ops) (sym (at_address-cons a w own true e))
@@ -68,6 +69,7 @@ AllOf-at_address a (w ∷ own) all = by (is_eq (address_cmp a w.0)) refl (AllOf-
     by true e rest = subst (AllOf a.kind) (sym (at_address-cons a w own true e)) (all.0 ∙ ap (λ b. b.kind) (sym (address_cmp-equal a w.0 (equal _ e))), rest)
     by false e rest = subst (AllOf a.kind) (sym (at_address-cons a w own false e)) rest
 
+-- no delta leaves the value as it is, and a delta leaves what it makes of it
 apply_maybe-left_by : (d : Option Delta) (v : Value) → apply_maybe d v ≡ left_by d v
 apply_maybe-left_by None v = refl
 apply_maybe-left_by (Some d) v = refl

@@ -19,6 +19,7 @@ use Rattle.txn_lang.proofs.Sizes.{IsShortRead}
 use Rattle.txn_lang.proofs.Walk.{Gave, Gives, gave_any, Keeps, body_related}
 pub use Rattle.txn_lang.proofs.Words.{Suits}
 
+-- what is given by a step that gives nothing
 abbrev unit : Unit {0}
 unit = tt
 
@@ -34,18 +35,22 @@ answered_bounded a (Some x) p h = h
 -- The second memory goes with the first (R), as long as the first ends well (Good) and needs only some addresses (Needs).
 -- What the first needs, it lacks (Lacks).
 module _ {S T : Type 0} (R : S → T → Type 0) (Good : S → Type 0) (Needs Lacks : Address → Type 0) where
+  -- a run may stop for any reason, but for an address only where that may be needed
   abbrev pub Allowed : Stop → Type 0
   Allowed (stop.Need a) = Needs a
   Allowed _ = Unit {0}
 
+  -- the step ends well, and it stops the run only for a reason that is allowed
   abbrev pub Fine : {A : Type 0} → Step S A → Type 0
   Fine (stopped s p) = Allowed s × Good p.memory
   Fine (gives x p) = Good p.memory
 
+  -- the second step came to the same as the first, with a memory that goes with the first's
   abbrev pub Same : {A : Type 0} → Step S A → Step T A → Type 0
   Same (stopped s p) u = (t : T) × R p.memory t × (u ≡ stopped s (onto t p))
   Same (gives x p) u = (t : T) × R p.memory t × (u ≡ gives x (onto t p))
 
+  -- stopping for an address owes that the memory lacks it
   abbrev pub Owes : Stop → Type 0
   Owes (stop.Need a) = Lacks a
   Owes _ = Unit {0}
@@ -66,9 +71,11 @@ module _ {S T : Type 0} (R : S → T → Type 0) (Good : S → Type 0) (Needs La
     pub bounded : (p : Progress S) → p.ticks ≤ TICK_LIMIT → ticks_of (f p) ≤ TICK_LIMIT
     pub lacking : (p : Progress S) → Lacking (f p)
 
+  -- nothing happens on either side
   pure_simulates : {A : Type 0} (x : A) → Simulates (pure x) (pure x)
   pure_simulates x = record { back = λ p fine. fine; forth = λ p t r fine. (t, r, refl); bounded = λ p h. h; lacking = λ p. tt }
 
+  -- the first parts go alike, and the second ones go on from what those gave and from memories that go together
   then_simulates : {A B : Type 0} (P : A → Type 0) {f : Stepping S A} {g : Stepping T A} {h : A → Stepping S B} {k : A → Stepping T B}
       → Gives P f → Simulates f g → ((x : A) → P x → Simulates (h x) (k x)) → Simulates (f >>= h) (g >>= k)
   then_simulates {A} {B} P {f} {g} {h} {k} given fg hk = record {
@@ -98,9 +105,11 @@ module _ {S T : Type 0} (R : S → T → Type 0) (Good : S → Type 0) (Needs La
       lacking_by (stopped s q) is owes = owes
       lacking_by (gives x q) is owes = (hk x is).lacking q
 
+  -- both sides stop for the same reason, and owe what it owes
   stop_simulates : {A : Type 0} (s : Stop) → Owes s → Simulates {A = A} (stop_by s) (stop_by s)
   stop_simulates s owes = record { back = λ p fine. fine.1; forth = λ p t r fine. (t, r, refl); bounded = λ p h. h; lacking = λ p. owes }
 
+  -- both sides have charged as many ticks, so the limit stops both or neither
   charge_simulates : (n : ℕ) → Simulates (charge n) (charge n)
   charge_simulates n = record {
     back = λ p. back_by p (nat_le (p.ticks + n) TICK_LIMIT);
@@ -128,6 +137,7 @@ module _ {S T : Type 0} (R : S → T → Type 0) (Good : S → Type 0) (Needs La
       lacking_by p true = tt
       lacking_by p false = tt
 
+  -- both sides have as much load, so the limit stops both or neither
   carry_simulates : (n : ℕ) → Simulates (carry n) (carry n)
   carry_simulates n = record {
     back = λ p. back_by p (nat_le (p.load + n) LOAD_LIMIT);
@@ -155,6 +165,7 @@ module _ {S T : Type 0} (R : S → T → Type 0) (Good : S → Type 0) (Needs La
       lacking_by p true = tt
       lacking_by p false = tt
 
+  -- both sides emit the same item, and neither memory changes
   emit_simulates : (i : Item) → Simulates (emit i) (emit i)
   emit_simulates i = record { back = λ p fine. fine; forth = λ p t r fine. (t, r, refl); bounded = λ p h. h; lacking = λ p. tt }
 
@@ -172,6 +183,7 @@ module _ {S T : Type 0} (R : S → T → Type 0) (Good : S → Type 0) (Needs La
   }
 
   module _ (m : Memory S) (n : Memory T) where
+    -- the memories go together at each write that is of its address's kind
     abbrev WritesAlike : Type 0
     WritesAlike = (a : Address) (o : WriteOp) → kind_written o ≡ a.kind → Simulates (write_at m a o) (write_at n a o)
 
@@ -180,6 +192,7 @@ module _ {S T : Type 0} (R : S → T → Type 0) (Good : S → Type 0) (Needs La
         → WritesAlike → (b : Body) → Simulates (body_run m b) (body_run n b)
     short_reads_simulate reads writes b = body_related (λ owed A f g. Simulates f g) simulations_keep m n reads writes b
 
+    -- memories that go together at all reads do so at those of short texts
     pub body_simulates : ((r : ReadOp) (a : Address) → Suits a.kind r → Simulates (read_at m r a) (read_at n r a))
         → WritesAlike → (b : Body) → Simulates (body_run m b) (body_run n b)
     body_simulates reads writes b = short_reads_simulate (λ r a suits short. reads r a suits) writes b

@@ -31,6 +31,7 @@ pub tree_of_typed : (z : Text) (b : Body) → parsed z ≡ Some b → IsTyped b 
 unfolding tree
 tree_of_typed z b e t = let found = (bodies_are_judged b).1 t in ap if_typed e ∙ ap (if_accepted b) found.1
 
+-- the reader finds what the grammar derives, and the checker accepts what is well typed, no more and no less
 pub trees_are_typed_bodies : TreesAreTypedBodies
 trees_are_typed_bodies z b =
     (λ e. let k = tree_read z b e in (parsed_sound z b k.0, k.1), λ h. tree_of_typed z b (parsed_complete z b h.0) h.1)

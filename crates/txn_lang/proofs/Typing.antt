@@ -43,14 +43,17 @@ pub then_ok : {A B : Type 0} (r : Judged A) (f : A → Judged B) (b : B) → and
 then_ok (Ok a) f b e = (a, (refl, e))
 then_ok (Err column) f b e = absurd (cc)
 
+-- what went well had no complaint, and gives what was to be given
 told_ok : {A : Type 0} (complaint : Option ℕ) (a b : A) → told complaint a ≡ Ok b → (complaint ≡ None) × (a ≡ b)
 told_ok None a b e = (refl, cc)
 told_ok (Some column) a b e = absurd (cc)
 
+-- there is no complaint only where it holds
 unless_none : (holds : Bool) (column : ℕ) → unless holds column ≡ None → holds ≡ true
 unless_none true column e = refl
 unless_none false column e = absurd (cc)
 
+-- there is no first complaint only where neither side has one
 or_none : (a b : Option ℕ) → option_or a b ≡ None → (a ≡ None) × (b ≡ None)
 or_none None b e = (refl, e)
 or_none (Some column) b e = absurd (cc)
@@ -63,12 +66,14 @@ same_is type.Text type.Text e = refl
 same_is type.Texts type.Texts e = refl
 same_is _ _ e = absurd (cc)
 
+-- each type passes the test with itself
 same_self : (t : ItemType) → same t t ≡ true
 same_self type.Int = refl
 same_self type.Bool = refl
 same_self type.Text = refl
 same_self type.Texts = refl
 
+-- a name has a type only where it is bound, and it is that one
 named_is : (column : ℕ) (bound : Option ItemType) (t : ItemType) → named column bound ≡ Ok t → bound ≡ Some t
 named_is column (Some u) t e = cc
 named_is column None t e = absurd (cc)
@@ -83,6 +88,7 @@ fits_is o t u e = by_same (same u t) (same_is u t) e
 
 -- ---- one layer of the checker
 
+-- a node, with what the checker makes of the expressions in it
 abbrev deep : ExprNode-F ExprNode Expr Operand → ExprNode-F (ℕ → Names → Judged ItemType) Typed (Operator × Typed)
 deep =
     map-ExprNode ExprNode Expr Operand (ℕ → Names → Judged ItemType) Typed (Operator × Typed)
@@ -96,9 +102,11 @@ typed_is e =
     ∙ ap (λ (n : ℕ → Names → Judged ItemType). record { column = column_of e; judged = n (column_of e) })
     (fold_out-ExprNode (ℕ → Names → Judged ItemType) Typed (Operator × Typed) judge_node judge_expr judge_operand (out-Expr e).node)
 
+-- an operand is judged by its operator and its value: the equation of the fold
 operand_is : (o : Operand) → judged_operand o ≡ (operator_of o, typed (value_of o))
 operand_is o = fold_out-Operand (ℕ → Names → Judged ItemType) Typed (Operator × Typed) judge_node judge_expr judge_operand o
 
+-- an expression's type is what its layer makes of the types in it
 pub type_by : (names : Names) (e : Expr) (n : ExprNode-F ExprNode Expr Operand) → node_of e ≡ n → type_of e names ≡ judge_node (deep n) (column_of e) names
 type_by names e n is = ap (λ (t : Typed). t.judged names) (typed_is e) ∙ ap (λ n. judge_node (deep n) (column_of e) names) is
 
@@ -111,15 +119,18 @@ first_or_later P a more here later zero b is = let same : a ≡ b = cc in subst 
 first_or_later P a more here later (suc i) b is = later i b is
 
 module _ (names : Names) where
+  -- a type that the checker finds is the expression's type
   abbrev Sound : Expr → Type 0
   Sound e = (t : ItemType) → type_of e names ≡ Ok t → HasType names e t
 
   -- one layer: each child is some expression, by h, and what is found of it is its type
   module _ {N E O : Type 0} (hN : N → ExprNode) (hE : E → Expr) (hO : O → Operand)
       (exprs : (e : E) → Sound (hE e)) (operands : (o : O) → Sound (value_of (hO o))) where
+    -- each expression has the type, by its place
     abbrev Each : ItemType → List E → Type 0
     Each wanted es = (i : ℕ) (a : Expr) → slice_get (map hE es) i ≡ Some a → HasType names a wanted
 
+    -- expression by expression: without a complaint each has the type that is wanted
     each_sound : (wanted : ItemType) (complaint : Option ℕ) (es : List E) → all_of wanted complaint (map typed (map hE es)) names ≡ Ok None
         → (complaint ≡ None) × Each wanted es
     each_sound wanted complaint [] e = (cc, λ i a there. absurd (cc))
@@ -133,11 +144,13 @@ module _ (names : Names) where
         let is = same_is s.0 wanted (unless_none (same s.0 wanted) (typed (hE x)).column none_yet.1) in
         (none_yet.0, first_or_later (λ a. HasType names a wanted) (hE x) (map hE es) (subst (λ t. HasType names (hE x) t) is (exprs x s.0 s.1.0)) r.1)
 
+    -- each operator takes the type, and each operand has it, by its place
     abbrev EachOperand : ItemType → List O → Type 0
     EachOperand t os =
         ((i : ℕ) (o : Operand) → slice_get (map hO os) i ≡ Some o → takes (operator_of o) t ≡ true)
         × ((i : ℕ) (o : Operand) → slice_get (map hO os) i ≡ Some o → HasType names (value_of o) t)
 
+    -- operand by operand: without a complaint each has the type of the chain, and its operator takes that
     operands_sound : (t : ItemType) (complaint : Option ℕ) (os : List O) → operands_of t complaint (map judged_operand (map hO os)) names ≡ Ok None
         → (complaint ≡ None) × EachOperand t os
     operands_sound t complaint [] e = (cc, (λ i a there. absurd (cc), λ i a there. absurd (cc)))
@@ -159,9 +172,11 @@ module _ (names : Names) where
           ),
         )
 
+    -- the node with those expressions in it
     abbrev layer : ExprNode-F N E O → ExprNode-F ExprNode Expr Operand
     layer = map-ExprNode N E O ExprNode Expr Operand hN hE hO
 
+    -- what is found of an expression is what the checker makes of its layer
     judged_layer : (y : ExprNode-F N E O) (e : Expr) → node_of e ≡ layer y → (t : ItemType) → type_of e names ≡ Ok t
         → judge_node (deep (layer y)) (column_of e) names ≡ Ok t
     judged_layer y e is t ok = sym (type_by names e (layer y) is) ∙ ok
@@ -176,6 +191,7 @@ module _ (names : Names) where
         let is = same_is s.0 wanted (unless_none (same s.0 wanted) (typed (hE a)).column r.0) in
         (subst (λ u. HasType names (hE a) u) is (exprs a s.0 s.1.0), r.1)
 
+    -- form by form: what went well in the checker is what the form's rule asks
     layer_sound : (y : ExprNode-F N E O) (e : Expr) → node_of e ≡ layer y → Sound e
     layer_sound (ExprNode-F.Number n) e is t ok =
         let j : type.Int ≡ t = cc (judged_layer (ExprNode-F.Number n) e is t ok) in
@@ -241,9 +257,11 @@ module _ (names : Names) where
         let key_text = same_is s.0 type.Text (unless_none (same s.0 type.Text) (typed (hE key)).column r.0) in
         subst (λ t. HasType names e t) q.1 (read e (hE key) k word (map hE es) is (subst (λ u. HasType names (hE key) u) key_text (exprs key s.0 s.1.0)) r.1)
 
+  -- each expression that has this node is sound
   abbrev NodeSound : ExprNode → Type 0
   NodeSound n = (e : Expr) → (out-Expr e).node ≡ n → Sound e
 
+  -- by induction over expressions: a layer is sound where the expressions in it are
   type_sound : (e : Expr) → Sound e
   type_sound = ind-Expr NodeSound Sound (λ o. Sound (value_of o))
       (λ x y is e at. layer_sound (λ c. c.0) (λ c. c.0) (λ c. c.0) (λ c. c.1) (λ c. c.1) y e (ap out-ExprNode at ∙ out-roll-ExprNode x ∙ sym is))
@@ -252,9 +270,11 @@ module _ (names : Names) where
 
 -- ---- what has a type is found
 
+-- a step that went well hands on what it gave
 then_found : {A B : Type 0} (r : Judged A) (a : A) (f : A → Judged B) → r ≡ Ok a → and_then r f ≡ f a
 then_found r a f e = ap (λ r. and_then r f) e
 
+-- what an operator takes may stand before it; only a minus lets more stand there
 begins_if : (o : Operator) (t : ItemType) → takes o t ≡ true → may_begin o t ≡ true
 begins_if operator.Minus type.Int e = refl
 begins_if operator.Minus type.Text e = refl
@@ -262,6 +282,7 @@ begins_if operator.Minus _ e = absurd (cc)
 begins_if _ t e = e
 
 module _ (names : Names) where
+  -- expression by expression: each has the type that is wanted, so none makes a complaint
   all_found : (wanted : ItemType) (es : List Expr) → ((i : ℕ) (a : Expr) → slice_get es i ≡ Some a → type_of a names ≡ Ok wanted)
       → all_of wanted None (map typed es) names ≡ Ok None
   all_found wanted [] h = refl
@@ -270,6 +291,7 @@ module _ (names : Names) where
       ∙ ap (λ b. all_of wanted (unless b (typed e).column) (map typed es) names) (same_self wanted)
       ∙ all_found wanted es (λ i. h (suc i))
 
+  -- operand by operand: each has the type of the chain, and its operator takes that
   operands_found : (t : ItemType) (os : List Operand)
       → ((i : ℕ) (o : Operand) → slice_get os i ≡ Some o → takes (operator_of o) t ≡ true)
       → ((i : ℕ) (o : Operand) → slice_get os i ≡ Some o → type_of (value_of o) names ≡ Ok t)
@@ -284,6 +306,7 @@ module _ (names : Names) where
       ∙ ap (λ b. operands_of t (unless b p.1.column) (map judged_operand os) names) fit
       ∙ operands_found t os (λ i. h (suc i)) (λ i. k (suc i))
 
+  -- the first operator takes the type of the chain, so that may stand before it
   first_found : (t : ItemType) (os : List Operand) → ((i : ℕ) (o : Operand) → slice_get os i ≡ Some o → takes (operator_of o) t ≡ true)
       → may_be_first t (map judged_operand os) ≡ true
   first_found t [] h = refl
@@ -295,6 +318,7 @@ module _ (names : Names) where
   one_found a t given test found passes =
       then_found (type_of a names) t (λ u. told (unless (test u) (typed a).column) given) found ∙ ap (λ b. told (unless b (typed a).column) given) passes
 
+  -- rule by rule: the types in the layer are found, and what the rule asks of them passes the checker's tests
   type_found : (e : Expr) (t : ItemType) → HasType names e t → type_of e names ≡ Ok t
   type_found _ _ (number e n is) = type_by names e (ExprNode-F.Number n) is
   type_found _ _ (text e z is) = type_by names e (ExprNode-F.Text z) is
@@ -334,11 +358,13 @@ module _ (names : Names) where
       ∙ ap (λ c. and_then c (λ c. told c (answered_type k word)))
       (all_found (asked_type word) es (λ i a there. type_found a (asked_type word) (each i a there)))
 
+-- the checker finds no other types than the rules give, and finds each of them
 pub types_are_found : TypesAreFound
 types_are_found names e t = (type_sound names e t, type_found names e t)
 
 -- ---- statements
 
+-- a statement's node, with what the checker makes of the statements in it
 abbrev deep_step : StmtNode-F StmtNode Stmt → StmtNode-F (Names → Judged Names) (Names → Judged Names)
 deep_step =
     map-StmtNode StmtNode Stmt (Names → Judged Names) (Names → Judged Names)
@@ -358,14 +384,17 @@ expect_sound wanted e names t ok =
     let r = told_ok (unless (same s.0 wanted) (column_of e)) s.0 t s.1.1 in
     subst (λ u. HasType names e u) (same_is s.0 wanted (unless_none (same s.0 wanted) (column_of e) r.0)) (type_sound names e s.0 s.1.0)
 
+-- the type is found, and it passes the test with itself
 expect_found : (wanted : ItemType) (e : Expr) (names : Names) → HasType names e wanted → expect wanted e names ≡ Ok wanted
 expect_found wanted e names h =
     then_found (type_of e names) wanted (λ u. told (unless (same u wanted) (column_of e)) u) (type_found names e wanted h)
     ∙ ap (λ b. told (unless b (column_of e)) wanted) (same_self wanted)
 
+-- if the checker leaves names behind it, and statements behind it are typed there, they are typed with it in front
 abbrev StmtSound : Stmt → Type 0
 StmtSound s = (names after : Names) (ss : List Stmt) → names_after s names ≡ Ok after → AreTyped after ss → AreTyped names (s ∷ ss)
 
+-- expression by expression: without a complaint each has the type that is wanted
 arguments_sound : (names : Names) (wanted : ItemType) (complaint : Option ℕ) (es : List Expr) → all_of wanted complaint (map typed es) names ≡ Ok None
     → (complaint ≡ None) × ((i : ℕ) (a : Expr) → slice_get es i ≡ Some a → HasType names a wanted)
 arguments_sound names wanted complaint [] e = (cc, λ i a there. absurd (cc))
@@ -384,20 +413,24 @@ block_is fs names after ok =
 
 -- one layer: each statement in it is some statement, by h
 module _ {N X : Type 0} (hN : N → StmtNode) (hS : X → Stmt) (stmts : (x : X) → StmtSound (hS x)) where
+  -- the statement's node, with those statements in it
   abbrev step_layer : StmtNode-F N X → StmtNode-F StmtNode Stmt
   step_layer = map-StmtNode N X StmtNode Stmt hN hS
 
+  -- statement by statement: each stands in front of those that are typed behind it
   order_sound : (xs : List X) (names after : Names) → in_order (map names_after (map hS xs)) names ≡ Ok after → AreTyped names (map hS xs)
   order_sound [] names after ok = none names
   order_sound (x ∷ xs) names after ok =
       let s = then_ok (names_after (hS x) names) (in_order (map names_after (map hS xs))) after ok in
       stmts x names s.0 (map hS xs) s.1.0 (order_sound xs s.0 after s.1.1)
 
+  -- a block is judged as its statements in order, and forgets the names that they leave
   block_sound : (xs : List X) (names after : Names) → block (map names_after (map hS xs)) names ≡ Ok after → AreTyped names (map hS xs)
   block_sound xs names after ok =
       let z = then_ok (in_order (map names_after (map hS xs)) names) (λ t. Ok names) after ok in
       order_sound xs names z.0 z.1.0
 
+  -- form by form: what went well in the checker is what the form's rule asks
   step_sound : (y : StmtNode-F N X) (s : Stmt) → step_of s ≡ step_layer y → StmtSound s
   step_sound (StmtNode-F.Let x e) s is names after ss ok more =
       let z = then_ok (type_of e names) (λ t. Ok (names ++ (x, t) ∷ [])) after (sym (names_by names s (StmtNode-F.Let x e) is) ∙ ok) in
@@ -449,14 +482,17 @@ module _ {N X : Type 0} (hN : N → StmtNode) (hS : X → Stmt) (stmts : (x : X)
       write names s ss k key word es is (subst (λ u. HasType names key u) key_text (type_sound names key z.0 z.1.0)) a.1
       (subst (λ ns. AreTyped ns ss) (sym r.1) more)
 
+-- each statement that has this node is sound
 abbrev NodeSound' : StmtNode → Type 0
 NodeSound' n = (s : Stmt) → (out-Stmt s).node ≡ n → StmtSound s
 
+-- by induction over statements: a layer is sound where the statements in it are
 stmt_sound : (s : Stmt) → StmtSound s
 stmt_sound = ind-Stmt NodeSound' StmtSound
     (λ x y is s at. step_sound (λ c. c.0) (λ c. c.0) (λ c. c.1) y s (ap out-StmtNode at ∙ out-roll-StmtNode x ∙ sym is))
     (λ x y is. (subst (λ z. NodeSound' z.node) is y.node.1) (roll-Stmt x) (ap (λ z. z.node) (out-roll-Stmt x)))
 
+-- statement by statement: each is sound, so it stands in front of those that are typed behind it
 body_sound : (ss : List Stmt) (names after : Names) → in_order (map names_after ss) names ≡ Ok after → AreTyped names ss
 body_sound [] names after ok = none names
 body_sound (s ∷ ss) names after ok =
@@ -471,9 +507,11 @@ Ends names ss = (after : Names) × (in_order (map names_after ss) names ≡ Ok a
 one_more : (names next : Names) (s : Stmt) (ss : List Stmt) → names_after s names ≡ Ok next → Ends next ss → Ends names (s ∷ ss)
 one_more names next s ss here rest = (rest.0, then_found (names_after s names) next (in_order (map names_after ss)) here ∙ rest.1)
 
+-- a block ends where its statements do, and its names are those before it
 block_found : (ss : List Stmt) (names : Names) → Ends names ss → block (map names_after ss) names ≡ Ok names
 block_found ss names ends = then_found (in_order (map names_after ss) names) ends.0 (λ t. Ok names) ends.1
 
+-- rule by rule: what the rule asks passes the checker's tests, and it goes on to the statements behind
 order_found : (names : Names) (ss : List Stmt) → AreTyped names ss → Ends names ss
 order_found _ _ (none names) = (names, refl)
 order_found _ _ (bind names s ss x e t is h more) =
@@ -520,6 +558,7 @@ order_found _ _ (write names s ss k key word es is h each more) =
     ∙ ap (λ c. and_then c (λ c. told c names)) (all_found names w es (λ i a there. type_found names a w (each i a there))))
     (order_found names ss more)
 
+-- the checker accepts no other bodies than the rules do, and accepts each of them
 pub bodies_are_judged : BodiesAreJudged
 bodies_are_judged b = (λ found. body_sound b.stmts [] found.0 found.1, order_found [] b.stmts)
 
@@ -529,9 +568,11 @@ bodies_are_judged b = (λ found. body_sound b.stmts [] found.0 found.1, order_fo
 abbrev Extends : Names → Names → Type 0
 Extends names after = (more : Names) × (after ≡ names ++ more)
 
+-- names extend themselves by none
 extends_self : (names after : Names) → names ≡ after → Extends names after
 extends_self names after same = ([], sym same ∙ sym (append-nil names))
 
+-- a `let` puts one name behind them, and all else leaves them as they are
 step_extends : (y : StmtNode-F (Names → Judged Names) (Names → Judged Names)) (names after : Names) → judge_step y names ≡ Ok after → Extends names after
 step_extends (StmtNode-F.Let x e) names after ok =
     let z = then_ok (type_of e names) (λ t. Ok (names ++ (x, t) ∷ [])) after ok in
@@ -555,6 +596,7 @@ step_extends (StmtNode-F.Write k key word es) names after ok =
     let q = then_ok (all_of w (first z.0) (map typed es) names) (λ c. told c names) after z.1.1 in
     extends_self names after (told_ok q.0 names after q.1.1).1
 
+-- statement by statement: what each puts behind the names stays in front of what the next does
 order_extends : (ss : List Stmt) (names after : Names) → in_order (map names_after ss) names ≡ Ok after → Extends names after
 order_extends [] names after ok = extends_self names after (cc)
 order_extends (s ∷ ss) names after ok =
@@ -569,6 +611,7 @@ take-after ss names after ok =
     let more = order_extends ss names after ok in
     ap (take (length names)) more.1 ∙ take-append_seam names more.0
 
+-- statements only put names behind those before them
 pub length-after : (ss : List Stmt) (names after : Names) → in_order (map names_after ss) names ≡ Ok after → length names ≤ length after
 length-after ss names after ok =
     let more = order_extends ss names after ok in
@@ -581,6 +624,7 @@ pub block_left : (ss : List Stmt) (names after left : Names) (count : ℕ) → i
 block_left ss names after left count ok counted is =
     ap (λ r. and_then r (λ t. Ok names)) ok ∙ ap (λ ns. Ok ns) (sym (is ∙ ap (λ n. take n after) counted ∙ take-after ss names after ok))
 
+-- a turn binds its text behind the names before it, so these are the first ones here too
 pub turn_left : (x : Bytes) (ss : List Stmt) (names bound after left : Names) (count : ℕ) → bound ≡ names ++ (x, type.Text) ∷ []
     → in_order (map names_after ss) bound ≡ Ok after → count ≡ length names → left ≡ take count after
     → turn x (map names_after ss) names ≡ Ok left

@@ -23,11 +23,13 @@ abbrev pub IsOfKind : Kind → Option WriteOp → Type 0
 IsOfKind k None = Unit {0}
 IsOfKind k (Some o) = kind_written o ≡ k
 
+-- put and add write to a counter, and no other word writes
 counter_fits : (word : WriteWord) (n : ℤ) → IsOfKind kind.Counter (counter_write word n)
 counter_fits write_word.Put n = refl
 counter_fits write_word.Add n = refl
 counter_fits _ n = tt
 
+-- kind by kind: each word that takes a text writes to its own kind, and no other word writes
 text_fits : (k : Kind) (word : WriteWord) (x : Bytes) → IsOfKind k (text_write k word x)
 text_fits kind.Set write_word.Add x = refl
 text_fits kind.Set write_word.Remove x = refl
@@ -36,16 +38,19 @@ text_fits kind.List write_word.Push x = refl
 text_fits kind.List write_word.Remove x = refl
 text_fits _ _ x = tt
 
+-- sets, hashes and lists are each cleared by a write of their own, and nothing else is
 clear_fits : (k : Kind) → IsOfKind k (clear_of k)
 clear_fits kind.Set = refl
 clear_fits kind.Hash = refl
 clear_fits kind.List = refl
 clear_fits _ = tt
 
+-- a hash alone takes two arguments
 pair_fits : (k : Kind) (f t : Bytes) → IsOfKind k (pair_write k f t)
 pair_fits kind.Hash f t = refl
 pair_fits _ f t = tt
 
+-- kind by kind: bools, counters and texts have writes of their own, and the others have those that take a text
 one_fits : (k : Kind) (word : WriteWord) (i : Item) → IsOfKind k (write_with k word i)
 one_fits kind.Bool word i = refl
 one_fits kind.Counter word i = counter_fits word (int_in i)
@@ -54,6 +59,7 @@ one_fits kind.Set word i = text_fits kind.Set word (text_in i)
 one_fits kind.Hash word i = text_fits kind.Hash word (text_in i)
 one_fits kind.List word i = text_fits kind.List word (text_in i)
 
+-- by the number of arguments: with none it clears, with one it writes that one, and with two it is a hash's
 pub write_fits : (k : Kind) (word : WriteWord) (is : List Item) → IsOfKind k (write_of k word is)
 write_fits k word [] = clear_fits k
 write_fits k word (i ∷ []) = one_fits k word i
@@ -63,6 +69,7 @@ write_fits k word (i ∷ j ∷ is) = pair_fits k (text_in i) (text_in j)
 abbrev pub Suits : Kind → ReadOp → Type 0
 Suits k r = (takes_out : Bool) (v : Value) → kind_of v ≡ k → kind_observed (observed_where r takes_out v) ≡ k
 
+-- a place is observed alone or as the whole list, and either is an observation of a list
 place_suits : (i : ℤ) (takes_out : Bool) (items : List Bytes) → kind_observed (place_observed i takes_out items) ≡ kind.List
 place_suits (pos i) takes_out items = by (not takes_out && nat_lt i (length items))
   where

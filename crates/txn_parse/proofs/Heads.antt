@@ -10,6 +10,7 @@ use Rattle.txn_grammar.specs.code.Forms.{of_next}
 pub ahead_is : {I B : Type 0} (f : I → Option B) (item : I) (ts : List I) (o : Option B) → o ≡ f item → next ts ≡ Some item → o ≡ of_next f (next ts)
 ahead_is f item ts o e h = e ∙ ap (of_next f) (sym h)
 
+-- by whether an item is ahead: something is made of it, or there is none to make anything of
 pub begins_at : {I B : Type 0} (f : I → Option B) (h : Option I) → begins f h ≡ is_made (of_next f h)
 begins_at f None = refl
 begins_at f (Some item) = refl

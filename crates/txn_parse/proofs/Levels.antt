@@ -27,6 +27,7 @@ unfolding a_leaf
 leaf_chosen ts o e = ap (λ x. leaf_read (unwrap_or x leaf.Name) ts) (sym e)
 
 module _ (u e : Reader Spot Expr) (ts : List Spot) where
+  -- the reader of unary expressions, by the test on what is ahead
   by : (b : Bool) → begins opener_at (next ts) ≡ b → unary_of u e ts ≡ cond b (opened u e ts) (a_leaf ts)
   unfolding unary_of
   by b h = ap (λ x. cond x (opened u e ts) (a_leaf ts)) h
@@ -45,6 +46,7 @@ pub unary_last : (n : ℕ) (ts : List Spot) → n ≡ 0 → unary n ts ≡ a_lea
 unfolding unary
 unary_last n ts e = ap (λ m. unary m ts) e
 
+-- without a level a negation is a comparison of what is unary without one
 pub negation_last : (n : ℕ) (ts : List Spot) → n ≡ 0 → negation n ts ≡ comparison_of (unary n) ts
 unfolding unary
 negation_last n ts e = ap (λ m. negation m ts) e ∙ ap (λ m. comparison_of (unary m) ts) (sym e)
@@ -54,6 +56,7 @@ pub unary_deeper : (n : ℕ) (ts : List Spot) → 0 < n → unary n ts ≡ unary
 unfolding unary expression
 unary_deeper n ts some = let e : n ≡ suc (n - 1) = omega arith in ap (λ m. unary m ts) e
 
+-- with a level left the reader has a case for `not`, and what stands behind that has one less
 pub negation_deeper : (n : ℕ) (ts : List Spot) → 0 < n → negation n ts ≡ negation_of (negation (n - 1)) (unary n) ts
 unfolding unary expression
 negation_deeper n ts some = let e : n ≡ suc (n - 1) = omega arith in ap (λ m. negation m ts) e ∙ ap (λ m. negation_of (negation (n - 1)) (unary m) ts) (sym e)
@@ -70,6 +73,7 @@ pub arguments_none : (e : Reader Spot Expr) (n : ℕ) (ts : List Spot) → n ≡
 unfolding arguments_read
 arguments_none e n ts h = ap (λ m. arguments_read e m ts) h
 
+-- where one is asked for, the first is read, and then those behind commas, one fewer
 pub arguments_some : (e : Reader Spot Expr) (n : ℕ) (ts : List Spot) → 0 < n
     → arguments_read e n ts ≡ and_then (e ts)
     (λ first us. and_then (times (after_comma e) (n - 1) us) (λ rest. pure (first ∷ rest)))
@@ -78,11 +82,13 @@ arguments_some e n ts h = let k : n ≡ suc (n - 1) = omega arith in ap (λ m. a
 
 -- ---- statements
 
+-- the form that was found ahead is the one that the reader chooses
 pub simple_chosen : (e : Reader Spot Expr) (ts : List Spot) (o : Option Simple) → o ≡ of_next simple_at (next ts)
     → simple_stmt e ts ≡ simple_read e (unwrap_or o simple.Emit) ts
 unfolding simple_stmt
 simple_chosen e ts o h = ap (λ x. simple_read e (unwrap_or x simple.Emit) ts) (sym h)
 
+-- the form that was found ahead is the one that the reader chooses, also of statements that open a level
 pub nesting_chosen : (e a : Reader Spot Expr) (starts : Option Spot → Bool) (p : Reader Spot Stmt) (ts : List Spot)
     (o : Option Nesting) → o ≡ of_next nesting_at (next ts)
     → nesting_stmt e a starts p ts ≡ nesting_read e a starts p (unwrap_or o nesting.Write) ts
@@ -94,6 +100,7 @@ pub statement_last : (n : ℕ) (ts : List Spot) → n ≡ 0 → statement n ts �
 unfolding statement
 statement_last n ts e = ap (λ m. statement m ts) e ∙ ap (λ m. simple_stmt (expression m) ts) (sym e)
 
+-- without a level a statement begins as a simple one
 pub begins_last : (n : ℕ) (h : Option Spot) → n ≡ 0 → begins_statement n h ≡ begins_simple h
 unfolding begins_statement
 begins_last n h e = ap (λ m. begins_statement m h) e
@@ -103,9 +110,11 @@ pub begins_deeper : (n : ℕ) (h : Option Spot) → 0 < n → begins_statement n
 unfolding begins_statement
 begins_deeper n h some = let e : n ≡ suc (n - 1) = omega arith in ap (λ m. begins_statement m h) e
 
+-- statements that open a level, with one less for the arguments and the statements in them
 abbrev nested : ℕ → Reader Spot Stmt
 nested n = nesting_stmt (expression n) (expression (n - 1)) (begins_statement (n - 1)) (statement (n - 1))
 
+-- with a level left the reader of statements goes by whether a simple one begins
 statement_by : (n : ℕ) (ts : List Spot) (b : Bool) → 0 < n → begins_simple (next ts) ≡ b → statement n ts ≡ cond b (simple_stmt (expression n) ts) (nested n ts)
 unfolding statement
 statement_by n ts b some h =
@@ -115,9 +124,11 @@ statement_by n ts b some h =
     (nesting_stmt (expression m) (expression (n - 1)) (begins_statement (n - 1)) (statement (n - 1)) ts)) (sym e)
     ∙ ap (λ x. cond x (simple_stmt (expression n) ts) (nested n ts)) h
 
+-- a simple one begins, so it is read
 pub statement_simple : (n : ℕ) (ts : List Spot) → 0 < n → begins_simple (next ts) ≡ true → statement n ts ≡ simple_stmt (expression n) ts
 statement_simple n ts some h = statement_by n ts true some h
 
+-- no simple one begins, so one that opens a level is read
 pub statement_nests : (n : ℕ) (ts : List Spot) → 0 < n → begins_simple (next ts) ≡ false
     → statement n ts ≡ nesting_stmt (expression n) (expression (n - 1)) (begins_statement (n - 1)) (statement (n - 1)) ts
 statement_nests n ts some h = statement_by n ts false some h

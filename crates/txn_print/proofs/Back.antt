@@ -16,6 +16,7 @@ abbrev pub Each : {A : Type 0} → (A → Type 0) → List A → Type 0
 Each P [] = Unit {0}
 Each P (x ∷ xs) = P x × Each P xs
 
+-- what holds of each of two lists holds of each of both together: element by element of the first
 pub Each-append : {A : Type 0} (P : A → Type 0) (xs ys : List A) → Each P xs → Each P ys → Each P (xs ++ ys)
 Each-append P [] ys h k = k
 Each-append P (x ∷ xs) ys h k = (h.0, Each-append P xs ys h.1 k)
@@ -38,10 +39,12 @@ record First (xs : List Spot) (x : Token) (b : List Token) : Type 0 where
   token : spot.token ≡ x
   others : tokens rest ≡ b
 
+-- each spot has one token, so spots with tokens have a first one, and the others have the other tokens
 first_of_them : (xs : List Spot) (x : Token) (b : List Token) → tokens xs ≡ x ∷ b → First xs x b
 first_of_them [] x b e = absurd (cc)
 first_of_them (s ∷ xs) x b e = record { spot = s; rest = xs; whole = refl; token = cc; others = cc }
 
+-- spots are cut where their tokens are: one spot goes to the left for each token of the first part
 cut : (a b : List Token) (xs : List Spot) → tokens xs ≡ a ++ b → Cut xs a b
 cut [] b xs e = record { left = []; right = xs; whole = refl; lefts = refl; rights = e }
 cut (x ∷ a) b xs e =
@@ -55,10 +58,12 @@ cut (x ∷ a) b xs e =
       rights = r.rights;
     }
 
+-- each spot has a token, so where there are no tokens there are no spots
 none_left : (xs : List Spot) → tokens xs ≡ [] → xs ≡ []
 none_left [] e = refl
 none_left (s ∷ xs) e = absurd (cc)
 
+-- f goes to the elements of both lists: element by element of the first
 map-append : {A B : Type 0} (f : A → B) (xs ys : List A) → map f (xs ++ ys) ≡ map f xs ++ map f ys
 map-append f [] ys = refl
 map-append f (x ∷ xs) ys = ap (λ zs. f x ∷ zs) (map-append f xs ys)
@@ -98,6 +103,7 @@ module _ (Good : Piece → Type 0) where
     pub made : f spot ≡ Some value
     pub alike : e value ≡ w
 
+  -- there is exactly one spot, and what f makes of it goes by its token
   one_again : {A B : Type 0} (e : A → B) (f : Spot → Option A) (piece : Piece) (w : B)
       → ((spot : Spot) → spot.token ≡ piece.token → Made e f spot w) → (xs vs : List Spot) → tokens xs ≡ piece.token ∷ []
       → Again e (One f) xs vs w
@@ -110,6 +116,7 @@ module _ (Good : Piece → Type 0) where
         alike = m.alike;
       }
 
+  -- the rule takes the one token; f makes a value of it that looks like w, wherever it stands
   pub one_back : {A B : Type 0} (e : A → B) (f : Spot → Option A) (piece : Piece) (w : B) → Good piece
       → ((spot : Spot) → spot.token ≡ piece.token → Made e f spot w) → Back e (One f) (piece ∷ []) w
   one_back e f piece w g made = record { good = (g, tt); again = one_again e f piece w made }
@@ -119,6 +126,7 @@ module _ (Good : Piece → Type 0) where
   spots [] = []
   spots (p ∷ ps) = record { column = 0; token = p.token } ∷ spots ps
 
+  -- each spot was made with the token of its piece
   spots-tokens : (ps : List Piece) → tokens (spots ps) ≡ tokens_of ps
   unfolding spots
   spots-tokens [] = refl
@@ -138,6 +146,7 @@ module _ (Good : Piece → Type 0) where
         alike = z.alike;
       }
 
+  -- the tokens are cut behind the first part; the second rule reads on, whatever value like w was read before it
   pub then_back : {A B C D : Type 0} (e : A → C) (f : B → D) (P : Rule Spot A) (Q : A → Rule Spot B) (ps qs : List Piece) (w : C) (v : D)
       → Back e P ps w → ((a : A) → e a ≡ w → Back f (Q a) qs v) → Back f (Then P Q) (ps ++ qs) v
   then_back e f P Q ps qs w v b c =

@@ -113,6 +113,7 @@ module _ (Good : Piece → Type 0) (goods : Productions.Goods Good) where
       → Fine n p (canon.shown e) (bare e)
   as_shown n p e shown w h k f = subst (λ x. Fine n p x (bare e)) (sym h) (subst (λ y. Fine n p shown y) (sym k) f)
 
+  -- what the rule derives from good tokens is fine at the place
   abbrev pub AllFine : ℕ → Place → Rule Spot Expr → Type 0
   AllFine n p R = (ts us : List Spot) (e : Expr) → R ts e us → Each G ts → Fine n p (canon.shown e) (bare e)
 
@@ -133,6 +134,7 @@ module _ (Good : Piece → Type 0) (goods : Productions.Goods Good) where
   made_inner None c a e = absurd (cc)
   made_inner {A} (Some x) c a e = let k : ◌≡◌ {A = ℕ × A} (c, x) a = cc in ap (λ (p : ℕ × A). Some p.1) k
 
+  -- what was taken with its column was made of the token of the first spot
   pub made_at : {A : Type 0} (f : Token → Option A) (ts us : List Spot) (a : ℕ × A) → (r : One (at f) ts a us) → f r.item.token ≡ Some a.1
   made_at f ts us a r = made_inner (f r.item.token) r.item.column a r.made
 
@@ -140,22 +142,27 @@ module _ (Good : Piece → Type 0) (goods : Productions.Goods Good) where
   pub good_taken : {A : Type 0} (f : Spot → Option A) (ts us : List Spot) (a : A) → (r : One f ts a us) → Each G ts → G r.item
   good_taken f ts us a r g = (subst (λ xs. Each G xs) r.first g).0
 
+  -- only a number's token has a number, and it is that one's
   number_is : (x : Token) (v : ℤ) → number x ≡ Some v → x ≡ t.Number v
   number_is (t.Number y) v e = let k : y ≡ v = cc in ap t.Number k
   number_is _ v e = absurd (cc)
 
+  -- only a text's token has a text, and it is that one's
   text_is : (x : Token) (v : Bytes) → text x ≡ Some v → x ≡ t.Text v
   text_is (t.Text y) v e = let k : y ≡ v = cc in ap t.Text k
   text_is _ v e = absurd (cc)
 
+  -- only a name's token has a name, and it is that one's
   pub name_is : (x : Token) (v : Bytes) → name x ≡ Some v → x ≡ t.Name v
   name_is (t.Name y) v e = let k : y ≡ v = cc in ap t.Name k
   name_is _ v e = absurd (cc)
 
+  -- a name that was taken is a token of the source, and it isn't malformed
   pub good_name : (ts us : List Spot) (a : ℕ × Bytes) → One (at name) ts a us → Each G ts → Good (spaced (t.Name a.1))
   good_name ts us a r g =
       subst (λ x. is_malformed x ≡ false → Good (spaced x)) (name_is _ a.1 (made_at name ts us a r)) (good_taken (at name) ts us a r g) refl
 
+  -- a number, text or name is a token that was taken, so it is good; the words of truth values are anyway
   leaf_fine : (n : ℕ) → Within LeafRule (Unary n) → AllFine n place.Unary LeafRule
   leaf_fine n f ts us e (inl r) g =
       let c = r.value.0 in let v = r.value.1 in
@@ -190,6 +197,7 @@ module _ (Good : Piece → Type 0) (goods : Productions.Goods Good) where
     pub derived : P from a to
     pub good : Each G from
 
+  -- what stands in parentheses begins behind the opening one, so its tokens are good ones too
   pub inside_parens : {A : Type 0} (P : Rule Spot A) (ts us : List Spot) (a : ℕ × A) → InParens P ts a us → Each G ts → Inside P a.1
   inside_parens P ts us a r g = record {
     from = r.middle;
@@ -200,12 +208,15 @@ module _ (Good : Piece → Type 0) (goods : Productions.Goods Good) where
 
   -- expressions with a level less, at the loosest place
   module _ (n : ℕ) (fine : AllFine n place.Disjunction (Expression n)) where
+    -- what is shown of an expression as a whole is read back
     abbrev pub Shows : Expr → Type 0
     Shows e = Back Good bare (Expression n) (expression e) (bare e)
 
+    -- an expression is fine at the loosest place, so it is read back as it is shown there
     pub shows : (ts us : List Spot) (e : Expr) → Expression n ts e us → Each G ts → Shows e
     shows ts us e r g = (fine ts us e r g).here place.Disjunction (omega arith)
 
+    -- what was derived from good tokens inside of something is read back as any expression is
     pub shows_inside : (e : Expr) → Inside (Expression n) e → Shows e
     shows_inside e i = shows i.from i.to e i.derived i.good
 
@@ -214,6 +225,7 @@ module _ (Good : Piece → Type 0) (goods : Productions.Goods Good) where
       pub each : Each Shows es
       pub length : length es ≡ count
 
+    -- one after another: each is derived behind its comma, and what it leaves are good tokens
     times_shown : (count : ℕ) (ts us : List Spot) (es : List Expr) → Times (AfterComma (Expression n)) count ts es us → Each G ts
         → Shown_list es count
     times_shown zero ts us es r g = subst (λ xs. Shown_list xs zero) (sym r.is) (record { each = tt; length = refl })
@@ -224,6 +236,7 @@ module _ (Good : Piece → Type 0) (goods : Productions.Goods Good) where
         (keep_after_comma G _ (keep_expression G n) ts r.middle r.value x g) in
         subst (λ xs. Shown_list xs (suc count)) (sym r.second.second.is) (record { each = (here, rest.each); length = ap (λ m. suc m) rest.length })
 
+    -- none, or the first and so many behind commas; there are as many as were asked for
     pub arguments_shown : (count : ℕ) (ts us : List Spot) (es : List Expr) → Arguments (Expression n) count ts es us → Each G ts
         → Shown_list es count
     arguments_shown zero ts us es r g = subst (λ xs. Shown_list xs zero) (sym r.is) (record { each = tt; length = refl })
@@ -232,6 +245,7 @@ module _ (Good : Piece → Type 0) (goods : Productions.Goods Good) where
         let rest = times_shown count r.middle r.second.middle r.second.value r.second.first (keep_expression G n ts r.middle r.value r.first g) in
         subst (λ xs. Shown_list xs (suc count)) (sym r.second.second.is) (record { each = (here, rest.each); length = ap (λ m. suc m) rest.length })
 
+    -- one after another, as long as a comma follows
     commas_shown : (ts us : List Spot) (es : List Expr) → Many (AfterComma (Expression n)) ts es us → Each G ts → Each Shows es
     commas_shown ts us es (none ts') g = tt
     commas_shown ts us es (more ts' us' vs' e rest r rs) g = (
@@ -240,6 +254,7 @@ module _ (Good : Piece → Type 0) (goods : Productions.Goods Good) where
           (keep_after_comma G _ (keep_expression G n) ts us' e r g),
     )
 
+    -- the first and those behind commas, or none
     elements_shown : (ts us : List Spot) (es : List Expr) → Or (Elements (Expression n)) (Pure []) ts es us → Each G ts → Each Shows es
     elements_shown ts us es (inl r) g =
         let l = r.first in
@@ -255,6 +270,7 @@ module _ (Good : Piece → Type 0) (goods : Productions.Goods Good) where
       pub is : tg ≡ target_of (column, kind) key
       pub shown : Shows key
 
+    -- a target is made of a kind's token and a key in parentheses, which is read back
     pub aimed : (ts us : List Spot) (tg : Target) → Targeted (Expression n) ts tg us → Each G ts → Aimed tg
     aimed ts us tg r g = record {
       column = r.value.0;
@@ -265,6 +281,7 @@ module _ (Good : Piece → Type 0) (goods : Productions.Goods Good) where
           (inside_parens (Expression n) r.middle r.second.middle r.second.value r.second.first (keep_one G _ ts r.middle r.value r.first g));
     }
 
+    -- a name alone is the word of a read, and how that read is printed means it again
     read_word : (k : Kind) (x : Token) (op : Operation ReadWord) → read_of k x ≡ Some op → read_named k (read_name op.word) ≡ Some op
     read_word k (t.Name w) op e = read_again k w op e
     read_word k _ op e = absurd (cc)
@@ -272,10 +289,12 @@ module _ (Good : Piece → Type 0) (goods : Productions.Goods Good) where
     -- ---- what opens a level
 
     module _ (unary_fine : AllFine n place.Unary (Unary n)) where
+      -- what opens a level is unary with a level more
       up : Within (Opened (Unary n) (Expression n)) (Unary (suc n))
       unfolding Unary
       up ts us e r = inl r
 
+      -- form by form: what stands inside is shown with a level less, and the form's production reads both back
       opened_fine : AllFine (suc n) place.Unary (Opened (Unary n) (Expression n))
       opened_fine ts us e (inl r) g =
           let c = r.value in let v = r.second.value in
@@ -339,6 +358,7 @@ module _ (Good : Piece → Type 0) (goods : Productions.Goods Good) where
   module _ (n : ℕ) (r : Rank) (p q : Place) (tighter : tightness p ≤ tightness q) (up : Within (Chain r (rule_at n q)) (rule_at n p))
       (signs : (x : Symbol) (o : Operator) → operator_of r x ≡ Some o → (operator_of r (sign o) ≡ Some o) × (chain_place o ≡ p) × (operand_place o ≡ q))
       (fine : AllFine n q (rule_at n q)) (keep : Keeps G (rule_at n q)) where
+    -- a symbol alone is an operator
     symbol_made : (x : Token) (o : Operator) → of_symbol (operator_of r) x ≡ Some o
         → (operator_of r (sign o) ≡ Some o) × (chain_place o ≡ p) × (operand_place o ≡ q)
     symbol_made (t.Symbol x) o e = signs x o e
@@ -350,6 +370,7 @@ module _ (Good : Piece → Type 0) (goods : Productions.Goods Good) where
       operand_is : operand_place (out-Operand a).operator ≡ q
       back : Back Good bare_operand (Further r (rule_at n q)) (further (shown_operand a)) (bare_operand a)
 
+    -- the operator's sign means it, and the operand is shown at the place of its operands
     joined_at : (o : Operator) (e : Expr) → (operator_of r (sign o) ≡ Some o) × (chain_place o ≡ p) × (operand_place o ≡ q)
         → Fine n q (canon.shown e) (bare e) → Joined (operand o e)
     joined_at o e k f = record {
@@ -359,6 +380,7 @@ module _ (Good : Piece → Type 0) (goods : Productions.Goods Good) where
           (subst (λ z. Back Good bare (rule_at n q) (canon.at z (canon.shown e)) (bare e)) (sym k.2) (f.here q (omega arith)));
     }
 
+    -- the operator was made of a symbol, and the operand is derived behind it from good tokens
     joined : (ts us : List Spot) (a : Operand) → Further r (rule_at n q) ts a us → Each G ts → Joined a
     joined ts us a x g =
         let o = x.value.1 in
@@ -366,16 +388,19 @@ module _ (Good : Piece → Type 0) (goods : Productions.Goods Good) where
         let f = fine x.middle x.second.middle x.second.value x.second.first (keep_one G _ ts x.middle x.value x.first g) in
         subst Joined (sym x.second.second.is) (joined_at o x.second.value k f)
 
+    -- one after another: what each leaves are good tokens
     all_joined : (ts us : List Spot) (os : List Operand) → Many (Further r (rule_at n q)) ts os us → Each G ts → Each Joined os
     all_joined ts us os (none ts') g = tt
     all_joined ts us os (more ts' us' vs' a rest x xs) g =
         (joined ts us' a x g, all_joined us' us rest xs (keep_further G r _ keep ts us' a x g))
 
+    -- of each further operand, that it is read back
     backs : (os : List Operand) → Each Joined os
         → Each (λ a. Back Good bare_operand (Further r (rule_at n q)) (further (shown_operand a)) (bare_operand a)) os
     backs [] h = tt
     backs (a ∷ as_) h = (h.0.back, backs as_ h.1)
 
+    -- further operands are shown one after another, and each is read back
     many_operands : (os : List Operand) → Each Joined os
         → Back Good (map bare_operand) (Many (Further r (rule_at n q))) (flat_map further (map shown_operand os)) (map bare_operand os)
     many_operands os h =
@@ -383,6 +408,7 @@ module _ (Good : Piece → Type 0) (goods : Productions.Goods Good) where
         (sym (Productions.flat-map Good goods shown_operand further os))
         (many_back Good bare_operand (Further r (rule_at n q)) (λ a. further (shown_operand a)) os (backs os h))
 
+    -- an operand alone is fine at a looser place; with others it is a chain, whose first operator gives its rank
     chain_with : (f : Expr) (os : List Operand) → Fine n q (canon.shown f) (bare f) → Each Joined os
         → Fine n p (canon.shown (chained (f, os))) (bare (chained (f, os)))
     chain_with f [] b h = looser n q p (canon.shown f) (bare f) tighter b
@@ -399,6 +425,7 @@ module _ (Good : Piece → Type 0) (goods : Productions.Goods Good) where
         (Productions.chain_back Good goods r (rule_at n q) (canon.at q (canon.shown f)) (flat_map further (map shown_operand (o ∷ os))) f (o ∷ os)
         (b.here q (omega arith)) (many_operands (o ∷ os) h))))
 
+    -- the first operand is fine, and all further ones are joined to it
     pub chain_fine : AllFine n p (Chain r (rule_at n q))
     chain_fine ts us e x g =
         let l = x.first in
@@ -410,23 +437,27 @@ module _ (Good : Piece → Type 0) (goods : Productions.Goods Good) where
   abbrev Signs : Rank → Place → Place → Operator → Type 0
   Signs r p q o = (operator_of r (sign o) ≡ Some o) × (chain_place o ≡ p) × (operand_place o ≡ q)
 
+  -- the rank of disjunctions has `or` alone
   or_signs : (x : Symbol) (o : Operator) → operator_of rank.Disjunction x ≡ Some o
       → Signs rank.Disjunction place.Disjunction place.Conjunction o
   or_signs s.Or o e =
       let k : operator.Or ≡ o = cc in subst (λ z. Signs rank.Disjunction place.Disjunction place.Conjunction z) k (refl, refl, refl)
   or_signs _ o e = absurd (cc)
 
+  -- the rank of conjunctions has `and` alone
   and_signs : (x : Symbol) (o : Operator) → operator_of rank.Conjunction x ≡ Some o
       → Signs rank.Conjunction place.Conjunction place.Negation o
   and_signs s.And o e =
       let k : operator.And ≡ o = cc in subst (λ z. Signs rank.Conjunction place.Conjunction place.Negation z) k (refl, refl, refl)
   and_signs _ o e = absurd (cc)
 
+  -- the rank of sums has `+` and `-`, which have the same places
   sum_signs : (x : Symbol) (o : Operator) → operator_of rank.Sum x ≡ Some o → Signs rank.Sum place.Sum place.Product o
   sum_signs s.Plus o e = let k : operator.Plus ≡ o = cc in subst (λ z. Signs rank.Sum place.Sum place.Product z) k (refl, refl, refl)
   sum_signs s.Minus o e = let k : operator.Minus ≡ o = cc in subst (λ z. Signs rank.Sum place.Sum place.Product z) k (refl, refl, refl)
   sum_signs _ o e = absurd (cc)
 
+  -- the rank of products has `*` alone
   product_signs : (x : Symbol) (o : Operator) → operator_of rank.Product x ≡ Some o → Signs rank.Product place.Product place.Unary o
   product_signs s.Times o e =
       let k : operator.Times ≡ o = cc in subst (λ z. Signs rank.Product place.Product place.Unary z) k (refl, refl, refl)
@@ -435,6 +466,7 @@ module _ (Good : Piece → Type 0) (goods : Productions.Goods Good) where
   -- ---- comparisons
 
   module _ (n : ℕ) (fine : AllFine n place.Sum (rule_at n place.Sum)) (keep : Keeps G (rule_at n place.Sum)) where
+    -- a side alone is fine at a looser place; with another it is a comparison, whose sides are read back
     compare_with : (l : Expr) (m : Option (Relation × Expr)) → Fine n place.Sum (canon.shown l) (bare l)
         → ((x : Relation × Expr) → m ≡ Some x → Fine n place.Sum (canon.shown x.1) (bare x.1))
         → Fine n place.Comparison (canon.shown (compared l m)) (bare (compared l m))
@@ -446,6 +478,7 @@ module _ (Good : Piece → Type 0) (goods : Productions.Goods Good) where
         (own n place.Comparison place.Comparison ps _ (omega arith)
         (Productions.compare_back Good goods (rule_at n place.Sum) x.0 _ _ _ _ (b.here place.Sum (omega arith)) ((h x refl).here place.Sum (omega arith))))
 
+    -- the other side, if there is one, is derived behind the relation's token from good tokens
     side_fine : (ts us : List Spot) (m : Option (Relation × Expr)) → Optional (OtherSide (rule_at n place.Sum)) ts m us → Each G ts
         → (x : Relation × Expr) → m ≡ Some x → Fine n place.Sum (canon.shown x.1) (bare x.1)
     side_fine ts us m (inl r) g x e =
@@ -457,6 +490,7 @@ module _ (Good : Piece → Type 0) (goods : Productions.Goods Good) where
         moved n place.Sum x.1 y.second.value to f
     side_fine ts us m (inr r) g x e = absurd (let k : ◌≡◌ {A = Option (Relation × Expr)} (Some x) None = sym e ∙ r.is in cc)
 
+    -- the first side is fine, and so is the other one, if there is one
     compare_fine : AllFine n place.Comparison (Comparison (rule_at n place.Sum))
     compare_fine ts us e r g =
         let f = fine ts r.middle r.value r.first g in
@@ -466,21 +500,26 @@ module _ (Good : Piece → Type 0) (goods : Productions.Goods Good) where
   -- ---- from unary to comparison, and from negation to disjunction
 
   module _ (n : ℕ) (fine : AllFine n place.Unary (Unary n)) where
+    -- unary ones joined by `*`
     product_fine : AllFine n place.Product (rule_at n place.Product)
     product_fine = chain_fine n rank.Product place.Product place.Unary (omega arith) (λ ts us e r. r) product_signs fine (keep_unary G n)
 
+    -- products joined by `+` and `-`
     sum_fine : AllFine n place.Sum (rule_at n place.Sum)
     sum_fine =
         chain_fine n rank.Sum place.Sum place.Product (omega arith) (λ ts us e r. r) sum_signs product_fine (keep_chain G rank.Product _ (keep_unary G n))
 
+    -- sums, compared
     comparison_fine : AllFine n place.Comparison (ComparisonOf (Unary n))
     comparison_fine = compare_fine n sum_fine (keep_chain G rank.Sum _ (keep_chain G rank.Product _ (keep_unary G n)))
 
   module _ (n : ℕ) (fine : AllFine n place.Negation (Negation n)) where
+    -- negations joined by `and`
     conjunction_fine : AllFine n place.Conjunction (rule_at n place.Conjunction)
     conjunction_fine =
         chain_fine n rank.Conjunction place.Conjunction place.Negation (omega arith) (λ ts us e r. r) and_signs fine (keep_negation G n)
 
+    -- conjunctions joined by `or`
     disjunction_fine : AllFine n place.Disjunction (Expression n)
     disjunction_fine =
         chain_fine n rank.Disjunction place.Disjunction place.Conjunction (omega arith) (λ ts us e r. r) or_signs conjunction_fine
@@ -496,11 +535,13 @@ module _ (Good : Piece → Type 0) (goods : Productions.Goods Good) where
   loosened : (n : ℕ) → AllFine n place.Comparison (ComparisonOf (Unary n)) → AllFine n place.Negation (ComparisonOf (Unary n))
   loosened n fine ts us e r g = looser n place.Comparison place.Negation (canon.shown e) (bare e) (omega arith) (fine ts us e r g)
 
+  -- with a level more, either something opens it, or there is a leaf, which needs none
   unary_at : (n : ℕ) → AllFine (suc n) place.Unary (Opened (Unary n) (Expression n)) → AllFine (suc n) place.Unary (Unary (suc n))
   unfolding Unary
   unary_at n fine ts us e (inl r) g = fine ts us e r g
   unary_at n fine ts us e (inr r) g = leaf_fine (suc n) (λ xs ys x q. inr q) ts us e r g
 
+  -- what stands behind `not` has a level less and is shown where a `not` may stand; all else is a comparison
   negation_at : (n : ℕ) → AllFine n place.Negation (Negation n) → AllFine (suc n) place.Negation (ComparisonOf (Unary (suc n)))
       → AllFine (suc n) place.Negation (Negation (suc n))
   unfolding Unary
@@ -514,14 +555,17 @@ module _ (Good : Piece → Type 0) (goods : Productions.Goods Good) where
       (Productions.not_back Good goods (Negation n) _ _ (f.here place.Negation (omega arith))))))
   negation_at n fine others ts us e (inr r) g = others ts us e r g
 
+  -- without levels there are only leaves
   unary_zero : AllFine zero place.Unary (Unary zero)
   unfolding Unary
   unary_zero ts us e r g = leaf_fine zero (λ xs ys x q. q) ts us e r g
 
+  -- without levels there is no `not`, so each is a comparison of leaves
   negation_zero : AllFine zero place.Negation (Negation zero)
   unfolding Unary
   negation_zero ts us e r g = loosened zero (comparison_fine zero unary_zero) ts us e r g
 
+  -- level by level: a unary has in it what is fine with a level less, and comparisons are built up from the unary ones
   levels : (n : ℕ) → Levels n
   levels zero = record { unary = unary_zero; negation = negation_zero }
   levels (suc n) =

@@ -20,6 +20,7 @@ use Rattle.txn_print.proofs.Back.{Each, tokens_of}
 abbrev pub gaps : Bytes
 gaps = 32 ∷ 40 ∷ 41 ∷ 44 ∷ 46 ∷ 59 ∷ 93 ∷ []
 
+-- whether a byte is one of these
 abbrev pub is_gap : ℕ → Bool
 is_gap b = list_any (λ x. b == x) gaps
 
@@ -28,10 +29,12 @@ abbrev pub gap_begins : Bytes → Bool
 gap_begins [] = true
 gap_begins (b ∷ z) = is_gap b
 
+-- a byte is the first of a list, of which it holds, or it is one of the others
 by_first : (P : ℕ → Type 0) (b x : ℕ) (others : Bool) (t : Bool) → (b == x) ≡ t → P x → (others ≡ true → P b) → t || others ≡ true → P b
 by_first P b x others true k h rest e = subst P (sym (eqb-true b x k)) h
 by_first P b x others false k h rest e = rest e
 
+-- a byte that is one of a list is the first or one behind it, element by element
 by_each : (P : ℕ → Type 0) (b : ℕ) (xs : Bytes) → Each P xs → list_any (λ x. b == x) xs ≡ true → P b
 by_each P b [] h e = absurd (cc)
 by_each P b (x ∷ xs) h e = by_first P b x (list_any (λ y. b == y) xs) (b == x) refl h.0 (λ k. by_each P b xs h.1 k) e
@@ -56,10 +59,12 @@ pub record Good (piece : Piece) : Type 0 where
 
 -- ---- the text, from its front
 
+-- the bytes of pieces from left to right, by whether what stands before them lets a space follow
 spelled : Bool → List Piece → Bytes
 spelled s [] = []
 spelled s (p ∷ ps) = space_if (s && p.before) ++ (printed p.token ++ spelled p.after ps)
 
+-- writing appends to the text, so it puts the bytes of each piece behind those before it
 written-text : (l : Line) (ps : List Piece) → (written l ps).text ≡ l.text ++ spelled l.space ps
 unfolding spelled
 written-text l [] = sym (append-nil l.text)
@@ -74,6 +79,7 @@ gap_front : (p : Piece) (z : Bytes) (t : Bool) → p.before ≡ t → Good p →
 gap_front p z true e g = refl
 gap_front p z false e g = ap (λ xs. gap_begins (xs ++ z)) g.whole ∙ g.touches e
 
+-- nothing follows, or a good piece does: behind a space, or one that needs none
 gap_spelled : (ps : List Piece) → Each Good ps → gap_begins (spelled true ps) ≡ true
 unfolding spelled
 gap_spelled [] h = refl
@@ -92,6 +98,7 @@ module _ (z : Bytes) (ts : List Token) (others : (c : ℕ) → tokens (lex_from 
   step c b y blank found =
       cond blank (lex_from (c + 1) 0 y) (spot c found.token ∷ cond (is_malformed found.token) [] (lex_from (c + 1) (found.len - 1) y))
 
+  -- its first byte is no blank, so it is cut off there as itself; then its other bytes are passed over
   one_token : (p : Piece) → Good p → (p.after ≡ true → gap_begins z ≡ true) → (c : ℕ)
       → tokens (lex_from c 0 (printed p.token ++ z)) ≡ p.token ∷ ts
   one_token p g follows c =
@@ -111,6 +118,7 @@ spaced_token : (p : Piece) (z : Bytes) (ts : List Token) (t : Bool) → ((c : �
 spaced_token p z ts true h c = h (c + 1)
 spaced_token p z ts false h c = h c
 
+-- token by token, from the front; what stands behind a token that lets a space follow begins with a gap
 all_tokens : (s : Bool) (ps : List Piece) → Each Good ps → (c : ℕ) → tokens (lex_from c 0 (spelled s ps)) ≡ tokens_of ps
 unfolding spelled
 all_tokens s [] h c = refl

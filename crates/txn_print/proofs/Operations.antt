@@ -18,10 +18,12 @@ use Rattle.txn_print.proofs.Back.{Each}
 abbrev Row : Type 0 → Type 0
 Row W = Kind × Bytes × W × ℕ
 
+-- where two things hold, the first does
 both_true : (a b : Bool) → a && b ≡ true → a ≡ true
 both_true true b e = refl
 both_true false b e = absurd (cc)
 
+-- the test on kinds says true of no two different ones
 same_is : (a b : Kind) → same_kind a b ≡ true → a ≡ b
 unfolding same_kind
 same_is a b e = same_true the_type tt a b e
@@ -29,6 +31,7 @@ same_is a b e = same_true the_type tt a b e
 -- What a table gives for a kind and some spelling it gives for the kind and the spelling that is printed, if it does so
 -- in each row.
 module _ {W : Type 0} (name : W → Bytes) (all : List (Row W)) where
+  -- the table gives a row's word and arguments for its kind and the spelling that is printed of its word
   abbrev Again : Row W → Type 0
   Again row = operation_in all row.0 (name row.2) ≡ Some (operation row.2 row.3)
 
@@ -45,6 +48,7 @@ module _ {W : Type 0} (name : W → Bytes) (all : List (Row W)) where
       (subst (λ (x : Kind). operation_in all x (name row.2) ≡ Some (operation row.2 row.3)) kind h)
   again_by row rows k n op h others false t f = others f
 
+  -- row by row, up to the one that gave it
   again_in : (rows : List (Row W)) (k : Kind) (n : Bytes) (op : Operation W) → Each Again rows → operation_in rows k n ≡ Some op
       → operation_in all k (name op.word) ≡ Some op
   again_in [] k n op h e = absurd (cc)

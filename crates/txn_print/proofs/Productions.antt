@@ -43,18 +43,23 @@ use Rattle.txn_print.proofs.Back.{Back, Each, within, pure_back, one_back, then_
 
 -- ---- what is seen of parts
 
+-- of a word nothing is seen, since it has nothing but a column
 abbrev pub no_column : ℕ → Unit {0}
 no_column c = tt
 
+-- of what was taken with its column the value is seen
 abbrev pub value_of : {A : Type 0} → ℕ × A → A
 value_of a = a.1
 
+-- of a target its kind is seen, and its key without columns
 abbrev pub bare_target : Target → Kind × Expr
 bare_target t = (t.kind, bare t.key)
 
+-- of a list of operands each is seen without columns
 abbrev pub bare_list : Expr × List Operand → Expr × List Operand
 bare_list l = (bare l.0, map bare_operand l.1)
 
+-- of another side its relation is seen, and the side without columns
 abbrev pub bare_side : Relation × Expr → Relation × Expr
 bare_side l = (l.0, bare l.1)
 
@@ -74,6 +79,7 @@ pub record Goods (Good : Piece → Type 0) : Type 0 where
   pub reads : (w : ReadWord) → Good (spaced (t.Name (read_name w)))
   pub writes : (w : WriteWord) → Good (spaced (t.Name (write_name w)))
 
+-- the test on symbols says true of each one and itself
 same_self : (symbol : Symbol) → same_symbol symbol symbol ≡ true
 unfolding same_symbol
 same_self symbol = true_same the_type symbol symbol refl
@@ -103,19 +109,24 @@ module _ (Good : Piece → Type 0) where
   leaf_back f g piece a w k e h =
       mapped_back Good value_of bare (One (at f)) g (piece ∷ []) a w (at_back f piece a k e) (λ x i. ap (λ y. bare (g (x.0, y))) i ∙ h x.0)
 
+  -- the one token of a number is a leaf
   pub number_back : (v : ℤ) → Good (spaced (t.Number v)) → Back Good bare NumberLeaf (spaced (t.Number v) ∷ []) (expr 0 (made.Number v))
   number_back v g = leaf_back number number_expr (spaced (t.Number v)) v _ g refl (λ c. bared_number c v)
 
+  -- the one token of a text is a leaf
   pub text_back : (b : Bytes) → Good (spaced (t.Text b)) → Back Good bare TextLeaf (spaced (t.Text b) ∷ []) (expr 0 (made.Text b))
   text_back b g = leaf_back text text_expr (spaced (t.Text b)) b _ g refl (λ c. bared_text c b)
 
+  -- the one token of a name is a leaf
   pub name_back : (w : Bytes) → Good (spaced (t.Name w)) → Back Good bare NameLeaf (spaced (t.Name w) ∷ []) (expr 0 (made.Name w))
   name_back w g = leaf_back name name_expr (spaced (t.Name w)) w _ g refl (λ c. bared_name c w)
 
+  -- each of the two words means the truth value that it is printed for
   truth-truth : (b : Bool) → truth_of (truth b) ≡ Some b
   truth-truth true = refl
   truth-truth false = refl
 
+  -- the word of a truth value is a leaf, since it means that value
   pub truth_back : (b : Bool) → Good (word (truth b)) → Back Good bare TruthLeaf (word (truth b) ∷ []) (expr 0 (made.Bool b))
   truth_back b g = leaf_back (of_symbol truth_of) truth_expr (word (truth b)) b _ g (truth-truth b) (λ c. bared_bool c b)
 
@@ -133,15 +144,18 @@ module _ (Good : Piece → Type 0) where
         (λ a j. mapped_back Good no_column seen (Word s.CloseParen) (λ d. (c, a)) (closing s.CloseParen ∷ []) tt w
         (word_back s.CloseParen (closing s.CloseParen) goods.close_paren refl) (λ d k. j)))
 
+    -- the opening parenthesis is joined to what stands before it
     pub given_back : {A B : Type 0} (e : A → B) (P : Rule Spot A) (ps : List Piece) (w : B) → Back Good e P ps w
         → Back Good (λ (a : ℕ × A). e a.1) (InParens P) (given ps) w
     given_back e P ps w b = parens_back e P (joining s.OpenParen) ps w goods.call refl b
 
+    -- the opening parenthesis stands behind a space, and a group shows no trace of it
     pub group_back : (E : Rule Spot Expr) (ps : List Piece) (w : Expr) → Back Good bare E ps w → Back Good bare (Group E) (grouped ps) w
     group_back E ps w b =
         mapped_back Good (λ (a : ℕ × Expr). bare a.1) bare (InParens E) (λ a. trees.grouped a.0 a.1) (grouped ps) w w
         (parens_back bare E (opening s.OpenParen) ps w goods.open_paren refl b) (λ a h. bared_group a.0 a.1 ∙ h)
 
+    -- the mark and then the value; the column isn't seen
     pub negative_back : (U : Rule Spot Expr) (ps : List Piece) (w : Expr) → Back Good bare U ps w
         → Back Good bare (Negative U) (opening s.Minus ∷ ps) (expr 0 (made.Negative w))
     negative_back U ps w b =
@@ -149,6 +163,7 @@ module _ (Good : Piece → Type 0) where
         (word_back s.Minus (opening s.Minus) goods.minus refl)
         (λ c i. mapped_back Good bare bare U (λ v. expr c (made.Negative v)) ps w _ b (λ v h. bared_negative c v ∙ ap (λ x. expr 0 (made.Negative x)) h))
 
+    -- the word and then the value
     pub not_back : (N : Rule Spot Expr) (ps : List Piece) (w : Expr) → Back Good bare N ps w
         → Back Good bare (Not N) (word s.Not ∷ ps) (expr 0 (made.Not w))
     not_back N ps w b =
@@ -156,6 +171,7 @@ module _ (Good : Piece → Type 0) where
         (word_back s.Not (word s.Not) (goods.words s.Not) refl)
         (λ c i. mapped_back Good bare bare N (λ v. expr c (made.Not v)) ps w _ b (λ v h. bared_not c v ∙ ap (λ x. expr 0 (made.Not x)) h))
 
+    -- the word and then the argument in parentheses
     pub len_back : (E : Rule Spot Expr) (ps : List Piece) (w : Expr) → Back Good bare E ps w
         → Back Good bare (Len E) (word s.Len ∷ given ps) (expr 0 (made.Len w))
     len_back E ps w b =
@@ -164,6 +180,7 @@ module _ (Good : Piece → Type 0) where
         (λ c i. mapped_back Good (λ (a : ℕ × Expr). bare a.1) bare (InParens E) (λ a. expr c (made.Len a.1)) (given ps) w _
         (given_back bare E ps w b) (λ a h. bared_len c a.1 ∙ ap (λ x. expr 0 (made.Len x)) h))
 
+    -- the word and then the argument in parentheses
     pub str_back : (E : Rule Spot Expr) (ps : List Piece) (w : Expr) → Back Good bare E ps w
         → Back Good bare (Str E) (word s.Str ∷ given ps) (expr 0 (made.Str w))
     str_back E ps w b =
@@ -174,6 +191,7 @@ module _ (Good : Piece → Type 0) where
 
     -- ---- comparisons
 
+    -- each relation's symbol means that relation
     relation-comparison : (r : Relation) → relation_of (comparison r) ≡ Some r
     relation-comparison relation.Equal = refl
     relation-comparison relation.Unequal = refl
@@ -182,6 +200,7 @@ module _ (Good : Piece → Type 0) where
     relation-comparison relation.Greater = refl
     relation-comparison relation.AtLeast = refl
 
+    -- the first side, the symbol and the other side, one after another
     pub compare_back : (S : Rule Spot Expr) (r : Relation) (ls rs : List Piece) (l w : Expr) → Back Good bare S ls l → Back Good bare S rs w
         → Back Good bare (Comparison S) (ls ++ word (comparison r) ∷ rs) (expr 0 (made.Compare l r w))
     compare_back S r ls rs l w b k =
@@ -207,6 +226,7 @@ module _ (Good : Piece → Type 0) where
 
     -- ---- chains
 
+    -- both have no further operands and are their first, or both have some and are chains with the same parts
     pub chained_alike : (f g : Expr) (os ps : List Operand) → bare f ≡ bare g → map bare_operand os ≡ map bare_operand ps
         → bare (chained (f, os)) ≡ bare (chained (g, ps))
     chained_alike f g [] [] h i = h
@@ -218,6 +238,7 @@ module _ (Good : Piece → Type 0) where
         ∙ ap (λ xs. expr 0 (made.Chain (bare g) xs)) i
         ∙ sym (bared_chain _ g (p ∷ ps))
 
+    -- the operator's sign, which means it, and then the operand
     pub further_back : (r : Rank) (P : Rule Spot Expr) (o : Operator) (e : Expr) (ps : List Piece) → operator_of r (sign o) ≡ Some o
         → Back Good bare P ps (bare e)
         → Back Good bare_operand (Further r P) (word (sign o) ∷ ps) (bare_operand (operand o e))
@@ -226,6 +247,7 @@ module _ (Good : Piece → Type 0) where
         (at_back (of_symbol (operator_of r)) (word (sign o)) o (goods.words (sign o)) k)
         (λ x i. mapped_back Good bare bare_operand P (λ v. operand x.1 v) ps (bare e) _ b (λ v j. ap (λ y. operand y (bare v)) i ∙ ap (λ y. operand o y) j))
 
+    -- the first operand and then the further ones; chains go by their parts
     pub chain_back : (r : Rank) (P : Rule Spot Expr) (fs rs : List Piece) (f : Expr) (os : List Operand)
         → Back Good bare P fs (bare f) → Back Good (map bare_operand) (Many (Further r P)) rs (map bare_operand os)
         → Back Good bare (Chain r P) (fs ++ rs) (bare (chained (f, os)))
@@ -238,12 +260,14 @@ module _ (Good : Piece → Type 0) where
 
     -- ---- lists of expressions
 
+    -- the comma and then the expression
     pub comma_back : (E : Rule Spot Expr) (ps : List Piece) (w : Expr) → Back Good bare E ps w
         → Back Good bare (AfterComma E) (after_comma ps) w
     comma_back E ps w b =
         then_back Good no_column bare (Word s.Comma) (λ c. E) (closing s.Comma ∷ []) ps tt w
         (word_back s.Comma (closing s.Comma) goods.comma refl) (λ c i. b)
 
+    -- one after another, each behind its comma
     pub times_back : (E : Rule Spot Expr) (es : List Expr) → Each (λ e. Back Good bare E (expression e) (bare e)) es
         → Back Good (map bare) (Times (AfterComma E) (length es)) (flat_map after_comma (map expression es)) (map bare es)
     times_back E [] h = pure_back Good (map bare) [] [] refl
@@ -266,11 +290,13 @@ module _ (Good : Piece → Type 0) where
         (flat_map after_comma (map expression es)) (map bare es) _
         (times_back E es h.1) (λ rest j. ap (λ x. x ∷ map bare rest) i ∙ ap (λ xs. bare e ∷ xs) j))
 
+    -- each is read back behind a comma
     commas_back : (E : Rule Spot Expr) (es : List Expr) → Each (λ e. Back Good bare E (expression e) (bare e)) es
         → Each (λ e. Back Good bare (AfterComma E) (after_comma (expression e)) (bare e)) es
     commas_back E [] h = tt
     commas_back E (e ∷ es) h = (comma_back E (expression e) (bare e) h.0, commas_back E es h.1)
 
+    -- element by element: it doesn't matter whether f goes before or along
     pub flat-map : {A B C : Type 0} (f : A → B) (g : B → List C) (xs : List A) → flat_map g (map f xs) ≡ flat_map (λ x. g (f x)) xs
     flat-map f g [] = refl
     flat-map f g (x ∷ xs) = ap (λ ys. g (f x) ++ ys) (flat-map f g xs)
@@ -297,6 +323,7 @@ module _ (Good : Piece → Type 0) where
     inside_back E (e ∷ es) h =
         within Good (map bare) (Elements E) (Or (Elements E) (Pure [])) _ _ (λ ts us a x. inl x) (elements_back E e es h)
 
+    -- the brackets, and elements between them, or none
     pub texts_back : (E : Rule Spot Expr) (es : List Expr) → Each (λ e. Back Good bare E (expression e) (bare e)) es
         → Back Good bare (Texts E) (opening s.OpenBracket ∷ (separated (map expression es) ++ closing s.CloseBracket ∷ [])) (expr 0 (made.Texts (map bare es)))
     texts_back E es h =
@@ -311,6 +338,7 @@ module _ (Good : Piece → Type 0) where
 
     -- ---- operations
 
+    -- each kind's word means that kind
     kind-symbol : (k : Kind) → kind_of (kind_symbol k) ≡ Some k
     kind-symbol kind.Bool = refl
     kind-symbol kind.Counter = refl
@@ -319,6 +347,7 @@ module _ (Good : Piece → Type 0) where
     kind-symbol kind.Hash = refl
     kind-symbol kind.List = refl
 
+    -- the kind's word, the key in parentheses, and the dot, one after another
     pub targeted_back : (E : Rule Spot Expr) (k : Kind) (ps : List Piece) (w : Expr) → Back Good bare E ps w
         → Back Good bare_target (Targeted E) (target k ps) (k, w)
     targeted_back E k ps w b =
@@ -351,6 +380,7 @@ module _ (Good : Piece → Type 0) where
         (subst (λ m. Back Good (map bare) (Arguments E m) (separated (map expression es)) (map bare es)) (sym count) (arguments_back E es each)))
         (λ a j. same a.1 j)))
 
+    -- the target, and then the word with its arguments
     pub read_back : (E : Rule Spot Expr) (k : Kind) (op : Operation ReadWord) (ps : List Piece) (w : Expr) (es : List Expr)
         → Back Good bare E ps w → read_named k (read_name op.word) ≡ Some op → op.arguments ≡ length es
         → Each (λ e. Back Good bare E (expression e) (bare e)) es

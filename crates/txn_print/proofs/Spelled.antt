@@ -45,25 +45,31 @@ use Rattle.txn_print.proofs.Productions.{Goods}
 
 -- ---- what follows a word or a number isn't part of it
 
+-- of the seven bytes that are gaps none may stand in a word
 gap_no_word : (b : ℕ) → is_gap b ≡ true → is_word b ≡ false
 gap_no_word = by_gap (λ b. is_word b ≡ false) refl refl refl refl refl refl refl
 
+-- of the seven bytes that are gaps none is a digit
 gap_no_digit : (b : ℕ) → is_gap b ≡ true → is_digit b ≡ false
 gap_no_digit = by_gap (λ b. is_digit b ≡ false) refl refl refl refl refl refl refl
 
+-- at the end, or at a gap, no byte of a word is ahead
 word_ends : (z : Bytes) → gap_begins z ≡ true → ahead is_word (next z) ≡ false
 word_ends [] e = refl
 word_ends (b ∷ z) e = gap_no_word b e
 
+-- at the end, or at a gap, no digit is ahead
 digits_end : (z : Bytes) → gap_begins z ≡ true → ahead is_digit (next z) ≡ false
 digits_end [] e = refl
 digits_end (b ∷ z) e = gap_no_digit b e
 
 -- ---- words
 
+-- blanks have lower codes than all letters
 letter_no_blank : (b : ℕ) → is_letter b ≡ true → is_blank b ≡ false
 letter_no_blank b e = grind (arith, nat_tests, both (nat_le 97 b) (nat_le b 122) e)
 
+-- the test of a whole list is the test of each of its bytes
 all_pass : (p : ℕ → Bool) (xs : Bytes) → list_all p xs ≡ true → AllPass p xs
 all_pass p [] e = All-nil (λ x. p x ≡ true)
 all_pass p (x ∷ xs) e = let k = both (p x) (list_all p xs) e in All-cons (λ y. p y ≡ true) x xs k.0 (all_pass p xs k.1)
@@ -186,6 +192,7 @@ read_word read.Fields =
 read_word read.At =
     written_word (t.Name (read_name read.At)) (slice_index (read_name read.At) 0) (drop 1 (read_name read.At)) refl refl refl refl refl
 
+-- the words of writes are letters too, and none is reserved
 write_word : (w : WriteWord) → Good (spaced (t.Name (write_name w)))
 unfolding word_token reserved_word
 write_word write.Put =
@@ -199,6 +206,7 @@ write_word write.Clear =
 write_word write.Push =
     written_word (t.Name (write_name write.Push)) (slice_index (write_name write.Push) 0) (drop 1 (write_name write.Push)) refl refl refl refl refl
 
+-- the marks that stand without a space before or behind them begin no longer mark, whatever byte follows
 pub goods : Goods Good
 unfolding spelling same_symbol mark token_at
 goods = record {
@@ -254,6 +262,7 @@ worth (d ∷ ds) value h =
     let same : with_digit value d ≡ value * 10 + digit_value d = let k = digit_worth d is in omega arith in
     ap (λ v. fold with_digit v ds) same ∙ worth ds (value * 10 + digit_value d) h.1
 
+-- what is a digit in base ten is a digit of a number's token
 digits_pass : (ds : Bytes) → AllDigits 10 ds → AllPass is_digit ds
 digits_pass [] h = All-nil (λ x. is_digit x ≡ true)
 digits_pass (d ∷ ds) h = All-cons (λ x. is_digit x ≡ true) d ds (digit_of d h.0) (digits_pass ds h.1)
@@ -272,6 +281,7 @@ digits_cut b ds z all h =
     ∙ ap (λ n. lexeme (number_token (number_value (take n y))) n) len
     ∙ ap (λ xs. lexeme (number_token (number_value xs)) (suc (length ds))) (take-append_seam (b ∷ ds) z)
 
+-- a number's digits aren't blank, begin no word, and are cut off where no digit follows
 digits_good : (k b : ℕ) (ds : Bytes) → decimal k ≡ b ∷ ds → AllPass is_digit (b ∷ ds) → number_value (b ∷ ds) ≡ Some (pos k)
     → Good (spaced (t.Number (pos k)))
 digits_good k b ds e all is = record {
@@ -284,10 +294,12 @@ digits_good k b ds e all is = record {
   cut = λ z h. digits_cut b ds z all (h refl) ∙ ap (λ o. lexeme (number_token o) (suc (length ds))) is;
 }
 
+-- a first digit above `0` is no needless zero
 no_needless_zero : (t : Bool) (b : ℕ) → 48 < b → t && b == 48 ≡ false
 no_needless_zero true b h = grind (arith, nat_tests)
 no_needless_zero false b h = refl
 
+-- what is no more passes the test
 within : (k m : ℕ) → k ≤ m → nat_le k m ≡ true
 within k m h = grind (arith, nat_tests)
 
@@ -305,6 +317,7 @@ positive_good k some small =
     ∙ ap (λ v. cond (nat_le v LARGEST) (Some (pos v)) None) value
     ∙ ap (λ t. cond t (Some (pos k)) None) (within k LARGEST small))
 
+-- 0 is printed as one digit, and all others begin with one above `0`
 number_good : (k : ℕ) → k ≤ LARGEST → Good (spaced (t.Number (pos k)))
 unfolding number_value small_value
 number_good zero h = digits_good 0 48 [] decimal_zero (all_pass is_digit (48 ∷ []) refl) refl
@@ -322,15 +335,18 @@ reserved_good w b rest e l all false i (Some symbol) r h = word_symbol symbol
 reserved_good w b rest e l all false i None r h =
     name_good w b rest e l all (ap (λ long. cond long t.Malformed (reserved_or_name w (reserved_word w))) i ∙ ap (λ o. reserved_or_name w o) r)
 
+-- by whether the word is too long, which is malformed, and whether it is reserved
 word_token_good : (w : Bytes) (b : ℕ) (rest : Bytes) → w ≡ b ∷ rest → is_letter b ≡ true → AllPass is_word w
     → is_malformed (word_token w) ≡ false → Good (spaced (word_token w))
 unfolding word_token
 word_token_good w b rest e l all h = reserved_good w b rest e l all (nat_lt LONGEST_NAME (length w)) refl (reserved_word w) refl h
 
+-- where at least one byte is taken, the first one is
 take_some : (n b : ℕ) (z : Bytes) → 1 ≤ n → take n (b ∷ z) ≡ b ∷ take (n - 1) z
 take_some zero b z h = absurd (omega arith)
 take_some (suc n) b z h = ap (λ m. b ∷ take m z) (omega arith)
 
+-- what is taken are all bytes of a word ahead, the first of them a letter
 word_at_good : (b : ℕ) (z : Bytes) → is_letter b ≡ true → is_malformed (word_at (b ∷ z)).token ≡ false
     → Good (spaced (word_at (b ∷ z)).token)
 unfolding word_at
@@ -348,6 +364,7 @@ small_good k v false true e h =
     let is : pos k ≡ v = cc in
     subst (λ x. Good (spaced (t.Number x))) is (number_good k (grind (arith, nat_tests, e)))
 
+-- digits that are worth a number are worth one that isn't too large, and each such is good
 number_token_good : (ds : Bytes) (o : Option ℤ) → number_value ds ≡ o → is_malformed (number_token o) ≡ false
     → Good (spaced (number_token o))
 unfolding number_value small_value
@@ -378,6 +395,7 @@ by_front b z false true quote l h =
 by_front b z false false true l h = quoted_good (b ∷ z) (text (b ∷ z)) h
 by_front b z false false false l h = mark_good (cond (nat_lt (length (b ∷ z)) 2) None (mark (take 2 (b ∷ z)))) (mark (take 1 (b ∷ z))) h
 
+-- each token is cut by the kind of its first byte: a letter, a digit, a quote, or else
 token_good : (b : ℕ) (z : Bytes) → is_malformed (token_at (b ∷ z)).token ≡ false → Good (spaced (token_at (b ∷ z)).token)
 unfolding token_at
 token_good b z h = by_front b z (is_letter b) (is_digit b) (b == 34) refl h
@@ -386,6 +404,7 @@ token_good b z h = by_front b z (is_letter b) (is_digit b) (b == 34) refl h
 abbrev pub Source : Spot → Type 0
 Source spot = is_malformed spot.token ≡ false → Good (spaced spot.token)
 
+-- a blank is passed over; else there is one token, and others behind it unless it is malformed
 lex_step : (column b : ℕ) (z : Bytes) (blank bad : Bool) → ((left c : ℕ) → Each Source (lex_from c left z))
     → Each Source (cond blank (lex_from (column + 1) 0 z)
     (spot column (token_at (b ∷ z)).token ∷ cond bad [] (lex_from (column + 1) ((token_at (b ∷ z)).len - 1) z)))
@@ -393,6 +412,7 @@ lex_step column b z true bad h = h 0 (column + 1)
 lex_step column b z false true h = (token_good b z, tt)
 lex_step column b z false false h = (token_good b z, h ((token_at (b ∷ z)).len - 1) (column + 1))
 
+-- byte by byte: the bytes that are left of a token before are passed over
 lex_from_good : (z : Bytes) (left column : ℕ) → Each Source (lex_from column left z)
 lex_from_good [] left column = tt
 lex_from_good (b ∷ z) (suc left) column = lex_from_good z left (column + 1)

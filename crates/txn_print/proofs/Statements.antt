@@ -35,6 +35,7 @@ use Rattle.txn_print.proofs.Productions.{Goods, no_column, value_of, bare_target
 use Rattle.txn_print.proofs.Expressions.{G as source, expression_fine, inside_parens, good_name, made_at, shows, arguments_shown, aimed}
 
 module _ (Good : Piece → Type 0) (goods : Goods Good) where
+  -- a token of the source is good as it would stand between spaces, unless it is malformed
   abbrev G : Spot → Type 0
   G = source Good goods
 
@@ -49,6 +50,7 @@ module _ (Good : Piece → Type 0) (goods : Goods Good) where
       (λ e i. mapped_back Good no_column bare_stmt (Word s.Semicolon) (λ d. f e) (closing s.Semicolon ∷ []) tt v
       (word_back Good s.Semicolon (closing s.Semicolon) goods.semicolon refl) (λ d j. h e i))
 
+  -- its word, a name, the sign, and an expression up to the semicolon, one after another
   let_back : (E : Rule Spot Expr) (n : Bytes) (ps : List Piece) (w : Expr) → Good (spaced (t.Name n)) → Back Good bare E ps w
       → Back Good bare_stmt (LetStmt E) (word s.Let ∷ spaced (t.Name n) ∷ word s.Assign ∷ ended ps) (stmt_at 0 (stmt.Let n w))
   let_back E n ps w g b =
@@ -63,6 +65,7 @@ module _ (Good : Piece → Type 0) (goods : Goods Good) where
       (λ a k. ended_back E (λ e. stmt_at c (stmt.Let x.1 e)) ps w _ b
       (λ e h. bared_let c x.1 e ∙ ap (λ y. stmt_at 0 (stmt.Let y (bare e))) j ∙ ap (λ y. stmt_at 0 (stmt.Let n y)) h))))
 
+  -- its word, and an expression up to the semicolon
   emit_back : (E : Rule Spot Expr) (ps : List Piece) (w : Expr) → Back Good bare E ps w
       → Back Good bare_stmt (EmitStmt E) (word s.Emit ∷ ended ps) (stmt_at 0 (stmt.Emit w))
   emit_back E ps w b =
@@ -71,6 +74,7 @@ module _ (Good : Piece → Type 0) (goods : Goods Good) where
       (word_back Good s.Emit (word s.Emit) (goods.words s.Emit) refl)
       (λ c i. ended_back E (λ e. stmt_at c (stmt.Emit e)) ps w _ b (λ e h. bared_emit c e ∙ ap (λ y. stmt_at 0 (stmt.Emit y)) h))
 
+  -- its word, and an expression up to the semicolon
   fail_back : (E : Rule Spot Expr) (ps : List Piece) (w : Expr) → Back Good bare E ps w
       → Back Good bare_stmt (FailStmt E) (word s.Fail ∷ ended ps) (stmt_at 0 (stmt.Fail w))
   fail_back E ps w b =
@@ -83,6 +87,7 @@ module _ (Good : Piece → Type 0) (goods : Goods Good) where
   abbrev Reads : Rule Spot Stmt → List Stmt → Type 0
   Reads S = Each (λ x. Back Good bare_stmt S (shown_stmt x) (bare_stmt x))
 
+  -- between braces, each statement is read back where the one before it ends
   block_back : (S : Rule Spot Stmt) (ss : List Stmt) → Reads S ss
       → Back Good (map bare_stmt) (Block S) (block (map shown_stmt ss)) (map bare_stmt ss)
   block_back S ss h =
@@ -102,6 +107,7 @@ module _ (Good : Piece → Type 0) (goods : Goods Good) where
   ReadsOther S None = Unit {0}
   ReadsOther S (Some ss) = Reads S ss
 
+  -- nothing is read back as no `else`; else its word and then its block are
   otherwise_back : (S : Rule Spot Stmt) (other : Option (List Stmt)) → ReadsOther S other
       → Back Good (option_map (map bare_stmt)) (Optional (Otherwise S)) (otherwise (option_map (map shown_stmt) other)) (option_map (map bare_stmt) other)
   otherwise_back S None h =
@@ -114,6 +120,7 @@ module _ (Good : Piece → Type 0) (goods : Goods Good) where
       (word_back Good s.Else (word s.Else) (goods.words s.Else) refl) (λ c i. block_back S ss h))
       (λ x i. ap (λ y. Some y) i))
 
+  -- its word, the condition, its block, and what follows of an `else`, one after another
   if_back : (E : Rule Spot Expr) (S : Rule Spot Stmt) (ps : List Piece) (w : Expr) (ss : List Stmt) (other : Option (List Stmt))
       → Back Good bare E ps w → Reads S ss → ReadsOther S other
       → Back Good bare_stmt (IfStmt E S) (word s.If ∷ (ps ++ (block (map shown_stmt ss) ++ otherwise (option_map (map shown_stmt) other))))
@@ -134,6 +141,7 @@ module _ (Good : Piece → Type 0) (goods : Goods Good) where
       ∙ ap (λ y. stmt_at 0 (stmt.If w y (option_map (map bare_stmt) m))) l
       ∙ ap (λ y. stmt_at 0 (stmt.If w (map bare_stmt ss) y)) q))))
 
+  -- its word, a name, `in`, the texts and the block, one after another
   for_back : (E : Rule Spot Expr) (S : Rule Spot Stmt) (n : Bytes) (ps : List Piece) (w : Expr) (ss : List Stmt) → Good (spaced (t.Name n))
       → Back Good bare E ps w → Reads S ss
       → Back Good bare_stmt (ForStmt E S) (word s.For ∷ spaced (t.Name n) ∷ word s.In ∷ (ps ++ block (map shown_stmt ss)))
@@ -154,6 +162,7 @@ module _ (Good : Piece → Type 0) (goods : Goods Good) where
       ∙ ap (λ y. stmt_at 0 (stmt.For n y (map bare_stmt xs))) l
       ∙ ap (λ y. stmt_at 0 (stmt.For n w y)) q)))))
 
+  -- the target, the word with as many arguments as it takes, and the semicolon, one after another
   write_back : (E : Rule Spot Expr) (k : Kind) (op : Operation WriteWord) (ps : List Piece) (w : Expr) (es : List Expr)
       → Back Good bare E ps w → write_named k (write_name op.word) ≡ Some op → op.arguments ≡ length es
       → Each (λ e. Back Good bare E (expression e) (bare e)) es
@@ -175,6 +184,7 @@ module _ (Good : Piece → Type 0) (goods : Goods Good) where
 
   -- ---- what the grammar derives
 
+  -- what R derives from good tokens is shown so that S reads it back
   pub ReadBack : Rule Spot Stmt → Rule Spot Stmt → Type 0
   ReadBack R S = (ts us : List Spot) (x : Stmt) → R ts x us → Each G ts → Back Good bare_stmt S (shown_stmt x) (bare_stmt x)
 
@@ -185,6 +195,7 @@ module _ (Good : Piece → Type 0) (goods : Goods Good) where
       subst (λ y. Back Good bare_stmt R (shown_stmt y) (bare_stmt y)) (sym h)
       (subst (λ qs. Back Good bare_stmt R qs (bare_stmt x')) (sym k) (subst (λ u. Back Good bare_stmt R ps u) (sym l) b))
 
+  -- by form: its expression is read back as all are, and its name is a token that was taken
   simple_read : (n : ℕ) → ReadBack (SimpleStmt (Expression n)) (SimpleStmt (Expression n))
   unfolding ReadBack
   simple_read n ts us x (inl r) g =
@@ -211,29 +222,35 @@ module _ (Good : Piece → Type 0) (goods : Goods Good) where
 
   -- statements within so many levels
   module _ (n : ℕ) (S : Rule Spot Stmt) (fine : ReadBack S S) (keep : (ts us : List Spot) (x : Stmt) → S ts x us → Each G ts → Each G us) where
+    -- one after another: what each leaves are good tokens
     all_read : (ts us : List Spot) (ss : List Stmt) → Many S ts ss us → Each G ts → Reads S ss
     unfolding ReadBack
     all_read ts us ss (none ts') g = tt
     all_read ts us ss (more ts' us' vs' x rest r rs) g = (fine ts us' x r g, all_read us' us rest rs (keep ts us' x r g))
 
+    -- the statements of a block are derived behind the opening brace
     block_read : (ts us : List Spot) (ss : List Stmt) → Block S ts ss us → Each G ts → Reads S ss
     block_read ts us ss r g =
         subst (λ xs. Reads S xs) (sym r.second.second.second.is)
         (all_read r.middle r.second.middle r.second.value r.second.first (keep_one G _ ts r.middle r.value r.first g))
 
+    -- there is a block behind `else`, or nothing
     other_read : (ts us : List Spot) (m : Option (List Stmt)) → Optional (Otherwise S) ts m us → Each G ts → ReadsOther S m
     other_read ts us m (inl r) g =
         let y = r.first in
         subst (λ o. ReadsOther S o) (sym r.second.is) (block_read y.middle r.middle r.value y.second (keep_one G _ ts y.middle y.value y.first g))
     other_read ts us m (inr r) g = subst (λ o. ReadsOther S o) (sym r.is) tt
 
+    -- a name alone is the word of a write, and how that write is printed means it again
     write_word : (k : Kind) (x : Token) (op : Operation WriteWord) → write_of k x ≡ Some op → write_named k (write_name op.word) ≡ Some op
     write_word k (t.Name w) op e = write_again k w op e
     write_word k _ op e = absurd (cc)
 
+    -- statements that open a level, of which n are left inside
     abbrev Nested : Rule Spot Stmt
     Nested = NestingStmt (Expression (suc n)) (Expression n) S
 
+    -- the condition and both blocks are derived one behind the other, each from good tokens
     if_read : ReadBack (IfStmt (Expression (suc n)) S) Nested
     unfolding ReadBack
     if_read ts us x r g =
@@ -250,6 +267,7 @@ module _ (Good : Piece → Type 0) (goods : Goods Good) where
         moved Nested x (stmt_at c (stmt.If e ss m)) _ _ r.second.second.second.second.is (at_if (stmt_at c (stmt.If e ss m)) e ss m refl) (bared_if c e ss m)
         (within Good bare_stmt (IfStmt (Expression (suc n)) S) Nested _ _ (λ xs ys y q. inl q) (if_back (Expression (suc n)) S _ _ ss m b h k))
 
+    -- the name, the texts and the block are derived one behind the other, each from good tokens
     for_read : ReadBack (ForStmt (Expression (suc n)) S) Nested
     unfolding ReadBack
     for_read ts us x r g =
@@ -267,6 +285,7 @@ module _ (Good : Piece → Type 0) (goods : Goods Good) where
         moved Nested x (stmt_at c (stmt.For v e ss)) _ _ a.second.second.second.is (at_for (stmt_at c (stmt.For v e ss)) v e ss refl) (bared_for c v e ss)
         (within Good bare_stmt (ForStmt (Expression (suc n)) S) Nested _ _ (λ xs ys y q. inr (inl q)) (for_back (Expression (suc n)) S v _ _ ss good b h))
 
+    -- the target's key and the arguments are read back, and the word means the same write again
     write_read : ReadBack (WriteStmt (Expression n)) Nested
     unfolding ReadBack
     write_read ts us x r g =
@@ -287,16 +306,19 @@ module _ (Good : Piece → Type 0) (goods : Goods Good) where
         (within Good bare_stmt (WriteStmt (Expression n)) Nested _ _ (λ xs ys y q. inr (inr q))
         (write_back (Expression n) aim.kind op (expression aim.key) (bare aim.key) es aim.shown found (sym all.length) all.each))
 
+    -- by form
     nesting_read : ReadBack Nested Nested
     unfolding ReadBack
     nesting_read ts us x (inl r) g = if_read ts us x r g
     nesting_read ts us x (inr (inl r)) g = for_read ts us x r g
     nesting_read ts us x (inr (inr r)) g = write_read ts us x r g
 
+  -- a rule that derives as much reads back as much
   wider : (R S : Rule Spot Stmt) → Within R S → ReadBack R R → ReadBack R S
   unfolding ReadBack
   wider R S f h ts us x r g = within Good bare_stmt R S (shown_stmt x) (bare_stmt x) f (h ts us x r g)
 
+  -- level by level: simple ones have expressions alone, and what nests has statements with a level less
   statement_read : (n : ℕ) → ReadBack (Statement n) (Statement n)
   unfolding Statement ReadBack
   statement_read zero ts us x r g = simple_read zero ts us x r g
@@ -308,6 +330,7 @@ module _ (Good : Piece → Type 0) (goods : Goods Good) where
 
   -- ---- bodies
 
+  -- the first statement and then any number of others, each read back
   bodies : (S : Rule Spot Stmt) (x : Stmt) (ss : List Stmt) → Reads S (x ∷ ss)
       → Back Good without_columns (ListOf S S >>= λ l. Pure (body_of l)) (flat_map shown_stmt (x ∷ ss)) (without_columns (body_of (x, ss)))
   bodies S x ss h =
@@ -319,6 +342,7 @@ module _ (Good : Piece → Type 0) (goods : Goods Good) where
       (λ rest j. ap (λ y. (y, map bare_stmt rest)) i ∙ ap (λ y. (bare_stmt x, y)) j)))
       (λ l i. ap (λ (p : Stmt × List Stmt). record { stmts = p.0 ∷ p.1 }) i)
 
+  -- a body is one statement or more with all levels left, each of which is read back
   pub body_read : (ts us : List Spot) (b : Body) → BodyRule ts b us → Each G ts
       → Back Good without_columns BodyRule (shown_body b) (without_columns b)
   unfolding ReadBack
