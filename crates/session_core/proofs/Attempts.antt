@@ -33,6 +33,7 @@ use Rattle.txn_lang.proofs.Observed.{runs_ask_short}
 
 -- ---- shards
 
+-- an address' shard is a remainder by the number of shards, so it is below that
 in_range : (address : Address) (shards : ℕ) → 0 < shards → shard_of address shards < shards
 in_range address shards some = omega arith
 
@@ -63,9 +64,11 @@ pub record IsBasedRight (k : Known) (b : Based) : Type 0 where
   pub given : IsGiven k b.address b.base
   pub one_kind : IsBasedOfOneKind b
 
+-- two values are the same where their options are
 some-same : {A : Type 0} (x y : A) → Some x ≡ Some y → x ≡ y
 some-same x y e = cc
 
+-- what was observed was read: its base was given, and the observation is of its value's kind, which is the address'
 observed_right : (k : Known) (snaps : SnapList) (z : Seen) → AllByRecursion (IsRead k) snaps → IsThere (values_of snaps) z → IsBasedRight k (with_base snaps z)
 observed_right k snaps z all there = by (lookup (is_at (address_cmp z.address)) snaps) refl there.is
   where
@@ -79,6 +82,7 @@ observed_right k snaps z all there = by (lookup (is_at (address_cmp z.address)) 
           one_kind = record { observed = there.kind (ap kind_of (sym same) ∙ read.kind) };
         }
 
+-- observation by observation: each was read and is short, and its shard is that of its address
 observed_each : (k : Known) (shards : ℕ) (snaps : SnapList) (seen : List Seen) → shards ≡ k.shards → AllByRecursion (IsRead k) snaps
     → AllByRecursion (IsThere (values_of snaps)) seen
     → AllByRecursion (λ z. IsShortObservation z.address z.obs) seen → AllByRecursion (λ b. CanValidate k (shard_of b.address shards) b) (based snaps seen)
@@ -94,6 +98,7 @@ pub may-validate : (k : Known) (a : Attempt) (run : Run) → a.shards ≡ k.shar
 may-validate k a run e all is = observed_each k a.shards a.snaps run.observations e all (observed_is_there a.body.body (values_of a.snaps) run is)
     (runs_ask_short.observed a.body.body (values_of a.snaps) run is)
 
+-- the test decides whether shards are equal
 same_shard : (k l : ℕ) → (k == l) ≡ true → k ≡ l
 same_shard k l e = grind (arith, nat_tests)
 

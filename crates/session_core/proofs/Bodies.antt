@@ -35,6 +35,7 @@ kept_reads text source body trimmed read = ap parsed trimmed ∙ parsed_trimmed 
 
 -- a checked body is the one that is read from its text
 module _ (read_only : Bool) (text : Text) (c : Checked) (only : c.read_only ≡ read_only) (trimmed : c.source ≡ trimmed_end text) where
+  -- by whether the tree writes: it is taken unless it writes where it may only read, with the checked body's own parts
   pure_is : (body : Body) (e : tree (trimmed_end text) ≡ Some body) (o : Option ℕ) (w : first_write body ≡ o) → c.body ≡ body →
       (IsTrue read_only → first_write body ≡ None)
       → if_pure read_only (trimmed_end text) body e o w ≡ Some c
@@ -46,6 +47,7 @@ module _ (read_only : Bool) (text : Text) (c : Checked) (only : c.read_only ≡ 
       by true is only pure = absurd (let h : Some column ≡ None = sym w ∙ pure refl in cc)
       by false is only pure = ap (λ x. Some x) (checked_same _ c (sym b) (sym trimmed) (sym only))
 
+  -- the tree that the text has is the checked body's, so it is taken
   tree_is : (o : Option Body) (e : tree (trimmed_end text) ≡ o) → o ≡ Some c.body →
       (IsTrue read_only → first_write c.body ≡ None) → if_tree read_only (trimmed_end text) o e ≡ Some c
   tree_is None e is pure = absurd (cc)
@@ -65,17 +67,20 @@ none_of_tree : (read_only : Bool) (source : Text) (o : Option Body) (e : tree so
 none_of_tree read_only source None e h = refl
 none_of_tree read_only source (Some body) e h = absurd (cc)
 
+-- where a tree may only read, a first write is enough to refuse it
 none_writes : (source : Text) (body : Body) (e : tree source ≡ Some body) (o : Option ℕ) (w : first_write body ≡ o) (column : ℕ) → o ≡ Some column
     → if_pure true source body e o w ≡ None
 none_writes source body e None w column h = absurd (cc)
 none_writes source body e (Some other) w column h = refl
 
+-- the tree that the text has is the body, and writes as that does
 writes_none : (source : Text) (body : Body) (column : ℕ) (o : Option Body) (e : tree source ≡ o) → o ≡ Some body → first_write body ≡ Some column
     → if_tree true source o e ≡ None
 writes_none source body column None e h w = refl
 writes_none source body column (Some other) e h w = let same : other ≡ body = cc in none_writes source other e (first_write other) refl column
     (ap first_write same ∙ w)
 
+-- where no body is the text's tree, there is none: by cases on the tree
 no_tree : (text : Text) → ((b : Body) → tree (trimmed_end text) ≡ Some b → ⊥) → tree (trimmed_end text) ≡ None
 no_tree text none = by (tree (trimmed_end text)) refl
   where
@@ -83,6 +88,7 @@ no_tree text none = by (tree (trimmed_end text)) refl
     by (Some b) e = absurd (none b e)
     by None e = refl
 
+-- where nothing is read, the answer is the text's refusal
 refused_by : (read_only : Bool) (text : Text) (reason : Why) → checked_of read_only text ≡ None → refusal_of text ≡ reason → body_of read_only text ≡ Err reason
 refused_by read_only text reason none is = ap (or_refused text) none ∙ ap (λ r. Err r) is
 
@@ -92,6 +98,7 @@ unfolding checked_of
 unread_none read_only text none = none_of_tree read_only (trimmed_end text) (tree (trimmed_end text)) refl
     (no_tree text (λ b e. let r = tree_read (trimmed_end text) b e in none b (sym (parsed_trimmed text) ∙ r.0) r.1))
 
+-- a text that stops being a body at a column isn't parsed, and that column is the one that is computed
 pub refuses_syntax : (read_only : Bool) (text : Text) (column : ℕ) → IsSyntaxColumn text column → body_of read_only text ≡ Err (why.Syntax column)
 unfolding refusal_of
 refuses_syntax read_only text column x =
@@ -99,6 +106,7 @@ refuses_syntax read_only text column x =
     refused_by read_only text (why.Syntax column) (unread_none read_only text (λ b e typed. let h : Some b ≡ None = sym e ∙ missing in cc))
     (ap (unread text) missing ∙ ap (λ n. why.Syntax n) (sym (column_is_computed text column x)))
 
+-- a body for which the judge names a column isn't well typed, so nothing is read, and that column is told
 pub refuses_type : (read_only : Bool) (text : Text) (body : Body) (column : ℕ) → parsed text ≡ Some body → judge body ≡ Err column
     → body_of read_only text ≡ Err (why.BadType column)
 unfolding refusal_of
@@ -110,11 +118,13 @@ refuses_type read_only text body column read fails =
     let h : Ok found.0 ≡ Err column = sym found.1 ∙ (ap judge same ∙ fails) in cc))
     (ap (unread text) read ∙ ap (ill_typed body) fails)
 
+-- a well typed body is its text's tree, and a tree that writes isn't taken where it may only read
 writes_unread : (text : Text) (body : Body) (column : ℕ) → parsed text ≡ Some body → IsTyped body → first_write body ≡ Some column → checked_of true text ≡ None
 unfolding checked_of
 writes_unread text body column read typed writes =
     writes_none (trimmed_end text) body column (tree (trimmed_end text)) refl (tree_of_typed (trimmed_end text) body (parsed_trimmed text ∙ read) typed) writes
 
+-- it is parsed and well typed, so what is left to tell is its first write
 pub refuses_writes : (text : Text) (body : Body) (column : ℕ) → parsed text ≡ Some body → IsTyped body → first_write body ≡ Some column
     → body_of true text ≡ Err (why.Writes column)
 unfolding refusal_of
@@ -128,11 +138,13 @@ pub syntax-reads : (read_only : Bool) (text : Text) (column told : ℕ) → IsSy
 syntax-reads read_only text column told x is reason e =
     let k : why.Syntax told ≡ reason = cc in refuses_syntax read_only text column x ∙ ap (λ n. Err (why.Syntax n)) (sym is) ∙ ap (λ r. Err r) k
 
+-- the same of the column where a rule of typing fails
 pub type-reads : (read_only : Bool) (text : Text) (body : Body) (column told : ℕ) → parsed text ≡ Some body → judge body ≡ Err column → told ≡ column
     → ReadsBody (Err (Cause (why.BadType told))) (body_of read_only text)
 type-reads read_only text body column told read fails is reason e =
     let k : why.BadType told ≡ reason = cc in refuses_type read_only text body column read fails ∙ ap (λ n. Err (why.BadType n)) (sym is) ∙ ap (λ r. Err r) k
 
+-- the same of the column of the first write, which is told only where the body may only read
 pub writes-reads : (read_only : Bool) (text : Text) (body : Body) (column told : ℕ) → parsed text ≡ Some body → WritesAt body read_only column → told ≡ column
     → ReadsBody (Err (Cause (why.Writes told))) (body_of read_only text)
 writes-reads read_only text body column told read w is reason e =
@@ -142,10 +154,12 @@ writes-reads read_only text body column told read w is reason e =
 -- what was read, by its parts
 module _ (read_only : Bool) (text : Text) (body : Body) (c : Checked) (b : c.body ≡ body) (trimmed : c.source ≡ trimmed_end text)
     (read : parsed text ≡ Some body) (typed : IsTyped body) where
+  -- the checked body has the parts that the text is read as, and doesn't write where it may only read
   pub reads-checked : c.read_only ≡ read_only → (IsTrue read_only → first_write body ≡ None) → body_of read_only text ≡ Ok c
   reads-checked only pure = accepts read_only text c only trimmed (read ∙ ap (λ x. Some x) (sym b)) (subst IsTyped (sym b) typed)
       (λ h. ap first_write b ∙ pure h)
 
+  -- without the blanks at its end the text still has that tree, and so a short one may be committed
   pub is-ready : length c.source ≤ LONGEST_BODY → IsReady c
   is-ready short = record {
     text = tree_of_typed c.source c.body (ap parsed trimmed ∙ (parsed_trimmed text ∙ (read ∙ ap (λ x. Some x) (sym b)))) (subst IsTyped (sym b) typed);
@@ -156,5 +170,6 @@ module _ (read_only : Bool) (text : Text) (body : Body) (c : Checked) (b : c.bod
 pub with_read : (f : Checked → Line) (r : Result Checked Why) (checked : Checked) → r ≡ Ok checked → with_body f r ≡ f checked
 with_read f r checked e = ap (with_body f) e
 
+-- where the body is refused, the line is refused for the same reason
 pub with_refused : (f : Checked → Line) (r : Result Checked Why) (reason : Why) → r ≡ Err reason → with_body f r ≡ asks.Refused reason
 with_refused f r reason e = ap (with_body f) e

@@ -24,23 +24,28 @@ use Rattle.session_core.specs.Phases.{Phase, with_attempt, said, stepped, after_
 use Rattle.session_core.specs.Leading.{Leads, Went}
 use Rattle.session_core.proofs.Steps.{moved-failed}
 
+-- the count at a phase: it has risen where a fault broke the line, and at any other phase it is as it was
 abbrev FaultsBy : Phase → ℕ → ℕ → Type 0
 FaultsBy (Phase.broken true) old new = Rose old new
 FaultsBy p old new = new ≡ old
 
+-- an answer that makes something of an attempt is no fault, since a failed call makes nothing of it
 no-fault : (a : Attempt) (answer : Answer) (m : Moved) → moved_by a answer ≡ Some m → is_fault answer ≡ false
 no-fault a (Answer.failed f) m e = absurd (let h : None ≡ Some m = sym (moved-failed a f) ∙ e in cc)
 no-fault a answer m e = refl
 
 module _ (old new : ℕ) where
+  -- where a line breaks, the count is as the call that broke it counted, by whether that was a fault
   breaks : (f : Bool) → IsCounted f old new → FaultsBy (Phase.broken f) old new
   breaks true h = h
   breaks false h = h
 
+  -- a run waits for a value or is shown, so the line isn't broken
   look-same : (s : Session) (n : ℕ) (body : Checked) (snaps : SnapList) (r : Ran) → new ≡ old → FaultsBy (look_by s n body snaps r) old new
   look-same s n body snaps (need address) e = e
   look-same s n body snaps (done run) e = e
 
+  -- a look begins its run or is refused as ahead, so the line isn't broken
   from-same : (s : Session) (seen : ℕ) (upto : Option ℕ) (body : Checked) → new ≡ old → FaultsBy (look_from s seen upto body) old new
   from-same s seen None body e = look-same s seen body [] (exec body.body (values_of [])) e
   from-same s seen (Some n) body e = by (nat_lt seen n)
@@ -49,23 +54,27 @@ module _ (old new : ℕ) where
       by true = e
       by false = look-same s n body [] (exec body.body (values_of [])) e
 
+  -- after an end another attempt follows or the end is shown, so the line isn't broken
   end-same : (s : Session) (left : ℕ) (a : Attempt) (r : Reply) → new ≡ old → FaultsBy (after_end s left a r) old new
   end-same s (suc left) a (reply.Abort w) e = e
   end-same s zero a r e = e
   end-same s (suc left) a r e = e
 
+  -- where the answer makes nothing of the attempt the line breaks as was counted; where it does, it was no fault
   stepped-counted : (s : Session) (f : Bool) (o : Option Moved) → ((m : Moved) → o ≡ Some m → f ≡ false) → IsCounted f old new
       → FaultsBy (stepped s f o) old new
   stepped-counted s f None whole h = breaks f h
   stepped-counted s f (Some (moved.More a r)) whole h = subst (λ x. IsCounted x old new) (whole (moved.More a r) refl) h
   stepped-counted s f (Some (moved.End a r)) whole h = subst (λ x. IsCounted x old new) (whole (moved.End a r) refl) h
 
+  -- the same where an attempt is driven to its end
   gone-counted : (s : Session) (left : ℕ) (f : Bool) (o : Option Moved) → ((m : Moved) → o ≡ Some m → f ≡ false) → IsCounted f old new
       → FaultsBy (gone s left f o) old new
   gone-counted s left f None whole h = breaks f h
   gone-counted s left f (Some (moved.More a r)) whole h = subst (λ x. IsCounted x old new) (whole (moved.More a r) refl) h
   gone-counted s left f (Some (moved.End a r)) whole h = end-same s left a r (subst (λ x. IsCounted x old new) (whole (moved.End a r) refl) h)
 
+  -- phase by phase: an answer that breaks the line is counted as it came, and any other is no fault
   after-counted : (q : Phase) (call : Call) (answer : Answer) → asks q ≡ Some call → IsCounted (is_fault answer) old new → FaultsBy (after q answer) old new
   after-counted (Phase.stepping s a) call answer e h = stepped-counted s (is_fault answer) (moved_by a answer) (no-fault a answer) h
   after-counted (Phase.going s left a) call answer e h = gone-counted s left (is_fault answer) (moved_by a answer) (no-fault a answer) h
@@ -81,11 +90,13 @@ module _ (old new : ℕ) where
   after-counted (Phase.over s t) call answer e h = absurd (cc)
   after-counted (Phase.broken f) call answer e h = absurd (cc)
 
+-- a phase that asks for a call isn't broken, so there the count is as it was
 asked-same : (old new : ℕ) (q : Phase) (call : Call) → asks q ≡ Some call → FaultsBy q old new → new ≡ old
 asked-same old new (Phase.over s t) call e h = absurd (cc)
 asked-same old new (Phase.broken f) call e h = absurd (cc)
 asked-same old new q call e h = h
 
+-- line by line, and by whether an attempt is open: no line begins broken
 start-same : (n shards seen : ℕ) (s : Session) (o : Option Attempt) (l : Line) → FaultsBy (start shards seen (with_attempt s o) l) n n
 start-same n shards seen s o asked.Quiet = refl
 start-same n shards seen s o asked.Unbuilt = refl
@@ -106,6 +117,7 @@ start-same n shards seen s o asked.Seen = refl
 start-same n shards seen s o asked.Quit = refl
 
 module _ {B : Type 0} (known : B → Known) (goes : B → Call → Answer → B → Type 0) where
+  -- step by step: before the last one the phase asked for a call, so only that one can have raised the count
   led-counted : (b : B) (p : Phase) (n : ℕ) (c : B) (q : Phase) → FaultsBy p (known b).faults (known b).faults → Leads (Goes known goes) b p n c q
       → FaultsBy q (known b).faults (known c).faults
   led-counted b p n c q h Leads.stays = h

@@ -11,6 +11,7 @@ use Rattle.session_text.proofs.LineFits.{line_fits}
 use Rattle.txn_grammar.specs.Characters.{Text}
 use Rattle.session_core.specs.Lines.{if_form, asked, VerbsAreForms}
 
+-- a verb comes only of a reading that went well, and is the one that was read
 read_by : (r : Result Verb (List ℕ)) (v : Verb) → if_form r ≡ Some v → r ≡ Ok v
 read_by (Ok found) v e = let k : found ≡ v = cc in ap (λ x. Ok x) k
 read_by (Err rest) v e = absurd (cc)
@@ -25,6 +26,7 @@ pub asked_complete : (text : Text) (v : Verb) → IsVerb text v → asked text �
 unfolding asked
 asked_complete text v r = ap if_form (whole_complete IsByte line VerbRule at_end line_fits refl text v r)
 
+-- a verb is asked for exactly where the text is of its form, by the two lemmas above
 pub verbs_are_forms : VerbsAreForms
 verbs_are_forms text v = (asked_sound text v, asked_complete text v)
 

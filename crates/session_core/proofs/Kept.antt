@@ -52,6 +52,7 @@ fits-on old new a e fits = subst (λ journal. Fits journal a) (grown old new e) 
 pub some-shards : (a : Attempt) → 0 < a.shards
 some-shards a = let h = a.shards_in_range.0 in omega arith
 
+-- the shard that is prepared next is one of the store's, and what was observed in it was read at bases that were given
 pub can-prepare : (k : Known) (a : Attempt) (shard : ℕ) (run : Run) → Holds k a → 0 < a.shards → length run.observations < 2 ^ 32
     → next_event a ≡ next.Prepare shard run
     → CanPrepare k shard (in_shard a.shards shard (based a.snaps run.observations))
@@ -62,6 +63,7 @@ can-prepare k a shard run h some few e = let p = prepares a shard run e in recor
       ≡ length run.observations = length-map run.observations _ in omega arith;
 }
 
+-- what is handed on is the attempt's, whose bases and fronts were given, and its seq is the client's next
 pub can-append : (k : Known) (s : Session) (a : Attempt) (run : Run) → Attends k s → Holds k a → length run.observations < 2 ^ 32
     → next_event a ≡ next.Append run
     → CanAppend k (ready_of a run s.client s.seq)
@@ -92,6 +94,7 @@ can-append k s a run is h few e = record {
 abbrev pub SameOwn : Known → Call → Answer → Type 0
 SameOwn k c answer = (old new : Journal) → OwnRow k.client old new c answer → own k.client new ≡ own k.client old
 
+-- the seq is one more than the client's own commits, and these are as before
 pub counts-on : (k l : Known) (seq : ℕ) (c : Call) (answer : Answer) → IsAnswered k c answer l → SameOwn k c answer → IfSome k.journal (Counts k seq)
     → IfSome l.journal (Counts l seq)
 counts-on k l seq c answer event same h = IfSome-WhereTold (SaysOfJournal k l c answer) (Counts k seq) (Counts l seq) k.journal l.journal
@@ -100,10 +103,12 @@ counts-on k l seq c answer event same h = IfSome-WhereTold (SaysOfJournal k l c 
       within = says.within;
     }) h event.told
 
+-- bases that were given stay given, and stay among what was seen, which never falls
 pub reads-on : (k l : Known) (a : Attempt) → k.seen ≤ l.seen → KeepsGiven k l → AllByRecursion (IsRead k) a.snaps → AllByRecursion (IsRead l) a.snaps
 reads-on k l a up keeps all = each-more (IsRead k) (IsRead l) a.snaps
     (λ read r. record { given = (let b = r.given.0 in omega arith, keeps.bases read.0 read.1.base r.given.1); kind = r.kind }) all
 
+-- fronts that were given stay given, and while the run needs a value there are none
 pub fronts-on : (k l : Known) (a : Attempt) (r : Ran) → KeepsGiven k l → FrontsGiven k a r → FrontsGiven l a r
 fronts-on k l a (need address) keeps h = h
 fronts-on k l a (done run) keeps h = each-more
@@ -111,6 +116,7 @@ fronts-on k l a (done run) keeps h = each-more
     (λ prepared. l.fronted prepared.shard (in_shard a.shards prepared.shard (based a.snaps run.observations)) prepared.front ≡ true) a.fronts
     (λ prepared g. keeps.fronts prepared.shard (in_shard a.shards prepared.shard (based a.snaps run.observations)) prepared.front g) h
 
+-- a journal that is told has only grown, so what fitted it still fits
 told-on : (k l : Known) (a : Attempt) (c : Call) (answer : Answer) → WhereTold (SaysOfJournal k l c answer) k.journal l.journal
     → IfSome k.journal (λ journal. Fits journal a)
     → IfSome l.journal (λ journal. Fits journal a)
@@ -128,6 +134,7 @@ holds-on k l a c answer event keeps h = record {
   told = told-on k l a c answer event.told h.told;
 }
 
+-- so does the one that may be open
 maybe-holds : (k l : Known) (o : Option Attempt) (c : Call) (answer : Answer) → IsAnswered k c answer l → KeepsGiven k l → IfSome o (Holds k)
     → IfSome o (Holds l)
 maybe-holds k l None c answer event keeps h = tt
@@ -167,6 +174,7 @@ own-more client before c e =
     ap length (filter-append (λ (x : Commit). x.client == client) before (c ∷ [])) ∙ (length-append (own client before) (own client (c ∷ []))
     ∙ ap (λ (b : Bool). length (own client before) + length (cond b (c ∷ []) [])) is)
 
+-- after a commit the client's own commits are one more, and so is the seq, and no attempt is open
 pub committed-on : (k l : Known) (s : Session) (ready : Ready) (n : ℕ) → ready.client ≡ s.client
     → IsAnswered k (Call.append ready) (Answer.number n) l → Attends k s
     → Attends l (record s { seq = s.seq + 1; attempt = None })
@@ -193,19 +201,23 @@ unread-fronts l a (need address) e = e
 unread-fronts l a (done run) e = subst (AllByRecursion (λ prepared. l.fronted prepared.shard
     (in_shard a.shards prepared.shard (based a.snaps run.observations)) prepared.front ≡ true)) (sym e) tt
 
+-- an attempt without fronts has none that could fail to fit
 no-fronts : (journal : Journal) (a : Attempt) (r : Ran) → a.fronts ≡ [] → FrontsFit journal a.shards a.snaps a.fronts r
 no-fronts journal a (need address) e = e
 no-fronts journal a (done run) e =
     subst (AllByRecursion (λ prepared. FrontFits journal (in_shard a.shards prepared.shard (based a.snaps run.observations)) prepared)) (sym e) tt
 
+-- an attempt that has read and prepared nothing fits any journal
 pub unread-fits : (journal : Journal) (a : Attempt) → a.snaps ≡ [] → a.fronts ≡ [] → Fits journal a
 unread-fits journal a unread unprepared = record { snaps = subst (AllByRecursion (SnapFits journal)) (sym unread) tt;
     fronts = no-fronts journal a (ran a) unprepared }
 
+-- so it fits the one that may be told
 maybe-unread : (o : Option Journal) (a : Attempt) → a.snaps ≡ [] → a.fronts ≡ [] → IfSome o (λ journal. Fits journal a)
 maybe-unread None a unread unprepared = tt
 maybe-unread (Some journal) a unread unprepared = unread-fits journal a unread unprepared
 
+-- an attempt that begins anew has read and prepared nothing, and its body and shards are as before
 pub afresh-holds : (k : Known) (a : Attempt) → Holds k a → Holds k (afresh a)
 afresh-holds k a h = record {
   shards = h.shards;
@@ -217,6 +229,7 @@ afresh-holds k a h = record {
 }
 
 module _ (k l : Known) (a : Attempt) (h : Holds k a) where
+  -- the value that was read is the journal's at its base, and while the run needs a value there are no fronts
   read-fits : (old new : Journal) (address : Address) (s : Snap) → next_event a ≡ next.Read address → s.base ≡ l.seen
       → SaysOfJournal k l (Call.read address) (Answer.snap s) old new
       → Fits old a → Fits new (with_snap a address s)
@@ -227,6 +240,7 @@ module _ (k l : Known) (a : Attempt) (h : Holds k a) where
         (subst (FrontsFit old a.shards a.snaps a.fronts) (needs a address e) fits.fronts);
   }
 
+  -- the attempt holds after a read: its base was given, the value is of the address' kind, and there are no fronts yet
   pub read-holds : (address : Address) (s : Snap) → next_event a ≡ next.Read address → IsAnswered k (Call.read address) (Answer.snap s) l
       → Holds l (with_snap a address s)
   read-holds address s e event = record {
@@ -241,6 +255,7 @@ module _ (k l : Known) (a : Attempt) (h : Holds k a) where
         (λ old new fits says. read-fits old new address s e event.shows.0 says fits) h.told event.told;
   }
 
+  -- with one front more, given for what the run observed in its shard, all are given
   front-given : (shard front : ℕ) (run : Run) (r : Ran) → r ≡ done run → FrontsGiven l a r
       → l.fronted shard (in_shard a.shards shard (based a.snaps run.observations)) front ≡ true → FrontsGiven l (with_front a shard front) r
   front-given shard front run r is all one = subst (FrontsGiven l (with_front a shard front)) (sym is)
@@ -248,6 +263,7 @@ module _ (k l : Known) (a : Attempt) (h : Holds k a) where
           ≡ true) a.fronts (record { shard = shard; front = front })
       (subst (FrontsGiven l a) is all) one)
 
+  -- with one front more that fits the journal, all fit it
   front-fits : (journal : Journal) (shard front : ℕ) (run : Run) (r : Ran) → r ≡ done run → FrontsFit journal a.shards a.snaps a.fronts r
       → FrontFits journal (in_shard a.shards shard (based a.snaps run.observations)) (record { shard = shard; front = front })
       → FrontsFit journal a.shards a.snaps (a.fronts ++ record { shard = shard; front = front } ∷ []) r
@@ -257,6 +273,7 @@ module _ (k l : Known) (a : Attempt) (h : Holds k a) where
           (record { shard = shard; front = front })
       (subst (FrontsFit journal a.shards a.snaps a.fronts) is all) one)
 
+  -- the attempt holds after a preparing: the backend gave the front, and no commit up to it clashes
   pub prepare-holds : (shard : ℕ) (run : Run) (p : Prepared) → next_event a ≡ next.Prepare shard run
       → IsAnswered k (Call.prepare shard (in_shard a.shards shard (based a.snaps run.observations))) (Answer.prepared p) l
           → Holds l (with_front a shard p.front)
@@ -297,10 +314,12 @@ within-is n least most = max-eq_right (le-min' n least most) ∙ min-eq n most
     le-min' : (n : ℕ) → LEAST_SHARDS ≤ n → n ≤ MOST_SHARDS → LEAST_SHARDS ≤ min n MOST_SHARDS
     le-min' n l h = omega arith
 
+-- an attempt that has read and prepared nothing has the parts of the one that is opened for its body and shards
 pub opened-is : (a : Attempt) (n : ℕ) (body : Checked) → (LEAST_SHARDS ≤ n) × (n ≤ MOST_SHARDS) → a.body ≡ body → a.shards ≡ n → a.snaps ≡ []
     → a.fronts ≡ [] → a ≡ opened n body
 opened-is a n body h b s u f = attempt_same a (opened n body) b (s ∙ sym (within-is n h.0 h.1)) u f
 
+-- an opened attempt has read and prepared nothing, its body is ready, and its shards are the store's
 pub opened-holds : (k : Known) (s : Session) (body : Checked) → Attends k s → IsReady body → Holds k (opened k.shards body)
 opened-holds k s body is ready = record {
   shards = within-is k.shards is.shards.0 is.shards.1;

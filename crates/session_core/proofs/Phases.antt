@@ -48,13 +48,16 @@ MovedHolds l s (moved.End a r) = Attends l (ended s r) × Holds l (afresh a)
 -- ---- one event
 
 module _ (k l : Known) (s : Session) (a : Attempt) (is : Attends k (closed s)) (holds : Holds k a) where
+  -- an event that goes on leaves the session without its attempt, and the attempt that goes on
   more : (b : Attempt) (r : Reply) (m : Moved) → Some (moved.More b r) ≡ Some m → Attends l (closed s) → Holds l b → MovedHolds l s m
   more b r m e on h = subst (MovedHolds l s) (let same : moved.More b r ≡ m = cc in same) (on, h)
 
+  -- an event that ends the attempt leaves the session after the end, and the attempt may begin anew
   end : (c : Call) (answer : Answer) (r : Reply) (m : Moved) → Some (moved.End a r) ≡ Some m → Attends l (ended s r) → IsAnswered k c answer l
       → MovedHolds l s m
   end c answer r m e on event = subst (MovedHolds l s) (let same : moved.End a r ≡ m = cc in same) (on, anew-holds k l a c answer event holds)
 
+  -- by event and answer: a read or a front goes on, any other answer ends it, and only a commit adds one of the client's
   pub held-by : (n : Next) (answer : Answer) (m : Moved) → next_event a ≡ n → IsAnswered k (event_call s a n) answer l → moved_at a n answer ≡ Some m
       → MovedHolds l s m
   held-by (next.Read address) (snap v) m e event h =
@@ -84,16 +87,19 @@ module _ (k l : Known) (s : Session) (a : Attempt) (is : Attends k (closed s)) (
           (λ old new own. own) is) event
   held-by n answer m e event h = absurd (cc)
 
+  -- so it is with the event that comes next
   pub held : (answer : Answer) (m : Moved) → IsAnswered k (call_of s a) answer l → moved_by a answer ≡ Some m → MovedHolds l s m
   held answer m event e = held-by (next_event a) answer m refl event e
 
 -- ---- one step
 
+-- a run asks only for short addresses, and the prefix on which it runs was seen
 look-holds : (l : Known) (s : Session) (n : ℕ) (body : Checked) (snaps : SnapList) (r : Ran) → Attends l s → n ≤ l.seen
     → exec body.body (values_of snaps) ≡ r → PhaseHolds l (look_by s n body snaps r)
 look-holds l s n body snaps (need address) is within e = (is, within, runs_ask_short.needed body.body (values_of snaps) address e)
 look-holds l s n body snaps (done run) is within e = is
 
+-- a look runs on all that is seen, or on a prefix that was tested not to be ahead of that
 from-holds : (l : Known) (s : Session) (seen : ℕ) (upto : Option ℕ) (body : Checked) → Attends l s → seen ≡ l.seen → PhaseHolds l (look_from s seen upto body)
 from-holds l s seen None body is e = look-holds l s seen body [] (exec body.body (values_of [])) is (omega arith) refl
 from-holds l s seen (Some n) body is e = by (nat_lt seen n) refl
@@ -102,6 +108,7 @@ from-holds l s seen (Some n) body is e = by (nat_lt seen n) refl
     by true h = is
     by false h = let within : n ≤ seen = grind (arith, nat_tests) in look-holds l s n body [] (exec body.body (values_of [])) is (omega arith) refl
 
+-- `step` puts back the attempt that goes on, or shows its end; a broken line keeps to nothing
 step-holds : (l : Known) (s : Session) (f : Bool) (o : Option Moved) → ((m : Moved) → o ≡ Some m → MovedHolds l s m) → PhaseHolds l (stepped s f o)
 step-holds l s f None h = tt
 step-holds l s f (Some (moved.More a r)) h = let on = h (moved.More a r) refl in opened-on l (closed s) a on.0 on.1
@@ -113,6 +120,7 @@ end-holds l s (suc left) a (reply.Abort w) is h = (is, h)
 end-holds l s zero a r is h = is
 end-holds l s (suc left) a r is h = is
 
+-- `go` and `try` drive the attempt on, or come to its end; a broken line keeps to nothing
 gone-holds : (l : Known) (s : Session) (left : ℕ) (f : Bool) (o : Option Moved) → ((m : Moved) → o ≡ Some m → MovedHolds l s m) → PhaseHolds l (gone s left f o)
 gone-holds l s left f None h = tt
 gone-holds l s left f (Some (moved.More a r)) h = h (moved.More a r) refl
@@ -158,6 +166,7 @@ phase-kept k l (Phase.broken f) call answer h asks_it event = tt
 
 -- ---- the beginning
 
+-- a session without an attempt owes nothing of one, and the rest as before
 pub closes : (k : Known) (s : Session) → Attends k s → Attends k (closed s)
 closes k s is = record { on = is.on; shards = is.shards; client = is.client; begun = is.begun; counts = is.counts; attempt = tt }
 
@@ -182,5 +191,6 @@ begins-by k s (asked.At n body) o e is ready = subst (λ x. Attends k (with_atte
 begins-by k s asked.Seen o e is ready = subst (λ x. Attends k (with_attempt s x)) e is
 begins-by k s asked.Quit o e is ready = closes k s is
 
+-- the line begins by the attempt that the session has, or by its having none
 pub phase-begins : (k : Known) (s : Session) (l : Line) → Attends k s → BodyIsReady l → PhaseHolds k (start k.shards k.seen s l)
 phase-begins k s l is ready = begins-by k s l s.attempt refl is ready

@@ -26,17 +26,21 @@ ended-as s o q r none is = ap (λ (n : ℕ). record s { seq = n; attempt = None 
     ∙ ap (λ (x : Option Attempt). record s { seq = q; attempt = x }) (sym none)
 
 module _ {B : Type 0} (known : B → Known) (goes : B → Call → Answer → B → Type 0) (s : Session) where
+  -- where an attempt is open, a line that needs one begins with it
   pub some-open : (f : Attempt → Phase) (a : Attempt) → s.attempt ≡ Some a → if_open s f ≡ f a
   some-open f a e = ap (λ x. if_open (with_attempt s x) f) e
 
+  -- where none is open, a line that needs that none is begins with its own first phase
   pub not-open : (p : Phase) → s.attempt ≡ None → unless_open s p ≡ p
   not-open p e = ap (λ x. unless_open (with_attempt s x) p) e
 
+  -- where one is open, such a line is refused as busy before any call
   is-busy : (b : B) (p : Phase) (a : Attempt) → s.attempt ≡ Some a → Reaches known goes b (unless_open s p) MOST_CALLS b
       (Phase.over s (said (reply.Refused why.Busy)))
   is-busy b p a e = at-once known goes b (unless_open s p) (said (reply.Refused why.Busy)) s
       (ap (λ x. unless_open (with_attempt s x) p) e ∙ ap (λ x. Phase.over (with_attempt s x) (said (reply.Refused why.Busy))) (sym e))
 
+  -- the same, by the test of whether one is open
   pub busy : (b : B) (p : Phase) → is_some s.attempt ≡ true → Reaches known goes b (unless_open s p) MOST_CALLS b (Phase.over s (said (reply.Refused why.Busy)))
   busy b p h = by s.attempt refl h
     where
@@ -45,6 +49,7 @@ module _ {B : Type 0} (known : B → Known) (goes : B → Call → Answer → B 
       by None e h = absurd (cc)
       by (Some a) e h = is-busy b p a e
 
+  -- where the test finds none open, there is none: by cases on the attempt
   pub free : is_some s.attempt ≡ false → s.attempt ≡ None
   free h = by s.attempt h
     where
@@ -59,6 +64,7 @@ module _ {B : Type 0} (known : B → Known) (goes : B → Call → Answer → B 
   begin-fails b c a e x none is step = subst (λ p. Stops known goes b p e c) (sym (not-open (Phase.beginning (closed s) a) none))
       (refresh-stops known goes b (Phase.beginning (closed s) a) 0 b (Phase.beginning (closed s) a) e x c refl (λ f. refl) is Leads.stays step)
 
+  -- the refresh is the only call, and it opens the attempt and shows what is seen
   pub begins : (b c : B) (a made : Attempt) (n : ℕ) → s.attempt ≡ None → made ≡ a → Goes known goes b refresh (Answer.number n) c
       → Reaches known goes b (unless_open s (Phase.beginning (closed s) a)) MOST_CALLS c (Phase.over (with_attempt s (Some made)) (said (reply.Seen n)))
   begins b c a made n none is step = subst (λ p. Reaches known goes b p MOST_CALLS c (Phase.over (with_attempt s (Some made)) (said (reply.Seen n))))
@@ -75,6 +81,7 @@ module _ {B : Type 0} (known : B → Known) (goes : B → Call → Answer → B 
       (ap (λ x. Phase.trying s left x) is ∙ (ap (λ x. Phase.trying (with_attempt s x) left a) none
       ∙ sym (not-open (Phase.trying (closed s) left a) none))) stops
 
+  -- the last end of the attempts is the line's reply, and the session has the seq after that end
   pub commits : (b c : B) (a made : Attempt) (left q : ℕ) (r : Reply) → s.attempt ≡ None → made ≡ a → q ≡ seq_after s.seq r
       → Closes known goes s b (Phase.trying s left made) (Ok r) c
       → Reaches known goes b (unless_open s (Phase.trying (closed s) left a)) MOST_CALLS c (Phase.over (record s { seq = q }) (said r))
@@ -86,6 +93,7 @@ module _ {B : Type 0} (known : B → Known) (goes : B → Call → Answer → B 
           ∙ sym (not-open (Phase.trying (closed s) left a) none))) h)
 
   module _ (o : Option Attempt) (none : o ≡ None) where
+    -- where no attempt is open, a line that needs one is refused before any call
     pub none-open : (b : B) (f : Attempt → Phase) → s.attempt ≡ None → Reaches known goes b (if_open s f) MOST_CALLS b
         (Phase.over (with_attempt s o) (said (reply.Refused why.NoAttempt)))
     none-open b f e = at-once known goes b (if_open s f) (said (reply.Refused why.NoAttempt)) (with_attempt s o)
@@ -97,12 +105,14 @@ module _ {B : Type 0} (known : B → Known) (goes : B → Call → Answer → B 
     step-err a b c e open_is tries = subst (λ p. Stops known goes b p e c) (sym (some-open (Phase.stepping (closed s)) a open_is))
         (step-stops known goes (closed s) a e b c (subst (λ x. Tries known goes (with_attempt s x) a b e c) none tries))
 
+    -- the event is the only call, and the attempt that goes on is open again
     pub step-goes-on : (a following : Attempt) (r : Reply) (b c : B) → s.attempt ≡ Some a → Moves known goes (with_attempt s o) a b (moved.More following r) c
         → Reaches known goes b (if_open s (Phase.stepping (closed s))) MOST_CALLS c (Phase.over (with_attempt s (Some following)) (said r))
     step-goes-on a following r b c open_is m = subst (λ p. Reaches known goes b p MOST_CALLS c
         (Phase.over (with_attempt s (Some following)) (said r))) (sym (some-open (Phase.stepping (closed s)) a open_is))
         (step-more known goes (closed s) a following r b c (subst (λ x. Moves known goes (with_attempt s x) a b (moved.More following r) c) none m))
 
+    -- the event is the only call, and after its end no attempt is open and the seq is the one after that
     pub step-ends : (a last : Attempt) (r : Reply) (q : ℕ) (b c : B) → s.attempt ≡ Some a → q ≡ seq_after s.seq r
         → Moves known goes (with_attempt s o) a b (moved.End last r) c
         → Reaches known goes b (if_open s (Phase.stepping (closed s))) MOST_CALLS c (Phase.over (record s { seq = q; attempt = o }) (said r))
@@ -118,6 +128,7 @@ module _ {B : Type 0} (known : B → Known) (goes : B → Call → Answer → B 
     go-err a b c e open_is drives = subst (λ p. Stops known goes b p e c) (sym (some-open (Phase.going (closed s) 0) a open_is))
         (subst (λ x. Stops known goes b (Phase.going (with_attempt s x) 0 a) e c) none (drives 0))
 
+    -- an attempt makes no more events than a line may make calls, and its end is shown since no other may follow
     pub go-ends : (a : Attempt) (end : Ended) (q : ℕ) (b c : B) → s.attempt ≡ Some a → q ≡ seq_after s.seq end.reply
         → Drives known goes (with_attempt s o) a b (Ok end) c
         → Reaches known goes b (if_open s (Phase.going (closed s) 0)) MOST_CALLS c (Phase.over (record s { seq = q; attempt = o }) (said end.reply))

@@ -57,6 +57,7 @@ led-holds known goes b p k c r h (Leads.by_step {n = m} {c = c'} {q = q'} call a
 
 -- ---- errors
 
+-- want of memory and a fault of the store are different errors
 not-both : (e : SessionError) → e ≡ error.NoMemory → e ≡ error.StoreFault → ⊥
 not-both e a b = let h : error.NoMemory ≡ error.StoreFault = sym a ∙ b in cc
 
@@ -76,6 +77,7 @@ pub shown-last : (s : Session) (left : ℕ) (a : Attempt) (r : Reply) → left �
 shown-last s zero a r e = refl
 shown-last s (suc left) a r e = absurd (omega arith)
 
+-- by cases on the reply: only behind an abort another attempt follows
 pub shown-other : (s : Session) (left : ℕ) (a : Attempt) (r : Reply) → is_abort r ≡ false → after_end s left a r ≡ Phase.over (ended s r) (said r)
 shown-other s zero a r e = refl
 shown-other s (suc left) a (reply.Abort w) e = absurd (cc)
@@ -92,6 +94,7 @@ pub none-follows : (s : Session) (left : ℕ) (a : Attempt) (r : Reply) → (lef
 none-follows s left a r (inl e) = shown-last s left a r e
 none-follows s left a r (inr e) = shown-other s left a r e
 
+-- behind an abort another attempt follows where one may, and then one less may follow it
 pub one-follows : (s : Session) (left : ℕ) (a : Attempt) (r : Reply) → 0 < left → is_abort r ≡ true
     → after_end s left a r ≡ Phase.trying s (left - 1) (afresh a)
 one-follows s zero a r some e = absurd (omega arith)
@@ -128,19 +131,23 @@ module _ {B : Type 0} (known : B → Known) (goes : B → Call → Answer → B 
       → Stops known goes b p e c → Closes known goes s b p result c
   closes-err s b p result e c is stops = subst (λ r. Closes known goes s b p r c) (sym is) stops
 
+  -- where a verb answers an error, all that is owed is how far the line has come
   pub replies-err : (b : B) (p : Phase) (result : Result Reply SessionError) (e : SessionError) (c : B) (s : Session) → result ≡ Err e
       → Stops known goes b p e c → Replies known goes b p result c s
   replies-err b p result e c s is stops = subst (λ r. Replies known goes b p r c s) (sym is) stops
 
+  -- the same of a run on a prefix
   pub looks-err : (s : Session) (n : ℕ) (body : Checked) (b : B) (result : Result Reply SessionError) (e : SessionError) (c : B) → result ≡ Err e
       → Stops known goes b (look_on s n body []) e c
       → LooksAt known goes s n body b result c
   looks-err s n body b result e c is stops = subst (λ r. LooksAt known goes s n body b r c) (sym is) stops
 
+  -- the same of an attempt that is driven, whatever number of attempts may follow it
   pub drives-err : (s : Session) (a : Attempt) (b : B) (result : Result Ended SessionError) (e : SessionError) (c : B) → result ≡ Err e
       → ((left : ℕ) → Stops known goes b (Phase.going s left a) e c) → Drives known goes s a b result c
   drives-err s a b result e c is stops = subst (λ r. Drives known goes s a b r c) (sym is) stops
 
+  -- the same of the line
   pub went-err : (b : B) (p : Phase) (result : Result Turn SessionError) (e : SessionError) (c : B) (s : Session) → result ≡ Err e
       → Stops known goes b p e c → Went known goes b p result c s
   went-err b p result e c s is stops = subst (λ r. Went known goes b p r c s) (sym is) stops
@@ -174,13 +181,16 @@ module _ {B : Type 0} (known : B → Known) (goes : B → Call → Answer → B 
   unmade s a b result e is want = subst (λ r. Makes known goes s a b r b) (sym is) (Tries.not_made refl want)
 
   module _ (b : B) (p : Phase) (n : ℕ) (c d : B) (s : Session) (left : ℕ) (a : Attempt) (led : Leads (Goes known goes) b p n c (Phase.going s left a)) where
+    -- the event's call is one step more, after which the attempt goes on
     pub more-led : (following : Attempt) (r : Reply) → Moves known goes s a c (moved.More following r) d
         → Leads (Goes known goes) b p (n + 1) d (Phase.going s left following)
     more-led following r m = Leads.by_step (call_of s a) m.answer led refl m.step (ap (gone s left (is_fault m.answer)) m.moved)
 
+    -- the event's call is one step more, to what follows the attempt's end
     pub end-led : (last : Attempt) (r : Reply) → Moves known goes s a c (moved.End last r) d → Leads (Goes known goes) b p (n + 1) d (after_end s left last r)
     end-led last r m = Leads.by_step (call_of s a) m.answer led refl m.step (ap (gone s left (is_fault m.answer)) m.moved)
 
+    -- an event that wasn't made leaves the line where it was; a made one is a step more, and a fault breaks the line there
     pub made-stops : (e : SessionError) → Tries known goes s a c e d → Stops known goes b p e d
     made-stops e (Tries.not_made same want) = stopped-here b p n d (Phase.going s left a) e want
         (subst (λ x. Leads (Goes known goes) b p n x (Phase.going s left a)) (sym same) led)
@@ -201,6 +211,7 @@ module _ {B : Type 0} (known : B → Known) (goes : B → Call → Answer → B 
         (ap (stepped s (is_fault m.answer)) m.moved);
   }
 
+  -- the event's call is the only step, and the end that it came to is shown
   pub step-end : (s : Session) (a last : Attempt) (r : Reply) (b c : B) → Moves known goes s a b (moved.End last r) c
       → Reaches known goes b (Phase.stepping s a) MOST_CALLS c (Phase.over (ended s r) (said r))
   step-end s a last r b c m = record {
@@ -210,6 +221,7 @@ module _ {B : Type 0} (known : B → Known) (goes : B → Call → Answer → B 
         (ap (stepped s (is_fault m.answer)) m.moved);
   }
 
+  -- the event wasn't made, and nothing was done; or its call is the only step, and breaks the line if it failed by a fault
   pub step-stops : (s : Session) (a : Attempt) (e : SessionError) (b c : B) → Tries known goes s a b e c → Stops known goes b (Phase.stepping s a) e c
   step-stops s a e b c (Tries.not_made same want) = stopped-here b (Phase.stepping s a) 0 c (Phase.stepping s a) e want
       (subst (λ x. Leads (Goes known goes) b (Phase.stepping s a) 0 x (Phase.stepping s a)) (sym same) Leads.stays)
@@ -222,6 +234,7 @@ module _ {B : Type 0} (known : B → Known) (goes : B → Call → Answer → B 
 
   -- ---- refreshes
 
+  -- the error is a fault only where the call failed by one, and that breaks the line as a fault
   fault-broken : (p : Phase) (x : StoreError) → ((f : Bool) → after p (Answer.failed f) ≡ Phase.broken f) → error_of x ≡ error.StoreFault
       → after p (store_failed x) ≡ Phase.broken true
   fault-broken p store.Fault breaks h = breaks true
@@ -242,20 +255,24 @@ module _ {B : Type 0} (known : B → Known) (goes : B → Call → Answer → B 
 
   module _ (s : Session) (m : ℕ) (body : Checked) (b c d : B) (n : ℕ) (snaps : SnapList)
       (led : Leads (Goes known goes) b (look_on s m body []) n c (look_on s m body snaps)) where
+    -- where the run is done its outcome is shown, without a call more
     pub look-done : (run : Run) → n ≤ MOST_EVENTS → exec body.body (values_of snaps) ≡ done run
         → Reaches known goes b (look_on s m body []) MOST_EVENTS c (Phase.over s (said (reply.At m run.outcome)))
     look-done run few e = record { count = n; few = few; leads = subst (λ q. Leads (Goes known goes) b (look_on s m body []) n c q)
         (ap (look_by s m body snaps) e) led }
 
     module _ (address : Address) (e : exec body.body (values_of snaps) ≡ need address) where
+      -- where the run needs an address, the look has come to the read of that
       looked-led : Leads (Goes known goes) b (look_on s m body []) n c (Phase.looked s m body snaps address)
       looked-led = subst (λ q. Leads (Goes known goes) b (look_on s m body []) n c q) (ap (look_by s m body snaps) e) led
 
+      -- the read is one step more, and the run is done again with the value that it answered
       pub look-more : (answer : Answer) (longer : SnapList) → Goes known goes c (read_at address m) answer d → Valued snaps address m answer (Ok None) longer
           → Leads (Goes known goes) b (look_on s m body []) (n + 1) d (look_on s m body longer)
       look-more (Answer.value v) longer step h = rw h (Leads.by_step (read_at address m) (Answer.value v) looked-led refl step refl)
       look-more answer longer step h = absurd h
 
+      -- the read is one step more, and a prefix below the horizon is answered so
       pub look-late : (answer : Answer) (longer : SnapList) (r : Reply) → n + 1 ≤ MOST_EVENTS → Goes known goes c (read_at address m) answer d
           → Valued snaps address m answer (Ok (Some r)) longer
           → Reaches known goes b (look_on s m body []) MOST_EVENTS d (Phase.over s (said r))
@@ -263,6 +280,7 @@ module _ {B : Type 0} (known : B → Known) (goes : B → Call → Answer → B 
           leads = Leads.by_step (read_at address m) (Answer.late x horizon) looked-led refl step refl })
       look-late answer longer r few step h = absurd h
 
+      -- the read is the last step; where the error is a fault the read failed by one, which breaks the line
       pub look-stops : (answer : Answer) (longer : SnapList) (x : SessionError) → Goes known goes c (read_at address m) answer d
           → Valued snaps address m answer (Err x) longer
           → Stops known goes b (look_on s m body []) x d
@@ -291,6 +309,7 @@ module _ {B : Type 0} (known : B → Known) (goes : B → Call → Answer → B 
         (Leads.by_step refresh (Answer.number n) first.leads refl step refl) rest.leads;
   }
 
+  -- the way to the attempt, its refresh, and then as far as its events have come
   pub tried-stops : (b : B) (p : Phase) (t : ℕ) (c : B) (s : Session) (left : ℕ) (a : Attempt) (n : ℕ) (c' d : B) (e : SessionError)
       → Reaches known goes b p t c (Phase.trying s left a)
       → Goes known goes c refresh (Answer.number n) c' → Drives known goes s a c' (Err e) d → Stops known goes b p e d
@@ -341,6 +360,7 @@ module _ {B : Type 0} (known : B → Known) (goes : B → Call → Answer → B 
   tries-stop b p t c s left a e x d is first step = refresh-stops known goes b p first.count c (Phase.trying s left a) e x d refl
       (λ f. refl) is first.leads step
 
+  -- a refresh adds no commit of the client's, and keeps what was given
   pub look-attends : (b c : B) (s : Session) (n : ℕ) → Attends (known b) s → Goes known goes b refresh (Answer.number n) c → Attends (known c) s
   look-attends b c s n is step = attends-on (known b) (known c) s refresh (Answer.number n) step.answered (λ old new own. own) step.answered.keeps is
 
@@ -354,6 +374,7 @@ module _ {B : Type 0} (known : B → Known) (goes : B → Call → Answer → B 
   looked-from b s upto body seen m c d (Err e) is step looks = stops-on known goes b (Phase.looking s upto body) 1 c (look_on s m body []) e d
       (one-led (Goes known goes) b c (Phase.looking s upto body) (look_on s m body []) refresh (Answer.number seen) refl step is) looks
 
+  -- the refresh is the only call: the number is tested against what that shows, and is ahead
   pub looked-ahead : (b : B) (s : Session) (body : Checked) (seen n : ℕ) (c : B) → seen < n → Goes known goes b refresh (Answer.number seen) c
       → Reaches known goes b (Phase.looking s (Some n) body) MOST_CALLS c (Phase.over s (said (reply.Ahead n seen)))
   looked-ahead b s body seen n c ahead step = record {
@@ -363,6 +384,7 @@ module _ {B : Type 0} (known : B → Known) (goes : B → Call → Answer → B 
         (let test : nat_lt seen n ≡ true = grind (arith, nat_tests) in ap (λ x. cond x (Phase.over s (said (reply.Ahead n seen))) (look_on s n body [])) test);
   }
 
+  -- the number is tested against what is seen, and isn't ahead
   pub not-ahead : (s : Session) (body : Checked) (seen n : ℕ) → n ≤ seen → look_from s seen (Some n) body ≡ look_on s n body []
   not-ahead s body seen n h = let test : nat_lt seen n ≡ false = grind (arith, nat_tests)
       in ap (λ x. cond x (Phase.over s (said (reply.Ahead n seen))) (look_on s n body [])) test
@@ -379,6 +401,7 @@ placed-one [] r e = absurd (cc)
 placed-one (x ∷ []) r e = refl
 placed-one (x ∷ y ∷ rest) r e = absurd (let h = e in omega arith)
 
+-- an option in which no reply stands is none: by cases
 pub none-else : (o : Option Reply) → ((r : Reply) → o ≡ Some r → ⊥) → o ≡ None
 none-else None h = refl
 none-else (Some r) h = absurd (h r refl)

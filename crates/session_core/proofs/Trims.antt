@@ -14,6 +14,7 @@ trimmed_end-blank : (z : List ℕ) (b : ℕ) → is_blank b ≡ true → trimmed
 trimmed_end-blank [] b h = rw h
 trimmed_end-blank (x ∷ z) b h = ap (unless_last_blank x) (trimmed_end-blank z b h)
 
+-- a byte before others stays, whether it is a blank or not
 unless_last_blank-longer : (x : ℕ) (z : List ℕ) (b : ℕ) → unless_last_blank x (z ++ b ∷ []) ≡ x ∷ (z ++ b ∷ [])
 unless_last_blank-longer x [] b = refl
 unless_last_blank-longer x (y ∷ z) b = refl
@@ -30,16 +31,19 @@ take-last z n some within =
     let inside : n - 1 < length z = omega arith in
     ap (λ (k : ℕ). take k z) more ∙ take_more z (n - 1) 0 inside
 
+-- the last byte of a prefix is a blank at its end, and goes
 pub trimmed_end-take-blank : (z : List ℕ) (n : ℕ) → 0 < n → n ≤ length z → is_blank (get_or z (n - 1) 0) ≡ true
     → trimmed_end (take n z) ≡ trimmed_end (take (n - 1) z)
 trimmed_end-take-blank z n some within blank = ap trimmed_end (take-last z n some within) ∙ trimmed_end-blank (take (n - 1) z) _ blank
 
+-- the last byte of a prefix is no blank, so it stays, and all before it
 pub trimmed_end-take-solid : (z : List ℕ) (n : ℕ) → 0 < n → n ≤ length z → is_blank (get_or z (n - 1) 0) ≡ false → trimmed_end (take n z) ≡ take n z
 trimmed_end-take-solid z n some within solid =
     ap trimmed_end (take-last z n some within) ∙ (trimmed_end-solid (take (n - 1) z) _ solid ∙ sym (take-last z n some within))
 
 -- ---- a text is what is left of it, and blanks
 
+-- byte by byte from the back: a blank joins the blanks where nothing is left behind it, and any other byte stays
 split : (z : List ℕ) → (w : List ℕ) × AreBlank w × (z ≡ trimmed_end z ++ w)
 split [] = ([], All-nil (λ b. is_blank b ≡ true), refl)
 split (b ∷ z) = let rest = split z in by (trimmed_end z) (is_blank b) refl rest.0 rest.1 rest.2
