@@ -7,6 +7,7 @@ use Rattle.std.specs.Option.{option_and_then}
 use Rattle.std.specs.BTreeMap.{is_at}
 use Rattle.std.proofs.Math.Seq.{take-length, take-append_seam}
 use Rattle.std.proofs.lemmas.List.{length-append, length-take, get_or-set_same}
+use Rattle.std.proofs.lemmas.Bool.{eq-eqb}
 use Rattle.std.proofs.lemmas.Bool.Decides.{nat_tests}
 use Rattle.dio_core.specs.Counts.{IsCounted}
 use Rattle.rdt_types.specs.declared.address.Address.{Address}
@@ -56,10 +57,6 @@ reached-is n front e = grind (arith, nat_tests)
 -- what is tested as below is below
 below-is : (a b : ℕ) → nat_lt a b ≡ true → a < b
 below-is a b e = grind (arith, nat_tests)
-
--- a number is itself
-itself : (n : ℕ) → (n == n) ≡ true
-itself n = grind (arith, nat_tests)
 
 -- a client that subscribes is told of the address, and of what it was told of before
 told-now : (mine here was : Bool) → mine ≡ true → cond (mine && here) true was ≡ (here || was)
@@ -397,20 +394,20 @@ module _ (s : Store) (sound : IsSound s) (c : ℕ) (ours : c < CLIENTS) where
       let n = sound.seen c in
       answered (took (saw s c (length s.journal)) c (length s.journal)) Call.take (Answer.feed (feed_for s c)) (step-grows s c Call.take) refl
       (omega arith) (omega arith)
-      (refl, (λ a. refl), ap (λ b. cond b (length s.journal) (s.taken c)) (itself c), refl, omega arith) tt
+      (refl, (λ a. refl), ap (λ b. cond b (length s.journal) (s.taken c)) (eq-eqb c c refl), refl, omega arith) tt
       ((sym e, kinds-told), taken-is (seen_by (saw s c (length s.journal)) c) e, refl)
 
   -- a subscription changes only what the client is told of
   subscribed-answered : (a : Address) → IsAnswered k (Call.subscribe a) Answer.done (known_by (telling s c a true) c)
   subscribed-answered a =
       answered (telling s c a true) (Call.subscribe a) Answer.done (step-grows s c (Call.subscribe a)) refl (omega arith) (sound.seen c)
-      (refl, (λ b. told-now (c == c) (is_at (address_cmp a) b) (s.subscribed c b) (itself c)), refl, refl, omega arith) tt (refl, tt, refl)
+      (refl, (λ b. told-now (c == c) (is_at (address_cmp a) b) (s.subscribed c b) (eq-eqb c c refl)), refl, refl, omega arith) tt (refl, tt, refl)
 
   -- and so does the end of one
   unsubscribed-answered : (a : Address) → IsAnswered k (Call.unsubscribe a) Answer.done (known_by (telling s c a false) c)
   unsubscribed-answered a =
       answered (telling s c a false) (Call.unsubscribe a) Answer.done (step-grows s c (Call.unsubscribe a)) refl (omega arith) (sound.seen c)
-      (refl, (λ b. untold-now (c == c) (is_at (address_cmp a) b) (s.subscribed c b) (itself c)), refl, refl, omega arith) tt (refl, tt, refl)
+      (refl, (λ b. untold-now (c == c) (is_at (address_cmp a) b) (s.subscribed c b) (eq-eqb c c refl)), refl, refl, omega arith) tt (refl, tt, refl)
 
   -- ---- failures
 

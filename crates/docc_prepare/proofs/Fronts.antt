@@ -4,6 +4,7 @@ use Rattle.std.proofs.Common.{◌∙◌, subst, arith}
 use Rattle.std.specs.Prelude.{nat_lt, nat_le, ◌==◌}
 use Rattle.std.specs.List.{list_any, AllByRecursion}
 use Rattle.std.specs.BTreeMap.{is_at}
+use Rattle.std.proofs.lemmas.Bool.{eqb-true, eq-eqb}
 use Rattle.std.proofs.lemmas.Bool.Decides.{nat_tests}
 use Rattle.rdt_types.specs.declared.address.Address.{Address}
 use Rattle.rdt_types.specs.declared.delta.Delta.{Delta}
@@ -94,10 +95,6 @@ module _ (journal : Journal) (shards : ℕ) (observed : List Based) where
   nothing_clear bs [] = tt
   nothing_clear bs (x ∷ xs) = tt
 
-  -- numbers that pass the test of equality are one
-  same_shard : (k l : ℕ) → (k == l) ≡ true → k ≡ l
-  same_shard k l e = grind (arith, nat_tests)
-
   -- each shard is clear up to the front that counts for it
   clear_upto : (fronts : List PreparedFront) → AllByRecursion (λ prepared. FrontFits journal (in_shard shards prepared.shard observed) prepared) fronts
       → (k : ℕ) → Clear (front_at fronts k) (in_shard shards k observed)
@@ -107,7 +104,7 @@ module _ (journal : Journal) (shards : ℕ) (observed : List Based) where
       by : Clear (front_at fronts k) (in_shard shards k observed) → (x : Bool) → (prepared.shard == k) ≡ x
           → Clear (cond x prepared.front (front_at fronts k)) (in_shard shards k observed)
       by rest true is =
-          subst (λ (l : ℕ). Clear prepared.front (in_shard shards l observed)) (same_shard prepared.shard k is)
+          subst (λ (l : ℕ). Clear prepared.front (in_shard shards l observed)) (eqb-true prepared.shard k is)
           (misses-of-pairs (in_shard shards prepared.shard observed) (take prepared.front journal) all.0.clear)
       by rest false is = rest
 
@@ -126,17 +123,13 @@ module _ (journal : Journal) (shards : ℕ) (observed : List Based) where
         (λ commit. AllByRecursion (MissesInShard commit k) observed) (take (front_at fronts k) journal)
         (λ commit. each-passing (λ b. Misses b commit) (λ b. shard_of b.address shards == k) observed) (clear_upto fronts all k)))
 
-    -- a number passes the test of equality with itself
-    itself : (k : ℕ) → (k == k) ≡ true
-    itself k = grind (arith, nat_tests)
-
     -- each observation is in its own shard, so the commit misses it up to that shard's front
     pick : (commit : Commit) (bs : List Based) → ((k : ℕ) → commit.number ≤ front_at fronts k → AllByRecursion (MissesInShard commit k) bs)
         → AllByRecursion (λ b. hit (past_front shards fronts b) commit ≡ hit b commit) bs
     pick commit [] clear = tt
     pick commit (b ∷ bs) clear = (
       hit-alike b (front_at fronts (shard_of b.address shards)) commit (λ below. (clear (shard_of b.address shards) below).0
-          (itself (shard_of b.address shards))),
+          (eq-eqb (shard_of b.address shards) (shard_of b.address shards) refl)),
       pick commit bs (λ k below. (clear k below).1),
     )
 

@@ -1,5 +1,5 @@
 -- Journals that grow: what fits stays, and a legal one is orderly.
-use Rattle.std.proofs.Common.{ℕ, ◌≤◌, List, [], ◌∷◌, ◌++◌, length, sym, ap, ◌∙◌, subst, arith}
+use Rattle.std.proofs.Common.{◌≤◌, List, [], ◌∷◌, ◌++◌, length, sym, ap, ◌∙◌, subst, arith}
 use Rattle.std.specs.List.{AllByRecursion}
 use Rattle.std.proofs.lemmas.List.{take-append-le, length-append}
 use Rattle.plain_data.specs.Histories.{IsLawfulAfter}
@@ -11,7 +11,8 @@ use Rattle.txn_lang.specs.States.{Journal, known, left_by}
 use Rattle.txn_lang.specs.Execution.{Ran, need, done}
 use Rattle.txn_lang.specs.Journals.{MayFollow, IsRunAfter}
 use Rattle.journal_core.specs.declared.ready.PreparedFront.{PreparedFront}
-use Rattle.journal_core.specs.Pairs.{pairs, AreNumberedFrom}
+use Rattle.journal_core.specs.Pairs.{pairs}
+use Rattle.version_shard.proofs.Legal.{legal-numbered}
 use Rattle.docc_prepare.specs.Attempts.{ran, SnapFits, FrontFits, FrontsFit}
 use Rattle.docc_prepare.specs.Serial.{AreOfTheirKinds, FitsStays, LegalIsOrderly}
 use Rattle.docc_prepare.proofs.Each.{each-more}
@@ -56,12 +57,6 @@ fits_stays journal later attempt fits = record {
 -- the deltas of a commit are those of its run
 kinds-of-commit : (before : Journal) (commit : Commit) → IsRunAfter before commit → AreOfTheirKinds commit.deltas
 kinds-of-commit before commit runs = subst AreOfTheirKinds (sym runs.deltas) (kinds-of-run runs.body (known (left_by before)) runs.run runs.ran)
-
--- a legal commit has the number behind those of the commits before it
-legal-numbered : (before journal : Journal) → IsLawfulAfter MayFollow 0 before journal → AreNumberedFrom (length before) journal
-legal-numbered before [] legal = tt
-legal-numbered before (commit ∷ journal) legal =
-    (legal.0.number, subst (λ (n : ℕ). AreNumberedFrom n journal) (length-append before (commit ∷ [])) (legal-numbered (before ++ commit ∷ []) journal legal.1))
 
 -- each commit of a legal journal is one of a run, nothing being taken on trust
 legal-kinds : (before journal : Journal) → IsLawfulAfter MayFollow 0 before journal → AllByRecursion (λ commit. AreOfTheirKinds commit.deltas) journal

@@ -1,5 +1,5 @@
 -- The heart: what no commit disturbs is observed on the whole journal as it was at its base, and so the run is the same.
-use Rattle.std.proofs.Common.{◌≡◌, ℕ, ◌+◌, ◌≤◌, ◌<◌, zero, suc, Bool, true, false, cond, ◌&&◌, ◌||◌, List, [], ◌∷◌, fold, map, take, length, Option}
+use Rattle.std.proofs.Common.{◌≡◌, ℕ, ◌+◌, ◌≤◌, ◌<◌, zero, suc, Bool, true, false, cond, ◌&&◌, List, [], ◌∷◌, fold, map, take, length, Option}
 use Rattle.std.proofs.Common.{Some, None, refl, sym, ap, ◌∙◌, subst, arith}
 use Rattle.std.specs.Prelude.{nat_lt, slice_get}
 use Rattle.std.specs.List.{list_any, AllByRecursion}
@@ -7,7 +7,9 @@ use Rattle.std.specs.Option.{option_map}
 use Rattle.std.specs.Map.{lookup}
 use Rattle.std.specs.BTreeMap.{is_at}
 use Rattle.std.specs.Ordering.{is_eq}
+use Rattle.std.proofs.lemmas.Bool.{or_parts}
 use Rattle.std.proofs.lemmas.Bool.Decides.{nat_tests}
+use Rattle.std.proofs.lemmas.Option.{same_Some, slice_get_within}
 use Rattle.plain_data.specs.Texts.{Bytes}
 use Rattle.plain_data.proofs.Entries.{equal}
 use Rattle.rdt_types.specs.declared.address.Address.{Address}
@@ -55,12 +57,6 @@ use Rattle.docc_prepare.proofs.Missing.{Misses, misses-of-pairs}
 item-same : (a b : Option Bytes) → answer.Maybe a ≡ answer.Maybe b → a ≡ b
 item-same a b e = cc
 
--- a place where an item stands is within the list
-within-of-item : (xs : List Bytes) (i : ℕ) (x : Bytes) → slice_get xs i ≡ Some x → i < length xs
-within-of-item [] i x e = absurd (cc)
-within-of-item (y ∷ ys) zero x e = omega arith
-within-of-item (y ∷ ys) (suc i) x e = let h = within-of-item ys i x e in omega arith
-
 -- at each place within the list an item stands
 item-within : (xs : List Bytes) (i : ℕ) → i < length xs → (x : Bytes) × (slice_get xs i ≡ Some x)
 item-within [] i h = absurd (omega arith)
@@ -71,7 +67,7 @@ item-within (x ∷ xs) (suc i) h = item-within xs i (omega arith)
 still-within : (o : Obs) (v w : Value) → IsWithin o v → observe o w ≡ observe o v → IsWithin o w
 still-within (obs.ListAt i) v w h e =
     let there = item-within (list_in v) i h in
-    within-of-item (list_in w) i there.0 (item-same (slice_get (list_in w) i) (slice_get (list_in v) i) e ∙ there.1)
+    slice_get_within (list_in w) i there.0 (item-same (slice_get (list_in w) i) (slice_get (list_in v) i) e ∙ there.1)
 still-within obs.BoolIs v w h e = tt
 still-within obs.CounterIs v w h e = tt
 still-within obs.TextIs v w h e = tt
@@ -93,17 +89,12 @@ past_test true true d p q e = e
 past_test true false d p q e = absurd (cc)
 past_test false c d p q e = absurd (cc)
 
--- of two of which neither holds each fails
-neither : (x y : Bool) → (x || y) ≡ false → (x ≡ false) × (y ≡ false)
-neither true y e = absurd (cc)
-neither false y e = (refl, e)
-
 -- the delta at the address of an observation that a commit past its base misses is no clash
 unclashed : (b : Based) (n : ℕ) (ds : Deltas) (d : Delta) → b.base < n → list_any (clashes b) (changes_at n ds) ≡ false → delta_at ds b.address ≡ Some d
     → clash b.obs d ≡ false
 unclashed b n [] d past misses e = absurd (cc)
 unclashed b n (pair ∷ ds) d past misses e =
-    let parts = neither (clashes b (record { number = n; address = pair.0; delta = pair.1 })) (list_any (clashes b) (changes_at n ds)) misses in
+    let parts = or_parts (clashes b (record { number = n; address = pair.0; delta = pair.1 })) (list_any (clashes b) (changes_at n ds)) misses in
     by (unclashed b n ds d past parts.1) parts.0 (is_eq (address_cmp b.address pair.0)) refl e
   where
     by : (delta_at ds b.address ≡ Some d → clash b.obs d ≡ false) → clashes b (record { number = n; address = pair.0; delta = pair.1 }) ≡ false
@@ -176,10 +167,6 @@ snap-at journal (pair ∷ snaps) a snap all e = by (snap-at journal snaps a snap
         subst (λ b. snap.value ≡ state journal snap.base b) (sym here) (subst (λ (s : Snap). s.value ≡ state journal s.base pair.0) same all.0.value)
     by rest false is e = rest e
 
--- two that are there and the same are one
-some-same : {A : Type 0} (x y : A) → Some x ≡ Some y → x ≡ y
-some-same x y e = cc
-
 -- what a run observed is of the kind of its address
 observed-kind : (journal : Journal) (snaps : SnapList) (z : Seen) → IsOrderly journal → AllByRecursion (SnapFits journal) snaps → IsThere (values_of snaps) z
     → IsBasedOfOneKind (with_base snaps z)
@@ -189,7 +176,7 @@ observed-kind journal snaps z orderly fit there = record { observed = by (lookup
         → kind_observed z.obs ≡ z.address.kind
     by None e is = absurd (cc)
     by (Some snap) e is =
-        let same = some-same snap.value there.value is in
+        let same = same_Some snap.value there.value is in
         let value_is = snap-at journal snaps z.address snap fit e in
         there.kind (ap kind_of (sym same ∙ value_is)
         ∙ kind-left (take snap.base journal) z.address (each-take (λ (commit : Commit). AreOfTheirKinds commit.deltas) snap.base journal orderly.kinds))
@@ -221,10 +208,10 @@ agrees journal snaps z orderly fit there misses = record {
         → (kind_of v ≡ kind_of (left_by journal z.address)) × (observe z.obs v ≡ observe z.obs (left_by journal z.address))
     by v None e is misses = absurd (cc)
     by v (Some snap) e is misses =
-        let read : snap.value ≡ v = some-same snap.value v is in
+        let read : snap.value ≡ v = same_Some snap.value v is in
         let value_is : v ≡ state journal snap.base z.address = sym read ∙ snap-at journal snaps z.address snap fit e in
         let found : Some v ≡ Some there.value = sym is ∙ (ap (option_map (λ s. s.value)) (sym e) ∙ there.is) in
-        let same : there.value ≡ v = sym (some-same v there.value found) in
+        let same : there.value ≡ v = sym (same_Some v there.value found) in
         let kind_read : kind_of v ≡ z.address.kind = ap kind_of value_is ∙ kind-left (take snap.base journal) z.address
         (each-take (λ commit. AreOfTheirKinds commit.deltas) snap.base journal orderly.kinds) in
         let within = subst (IsWithin z.obs) (same ∙ value_is) there.within in (

@@ -7,9 +7,8 @@ use Rattle.std.specs.Option.{option_map, option_or, option_and_then}
 use Rattle.std.specs.Bool.{then_some}
 use Rattle.std.specs.BTreeMap.{is_at}
 use Rattle.std.specs.FinMap as map
-use Rattle.std.proofs.lemmas.Bool.Decides.{nat_tests}
+use Rattle.std.proofs.lemmas.Bool.{and_parts}
 use Rattle.std.proofs.lemmas.List.{take-append-drop}
-use Rattle.std.proofs.lemmas.Option.{slice_get_within}
 use Rattle.plain_data.specs.Texts.{Bytes}
 use Rattle.plain_data.proofs.Entries.{equal}
 use Rattle.rdt_types.specs.declared.address.Kind.{Kind}
@@ -43,11 +42,12 @@ use Rattle.txn_lang.specs.declared.commit.Commit.{Commit}
 use Rattle.txn_lang.specs.States.{Journal}
 use Rattle.journal_core.specs.Changes.{changes_by, changes_of}
 use Rattle.journal_core.specs.Journals.{commit_at}
-use Rattle.journal_core.specs.Pairs.{hits_from, pairs, least_pair, AreNumberedFrom}
+use Rattle.journal_core.specs.Pairs.{hits_from, pairs, least_pair}
+use Rattle.journal_core.proofs.ByShard.{numbered-take}
+use Rattle.journal_core.proofs.Witnessed.{first-pair, commit-there, number-within}
 use Rattle.docc_prepare.specs.Serial.{AreOfTheirKinds, IsOrderly}
 use Rattle.docc_prepare.specs.Witnesses.{witness_by, witness_in, witness_of, least_witness, IsNamed}
 use Rattle.docc_prepare.proofs.Each.{each-at, each-take}
-use Rattle.docc_prepare.proofs.Missing.{hit}
 
 -- ---- the named part is of the kind of the delta
 
@@ -150,13 +150,6 @@ clashing-part o d same clashing = by (named o d) refl
 abbrev change_of : ℕ → Address × Delta → Change
 change_of n pair = record { number = n; address = pair.0; delta = pair.1 }
 
--- where three hold together each does
-all_true : (b c d : Bool) → ((b && c) && d) ≡ true → (b ≡ true) × (c ≡ true) × (d ≡ true)
-all_true true true true e = (refl, refl, refl)
-all_true true true false e = absurd (cc)
-all_true true false d e = absurd (cc)
-all_true false c d e = absurd (cc)
-
 -- the witness that is found in changes, and what it names
 record Within (b : Based) (all : List Change) : Type 0 where
   witness : Witness
@@ -173,10 +166,11 @@ record Within (b : Based) (all : List Change) : Type 0 where
 witnessed-here : (b : Based) (n : ℕ) (pair : Address × Delta) (ds : Deltas) → kind_observed b.obs ≡ b.address.kind → kind_changed pair.1 ≡ pair.0.kind
     → clashes b (change_of n pair) ≡ true → Within b (change_of n pair ∷ changes_by n ds)
 witnessed-here b n pair ds observed kind clashing =
-    let parts = all_true (nat_lt b.base n) (is_at (address_cmp b.address) pair.0) (clash b.obs pair.1) clashing in
-    let same = address_cmp-equal b.address pair.0 (equal (address_cmp b.address pair.0) parts.1) in
+    let parts = and_parts (nat_lt b.base n && is_at (address_cmp b.address) pair.0) (clash b.obs pair.1) clashing in
+    let here = (and_parts (nat_lt b.base n) (is_at (address_cmp b.address) pair.0) parts.0).1 in
+    let same = address_cmp-equal b.address pair.0 (equal (address_cmp b.address pair.0) here) in
     let one = observed ∙ ap (λ (a : Address). a.kind) same ∙ sym kind in
-    let part = clashing-part b.obs pair.1 one parts.2 in record {
+    let part = clashing-part b.obs pair.1 one parts.1 in record {
       witness = record { address = b.address; obs = b.obs; base = b.base; part = part.0; number = n };
       is = ap (λ t. cond t (witness_by b (change_of n pair) (named b.obs pair.1)) (witness_in b (changes_by n ds))) clashing
           ∙ ap (witness_by b (change_of n pair)) part.1;
@@ -216,98 +210,6 @@ numbers-of : (n : ℕ) (ds : Deltas) → AllByRecursion (λ (c : Change). c.numb
 numbers-of n [] = tt
 numbers-of n (pair ∷ ds) = (refl, numbers-of n ds)
 
--- ---- where the first pair is
-
--- the observation from a place on that the first hit is of
-record HitAt (place : ℕ) (bs : List Based) (commit : Commit) (found : Found) : Type 0 where
-  index : ℕ
-  placed : found.place ≡ place + index
-  observation : Based
-  there : slice_get bs index ≡ Some observation
-  numbered : found.number ≡ commit.number
-  hits : hit observation commit ≡ true
-
--- by whether the first observation is hit, else it is one of the others
-first-hit : (place : ℕ) (bs : List Based) (commit : Commit) (found : Found) → slice_get (hits_from place bs commit) 0 ≡ Some found
-    → HitAt place bs commit found
-first-hit place [] commit found e = absurd (cc)
-first-hit place (b ∷ bs) commit found e = by (first-hit (place + 1) bs commit found) (hit b commit) refl e
-  where
-    by : (slice_get (hits_from (place + 1) bs commit) 0 ≡ Some found → HitAt (place + 1) bs commit found) → (x : Bool) → hit b commit ≡ x
-        → slice_get (cond x (record { place = place; number = commit.number } ∷ hits_from (place + 1) bs commit) (hits_from (place + 1) bs commit)) 0
-        ≡ Some found
-        → HitAt place (b ∷ bs) commit found
-    by rest true is e =
-        let same : record { place = place; number = commit.number } ≡ found = cc in
-        let here = sym (ap (λ (f : Found). f.place) same) in record {
-          index = zero;
-          placed = omega arith;
-          observation = b;
-          there = refl;
-          numbered = sym (ap (λ (f : Found). f.number) same);
-          hits = is;
-        }
-    by rest false is e = let r = rest e in let p = r.placed in record {
-      index = suc r.index;
-      placed = omega arith;
-      observation = r.observation;
-      there = r.there;
-      numbered = r.numbered;
-      hits = r.hits;
-    }
-
--- the observation and the commit that the first pair is of
-record Stands (bs : List Based) (n : ℕ) (journal : Journal) (found : Found) : Type 0 where
-  observation : Based
-  commit : Commit
-  index : ℕ
-  placed : slice_get bs found.place ≡ Some observation
-  there : slice_get journal index ≡ Some commit
-  numbered : found.number ≡ n + index + 1
-  same : found.number ≡ commit.number
-  hits : hit observation commit ≡ true
-
--- the first pair is the first hit of the first commit that has one
-first-pair : (bs : List Based) (n : ℕ) (journal : Journal) (found : Found) → AreNumberedFrom n journal → slice_get (pairs bs journal) 0 ≡ Some found
-    → Stands bs n journal found
-first-pair bs n [] found numbers e = absurd (cc)
-first-pair bs n (commit ∷ journal) found numbers e = by (first-pair bs (n + 1) journal found numbers.1) (hits_from 0 bs commit) refl e
-  where
-    by : (slice_get (pairs bs journal) 0 ≡ Some found → Stands bs (n + 1) journal found) → (hs : List Found) → hits_from 0 bs commit ≡ hs
-        → slice_get (hs ++ pairs bs journal) 0 ≡ Some found → Stands bs n (commit ∷ journal) found
-    by rest [] is e = let r = rest e in let number = r.numbered in record {
-      observation = r.observation;
-      commit = r.commit;
-      index = suc r.index;
-      placed = r.placed;
-      there = r.there;
-      numbered = omega arith;
-      same = r.same;
-      hits = r.hits;
-    }
-    by rest (h ∷ hs) is e =
-        let r = first-hit 0 bs commit found (ap (λ (xs : List Found). slice_get xs 0) is ∙ e) in
-        let place = r.placed in
-        let number = r.numbered in
-        let first = numbers.0 in record {
-          observation = r.observation;
-          commit = commit;
-          index = zero;
-          placed = ap (slice_get bs) (let p : found.place ≡ r.index = omega arith in p) ∙ r.there;
-          there = refl;
-          numbered = omega arith;
-          same = r.numbered;
-          hits = r.hits;
-        }
-
--- the commit of a number stands at the place before it
-commit-there : (journal : Journal) (i n : ℕ) → n ≡ i + 1 → commit_at journal n ≡ slice_get journal i
-commit-there journal i n e = by (n == 0) refl
-  where
-    by : (t : Bool) → (n == 0) ≡ t → cond t None (slice_get journal (n - 1)) ≡ slice_get journal i
-    by true is = absurd (let none : n ≡ 0 = grind (arith, nat_tests) in omega arith)
-    by false is = ap (slice_get journal) (let same : n - 1 ≡ i = omega arith in same)
-
 -- ---- the witness of the first pair
 
 -- the least pair has a witness
@@ -315,12 +217,11 @@ pub witness-there : (bs : List Based) (journal : Journal) (found : Found) → Is
     → least_pair bs journal ≡ Some found
     → (witness : Witness) × (witness_of bs journal found ≡ Some witness) × IsNamed bs journal found witness
 witness-there bs journal found orderly each is =
-    let s = first-pair bs 0 journal found orderly.numbered is in
-    let number = s.numbered in
-    let there = commit-there journal s.index found.number (omega arith) ∙ s.there in
-    let kinds = each-at (λ (commit : Commit). AreOfTheirKinds commit.deltas) journal s.index s.commit orderly.kinds s.there in
+    let s = first-pair 0 bs journal found orderly.numbered is in
+    let there = commit-there journal s.ahead found.number (omega (arith, s.number)) ∙ s.is in
+    let kinds = each-at (λ (commit : Commit). AreOfTheirKinds commit.deltas) journal s.ahead s.commit orderly.kinds s.is in
     let one = each-at IsBasedOfOneKind bs found.place s.observation each s.placed in
-    let w = witnessed-in s.observation s.commit.number s.commit.deltas one.observed kinds s.hits in
+    let w = witnessed-in s.observation s.commit.number s.commit.deltas one.observed kinds s.clashing in
     let in_commit = ap (option_and_then (λ commit. witness_in s.observation (changes_of commit))) there ∙ w.is in
     let changed = w.numbered s.commit.number (numbers-of s.commit.number s.commit.deltas) in (
       w.witness,
@@ -335,7 +236,7 @@ witness-there bs journal found orderly each is =
         among = w.among;
         clashing = w.clashing;
         names = w.names;
-        number = w.names.number ∙ changed ∙ sym s.same;
+        number = w.names.number ∙ changed ∙ sym s.own;
         one_kind = w.one_kind;
       },
     )
@@ -394,33 +295,18 @@ front-commit journal f n commit e = by (n == 0) e
     by true e = absurd (cc)
     by false e = front-item journal f (n - 1) commit e
 
--- a number that a commit has is within the journal
-within-journal : (journal : Journal) (n : ℕ) (commit : Commit) → commit_at journal n ≡ Some commit → n ≤ length journal
-within-journal journal n commit e = by (n == 0) e
-  where
-    by : (t : Bool) → cond t None (slice_get journal (n - 1)) ≡ Some commit → n ≤ length journal
-    by true e = absurd (cc)
-    by false e = let within = slice_get_within journal (n - 1) commit e in omega arith
-
 -- a witness is numbered within the journal, and of one kind
 pub witness-within : (bs : List Based) (journal : Journal) (witness : Witness) → IsOrderly journal → AllByRecursion IsBasedOfOneKind bs
     → least_witness bs journal ≡ Some witness → (witness.number ≤ length journal) × IsOfOneKind witness
 witness-within bs journal witness orderly each is =
     let p = pair-of-witness bs journal witness orderly each is in
-    let within = within-journal journal p.0.number p.2.commit p.2.there in
+    let within = (number-within journal p.0.number p.2.commit p.2.there).1 in
     let number = p.2.number in (omega arith, p.2.one_kind)
-
--- the first commits are numbered as they are in the whole
-numbered-front : (f n : ℕ) (journal : Journal) → AreNumberedFrom n journal → AreNumberedFrom n (take f journal)
-numbered-front zero n [] numbers = tt
-numbered-front zero n (x ∷ journal) numbers = tt
-numbered-front (suc f) n [] numbers = tt
-numbered-front (suc f) n (x ∷ journal) numbers = (numbers.0, numbered-front f (n + 1) journal numbers.1)
 
 -- so the front of an orderly journal is orderly
 pub orderly-front : (f : ℕ) (journal : Journal) → IsOrderly journal → IsOrderly (take f journal)
 orderly-front f journal orderly = record {
-  numbered = numbered-front f 0 journal orderly.numbered;
+  numbered = numbered-take 0 f journal orderly.numbered;
   kinds = each-take (λ commit. AreOfTheirKinds commit.deltas) f journal orderly.kinds;
 }
 

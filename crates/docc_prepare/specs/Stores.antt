@@ -21,6 +21,7 @@ use Rattle.journal_core.specs.declared.ready.Ready.{Ready}
 use Rattle.journal_core.specs.Changes.{changes, between, adding}
 use Rattle.journal_core.specs.Pairs.{least_pair, past_fronts}
 use Rattle.journal_core.specs.Readies.{made_of}
+pub use Rattle.version_shard.specs.Bases.{late_base}
 use Rattle.docc_prepare.specs.Attempts.{lesser}
 use Rattle.docc_prepare.specs.Witnesses.{witness_of, least_witness}
 use Rattle.docc_prepare.specs.Calls.{Known, Call, Answer}
@@ -93,11 +94,6 @@ read_at_front s client address front =
 abbrev pub least_base : List Based → Option ℕ
 least_base [] = None
 least_base (b ∷ rest) = Some (lesser b.base (least_base rest))
-
--- the least base, where it is below the horizon
-abbrev pub late_base : ℕ → Option ℕ → Option ℕ
-late_base horizon None = None
-late_base horizon (Some base) = if nat_lt base horizon then Some base else None
 
 -- late where a base is below the horizon, else a clash where there is one up to the front, and else the front
 abbrev pub validated : ℕ → ℕ → ℕ → Option ℕ → Option Witness → Answer

@@ -1,8 +1,10 @@
 -- Changes kept by shard.
-use Rattle.std.proofs.Common.{◌≡◌, ℕ, ◌+◌, ◌<◌, ◌≤◌, ◌==◌, ◌&&◌, Bool, true, false, nat_lt, nat_le, List, [], ◌∷◌, ◌++◌, filter, length, take, drop}
+use Rattle.std.proofs.Common.{◌≡◌, ℕ, ◌+◌, ◌≤◌, ◌==◌, Bool, true, false, nat_lt, nat_le, List, [], ◌∷◌, ◌++◌, filter, length, take, drop}
 use Rattle.std.proofs.Common.{refl, sym, ap, ◌∙◌, arith, cond, Some}
 use Rattle.std.specs.BTreeMap.{is_at}
 use Rattle.std.proofs.Common.{zero, suc}
+use Rattle.std.proofs.Math.Bool.{and-false}
+use Rattle.std.proofs.lemmas.Bool.{eq-eqb, le-leb, lt-leb, le-ltb, lt-ltb}
 use Rattle.std.proofs.lemmas.List.Elements.{filter-append}
 use Rattle.rdt_types.specs.declared.address.Address.{Address}
 use Rattle.rdt_types.specs.Addresses.{address_cmp}
@@ -19,19 +21,16 @@ use Rattle.txn_lang.specs.States.{Journal}
 use Rattle.journal_core.specs.Changes.{changes, changes_of, changes_by, past, up_to, between, of_shard, of_address}
 use Rattle.journal_core.specs.Pairs.{AreNumberedFrom}
 use Rattle.journal_core.specs.Logs.{Keeps}
-use Rattle.journal_core.proofs.Passing.{moved, first_clash-past, meets-past}
+use Rattle.journal_core.proofs.Passing.{moved, fails-middle, first_clash-past, meets-past}
 use Rattle.journal_core.specs.Kinds.{AreOfTheirKinds}
 use Rattle.journal_core.proofs.Rising.{changes-more, numbered-more}
 use Rattle.journal_core.proofs.OfRuns.{kinds-more}
-use Rattle.journal_core.specs.ByShard.{HasGrown, HasAdded}
-
--- a number is itself
-itself : (n : ℕ) → (n == n) ≡ true
-itself n = grind arith
+use Rattle.journal_core.specs.ByShard.{HasAdded}
 
 -- what is at an address is in its shard
 at_address : (address other : Address) (shards : ℕ) → is_at (address_cmp address) other ≡ true → (shard_of other shards == shard_of address shards) ≡ true
-at_address address other shards here = rw (sym (address_cmp-equal address other (equal (address_cmp address other) here))) (itself (shard_of address shards))
+at_address address other shards here =
+    rw (sym (address_cmp-equal address other (equal (address_cmp address other) here))) (eq-eqb (shard_of address shards) (shard_of address shards) refl)
 
 -- what is in another shard is at another address
 elsewhere : (address other : Address) (shards : ℕ) → (shard_of other shards == shard_of address shards) ≡ false → is_at (address_cmp address) other ≡ false
@@ -40,16 +39,6 @@ elsewhere address other shards apart = by (is_at (address_cmp address) other) re
     by : (b : Bool) → is_at (address_cmp address) other ≡ b → is_at (address_cmp address) other ≡ false
     by false here = here
     by true here = absurd (let also = at_address address other shards here in cc)
-
--- what is at another address doesn't meet
-apart_all : (a c : Bool) → ((a && false) && c) ≡ false
-apart_all true c = refl
-apart_all false c = refl
-
--- nor is it past the base and at the address, whatever its number
-apart_one : (a : Bool) → (a && false) ≡ false
-apart_one true = refl
-apart_one false = refl
 
 -- the first clash is among the changes of its shard
 pub first_clash-in_shard : (based : Based) (shards : ℕ) (all : List Change)
@@ -64,7 +53,7 @@ first_clash-in_shard based shards (change ∷ rest) =
     by later true here = rw here (ap (λ o. cond (clashes based change) (Some change.number) o) later)
     by later false here =
         rw here (rw (elsewhere based.address change.address shards here)
-        (rw (apart_all (nat_lt based.base change.number) (clash based.obs change.delta)) later))
+        (rw (fails-middle (nat_lt based.base change.number) (clash based.obs change.delta)) later))
 
 -- and so is all that it may meet
 pub meets-in_shard : (based : Based) (shards : ℕ) (all : List Change)
@@ -78,7 +67,7 @@ meets-in_shard based shards (change ∷ rest) =
         → filter (meets based) (of_shard shards (shard_of based.address shards) (change ∷ rest)) ≡ filter (meets based) (change ∷ rest)
     by later true here = rw here (ap (λ o. cond (meets based change) (change ∷ o) o) later)
     by later false here =
-        rw here (rw (elsewhere based.address change.address shards here) (rw (apart_one (nat_lt based.base change.number)) later))
+        rw here (rw (elsewhere based.address change.address shards here) (rw (and-false (nat_lt based.base change.number)) later))
 
 -- past a number, the first clash in the list of its shard is that of the observation as if it was made there
 pub first_clash-here : (based : Based) (from shards : ℕ) (here all : List Change) → based.base ≤ from
@@ -106,7 +95,7 @@ of_address-in_shard address shards (change ∷ rest) =
     by later false here = rw here (rw (elsewhere address change.address shards here) later)
 
 -- two tests may change places
-swapped : {X : Type 0} (p q : X → Bool) (xs : List X) → filter p (filter q xs) ≡ filter q (filter p xs)
+pub swapped : {X : Type 0} (p q : X → Bool) (xs : List X) → filter p (filter q xs) ≡ filter q (filter p xs)
 swapped p q [] = refl
 swapped p q (x ∷ xs) = by (p x) refl (q x) refl (swapped p q xs)
   where
@@ -153,34 +142,18 @@ failing p commit rest more here later =
     ∙ ap (λ front. front ++ filter (λ change. p change.number) (changes rest)) (none_of p commit.number commit.deltas here)
     ∙ later
 
--- how numbers compare
-is_up_to : (k m : ℕ) → k ≤ m → nat_le k m ≡ true
-is_up_to k m order = grind (arith, order)
-
--- a number isn't up to a lesser one
-isnt_up_to : (k m : ℕ) → m < k → nat_le k m ≡ false
-isnt_up_to k m order = grind (arith, order)
-
--- a number is past each lesser one
-is_past : (k m : ℕ) → m < k → nat_lt m k ≡ true
-is_past k m order = grind (arith, order)
-
--- a number isn't past one that it is up to
-isnt_past : (k m : ℕ) → k ≤ m → nat_lt m k ≡ false
-isnt_past k m order = grind (arith, order)
-
 -- none of the commits past a number is up to it
 none_up_to : (m n : ℕ) (journal : Journal) → m ≤ n → AreNumberedFrom n journal → up_to m (changes journal) ≡ []
 none_up_to m n [] order numbered = refl
 none_up_to m n (commit ∷ rest) order numbered =
-    failing (λ k. nat_le k m) commit rest [] (isnt_up_to commit.number m (omega (arith, order, numbered.0)))
+    failing (λ k. nat_le k m) commit rest [] (lt-leb commit.number m (omega (arith, order, numbered.0)))
     (none_up_to m (n + 1) rest (omega (arith, order)) numbered.1)
 
 -- all of them are past it
 all_past : (m n : ℕ) (journal : Journal) → m ≤ n → AreNumberedFrom n journal → past m (changes journal) ≡ changes journal
 all_past m n [] order numbered = refl
 all_past m n (commit ∷ rest) order numbered =
-    passing (λ k. nat_lt m k) commit rest (changes rest) (is_past commit.number m (omega (arith, order, numbered.0)))
+    passing (λ k. nat_lt m k) commit rest (changes rest) (lt-ltb m commit.number (omega (arith, order, numbered.0)))
     (all_past m (n + 1) rest (omega (arith, order)) numbered.1)
 
 -- the changes up to a number are those of so many commits
@@ -189,7 +162,7 @@ changes-up_to m n zero [] is numbered = refl
 changes-up_to m n (suc t) [] is numbered = refl
 changes-up_to m n zero (commit ∷ rest) is numbered = none_up_to m n (commit ∷ rest) (omega (arith, is)) numbered
 changes-up_to m n (suc t) (commit ∷ rest) is numbered =
-    passing (λ k. nat_le k m) commit rest (changes (take t rest)) (is_up_to commit.number m (omega (arith, is, numbered.0)))
+    passing (λ k. nat_le k m) commit rest (changes (take t rest)) (le-leb commit.number m (omega (arith, is, numbered.0)))
     (changes-up_to m (n + 1) t rest (omega (arith, is)) numbered.1)
 
 -- the changes past a number are those of the others
@@ -198,7 +171,7 @@ changes-past m n zero [] is numbered = refl
 changes-past m n (suc t) [] is numbered = refl
 changes-past m n zero (commit ∷ rest) is numbered = all_past m n (commit ∷ rest) (omega (arith, is)) numbered
 changes-past m n (suc t) (commit ∷ rest) is numbered =
-    failing (λ k. nat_lt m k) commit rest (changes (drop t rest)) (isnt_past commit.number m (omega (arith, is, numbered.0)))
+    failing (λ k. nat_lt m k) commit rest (changes (drop t rest)) (le-ltb m commit.number (omega (arith, is, numbered.0)))
     (changes-past m (n + 1) t rest (omega (arith, is)) numbered.1)
 
 -- the first commits are numbered too
@@ -216,19 +189,6 @@ changes-between first last journal numbered =
     ∙ changes-past first 0 first (take last journal) (omega arith) (numbered-take 0 last journal numbered))
 
 -- ---- one commit more
-
--- the same lists with more memory keep what they keep
-pub keeps-grown : (commits : Journal) (shards : ℕ) (old new : List (List Change × ℕ)) (m n room : ℕ)
-    → Keeps commits shards old m room → room ≤ n → HasGrown old new → Keeps commits shards new n room
-keeps-grown commits shards old new m n room kept more grown = record {
-  numbered = kept.numbered;
-  kinds = kept.kinds;
-  few = kept.few;
-  theirs = record { as_many = grown.as_many ∙ kept.theirs.as_many; theirs = λ shard. grown.same shard ∙ kept.theirs.theirs shard };
-  one_more = more;
-  some_more = λ place within.
-      let before = kept.some_more place (rw (← grown.as_many) within) in let after = grown.kept place in omega (arith, before, after);
-}
 
 -- one commit more, with its changes, keeps all in order; the memory for it is used up
 pub keeps-more : (old : Journal) (shards : ℕ) (lists : List (List Change × ℕ)) (commit : Commit) (new : Journal) (after : List (List Change × ℕ)) (m n room : ℕ)

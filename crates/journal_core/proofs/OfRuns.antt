@@ -1,6 +1,5 @@
 -- The deltas of a run are of the kinds of their addresses, and so are those of a commit that is one of a run.
 use Rattle.std.proofs.Common.{◌≡◌, Bool, true, false, cond, List, [], ◌∷◌, ◌++◌, fold, Option, Some, None, refl, sym, ap, ◌∙◌, subst}
-use Rattle.std.specs.List.{AllByRecursion}
 use Rattle.std.specs.BTreeMap.{insert_entry}
 use Rattle.std.specs.Ordering.{is_eq, match_ordering}
 use Rattle.std.specs.declared.cmp.Ordering.{Ordering}
@@ -33,11 +32,7 @@ use Rattle.txn_lang.specs.Execution.{Ran, need, done, Own, own, own_read, own_va
 use Rattle.txn_lang.proofs.Simulation.{Suits, Simulates, Fine, Same, Lacking, onto, body_simulates, answered_bounded, answered_lacking}
 use Rattle.journal_core.specs.Kinds.{AreOfTheirKinds, HasKinds}
 use Rattle.journal_core.specs.Keeping.{IsOfRun}
-
--- it holds of one item more
-pub each-more : {A : Type 0} (P : A → Type 0) (xs : List A) (x : A) → AllByRecursion P xs → P x → AllByRecursion P (xs ++ x ∷ [])
-each-more P [] x all holds = (holds, tt)
-each-more P (y ∷ ys) x all holds = (all.0, each-more P ys x all.1 holds)
+use Rattle.journal_core.proofs.Each.{each-push}
 
 -- ---- deltas of operations
 
@@ -169,4 +164,4 @@ kind-at (pair ∷ ds) a d all e = by (kind-at ds a d all.1) (is_eq (address_cmp 
 
 -- a journal with one commit more has kinds if that has
 pub kinds-more : (journal : Journal) (commit : Commit) → HasKinds journal → AreOfTheirKinds commit.deltas → HasKinds (journal ++ commit ∷ [])
-kinds-more journal commit all one = each-more (λ c. AreOfTheirKinds c.deltas) journal commit all one
+kinds-more journal commit all one = each-push (λ c. AreOfTheirKinds c.deltas) journal commit all one

@@ -1,7 +1,8 @@
 -- The least pair among changes is the first of the journal's pairs.
-use Rattle.std.proofs.Common.{◌≡◌, ℕ, ◌+◌, ◌<◌, ◌≤◌, Bool, true, false, nat_lt, ◌||◌, List, [], ◌∷◌, ◌++◌, Option, Some, None, slice_get, refl, sym}
+use Rattle.std.proofs.Common.{◌≡◌, ℕ, ◌+◌, ◌<◌, Bool, true, false, nat_lt, ◌||◌, List, [], ◌∷◌, ◌++◌, Option, Some, None, slice_get, refl, sym}
 use Rattle.std.proofs.Common.{ap, ◌∙◌, arith, cond}
 use Rattle.std.specs.List.{list_any}
+use Rattle.std.proofs.lemmas.Bool.{le-ltb, lt-ltb}
 use Rattle.rdt_types.specs.DeltaMaps.{Deltas}
 use Rattle.change_feed.specs.declared.change.Change.{Change}
 use Rattle.abort_witness.specs.declared.witness.Based.{Based}
@@ -93,27 +94,19 @@ hits-start place (first ∷ rest) commit = by_clash (hits-start (place + 1) rest
     by_clash later true = refl
     by_clash later false = later
 
--- a number isn't below one that is no greater
-not_below : (m n : ℕ) → n ≤ m → nat_lt m n ≡ false
-not_below m n within = grind (arith, within)
-
--- a lesser number is below a greater one
-is_below : (m n : ℕ) → m < n → nat_lt m n ≡ true
-is_below m n within = grind (arith, within)
-
 -- a hit at a place comes before the other hits of its commit, and before what is found behind the commit
 here-first : (n place : ℕ) (hits : List Found) (later : Option Found) → StartsAt n hits → Behind n later
     → lesser (Some (record { place = place; number = n })) (first_or hits later) ≡ Some (record { place = place; number = n })
 here-first n place [] None starts behind = refl
-here-first n place [] (Some found) starts behind = rw (not_below found.number n (omega (arith, behind))) refl
-here-first n place (found ∷ rest) later starts behind = rw (not_below found.number n (omega (arith, starts))) refl
+here-first n place [] (Some found) starts behind = rw (le-ltb found.number n (omega (arith, behind))) refl
+here-first n place (found ∷ rest) later starts behind = rw (le-ltb found.number n (omega (arith, starts))) refl
 
 -- what is found behind a commit comes behind its hits
 later-first : (n place : ℕ) (number : Option ℕ) (hits : List Found) (later : Option Found) → StartsAt n hits → BehindNumber n number
     → lesser (found_at place number) (first_or hits later) ≡ first_or hits (lesser (found_at place number) later)
 later-first n place number [] later starts behind = refl
 later-first n place None (found ∷ rest) later starts behind = refl
-later-first n place (Some number) (found ∷ rest) later starts behind = rw (is_below found.number number (omega (arith, starts, behind))) refl
+later-first n place (Some number) (found ∷ rest) later starts behind = rw (lt-ltb found.number number (omega (arith, starts, behind))) refl
 
 -- among the changes of a commit and then others, the first hit of the commit is the least pair, if it has one
 least-hits : (place : ℕ) (based : List Based) (commit : Commit) (rest : List Change) → Rises (commit.number + 1) rest

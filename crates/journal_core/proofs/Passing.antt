@@ -16,6 +16,11 @@ moved based from = record based { base = from }
 pub lower : (a m n : ℕ) → a ≤ m → nat_lt m n ≡ true → nat_lt a n ≡ true
 lower a m n within here = grind (arith, within, here)
 
+-- of three tests the middle one fails, and so they don't all hold
+pub fails-middle : (a b : Bool) → ((a && false) && b) ≡ false
+fails-middle true b = refl
+fails-middle false b = refl
+
 -- the first clash among the changes past a number is that of the observation as if it was made there
 pub first_clash-past : (based : Based) (from : ℕ) (all : List Change) → based.base ≤ from
     → first_clash based (past from all) ≡ first_clash (moved based from) all

@@ -44,7 +44,7 @@ changes-rise n (commit ∷ rest) numbered =
     (one_commit commit.number commit.deltas (changes rest) (rw numbered.0 (changes-rise (n + 1) rest numbered.1)))
 
 -- no number is below the one from which they rise
-rises-at : (n : ℕ) (all : List Change) (j : ℕ) (d : Change) → Rises n all → j < length all → n ≤ (get_or all j d).number
+pub rises-at : (n : ℕ) (all : List Change) (j : ℕ) (d : Change) → Rises n all → j < length all → n ≤ (get_or all j d).number
 rises-at n [] j d rises within = absurd (omega (arith, within))
 rises-at n (change ∷ rest) zero d rises within = rises.0
 rises-at n (change ∷ rest) (suc j) d rises within =
@@ -97,10 +97,6 @@ later m n = grind arith
 -- all that stands behind a place
 pub all_behind : {X : Type 0} (xs : List X) (i : ℕ) → take (length xs - i) (drop i xs) ≡ drop i xs
 all_behind xs i = grind (arith, common_steps)
-
--- the changes of a journal from its beginning on
-pub journal-rises : (journal : Journal) (all : List Change) → all ≡ changes journal → AreNumberedFrom 0 journal → Rises 0 all
-journal-rises journal all same numbered = rw same (changes-rise 0 journal numbered)
 
 -- the changes of one commit more stand at the end
 pub changes-more : (journal : Journal) (commit : Commit) → changes (journal ++ commit ∷ []) ≡ changes journal ++ changes_of commit

@@ -1,6 +1,6 @@
 -- The pair that an append answers is of an observation and a commit that clash, by the one delta at that address.
 use Rattle.std.proofs.Common.{◌≡◌, ℕ, ◌+◌, ◌-◌, ◌<◌, ◌≤◌, ◌==◌, zero, suc, max, Bool, true, false, ◌&&◌, ◌||◌, nat_lt, cond, List, [], ◌∷◌, ◌++◌, map}
-use Rattle.std.proofs.Common.{length, get_or, Option, Some, None, slice_get, Bor, Result, Ok, Err, IfOk, refl, sym, ap, subst, ◌∙◌, arith}
+use Rattle.std.proofs.Common.{length, get_or, Option, Some, None, slice_get, Bor, refl, sym, ap, subst, ◌∙◌, arith}
 use Rattle.std.specs.Prelude.{IsSome, option_copied}
 use Rattle.std.specs.List.{list_any, AllByRecursion}
 use Rattle.std.specs.List.Sorted.{IsStrictlySortedBy}
@@ -10,6 +10,7 @@ use Rattle.std.specs.Ordering.{is_eq}
 use Rattle.std.specs.declared.cmp.Ordering.{Ordering}
 use Rattle.std.specs.declared.cmp.Ordering.TheVariants.{Less, Equal, Greater}
 use Rattle.std.proofs.lemmas.Map.Keys.{sorted_head, sorted_tail}
+use Rattle.std.proofs.lemmas.Option.{slice_get_within, get_or_from_slice_get}
 use Rattle.plain_data.proofs.Entries.{equal}
 use Rattle.rdt_types.specs.declared.delta.Delta.{Delta}
 use Rattle.rdt_types.specs.Addresses.{address_cmp}
@@ -34,8 +35,9 @@ use Rattle.journal_core.specs.Pairs.{hits_from, pairs, least_pair, AreNumberedFr
 use Rattle.journal_core.specs.Journals.{commit_at}
 use Rattle.journal_core.specs.Kinds.{AreOfTheirKinds, HasKinds}
 use Rattle.journal_core.specs.Witnesses.{AreBasedOfOneKind, IsHit, IsWitnessOf}
+use Rattle.journal_core.proofs.Each.{each-at}
 use Rattle.journal_core.proofs.OfRuns.{kind-at}
-use Rattle.journal_core.proofs.Passing.{moved, lower}
+use Rattle.journal_core.proofs.Passing.{moved, lower, fails-middle}
 
 -- ---- the one delta at an address
 
@@ -60,11 +62,6 @@ fails-last : (a b : Bool) → ((a && b) && false) ≡ false
 fails-last true true = refl
 fails-last true false = refl
 fails-last false b = refl
-
--- nor does one hold whose middle part fails
-fails-middle : (a b : Bool) → ((a && false) && b) ≡ false
-fails-middle true b = refl
-fails-middle false b = refl
 
 -- where a change of a commit clashes, its delta at the observation's address does
 pub alone : (based : Based) (n : ℕ) (deltas : Deltas) (d : Delta) → IsStrictlySortedBy address_cmp (keys_of deltas)
@@ -141,17 +138,18 @@ first-hit place (first ∷ rest) commit found e = by (first-hit (place + 1) rest
             clashing = later.clashing }
 
 -- a journal has this pair, of commits behind a number
-record PairIn (n : ℕ) (based : List Based) (journal : Journal) (found : Found) : Type 0 where
-  ahead : ℕ
-  observation : Based
-  commit : Commit
-  number : found.number ≡ n + ahead + 1
-  is : slice_get journal ahead ≡ Some commit
-  placed : slice_get based found.place ≡ Some observation
-  clashing : list_any (clashes observation) (changes_of commit) ≡ true
+pub record PairIn (n : ℕ) (based : List Based) (journal : Journal) (found : Found) : Type 0 where
+  pub ahead : ℕ
+  pub observation : Based
+  pub commit : Commit
+  pub number : found.number ≡ n + ahead + 1
+  pub own : found.number ≡ commit.number
+  pub is : slice_get journal ahead ≡ Some commit
+  pub placed : slice_get based found.place ≡ Some observation
+  pub clashing : list_any (clashes observation) (changes_of commit) ≡ true
 
 -- the first pair of a journal is the first hit of the first commit that has one
-first-pair : (n : ℕ) (based : List Based) (journal : Journal) (found : Found) → AreNumberedFrom n journal → slice_get (pairs based journal) 0 ≡ Some found
+pub first-pair : (n : ℕ) (based : List Based) (journal : Journal) (found : Found) → AreNumberedFrom n journal → slice_get (pairs based journal) 0 ≡ Some found
     → PairIn n based journal found
 first-pair n based [] found numbered e = absurd (cc)
 first-pair n based (commit ∷ rest) found numbered e = by (first-pair (n + 1) based rest found numbered.1) (hits_from 0 based commit) refl e
@@ -164,6 +162,7 @@ first-pair n based (commit ∷ rest) found numbered e = by (first-pair (n + 1) b
           observation = hit.observation;
           commit = commit;
           number = omega (arith, number, own);
+          own = hit.number;
           is = refl;
           placed = subst (λ p. slice_get based p ≡ Some hit.observation) place hit.placed;
           clashing = hit.clashing;
@@ -175,6 +174,7 @@ first-pair n based (commit ∷ rest) found numbered e = by (first-pair (n + 1) b
       observation = pair.observation;
       commit = pair.commit;
       number = omega (arith, number);
+      own = pair.own;
       is = pair.is;
       placed = pair.placed;
       clashing = pair.clashing;
@@ -184,6 +184,14 @@ first-pair n based (commit ∷ rest) found numbered e = by (first-pair (n + 1) b
         → slice_get (hits ++ pairs based rest) 0 ≡ Some found → PairIn n based (commit ∷ rest) found
     by behind [] same e = of_rest (behind e)
     by behind (hit ∷ others) same e = of_commit (first-hit 0 based commit found (ap (λ hits. slice_get hits 0) same ∙ e))
+
+-- the commit of a number stands at the place before it
+pub commit-there : (journal : Journal) (place number : ℕ) → number ≡ place + 1 → commit_at journal number ≡ slice_get journal place
+commit-there journal place number is = by (number == 0) refl
+  where
+    by : (b : Bool) → (number == 0) ≡ b → cond b None (slice_get journal (number - 1)) ≡ slice_get journal place
+    by true none = absurd (grind (arith, is, none))
+    by false some = ap (slice_get journal) (let same : number - 1 ≡ place = omega (arith, is) in same)
 
 -- ---- past the fronts
 
@@ -226,18 +234,6 @@ before shards fronts (first ∷ rest) zero seen e = record { observation = first
 before shards fronts (first ∷ rest) (suc place) seen e =
     let later = before shards fronts rest place seen e in record { observation = later.observation; placed = later.placed; same = later.same }
 
--- the commit that stands ahead has the number behind its place
-at-number : (journal : Journal) (number ahead : ℕ) (commit : Commit) → number ≡ 0 + ahead + 1 → slice_get journal ahead ≡ Some commit
-    → commit_at journal number ≡ Some commit
-at-number journal number ahead commit is e = by (number == 0) refl
-  where
-    place : number - 1 ≡ ahead
-    place = omega (arith, is)
-
-    by : (b : Bool) → (number == 0) ≡ b → cond b None (slice_get journal (number - 1)) ≡ Some commit
-    by true none = absurd (grind (arith, is, none))
-    by false some = ap (slice_get journal) place ∙ e
-
 -- the least pair past the fronts is of an observation and a commit that clash
 pub least-hits : (shards : ℕ) (fronts : List PreparedFront) (based : List Based) (journal : Journal) (found : Found) → AreNumbered journal
     → least_pair (past_fronts shards fronts based) journal ≡ Some found → IsHit based journal found
@@ -248,19 +244,13 @@ least-hits shards fronts based journal found numbered e =
       observation = seen.observation;
       commit = pair.commit;
       placed = seen.placed;
-      numbered = at-number journal found.number pair.ahead pair.commit pair.number pair.is;
+      numbered = commit-there journal pair.ahead found.number (omega (arith, pair.number)) ∙ pair.is;
       clashing =
           any-moved seen.observation from (changes_of pair.commit) (omega arith)
           (subst (λ b. list_any (clashes b) (changes_of pair.commit) ≡ true) (sym seen.same) pair.clashing);
     }
 
 -- ---- places within their lists
-
--- a place where an item stands is within the list
-pub place-within : {A : Type 0} (xs : List A) (i : ℕ) (x : A) → slice_get xs i ≡ Some x → i < length xs
-place-within [] i x e = absurd (cc)
-place-within (y ∷ ys) zero x e = omega arith
-place-within (y ∷ ys) (suc i) x e = let h = place-within ys i x e in omega arith
 
 -- a number that a commit has is behind 0 and within the journal
 pub number-within : (journal : Journal) (number : ℕ) (commit : Commit) → commit_at journal number ≡ Some commit
@@ -270,23 +260,11 @@ number-within journal number commit e = by (number == 0) refl e
     by : (b : Bool) → (number == 0) ≡ b → cond b None (slice_get journal (number - 1)) ≡ Some commit
         → (0 < number) × (number - 1 < length journal) × (slice_get journal (number - 1) ≡ Some commit)
     by true none e = absurd (cc)
-    by false some e = (grind (arith, some), place-within journal (number - 1) commit e, e)
+    by false some e = (grind (arith, some), slice_get_within journal (number - 1) commit e, e)
 
--- what an index reads is what stands there
-pub item-read : {A : Type 0} (xs : List A) (i : ℕ) (x r : A) → slice_get xs i ≡ Some x → r ≡ get_or xs i r → r ≡ x
-item-read [] i x r e is = absurd (cc)
-item-read (y ∷ ys) zero x r e is = cc
-item-read (y ∷ ys) (suc i) x r e is = item-read ys i x r e is
-
--- so it stands there
+-- what an index reads where an item stands is the item, so it stands there
 stands-at : {A : Type 0} (xs : List A) (i : ℕ) (x r : A) → slice_get xs i ≡ Some x → r ≡ get_or xs i r → slice_get xs i ≡ Some r
-stands-at xs i x r e is = e ∙ ap Some (sym (item-read xs i x r e is))
-
--- what holds of each item holds of the one at a place
-pub each-at : {A : Type 0} (P : A → Type 0) (xs : List A) (i : ℕ) (x : A) → AllByRecursion P xs → slice_get xs i ≡ Some x → P x
-each-at P [] i x all e = absurd (cc)
-each-at P (y ∷ ys) zero x all e = let same : y ≡ x = cc in subst P same all.0
-each-at P (y ∷ ys) (suc i) x all e = each-at P ys i x all.1 e
+stands-at xs i x r e is = e ∙ ap Some (sym (is ∙ get_or_from_slice_get xs i x r e))
 
 -- ---- the witness
 
@@ -294,11 +272,6 @@ each-at P (y ∷ ys) (suc i) x all e = each-at P ys i x all.1 e
 pub borrowed : {A : Type 0} (o : Option (Bor A)) → IsSome (option_copied o) → IsSome o
 borrowed None is = is
 borrowed (Some x) is = refl
-
--- what follows of each answer follows of the answer
-pub if_ok : {T E : Type 0} (r : Result T E) (P Q : T → Type 0) → ((x : T) → P x → Q x) → IfOk r P → IfOk r Q
-if_ok (Ok x) P Q more holds = more x holds
-if_ok (Err e) P Q more holds = tt
 
 module _ (based : List Based) (commits : Journal) (found : Found) (hit : IsHit based commits found) (observation : Based) (commit : Commit) (d : Delta)
     (placed : observation ≡ get_or based found.place observation) (numbered : commit ≡ get_or commits (found.number - 1) commit)
@@ -326,7 +299,7 @@ module _ (based : List Based) (commits : Journal) (found : Found) (hit : IsHit b
     commit = commit;
     delta = d;
     placed = stands-at based found.place hit.observation observation hit.placed placed;
-    numbered = hit.numbered ∙ ap Some (sym (item-read commits (found.number - 1) hit.commit commit its_place numbered));
+    numbered = hit.numbered ∙ ap Some (sym (numbered ∙ get_or_from_slice_get commits (found.number - 1) hit.commit commit its_place));
     changed = changed;
     names = names;
   }

@@ -1,10 +1,11 @@
 -- A shard that follows the journal goes on holding it, and so do the others.
-use Rattle.std.proofs.Common.{◌≡◌, ℕ, zero, suc, ◌+◌, ◌≤◌, ◌<◌, max, List, [], ◌∷◌, ◌++◌, length, take, map, get_or, set, Some, Result, Ok, Err, OnOk}
+use Rattle.std.proofs.Common.{◌≡◌, ℕ, zero, suc, ◌+◌, ◌≤◌, ◌<◌, max, List, [], ◌∷◌, ◌++◌, length, take, map, get_or, set, Some, Result, Ok, Err}
 use Rattle.std.proofs.Common.{IfOk, Bool, true, false, cond, ◌-◌, inl, inr, refl, sym, ap, ◌∙◌, subst, arith}
 use Rattle.std.specs.Prelude.{◌⊎◌, slice_get, nat_lt}
 use Rattle.std.proofs.lemmas.List.{take-append-le, length-append, length-set, get_or-set_same}
 use Rattle.std.proofs.lemmas.Bool.Decides.{nat_tests}
 use Rattle.std.proofs.lemmas.Option.{slice_get_read}
+use Rattle.std.proofs.lemmas.Result.{IfOk-weaker}
 use Rattle.rdt_types.specs.declared.address.Address.{Address}
 use Rattle.rdt_types.specs.declared.value.Value.{Value}
 use Rattle.rdt_types.specs.Shards.{shard_of}
@@ -109,11 +110,6 @@ fronts-up_to n [] each i = omega arith
 fronts-up_to n (s ∷ shards) each zero = each 0 s refl
 fronts-up_to n (s ∷ shards) each (suc i) = fronts-up_to n shards (λ j x is. each (suc j) x is) i
 
--- what follows from a fact at an answer
-pub on_ok : {V E P Q : Type 0} (r : Result V E) → (P → Q) → OnOk r P → OnOk r Q
-on_ok (Ok v) f p = f p
-on_ok (Err e) f p = tt
-
 module _ (journal : Journal) (settings : Settings) (shards : List Sharded) (held : AreHeld journal settings shards) (place : ℕ) where
   -- the shard at a place
   pub shard-there : (s : Sharded) → place < settings.shards → s ≡ get_or shards place s → slice_get shards place ≡ Some s
@@ -175,11 +171,6 @@ state-first journal n front address within = ap (λ (first : Journal). left_by f
 
 -- ---- a read in a shard
 
--- what follows from a fact at each value follows at the answer
-if_ok : {V E : Type 0} (r : Result V E) (P Q : V → Type 0) → ((v : V) → P v → Q v) → IfOk r P → IfOk r Q
-if_ok (Ok v) P Q f p = f v p
-if_ok (Err e) P Q f p = tt
-
 -- what follows from two facts at each value follows at the answer
 if_both : {V E : Type 0} (r : Result V E) (P Q R : V → Type 0) → ((v : V) → P v → Q v → R v) → IfOk r P → IfOk r Q → IfOk r R
 if_both (Ok v) P Q R f p q = f v p q
@@ -223,12 +214,12 @@ module _ (journal : Journal) (settings : Settings) (before after : List Sharded)
   module _ {E : Type 0} (r : Result Snap E) (base : IfOk r (λ snap. snap.base ≡ s.front)) where
     -- the base of what was read is the shard's front
     pub read-base : IfOk r (λ snap. snap.base ≡ top)
-    read-base = if_ok r (λ snap. snap.base ≡ s.front) (λ snap. snap.base ≡ top) (λ snap e. e ∙ reached-top) base
+    read-base = IfOk-weaker r (λ snap. snap.base ≡ s.front) (λ snap. snap.base ≡ top) (λ snap e. e ∙ reached-top) base
 
     -- so that front was set to the base
     pub read-moved : IfOk r (λ snap. fronts_of after ≡ set (fronts_of before) (shard_of address settings.shards) snap.base)
     read-moved =
-        if_ok r (λ snap. snap.base ≡ s.front) (λ snap. fronts_of after ≡ set (fronts_of before) (shard_of address settings.shards) snap.base)
+        IfOk-weaker r (λ snap. snap.base ≡ s.front) (λ snap. fronts_of after ≡ set (fronts_of before) (shard_of address settings.shards) snap.base)
         (λ snap e. moved-top ∙ ap (set (fronts_of before) (shard_of address settings.shards)) (sym (e ∙ reached-top))) base
 
     -- what the first commits up to the front leave is what they leave of the whole journal

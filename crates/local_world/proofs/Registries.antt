@@ -6,7 +6,7 @@ use Rattle.std.specs.Option.{option_map_or}
 use Rattle.std.specs.List.{AllByRecursion}
 use Rattle.std.specs.List.Sorted.{IsStrictlySortedBy}
 use Rattle.std.specs.Map.{keys_of}
-use Rattle.std.specs.Ordering.{nat_cmp, is_eq}
+use Rattle.std.specs.Ordering.{nat_cmp}
 use Rattle.std.specs.declared.cmp.Ordering.{Ordering}
 use Rattle.std.specs.declared.cmp.Ordering.TheVariants.{Less, Equal, Greater}
 use Rattle.std.specs.BTreeMap.{is_at}
@@ -15,7 +15,7 @@ use Rattle.std.proofs.Math.Path.{fun_ext}
 use Rattle.std.proofs.Math.Seq.{take-length}
 use Rattle.std.proofs.lemmas.List.{append_assoc, take-append-le, take-append-drop, length-append}
 use Rattle.std.proofs.lemmas.Map.Lookups.{exact_unsigned}
-use Rattle.std.proofs.lemmas.Cmp.{nat_cmp_total}
+use Rattle.std.proofs.lemmas.Cmp.{eq_by_cmp_equiv, nat_cmp_total}
 use Rattle.std.proofs.lemmas.Bool.Decides.{nat_tests}
 use Rattle.plain_data.proofs.Entries.{equal, sorted-insert_entry}
 use Rattle.rdt_types.specs.declared.address.Address.{Address}
@@ -38,14 +38,14 @@ use Rattle.journal_core.proofs.ByShard.{changes-up_to, changes-between}
 use Rattle.reactive_registry.specs.Registered.{Kept, Registered, kept_of, with_kept, is_address, is_subscribed, told, emptied, subscribed}
 use Rattle.reactive_registry.specs.Registered.{unsubscribed, changes_at, pending_for, pending_of}
 use Rattle.reactive_registry.specs.Standing.{since, KeptFor, StandsFor}
-use Rattle.reactive_registry.proofs.Pairs.{same_number, turned}
+use Rattle.reactive_registry.proofs.Pairs.{same_number}
 use Rattle.reactive_registry.proofs.Standing.{deltas-chosen, takes_stand}
 use Rattle.reactive_registry.proofs.GoingOn.{subscribes_stand, unsubscribes_stand}
 use Rattle.reactive_registry.proofs.Clients.{one_stands, all_stand}
 use Rattle.docc_prepare.specs.Stores.{CLIENTS}
 use Rattle.local_world.specs.Stored.{taken_by}
 use Rattle.local_world.specs.Standing.{IsFollowing, IsFedBy}
-use Rattle.local_world.proofs.SamePairs.{same_pairs, at_itself}
+use Rattle.local_world.proofs.SamePairs.{same_pairs}
 
 -- ---- the changes of a journal
 
@@ -70,10 +70,6 @@ changes-split journal front numbered =
 
 -- ---- numbers
 
--- a number compares as equal to itself
-itself : (n : ℕ) → is_at (nat_cmp n) n ≡ true
-itself n = ap is_eq (at_itself nat_cmp nat_cmp_total n)
-
 -- the two ways to compare numbers agree
 pub same_test : (m n : ℕ) → is_at (nat_cmp m) n ≡ (n == m)
 same_test m n = by (is_at (nat_cmp m) n) (n == m) refl refl
@@ -84,7 +80,7 @@ same_test m n = by (is_at (nat_cmp m) n) (n == m) refl refl
     by true false e h = absurd (let same : m ≡ n = same_number m n e in grind (arith, nat_tests))
     by false true e h =
         let same : n ≡ m = grind (arith, nat_tests) in
-        let not : true ≡ false = sym (itself m) ∙ ap (is_at (nat_cmp m)) (sym same) ∙ e in cc
+        let not : true ≡ false = sym ((eq_by_cmp_equiv nat_cmp_total).refl m) ∙ ap (is_at (nat_cmp m)) (sym same) ∙ e in cc
 
 -- ---- one subscriber
 
@@ -348,10 +344,6 @@ module _ (journal : Journal) (old new : Registered) (client : ℕ) (following : 
 
 -- ---- an address comes or goes
 
--- an address compares as equal to itself
-address_itself : (a : Address) → is_at (address_cmp a) a ≡ true
-address_itself a = ap is_eq (at_itself address_cmp addresses.total-law a)
-
 -- what was missed at an address
 missed-is : (journal : Journal) (front from : ℕ) (address : Address) (missed : Tail) (k : Kept) → from ≡ k.taken
     → HasAll from front (of_address address (between from front (changes journal))) missed
@@ -359,7 +351,7 @@ missed-is : (journal : Journal) (front from : ℕ) (address : Address) (missed :
 missed-is journal front from address missed k taken all =
     ap (deltas_at address) all.exact
     ∙ deltas-chosen address (is_at (address_cmp address)) (between from front (changes journal))
-    ∙ ap (λ b. cond b (deltas_at address (between from front (changes journal))) []) (address_itself address)
+    ∙ ap (λ b. cond b (deltas_at address (between from front (changes journal))) []) ((eq_by_cmp_equiv addresses.total-law).refl address)
     ∙ ap (λ (n : ℕ). deltas_at address (since n (up_to front (changes journal)))) taken
 
 -- by whether it is subscribed already: to subscribe never alters up to where one has taken

@@ -1,7 +1,5 @@
 -- Lists of pairs with rising keys are equal where they have the same at each key.
-use Rattle.std.proofs.Common.{◌≡◌, Option, List, refl, sym, ap, ◌∙◌}
-use Rattle.std.specs.Ordering.{ordering_reverse}
-use Rattle.std.specs.declared.cmp.Ordering.TheVariants.{Less, Equal, Greater}
+use Rattle.std.proofs.Common.{◌≡◌, List, sym, ap, ◌∙◌}
 use Rattle.std.specs.Cmp.{IsTotalOrder}
 use Rattle.std.specs.List.Sorted.{IsStrictlySortedBy}
 use Rattle.std.specs.Map.{lookup, keys_of}
@@ -28,12 +26,3 @@ module _ {K V : Type 0} (R : K → K → Ordering) where
       ∙ ap map.entries (map.same_map total exact (map.from_sorted {R = R} es) (map.from_sorted {R = R} fs)
           (λ q. found es rising q ∙ same q ∙ sym (found fs risen q)))
       ∙ map.entries-from_sorted R fs (sorted-from_rising R fs risen)
-
--- each key is equal to itself
-pub at_itself : {K : Type 0} (R : K → K → Ordering) → IsTotalOrder R → (k : K) → R k k ≡ Equal
-at_itself R total k = by (R k k) refl
-  where
-    by : (r : Ordering) → R k k ≡ r → R k k ≡ Equal
-    by Less e = absurd (let no : Less ≡ Greater = sym e ∙ total.antisymm k k ∙ ap ordering_reverse e in cc)
-    by Equal e = e
-    by Greater e = absurd (let no : Greater ≡ Less = sym e ∙ total.antisymm k k ∙ ap ordering_reverse e in cc)

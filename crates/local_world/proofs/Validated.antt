@@ -1,6 +1,5 @@
 -- What a shard answers when it validates is what the store answers.
-use Rattle.std.proofs.Common.{◌≡◌, ℕ, ◌-◌, min, cond, List, [], ◌∷◌, Option, Some, None, Ok, Err, refl, sym, ap, ◌∙◌}
-use Rattle.std.specs.Prelude.{nat_lt}
+use Rattle.std.proofs.Common.{◌≡◌, ℕ, ◌-◌, min, List, [], ◌∷◌, Option, Some, None, Ok, Err, refl, sym, ap, ◌∙◌}
 use Rattle.std.specs.List.{AllByRecursion}
 use Rattle.std.specs.Option.{option_and_then}
 use Rattle.abort_witness.specs.declared.witness.Based.{Based}
@@ -32,11 +31,6 @@ least-same (b ∷ based) = by (shard.least_base based) (least_base based) (least
     by (Some x) None e = absurd (cc)
     by (Some x) (Some y) e = let same : x ≡ y = cc in ap (λ n. Some (min b.base n)) same
 
--- a shard's late base is the store's, by whether there is a least one
-late-same : (horizon : ℕ) (o : Option ℕ) → shard.late_base horizon o ≡ late_base horizon o
-late-same horizon None = refl
-late-same horizon (Some base) = refl
-
 module _ (journal : Journal) (s : Sharded) (based : List Based) where
   -- what the store answers at the shard's front
   abbrev expected : Answer
@@ -44,7 +38,7 @@ module _ (journal : Journal) (s : Sharded) (based : List Based) where
 
   -- so what the shard calls late the store does
   late-is : late s based ≡ late_base (s.front - s.window) (least_base based)
-  late-is = late-same (s.front - s.window) (shard.least_base based) ∙ ap (late_base (s.front - s.window)) (least-same based)
+  late-is = ap (late_base (s.front - s.window)) (least-same based)
 
   -- without a late base and without a pair both answer the front
   pub as-ok : (p : Prepared) → Validates journal s based (Ok p) → Answer.prepared p ≡ expected

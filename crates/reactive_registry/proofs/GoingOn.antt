@@ -1,6 +1,7 @@
 -- One that subscribes or unsubscribes goes on standing for changes.
 use Rattle.std.proofs.Common.{◌≡◌, ℕ, Bool, true, false, not, cond, ◌||◌, List, [], ◌∷◌, ◌++◌, map, filter, refl, sym, ap, subst, ◌∙◌}
 use Rattle.std.specs.List.{list_any}
+use Rattle.std.specs.Cmp.{eq_by_cmp_equiv}
 use Rattle.std.specs.Ordering.{is_eq, match_ordering}
 use Rattle.std.specs.declared.cmp.Ordering.{Ordering}
 use Rattle.std.specs.declared.cmp.Ordering.TheVariants.{Less, Equal, Greater}
@@ -11,13 +12,14 @@ use Rattle.std.proofs.lemmas.List.Elements.{filter-append}
 use Rattle.rdt_types.specs.declared.address.Address.{Address}
 use Rattle.rdt_types.specs.declared.delta.Delta.{Delta}
 use Rattle.rdt_types.specs.Addresses.{address_cmp}
+use Rattle.rdt_types.specs.contracts.address.AddressOrd.TheImpl.Laws as addresses
 use Rattle.rdt_types.proofs.Addresses.{address_cmp-equal}
 use Rattle.change_feed.specs.declared.change.Change.{Change}
 use Rattle.change_feed.specs.Pending.{deltas_at}
 use Rattle.reactive_registry.specs.Registered.{Kept, is_address, subscribed, unsubscribed, changes_at, changes_elsewhere, addresses_but}
 use Rattle.reactive_registry.specs.Standing.{since, KeptFor}
 use Rattle.reactive_registry.specs.Laws.{SubscribesStand, UnsubscribesStand}
-use Rattle.reactive_registry.proofs.Pairs.{turned, same_address}
+use Rattle.reactive_registry.proofs.Pairs.{same_address}
 use Rattle.reactive_registry.proofs.Standing.{deltas-append}
 
 -- ---- what passes one test and fails another
@@ -194,7 +196,7 @@ module _ (changes missed : List Change) (front : ℕ) (kept : Kept) (address : A
       ∙ nothing (deltas_at a kept.changes)
       ∙ stands.deltas a
       ∙ sym (ap (λ b. cond b (deltas_at a (since kept.taken changes)) []) (any-inserted a address kept.addresses
-          ∙ ap (λ b. b || is_address kept a) (turned a address ∙ other)))
+          ∙ ap (λ b. b || is_address kept a) ((eq_by_cmp_equiv addresses.total-law).symm a address ∙ other)))
     where
       nothing : (ds : List Delta) → ds ++ [] ≡ ds
       nothing [] = refl

@@ -1,31 +1,20 @@
 -- What a pair of a subscriber and an address, come or gone, leaves of the two directions.
-use Rattle.std.proofs.Common.{◌≡◌, ℕ, ◌≤◌, Bool, true, false, cond, ◌&&◌, ◌||◌, ◌<◌, suc, List, [], ◌∷◌, ◌++◌, filter, Some, refl, sym, ap, subst, ◌∙◌, arith}
-use Rattle.std.specs.List.{All, AllByRecursion}
+use Rattle.std.proofs.Common.{◌≡◌, ℕ, ◌≤◌, Bool, true, false, cond, ◌&&◌, ◌||◌, List, [], ◌∷◌, ◌++◌, filter, Some, refl, sym, ap, subst, ◌∙◌}
+use Rattle.std.specs.List.{AllByRecursion}
 use Rattle.std.specs.Option.{option_map_or}
-use Rattle.std.specs.Ordering.{nat_cmp, is_eq, ordering_reverse}
-use Rattle.std.specs.declared.cmp.Ordering.{Ordering}
-use Rattle.std.specs.declared.cmp.Ordering.TheVariants.{Less, Equal, Greater}
+use Rattle.std.specs.Ordering.{nat_cmp}
 use Rattle.std.specs.BTreeMap.{is_at}
+use Rattle.std.proofs.lemmas.List.Elements.{recursion_from_All}
 use Rattle.std.proofs.lemmas.Map.Lookups.{exact_unsigned}
 use Rattle.plain_data.proofs.Entries.{equal}
 use Rattle.rdt_types.specs.declared.address.Address.{Address}
 use Rattle.rdt_types.specs.Addresses.{address_cmp}
-use Rattle.rdt_types.specs.contracts.address.AddressOrd.TheImpl.Laws as order
 use Rattle.rdt_types.proofs.Addresses.{address_cmp-equal}
 use Rattle.change_feed.specs.declared.change.Change.{Change}
 use Rattle.change_feed.specs.Tails.{IsTail}
 use Rattle.reactive_registry.specs.declared.places.Places.{Places}
-use Rattle.reactive_registry.specs.Registered.{Kept, kept_in, is_address, is_in}
+use Rattle.reactive_registry.specs.Registered.{Kept, kept_in, is_address}
 use Rattle.reactive_registry.specs.Places.{links, AreLinked}
-
--- equal addresses are equal either way round
-pub turned : (a b : Address) → is_eq (address_cmp a b) ≡ is_eq (address_cmp b a)
-turned a b = ap is_eq (order.total-law.antisymm a b) ∙ by (address_cmp b a)
-  where
-    by : (r : Ordering) → is_eq (ordering_reverse r) ≡ is_eq r
-    by Less = refl
-    by Equal = refl
-    by Greater = refl
 
 -- numbers that compare as equal are one
 pub same_number : (s t : ℕ) → is_at (nat_cmp s) t ≡ true → s ≡ t
@@ -120,23 +109,6 @@ put_back es s kept kept' found same q = by (is_at (nat_cmp s) q) refl
     by true e = ap (λ x. Some x) same ∙ sym found ∙ ap (kept_in es) (same_number s q e)
     by false e = refl
 
--- ---- who is subscribed
-
--- what is kept of one subscriber changes at one address, and so does who is subscribed there
-pub told_pair : (es es' : List (ℕ × Kept)) (s : ℕ) (k : Address) (w : Bool) (kept kept' : Kept) → kept_in es s ≡ Some kept
-    → ((q : ℕ) → kept_in es' q ≡ cond (is_at (nat_cmp s) q) (Some kept') (kept_in es q))
-    → ((a : Address) → is_address kept' a ≡ cond (is_at (address_cmp k) a) w (is_address kept a))
-    → (q : ℕ) (a : Address) → is_in es' q a ≡ cond (is_at (nat_cmp s) q && is_at (address_cmp k) a) w (is_in es q a)
-told_pair es es' s k w kept kept' found puts has q a = ap (λ o. option_map_or (λ x. is_address x a) o false) (puts q) ∙ by (is_at (nat_cmp s) q) refl
-  where
-    here : is_at (nat_cmp s) q ≡ true → is_address kept a ≡ is_in es q a
-    here e = sym (ap (λ o. option_map_or (λ x. is_address x a) o false) (ap (kept_in es) (sym (same_number s q e)) ∙ found))
-
-    by : (c : Bool) → is_at (nat_cmp s) q ≡ c
-        → option_map_or (λ x. is_address x a) (cond c (Some kept') (kept_in es q)) false ≡ cond (c && is_at (address_cmp k) a) w (is_in es q a)
-    by true e = has a ∙ ap (cond (is_at (address_cmp k) a) w) (here e)
-    by false e = refl
-
 -- ---- changes up to a front
 
 -- each change is of a commit up to a front
@@ -159,8 +131,4 @@ up_to-append front (c ∷ changes) later first second = (first.0, up_to-append f
 
 -- the changes of a tail are up to where it goes
 pub up_to-tail : (from to : ℕ) (changes : List Change) → IsTail from to changes → UpTo to changes
-up_to-tail from to changes tail = each changes tail.within
-  where
-    each : (changes : List Change) → All (λ c. (from < c.number) × (c.number ≤ to)) changes → UpTo to changes
-    each [] all = tt
-    each (c ∷ changes) all = ((all 0 c (omega arith)).1, each changes (λ k d h. all (suc k) d (omega arith)))
+up_to-tail from to changes tail = recursion_from_All (λ c. c.number ≤ to) changes (λ k d within. (tail.within k d within).1)

@@ -3,10 +3,9 @@ use Rattle.std.proofs.Common.{◌≡◌, ℕ, ◌<◌, nat_le, Bool, true, false
 use Rattle.std.proofs.Common.{ap, subst, ◌||◌, ◌∙◌, arith}
 use Rattle.std.specs.List.{AllByRecursion, list_any}
 use Rattle.std.specs.List.Sorted.{IsStrictlySortedBy}
-use Rattle.std.specs.Cmp.{nat_cmp_total}
-use Rattle.std.specs.Ordering.{nat_cmp, is_eq, ordering_reverse}
-use Rattle.std.specs.declared.cmp.Ordering.{Ordering}
-use Rattle.std.specs.declared.cmp.Ordering.TheVariants.{Less, Equal, Greater}
+use Rattle.std.specs.Cmp.{eq_by_cmp_equiv, nat_cmp_total}
+use Rattle.std.specs.Ordering.{nat_cmp, is_eq}
+use Rattle.std.specs.declared.cmp.Ordering.TheVariants.{Less}
 use Rattle.std.specs.BTreeMap.{is_at}
 use Rattle.change_feed.specs.declared.change.Change.{Change}
 use Rattle.reactive_registry.specs.Registered.{Kept, kept_in}
@@ -22,27 +21,7 @@ put_one es s kept kept' does found is q = by (is_at (nat_cmp s) q) refl
     by true e = ap (λ k. Some k) is ∙ ap (option_map does) (found ∙ ap (kept_in es) (same_number s q e))
     by false e = refl
 
--- where none is kept nothing is done
-pub done_nowhere : (es : List (ℕ × Kept)) (s : ℕ) (does : Kept → Kept) → None ≡ kept_in es s
-    → (q : ℕ) → kept_in es q ≡ done_where (is_at (nat_cmp s) q) does (kept_in es q)
-done_nowhere es s does none q = by (is_at (nat_cmp s) q) refl
-  where
-    by : (c : Bool) → is_at (nat_cmp s) q ≡ c → kept_in es q ≡ done_where c does (kept_in es q)
-    by true e =
-        let nothing : kept_in es q ≡ None = sym (none ∙ ap (kept_in es) (same_number s q e)) in
-        nothing ∙ sym (ap (option_map does) nothing)
-    by false e = refl
-
 -- ---- one of a set, and then the rest
-
--- numbers compare as equal either way round
-turned_number : (s q : ℕ) → is_at (nat_cmp s) q ≡ is_at (nat_cmp q) s
-turned_number s q = ap is_eq (nat_cmp_total.antisymm s q) ∙ by (nat_cmp q s)
-  where
-    by : (r : Ordering) → is_eq (ordering_reverse r) ≡ is_eq r
-    by Less = refl
-    by Equal = refl
-    by Greater = refl
 
 -- done where one test holds and then where another does is done where either holds, if they never hold together
 done_twice : (b c : Bool) (does : Kept → Kept) (o : Option Kept) → (b ≡ true → c ≡ false)
@@ -67,7 +46,7 @@ done_next all rest s q does o o' split rising is =
     let sorted = subst (IsStrictlySortedBy nat_cmp) split rising in
     ap (done_where (list_any (is_at (nat_cmp q)) rest) does) is
     ∙ done_twice (is_at (nat_cmp s) q) (list_any (is_at (nat_cmp q)) rest) does o (none_of s q rest sorted.0)
-    ∙ ap (λ b. done_where (b || list_any (is_at (nat_cmp q)) rest) does o) (turned_number s q)
+    ∙ ap (λ b. done_where (b || list_any (is_at (nat_cmp q)) rest) does o) ((eq_by_cmp_equiv nat_cmp_total).symm s q)
     ∙ ap (λ (l : List ℕ). done_where (list_any (is_at (nat_cmp q)) l) does o) (sym split)
 
 -- what is left of a rising list behind its first number rises
@@ -95,7 +74,8 @@ module _ (all rest keys : List ℕ) (s q : ℕ) (split : all ≡ s ∷ rest) whe
       by : (b : Bool) → is_at (nat_cmp s) q ≡ b → b ≡ false
       by true e =
           let first : list_any (is_at (nat_cmp q)) all ≡ true =
-          ap (λ (l : List ℕ). list_any (is_at (nat_cmp q)) l) split ∙ ap (λ b. b || list_any (is_at (nat_cmp q)) rest) (sym (turned_number s q) ∙ e)
+          ap (λ (l : List ℕ). list_any (is_at (nat_cmp q)) l) split
+          ∙ ap (λ b. b || list_any (is_at (nat_cmp q)) rest) ((eq_by_cmp_equiv nat_cmp_total).symm q s ∙ e)
           in
           let inside = within first in
           absurd (cc)

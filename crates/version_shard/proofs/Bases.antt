@@ -10,19 +10,6 @@ lesser_base None second = second
 lesser_base (Some first) None = Some first
 lesser_base (Some first) (Some second) = Some (min first second)
 
--- the least base of one and others
-pub lesser_base-more : (least : Option ℕ) (b : Based) (rest : List Based)
-    → lesser_base least (least_base (b ∷ rest)) ≡ lesser_base (lesser_base least (Some b.base)) (least_base rest)
-lesser_base-more least b rest = by least (least_base rest)
-  where
-    by : (first third : Option ℕ)
-        → lesser_base first (elim third as (λ _. Option ℕ) [ None ↦ Some b.base | Some other ↦ Some (min b.base other) ])
-        ≡ lesser_base (lesser_base first (Some b.base)) third
-    by None None = refl
-    by None (Some other) = refl
-    by (Some first) None = refl
-    by (Some first) (Some other) = ap (λ n. Some n) (omega arith)
-
 -- what is given where a test holds isn't there, so the test fails
 none_there : {X : Type 0} (b : Bool) (x : X) → cond b (Some x) None ≡ None → b ≡ false
 none_there true x e = absurd (cc)

@@ -4,9 +4,7 @@ use Rattle.std.proofs.Common.{Some, None, option_map, refl, sym, ap, ◌∙◌, 
 use Rattle.std.proofs.lemmas.List.{length-map}
 use Rattle.std.specs.List.{AllByRecursion}
 use Rattle.std.specs.BTreeMap.{is_at}
-use Rattle.std.specs.Ordering.{is_eq, ordering_reverse}
-use Rattle.std.specs.declared.cmp.Ordering.{Ordering}
-use Rattle.std.specs.declared.cmp.Ordering.TheVariants.{Less, Equal, Greater}
+use Rattle.std.specs.Cmp.{eq_by_cmp_equiv}
 use Rattle.rdt_types.specs.declared.address.Address.{Address}
 use Rattle.rdt_types.specs.contracts.address.AddressOrd.TheImpl.Laws as order
 use Rattle.rdt_types.specs.Addresses.{address_cmp}
@@ -22,12 +20,12 @@ use Rattle.txn_lang.specs.States.{Journal}
 use Rattle.journal_core.specs.Changes as journals
 use Rattle.journal_core.specs.Changes.{changes, of_address}
 use Rattle.journal_core.specs.Pairs as counted
+use Rattle.journal_core.proofs.Each.{each-more, each-filter}
 use Rattle.version_shard.specs.declared.version.Version.{Version}
 use Rattle.version_shard.specs.Versions.{past, as_changes}
 use Rattle.version_shard.specs.Shards.{Kept, Sharded, horizon, IsIn, versions_of, AreKept}
 use Rattle.version_shard.specs.Standing.{Holds}
 use Rattle.version_shard.specs.code.Clashing.{first_clashing, clashing_in, Hit, hit_by, IsClash, lesser, least_hit, steps_at, most_steps}
-use Rattle.version_shard.proofs.Stepping.{all-filter, all-more}
 
 -- ---- the first change that clashes
 
@@ -97,15 +95,6 @@ meets-own based (c ∷ rest) = by (nat_lt based.base c.number) (is_at (address_c
 abbrev pub as_change : Address → Version → Change
 as_change address version = record { number = version.number; address = address; delta = version.delta }
 
--- an address is at itself, since the order turned round is the order
-at_itself : (a : Address) → is_at (address_cmp a) a ≡ true
-at_itself a = by (address_cmp a a) (order.total-law.antisymm a a)
-  where
-    by : (r : Ordering) → r ≡ ordering_reverse r → is_eq r ≡ true
-    by Equal e = refl
-    by Less e = absurd (cc)
-    by Greater e = absurd (cc)
-
 -- past the base every version of the address meets the observation, so only whether it clashes decides
 first-versions : (based : Based) (later : List Version)
     → first_change based (as_changes based.address (past based.base later))
@@ -125,7 +114,9 @@ first-versions based (x ∷ rest) = by (nat_lt based.base x.number) refl (first-
             ≡ option_map (as_change based.address) (first_clashing based.obs (past based.base rest))
         → first_change based (as_changes based.address (cond p (x ∷ past based.base rest) (past based.base rest)))
         ≡ option_map (as_change based.address) (first_clashing based.obs (cond p (x ∷ past based.base rest) (past based.base rest)))
-    by true e again = rw (e, at_itself based.address) (fits (clash based.obs x.delta) again)
+    by true e again =
+        let at_itself : is_at (address_cmp based.address) based.address ≡ true = (eq_by_cmp_equiv order.total-law).refl based.address in
+        rw (e, at_itself) (fits (clash based.obs x.delta) again)
     by false e again = again
 
 -- ---- all observations
@@ -244,7 +235,7 @@ hits-clash front kept [] are ones = tt
 hits-clash front kept (b ∷ rest) are ones =
     if-lesser IsClash (hit_by b (clashing_in kept b)) (least_hit kept rest)
     (first-clashes b (past b.base (versions_of kept b.address).later)
-    (all-filter _ _ (versions_of kept b.address).later (all-more _ _ (versions_of kept b.address).later (λ v s. s.of_kind) (are b.address))) ones.0)
+    (each-filter _ _ (versions_of kept b.address).later (each-more _ _ (versions_of kept b.address).later (λ v s. s.of_kind) (are b.address))) ones.0)
     (hits-clash front kept rest are ones.1)
 
 -- it is the first change of the journal that clashes

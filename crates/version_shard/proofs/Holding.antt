@@ -3,6 +3,7 @@ use Rattle.std.proofs.Common.{◌≡◌, ℕ, ◌+◌, ◌-◌, ◌≤◌, zero,
 use Rattle.std.proofs.Common.{append-nil, length-take-le}
 use Rattle.std.specs.List.{AllByRecursion}
 use Rattle.std.specs.BTreeMap.{is_at}
+use Rattle.std.proofs.Math.Seq.{take-length}
 use Rattle.std.proofs.lemmas.List.{take-append-drop}
 use Rattle.std.proofs.lemmas.List.Elements.{filter-append}
 use Rattle.rdt_types.specs.declared.address.Address.{Address}
@@ -13,14 +14,17 @@ use Rattle.change_feed.specs.declared.change.Change.{Change}
 use Rattle.change_feed.specs.declared.tail.Tail.{Tail}
 use Rattle.txn_lang.specs.States.{Journal, left_by}
 use Rattle.journal_core.specs.Changes.{changes, up_to, between, of_shard, of_address}
+use Rattle.journal_core.specs.Rising.{Rises}
+use Rattle.journal_core.proofs.ByShard.{swapped}
+use Rattle.journal_core.proofs.Each.{each-more, each-filter}
 use Rattle.version_shard.specs.declared.version.Version.{Version}
 use Rattle.version_shard.specs.Versions as versions
 use Rattle.version_shard.specs.Versions.{Versioned, value_after}
 use Rattle.version_shard.specs.Shards.{Sharded, horizon_at, horizon, versions_of, IsIn, AreKept}
 use Rattle.version_shard.specs.Standing.{IsReadable, Holds, IsNext, empty}
 use Rattle.version_shard.specs.code.Following.{followed_along, Reaches}
-use Rattle.version_shard.proofs.Stepping.{Stands, Rising, below-all, all-below, all-filter, all-more, swapped, stands-later, along-stands, cut-stands}
-use Rattle.version_shard.proofs.Keeping.{tail-rising, take-whole, up_to-kept}
+use Rattle.version_shard.proofs.Stepping.{Stands, below-all, all-below, stands-later, along-stands, cut-stands}
+use Rattle.version_shard.proofs.Keeping.{tail-rising, up_to-kept}
 use Rattle.version_shard.proofs.Folding.{journal-left, readable-take, up_to-is, state-left, followed-part}
 
 -- the versions of an address in a shard stand for the journal's changes there
@@ -33,7 +37,7 @@ stands journal shard kept holds a here = record {
       ap (value_after mine.base) (sym (below-all (λ (version : Version). version.number) shard.front mine.later
           (up_to-kept shard.front shard.front shard.kept a kept (omega arith))))
       ∙ holds.values a shard.front here (omega arith)
-      ∙ ap (λ (j : Journal). left_by j a) (ap (λ n. take n journal) (sym holds.front) ∙ take-whole journal)
+      ∙ ap (λ (j : Journal). left_by j a) (ap (λ n. take n journal) (sym holds.front) ∙ take-length journal)
       ∙ sym (journal-left a journal (default_of a.kind) holds.readable.rising);
 }
   where
@@ -41,7 +45,7 @@ stands journal shard kept holds a here = record {
     mine = versions_of shard.kept a
 
 -- the first of changes in order are in order
-rising-first : (m n : ℕ) (xs : List Change) → Rising m xs → Rising m (take n xs)
+rising-first : (m n : ℕ) (xs : List Change) → Rises m xs → Rises m (take n xs)
 rising-first m zero [] rising = tt
 rising-first m (suc n) [] rising = tt
 rising-first m zero (x ∷ xs) rising = tt
@@ -66,7 +70,7 @@ some-up_to r count own all a rest =
 first-up_to : (journal : Journal) (n : ℕ) (a : Address) → IsReadable journal → AllByRecursion (λ c. c.number ≤ n) (of_address a (changes (take n journal)))
 first-up_to journal n a is =
     subst (λ (l : List Change). AllByRecursion (λ c. c.number ≤ n) (of_address a l)) (up_to-is n journal is.numbered)
-    (all-filter (λ (c : Change). c.number ≤ n) _ (up_to n (changes journal)) (all-below (λ (c : Change). c.number) n (changes journal)))
+    (each-filter (λ (c : Change). c.number ≤ n) _ (up_to n (changes journal)) (all-below (λ (c : Change). c.number) n (changes journal)))
 
 -- a shard with the settings of another
 pub record IsAlike (old new : Sharded) : Type 0 where
@@ -87,9 +91,9 @@ module _ (journal : Journal) (old new : Sharded) (tail : Tail) (kept : AreKept o
   after a here =
       let own = of_address a (changes (take old.front journal)) in
       let some = take reaches.count tail.changes in
-      let rises = rising-first old.front reaches.count tail.changes (subst (λ n. Rising n tail.changes) next.exact.begins
+      let rises = rising-first old.front reaches.count tail.changes (subst (λ n. Rises n tail.changes) next.exact.begins
           (tail-rising tail.from tail.to tail.changes tail.in_order)) in
-      let near = all-more (λ (c : Change). c.number ≤ new.front + 1) (λ (c : Change). horizon_at old.window (c.number - 1) ≤ horizon new) some
+      let near = each-more (λ (c : Change). c.number ≤ new.front + 1) (λ (c : Change). horizon_at old.window (c.number - 1) ≤ horizon new) some
       (λ c le. let w = alike.window in omega (arith, le, w)) reaches.near in
       let first = stands-later a (horizon old) (horizon new) (default_of a.kind) own (versions_of old.kept a)
       (stands (take old.front journal) old kept holds a here) later in

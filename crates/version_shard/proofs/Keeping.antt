@@ -1,10 +1,12 @@
 -- What stands at each address after a call on the map, and after a tail.
 use Rattle.std.proofs.Common.{◌≡◌, ℕ, ◌-◌, ◌<◌, ◌≤◌, zero, suc, Bool, true, false, cond, List, [], ◌∷◌, length, take, drop, get_or, Some, None}
-use Rattle.std.proofs.Common.{unwrap_or, Result, Ok, Err, OnOk, OnErr, is_err, refl, sym, ap, ◌∙◌, subst, arith}
+use Rattle.std.proofs.Common.{unwrap_or, Result, Ok, Err, OnErr, is_err, refl, sym, ap, ◌∙◌, subst, arith}
 use Rattle.std.specs.List.{AllByRecursion}
 use Rattle.std.specs.List.Sorted.{IsNonDecreasingBy}
 use Rattle.std.specs.Map.{lookup}
 use Rattle.std.specs.BTreeMap.{is_at}
+use Rattle.std.proofs.Math.Seq.{take-length, drop-length}
+use Rattle.std.proofs.lemmas.List.Elements.{recursion_from_All}
 use Rattle.std.proofs.lemmas.List.Sorted.{IsNonDecreasingBy-from_all_adjacent}
 use Rattle.plain_data.proofs.Entries.{equal}
 use Rattle.rdt_types.specs.declared.address.Address.{Address}
@@ -15,21 +17,14 @@ use Rattle.change_feed.specs.declared.change.Change.{Change}
 use Rattle.change_feed.specs.declared.tail.Tail.{Tail}
 use Rattle.change_feed.specs.Feeds.{AreOfTheirKinds}
 use Rattle.change_feed.specs.Tails.{IsTail}
+use Rattle.journal_core.specs.Rising.{Rises}
+use Rattle.journal_core.proofs.Each.{each-more, each-take, each-filter}
+use Rattle.journal_core.proofs.Rising.{rises-at}
 use Rattle.version_shard.specs.declared.version.Version.{Version}
 use Rattle.version_shard.specs.Versions.{Versioned, up_to}
 use Rattle.version_shard.specs.Shards.{Kept, unchanged, versions_of, SuitsVersion, AreKept}
 use Rattle.version_shard.specs.code.Following.{followed_along, cut_along, StopsAt, Reaches}
-use Rattle.version_shard.proofs.Stepping.{Rising, below-all, below-none, all-below, all-filter, all-more, along-all, cut_back}
-
--- what follows from what holds, at an answer
-pub on_ok : {V E : Type 0} (r : Result V E) (P Q : Type 0) → (P → Q) → OnOk r P → OnOk r Q
-on_ok (Ok v) P Q f p = f p
-on_ok (Err e) P Q f p = tt
-
--- what follows from what holds on an error
-pub on_err : {V E : Type 0} (r : Result V E) (P Q : Type 0) → (P → Q) → OnErr r P → OnErr r Q
-on_err (Ok v) P Q f p = tt
-on_err (Err e) P Q f p = f p
+use Rattle.version_shard.proofs.Stepping.{below-all, below-none, all-below, along-all, cut_back}
 
 -- what holds on an error holds where the answer is one
 pub at_err : {V E : Type 0} (r : Result V E) (P : Type 0) → is_err r ≡ true → OnErr r P → P
@@ -76,27 +71,21 @@ cut_nowhere old k r none a = by (is_at (address_cmp k) a) refl
 
 -- ---- changes in order
 
--- each change of a rising list is at or past the number that it rises from
-pub rising-at : (m : ℕ) (xs : List Change) (i : ℕ) (d : Change) → Rising m xs → i < length xs → m ≤ (get_or xs i d).number
-rising-at m [] i d rising within = absurd (omega (arith, within))
-rising-at m (x ∷ xs) zero d rising within = rising.0
-rising-at m (x ∷ xs) (suc i) d rising within = let later = rising-at x.number xs i d rising.1 (omega (arith, within)) in omega (arith, later, rising.0)
-
--- so all of them are
-rising-all : (m : ℕ) (xs : List Change) → Rising m xs → AllByRecursion (λ c. m ≤ c.number) xs
+-- all changes of a rising list are at or past the number that it rises from
+rising-all : (m : ℕ) (xs : List Change) → Rises m xs → AllByRecursion (λ c. m ≤ c.number) xs
 rising-all m [] rising = tt
-rising-all m (x ∷ xs) rising = (rising.0, all-more _ _ xs (λ c le. let r = rising.0 in omega (arith, le, r)) (rising-all x.number xs rising.1))
+rising-all m (x ∷ xs) rising = (rising.0, each-more _ _ xs (λ c le. let r = rising.0 in omega (arith, le, r)) (rising-all x.number xs rising.1))
 
 -- what stands before a place in a rising list isn't past what stands there
-before_it : (m : ℕ) (xs : List Change) (i : ℕ) (d : Change) → Rising m xs → i < length xs
+before_it : (m : ℕ) (xs : List Change) (i : ℕ) (d : Change) → Rises m xs → i < length xs
     → AllByRecursion (λ c. c.number ≤ (get_or xs i d).number) (take i xs)
 before_it m [] i d rising within = absurd (omega (arith, within))
 before_it m (x ∷ xs) zero d rising within = tt
 before_it m (x ∷ xs) (suc i) d rising within =
-    (rising-at x.number xs i d rising.1 (omega (arith, within)), before_it x.number xs i d rising.1 (omega (arith, within)))
+    (rises-at x.number xs i d rising.1 (omega (arith, within)), before_it x.number xs i d rising.1 (omega (arith, within)))
 
 -- and what stands from it on isn't below it
-behind_it : (m : ℕ) (xs : List Change) (i : ℕ) (d : Change) → Rising m xs → i < length xs
+behind_it : (m : ℕ) (xs : List Change) (i : ℕ) (d : Change) → Rises m xs → i < length xs
     → AllByRecursion (λ c. (get_or xs i d).number ≤ c.number) (drop i xs)
 behind_it m [] i d rising within = absurd (omega (arith, within))
 behind_it m (x ∷ xs) zero d rising within = (omega arith, rising-all x.number xs rising.1)
@@ -104,7 +93,7 @@ behind_it m (x ∷ xs) (suc i) d rising within = behind_it x.number xs i d risin
 
 -- changes that are neither below a number nor out of order rise from it
 rising-from : (m : ℕ) (xs : List Change) → ((k : ℕ) (d : Change) → k < length xs → m ≤ (get_or xs k d).number)
-    → IsNonDecreasingBy (λ c. c.number) xs → Rising m xs
+    → IsNonDecreasingBy (λ c. c.number) xs → Rises m xs
 rising-from m [] low order = tt
 rising-from m (x ∷ xs) low order = (
   low 0 x (omega arith),
@@ -113,43 +102,21 @@ rising-from m (x ∷ xs) low order = (
 )
 
 -- the changes of a tail are in order, and within it
-pub tail-rising : (from to : ℕ) (changes : List Change) → IsTail from to changes → Rising from changes
+pub tail-rising : (from to : ℕ) (changes : List Change) → IsTail from to changes → Rises from changes
 tail-rising from to changes tail =
     rising-from from changes (λ k d within. let l = (tail.within k d within).0 in omega (arith, l))
     (IsNonDecreasingBy-from_all_adjacent (λ c. c.number) changes tail.in_order)
 
--- what holds at each place holds of the whole list
-each : (P : Change → Type 0) (xs : List Change) → ((k : ℕ) (d : Change) → k < length xs → P (get_or xs k d)) → AllByRecursion P xs
-each P [] at = tt
-each P (x ∷ xs) at = (at 0 x (omega arith), each P xs (λ k d within. at (suc k) d (omega (arith, within))))
-
 -- each change of a tail is up to where the tail goes
 pub tail-within : (from to : ℕ) (changes : List Change) → IsTail from to changes → AllByRecursion (λ c. c.number ≤ to) changes
-tail-within from to changes tail = each (λ c. c.number ≤ to) changes (λ k d within. (tail.within k d within).1)
-
--- what holds of all holds of the first of them
-all-take : {X : Type 0} (P : X → Type 0) (n : ℕ) (xs : List X) → AllByRecursion P xs → AllByRecursion P (take n xs)
-all-take P zero [] all = tt
-all-take P (suc n) [] all = tt
-all-take P zero (x ∷ xs) all = tt
-all-take P (suc n) (x ∷ xs) all = (all.0, all-take P n xs all.1)
-
--- as many as a list has are the whole list
-pub take-whole : {X : Type 0} (xs : List X) → take (length xs) xs ≡ xs
-take-whole [] = refl
-take-whole (x ∷ xs) = ap (λ l. x ∷ l) (take-whole xs)
-
--- and behind them nothing is left
-drop-whole : {X : Type 0} (xs : List X) → drop (length xs) xs ≡ []
-drop-whole [] = refl
-drop-whole (x ∷ xs) = drop-whole xs
+tail-within from to changes tail = recursion_from_All (λ (c : Change). c.number ≤ to) changes (λ k d within. (tail.within k d within).1)
 
 -- ---- a tail
 
 -- kept versions are up to any number from the front on
 pub up_to-kept : (front n : ℕ) (kept : Kept) (a : Address) → AreKept front kept → front ≤ n
     → AllByRecursion (λ version. version.number ≤ n) (versions_of kept a).later
-up_to-kept front n kept a are within = all-more _ _ (versions_of kept a).later (λ version suits. let r = suits.reached in omega (arith, r, within)) (are a)
+up_to-kept front n kept a are within = each-more _ _ (versions_of kept a).later (λ version suits. let r = suits.reached in omega (arith, r, within)) (are a)
 
 module _ (window : ℕ) (tail : Tail) (old : Kept) (kept : AreKept tail.from old) where
   -- the versions that follow some changes are up to what is not below these
@@ -168,7 +135,7 @@ module _ (window : ℕ) (tail : Tail) (old : Kept) (kept : AreKept tail.from old
       let low = (tail.in_order.within i next within).0 in
       subst (λ (v : Versioned). AllByRecursion (λ version. version.number ≤ next.number) v.later) (sym same)
       (up_to-followed next.number (take i tail.changes) a (omega (arith, low, number))
-      (all-more _ _ (take i tail.changes) (λ c le. omega (arith, le, number))
+      (each-more _ _ (take i tail.changes) (λ c le. omega (arith, le, number))
           (before_it tail.from tail.changes i next (tail-rising tail.from tail.to tail.changes tail.in_order) within)))
 
   -- where there is no memory for the next change
@@ -184,8 +151,8 @@ module _ (window : ℕ) (tail : Tail) (old : Kept) (kept : AreKept tail.from old
         count = i;
         past = omega (arith, low, number);
         within = omega (arith, high, number);
-        before = all-more _ _ (take i tail.changes) (λ c le. omega (arith, le, number)) (before_it tail.from tail.changes i next rising within);
-        behind = all-more _ _ (drop i tail.changes) (λ c le. omega (arith, le, number)) (behind_it tail.from tail.changes i next rising within);
+        before = each-more _ _ (take i tail.changes) (λ c le. omega (arith, le, number)) (before_it tail.from tail.changes i next rising within);
+        behind = each-more _ _ (drop i tail.changes) (λ c le. omega (arith, le, number)) (behind_it tail.from tail.changes i next rising within);
         versions = same;
       }
 
@@ -194,14 +161,14 @@ module _ (window : ℕ) (tail : Tail) (old : Kept) (kept : AreKept tail.from old
       → Reaches window tail.changes tail.to old new
   reaches-whole new is = record {
     count = length tail.changes;
-    near = rw (take-whole tail.changes) (all-more _ _ tail.changes (λ c le. omega (arith, le)) all);
-    rest = rw (drop-whole tail.changes) refl;
+    near = rw (take-length tail.changes) (each-more _ _ tail.changes (λ c le. omega (arith, le)) all);
+    rest = rw (drop-length tail.changes) refl;
     versions = λ a.
         is a
         ∙ ap (λ l. record (followed_along window a tail.changes (versions_of old a)) { later = l })
         (sym (below-all (λ (version : Version). version.number) tail.to (followed_along window a tail.changes (versions_of old a)).later
         (up_to-followed tail.to tail.changes a tail.in_order.rises all)))
-        ∙ ap (λ changes. up_to tail.to (followed_along window a changes (versions_of old a))) (sym (take-whole tail.changes));
+        ∙ ap (λ changes. up_to tail.to (followed_along window a changes (versions_of old a))) (sym (take-length tail.changes));
   }
     where
       all : AllByRecursion (λ c. c.number ≤ tail.to) tail.changes
@@ -212,9 +179,9 @@ module _ (window : ℕ) (tail : Tail) (old : Kept) (kept : AreKept tail.from old
       → ((a : Address) → versions_of new a ≡ cut_along (number - 1) a tail.changes (versions_of mid a)) → Reaches window tail.changes (number - 1) old new
   reaches-part number mid new at is = record {
     count = at.count;
-    near = all-more _ _ (take at.count tail.changes) (λ c le. let p = at.past in omega (arith, le, p)) at.before;
+    near = each-more _ _ (take at.count tail.changes) (λ c le. let p = at.past in omega (arith, le, p)) at.before;
     rest = below-none (λ (c : Change). c.number) (number - 1) (drop at.count tail.changes)
-        (all-more _ _ (drop at.count tail.changes) (λ c le. let p = at.past in omega (arith, le, p)) at.behind);
+        (each-more _ _ (drop at.count tail.changes) (λ c le. let p = at.past in omega (arith, le, p)) at.behind);
     versions = λ a.
         is a
         ∙ ap (cut_along (number - 1) a tail.changes) (at.versions a)
@@ -236,11 +203,11 @@ pub kept-after : (window from front : ℕ) (changes : List Change) (old new : Ke
 kept-after window from front changes old new kept kinds reaches a =
     subst (λ (v : Versioned). AllByRecursion (SuitsVersion front a) v.later) (sym (reaches.versions a))
     (suits front a (up_to front mid).later (all-below (λ (version : Version). version.number) front mid.later)
-    (all-filter (λ version. kind_changed version.delta ≡ a.kind) _ mid.later
+    (each-filter (λ version. kind_changed version.delta ≡ a.kind) _ mid.later
     (along-all (λ version. kind_changed version.delta ≡ a.kind) (λ c. kind_changed c.delta ≡ c.address.kind) a window
     (λ c value at is. is ∙ ap (λ (b : Address). b.kind) at) (take reaches.count changes) (versions_of old a)
-    (all-take _ reaches.count changes kinds)
-    (all-more _ _ (versions_of old a).later (λ version s. s.of_kind) (kept a)))))
+    (each-take _ reaches.count changes kinds)
+    (each-more _ _ (versions_of old a).later (λ version s. s.of_kind) (kept a)))))
   where
     mid : Versioned
     mid = followed_along window a (take reaches.count changes) (versions_of old a)

@@ -24,8 +24,8 @@ use Rattle.txn_lang.specs.Execution.{Own, Ran, need, done, ended, own_run, exec}
 use Rattle.txn_lang.specs.Journals.{MayFollow, IsRunAfter}
 use Rattle.journal_core.specs.Changes.{changes_by, changes_of, changes, up_to, between}
 use Rattle.journal_core.specs.Pairs.{AreNumberedFrom}
+use Rattle.journal_core.proofs.Each.{each-filter, each-append}
 use Rattle.version_shard.specs.Laws.{LegalIsReadable, TailsAreOfTheirKinds}
-use Rattle.version_shard.proofs.Stepping.{all-filter, all-append}
 use Rattle.version_shard.proofs.Folding.{AreRising}
 
 -- deltas stand by rising address
@@ -71,7 +71,7 @@ commit-rises before commit runs = subst IsRising (sym runs.deltas) (run-rises ru
 -- ---- a journal
 
 -- a legal commit has the number behind those of the commits before it
-legal-numbered : (before journal : Journal) → IsLawfulAfter MayFollow 0 before journal → AreNumberedFrom (length before) journal
+pub legal-numbered : (before journal : Journal) → IsLawfulAfter MayFollow 0 before journal → AreNumberedFrom (length before) journal
 legal-numbered before [] legal = tt
 legal-numbered before (commit ∷ journal) legal =
     (legal.0.number, subst (λ (n : ℕ). AreNumberedFrom n journal) (length-append before (commit ∷ [])) (legal-numbered (before ++ commit ∷ []) journal legal.1))
@@ -98,15 +98,15 @@ journal-kinds : (journal : Journal) → AllByRecursion (λ commit. AllByRecursio
     → AreOfTheirKinds (changes journal)
 journal-kinds [] all = tt
 journal-kinds (commit ∷ rest) all =
-    all-append (λ (change : Change). kind_changed change.delta ≡ change.address.kind) (changes_of commit) (changes rest)
+    each-append (λ (change : Change). kind_changed change.delta ≡ change.address.kind) (changes_of commit) (changes rest)
     (commit-kinds commit.number commit.deltas all.0) (journal-kinds rest all.1)
 
 -- the changes in a shard between two numbers are some of the journal's
 pub tails-are-of-their-kinds : TailsAreOfTheirKinds
 tails-are-of-their-kinds journal shards shard from to kinds =
-    all-filter same (λ change. shard_of change.address shards == shard) (between from to (changes journal))
-    (all-filter same (λ change. nat_lt from change.number) (up_to to (changes journal))
-    (all-filter same (λ change. nat_le change.number to) (changes journal) (journal-kinds journal kinds)))
+    each-filter same (λ change. shard_of change.address shards == shard) (between from to (changes journal))
+    (each-filter same (λ change. nat_lt from change.number) (up_to to (changes journal))
+    (each-filter same (λ change. nat_le change.number to) (changes journal) (journal-kinds journal kinds)))
   where
     same : Change → Type 0
     same change = kind_changed change.delta ≡ change.address.kind

@@ -3,9 +3,7 @@ use Rattle.std.proofs.Common.{◌≡◌, ℕ, ◌-◌, ◌<◌, ◌≤◌, zero,
 use Rattle.std.proofs.Common.{length, get_or, refl, sym, ap, ◌∙◌, subst, arith, append-nil, append_assoc, ◌⊎◌, inl, inr}
 use Rattle.std.specs.List.{AllByRecursion}
 use Rattle.std.specs.BTreeMap.{is_at}
-use Rattle.std.specs.Ordering.{is_eq, ordering_reverse}
-use Rattle.std.specs.declared.cmp.Ordering.{Ordering}
-use Rattle.std.specs.declared.cmp.Ordering.TheVariants.{Less, Equal, Greater}
+use Rattle.std.specs.Cmp.{eq_by_cmp_equiv}
 use Rattle.std.proofs.lemmas.List.Elements.{filter-append}
 use Rattle.std.proofs.lemmas.List.{map-append}
 use Rattle.std.proofs.lemmas.Bool.{cases_lt}
@@ -19,6 +17,9 @@ use Rattle.rdt_types.proofs.Addresses.{address_cmp-equal}
 use Rattle.change_feed.specs.declared.change.Change.{Change}
 use Rattle.journal_core.specs.Changes as journals
 use Rattle.journal_core.specs.Changes.{of_address}
+use Rattle.journal_core.specs.Rising.{Rises}
+use Rattle.journal_core.proofs.ByShard.{swapped}
+use Rattle.journal_core.proofs.Each.{each-more, each-append}
 use Rattle.version_shard.specs.declared.version.Version.{Version}
 use Rattle.version_shard.specs.Versions.{Versioned, value_after, latest, up_to, value_at, past, as_changes, changed, trimmed_from, trimmed}
 use Rattle.version_shard.specs.Shards.{horizon_at}
@@ -73,37 +74,6 @@ module _ {X : Type 0} (number : X → ℕ) where
           → AllByRecursion (λ x. number x ≤ n) (cond b (x ∷ below n xs) (below n xs))
       by true e rest = (grind (arith, e), rest)
       by false e rest = rest
-
--- two tests may change places
-pub swapped : {X : Type 0} (p q : X → Bool) (xs : List X) → filter p (filter q xs) ≡ filter q (filter p xs)
-swapped p q [] = refl
-swapped p q (x ∷ xs) = by (p x) refl (q x) refl (swapped p q xs)
-  where
-    by : (a : Bool) → p x ≡ a → (b : Bool) → q x ≡ b → filter p (filter q xs) ≡ filter q (filter p xs)
-        → filter p (cond b (x ∷ filter q xs) (filter q xs)) ≡ filter q (cond a (x ∷ filter p xs) (filter p xs))
-    by true s true t later = rw s (rw t (ap (λ o. x ∷ o) later))
-    by true s false t later = rw t later
-    by false s true t later = rw s later
-    by false s false t later = later
-
--- what holds of all holds of those that pass
-pub all-filter : {X : Type 0} (P : X → Type 0) (p : X → Bool) (xs : List X) → AllByRecursion P xs → AllByRecursion P (filter p xs)
-all-filter P p [] all = tt
-all-filter P p (x ∷ xs) all = by (p x) (all-filter P p xs all.1)
-  where
-    by : (b : Bool) → AllByRecursion P (filter p xs) → AllByRecursion P (cond b (x ∷ filter p xs) (filter p xs))
-    by true rest = (all.0, rest)
-    by false rest = rest
-
--- what holds of two lists holds of them joined
-pub all-append : {X : Type 0} (P : X → Type 0) (xs ys : List X) → AllByRecursion P xs → AllByRecursion P ys → AllByRecursion P (xs ++ ys)
-all-append P [] ys first second = second
-all-append P (x ∷ xs) ys first second = (first.0, all-append P xs ys first.1 second)
-
--- what follows for each holds of all
-pub all-more : {X : Type 0} (P Q : X → Type 0) (xs : List X) → ((x : X) → P x → Q x) → AllByRecursion P xs → AllByRecursion Q xs
-all-more P Q [] each all = tt
-all-more P Q (x ∷ xs) each all = (each x all.0, all-more P Q xs each all.1)
 
 -- ---- one address
 
@@ -194,7 +164,7 @@ module _ (a : Address) (h : ℕ) (base : Value) (own : List Change) (c : Change)
           ∙ ap (apply c.delta) stands.newest
           ∙ sym (left-append base (journals.up_to n own) (c ∷ [])
           ∙ ap (λ l. apply c.delta (left base l))
-          (below-all (λ (d : Change). d.number) n own (all-more _ _ own (λ d le. grind (arith, le, e)) behind)))
+          (below-all (λ (d : Change). d.number) n own (each-more _ _ own (λ d le. grind (arith, le, e)) behind)))
       by false e =
           value_after-append v.base (below (λ (x : Version). x.number) n v.later) []
           ∙ stands.values n within
@@ -247,23 +217,9 @@ stands-later a h k base own v stands within = record {
 
 -- ---- changes one by one
 
--- addresses are equal either way round
-turned : (a b : Address) → is_at (address_cmp a) b ≡ is_at (address_cmp b) a
-turned a b = ap is_eq (order.total-law.antisymm a b) ∙ by (address_cmp b a)
-  where
-    by : (r : Ordering) → is_eq (ordering_reverse r) ≡ is_eq r
-    by Less = refl
-    by Equal = refl
-    by Greater = refl
-
--- the numbers of changes don't fall, from a number on
-abbrev pub Rising : ℕ → List Change → Type 0
-Rising from [] = Unit {0}
-Rising from (c ∷ rest) = (from ≤ c.number) × Rising c.number rest
-
 module _ (a : Address) (window h : ℕ) (base : Value) where
   -- each change at the address adds a version, and lets go only what is up to the horizon; others leave all as it is
-  pub along-stands : (m : ℕ) (changes own : List Change) (v : Versioned) → Stands a h base own v → Rising m changes
+  pub along-stands : (m : ℕ) (changes own : List Change) (v : Versioned) → Stands a h base own v → Rises m changes
       → AllByRecursion (λ d. d.number ≤ m) own → AllByRecursion (λ c. horizon_at window (c.number - 1) ≤ h) changes
       → Stands a h base (own ++ of_address a changes) (followed_along window a changes v)
   along-stands m [] own v stands rising behind near =
@@ -272,10 +228,10 @@ module _ (a : Address) (window h : ℕ) (base : Value) where
       by (is_at (address_cmp c.address) a) refl (λ more w is up. along-stands c.number rest more w is rising.1 up near.1)
     where
       up : AllByRecursion (λ d. d.number ≤ c.number) own
-      up = all-more _ _ own (λ d le. let r = rising.0 in omega (arith, le, r)) behind
+      up = each-more _ _ own (λ d le. let r = rising.0 in omega (arith, le, r)) behind
 
       there : (b : Bool) → is_at (address_cmp c.address) a ≡ b → is_at (address_cmp a) c.address ≡ b
-      there b e = turned a c.address ∙ e
+      there b e = (eq_by_cmp_equiv order.total-law).symm a c.address ∙ e
 
       by : (b : Bool) → is_at (address_cmp c.address) a ≡ b
           → ((more : List Change) (w : Versioned) → Stands a h base more w → AllByRecursion (λ d. d.number ≤ c.number) more
@@ -287,7 +243,7 @@ module _ (a : Address) (window h : ℕ) (base : Value) where
           (again (own ++ c ∷ []) (followed window c v)
           (trimmed-stands a h (horizon_at window (c.number - 1)) base (own ++ c ∷ []) (changed c.number c.delta v)
           (changed-stands a h base own c v (address_cmp-equal c.address a (equal _ e)) stands up) near.0)
-          (all-append _ own (c ∷ []) up (omega arith, tt))))
+          (each-append _ own (c ∷ []) up (omega arith, tt))))
       by false e again = rw (there false e) (again own v stands up)
 
 -- ---- the way back
@@ -394,11 +350,11 @@ module _ (P : Version → Type 0) (Q : Change → Type 0) (a : Address) (window 
       by true e again =
           again (followed window c v)
           (trimmed-all P (horizon_at window (c.number - 1)) v.base (changed c.number c.delta v).later
-          (all-append P v.later (record { number = c.number; delta = c.delta; value = apply c.delta (latest v) } ∷ []) all
+          (each-append P v.later (record { number = c.number; delta = c.delta; value = apply c.delta (latest v) } ∷ []) all
           (fits c (apply c.delta (latest v)) (address_cmp-equal c.address a (equal _ e)) are.0, tt)))
       by false e again = again v all
 
--- the value after the first of some versions is that of the last of these
+-- the first none of some items are none
 take-none : {X : Type 0} (xs : List X) → take zero xs ≡ []
 take-none [] = refl
 take-none (x ∷ xs) = refl

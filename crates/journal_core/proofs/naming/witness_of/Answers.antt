@@ -1,5 +1,6 @@
 use Rattle.std.proofs.Common.{sym, ◌∙◌}
-use Rattle.journal_core.proofs.Witnessed.{if_ok, changed-kind, observed-kind, witnessed, of-one-kind}
+use Rattle.std.proofs.lemmas.Result.{IfOk-weaker}
+use Rattle.journal_core.proofs.Witnessed.{changed-kind, observed-kind, witnessed, of-one-kind}
 use Rattle.journal_core.proofs.naming.witness_of.Goals as goal
 
 pub name_delta-requires-clause-kind : goal.name_delta-requires-clause-kind
@@ -14,14 +15,14 @@ name_delta-requires-clause-kind c =
 
 pub returns-clause-names : goal.returns-clause-names
 returns-clause-names c =
-    if_ok c.name_delta.result _ _
+    IfOk-weaker c.name_delta.result _ _
     (witnessed c.args.based.now c.args.commits.now c.args.found.now c.requires.hit c.index-based-found.result c.index-commits-found.result c.clashing.result.now
     c.index-based-found.is c.index-commits-found.is c.clashing.ensures.changed)
     c.name_delta.ensures
 
 pub returns-clause-kinds : goal.returns-clause-kinds
 returns-clause-kinds c =
-    if_ok c.name_delta.result _ _
+    IfOk-weaker c.name_delta.result _ _
     (of-one-kind c.args.based.now c.args.commits.now c.args.found.now c.requires.hit c.index-based-found.result c.index-commits-found.result
         c.clashing.result.now
     c.index-based-found.is c.index-commits-found.is c.clashing.ensures.changed c.requires.observed c.requires.kinds)

@@ -1,4 +1,5 @@
-use Rattle.local_world.proofs.Holding.{on_ok, shard-there, held-there, held-set, risen-set, fronts-moved}
+use Rattle.std.proofs.lemmas.Result.{on_ok_weaker}
+use Rattle.local_world.proofs.Holding.{shard-there, held-there, held-set, risen-set, fronts-moved}
 use Rattle.local_world.proofs.following.follow_at.Goals as goal
 
 pub follow_to-requires-clause-held : goal.follow_to-requires-clause-held
@@ -22,7 +23,7 @@ returns-clause-risen c =
 
 pub returns-clause-ok : goal.returns-clause-ok
 returns-clause-ok c =
-    on_ok c.follow_to.result
+    on_ok_weaker c.follow_to.result
     (fronts-moved c.args.journal.now.commits c.args.settings.now c.args.shards.now.items c.requires.held c.args.place c.index_mut.result.now
         c.follow_to.new.shard
     (shard-there c.args.journal.now.commits c.args.settings.now c.args.shards.now.items c.requires.held c.args.place c.index_mut.result.now

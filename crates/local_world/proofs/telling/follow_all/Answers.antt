@@ -1,6 +1,6 @@
 use Rattle.std.proofs.Common.{◌≡◌, length, ◌∙◌}
+use Rattle.std.proofs.lemmas.Result.{on_ok_weaker}
 use Rattle.docc_prepare.proofs.Growing.{legal_is_orderly}
-use Rattle.local_world.proofs.Holding.{on_ok}
 use Rattle.local_world.proofs.Registries.{all-from, following-after, told-after, taken-after}
 use Rattle.local_world.proofs.telling.follow_all.Goals as goal
 
@@ -20,4 +20,4 @@ returns-clause-taken c = taken-after c.follow.result c.args.registry.now c.follo
 
 pub returns-clause-ok : goal.returns-clause-ok
 returns-clause-ok c =
-    on_ok c.follow.result (λ (e : c.follow.new.self.front ≡ c.in_ok-tail.tail.to). e ∙ c.in_ok-tail.ensures.ends ∙ c.length.ensures) c.follow.ensures.front
+    on_ok_weaker c.follow.result (λ (e : c.follow.new.self.front ≡ c.in_ok-tail.tail.to). e ∙ c.in_ok-tail.ensures.ends ∙ c.length.ensures) c.follow.ensures.front

@@ -1,11 +1,12 @@
 use Rattle.std.proofs.Common.{cond, Option, Some, unwrap_or, is_some, sym, ap, ◌∙◌}
 use Rattle.std.specs.BTreeMap.{get, is_at}
+use Rattle.std.proofs.lemmas.Result.{on_ok_weaker, on_err_weaker}
 use Rattle.rdt_types.specs.Addresses.{address_cmp}
 use Rattle.rdt_types.specs.declared.value.Value.{Value}
 use Rattle.version_shard.specs.Versions.{Versioned, changed, trimmed, unversioned}
 use Rattle.version_shard.specs.Shards.{horizon_at, unchanged}
 use Rattle.version_shard.specs.code.Following.{followed}
-use Rattle.version_shard.proofs.Keeping.{on_ok, on_err, put_one, put_back}
+use Rattle.version_shard.proofs.Keeping.{put_one, put_back}
 use Rattle.version_shard.proofs.following.follow_one.Goals as goal
 
 pub returns-in-Some-clause-ok : goal.returns-in-Some-clause-ok
@@ -14,7 +15,7 @@ returns-in-Some-clause-ok c =
     let change = c.args.change.now in
     let put = c.change.new.self in
     let before = c.in-Some.versions.now in
-    on_ok c.change.result _ _
+    on_ok_weaker c.change.result
     (λ is.
     put_one old (c.get_mut.follows.lender put).entries change.address (followed c.args.window change) put
     (((c.get_mut.follows.holds put).3 (ap is_some (sym c.in-Some.ensures.value))).0)
@@ -28,7 +29,7 @@ returns-in-Some-clause-err c =
     let old = c.args.kept.now.entries in
     let k = c.args.change.now.address in
     let put = c.change.new.self in
-    on_err c.change.result _ _
+    on_err_weaker c.change.result
     (λ is.
     put_back old (c.get_mut.follows.lender put).entries k put
     (((c.get_mut.follows.holds put).3 (ap is_some (sym c.in-Some.ensures.value))).0)
