@@ -117,7 +117,7 @@ module _ (s : PartialState) where
       own_write a o m,
       (
         ap (own_write a o) with_it.0,
-        each-more (λ w. kind_written w.1 ≡ w.0.kind) p.memory.operations (a, o) with_it.1 k,
+        each-push (λ w. kind_written w.1 ≡ w.0.kind) p.memory.operations (a, o) with_it.1 k,
       ),
       refl,
     );
