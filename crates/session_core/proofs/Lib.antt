@@ -10,3 +10,5 @@ pub mod Steps
 pub mod Starts
 pub mod Ends
 pub mod Faults
+pub mod Tries
+pub mod Bounds

@@ -7,3 +7,4 @@ pub mod Holding
 pub mod Reading
 pub mod Leading
 pub mod Explained
+pub mod Bounds

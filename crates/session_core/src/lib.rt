@@ -26,7 +26,7 @@ mod words;
 
 pub use body::body_of;
 pub use error::SessionError;
-pub use laws::verbs_are_forms;
+pub use laws::{calls_suffice, lines_are_bounded, tries_are_few, verbs_are_forms};
 pub use limits::{MOST_CALLS, MOST_EVENTS};
 pub use line::Line;
 pub use reading::read_line;
