@@ -12,3 +12,10 @@ pub mod Ends
 pub mod Faults
 pub mod Tries
 pub mod Bounds
+pub mod Grown
+pub mod Ready
+pub mod Said
+pub mod Explaining
+pub mod Explained
+pub mod Stays
+pub mod Talked

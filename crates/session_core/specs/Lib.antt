@@ -8,3 +8,4 @@ pub mod Reading
 pub mod Leading
 pub mod Explained
 pub mod Bounds
+pub mod Sessions
