@@ -19,3 +19,4 @@ pub mod Explaining
 pub mod Explained
 pub mod Stays
 pub mod Talked
+pub mod Went

@@ -1,5 +1,6 @@
 -- Replies that a journal explains: which reply passes for which line, when the replies before it have shown so much. No program
--- stands in it, and no store but its journal. The laws that tie this to sessions are in `specs/Sessions`.
+-- stands in it, and no store but its journal. The laws that tie this to sessions are in `specs/Sessions`; a clause of each line
+-- says it of that line.
 use Rattle.std.specs.Prelude.{◌≡◌, ℕ, ◌+◌, ◌≤◌, ◌<◌, max, List, [], ◌∷◌, ◌++◌, fold, length, take, Option, Some, None, Result, Ok, Err, IfSome, codes, refl}
 use Rattle.std.specs.List.{AllByRecursion}
 use Rattle.std.proofs.Common.{lit≤}
