@@ -10,3 +10,13 @@ pub mod Steps
 pub mod Starts
 pub mod Ends
 pub mod Faults
+pub mod Tries
+pub mod Bounds
+pub mod Grown
+pub mod Ready
+pub mod Said
+pub mod Explaining
+pub mod Explained
+pub mod Stays
+pub mod Talked
+pub mod Went

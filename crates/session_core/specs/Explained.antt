@@ -1,6 +1,9 @@
 -- Replies that a journal explains: which reply passes for which line, when the replies before it have shown so much. No program
--- stands in it, and no store but its journal. These are definitions: no law ties them to the lines of a session yet.
-use Rattle.std.specs.Prelude.{◌≡◌, ℕ, ◌+◌, ◌≤◌, ◌<◌, max, List, [], ◌∷◌, ◌++◌, fold, length, take, Option, Some, None, Result, Ok, Err, refl}
+-- stands in it, and no store but its journal. The laws that tie this to sessions are in `specs/Sessions`; a clause of each line
+-- says it of that line.
+use Rattle.std.specs.Prelude.{◌≡◌, ℕ, ◌+◌, ◌≤◌, ◌<◌, max, List, [], ◌∷◌, ◌++◌, fold, length, take, Option, Some, None, Result, Ok, Err, IfSome, codes, refl}
+use Rattle.std.specs.List.{AllByRecursion}
+use Rattle.std.proofs.Common.{lit≤}
 use Rattle.dio_core.specs.Told.{WhereTold}
 use Rattle.rdt_types.specs.declared.address.Address.{Address}
 use Rattle.rdt_types.specs.declared.outcome.Outcome.{Outcome}
@@ -15,6 +18,7 @@ use Rattle.txn_lang.specs.declared.run.Run.{Run}
 use Rattle.txn_lang.specs.declared.snaps.Snap.{Snap}
 use Rattle.txn_lang.specs.States.{Journal, known, state}
 use Rattle.txn_lang.specs.Execution.{exec, done}
+use Rattle.journal_core.specs.Changes.{adding}
 use Rattle.journal_core.specs.Pairs.{pairs}
 use Rattle.docc_prepare.specs.declared.attempt.Attempt.{Attempt}
 use Rattle.docc_prepare.specs.declared.attempt.Next.TheVariants as next
@@ -82,7 +86,8 @@ pub record IsCommitted (low : ℕ) (journal : Journal) (s : Session) (a : Attemp
 
 -- The least pair is named: of what was observed in the shard that is prepared next; or of all that was observed.
 pub data IsAborted (journal : Journal) (a : Attempt) (w : Witness) : Type 0 where
-  at_prepare : (shard : ℕ) (run : Run) → next_event a ≡ next.Prepare shard run → least_witness (based_here a shard run) journal ≡ Some w → IsAborted journal a w
+  at_prepare : (shard : ℕ) (run : Run) → next_event a ≡ next.Prepare shard run → least_witness (based_here a shard run) journal ≡ Some w
+      → IsAborted journal a w
   at_append : (run : Run) → next_event a ≡ next.Append run → least_witness (based_all a run) journal ≡ Some w → IsAborted journal a w
 
 -- The least base in the shard that is prepared next is below a horizon.
@@ -115,13 +120,13 @@ EndPasses set journal low s a (reply.Full limit) = IsFull set journal a limit
 EndPasses set journal low s a reply.Disk = IsAppended a
 EndPasses set journal low s a r = ⊥
 
--- From one attempt to another by events that no reply shows: reads at bases that are not below what was shown when the attempt
--- began, and fronts.
+-- From one attempt to another by events that no reply shows: reads and preparings, at bases and fronts that are not below what
+-- was shown when the attempt began.
 pub data Hides (begun : ℕ) (a : Attempt) : Attempt → Type 0 where
   nothing : Hides begun a a
   a_read : {b : Attempt} (address : Address) (snap : Snap) → Hides begun a b → next_event b ≡ next.Read address → begun ≤ snap.base
       → Hides begun a (with_snap b address snap)
-  a_front : {b : Attempt} (shard front : ℕ) → Hides begun a b → Prepares b shard → Hides begun a (with_front b shard front)
+  a_front : {b : Attempt} (shard front : ℕ) → Hides begun a b → Prepares b shard → begun ≤ front → Hides begun a (with_front b shard front)
 
 -- some hidden events with which the attempt fits the journal, and then the end
 pub record HiddenEnd (set : Setting) (journal : Journal) (y : Story) (first : Attempt) (r : Reply) : Type 0 where
@@ -232,7 +237,8 @@ low_after low l t = fold low_by low (replies_in t)
 
 -- the session after an event that is shown
 abbrev pub stepped_on : Journal → Session → Attempt → Reply → Session
-stepped_on journal s a (reply.Read address base) = with_attempt s (Some (with_snap a address (record { base = base; value = state journal base address })))
+stepped_on journal s a (reply.Read address base) = with_attempt s
+    (Some (with_snap a address (record { base = base; value = state journal base address })))
 stepped_on journal s a (reply.Prepared shard front) = with_attempt s (Some (with_front a shard front))
 stepped_on journal s a r = ended s r
 
@@ -289,10 +295,16 @@ pub record LinePasses (k l : Known) (y : Story) (line : Line) (t : Turn) (after 
   pub session : after ≡ session_after (setting_of k) new y.session line t
   pub shown : low_after y.low line t ≤ l.seen
 
--- a story that the backend's client may have been told: no number above what it has seen
+-- the bases of an attempt are not below a number
+abbrev pub AreFrom : ℕ → Attempt → Type 0
+AreFrom begun a = AllByRecursion (λ (read : Address × Snap). begun ≤ read.1.base) a.snaps
+
+-- a story that the backend's client may have been told: no number above what it has seen, and an attempt whose bases are not
+-- below what was shown when it began
 pub record MayBeTold (k : Known) (y : Story) : Type 0 where
   pub seen : y.low ≤ k.seen
   pub before : y.begun ≤ y.low
+  pub bases : IfSome y.session.attempt (AreFrom y.begun)
 
 -- Whatever was shown before, if no number was above what is seen, the answer passes, where the backend tells its journal.
 abbrev pub IsExplained : Known → Known → Session → Line → Result Turn SessionError → Session → Type 0
@@ -302,6 +314,33 @@ IsExplained k l s line (Ok t) after =
 IsExplained k l s line (Err e) after = Unit {0}
 
 -- ---- worked lines
+
+-- of two commits and after the first was shown, the second may be shown
+second-is-shown : IsShown 1 (adding 1 (codes "x") ∷ adding 2 (codes "y") ∷ []) 2
+second-is-shown = record { not_back = lit≤ tt; within = lit≤ tt }
+
+-- with a window of 1 the first prefix may be late where there are three commits
+first-is-late : IsLate 1 1 2 (adding 1 (codes "x") ∷ adding 2 (codes "y") ∷ adding 3 (codes "x") ∷ [])
+first-is-late = record { below = lit≤ tt; behind = lit≤ tt }
+
+-- while an attempt is open `begin` is refused, and changes nothing
+begin-is-busy : (set : Setting) (journal : Journal) (y : Story) (a : Attempt) (body : Checked)
+    → Passes set journal (record y { session = with_attempt y.session (Some a) }) (asked.Begin body) (said (reply.Refused why.Busy))
+begin-is-busy set journal y a body = refl
+
+busy-changes-nothing : (set : Setting) (journal : Journal) (s : Session) (a : Attempt) (body : Checked)
+    → session_after set journal (with_attempt s (Some a)) (asked.Begin body) (said (reply.Refused why.Busy)) ≡ with_attempt s (Some a)
+busy-changes-nothing set journal s a body = refl
+
+-- what `go` shows is an end, and no attempt is open behind it
+go-closes : (set : Setting) (journal : Journal) (s : Session) (a : Attempt) (w : Witness)
+    → (session_after set journal (with_attempt s (Some a)) asked.Go (said (reply.Abort w))).attempt ≡ None
+go-closes set journal s a w = refl
+
+-- the bases of an attempt are to be no less than what `begin` showed
+begin-sets-the-least-base : (y : Story) (body : Checked)
+    → begun_after (record y { low = 3; session = closed y.session }) (asked.Begin body) (said (reply.Seen 7)) ≡ 7
+begin-sets-the-least-base y body = refl
 
 -- a number that is named by `at` shows nothing, and the number at which `look` ran does
 at-shows-nothing : (outcome : Outcome) → low_by 3 (reply.At 5 outcome) ≡ 3

@@ -7,3 +7,5 @@ pub mod Holding
 pub mod Reading
 pub mod Leading
 pub mod Explained
+pub mod Bounds
+pub mod Sessions

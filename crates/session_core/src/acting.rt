@@ -5,6 +5,7 @@ ghost use Rattle.session_core.specs.Lines.{line_of};
 ghost use Rattle.session_core.specs.Phases.{start};
 ghost use Rattle.session_core.specs.Holding.{Attends, BodyIsReady};
 ghost use Rattle.session_core.specs.Leading.{Went, turn_of};
+ghost use Rattle.session_core.specs.Sessions.{IsAccounted};
 
 use crate::error::SessionError;
 use crate::line::Line;
@@ -95,6 +96,7 @@ pub fn turn<B: Backend>(
     ensures went { Went B.known B.goes backend.old
         (start (B.known backend.old).shards (B.known backend.old).seen session.old (line_of bytes.now))
         result backend.new session.new }
+    ensures accounted { IsAccounted (B.known backend.old) (B.known backend.new) session.old (line_of bytes.now) result session.new }
     ensures attends { IfOk result (λ turn. Attends (B.known backend.new) session.new) }
     ensures home { B.home backend.new ≡ B.home backend.old }
 {

@@ -1,8 +1,36 @@
-//! The law of verbs: a function that does nothing, whose contract is a theorem over the definitions.
+//! The laws of lines: functions that do nothing, whose contracts are theorems over the definitions.
 
+ghost use Rattle.session_core.specs.Bounds.{LinesAreBounded, TriesAreFew, CallsSuffice};
 ghost use Rattle.session_core.specs.Lines.{VerbsAreForms};
+ghost use Rattle.session_core.specs.Sessions.{ExplainsStays, SessionsAreExplained};
 
 /// The law that the verb of a line is the one of whose form it is.
 pub fn verbs_are_forms()
     ensures { VerbsAreForms }
+{}
+
+/// The law that a line makes no more calls than its form allows, whatever it is answered.
+pub fn lines_are_bounded()
+    ensures { LinesAreBounded }
+{}
+
+/// The law that a line which was read makes one try at least, and sixteen at most.
+pub fn tries_are_few()
+    ensures { TriesAreFew }
+{}
+
+/// The law that `MOST_CALLS` calls suffice for every line that was read: where so many were made it is over, or a call failed.
+pub fn calls_suffice()
+    ensures { CallsSuffice }
+{}
+
+/// The law that what a journal explains, every longer one explains.
+pub fn explained_stays()
+    ensures { ExplainsStays }
+{}
+
+/// The law that all answers of a session are explained by the journal at its end, whatever others did between its lines, and
+/// that its client's commits and denials are the answered ones.
+pub fn sessions_are_explained()
+    ensures { SessionsAreExplained }
 {}

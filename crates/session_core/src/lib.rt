@@ -4,7 +4,7 @@
 //! into lines, hand each to a session, and print what it answers.
 //!
 //! Read first `specs/Phases` (what a line does, as a machine of phases) and `specs/Leading` (the steps of a line over a backend).
-//! `specs/Explained` says which replies a journal explains; no law ties it to the code yet.
+//! `specs/Explained` says which answers a journal explains, and `specs/Sessions` what that makes of whole sessions.
 #![tactic(auto)]
 
 mod acting;
@@ -26,7 +26,10 @@ mod words;
 
 pub use body::body_of;
 pub use error::SessionError;
-pub use laws::verbs_are_forms;
+pub use laws::{
+    calls_suffice, explained_stays, lines_are_bounded, sessions_are_explained, tries_are_few,
+    verbs_are_forms,
+};
 pub use limits::{MOST_CALLS, MOST_EVENTS};
 pub use line::Line;
 pub use reading::read_line;

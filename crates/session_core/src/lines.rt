@@ -6,6 +6,8 @@ ghost use Rattle.session_core.specs.Lines.{line_of};
 ghost use Rattle.session_core.specs.Phases.{start};
 ghost use Rattle.session_core.specs.Holding.{Follows};
 ghost use Rattle.session_core.specs.Leading.{Went, AnswersAgain};
+ghost use Rattle.session_core.specs.Explained.{IsExplained};
+ghost use Rattle.session_core.specs.Sessions.{OwnGrows, CountsDenied, CountsKnown};
 
 use crate::acting::turn;
 use crate::error::SessionError;
@@ -43,6 +45,16 @@ impl Session {
         ensures went { self.old.over ≡ None → Went B.known B.goes backend.old
             (start (B.known backend.old).shards (B.known backend.old).seen self.old (line_of bytes.now))
             result backend.new self.new }
+
+        // Its answer is explained by the journal, where the backend tells that, whatever was shown before.
+        ensures explained { IsExplained (B.known backend.old) (B.known backend.new) self.old (line_of bytes.now) result self.new }
+
+        // The client's commits are those before, and the one that is answered.
+        ensures owns { OwnGrows (B.known backend.old) (B.known backend.new) result }
+
+        // Each denied commit is answered so, and is one of the denials that the backend knows of.
+        ensures denied { CountsDenied (B.known backend.old) (B.known backend.new) result }
+        ensures knows { CountsKnown (B.known backend.old) (B.known backend.new) result }
 
         // The next line may follow.
         ensures follows { Follows (B.known backend.new) self.new }

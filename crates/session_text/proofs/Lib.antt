@@ -3,3 +3,4 @@ pub mod ReplyFits
 pub mod Verbs
 pub mod PrintedBack
 pub mod Within
+pub mod Tries

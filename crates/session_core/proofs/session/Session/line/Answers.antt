@@ -14,3 +14,24 @@ pub returns-in-Err-clause-fault : goal.returns-in-Err-clause-fault
 returns-in-Err-clause-fault g c = λ h. inr (went-fault g.B.Backend.known g.B.Backend.goes c.args.backend.now c.args.self.now
     (line_of c.args.bytes.now) c.turn-turn.result c.turn-turn.new.backend c.turn-turn.new.session
     c.turn-turn.ensures.went h)
+
+pub returns-in_default-turn-clause-explained : goal.returns-in_default-turn-clause-explained
+returns-in_default-turn-clause-explained g c = c.turn-turn.ensures.accounted.explained
+
+pub returns-in_default-turn-clause-owns : goal.returns-in_default-turn-clause-owns
+returns-in_default-turn-clause-owns g c = c.turn-turn.ensures.accounted.owns
+
+pub returns-in_default-turn-clause-denied : goal.returns-in_default-turn-clause-denied
+returns-in_default-turn-clause-denied g c = c.turn-turn.ensures.accounted.denied
+
+pub returns-in_default-turn-clause-knows : goal.returns-in_default-turn-clause-knows
+returns-in_default-turn-clause-knows g c = c.turn-turn.ensures.accounted.knows
+
+pub returns-in-Err-clause-owns : goal.returns-in-Err-clause-owns
+returns-in-Err-clause-owns g c = c.turn-turn.ensures.accounted.owns
+
+pub returns-in-Err-clause-denied : goal.returns-in-Err-clause-denied
+returns-in-Err-clause-denied g c = c.turn-turn.ensures.accounted.denied
+
+pub returns-in-Err-clause-knows : goal.returns-in-Err-clause-knows
+returns-in-Err-clause-knows g c = c.turn-turn.ensures.accounted.knows

@@ -1,0 +1,140 @@
+-- Whole sessions: the lines of one client, one after another, with others at work between them. What a client is answered is
+-- explained by the journal at the end; its commits and its denials are those that it was answered.
+use Rattle.std.specs.Prelude.{◌≡◌, ◌⊎◌, ℕ, ◌+◌, ◌≤◌, List, [], ◌∷◌, ◌++◌, map, fold, length, Option, Some, None, Result, Ok, Err, codes, refl}
+use Rattle.dio_core.specs.Counts.{one_more, last_count}
+use Rattle.dio_core.specs.Told.{WhereTold}
+use Rattle.dio_core.specs.declared.line.TheConstants.{LONGEST_LINE}
+use Rattle.rdt_types.specs.declared.outcome.Outcome.{Outcome}
+use Rattle.session_text.specs.declared.reply.Reply.{Reply}
+use Rattle.session_text.specs.declared.reply.Reply.TheVariants as reply
+use Rattle.txn_grammar.specs.Characters.{Text}
+use Rattle.txn_lang.specs.declared.commit.Commit.{Commit}
+use Rattle.txn_lang.specs.States.{Journal}
+use Rattle.txn_lang.specs.Journals.{own}
+use Rattle.journal_core.specs.Changes.{adding}
+use Rattle.journal_core.specs.Journals.{commit_at}
+use Rattle.docc_prepare.specs.Calls.{Known}
+use Rattle.docc_prepare.specs.Backends.{IsPrefix, IsAnswered, IsLater}
+use Rattle.session_core.specs.declared.line.Line.{Line}
+use Rattle.session_core.specs.declared.session.Session.{Session}
+use Rattle.session_core.specs.declared.error.SessionError.{SessionError}
+use Rattle.session_core.specs.declared.turn.Turn.{Turn}
+use Rattle.session_core.specs.Lines.{line_of}
+use Rattle.session_core.specs.Phases.{Phase, start}
+use Rattle.session_core.specs.Holding.{Attends}
+use Rattle.session_core.specs.Leading.{Leads}
+use Rattle.session_core.specs.Explained.{Setting, Story, replies_in, Explains, MayBeTold, setting_of, IsExplained}
+
+-- ---- the client's own commits
+
+abbrev pub as_list : Option Commit → List Commit
+as_list None = []
+as_list (Some commit) = commit ∷ []
+
+-- the commits that replies name, as they stand in the journal
+abbrev pub committed_by : Journal → List Reply → List Commit
+committed_by journal [] = []
+committed_by journal (reply.Commit n outcome ∷ rest) = as_list (commit_at journal n) ++ committed_by journal rest
+committed_by journal (r ∷ rest) = committed_by journal rest
+
+-- The client's commits are those before, and then those that the replies name.
+abbrev pub OwnsAnswered : ℕ → List Reply → Journal → Journal → Type 0
+OwnsAnswered client replies old new = own client new ≡ own client old ++ committed_by new replies
+
+-- of what is answered with an error: it may have one commit more
+pub record OwnsOneAtMost (client : ℕ) (old new : Journal) : Type 0 where
+  pub more : List Commit
+  pub few : length more ≤ 1
+  pub own_is : own client new ≡ own client old ++ more
+
+-- what a line adds to its client's commits, where the journal is told
+abbrev pub OwnGrows : Known → Known → Result Turn SessionError → Type 0
+OwnGrows k l (Ok turn) = WhereTold (OwnsAnswered k.client (replies_in turn)) k.journal l.journal
+OwnGrows k l (Err e) = WhereTold (OwnsOneAtMost k.client) k.journal l.journal
+
+-- ---- what the disk denied
+
+-- the count of denials after a reply, and after all
+abbrev pub denied_by : ℕ → Reply → ℕ
+denied_by count reply.Disk = one_more count
+denied_by count r = count
+
+abbrev pub denied_by_all : ℕ → List Reply → ℕ
+denied_by_all count replies = fold denied_by count replies
+
+-- `disk` is answered as often as the client's count of denials rises; an error may hide one
+abbrev pub CountsDenied : Known → Known → Result Turn SessionError → Type 0
+CountsDenied k l (Ok turn) = l.denied ≡ denied_by_all k.denied (replies_in turn)
+CountsDenied k l (Err e) = (l.denied ≡ k.denied) ⊎ (l.denied ≡ one_more k.denied)
+
+-- of denials in the whole store it knows of no fewer more
+abbrev pub CountsKnown : Known → Known → Result Turn SessionError → Type 0
+CountsKnown k l (Ok turn) = denied_by_all k.denials (replies_in turn) ≤ l.denials
+CountsKnown k l (Err e) = k.denials ≤ l.denials
+
+-- all that is said of a line and of what it is answered
+pub record IsAccounted (k l : Known) (s : Session) (line : Line) (result : Result Turn SessionError) (t : Session) : Type 0 where
+  pub explained : IsExplained k l s line result t
+  pub owns : OwnGrows k l result
+  pub denied : CountsDenied k l result
+  pub knows : CountsKnown k l result
+
+-- ---- line after line
+
+-- how a line finds the backend: as the one before left it, or as others have left it since
+abbrev pub Finds : Known → Known → Type 0
+Finds k here = (here ≡ k) ⊎ IsLater k here
+
+-- LINES AND THEIR ANSWERS, one after another: each goes the way of the machine of phases, by calls that keep the clause of
+-- every call.
+pub data Talks : Known → Session → List Text → List Turn → Known → Session → Type 0 where
+  silent : {k : Known} {s : Session} → Talks k s [] [] k s
+  says : {k here l m : Known} {s t u : Session} {text : Text} {turn : Turn} {texts : List Text} {turns : List Turn} (calls : ℕ)
+      → Finds k here → length text ≤ LONGEST_LINE → Leads IsAnswered here (start here.shards here.seen s (line_of text)) calls l (Phase.over t turn)
+      → Talks l t texts turns m u → Talks k s (text ∷ texts) (turn ∷ turns) m u
+
+abbrev pub all_replies : List Turn → List Reply
+all_replies [] = []
+all_replies (turn ∷ rest) = replies_in turn ++ all_replies rest
+
+-- the journal has grown, and explains all answers
+pub record ExplainsAll (set : Setting) (y : Story) (texts : List Text) (turns : List Turn) (old new : Journal) : Type 0 where
+  pub grows : IsPrefix old new
+  pub explains : Explains set new y (map line_of texts) turns
+
+-- what a session comes to
+pub record HasTalked (k l : Known) (s t : Session) (texts : List Text) (turns : List Turn) : Type 0 where
+  pub attends : Attends l t
+  pub explained : (low begun : ℕ) → MayBeTold k (record { low = low; begun = begun; session = s })
+      → WhereTold (ExplainsAll (setting_of k) (record { low = low; begun = begun; session = s }) texts turns) k.journal l.journal
+  pub own_commits : WhereTold (OwnsAnswered k.client (all_replies turns)) k.journal l.journal
+  pub denied : l.denied ≡ denied_by_all k.denied (all_replies turns)
+  pub known_denied : denied_by_all k.denials (all_replies turns) ≤ l.denials
+
+-- ---- laws
+
+-- What a journal explains, every longer one explains.
+abbrev pub ExplainsStays : Type 0
+ExplainsStays = (set : Setting) (old new : Journal) (y : Story) (texts : List Text) (turns : List Turn) → IsPrefix old new
+    → Explains set old y (map line_of texts) turns → Explains set new y (map line_of texts) turns
+
+-- OVER EVERY BACKEND THAT TELLS ITS JOURNAL, ALL ANSWERS OF A SESSION ARE EXPLAINED BY THE JOURNAL AT ITS END, whatever others
+-- did between its lines; and the client's commits and denials are the answered ones.
+abbrev pub SessionsAreExplained : Type 0
+SessionsAreExplained = (k l : Known) (s t : Session) (texts : List Text) (turns : List Turn) → Attends k s → Talks k s texts turns l t
+    → HasTalked k l s t texts turns
+
+-- ---- worked lines
+
+-- of two commits the second is named
+committed_by-example : (outcome : Outcome) → committed_by (adding 1 (codes "x") ∷ adding 2 (codes "y") ∷ []) (reply.Commit 2 outcome ∷ []) ≡ adding 2
+    (codes "y") ∷ []
+committed_by-example outcome = refl
+
+-- two denials, and a number that was seen
+denied_by_all-example : denied_by_all 3 (reply.Disk ∷ reply.Seen 9 ∷ reply.Disk ∷ []) ≡ 5
+denied_by_all-example = refl
+
+-- at the last value the count stands
+denied_by_all-last : denied_by_all last_count (reply.Disk ∷ []) ≡ last_count
+denied_by_all-last = refl
