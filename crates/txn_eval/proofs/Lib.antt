@@ -1,3 +1,4 @@
+pub mod Bound
 pub mod Buffered
 pub mod Ending
 pub mod PlacesKept

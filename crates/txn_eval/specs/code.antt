@@ -1,4 +1,5 @@
 pub mod Buffering
 pub mod Answers
 pub mod Lengths
+pub mod Loops
 pub mod Places

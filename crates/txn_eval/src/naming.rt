@@ -18,6 +18,16 @@ pub(crate) fn named(names: &Environment, name: &Text) -> Result<Item, AllocError
     }
 }
 
+/// The texts of the list that a name stands for, lent.
+pub(crate) fn texts_named<'a>(names: &'a Environment, name: &Text) -> &'a [Text]
+    ensures { result.now ≡ spec.texts_in (spec.named names.now name.now) }
+{
+    match names.item_of(name) {
+        Some(Item::Texts(texts)) => texts.as_slice(),
+        _ => &[],
+    }
+}
+
 /// Forgets names, the newest first, until so many are left.
 pub(crate) fn forget(names: &mut Environment, count: usize) -> Result<(), AllocError>
     ensures { OnOk result (names.new ≡ take count names.old) }

@@ -1,10 +1,12 @@
 //! What statements do.
 
-ghost use Rattle.std.specs.Prelude.{◌≡◌, ◌+◌, map, []};
+ghost use Rattle.std.specs.Prelude.{◌≡◌, ◌+◌, map, [], take, length, OnOk};
 ghost use Rattle.txn_lang.specs.Steps as steps;
 ghost use Rattle.txn_lang.specs.Rules as rules;
+ghost use Rattle.txn_lang.specs.Items.{named, texts_in};
 ghost use Rattle.txn_eval.specs.code.Answers.{Answers, Leaves};
 ghost use Rattle.txn_eval.specs.code.Buffering.{kept};
+ghost use Rattle.txn_eval.specs.code.Loops.{for_run};
 ghost use Rattle.txn_eval.specs.Running.{values_of};
 
 use crate::charging::{carry, charge};
@@ -14,13 +16,13 @@ use crate::items::{bool_in, into_text, into_texts};
 use crate::kept::Kept;
 use crate::loads::{emit_size, write_size};
 use crate::memory::write_at;
-use crate::naming::forget;
+use crate::naming::{forget, texts_named};
 use crate::words::write_of;
 use plain_data::Text;
 use rdt_types::{Address, Item, Kind};
 use std::alloc::Global;
 use txn_lang::{Progress, Snaps, Stop};
-use txn_trees::{Stmt, StmtNode, WriteWord};
+use txn_trees::{Expr, ExprNode, Stmt, StmtNode, WriteWord};
 
 /// Emits an item.
 fn emit(run: &mut Progress<Kept>, item: Item) -> Result<(), Stop>
@@ -59,7 +61,8 @@ fn write(
     }
 }
 
-/// Statements in order.
+/// Statements in order. What was bound before stays bound, to the same.
+#[tactic(auto, using(crate::proofs::Bound::bound_through))]
 #[cycle(step)]
 pub(crate) fn steps_of(
     alloc: Global,
@@ -68,7 +71,8 @@ pub(crate) fn steps_of(
     run: &mut Progress<Kept>,
     stmts: &[Stmt],
 ) -> Result<(), Stop>
-    ensures { Leaves result names.new run.new (rules.all_steps (map (rules.stmt_run (kept (values_of snaps.now))) stmts.now) names.old run.old) }
+    ensures leaves { Leaves result names.new run.new (rules.all_steps (map (rules.stmt_run (kept (values_of snaps.now))) stmts.now) names.old run.old) }
+    ensures bound { OnOk result (take (length names.old) names.new ≡ names.old) }
 {
     for stmt in stmts {
         step(alloc, snaps, names, run, stmt)?;
@@ -85,7 +89,8 @@ fn block(
     run: &mut Progress<Kept>,
     stmts: &[Stmt],
 ) -> Result<(), Stop>
-    ensures { Leaves result names.new run.new (rules.block (map (rules.stmt_run (kept (values_of snaps.now))) stmts.now) names.old run.old) }
+    ensures leaves { Leaves result names.new run.new (rules.block (map (rules.stmt_run (kept (values_of snaps.now))) stmts.now) names.old run.old) }
+    ensures same { OnOk result (names.new ≡ names.old) }
 {
     let outside = names.len();
     steps_of(alloc, snaps, names, run, stmts)?;
@@ -93,7 +98,8 @@ fn block(
     Ok(())
 }
 
-/// A turn of a loop.
+/// A turn of a loop, with its text. It forgets the names that it bound.
+#[tactic(auto, using(crate::proofs::Bound::bound_inside))]
 #[cycle(step)]
 fn turn(
     alloc: Global,
@@ -101,21 +107,21 @@ fn turn(
     names: &mut Environment,
     run: &mut Progress<Kept>,
     name: &Text,
-    text: &Text,
+    text: Text,
     stmts: &[Stmt],
 ) -> Result<(), Stop>
-    ensures { Leaves result names.new run.new (rules.turn name.now (map (rules.stmt_run (kept (values_of snaps.now))) stmts.now) text.now names.old run.old) }
+    ensures leaves { Leaves result names.new run.new (rules.turn name.now (map (rules.stmt_run (kept (values_of snaps.now))) stmts.now) text names.old run.old) }
+    ensures same { OnOk result (names.new ≡ names.old) }
 {
     charge(run, 1)?;
     let count = names.len();
-    let text = text.clone()?;
     names.bind(name, Item::Text(text))?;
     steps_of(alloc, snaps, names, run, stmts)?;
     forget(names, count)?;
     Ok(())
 }
 
-/// The turns of a loop.
+/// The turns of a loop over texts.
 #[cycle(step)]
 fn turns(
     alloc: Global,
@@ -126,15 +132,66 @@ fn turns(
     texts: &[Text],
     stmts: &[Stmt],
 ) -> Result<(), Stop>
-    ensures { Leaves result names.new run.new (rules.turns name.now (map (rules.stmt_run (kept (values_of snaps.now))) stmts.now) texts.now names.old run.old) }
+    ensures leaves { Leaves result names.new run.new (rules.turns name.now (map (rules.stmt_run (kept (values_of snaps.now))) stmts.now) texts.now names.old run.old) }
+    ensures same { OnOk result (names.new ≡ names.old) }
 {
     for text in texts {
+        turn(alloc, snaps, names, run, name, text.clone()?, stmts)?;
+    }
+    Ok(())
+}
+
+/// The turns of a loop over the list that a name stands for. The list stays in its place and isn't copied, since each turn
+/// leaves the names as they were.
+#[cycle(step)]
+fn turns_named(
+    alloc: Global,
+    snaps: &Snaps,
+    names: &mut Environment,
+    run: &mut Progress<Kept>,
+    name: &Text,
+    listed: &Text,
+    stmts: &[Stmt],
+) -> Result<(), Stop>
+    ensures leaves { Leaves result names.new run.new (rules.turns name.now (map (rules.stmt_run (kept (values_of snaps.now))) stmts.now) (texts_in (named names.old listed.now)) names.old run.old) }
+    ensures same { OnOk result (names.new ≡ names.old) }
+{
+    for place in 0..texts_named(names, listed).len() {
+        let text = texts_named(names, listed)[place].clone()?;
         turn(alloc, snaps, names, run, name, text, stmts)?;
     }
     Ok(())
 }
 
+/// A loop over the texts of an expression. The statements come first, since it ends by their depth.
+#[cycle(step)]
+fn repeat(
+    alloc: Global,
+    snaps: &Snaps,
+    names: &mut Environment,
+    run: &mut Progress<Kept>,
+    name: &Text,
+    stmts: &[Stmt],
+    expr: &Expr,
+) -> Result<(), Stop>
+    ensures leaves { Leaves result names.new run.new (for_run (kept (values_of snaps.now)) name.now expr.now (map (rules.stmt_run (kept (values_of snaps.now))) stmts.now) names.old run.old) }
+    ensures same { OnOk result (names.new ≡ names.old) }
+{
+    match &expr.node {
+        ExprNode::Name(listed) => {
+            charge(run, 1)?;
+            turns_named(alloc, snaps, names, run, name, listed, stmts)
+        }
+        _ => {
+            let item = value_of(alloc, snaps, names, run, expr)?;
+            let texts = into_texts(alloc, item);
+            turns(alloc, snaps, names, run, name, texts.as_slice(), stmts)
+        }
+    }
+}
+
 /// A statement.
+#[tactic(auto, using(crate::proofs::Bound::bound_same, crate::proofs::Bound::bound_pushed))]
 #[cycle(step)]
 fn step(
     alloc: Global,
@@ -143,7 +200,8 @@ fn step(
     run: &mut Progress<Kept>,
     stmt: &Stmt,
 ) -> Result<(), Stop>
-    ensures { Leaves result names.new run.new (rules.stmt_run (kept (values_of snaps.now)) stmt.now names.old run.old) }
+    ensures leaves { Leaves result names.new run.new (rules.stmt_run (kept (values_of snaps.now)) stmt.now names.old run.old) }
+    ensures bound { OnOk result (take (length names.old) names.new ≡ names.old) }
 {
     charge(run, 1)?;
     match &stmt.node {
@@ -172,17 +230,7 @@ fn step(
             }
         }
         StmtNode::For(name, expr, stmts) => {
-            let item = value_of(alloc, snaps, names, run, expr)?;
-            let texts = into_texts(alloc, item);
-            turns(
-                alloc,
-                snaps,
-                names,
-                run,
-                name,
-                texts.as_slice(),
-                stmts.as_slice(),
-            )
+            repeat(alloc, snaps, names, run, name, stmts.as_slice(), expr)
         }
         StmtNode::Write(kind, key, word, arguments) => {
             let key = value_of(alloc, snaps, names, run, key)?;
