@@ -164,7 +164,7 @@ module _ (name bytes : Bytes) (same : bytes ≡ name) (number : ℕ) (run : Run)
       shown-set_value bytes kept (settled number run watch)
       ∙ ap (λ b. set_value (bytes_eq b) (shown kept) (settled number run watch)) same
       ∙ sym (ap (λ o. option_map_or (λ w. set_value (bytes_eq name) (shown kept) (settled number run w)) o (shown kept))
-        (lookup-shown name kept ∙ ap (λ b. lookup (is_named b) kept) (sym same) ∙ there))
+      (lookup-shown name kept ∙ ap (λ b. lookup (is_named b) kept) (sym same) ∙ there))
 
 -- ---- the next rerun
 

@@ -106,8 +106,8 @@ touches-pending : (changes : List Change) (from : ℕ) (feed : Fed) (observation
 touches-pending changes from feed [] kinds all = refl
 touches-pending changes from feed (seen ∷ observations) kinds all =
     let here : clashes feed.changes seen ≡ list_any (meets seen) (between from feed.to changes) =
-        ap (λ o. option_map_or (clash seen.obs) o false) all.0
-        ∙ clash-pending seen (between from feed.to changes) (of_kinds-between from feed.to changes kinds) in
+    ap (λ o. option_map_or (clash seen.obs) o false) all.0
+    ∙ clash-pending seen (between from feed.to changes) (of_kinds-between from feed.to changes kinds) in
     let rest = touches-pending changes from feed observations kinds all.1 in
     λ i. here i || rest i
 
@@ -164,7 +164,7 @@ module _ (a b c : ℕ) (first : a ≤ b) (second : b ≤ c) where
       let test = meets seen in
       shuffled (list_any test (between a b changes)) _ (list_any test (between b c changes)) _
       ∙ ap (λ t. t || (is_touched changes a b observations || is_touched changes b c observations))
-        ((λ i. any-between test a b changes i || any-between test b c changes i) ∙ any-joined test changes ∙ sym (any-between test a c changes))
+      ((λ i. any-between test a b changes i || any-between test b c changes i) ∙ any-joined test changes ∙ sym (any-between test a c changes))
       ∙ ap (λ t. list_any test (between a c changes) || t) (touched-joined changes observations)
 
 untouched_by : (test : Change → Bool) (n : ℕ) (changes : List Change) → list_any (within test n n) changes ≡ false

@@ -59,9 +59,7 @@ fn first_stale(watches: &[Watch]) -> Option<usize>
 fn any_observes(watches: &[Watch], address: &Address) -> bool
     ensures { result ≡ list_any (λ watch. spec.is_observed_by address.now watch.observations) watches.now }
 {
-    watches
-        .iter()
-        .any(|watch| is_observed_by(address, watch.observations.as_slice()))
+    watches.iter().any(|watch| is_observed_by(address, watch.observations.as_slice()))
 }
 
 impl Driver {
@@ -133,9 +131,10 @@ impl Driver {
         requires there { IsSome (watch_of self.old name.now) }
         ensures { self.new ≡ spec.with_report self.old name.now number run }
     {
-        if let Some(watch) = self.watches.get_mut(name.as_slice()) {
-            watch.settle(number, run);
-        }
+        let Some(watch) = self.watches.get_mut(name.as_slice()) else {
+            return;
+        };
+        watch.settle(number, run);
     }
 
     /// Whether the last run of a watch observed something at an address.

@@ -120,9 +120,25 @@ fn touched_watches_run_in_the_order_of_their_making(rt: HostRuntime) -> Result<(
     let alloc = rt.alloc();
     let mut cache = cache(alloc)?;
     let mut driver = Driver::new(alloc);
-    assert!(rt; watch(&mut driver, alloc, &cache, b"b", b"emit counter(\"x\").get() + counter(\"y\").get();")?);
+    assert!(rt;
+        watch(
+            &mut driver,
+            alloc,
+            &cache,
+            b"b",
+            b"emit counter(\"x\").get() + counter(\"y\").get();"
+        )?
+    );
     assert!(rt; watch(&mut driver, alloc, &cache, b"n", b"emit 5;")?);
-    assert!(rt; watch(&mut driver, alloc, &cache, b"a", b"emit counter(\"x\").get();")?);
+    assert!(rt;
+        watch(
+            &mut driver,
+            alloc,
+            &cache,
+            b"a",
+            b"emit counter(\"x\").get();"
+        )?
+    );
     assert!(rt; is_current(&driver, &cache)?);
     add(&mut driver, alloc, &mut cache, b"y", 0)?;
     add(&mut driver, alloc, &mut cache, b"x", 10)?;
@@ -166,10 +182,34 @@ fn a_forgotten_watch_leaves_its_name(rt: HostRuntime) -> Result<(), Fail> {
     let mut cache = cache(alloc)?;
     let mut driver = Driver::new(alloc);
     let name = Text::from_slice(alloc, b"w")?;
-    assert!(rt; watch(&mut driver, alloc, &cache, b"w", b"emit counter(\"x\").get();")?);
-    assert!(rt; watch(&mut driver, alloc, &cache, b"v", b"emit counter(\"x\").get();")?);
+    assert!(rt;
+        watch(
+            &mut driver,
+            alloc,
+            &cache,
+            b"w",
+            b"emit counter(\"x\").get();"
+        )?
+    );
+    assert!(rt;
+        watch(
+            &mut driver,
+            alloc,
+            &cache,
+            b"v",
+            b"emit counter(\"x\").get();"
+        )?
+    );
     assert!(rt; driver.unwatch(&name) && !driver.unwatch(&name) && !driver.has(&name));
-    assert!(rt; watch(&mut driver, alloc, &cache, b"w", b"emit counter(\"x\").get() * 2;")?);
+    assert!(rt;
+        watch(
+            &mut driver,
+            alloc,
+            &cache,
+            b"w",
+            b"emit counter(\"x\").get() * 2;"
+        )?
+    );
     add(&mut driver, alloc, &mut cache, b"x", 1)?;
     assert!(rt; reruns(&mut driver, alloc, &cache, b"v", 2)?);
     assert!(rt; reruns(&mut driver, alloc, &cache, b"w", 4)?);

@@ -17,7 +17,7 @@ loop-place-preserved c =
     let changes = c.args.changes.now in
     (λ i. set_value_at (c.loop-place.invariant i) n (c.tell.ensures i))
     ∙ told-next changes n kept c.index_mut.result.now
-      (subst (λ (es : Kept). slice_get (values_of es) n ≡ Some c.index_mut.result.now) c.loop-place.invariant c.index_mut.ensures.value)
+    (subst (λ (es : Kept). slice_get (values_of es) n ≡ Some c.index_mut.result.now) c.loop-place.invariant c.index_mut.ensures.value)
     ∙ ap (λ m. first_told changes m kept) (sym (add-one n))
 
 pub returns : goal.returns

@@ -14,7 +14,7 @@ loop-init c =
 
 pub returns-in-Done : goal.returns-in-Done
 returns-in-Done c =
-    sym (runs_stay_done c.args.body.now.body (values_of c.loop.snaps) (held c.args.cache.now) c.in-Done.run c.loop.invariant
+    sym (runs_stay_done c.args.body.now.body (values_of c.loop.snaps) (held c.args.cache.now) c.in-Done.run' c.loop.invariant
     (sym c.in_ok-run.ensures ∙ ap ran_of c.in-Done.is))
 
 pub returns-in-None : goal.returns-in-None
@@ -24,6 +24,6 @@ returns-in-None c =
 
 pub loop-preserved : goal.loop-preserved
 loop-preserved c =
-    subst (λ (snaps : List (Address × Snap)). Extends (values_of snaps) (held c.args.cache.now)) (sym c.in_ok-take_value.ensures)
+    subst (λ (snaps : List (Address × Snap)). Extends (values_of snaps) (held c.args.cache.now)) (sym c.in_ok-take_value-in-Some.ensures)
     (extends-more c.loop.snaps (held c.args.cache.now) c.in-Need.address (record { base = c.at.result; value = c.in-Some.value.now }) c.loop.invariant
     (sym c.in-Some.ensures))

@@ -11,7 +11,7 @@ returns-clause-ok c =
     let kept = c.self.inside.watches.entries in
     let key = c.into_vec.result in
     let none : lookup (is_named key.items) kept ≡ None =
-        sym (lookup-shown key.items kept) ∙ (λ i. watch_of (c.self.view_is i) (c.into_vec.ensures i)) ∙ c.requires in
+    sym (lookup-shown key.items kept) ∙ (λ i. watch_of (c.self.view_is i) (c.into_vec.ensures i)) ∙ c.requires.free in
     ap shown (c.in_ok-insert.ensures.entries ∙ insert_entry-new _ c.self.inside.watches key c.new.result none)
     ∙ shown-append kept ((key, c.new.result) ∷ [])
     ∙ (λ i. c.self.view_is i ++ (c.into_vec.ensures i, c.new.ensures i) ∷ [])
