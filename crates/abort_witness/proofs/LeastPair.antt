@@ -136,8 +136,14 @@ module _ (place : ℕ) (based : Based) (others : List Based) (changes : List Cha
 
   -- a pair of the other observations is one of all, at the same place
   later-pair : (found : Found) → PairFrom (place + 1) others changes found → PairFrom place (based ∷ others) changes found
-  later-pair found pair = record { ahead = suc pair.ahead; observation = pair.observation; at =
-      (let h = pair.at in omega (arith, h)); placed = pair.placed; clash = pair.clash }
+  later-pair found pair = record {
+    ahead = suc pair.ahead;
+    observation = pair.observation;
+    at =
+        (let h = pair.at in omega (arith, h));
+    placed = pair.placed;
+    clash = pair.clash;
+  }
 
   -- the best of one observation and the others
   best-both : (first : Option ℕ) (rest : Option Found) → IsFirst based changes first → IsBest (place + 1) others changes rest
@@ -182,7 +188,7 @@ best-is : (place : ℕ) (based : List Based) (changes : List Change) → Rises c
 best-is place [] changes rising = λ found pair. absurd (let e = pair.placed in cc)
 best-is place (first ∷ others) changes rising =
     best-both place first others changes (first_clash first changes) (least_from (place + 1) others changes) (first-is first changes rising)
-        (best-is (place + 1) others changes rising)
+    (best-is (place + 1) others changes rising)
 
 -- ---- all observations
 

@@ -125,7 +125,7 @@ named-is obs.HashAll d = either _ (clear_part d) (first_mark d) (clear-is d) (fi
 named-is (obs.ListAt i) d = either _ (clear_part d) (first_removed d) (clear-is d) (first-removed-is d)
 named-is obs.ListAll d =
     either _ (option_or (clear_part d) (first_removed d)) (first_pushed d) (either _ (clear_part d) (first_removed d) (clear-is d)
-        (first-removed-is d)) (first-pushed-is d)
+    (first-removed-is d)) (first-pushed-is d)
 
 -- the part that is named is of the kind of the delta
 pub kind-named : (o : Obs) (d : Delta) (part : WriteOp) → named o d ≡ Some part → kind_written part ≡ kind_changed d

@@ -18,6 +18,11 @@ pub record IsOfOneKind (witness : Witness) : Type 0 where
   pub written : kind_written witness.part ≡ witness.address.kind
 
 -- an addition beside a counter
-counted : IsOfOneKind (record { address = record { kind = kinds.Counter; key = codes "x" }; obs = obs.CounterIs; base = 3;
-    part = op.AddCounter (pos 1); number = 4 })
+counted : IsOfOneKind (record {
+  address = record { kind = kinds.Counter; key = codes "x" };
+  obs = obs.CounterIs;
+  base = 3;
+  part = op.AddCounter (pos 1);
+  number = 4;
+})
 counted = record { observed = refl; written = refl }

@@ -44,7 +44,7 @@ kept_pending deltas (change ∷ changes) q =
     by : (b : Bool)
         → composed_after (cond b (Some (after_maybe (delta_at deltas q) change.delta)) (delta_at deltas q)) (deltas_at q changes)
         ≡ composed_after (delta_at deltas q) (map (λ c. c.delta) (cond b (change ∷ filter (λ c. is_at (address_cmp q) c.address) changes)
-            (filter (λ c. is_at (address_cmp q) c.address) changes)))
+        (filter (λ c. is_at (address_cmp q) c.address) changes)))
     by true = refl
     by false = refl
 

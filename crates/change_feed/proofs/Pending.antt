@@ -80,7 +80,7 @@ deltas_at-append address before (change ∷ changes) later =
   where
     by : (before : Option Delta) (b : Bool)
         → ((o : Option Delta) → composed_after o (deltas_of (at address (changes ++ later)))
-            ≡ composed_after (composed_after o (deltas_of (at address changes))) (deltas_of (at address later)))
+        ≡ composed_after (composed_after o (deltas_of (at address changes))) (deltas_of (at address later)))
         → composed_after before (deltas_of (cond b (change ∷ at address (changes ++ later)) (at address (changes ++ later))))
         ≡ composed_after (composed_after before (deltas_of (cond b (change ∷ at address changes) (at address changes)))) (deltas_of (at address later))
     by None true rest = rest (Some change.delta)

@@ -28,7 +28,7 @@ counter key = record { kind = kind.Counter; key = key }
 pending-example :
     pending (counter (codes "x"))
     (record { number = 1; address = counter (codes "x"); delta = delta.AddCounter (pos 0) }
-        ∷ record { number = 1; address = counter (codes "y"); delta = delta.AddCounter (pos 5) } ∷ [])
+    ∷ record { number = 1; address = counter (codes "y"); delta = delta.AddCounter (pos 5) } ∷ [])
     ≡ Some (delta.AddCounter (pos 0))
 pending-example = refl
 

@@ -74,7 +74,7 @@ applied-append address v (change ∷ changes) later =
   where
     by : (b : Bool)
         → ((w : Value) → applied (deltas_of (at address (changes ++ later))) w
-            ≡ applied (deltas_of (at address later)) (applied (deltas_of (at address changes)) w))
+        ≡ applied (deltas_of (at address later)) (applied (deltas_of (at address changes)) w))
         → applied (deltas_of (cond b (change ∷ at address (changes ++ later)) (at address (changes ++ later)))) v
         ≡ applied (deltas_of (at address later)) (applied (deltas_of (cond b (change ∷ at address changes) (at address changes))) v)
     by true rest = rest (apply change.delta v)

@@ -65,5 +65,5 @@ after_feed-example = refl
 -- a feed fills nothing
 after_feed-nothing :
     after_feed (record { to = 2; changes = (counter (codes "x"), delta.AddCounter (pos 4)) ∷ [] }) (counter (codes "x"))
-        (held (empty 1) (counter (codes "x"))) ≡ None
+    (held (empty 1) (counter (codes "x"))) ≡ None
 after_feed-nothing = refl

@@ -183,13 +183,19 @@ clears-composed d e = by e.cleared refl
   where
     by : (b : Bool) → e.cleared ≡ b → (composed d e).cleared ≡ (d.cleared || b)
     by true is =
-        ap (λ b. (cond b e (record { cleared = d.cleared; removed = cond d.cleared map.empty (union d.removed e.removed);
-            pushed = without e.removed d.pushed ++ e.pushed })).cleared) is
+        ap (λ b. (cond b e (record {
+          cleared = d.cleared;
+          removed = cond d.cleared map.empty (union d.removed e.removed);
+          pushed = without e.removed d.pushed ++ e.pushed;
+        })).cleared) is
         ∙ is
         ∙ sym (or-true d.cleared)
     by false is =
-        ap (λ b. (cond b e (record { cleared = d.cleared; removed = cond d.cleared map.empty (union d.removed e.removed);
-            pushed = without e.removed d.pushed ++ e.pushed })).cleared) is
+        ap (λ b. (cond b e (record {
+          cleared = d.cleared;
+          removed = cond d.cleared map.empty (union d.removed e.removed);
+          pushed = without e.removed d.pushed ++ e.pushed;
+        })).cleared) is
         ∙ sym (or_none d.cleared)
 
 -- whether a delta clears or takes items out

@@ -63,7 +63,7 @@ module _ {M V : Type 0} (left : M → Option V) where
   is_opposite : (v : V) (x : Bytes) (o : Option V) → is_some o ≡ not (map.contains_key (opposite v x o) x)
   is_opposite v x None =
       sym (ap (λ o. not (is_some o)) (map.get-insert nat_list_cmp_total map.empty x v x
-          ∙ ap (λ b. cond b (Some v) (map.get (map.empty {R = text_cmp}) x)) (tied x)))
+      ∙ ap (λ b. cond b (Some v) (map.get (map.empty {R = text_cmp}) x)) (tied x)))
   is_opposite v x (Some w) = sym (ap (λ o. not (is_some o)) (map.get-empty text_cmp x))
 
   -- a delta that clears or marks a key changes what is there, of some map

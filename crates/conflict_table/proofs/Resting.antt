@@ -137,7 +137,7 @@ Field f v w = map.get (hash_in v) f ≡ map.get (hash_in w) f
 keeps_field : (f : Bytes) (o : WriteOp) (v w : Value) → Field f v w → Field f (write o v) (write o w)
 keeps_field f (op.HashPut g t) v w r =
     map.get-insert nat_list_cmp_total (hash_in v) g t f ∙ ap (cond (eq_by_cmp text_cmp f g) (Some t)) r
-        ∙ sym (map.get-insert nat_list_cmp_total (hash_in w) g t f)
+    ∙ sym (map.get-insert nat_list_cmp_total (hash_in w) g t f)
 keeps_field f (op.HashRemove g) v w r =
     map.get-remove nat_list_cmp_total (hash_in v) g f ∙ ap (cond (eq_by_cmp text_cmp f g) None) r ∙ sym (map.get-remove nat_list_cmp_total (hash_in w) g f)
 keeps_field f o v w r = refl
@@ -252,7 +252,7 @@ get_rests own v w false keeps r = replayed Whole keeps_whole own v w (r refl)
 -- a clear decides, and without one what was observed of the place or of the list is kept
 place_rests : (i : ℕ) (own : List WriteOp) (v w : Value) (b : Bool) → list_any is_clear own ≡ b
     → (b ≡ false → observe (place_observed (pos i) (list_any is_list_remove own) (list_in v)) v
-        ≡ observe (place_observed (pos i) (list_any is_list_remove own) (list_in v)) w)
+    ≡ observe (place_observed (pos i) (list_any is_list_remove own) (list_in v)) w)
     → item_at (pos i) (list_in (replay own v)) ≡ item_at (pos i) (list_in (replay own w))
 place_rests i own v w true clears same =
     ap (item_at (pos i)) (decided Items keeps_items is_clear (clears_all Items (λ v. refl)) own v w clears)
@@ -273,7 +273,7 @@ answers_rest (read.HashHas f) own v w kinds same =
     ap (λ o. item.Bool (is_some o)) (by_name (Field f) (keeps_field f) (λ v. refl) (names f) (names_field f) own v w _ refl (λ none. let is = same none in cc))
 answers_rest (read.HashGet f) own v w kinds same =
     ap (λ o. item.Text (unwrap_or o [])) (by_name (Field f) (keeps_field f) (λ v. refl) (names f) (names_field f) own v w _ refl
-        (λ none. let is = same none in cc))
+    (λ none. let is = same none in cc))
 answers_rest read.HashFields own v w kinds same =
     ap (λ m. item.Texts (map.keys m)) (by_clear Hash keeps_hash (λ v. refl) own v w _ refl (λ none. let is = same none in cc))
 answers_rest (read.ListAt (pos i)) own v w kinds same = ap item.Text (place_rests i own v w (list_any is_clear own) refl same)
@@ -306,7 +306,7 @@ same_place : (i : ℕ) (v w : Value) (a b : Bool) → nat_lt i (length (list_in 
 same_place i v w true b within same = refl
 same_place i v w false true within same =
     let there : i < length (list_in w) = slice_get_within (list_in w) i _ (sym (cc)
-        ∙ slice_get-get_or (list_in v) i [] (ltb-true i (length (list_in v)) within)) in
+    ∙ slice_get-get_or (list_in v) i [] (ltb-true i (length (list_in v)) within)) in
     let is : nat_lt i (length (list_in w)) ≡ true = grind (arith, nat_tests) in
     sym (ap (λ b. cond b (obs.ListAt i) obs.ListAll) is)
 same_place i v w false false past same =

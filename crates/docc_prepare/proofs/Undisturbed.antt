@@ -259,6 +259,12 @@ appending_stays_legal m client journal attempt run read orderly legal undisturbe
     legal-push m journal (commit_of journal client attempt.body.source run) legal (record {
       number = refl;
       seq = refl;
-      runs = λ _. record { body = attempt.body.body; run = run; read = read; ran = runs_as_it_ran journal attempt run orderly undisturbed;
-          outcome = refl; deltas = refl };
+      runs = λ _. record {
+        body = attempt.body.body;
+        run = run;
+        read = read;
+        ran = runs_as_it_ran journal attempt run orderly undisturbed;
+        outcome = refl;
+        deltas = refl;
+      };
     })

@@ -53,13 +53,13 @@ IsFront-appends {T} {E} may lock old new c d n m at found list is table lawful m
     by : (t : Bool) → (found == at) ≡ t → IsFront may lock new c d m
     by true hit =
         with_seen (take (at + 1) list) (IsLawful-prefix may lock.base (take (at + 1) list) list (IsPrefix-take (at + 1) list) lawful)
-            (length-take-one list at more ∙ sym (then_more (grind (arith, nat_tests))))
-            (subst (λ (t : Bool). MatchBool t (Learns old.me (record old.me.0.known { seen = take (at + 1) list }) new.me)
-            (new.me ≡ old.me)) hit told)
+        (length-take-one list at more ∙ sym (then_more (grind (arith, nat_tests))))
+        (subst (λ (t : Bool). MatchBool t (Learns old.me (record old.me.0.known { seen = take (at + 1) list }) new.me)
+        (new.me ≡ old.me)) hit told)
     by false miss =
         with_seen old.me.0.known.seen is.lawful (is.entries ∙ sym (else_same (grind (arith, nat_tests))))
-            (subst (λ (t : Bool). MatchBool t (Learns old.me (record old.me.0.known { seen = take (at + 1) list }) new.me)
-            (new.me ≡ old.me)) miss told)
+        (subst (λ (t : Bool). MatchBool t (Learns old.me (record old.me.0.known { seen = take (at + 1) list }) new.me)
+        (new.me ≡ old.me)) miss told)
 
 module _ {E : Type 0} (names : E → ℕ) (list : List E) where
   -- of the list the token has added what comes before this place, to what it knew at first, and may add the rest

@@ -118,8 +118,14 @@ module _ (s : PartialState) where
   writes : (a : Address) (o : WriteOp) → kind_written o ≡ a.kind → Both (write_at (own s) a o) (write_at (own s) a o)
   writes a o k = record {
     back = λ p fine. tt;
-    forth = λ p m with_it fine. (own_write a o m, (ap (own_write a o) with_it.0,
-        each-more (λ w. kind_written w.1 ≡ w.0.kind) p.memory.operations (a, o) with_it.1 k), refl);
+    forth = λ p m with_it fine. (
+      own_write a o m,
+      (
+        ap (own_write a o) with_it.0,
+        each-more (λ w. kind_written w.1 ≡ w.0.kind) p.memory.operations (a, o) with_it.1 k,
+      ),
+      refl,
+    );
     bounded = λ p h. h;
     lacking = λ p. tt;
   }

@@ -28,7 +28,7 @@ commit-first based n (pair ∷ deltas) rest =
     by_clash : first_clash based (changes_by n deltas ++ rest) ≡ here_or (list_any (clashes based) (changes_by n deltas)) n (first_clash based rest)
         → (b : Bool) → clashes based (record { number = n; address = pair.0; delta = pair.1 }) ≡ b
         → cond b (Some n) (first_clash based (changes_by n deltas ++ rest))
-            ≡ here_or (b || list_any (clashes based) (changes_by n deltas)) n (first_clash based rest)
+        ≡ here_or (b || list_any (clashes based) (changes_by n deltas)) n (first_clash based rest)
     by_clash later true here = refl
     by_clash later false here = later
 
@@ -89,7 +89,7 @@ hits-start place (first ∷ rest) commit = by_clash (hits-start (place + 1) rest
   where
     by_clash : StartsAt commit.number (hits_from (place + 1) rest commit) → (b : Bool)
         → StartsAt commit.number (cond b (record { place = place; number = commit.number } ∷ hits_from (place + 1) rest commit)
-            (hits_from (place + 1) rest commit))
+        (hits_from (place + 1) rest commit))
     by_clash later true = refl
     by_clash later false = later
 
@@ -125,7 +125,7 @@ least-hits place (first ∷ others) commit rest rises =
   where
     by_clash : (b : Bool)
         → lesser (found_at place (here_or b commit.number (first_clash first rest)))
-            (first_or (hits_from (place + 1) others commit) (least_from (place + 1) others rest))
+        (first_or (hits_from (place + 1) others commit) (least_from (place + 1) others rest))
         ≡ first_or (cond b (record { place = place; number = commit.number } ∷ hits_from (place + 1) others commit) (hits_from (place + 1) others commit))
         (lesser (found_at place (first_clash first rest)) (least_from (place + 1) others rest))
     by_clash true =

@@ -69,12 +69,16 @@ pub filter-front : {X : Type 0} (p : X → Bool) (xs : List X) (i : ℕ)
 filter-front p [] zero point within = refl
 filter-front p [] (suc i) point within = refl
 filter-front p (x ∷ xs) zero point within =
-    rw (point.1 0 x (omega arith) (omega arith)) (filter-front p xs zero ((λ k d low high. absurd (omega (arith, high))),
-        λ k d low high. point.1 (suc k) d (omega arith) (omega (arith, high))) (omega arith))
+    rw (point.1 0 x (omega arith) (omega arith)) (filter-front p xs zero (
+      (λ k d low high. absurd (omega (arith, high))),
+      λ k d low high. point.1 (suc k) d (omega arith) (omega (arith, high)),
+    ) (omega arith))
 filter-front p (x ∷ xs) (suc i) point within =
     rw (point.0 0 x (omega arith) (omega arith))
-    (ap (λ ys. x ∷ ys) (filter-front p xs i ((λ k d low high. point.0 (suc k) d (omega arith) (omega (arith, high))),
-        λ k d low high. point.1 (suc k) d (omega (arith, low)) (omega (arith, high))) (omega (arith, within))))
+    (ap (λ ys. x ∷ ys) (filter-front p xs i (
+      (λ k d low high. point.0 (suc k) d (omega arith) (omega (arith, high))),
+      λ k d low high. point.1 (suc k) d (omega (arith, low)) (omega (arith, high)),
+    ) (omega (arith, within))))
 
 -- and what passes the opposite test stands behind it
 pub filter-back : {X : Type 0} (p q : X → Bool) → ((x : X) → q x ≡ not (p x)) → (xs : List X) (i : ℕ)
@@ -83,12 +87,16 @@ filter-back p q other [] zero point within = refl
 filter-back p q other [] (suc i) point within = refl
 filter-back p q other (x ∷ xs) zero point within =
     rw (other x) (rw (point.1 0 x (omega arith) (omega arith))
-    (ap (λ ys. x ∷ ys) (filter-back p q other xs zero ((λ k d low high. absurd (omega (arith, high))),
-        λ k d low high. point.1 (suc k) d (omega arith) (omega (arith, high))) (omega arith))))
+    (ap (λ ys. x ∷ ys) (filter-back p q other xs zero (
+      (λ k d low high. absurd (omega (arith, high))),
+      λ k d low high. point.1 (suc k) d (omega arith) (omega (arith, high)),
+    ) (omega arith))))
 filter-back p q other (x ∷ xs) (suc i) point within =
     rw (other x) (rw (point.0 0 x (omega arith) (omega arith))
-    (filter-back p q other xs i ((λ k d low high. point.0 (suc k) d (omega arith) (omega (arith, high))),
-        λ k d low high. point.1 (suc k) d (omega (arith, low)) (omega (arith, high))) (omega (arith, within))))
+    (filter-back p q other xs i (
+      (λ k d low high. point.0 (suc k) d (omega arith) (omega (arith, high))),
+      λ k d low high. point.1 (suc k) d (omega (arith, low)) (omega (arith, high)),
+    ) (omega (arith, within))))
 
 -- what is past a number isn't up to it
 pub later : (m n : ℕ) → nat_lt m n ≡ not (nat_le n m)

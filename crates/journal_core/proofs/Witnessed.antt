@@ -78,12 +78,12 @@ alone based n (pair ∷ rest) d rising some at =
     here is false e =
         let same : based.address ≡ pair.0 = address_cmp-equal based.address pair.0 (equal (address_cmp based.address pair.0) is) in
         let behind = subst (λ a. AllByRecursion (λ key. address_cmp a key ≡ Less) (keys_of rest)) (sym same)
-            (sorted_head address_cmp pair.0 (keys_of rest) rising) in
+        (sorted_head address_cmp pair.0 (keys_of rest) rising) in
         let none = no-clash-behind based n rest behind in
         let not_first : clashes based (record { number = n; address = pair.0; delta = pair.1 })
-            ≡ false = rw e (fails-last (nat_lt based.base n) (is_eq (address_cmp based.address pair.0))) in
+        ≡ false = rw e (fails-last (nat_lt based.base n) (is_eq (address_cmp based.address pair.0))) in
         let one = either (clashes based (record { number = n; address = pair.0; delta = pair.1 }))
-            (list_any (clashes based) (changes_by n rest)) not_first some in
+        (list_any (clashes based) (changes_by n rest)) not_first some in
         absurd (cc)
 
     by : (list_any (clashes based) (changes_by n rest) ≡ true → delta_at rest based.address ≡ Some d → clash based.obs d ≡ true) → (b : Bool)
@@ -91,7 +91,7 @@ alone based n (pair ∷ rest) d rising some at =
     by later true is e = let same : pair.1 ≡ d = cc in subst (λ x. clash based.obs x ≡ true) same (here is (clash based.obs pair.1) refl)
     by later false is e =
         let not_first : clashes based (record { number = n; address = pair.0; delta = pair.1 })
-            ≡ false = rw is (fails-middle (nat_lt based.base n) (clash based.obs pair.1)) in
+        ≡ false = rw is (fails-middle (nat_lt based.base n) (clash based.obs pair.1)) in
         later (either (clashes based (record { number = n; address = pair.0; delta = pair.1 })) (list_any (clashes based) (changes_by n rest)) not_first some) e
 
 -- and there is one
@@ -104,7 +104,7 @@ there based n (pair ∷ rest) some = by (there based n rest) (is_eq (address_cmp
     by later true is = refl
     by later false is =
         let not_first : clashes based (record { number = n; address = pair.0; delta = pair.1 })
-            ≡ false = rw is (fails-middle (nat_lt based.base n) (clash based.obs pair.1)) in
+        ≡ false = rw is (fails-middle (nat_lt based.base n) (clash based.obs pair.1)) in
         later (either (clashes based (record { number = n; address = pair.0; delta = pair.1 })) (list_any (clashes based) (changes_by n rest)) not_first some)
 
 -- ---- the first pair
@@ -127,7 +127,7 @@ first-hit place (first ∷ rest) commit found e = by (first-hit (place + 1) rest
     by : (slice_get (hits_from (place + 1) rest commit) 0 ≡ Some found → HitOf (place + 1) rest commit found) → (b : Bool)
         → list_any (clashes first) (changes_of commit) ≡ b
         → slice_get (cond b (record { place = place; number = commit.number } ∷ hits_from (place + 1) rest commit)
-            (hits_from (place + 1) rest commit)) 0 ≡ Some found
+        (hits_from (place + 1) rest commit)) 0 ≡ Some found
         → HitOf place (first ∷ rest) commit found
     by behind true hit e =
         let first_found : Found = record { place = place; number = commit.number } in
@@ -137,8 +137,14 @@ first-hit place (first ∷ rest) commit found e = by (first-hit (place + 1) rest
     by behind false hit e =
         let later = behind e in
         let at = later.at in
-        record { ahead = suc later.ahead; observation = later.observation; at = omega (arith, at); placed = later.placed; number = later.number;
-            clashing = later.clashing }
+        record {
+          ahead = suc later.ahead;
+          observation = later.observation;
+          at = omega (arith, at);
+          placed = later.placed;
+          number = later.number;
+          clashing = later.clashing;
+        }
 
 -- a journal has this pair, of commits behind a number
 record PairIn (n : ℕ) (based : List Based) (journal : Journal) (found : Found) : Type 0 where
@@ -193,7 +199,7 @@ any-moved : (based : Based) (from : ℕ) (all : List Change) → based.base ≤ 
 any-moved based from [] within some = absurd (cc)
 any-moved based from (change ∷ rest) within some =
     by (nat_lt from change.number) refl (is_at (address_cmp based.address) change.address && clash based.obs change.delta)
-        (any-moved based from rest within) some
+    (any-moved based from rest within) some
   where
     by : (b : Bool) → nat_lt from change.number ≡ b → Bool → (list_any (clashes (moved based from)) rest ≡ true → list_any (clashes based) rest ≡ true)
         → (((b && is_at (address_cmp based.address) change.address) && clash based.obs change.delta) || list_any (clashes (moved based from)) rest) ≡ true
@@ -312,7 +318,7 @@ module _ (based : List Based) (commits : Journal) (found : Found) (hit : IsHit b
   changed-kind kinds =
       kind-at commit.deltas observation.address d
       (each-at (λ c. AreOfTheirKinds c.deltas) commits (found.number - 1) commit kinds
-          (stands-at commits (found.number - 1) hit.commit commit its_place numbered)) changed
+      (stands-at commits (found.number - 1) hit.commit commit its_place numbered)) changed
 
   -- and so is the observation
   pub observed-kind : AreBasedOfOneKind based → IsBasedOfOneKind observation
@@ -336,4 +342,4 @@ module _ (based : List Based) (commits : Journal) (found : Found) (hit : IsHit b
       → Names observation (record { number = found.number; address = observation.address; delta = d }) witness → IsOfOneKind witness
   of-one-kind all kinds witness names =
       names-one-kind observation (record { number = found.number; address = observation.address; delta = d }) witness (observed-kind all)
-          (changed-kind kinds) names
+      (changed-kind kinds) names

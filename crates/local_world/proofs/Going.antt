@@ -60,7 +60,7 @@ told_alike old registry sound told taken = record {
   reached = sound.reached;
   same =
       ap (λ (f : ℕ → Address → Bool). let t : Store = record (store_of old) { subscribed = f; taken = λ c. taken_by registry c } in t)
-          (fun_ext (λ c. fun_ext (told c)))
+      (fun_ext (λ c. fun_ext (told c)))
       ∙ ap (λ (f : ℕ → ℕ). let t : Store = record (store_of old) { taken = f } in t) (fun_ext taken);
 }
 
@@ -131,7 +131,7 @@ left-by s client ready None true left is = ap (λ (j : Journal). let t : Store =
 left-by s client ready None false left is =
     ap (λ (j : Journal). let t : Store = record s { journal = j; seens = set s.seens client (length j) } in t) is
     ∙ ap (λ (n : ℕ). let t : Store = record s { journal = (decided s client ready None false).0.journal; seens = set s.seens client n } in t)
-        (length-append s.journal _)
+    (length-append s.journal _)
 
 -- what was decided is the step's answer, and the journal that is left is the step's
 pub does-append : (old : Stored) (client : ℕ) (ready : Ready) (a : Answer) (left : Journal) → IsDecided (store_of old) client ready a left
@@ -149,7 +149,7 @@ pub does-told : (old : Stored) (client : ℕ) (address : Address) (told : Bool) 
     → store_of (record old { registry = registry }) ≡ telling (store_of old) client address told
 does-told old client address told registry tells taken =
     ap (λ (f : ℕ → Address → Bool). let t : Store = record (store_of old) { subscribed = f; taken = λ c. taken_by registry c } in t)
-        (fun_ext (λ c. fun_ext (tells c)))
+    (fun_ext (λ c. fun_ext (tells c)))
     ∙ ap (λ (f : ℕ → ℕ). let t : Store = record (telling (store_of old) client address told) { taken = f } in t) (fun_ext taken)
 
 -- a client takes
@@ -162,8 +162,14 @@ does-take old client registry feed is told taken =
     let fed : feed ≡ feed_for s client = is old refl refl in
     let n = length old.journal in
     ap (λ (f : Fed). let p : Store × Answer = (store_of (record old { seens = set old.seens client f.to; registry = registry }), Answer.feed f) in p) fed
-    ∙ ap (λ (f : ℕ → Address → Bool). let p : Store × Answer = (record s { seens = set old.seens client n; subscribed = f;
-        taken = λ c. taken_by registry c }, Answer.feed (feed_for s client)) in p)
+    ∙ ap (λ (f : ℕ → Address → Bool). let p : Store × Answer = (
+      record s {
+        seens = set old.seens client n;
+        subscribed = f;
+        taken = λ c. taken_by registry c;
+      },
+      Answer.feed (feed_for s client),
+    ) in p)
     (fun_ext (λ c. fun_ext (told c)))
     ∙ ap (λ (f : ℕ → ℕ). let p : Store × Answer = (record s { seens = set old.seens client n; taken = f }, Answer.feed (feed_for s client)) in p)
-        (fun_ext taken)
+    (fun_ext taken)

@@ -236,9 +236,9 @@ module _ (journal : Journal) (settings : Settings) (before after : List Sharded)
         → IfOk r (λ snap. snap.value ≡ state journal snap.base address)
     read-value values =
         if_both r (λ snap. snap.base ≡ s.front) (λ snap. snap.value ≡ state (take s.front journal) s.front address)
-            (λ snap. snap.value ≡ state journal snap.base address)
+        (λ snap. snap.value ≡ state journal snap.base address)
         (λ snap e v. v ∙ state-first journal s.front s.front address (omega arith) ∙ ap (λ (n : ℕ). state journal n address) (sym e)) base
-            (values (take s.front journal) its.holds)
+        (values (take s.front journal) its.holds)
 
   -- a read at a number that isn't past the front
   pub back-value : (value : Value) → ReadsAt (take s.front journal) s address seen (Ok value)

@@ -64,7 +64,7 @@ module _ (registry : Registered) (made : IsEntered CLIENTS registry) where
         let told : ℕ → Address → Bool = λ c a. is_subscribed registry c a in
         let taken : ℕ → ℕ = λ c. taken_by registry c in
         let made' : Journal → List ℕ → List ℕ → (ℕ → Address → Bool) → (ℕ → ℕ)
-            → Store = λ j fs ns s t. record { shards = n; window = w; limit = l; journal = j; fronts = fs; seens = ns; subscribed = s; taken = t } in
+        → Store = λ j fs ns s t. record { shards = n; window = w; limit = l; journal = j; fronts = fs; seens = ns; subscribed = s; taken = t } in
         ap (λ (j : Journal). made' j (fronts_of shards) seens told taken) bare
         ∙ ap (λ (fs : List ℕ). made' [] fs seens told taken) fronts
         ∙ ap (λ (ns : List ℕ). made' [] (replicate n 0) ns told taken) seen
@@ -76,7 +76,7 @@ module _ (registry : Registered) (made : IsEntered CLIENTS registry) where
     first-sound =
         subst IsSound (sym is-first)
         (first_store_is_sound settings.shards settings.window settings.limit
-            (let some : LEAST_SHARDS ≤ settings.shards = settings.shards_in_range.0 in omega arith))
+        (let some : LEAST_SHARDS ≤ settings.shards = settings.shards_in_range.0 in omega arith))
 
     -- its shards and its registry stand for the journal without commits
     pub first-kept : standing.shards ≡ settings.shards → standing.limit ≡ settings.limit → AreHeld [] settings shards

@@ -57,7 +57,7 @@ named-first b n (e ∷ deltas) d past clashing there = by (is_at (address_cmp b.
     by : (x : Bool) → is_at (address_cmp b.address) e.0 ≡ x → cond x (Some e.1) (delta_at deltas b.address) ≡ Some d
         → (delta_at deltas b.address ≡ Some d → witness_in b (changes_by n deltas) ≡ made b.address d)
         → cond ((nat_lt b.base n && is_at (address_cmp b.address) e.0) && clash b.obs e.1) (made e.0 e.1) (witness_in b (changes_by n deltas))
-            ≡ made b.address d
+        ≡ made b.address d
     by true at is rest =
         let same : e.1 ≡ d = cc in
         let here : e.0 ≡ b.address = sym (same_address b.address e.0 at) in
@@ -133,7 +133,7 @@ module _ (based : List Based) (journal : Journal) (found : Found) (orderly : IsO
   pub named-as : (observation : Based) (commit : Commit) (delta : Delta) (w : Witness) → slice_get based found.place ≡ Some observation
       → commit_at journal found.number ≡ Some commit → delta_at commit.deltas observation.address ≡ Some delta
       → named observation.obs delta ≡ Some w.part → w.address ≡ observation.address → w.obs ≡ observation.obs → w.base ≡ observation.base
-          → w.number ≡ found.number
+      → w.number ≡ found.number
       → witness_of based journal found ≡ Some w
   named-as observation commit delta w placed numbered changed part address obs base number =
       let there = witness-there based journal found orderly kinds least in
@@ -141,7 +141,7 @@ module _ (based : List Based) (journal : Journal) (found : Found) (orderly : IsO
       let same : other.observation ≡ observation = some-same (sym other.placed ∙ placed) in
       let same_commit : other.commit ≡ commit = some-same (sym other.there ∙ numbered) in
       let change_number : other.change.number ≡ commit.number = number-of other.commit.number other.commit.deltas other.index other.change
-          other.among ∙ ap (λ (c : Commit). c.number) same_commit in
+      other.among ∙ ap (λ (c : Commit). c.number) same_commit in
       let commit_number : commit.number ≡ found.number = sym change_number ∙ sym other.names.number ∙ other.number in
       let past : nat_lt observation.base commit.number ≡ true =
       ap (λ (b : Based). nat_lt b.base commit.number) (sym same) ∙ ap (nat_lt other.observation.base) (sym change_number)
@@ -161,7 +161,7 @@ module _ (based : List Based) (journal : Journal) (found : Found) (orderly : IsO
   pub named-by-journal : (w : Witness) → IsWitnessOf based journal found w → witness_of based journal found ≡ Some w
   named-by-journal w is =
       named-as is.observation is.commit is.delta w is.placed is.numbered is.changed is.names.part is.names.address is.names.observed is.names.base
-          is.names.number
+      is.names.number
 
 -- ---- a shard's witness
 
@@ -214,7 +214,7 @@ commit-there journal k n is = by (n == 0) refl
 -- a change among those of a journal is one of its commit
 in-commit : (m n : ℕ) (journal : Journal) (i : ℕ) (change : Change) → AreNumberedFrom m journal → slice_get (changes journal) i ≡ Some change
     → (k : ℕ) × (commit : Commit) × (j : ℕ) × (slice_get journal k ≡ Some commit) × (slice_get (changes_of commit) j ≡ Some change)
-        × (change.number ≡ m + k + 1)
+    × (change.number ≡ m + k + 1)
 in-commit m n [] i change numbered is = absurd (cc)
 in-commit m n (commit ∷ journal) i change numbered is = elim (in-either (changes_of commit) (changes journal) i change is) [
   | inl p ↦ (0, commit, p.0, refl, p.1, let h = number-of commit.number commit.deltas p.0 change p.1 in let g = numbered.0 in omega arith)
@@ -236,10 +236,10 @@ named-by-shard based journal w readable orderly kinds is =
     let rising = each-at (λ (c : Commit). IsStrictlySortedBy address_cmp (keys_of c.deltas)) journal here.0 here.1 readable.rising here.3 in
     let meeting = both-true (meets pair.observation pair.change) (clash pair.observation.obs pair.change.delta) pair.clashing in
     let address : pair.observation.address ≡ pair.change.address = same_address pair.observation.address pair.change.address
-        (second-true (nat_lt pair.observation.base pair.change.number) _ meeting) in
+    (second-true (nat_lt pair.observation.base pair.change.number) _ meeting) in
     let delta : delta_at here.1.deltas pair.observation.address ≡ Some pair.change.delta =
     ap (delta_at here.1.deltas) address ∙ delta-there here.1.number here.1.deltas here.2 pair.change rising here.4 in
     ap (option_and_then (witness_of based journal)) is.least
     ∙ named-as based journal is.found orderly kinds is.least pair.observation here.1 pair.change.delta w pair.placed at delta is.names.part
-        is.names.address is.names.observed is.names.base
+    is.names.address is.names.observed is.names.base
     (is.names.number ∙ pair.numbered)

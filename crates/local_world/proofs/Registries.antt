@@ -249,7 +249,7 @@ rising-with_changes : (changes : List Change) (deltas : Deltas) → IsStrictlySo
 rising-with_changes [] deltas rising = rising
 rising-with_changes (c ∷ changes) deltas rising =
     rising-with_changes changes (with_delta deltas c.address c.delta) (sorted-insert_entry address_cmp addresses.total-law c.address
-        (after_maybe (delta_at deltas c.address) c.delta) deltas rising)
+    (after_maybe (delta_at deltas c.address) c.delta) deltas rising)
 
 module _ (journal : Journal) (registry : Registered) (client : ℕ) (following : IsFollowing journal registry) (ended : registry.front ≡ length journal) where
   -- the changes since the client took last
@@ -366,8 +366,10 @@ missed-is journal front from address missed k taken all =
 taken-subscribed : (address : Address) (missed : List Change) (k : Kept) → (subscribed address missed k).taken ≡ k.taken
 taken-subscribed address missed k = by (is_address k address)
   where
-    by : (b : Bool) → (cond b k (record k { addresses = insert_key address_cmp k.addresses address;
-        changes = k.changes ++ changes_at address missed })).taken ≡ k.taken
+    by : (b : Bool) → (cond b k (record k {
+      addresses = insert_key address_cmp k.addresses address;
+      changes = k.changes ++ changes_at address missed;
+    })).taken ≡ k.taken
     by true = refl
     by false = refl
 
@@ -408,7 +410,7 @@ told-untold (Err e) old new same = told-same old new same
 module _ (journal : Journal) (old new : Registered) (client : ℕ) (address : Address) (following : IsFollowing journal old) (front : new.front ≡ old.front)
     (is : (s : ℕ) → kept_of new s ≡ with_kept old client (option_map (unsubscribed address) (kept_of old client)) s)
     (tells : (s : ℕ) (a : Address) → is_subscribed new s a ≡ cond (is_at (nat_cmp client) s && is_at (address_cmp address) a) false
-        (is_subscribed old s a)) where
+    (is_subscribed old s a)) where
   -- one that unsubscribes goes on standing, and the others are as they were
   pub following-hush : IsFollowing journal new
   following-hush =

@@ -26,7 +26,7 @@ module _ {K V : Type 0} (R : K → K → Ordering) where
   same_pairs total exact es fs rising risen same =
       sym (map.entries-from_sorted R es (sorted-from_rising R es rising))
       ∙ ap map.entries (map.same_map total exact (map.from_sorted {R = R} es) (map.from_sorted {R = R} fs)
-          (λ q. found es rising q ∙ same q ∙ sym (found fs risen q)))
+      (λ q. found es rising q ∙ same q ∙ sym (found fs risen q)))
       ∙ map.entries-from_sorted R fs (sorted-from_rising R fs risen)
 
 -- each key is equal to itself

@@ -26,7 +26,7 @@ least-same (b ∷ based) = by (shard.least_base based) (least_base based) (least
   where
     by : (o p : Option ℕ) → o ≡ p
         → elim o as (λ _. Option ℕ) [ None ↦ Some b.base | Some other ↦ Some (min b.base other) ]
-            ≡ Some (elim p as (λ _. ℕ) [ None ↦ b.base | Some other ↦ min b.base other ])
+        ≡ Some (elim p as (λ _. ℕ) [ None ↦ b.base | Some other ↦ min b.base other ])
     by None None e = refl
     by None (Some y) e = absurd (cc)
     by (Some x) None e = absurd (cc)

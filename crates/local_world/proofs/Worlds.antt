@@ -66,7 +66,7 @@ module _ (settings : Settings) (standing : Standing) (shards : List Sharded) (se
   pub stays : (standing' : Standing) (shards' : List Sharded) (seens' : List ℕ) (registry' : Registered) (c : Call) (a : Answer)
       → CanCall (known_by (store_of old) client) c → Does (store_of old) client c a (store_of (stored settings standing'.commits shards' seens' registry'))
       → standing'.shards ≡ standing.shards → standing'.limit ≡ standing.limit → AreHeld standing'.commits settings shards'
-          → IsFollowing standing'.commits registry'
+      → IsFollowing standing'.commits registry'
       → IsKept settings standing' shards' seens' registry'
   stays standing' shards' seens' registry' c a can does all_shards limit held following = record {
     sound = sound_after (store_of old) (store_of (stored settings standing'.commits shards' seens' registry')) client c a kept.sound below can does;
@@ -101,12 +101,12 @@ module _ (settings : Settings) (standing : Standing) (shards : List Sharded) (se
   -- a read gives the state at the front that its shard has then reached, and the client has seen as much
   pub reading : (address : Address) (shards' : List Sharded) (seens' : List ℕ) (snap : Snap)
       → snap.base ≡ max (get_or (fronts_of shards) (shard_of address settings.shards) 0) (get_or seens client 0)
-          → snap.value ≡ state standing.commits snap.base address
+      → snap.value ≡ state standing.commits snap.base address
       → fronts_of shards' ≡ set (fronts_of shards) (shard_of address settings.shards) snap.base → seens' ≡ set seens client snap.base
       → Does (store_of old) client (Call.read address) (Answer.snap snap) (store_of (stored settings standing.commits shards' seens' registry))
   reading address shards' seens' snap base value moved seen =
       subst (λ (ns : List ℕ). Does (store_of old) client (Call.read address) (Answer.snap snap)
-          (store_of (stored settings standing.commits shards' ns registry))) (sym seen)
+      (store_of (stored settings standing.commits shards' ns registry))) (sym seen)
       (does-read old client address (fronts_of shards') snap base value moved)
 
   -- a take hands on the store's feed, and the client has then taken and seen all of the journal
@@ -116,7 +116,7 @@ module _ (settings : Settings) (standing : Standing) (shards : List Sharded) (se
       → Does (store_of old) client Call.take (Answer.feed feed) (store_of (stored settings standing.commits shards seens' registry'))
   taking feed seens' registry' fed told taken seen =
       subst (λ (ns : List ℕ). Does (store_of old) client Call.take (Answer.feed feed)
-          (store_of (stored settings standing.commits shards ns registry'))) (sym seen)
+      (store_of (stored settings standing.commits shards ns registry'))) (sym seen)
       (does-take old client registry' feed fed told taken)
 
   -- where memory was wanting the registry may have followed, which alters nobody's addresses and nothing taken
@@ -134,7 +134,7 @@ module _ (settings : Settings) (standing : Standing) (shards : List Sharded) (se
   -- a read at a number moves its shard's front to it, and answers what the step does there
   pub backing : (address : Address) (number : ℕ) (shards' : List Sharded) (a : Answer)
       → fronts_of shards' ≡ set (fronts_of shards) (shard_of address settings.shards)
-          (max (get_or (fronts_of shards) (shard_of address settings.shards) 0) number)
+      (max (get_or (fronts_of shards) (shard_of address settings.shards) 0) number)
       → a ≡ back_at standing.commits settings.window address number (max (get_or (fronts_of shards) (shard_of address settings.shards) 0) number)
       → Does (store_of old) client (Call.read_at address number) a (store_of (stored settings standing.commits shards' seens registry))
   backing address number shards' a moved is = does-read_at old client address number (fronts_of shards') a moved is
@@ -175,7 +175,7 @@ module _ (settings : Settings) (standing : Standing) (shards : List Sharded) (se
         (does-prepare old client shard based a
         (is standing.commits kept.sound.legal here.holds
         ∙ ap (λ (bs : List Based). validated s.number s.front (s.front - s.window) (late_base (s.front - s.window) (least_base bs))
-            (least_witness bs (take s.front standing.commits))) alike
+        (least_witness bs (take s.front standing.commits))) alike
         ∙ ap (λ k. made k s.front s.window) here.number ∙ ap (λ f. made shard f s.window) (sym same) ∙ ap (made shard front) here.window))
 
   -- ---- an append
@@ -235,7 +235,7 @@ module _ (settings : Settings) (standing : Standing) (shards : List Sharded) (se
     appended a standing' seens' n decides number seen all_shards limit =
         let new : Store = store_of (stored settings standing'.commits shards seens' registry) in
         let sound : IsSound new = sound_after (store_of old) new client (Call.append ready) a kept.sound below can
-            (appending a standing' seens' n decides number seen) in
+        (appending a standing' seens' n decides number seen) in
         let orderly = legal_is_orderly standing'.commits sound.legal in
         elim (left-cases (store_of old) client ready _ _ standing'.commits (decides (store_of old) client has-journal).journal) [
           | inl e ↦ record {
@@ -271,9 +271,11 @@ module _ (settings : Settings) (standing : Standing) (shards : List Sharded) (se
     -- for want of memory the journal stays as it is, and the store with it
     pub stands_still : (standing' : Standing) → standing'.commits ≡ standing.commits
         → Does (store_of old) client (Call.append ready) (Answer.failed false) (store_of (stored settings standing'.commits shards seens registry))
-    stands_still standing' same =
-        (refl, subst (λ (j : Journal). HasStalled (store_of old) (store_of (stored settings j shards seens registry))) (sym same)
-            (unchanged (store_of old) kept.sound))
+    stands_still standing' same = (
+      refl,
+      subst (λ (j : Journal). HasStalled (store_of old) (store_of (stored settings j shards seens registry))) (sym same)
+          (unchanged (store_of old) kept.sound),
+    )
 
   -- ---- a shard follows
 

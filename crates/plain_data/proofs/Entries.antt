@@ -80,9 +80,9 @@ module _ {K V : Type 0} (R : K → K → Ordering) (o : IsTotalOrder R) where
       before : i < j → is_gt (R k (get_or es i d).0) ≡ true
       before h =
           let keys : R (get_or (keys_of es) i d.0) (get_or (keys_of es) j d.0)
-              ≡ Less = Less-from_sorted R (keys_of es) i j d.0 rising h (omega (arith, length-keys es)) in
+          ≡ Less = Less-from_sorted R (keys_of es) i j d.0 rising h (omega (arith, length-keys es)) in
           let pairs : R (get_or es i d).0 (get_or es j d).0 ≡ Less = ap (λ a. R a (get_or es j d).0) (sym (keys_of-get es i d))
-              ∙ (ap (λ b. R (get_or (keys_of es) i d.0) b) (sym (keys_of-get es j d)) ∙ keys) in
+          ∙ (ap (λ b. R (get_or (keys_of es) i d.0) b) (sym (keys_of-get es j d)) ∙ keys) in
           ap is_gt (below R o k _ _ pairs (greater _ above))
 
       by : (i < j) ⊎ (j ≤ i) → is_gt (R k (get_or es i d).0) ≡ true

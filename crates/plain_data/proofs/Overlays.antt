@@ -48,7 +48,7 @@ module _ {V : Type 0} where
   found es key q =
       turned (eq_by_cmp text_cmp q key) (eq_by_cmp text_cmp key q) (find text_cmp q es) ((eq_by_cmp_equiv nat_list_cmp_total).symm q key)
       ∙ sym (find-where_key text_cmp (λ k. not (eq_by_cmp text_cmp key k)) q
-          (λ x t. ap (λ r. not (is_eq r)) (sym (alike_right nat_list_cmp_total q x key t))) es)
+      (λ x t. ap (λ r. not (is_eq r)) (sym (alike_right nat_list_cmp_total q x key t))) es)
 
   -- a key below all others is none of them
   none_is : (key : Bytes) (es : List (Bytes × V)) → T (below_all text_cmp key es)
@@ -56,7 +56,7 @@ module _ {V : Type 0} where
   none_is key [] h = refl
   none_is key (e ∷ es) h =
       ap (λ r. cond (not (is_eq r)) (e ∷ where_key text_cmp (λ k. not (eq_by_cmp text_cmp key k)) es)
-          (where_key text_cmp (λ k. not (eq_by_cmp text_cmp key k)) es)) (less _ (halves _ _ h).0)
+      (where_key text_cmp (λ k. not (eq_by_cmp text_cmp key k)) es)) (less _ (halves _ _ h).0)
       ∙ ap (λ xs. e ∷ xs) (none_is key es (halves _ _ h).1)
 
   -- what is below a key is below all that this key is below, since the order is transitive
@@ -64,7 +64,7 @@ module _ {V : Type 0} where
   below-through x y [] first h = tt
   below-through x y (e ∷ es) first h =
       both _ _ (subst (λ r. T (is_lt r)) (sym (nat_list_cmp_total.trans x y e.0 first (less _ (halves _ _ h).0))) tt)
-          (below-through x y es first (halves _ _ h).1)
+      (below-through x y es first (halves _ _ h).1)
 
   -- the three parts that a key cuts a list into
   parts : Bytes → Option V → List (Bytes × V) → List (Bytes × V)
@@ -179,7 +179,7 @@ module _ {V : Type 0} where
     entries-with_at m key None =
         same_entries text_cmp nat_list_cmp_total same _ _ (map.entries_sorted _) (sorted-entry_at (map.entries m) key None (map.entries_sorted m))
         (λ q. sym (map.get-entries _ q) ∙ map.get-remove nat_list_cmp_total m key q ∙ ap (cond (eq_by_cmp text_cmp q key) None) (map.get-entries m q)
-            ∙ found (map.entries m) key q)
+        ∙ found (map.entries m) key q)
 
     -- mark by mark, the pairs of the map go as the list of pairs goes
     entries-marked_by : (m : MapOf V) (marks : List (Bytes × M))
@@ -328,6 +328,9 @@ len-some {V} m some = by (map.entries m) refl
   where
     by : (es : List (Bytes × V)) → map.entries m ≡ es → (q : Bytes) × (value : V) × (map.get m q ≡ Some value)
     by [] e = absurd (subst (λ n. T (not (nat_eq n 0))) (map.len-entries m ∙ ap length e) some)
-    by (x ∷ es) e =
-        (x.0, x.1, map.get-entries m x.0 ∙ ap (find text_cmp x.0) e ∙ ap (λ r. cond (is_eq r) (Some x.1) (find text_cmp x.0 es))
-            (tied_itself nat_list_cmp_total x.0))
+    by (x ∷ es) e = (
+      x.0,
+      x.1,
+      map.get-entries m x.0 ∙ ap (find text_cmp x.0) e ∙ ap (λ r. cond (is_eq r) (Some x.1) (find text_cmp x.0 es))
+          (tied_itself nat_list_cmp_total x.0),
+    )

@@ -67,7 +67,7 @@ module _ {K V : Type 0} (R : K → K → Ordering) where
   insert_entry-is-put k v [] = refl
   insert_entry-is-put k v (e ∷ es) =
       elim (R k e.0) as (λ r. match_ordering r ((k, v) ∷ e ∷ es) ((e.0, v) ∷ es) (e ∷ insert_entry R es k v)
-          ≡ by_order r ((k, v) ∷ e ∷ es) ((e.0, v) ∷ es) (e ∷ put R k v es)) [
+      ≡ by_order r ((k, v) ∷ e ∷ es) ((e.0, v) ∷ es) (e ∷ put R k v es)) [
         | Less ↦ refl
         | Equal ↦ refl
         | Greater ↦ ap (λ rest. e ∷ rest) (insert_entry-is-put k v es)

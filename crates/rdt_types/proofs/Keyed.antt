@@ -120,7 +120,7 @@ module _ {M V : Type 0} (left : M → Option V) where
   form-fields d marks false is first second =
       let one = len-some marks second in
       some-len _ one.0 one.1 (get-overlaid (mark_after left false) d.marks marks one.0
-          ∙ ap (λ o. found_after (mark_after left false) o (map.get d.marks one.0)) one.2)
+      ∙ ap (λ o. found_after (mark_after left false) o (map.get d.marks one.0)) one.2)
 
   -- what is composed with a delta that doesn't clear keeps the form
   pub form-composed : (d e : Keyed M) → e.cleared ≡ false → T (has_form left d) → T (has_form left e)

@@ -174,8 +174,11 @@ form-fields d false removed pushed second =
 
 -- what is composed with a delta that doesn't clear keeps the form
 pub form-composed : (d e : Listed) → e.cleared ≡ false → T (has_form e)
-    → T (has_form (record { cleared = d.cleared; removed = cond d.cleared map.empty (union d.removed e.removed);
-        pushed = without e.removed d.pushed ++ e.pushed }))
+    → T (has_form (record {
+      cleared = d.cleared;
+      removed = cond d.cleared map.empty (union d.removed e.removed);
+      pushed = without e.removed d.pushed ++ e.pushed;
+    }))
 form-composed d e is second =
     form-fields d d.cleared e.removed e.pushed (subst (λ b. T (has_form (record { cleared = b; removed = e.removed; pushed = e.pushed }))) is second)
 
@@ -186,6 +189,9 @@ pub form-made : (d e : Listed) (removed : SetOfTexts) (kept pushed : List Bytes)
     → T (has_form (record { cleared = d.cleared; removed = removed; pushed = pushed }))
 form-made d e removed kept pushed is second removed-is kept-is pushed-is =
     subst (λ (texts : SetOfTexts). T (has_form (record { cleared = d.cleared; removed = texts; pushed = pushed }))) (sym removed-is)
-    (subst (λ (items : List Bytes). T (has_form (record { cleared = d.cleared; removed = cond d.cleared map.empty (union d.removed e.removed);
-        pushed = items })))
+    (subst (λ (items : List Bytes). T (has_form (record {
+      cleared = d.cleared;
+      removed = cond d.cleared map.empty (union d.removed e.removed);
+      pushed = items;
+    })))
     (sym (pushed-is ∙ ap (λ xs. xs ++ e.pushed) kept-is)) (form-composed d e is second))

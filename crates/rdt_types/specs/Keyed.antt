@@ -16,7 +16,7 @@ pub record Keyed (M : Type 0) : Type 0 where
 abbrev pub keyed_code : {M : Type 0} → Coded M → Coded (Keyed M)
 keyed_code {M} marks =
     code_by (Bool × MapOf M) (coded× coded_bool (map.code (coded_list coded_ℕ) marks)) (λ d. (d.cleared, d.marks))
-        (λ p. record { cleared = p.0; marks = p.1 }) (λ _. refl)
+    (λ p. record { cleared = p.0; marks = p.1 }) (λ _. refl)
 
 module _ {M : Type 0} where
   -- the two parts

@@ -147,16 +147,16 @@ unsubscribes_stand changes front kept address stands = record {
         (deltas_at address (since kept.taken changes)) []
     there =
         ap of (none-passes (λ c. is_at (address_cmp address) c.address) (λ c. not (is_at (address_cmp address) c.address))
-            (λ c e. flipped (is_at (address_cmp address) c.address) true e) kept.changes)
+        (λ c e. flipped (is_at (address_cmp address) c.address) true e) kept.changes)
         ∙ sym (ap (λ b. cond b (deltas_at address (since kept.taken changes)) [])
         (any-of_none (is_at (address_cmp address)) (λ x. not (is_at (address_cmp address) x))
-            (λ x e. flipped (is_at (address_cmp address) x) true e) kept.addresses))
+        (λ x e. flipped (is_at (address_cmp address) x) true e) kept.addresses))
 
     by : (a : Address) (b : Bool) → is_at (address_cmp address) a ≡ b
         → deltas_at a (changes_elsewhere address kept.changes) ≡ cond (is_address (unsubscribed address kept) a) (deltas_at a (since kept.taken changes)) []
     by a true e =
         subst (λ x. deltas_at x (changes_elsewhere address kept.changes) ≡ cond (is_address (unsubscribed address kept) x)
-            (deltas_at x (since kept.taken changes)) [])
+        (deltas_at x (since kept.taken changes)) [])
         (same_address address a e) there
     by a false e =
         ap of (both-pass (λ c. is_at (address_cmp a) c.address) (λ c. not (is_at (address_cmp address) c.address))
@@ -164,7 +164,7 @@ unsubscribes_stand changes front kept address stands = record {
         ∙ stands.deltas a
         ∙ sym (ap (λ b. cond b (deltas_at a (since kept.taken changes)) [])
         (any-of_both (is_at (address_cmp a)) (λ x. not (is_at (address_cmp address) x))
-            (λ x h. flipped (is_at (address_cmp address) x) false (apart a address x e h)) kept.addresses))
+        (λ x h. flipped (is_at (address_cmp address) x) false (apart a address x e h)) kept.addresses))
 
 module _ (changes missed : List Change) (front : ℕ) (kept : Kept) (address : Address) (stands : KeptFor changes front kept)
     (all : deltas_at address missed ≡ deltas_at address (since kept.taken changes)) where
@@ -178,11 +178,11 @@ module _ (changes missed : List Change) (front : ℕ) (kept : Kept) (address : A
   here new self =
       deltas-append address kept.changes (changes_at address missed)
       ∙ ap (λ ds. ds ++ deltas_at address (changes_at address missed)) (stands.deltas address
-          ∙ ap (λ b. cond b (deltas_at address (since kept.taken changes)) []) new)
+      ∙ ap (λ b. cond b (deltas_at address (since kept.taken changes)) []) new)
       ∙ ap of (both-pass (λ c. is_at (address_cmp address) c.address) (λ c. is_at (address_cmp address) c.address) (λ c e. e) missed)
       ∙ all
       ∙ sym (ap (λ b. cond b (deltas_at address (since kept.taken changes)) [])
-          (any-inserted address address kept.addresses ∙ ap (λ b. b || is_address kept address) self))
+      (any-inserted address address kept.addresses ∙ ap (λ b. b || is_address kept address) self))
 
   -- at another address neither the missed changes nor the new address count, so it stands as before
   elsewhere : (a : Address) → is_at (address_cmp address) a ≡ false
@@ -190,11 +190,11 @@ module _ (changes missed : List Change) (front : ℕ) (kept : Kept) (address : A
   elsewhere a other =
       deltas-append a kept.changes (changes_at address missed)
       ∙ ap (λ ds. deltas_at a kept.changes ++ of ds) (none-passes (λ c. is_at (address_cmp a) c.address) (λ c. is_at (address_cmp address) c.address)
-          (λ c h. apart a address c.address other h) missed)
+      (λ c h. apart a address c.address other h) missed)
       ∙ nothing (deltas_at a kept.changes)
       ∙ stands.deltas a
       ∙ sym (ap (λ b. cond b (deltas_at a (since kept.taken changes)) []) (any-inserted a address kept.addresses
-          ∙ ap (λ b. b || is_address kept a) (turned a address ∙ other)))
+      ∙ ap (λ b. b || is_address kept a) (turned a address ∙ other)))
     where
       nothing : (ds : List Delta) → ds ++ [] ≡ ds
       nothing [] = refl
@@ -217,7 +217,9 @@ pub subscribes_stand : SubscribesStand
 subscribes_stand changes missed front kept address stands all = by (is_address kept address) refl
   where
     by : (b : Bool) → is_address kept address ≡ b
-        → KeptFor changes front (cond b kept (record kept { addresses = insert_key address_cmp kept.addresses address;
-            changes = kept.changes ++ changes_at address missed }))
+        → KeptFor changes front (cond b kept (record kept {
+          addresses = insert_key address_cmp kept.addresses address;
+          changes = kept.changes ++ changes_at address missed;
+        }))
     by true e = stands
     by false e = one-more changes missed front kept address stands all e

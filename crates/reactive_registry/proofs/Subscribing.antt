@@ -16,8 +16,10 @@ up_to-subscribed : (front : ℕ) (k : Address) (missed : List Change) (kept : Ke
     → UpTo front (subscribed k missed kept).changes
 up_to-subscribed front k missed kept old new = by (is_address kept k)
   where
-    by : (b : Bool) → UpTo front (cond b kept (record kept { addresses = insert_key address_cmp kept.addresses k;
-        changes = kept.changes ++ changes_at k missed })).changes
+    by : (b : Bool) → UpTo front (cond b kept (record kept {
+      addresses = insert_key address_cmp kept.addresses k;
+      changes = kept.changes ++ changes_at k missed;
+    })).changes
     by true = old
     by false = up_to-append front kept.changes (changes_at k missed) old (up_to-filter front (λ c. is_at (address_cmp k) c.address) missed new)
 

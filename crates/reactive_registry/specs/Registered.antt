@@ -35,7 +35,7 @@ kept_code address change =
 abbrev pub registered_code : Coded Kept → Coded Registered
 registered_code kept =
     code_by (ℕ × List (ℕ × Kept)) (coded× coded_ℕ (coded_list (coded× coded_ℕ kept))) (λ r. (r.front, r.subscribers))
-        (λ p. record { front = p.0; subscribers = p.1 }) (λ _. refl)
+    (λ p. record { front = p.0; subscribers = p.1 }) (λ _. refl)
 
 -- nobody has entered
 abbrev pub empty : ℕ → Registered

@@ -31,6 +31,6 @@ counter key = record { kind = kind.Counter; key = key }
 since-example :
     pending (counter (codes "x"))
     (since 1 (record { number = 1; address = counter (codes "x"); delta = delta.AddCounter (pos 5) }
-        ∷ record { number = 2; address = counter (codes "x"); delta = delta.AddCounter (pos 2) } ∷ []))
+    ∷ record { number = 2; address = counter (codes "x"); delta = delta.AddCounter (pos 2) } ∷ []))
     ≡ Some (delta.AddCounter (pos 2))
 since-example = refl

@@ -125,7 +125,7 @@ module _ {B : Type 0} (known : B → Known) (goes : B → Call → Answer → B 
       let same = asked-same (known b).faults (known c').faults q' call asked (led-counted b p m c' q' h led) in
       subst (λ x. FaultsBy x (known b).faults (known c).faults) is
       (after-counted (known b).faults (known c).faults q' call answer asked
-          (subst (λ (x : ℕ). IsCounted (is_fault answer) x (known c).faults) same step.answered.goes_on.faults))
+      (subst (λ (x : ℕ). IsCounted (is_fault answer) x (known c).faults) same step.answered.goes_on.faults))
 
   -- where a line answers a fault, it was counted
   pub went-fault : (b : B) (s : Session) (l : Line) (r : Result Turn SessionError) (c : B) (t : Session)
@@ -135,4 +135,4 @@ module _ {B : Type 0} (known : B → Known) (goes : B → Call → Answer → B 
   went-fault b s l (Err x) c t went e = let fault : x ≡ error.StoreFault = cc in
       subst (λ q. FaultsBy q (known b).faults (known c).faults) (went.cause fault)
       (led-counted b (start (known b).shards (known b).seen s l) went.count c went.phase
-          (start-same (known b).faults (known b).shards (known b).seen s s.attempt l) went.leads)
+      (start-same (known b).faults (known b).shards (known b).seen s s.attempt l) went.leads)

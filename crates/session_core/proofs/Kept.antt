@@ -209,8 +209,10 @@ no-fronts journal a (done run) e =
 
 -- an attempt that has read and prepared nothing fits any journal
 pub unread-fits : (journal : Journal) (a : Attempt) → a.snaps ≡ [] → a.fronts ≡ [] → Fits journal a
-unread-fits journal a unread unprepared = record { snaps = subst (AllByRecursion (SnapFits journal)) (sym unread) tt;
-    fronts = no-fronts journal a (ran a) unprepared }
+unread-fits journal a unread unprepared = record {
+  snaps = subst (AllByRecursion (SnapFits journal)) (sym unread) tt;
+  fronts = no-fronts journal a (ran a) unprepared;
+}
 
 -- so it fits the one that may be told
 maybe-unread : (o : Option Journal) (a : Attempt) → a.snaps ≡ [] → a.fronts ≡ [] → IfSome o (λ journal. Fits journal a)
@@ -260,7 +262,7 @@ module _ (k l : Known) (a : Attempt) (h : Holds k a) where
       → l.fronted shard (in_shard a.shards shard (based a.snaps run.observations)) front ≡ true → FrontsGiven l (with_front a shard front) r
   front-given shard front run r is all one = subst (FrontsGiven l (with_front a shard front)) (sym is)
       (each-push (λ prepared. l.fronted prepared.shard (in_shard a.shards prepared.shard (based a.snaps run.observations)) prepared.front
-          ≡ true) a.fronts (record { shard = shard; front = front })
+      ≡ true) a.fronts (record { shard = shard; front = front })
       (subst (FrontsGiven l a) is all) one)
 
   -- with one front more that fits the journal, all fit it
@@ -270,13 +272,13 @@ module _ (k l : Known) (a : Attempt) (h : Holds k a) where
   front-fits journal shard front run r is all one = subst (FrontsFit journal a.shards a.snaps
       (a.fronts ++ record { shard = shard; front = front } ∷ [])) (sym is)
       (each-push (λ prepared. FrontFits journal (in_shard a.shards prepared.shard (based a.snaps run.observations)) prepared) a.fronts
-          (record { shard = shard; front = front })
+      (record { shard = shard; front = front })
       (subst (FrontsFit journal a.shards a.snaps a.fronts) is all) one)
 
   -- the attempt holds after a preparing: the backend gave the front, and no commit up to it clashes
   pub prepare-holds : (shard : ℕ) (run : Run) (p : Prepared) → next_event a ≡ next.Prepare shard run
       → IsAnswered k (Call.prepare shard (in_shard a.shards shard (based a.snaps run.observations))) (Answer.prepared p) l
-          → Holds l (with_front a shard p.front)
+      → Holds l (with_front a shard p.front)
   prepare-holds shard run p e event = let is = (prepares a shard run e).ran in record {
     shards = h.shards ∙ sym event.client.shards;
     text = h.text;

@@ -62,10 +62,10 @@ module _ (k l : Known) (s : Session) (a : Attempt) (is : Attends k (closed s)) (
       → MovedHolds l s m
   held-by (next.Read address) (snap v) m e event h =
       more (with_snap a address v) (reply.Read address v.base) m h (closed-on k l (closed s) (read address) (snap v) event (λ old new own. own) is)
-          (read-holds k l a holds address v e event)
+      (read-holds k l a holds address v e event)
   held-by (next.Prepare shard run) (prepared p) m e event h =
       more (with_front a shard p.front) (reply.Prepared shard p.front) m h (closed-on k l (closed s) (event_call s a (next.Prepare shard run))
-          (prepared p) event (λ old new own. own) is)
+      (prepared p) event (λ old new own. own) is)
       (prepare-holds k l a holds shard run p e event)
   held-by (next.Prepare shard run) (late base horizon) m e event h =
       end (event_call s a (next.Prepare shard run)) (late base horizon) (reply.Late base horizon) m h
@@ -75,16 +75,16 @@ module _ (k l : Known) (s : Session) (a : Attempt) (is : Attends k (closed s)) (
       (closed-on k l (closed s) (event_call s a (next.Prepare shard run)) (clash w) event (λ old new own. own) is) event
   held-by (next.Append run) (number n) m e event h =
       end (event_call s a (next.Append run)) (number n) (reply.Commit n run.outcome) m h
-          (committed-on k l (closed s) (ready_of a run s.client s.seq) n refl event is) event
+      (committed-on k l (closed s) (ready_of a run s.client s.seq) n refl event is) event
   held-by (next.Append run) (clash w) m e event h =
       end (event_call s a (next.Append run)) (clash w) (reply.Abort w) m h (closed-on k l (closed s) (event_call s a (next.Append run))
-          (clash w) event (λ old new own. own) is) event
+      (clash w) event (λ old new own. own) is) event
   held-by (next.Append run) (full limit) m e event h =
       end (event_call s a (next.Append run)) (full limit) (reply.Full limit) m h
-          (closed-on k l (closed s) (event_call s a (next.Append run)) (full limit) event (λ old new own. own) is) event
+      (closed-on k l (closed s) (event_call s a (next.Append run)) (full limit) event (λ old new own. own) is) event
   held-by (next.Append run) disk m e event h =
       end (event_call s a (next.Append run)) disk reply.Disk m h (closed-on k l (closed s) (event_call s a (next.Append run)) disk event
-          (λ old new own. own) is) event
+      (λ old new own. own) is) event
   held-by n answer m e event h = absurd (cc)
 
   -- so it is with the event that comes next

@@ -70,7 +70,7 @@ module _ {B : Type 0} (known : B → Known) (goes : B → Call → Answer → B 
   begins b c a made n none is step = subst (λ p. Reaches known goes b p MOST_CALLS c (Phase.over (with_attempt s (Some made)) (said (reply.Seen n))))
       (sym (not-open (Phase.beginning (closed s) a) none))
       (reach-more known goes b (Phase.beginning (closed s) a) MOST_CALLS MOST_CALLS c (Phase.over (with_attempt s (Some a)) (said (reply.Seen n)))
-          (Phase.over (with_attempt s (Some made)) (said (reply.Seen n)))
+      (Phase.over (with_attempt s (Some made)) (said (reply.Seen n)))
       (omega arith) (ap (λ x. Phase.over (with_attempt s (Some x)) (said (reply.Seen n))) (sym is)) (begun known goes b c (closed s) a n step))
 
   -- `do` and `try`
@@ -89,8 +89,8 @@ module _ {B : Type 0} (known : B → Known) (goes : B → Call → Answer → B 
       (Phase.over (ended s r) (said r)) (Phase.over (record s { seq = q }) (said r))
       (omega arith) (ap (λ t. Phase.over t (said r)) (ended-as s s.attempt q r none seq_is))
       (subst (λ p. Reaches known goes b p MOST_CALLS c (Phase.over (ended s r) (said r)))
-          (ap (λ x. Phase.trying s left x) is ∙ (ap (λ x. Phase.trying (with_attempt s x) left a) none
-          ∙ sym (not-open (Phase.trying (closed s) left a) none))) h)
+      (ap (λ x. Phase.trying s left x) is ∙ (ap (λ x. Phase.trying (with_attempt s x) left a) none
+      ∙ sym (not-open (Phase.trying (closed s) left a) none))) h)
 
   module _ (o : Option Attempt) (none : o ≡ None) where
     -- where no attempt is open, a line that needs one is refused before any call
@@ -137,6 +137,6 @@ module _ {B : Type 0} (known : B → Known) (goes : B → Call → Answer → B 
         (Phase.over (record s { seq = q; attempt = o }) (said end.reply))
         (omega arith) (ap (λ t. Phase.over t (said end.reply)) (ended-as s o q end.reply none seq_is))
         (subst (λ p. Reaches known goes b p MOST_EVENTS c (Phase.over (ended (closed s) end.reply) (said end.reply)))
-            (sym (some-open (Phase.going (closed s) 0) a open_is))
+        (sym (some-open (Phase.going (closed s) 0) a open_is))
         (subst (λ x. Reaches known goes b (Phase.going (with_attempt s x) 0 a) MOST_EVENTS c
-            (Phase.over (ended (with_attempt s x) end.reply) (said end.reply))) none (drives 0)))
+        (Phase.over (ended (with_attempt s x) end.reply) (said end.reply))) none (drives 0)))

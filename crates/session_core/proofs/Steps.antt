@@ -113,8 +113,12 @@ module _ {B : Type 0} (known : B → Known) (goes : B → Call → Answer → B 
   -- more steps in front
   pub stops-on : (b : B) (p : Phase) (n : ℕ) (c : B) (q : Phase) (e : SessionError) (d : B) → Leads (Goes known goes) b p n c q
       → Stops known goes c q e d → Stops known goes b p e d
-  stops-on b p n c q e d first rest = record { count = n + rest.count; phase = rest.phase;
-      leads = leads-on (Goes known goes) b p c q n d rest.phase rest.count first rest.leads; cause = rest.cause }
+  stops-on b p n c q e d first rest = record {
+    count = n + rest.count;
+    phase = rest.phase;
+    leads = leads-on (Goes known goes) b p c q n d rest.phase rest.count first rest.leads;
+    cause = rest.cause;
+  }
 
   -- and of what it leads to
   pub reaches-on : (b : B) (p : Phase) (n : ℕ) (c : B) (q : Phase) (most more : ℕ) (d : B) (r : Phase) → n + more ≤ most
@@ -171,8 +175,11 @@ module _ {B : Type 0} (known : B → Known) (goes : B → Call → Answer → B 
   pub answered : (s : Session) (a : Attempt) (b c : B) (n : Next) (answer : Answer) (result : Result Moved SessionError) → next_event a ≡ n
       → Goes known goes b (event_call s a n) answer c
       → Turned a answer result → Makes known goes s a b result c
-  answered s a b c n answer (Ok m) e step turned = record { answer = answer;
-      step = subst (λ x. Goes known goes b (event_call s a x) answer c) (sym e) step; moved = turned }
+  answered s a b c n answer (Ok m) e step turned = record {
+    answer = answer;
+    step = subst (λ x. Goes known goes b (event_call s a x) answer c) (sym e) step;
+    moved = turned;
+  }
   answered s a b c n answer (Err x) e step turned = Tries.made answer (subst (λ y. Goes known goes b (event_call s a y) answer c) (sym e) step) turned
 
   -- an error before the call
@@ -258,8 +265,12 @@ module _ {B : Type 0} (known : B → Known) (goes : B → Call → Answer → B 
     -- where the run is done its outcome is shown, without a call more
     pub look-done : (run : Run) → n ≤ MOST_EVENTS → exec body.body (values_of snaps) ≡ done run
         → Reaches known goes b (look_on s m body []) MOST_EVENTS c (Phase.over s (said (reply.At m run.outcome)))
-    look-done run few e = record { count = n; few = few; leads = subst (λ q. Leads (Goes known goes) b (look_on s m body []) n c q)
-        (ap (look_by s m body snaps) e) led }
+    look-done run few e = record {
+      count = n;
+      few = few;
+      leads = subst (λ q. Leads (Goes known goes) b (look_on s m body []) n c q)
+          (ap (look_by s m body snaps) e) led;
+    }
 
     module _ (address : Address) (e : exec body.body (values_of snaps) ≡ need address) where
       -- where the run needs an address, the look has come to the read of that
@@ -276,8 +287,11 @@ module _ {B : Type 0} (known : B → Known) (goes : B → Call → Answer → B 
       pub look-late : (answer : Answer) (longer : SnapList) (r : Reply) → n + 1 ≤ MOST_EVENTS → Goes known goes c (read_at address m) answer d
           → Valued snaps address m answer (Ok (Some r)) longer
           → Reaches known goes b (look_on s m body []) MOST_EVENTS d (Phase.over s (said r))
-      look-late (Answer.late x horizon) longer r few step h = rw h (record { count = n + 1; few = few;
-          leads = Leads.by_step (read_at address m) (Answer.late x horizon) looked-led refl step refl })
+      look-late (Answer.late x horizon) longer r few step h = rw h (record {
+        count = n + 1;
+        few = few;
+        leads = Leads.by_step (read_at address m) (Answer.late x horizon) looked-led refl step refl;
+      })
       look-late answer longer r few step h = absurd h
 
       -- the read is the last step; where the error is a fault the read failed by one, which breaks the line
@@ -294,14 +308,17 @@ module _ {B : Type 0} (known : B → Known) (goes : B → Call → Answer → B 
 module _ {B : Type 0} (known : B → Known) (goes : B → Call → Answer → B → Type 0) where
   -- more steps may be allowed
   pub reach-more : (b : B) (p : Phase) (m n : ℕ) (c : B) (q r : Phase) → m ≤ n → q ≡ r → Reaches known goes b p m c q → Reaches known goes b p n c r
-  reach-more b p m n c q r up is h = record { count = h.count; few = let f = h.few in omega arith;
-      leads = subst (λ x. Leads (Goes known goes) b p h.count c x) is h.leads }
+  reach-more b p m n c q r up is h = record {
+    count = h.count;
+    few = let f = h.few in omega arith;
+    leads = subst (λ x. Leads (Goes known goes) b p h.count c x) is h.leads;
+  }
 
   -- one attempt of several
   pub tried : (b : B) (p : Phase) (t : ℕ) (c : B) (s : Session) (left : ℕ) (a : Attempt) (n : ℕ) (c' d : B) (end : Ended)
       → Reaches known goes b p (t * (MOST_EVENTS + 1)) c (Phase.trying s left a)
       → Goes known goes c refresh (Answer.number n) c' → Drives known goes s a c' (Ok end) d
-          → Reaches known goes b p ((t + 1) * (MOST_EVENTS + 1)) d (after_end s left end.attempt end.reply)
+      → Reaches known goes b p ((t + 1) * (MOST_EVENTS + 1)) d (after_end s left end.attempt end.reply)
   tried b p t c s left a n c' d end first step drives = let rest = drives left in record {
     count = first.count + 1 + rest.count;
     few = let f = first.few in let r = rest.few in omega arith;
@@ -318,24 +335,28 @@ module _ {B : Type 0} (known : B → Known) (goes : B → Call → Answer → B 
 
   -- before the first attempt
   pub tries-begin : (b : B) (s : Session) (n m : ℕ) (a : Attempt) → n ≡ m → Reaches known goes b (Phase.trying s n a) 0 b (Phase.trying s m a)
-  tries-begin b s n m a e = record { count = 0; few = omega arith; leads = subst (λ (k : ℕ). Leads (Goes known goes) b (Phase.trying s n a) 0 b
-      (Phase.trying s k a)) e Leads.stays }
+  tries-begin b s n m a e = record {
+    count = 0;
+    few = omega arith;
+    leads = subst (λ (k : ℕ). Leads (Goes known goes) b (Phase.trying s n a) 0 b
+        (Phase.trying s k a)) e Leads.stays;
+  }
 
   -- another attempt follows
   pub another : (b : B) (p : Phase) (t : ℕ) (c : B) (s : Session) (left : ℕ) (a : Attempt) (n : ℕ) (c' d : B) (end : Ended) (further : ℕ) (next : Attempt)
       → Reaches known goes b p (t * (MOST_EVENTS + 1)) c (Phase.trying s left a) → Goes known goes c refresh (Answer.number n) c'
-          → Drives known goes s a c' (Ok end) d
+      → Drives known goes s a c' (Ok end) d
       → after_end s left end.attempt end.reply ≡ Phase.trying s further next
-          → Reaches known goes b p ((t + 1) * (MOST_EVENTS + 1)) d (Phase.trying s further next)
+      → Reaches known goes b p ((t + 1) * (MOST_EVENTS + 1)) d (Phase.trying s further next)
   another b p t c s left a n c' d end further next first step drives is = reach-more b p ((t + 1) * (MOST_EVENTS + 1)) ((t + 1) * (MOST_EVENTS + 1)) d
       (after_end s left end.attempt end.reply) (Phase.trying s further next) (omega arith) is (tried b p t c s left a n c' d end first step drives)
 
   -- none follows
   pub tries-end : (b : B) (p : Phase) (t : ℕ) (c : B) (s : Session) (left : ℕ) (a : Attempt) (n : ℕ) (c' d : B) (end : Ended) (reply : Reply) → t < 255
       → Reaches known goes b p (t * (MOST_EVENTS + 1)) c (Phase.trying s left a) → Goes known goes c refresh (Answer.number n) c'
-          → Drives known goes s a c' (Ok end) d
+      → Drives known goes s a c' (Ok end) d
       → after_end s left end.attempt end.reply ≡ Phase.over (ended s reply) (said reply)
-          → Reaches known goes b p MOST_CALLS d (Phase.over (ended s reply) (said reply))
+      → Reaches known goes b p MOST_CALLS d (Phase.over (ended s reply) (said reply))
   tries-end b p t c s left a n c' d end reply few first step drives is = reach-more b p ((t + 1) * (MOST_EVENTS + 1)) MOST_CALLS d
       (after_end s left end.attempt end.reply) (Phase.over (ended s reply) (said reply)) (omega arith) is (tried b p t c s left a n c' d end first step drives)
 
@@ -349,10 +370,10 @@ module _ {B : Type 0} (known : B → Known) (goes : B → Call → Answer → B 
   pub another-holds : (c d : B) (s : Session) (left : ℕ) (a : Attempt) (end : Ended) (further : ℕ) (next : Attempt) → Attends (known c) (closed s)
       → Holds (known c) a
       → Drives known goes s a c (Ok end) d → after_end s left end.attempt end.reply ≡ Phase.trying s further next
-          → Attends (known d) (closed s) × Holds (known d) next
+      → Attends (known d) (closed s) × Holds (known d) next
   another-holds c d s left a end further next at holds drives is = let rest = drives left in
       subst (PhaseHolds (known d)) is (led-holds known goes c (Phase.going s left a) rest.count d (after_end s left end.attempt end.reply)
-          (at, holds) rest.leads)
+      (at, holds) rest.leads)
 
   -- a refresh before an attempt that failed
   pub tries-stop : (b : B) (p : Phase) (t : ℕ) (c : B) (s : Session) (left : ℕ) (a : Attempt) (e : SessionError) (x : StoreError) (d : B) → e ≡ error_of x
@@ -392,8 +413,12 @@ module _ {B : Type 0} (known : B → Known) (goes : B → Call → Answer → B 
   -- `begin`
   pub begun : (b c : B) (s : Session) (a : Attempt) (n : ℕ) → Goes known goes b refresh (Answer.number n) c
       → Reaches known goes b (Phase.beginning s a) MOST_CALLS c (Phase.over (with_attempt s (Some a)) (said (reply.Seen n)))
-  begun b c s a n step = record { count = 1; few = omega arith; leads = one-led (Goes known goes) b c (Phase.beginning s a)
-      (Phase.over (with_attempt s (Some a)) (said (reply.Seen n))) refresh (Answer.number n) refl step refl }
+  begun b c s a n step = record {
+    count = 1;
+    few = omega arith;
+    leads = one-led (Goes known goes) b c (Phase.beginning s a)
+        (Phase.over (with_attempt s (Some a)) (said (reply.Seen n))) refresh (Answer.number n) refl step refl;
+  }
 
 -- a reply in the place of another
 pub placed-one : (place : List Reply) (r : Reply) → length place ≡ 1 → set place 0 r ≡ r ∷ []

@@ -323,14 +323,14 @@ module _ {S T : Type 0} (Rel : ℕ → (A : Type 0) → Stepping S A → Steppin
           turns_go x ss [] short names small = pure_goes AreSmall names small
           turns_go x ss (t ∷ ts) short names small =
               then_goes (then_goes (charge_goes 1) (λ _ _. then_goes (all_go ss (names ++ (x, item.Text t) ∷ [])
-                  (bind_small names x (item.Text t) small short.0))
+              (bind_small names x (item.Text t) small short.0))
               (λ after all. forget_goes names after all)))
               (λ after all. turns_go x ss ts short.1 after all)
 
           -- form by form: expressions and blocks in it go one after another
           step_layer_goes : (y : StmtNode-F N X)
               → AsStatement (of_step m (deep_step m (map-StmtNode N X StmtNode Stmt hN hS y)))
-                  (of_step n (deep_step n (map-StmtNode N X StmtNode Stmt hN hS y)))
+              (of_step n (deep_step n (map-StmtNode N X StmtNode Stmt hN hS y)))
           step_layer_goes (StmtNode-F.Let x e) names small =
               then_goes (expr_goes e names small) (λ i one. pure_goes AreSmall (names ++ (x, i) ∷ []) (bind_small names x i small one))
           step_layer_goes (StmtNode-F.Emit e) names small =

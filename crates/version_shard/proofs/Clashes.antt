@@ -109,7 +109,7 @@ at_itself a = by (address_cmp a a) (order.total-law.antisymm a a)
 -- past the base every version of the address meets the observation, so only whether it clashes decides
 first-versions : (based : Based) (later : List Version)
     → first_change based (as_changes based.address (past based.base later))
-        ≡ option_map (as_change based.address) (first_clashing based.obs (past based.base later))
+    ≡ option_map (as_change based.address) (first_clashing based.obs (past based.base later))
 first-versions based [] = refl
 first-versions based (x ∷ rest) = by (nat_lt based.base x.number) refl (first-versions based rest)
   where
@@ -122,7 +122,7 @@ first-versions based (x ∷ rest) = by (nat_lt based.base x.number) refl (first-
 
     by : (p : Bool) → nat_lt based.base x.number ≡ p
         → first_change based (as_changes based.address (past based.base rest))
-            ≡ option_map (as_change based.address) (first_clashing based.obs (past based.base rest))
+        ≡ option_map (as_change based.address) (first_clashing based.obs (past based.base rest))
         → first_change based (as_changes based.address (cond p (x ∷ past based.base rest) (past based.base rest)))
         ≡ option_map (as_change based.address) (first_clashing based.obs (cond p (x ∷ past based.base rest) (past based.base rest)))
     by true e again = rw (e, at_itself based.address) (fits (clash based.obs x.delta) again)
@@ -201,7 +201,7 @@ agree place kept all (b ∷ rest) finds =
         let is : v.number ≡ n = cc in
         let same : nat_lt h.1.number v.number ≡ nat_lt f.number n = ap (λ m. nat_lt m v.number) (sym a.0) ∙ ap (nat_lt f.number) is in
         subst (λ (c : Bool). Agree place (b ∷ rest) (cond (nat_lt h.1.number v.number) (Some h) (Some (b, v)))
-            (cond c (Some f) (Some (record { place = place; number = n }))))
+        (cond c (Some f) (Some (record { place = place; number = n }))))
         same (choose is (nat_lt h.1.number v.number))
       where
         choose : v.number ≡ n → (c : Bool) → Agree place (b ∷ rest) (cond c (Some h) (Some (b, v)))

@@ -48,7 +48,7 @@ commit-left a n (pair ∷ deltas) value rising = by (is_at (address_cmp a) pair.
   where
     by : (b : Bool) → is_at (address_cmp a) pair.0 ≡ b → left value (of_address a (changes_by n deltas)) ≡ apply_maybe (delta_at deltas a) value
         → left value (cond b (record { number = n; address = pair.0; delta = pair.1 } ∷ of_address a (changes_by n deltas))
-            (of_address a (changes_by n deltas)))
+        (of_address a (changes_by n deltas)))
         ≡ apply_maybe (cond b (Some pair.1) (delta_at deltas a)) value
     by true e again =
         let is : a ≡ pair.0 = address_cmp-equal a pair.0 (equal _ e) in
@@ -134,7 +134,7 @@ pub followed-part : (journal : Journal) (shards : ℕ) (a : Address) (front r to
     ≡ of_address a (changes (take r journal))
 followed-part journal shards a front r to numbered low high =
     filter-append (λ change. nat_le change.number r) (of_address a (changes (take front journal)))
-        (of_address a (of_shard shards (shard_of a shards) (between front to all)))
+    (of_address a (of_shard shards (shard_of a shards) (between front to all)))
     ∙ ap (λ l. l ++ up_to r (of_address a (of_shard shards (shard_of a shards) (between front to all)))) first
     ∙ ap (λ l. of_address a (up_to front all) ++ l) second
     ∙ sym (filter-append (λ change. is_at (address_cmp a) change.address) (up_to front all) (past front (up_to r all)))

@@ -31,7 +31,7 @@ stands journal shard kept holds a here = record {
   changes = λ n le. holds.changes a n here le ∙ swapped (λ change. is_at (address_cmp a) change.address) (λ change. nat_lt n change.number) (changes journal);
   newest =
       ap (value_after mine.base) (sym (below-all (λ (version : Version). version.number) shard.front mine.later
-          (up_to-kept shard.front shard.front shard.kept a kept (omega arith))))
+      (up_to-kept shard.front shard.front shard.kept a kept (omega arith))))
       ∙ holds.values a shard.front here (omega arith)
       ∙ ap (λ (j : Journal). left_by j a) (ap (λ n. take n journal) (sym holds.front) ∙ take-whole journal)
       ∙ sym (journal-left a journal (default_of a.kind) holds.readable.rising);
@@ -88,7 +88,7 @@ module _ (journal : Journal) (old new : Sharded) (tail : Tail) (kept : AreKept o
       let own = of_address a (changes (take old.front journal)) in
       let some = take reaches.count tail.changes in
       let rises = rising-first old.front reaches.count tail.changes (subst (λ n. Rising n tail.changes) next.exact.begins
-          (tail-rising tail.from tail.to tail.changes tail.in_order)) in
+      (tail-rising tail.from tail.to tail.changes tail.in_order)) in
       let near = all-more (λ (c : Change). c.number ≤ new.front + 1) (λ (c : Change). horizon_at old.window (c.number - 1) ≤ horizon new) some
       (λ c le. let w = alike.window in omega (arith, le, w)) reaches.near in
       let first = stands-later a (horizon old) (horizon new) (default_of a.kind) own (versions_of old.kept a)
@@ -96,10 +96,10 @@ module _ (journal : Journal) (old new : Sharded) (tail : Tail) (kept : AreKept o
       let second = along-stands a old.window (horizon new) (default_of a.kind) old.front some own (versions_of old.kept a) first rises
       (first-up_to journal old.front a next.readable) near in
       let third = cut-stands a (horizon new) new.front (default_of a.kind) (own ++ of_address a some)
-          (followed_along old.window a some (versions_of old.kept a)) second (omega arith) in
+      (followed_along old.window a some (versions_of old.kept a)) second (omega arith) in
       subst (λ (v : Versioned). Stands a (horizon new) (default_of a.kind) (of_address a (changes (take new.front journal))) v) (sym (reaches.versions a))
       (subst (λ (l : List Change). Stands a (horizon new) (default_of a.kind) l
-          (versions.up_to new.front (followed_along old.window a some (versions_of old.kept a))))
+      (versions.up_to new.front (followed_along old.window a some (versions_of old.kept a))))
       (some-up_to new.front reaches.count own tail.changes a reaches.rest
       ∙ ap (λ (l : List Change). up_to new.front (own ++ of_address a l))
       (next.exact.exact ∙ ap (λ k. of_shard old.shards k (between old.front tail.to (changes journal))) (sym here))

@@ -169,7 +169,7 @@ module _ (window : ℕ) (tail : Tail) (old : Kept) (kept : AreKept tail.from old
       subst (λ (v : Versioned). AllByRecursion (λ version. version.number ≤ next.number) v.later) (sym same)
       (up_to-followed next.number (take i tail.changes) a (omega (arith, low, number))
       (all-more _ _ (take i tail.changes) (λ c le. omega (arith, le, number))
-          (before_it tail.from tail.changes i next (tail-rising tail.from tail.to tail.changes tail.in_order) within)))
+      (before_it tail.from tail.changes i next (tail-rising tail.from tail.to tail.changes tail.in_order) within)))
 
   -- where there is no memory for the next change
   pub stops : (now : Kept) (i : ℕ) (next : Change) → next ≡ get_or tail.changes i next → i < length tail.changes

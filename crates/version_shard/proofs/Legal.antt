@@ -39,7 +39,7 @@ with-rises : (own : Operations) (deltas : Deltas) → IsRising deltas → IsRisi
 with-rises [] deltas is = is
 with-rises (w ∷ own) deltas is =
     with-rises own (with_delta deltas w.0 (delta_of w.1)) (sorted-insert_entry address_cmp order.total-law w.0
-        (after_maybe (delta_at deltas w.0) (delta_of w.1)) deltas is)
+    (after_maybe (delta_at deltas w.0) (delta_of w.1)) deltas is)
 
 -- the empty list of deltas rises
 nothing-rises : IsRising []

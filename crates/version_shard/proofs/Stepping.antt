@@ -180,17 +180,17 @@ module _ (a : Address) (h : ℕ) (base : Value) (own : List Change) (c : Change)
   changed-at : (n : ℕ) → h ≤ n → value_at (changed c.number c.delta v) n ≡ left base (journals.up_to n (own ++ c ∷ []))
   changed-at n within =
       ap (value_after v.base) (filter-append (λ x. nat_le x.number n) v.later
-          (record { number = c.number; delta = c.delta; value = apply c.delta (latest v) } ∷ []))
+      (record { number = c.number; delta = c.delta; value = apply c.delta (latest v) } ∷ []))
       ∙ by (nat_le c.number n) refl
       ∙ ap (left base) (sym (filter-append (λ d. nat_le d.number n) own (c ∷ [])))
     where
       by : (b : Bool) → nat_le c.number n ≡ b
           → value_after v.base (below (λ (x : Version). x.number) n v.later
-              ++ cond b (record { number = c.number; delta = c.delta; value = apply c.delta (latest v) } ∷ []) [])
+          ++ cond b (record { number = c.number; delta = c.delta; value = apply c.delta (latest v) } ∷ []) [])
           ≡ left base (journals.up_to n own ++ cond b (c ∷ []) [])
       by true e =
           value_after-append v.base (below (λ (x : Version). x.number) n v.later)
-              (record { number = c.number; delta = c.delta; value = apply c.delta (latest v) } ∷ [])
+          (record { number = c.number; delta = c.delta; value = apply c.delta (latest v) } ∷ [])
           ∙ ap (apply c.delta) stands.newest
           ∙ sym (left-append base (journals.up_to n own) (c ∷ [])
           ∙ ap (λ l. apply c.delta (left base l))
@@ -205,7 +205,7 @@ module _ (a : Address) (h : ℕ) (base : Value) (own : List Change) (c : Change)
   changed-past n within =
       ap (as_changes a) (filter-append (λ x. nat_lt n x.number) v.later (record { number = c.number; delta = c.delta; value = apply c.delta (latest v) } ∷ []))
       ∙ map-append (λ x. record { number = x.number; address = a; delta = x.delta }) (past n v.later)
-          (past n (record { number = c.number; delta = c.delta; value = apply c.delta (latest v) } ∷ []))
+      (past n (record { number = c.number; delta = c.delta; value = apply c.delta (latest v) } ∷ []))
       ∙ ap (λ l. l ++ as_changes a (past n (record { number = c.number; delta = c.delta; value = apply c.delta (latest v) } ∷ []))) (stands.changes n within)
       ∙ ap (λ l. journals.past n own ++ l) (by (nat_lt n c.number))
       ∙ sym (filter-append (λ d. nat_lt n d.number) own (c ∷ []))
@@ -336,7 +336,7 @@ cut-or-not r a (c ∷ rest) x = by (is_at (address_cmp c.address) a) refl (cut-o
 
     by : (b : Bool) → is_at (address_cmp c.address) a ≡ b
         → ((y : Versioned) → (cut_along r a rest y ≡ up_to r y) ⊎ ((cut_along r a rest y ≡ y)
-            × AllByRecursion (λ c. is_at (address_cmp c.address) a ≡ false) rest))
+        × AllByRecursion (λ c. is_at (address_cmp c.address) a ≡ false) rest))
         → (cut_along r a rest (cond b (up_to r x) x) ≡ up_to r x)
         ⊎ ((cut_along r a rest (cond b (up_to r x) x) ≡ x) × AllByRecursion (λ c. is_at (address_cmp c.address) a ≡ false) (c ∷ rest))
     by true e again = first (again (up_to r x))

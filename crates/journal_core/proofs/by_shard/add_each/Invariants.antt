@@ -8,4 +8,4 @@ abbrev pub invariant-loop-change : goal.invariant-loop-change
 invariant-loop-change l =
     (length l.lists.items ≡ length l.fn.lists.items) × (length l.fn.lists.items ≡ l.shards) × HasRoom (length l.change-iterator.rest.items) l.lists.items
     × ((shard : ℕ) → list_at l.lists.items shard ++ of_shard l.shards shard l.change-iterator.rest.items ≡ list_at l.fn.lists.items shard
-        ++ of_shard l.fn.shards shard l.fn.changes.items)
+    ++ of_shard l.fn.shards shard l.fn.changes.items)

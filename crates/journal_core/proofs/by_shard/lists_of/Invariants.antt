@@ -8,4 +8,4 @@ abbrev pub invariant-loop-commit : goal.invariant-loop-commit
 invariant-loop-commit l =
     (length l.lists.items ≡ l.shards)
     × ((shard : ℕ) → list_at l.lists.items shard ++ of_shard l.shards shard (changes (drop l.commit-index l.commits))
-        ≡ of_shard l.fn.shards shard (changes l.fn.commits))
+    ≡ of_shard l.fn.shards shard (changes l.fn.commits))

@@ -10,7 +10,7 @@ returns-clause-first g c =
     let all = changes c.args.log.now.commits in
     let same : c.in_shard-here.result.now ≡ of_shard c.args.log.now.shards (shard_of c.args.based.now.address c.args.log.now.shards) all = search rules in
     let found = first_clash-here c.args.based.now c.counts_from-from.result c.args.log.now.shards c.in_shard-here.result.now all
-        c.counts_from-from.ensures.base same in
+    c.counts_from-from.ensures.base same in
     rw c.first_clash.ensures.first (rw c.past.ensures (rw (← c.shards.ensures.shards) (rw (← c.counts_from-from.ensures.from) found)))
 
 pub returns-clause-steps : goal.returns-clause-steps

@@ -8,9 +8,9 @@ name_delta-requires-clause-kind c =
     let commit = c.index-commits-found.result in
     let d = c.clashing.result.now in
     (observed-kind c.args.based.now c.args.commits.now c.args.found.now c.requires.hit observation commit d c.index-based-found.is
-        c.index-commits-found.is c.clashing.ensures.changed c.requires.observed).observed
+    c.index-commits-found.is c.clashing.ensures.changed c.requires.observed).observed
     ∙ sym (changed-kind c.args.based.now c.args.commits.now c.args.found.now c.requires.hit observation commit d c.index-based-found.is
-        c.index-commits-found.is c.clashing.ensures.changed c.requires.kinds)
+    c.index-commits-found.is c.clashing.ensures.changed c.requires.kinds)
 
 pub returns-clause-names : goal.returns-clause-names
 returns-clause-names c =
@@ -23,6 +23,6 @@ pub returns-clause-kinds : goal.returns-clause-kinds
 returns-clause-kinds c =
     if_ok c.name_delta.result _ _
     (of-one-kind c.args.based.now c.args.commits.now c.args.found.now c.requires.hit c.index-based-found.result c.index-commits-found.result
-        c.clashing.result.now
+    c.clashing.result.now
     c.index-based-found.is c.index-commits-found.is c.clashing.ensures.changed c.requires.observed c.requires.kinds)
     c.name_delta.ensures

@@ -11,5 +11,5 @@ returns-clause-changes c =
     let all = between c.args.from c.args.to (changes log.commits) in
     let shard = c.shard_of-shard.ensures ∙ ap (shard_of address) c.shards.ensures.shards in
     let same = ap (of_address address) (c.between_in_shard.ensures.changes ∙ ap (λ s. of_shard log.shards s all) shard)
-        ∙ of_address-in_shard address log.shards all in
+    ∙ of_address-in_shard address log.shards all in
     rw (sym same) c.copies_of_address.ensures

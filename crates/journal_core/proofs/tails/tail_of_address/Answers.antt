@@ -9,4 +9,4 @@ as_tail-requires c =
     let commits = c.args.log.now.commits in
     rw c.in_ok-changes.ensures.changes
     (some-are-tail (λ change. is_at (address_cmp c.args.address.now) change.address) c.args.from c.args.to (changes commits) c.requires
-        (changes-rise 0 commits c.between_at.ensures.numbered))
+    (changes-rise 0 commits c.between_at.ensures.numbered))

@@ -6,4 +6,4 @@ pub as_tail-requires : goal.as_tail-requires
 as_tail-requires c =
     let commits = c.args.log.now.commits in
     rw c.in_ok-changes.ensures.changes (all-are-tail c.args.from c.args.to (changes commits) c.requires.order
-        (changes-rise 0 commits c.changes_between.ensures.numbered))
+    (changes-rise 0 commits c.changes_between.ensures.numbered))

@@ -9,4 +9,4 @@ as_tail-requires c =
     let log = c.args.log.now in
     rw c.in_ok-changes.ensures (rw c.between_in_shard.ensures.changes
     (some-are-tail (λ change. shard_of change.address log.shards == c.args.shard) c.args.from c.args.to (changes log.commits) c.requires
-        (changes-rise 0 log.commits c.between_in_shard.ensures.numbered)))
+    (changes-rise 0 log.commits c.between_in_shard.ensures.numbered)))

@@ -8,5 +8,5 @@ returns c =
     let all = c.args.changes.now in
     let i = c.partition_point-place.result in
     let point = IsPartitionPoint-from_clause (λ change. nat_le change.number c.args.to) all i c.partition_point-place.ensures.partitioned
-        (partitioned c.args.to all c.requires) (λ a r f h. search rules) in
+    (partitioned c.args.to all c.requires) (λ a r f h. search rules) in
     sym (filter-front (λ change. nat_le change.number c.args.to) all i point c.partition_point-place.ensures.bound)

@@ -41,7 +41,7 @@ returns-in-Clash-clause-limit g c =
 pub returns-in-Clash-clause-decided : goal.returns-in-Clash-clause-decided
 returns-in-Clash-clause-decided g c = λ s client of.
     by-clash c.args.ready.now c.args.journal.now c.reserve.new.self c.reserve.ensures.same c.requires.may s client of c.in-Clash.found
-        c.in_ok-witness-in-Clash.witness
+    c.in_ok-witness-in-Clash.witness
     c.append.new.self c.in-Clash.ensures.decides c.in_ok-witness-in-Clash.ensures.names
 
 pub returns-in-Number-clause-shards : goal.returns-in-Number-clause-shards

@@ -24,7 +24,7 @@ pub returns-clause-ok : goal.returns-clause-ok
 returns-clause-ok c =
     on_ok c.follow_to.result
     (fronts-moved c.args.journal.now.commits c.args.settings.now c.args.shards.now.items c.requires.held c.args.place c.index_mut.result.now
-        c.follow_to.new.shard
+    c.follow_to.new.shard
     (shard-there c.args.journal.now.commits c.args.settings.now c.args.shards.now.items c.requires.held c.args.place c.index_mut.result.now
     c.requires.there c.index_mut.ensures.value)
     c.follow_to.ensures.held c.args.to)

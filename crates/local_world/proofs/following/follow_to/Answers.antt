@@ -5,7 +5,7 @@ use Rattle.local_world.proofs.following.follow_to.Goals as goal
 pub follow-requires-clause-kinds : goal.follow-requires-clause-kinds
 follow-requires-clause-kinds c =
     tail-kinds c.args.journal.now.commits c.args.journal.now.shards c.args.place c.front-front.result c.args.to c.in_ok-tail.tail c.requires.legal
-        c.in_ok-tail.ensures
+    c.in_ok-tail.ensures
 
 pub returns-clause-held : goal.returns-clause-held
 returns-clause-held c =

@@ -11,15 +11,15 @@ pub read_at-requires-clause-here : goal.read_at-requires-clause-here
 read_at-requires-clause-here c =
     is-in c.args.journal.now.commits c.args.settings.now c.args.shards.now.items c.follow_at.new.shards.items c.requires.held c.follow_at.ensures.held
     c.shard_of-place.result c.args.number c.args.address.now c.shard_of-place.ensures
-        (place-below c.args.settings.now c.args.address.now c.shard_of-place.result c.shard_of-place.ensures)
+    (place-below c.args.settings.now c.args.address.now c.shard_of-place.result c.shard_of-place.ensures)
     c.in_ok-follow_at.ensures.ok c.index.result.now c.index.ensures
 
 pub read_at-requires-clause-within : goal.read_at-requires-clause-within
 read_at-requires-clause-within c =
     let reached = reached-top c.args.journal.now.commits c.args.settings.now c.args.shards.now.items c.follow_at.new.shards.items c.requires.held
-        c.follow_at.ensures.held
+    c.follow_at.ensures.held
     c.shard_of-place.result c.args.number c.args.address.now c.shard_of-place.ensures
-        (place-below c.args.settings.now c.args.address.now c.shard_of-place.result c.shard_of-place.ensures)
+    (place-below c.args.settings.now c.args.address.now c.shard_of-place.result c.shard_of-place.ensures)
     c.in_ok-follow_at.ensures.ok c.index.result.now c.index.ensures
     in omega arith
 
@@ -27,14 +27,14 @@ pub returns-in-Ok-clause-moved : goal.returns-in-Ok-clause-moved
 returns-in-Ok-clause-moved c =
     moved-top c.args.journal.now.commits c.args.settings.now c.args.shards.now.items c.follow_at.new.shards.items c.requires.held c.follow_at.ensures.held
     c.shard_of-place.result c.args.number c.args.address.now c.shard_of-place.ensures
-        (place-below c.args.settings.now c.args.address.now c.shard_of-place.result c.shard_of-place.ensures)
+    (place-below c.args.settings.now c.args.address.now c.shard_of-place.result c.shard_of-place.ensures)
     c.in_ok-follow_at.ensures.ok c.index.result.now c.index.ensures
 
 pub returns-in-Ok-clause-answer : goal.returns-in-Ok-clause-answer
 returns-in-Ok-clause-answer c =
     back-value c.args.journal.now.commits c.args.settings.now c.args.shards.now.items c.follow_at.new.shards.items c.requires.held c.follow_at.ensures.held
     c.shard_of-place.result c.args.number c.args.address.now c.shard_of-place.ensures
-        (place-below c.args.settings.now c.args.address.now c.shard_of-place.result c.shard_of-place.ensures)
+    (place-below c.args.settings.now c.args.address.now c.shard_of-place.result c.shard_of-place.ensures)
     c.in_ok-follow_at.ensures.ok c.index.result.now c.index.ensures
     c.in-Ok.value
     (c.in-Ok.ensures (take c.index.result.now.front c.args.journal.now.commits)
@@ -45,7 +45,7 @@ pub returns-in-Err-Late-clause-moved : goal.returns-in-Err-Late-clause-moved
 returns-in-Err-Late-clause-moved c =
     moved-top c.args.journal.now.commits c.args.settings.now c.args.shards.now.items c.follow_at.new.shards.items c.requires.held c.follow_at.ensures.held
     c.shard_of-place.result c.args.number c.args.address.now c.shard_of-place.ensures
-        (place-below c.args.settings.now c.args.address.now c.shard_of-place.result c.shard_of-place.ensures)
+    (place-below c.args.settings.now c.args.address.now c.shard_of-place.result c.shard_of-place.ensures)
     c.in_ok-follow_at.ensures.ok c.index.result.now c.index.ensures
 
 pub returns-in-Err-Late-clause-answer : goal.returns-in-Err-Late-clause-answer
@@ -53,7 +53,7 @@ returns-in-Err-Late-clause-answer c =
     let same : c.in-Err-Late.field-0 ≡ at_error.Late c.in-Err-Late.number c.in-Err-Late.horizon = (let is = c.in-Err-Late.field-0-is in cc) in
     back-late c.args.journal.now.commits c.args.settings.now c.args.shards.now.items c.follow_at.new.shards.items c.requires.held c.follow_at.ensures.held
     c.shard_of-place.result c.args.number c.args.address.now c.shard_of-place.ensures
-        (place-below c.args.settings.now c.args.address.now c.shard_of-place.result c.shard_of-place.ensures)
+    (place-below c.args.settings.now c.args.address.now c.shard_of-place.result c.shard_of-place.ensures)
     c.in_ok-follow_at.ensures.ok c.index.result.now c.index.ensures
     c.in-Err-Late.number c.in-Err-Late.horizon
     (subst (λ e. ReadsAt (take c.index.result.now.front c.args.journal.now.commits) c.index.result.now c.args.address.now c.args.number (Err e)) same

@@ -11,7 +11,7 @@ use Rattle.local_world.proofs.following.validate_in.Goals as goal
 pub returns-in-Ok : goal.returns-in-Ok
 returns-in-Ok g c journal legal holds =
     as-ok (take c.args.shard.now.front journal) c.args.shard.now c.args.based.now c.in-Ok.prepared
-        (c.in-Ok.ensures.answers (take c.args.shard.now.front journal) holds)
+    (c.in-Ok.ensures.answers (take c.args.shard.now.front journal) holds)
 
 pub returns-in-Err-Late : goal.returns-in-Err-Late
 returns-in-Err-Late g c journal legal holds =

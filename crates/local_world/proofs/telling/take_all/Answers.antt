@@ -15,7 +15,7 @@ take-requires c = c.follow_all.ensures.following.entered c.args.client c.require
 pub returns-in_err-feed-clause-following : goal.returns-in_err-feed-clause-following
 returns-in_err-feed-clause-following c =
     following-same c.args.journal.now.commits c.follow_all.new.registry c.take.new.self c.follow_all.ensures.following c.take.ensures.front
-        c.in_err-feed.ensures.err
+    c.in_err-feed.ensures.err
 
 pub returns-in_err-feed-clause-told : goal.returns-in_err-feed-clause-told
 returns-in_err-feed-clause-told c client a =
@@ -29,12 +29,12 @@ returns-in_err-feed-clause-err c =
 pub returns-clause-following : goal.returns-clause-following
 returns-clause-following c =
     following-taken c.args.journal.now.commits c.follow_all.new.registry c.take.new.self c.args.client c.follow_all.ensures.following
-        c.take.ensures.front c.in_ok-feed.ensures.ok
+    c.take.ensures.front c.in_ok-feed.ensures.ok
 
 pub returns-clause-told : goal.returns-clause-told
 returns-clause-told c client a =
     told-taken c.args.journal.now.commits c.follow_all.new.registry c.take.new.self c.args.client c.follow_all.ensures.following c.take.ensures.front
-        c.in_ok-feed.ensures.ok client a
+    c.in_ok-feed.ensures.ok client a
     ∙ c.follow_all.ensures.told client a
 
 pub returns-clause-feed : goal.returns-clause-feed
@@ -47,6 +47,6 @@ returns-clause-feed c =
 pub returns-clause-taken : goal.returns-clause-taken
 returns-clause-taken c = λ client.
     taken-taken c.args.journal.now.commits c.follow_all.new.registry c.take.new.self c.args.client c.follow_all.ensures.following
-        c.take.ensures.front c.in_ok-feed.ensures.ok
+    c.take.ensures.front c.in_ok-feed.ensures.ok
     c.requires.client c.in_ok-follow_all.ensures.ok client
     ∙ ap (cond (client == c.args.client) (length c.args.journal.now.commits)) (c.follow_all.ensures.taken client)

@@ -11,19 +11,19 @@ subscribe-requires-clause-entered c = c.requires.following.entered c.args.client
 pub returns-clause-following : goal.returns-clause-following
 returns-clause-following c =
     following-tell c.args.journal.now.commits c.args.registry.now c.subscribe.new.self c.args.client c.last_taken-taken.result c.args.address.now
-        c.in_ok-missed.missed
+    c.in_ok-missed.missed
     c.requires.following c.last_taken-taken.ensures.taken
     (missed-from c.args.journal.now.commits c.in_ok-missed.missed c.args.address.now c.last_taken-taken.result c.front-front.result
-        c.args.registry.now.front c.front-front.ensures c.in_ok-missed.ensures)
+    c.args.registry.now.front c.front-front.ensures c.in_ok-missed.ensures)
     c.subscribe.ensures.front c.subscribe.result c.subscribe.ensures.ok c.subscribe.ensures.err
 
 pub returns-clause-taken : goal.returns-clause-taken
 returns-clause-taken c =
     taken-tell c.args.journal.now.commits c.args.registry.now c.subscribe.new.self c.args.client c.last_taken-taken.result c.args.address.now
-        c.in_ok-missed.missed
+    c.in_ok-missed.missed
     c.requires.following c.last_taken-taken.ensures.taken
     (missed-from c.args.journal.now.commits c.in_ok-missed.missed c.args.address.now c.last_taken-taken.result c.front-front.result
-        c.args.registry.now.front c.front-front.ensures c.in_ok-missed.ensures)
+    c.args.registry.now.front c.front-front.ensures c.in_ok-missed.ensures)
     c.subscribe.ensures.front c.subscribe.result c.subscribe.ensures.ok c.subscribe.ensures.err
 
 pub returns-clause-told : goal.returns-clause-told

@@ -10,7 +10,7 @@ returns-clause-below g c j e before here =
     let es = c.args.entries.now in
     let k = c.args.key.now in
     let point = IsPartitionPoint-from_clause (λ p. is_gt (R k p.0)) es c.partition_point.result c.partition_point.ensures.partitioned
-        (partitioned R g.met.K.Ord.total k es c.requires) (λ a r f h. search rules) in
+    (partitioned R g.met.K.Ord.total k es c.requires) (λ a r f h. search rules) in
     greater _ (ap (λ p. is_gt (R k p.0)) (sym (get_or-found es j e e here)) ∙ point.0 j e (omega arith) before)
 
 pub returns-clause-reached : goal.returns-clause-reached
@@ -20,5 +20,5 @@ returns-clause-reached g c e here =
     let k = c.args.key.now in
     let i = c.partition_point.result in
     let point = IsPartitionPoint-from_clause (λ p. is_gt (R k p.0)) es i c.partition_point.ensures.partitioned
-        (partitioned R g.met.K.Ord.total k es c.requires) (λ a r f h. search rules) in
+    (partitioned R g.met.K.Ord.total k es c.requires) (λ a r f h. search rules) in
     ap (λ p. is_gt (R k p.0)) (sym (get_or-found es i e e here)) ∙ point.1 i e (omega arith) (within-get es i e here)

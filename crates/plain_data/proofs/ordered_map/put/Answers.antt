@@ -12,7 +12,7 @@ returns-then-holds_at-clause-ok g c =
     let i = c.place_of-place.result in
     let e = c.index_mut.result.now in
     let lower = subst (λ (xs : List (g.row.K.Denot × g.row.V.Denot)). Below R g.met.K.Ord.total c.args.key xs i) c.as_slice.ensures.value
-        c.place_of-place.ensures.below in
+    c.place_of-place.ensures.below in
     let within : i < length es = subst (λ (xs : List (g.row.K.Denot × g.row.V.Denot)). i < length xs) c.as_slice-2.ensures.value c.if-holds_at.ensures.within in
     let here : slice_get es i ≡ Some e = get-within es i e within ∙ ap (λ p. Some p) (sym c.index_mut.ensures.value) in
     insert_entry-hit R g.met.K.Ord.total c.args.key c.args.value es i e lower here
@@ -24,7 +24,7 @@ returns-clause-ok g c =
     let es = c.args.entries.now.items in
     let i = c.place_of-place.result in
     let lower = subst (λ (xs : List (g.row.K.Denot × g.row.V.Denot)). Below R g.met.K.Ord.total c.args.key xs i) c.as_slice.ensures.value
-        c.place_of-place.ensures.below in
+    c.place_of-place.ensures.below in
     c.in_ok-insert.ensures.items
     ∙ insert_entry-gap R g.met.K.Ord.total c.args.key c.args.value es i lower
     (λ e here. less (R c.args.key e.0)

@@ -8,4 +8,4 @@ use Rattle.rdt_types.proofs.shard.hashed_text.Given as goal
 abbrev pub invariant-loop-byte : goal.invariant-loop-byte
 invariant-loop-byte l =
     fold hashed l.hash (flat_map (λ b. spelled (spelling_of b)) (drop l.byte-index l.text))
-        ≡ fold hashed (hashed l.fn.hash 34) (flat_map (λ b. spelled (spelling_of b)) l.text)
+    ≡ fold hashed (hashed l.fn.hash 34) (flat_map (λ b. spelled (spelling_of b)) l.text)

@@ -13,11 +13,11 @@ of_verb-requires-clause-short c = verb_within c.args.text.now c.in-Ok.verb LONGE
 pub returns-in-Ok-clause-answers : goal.returns-in-Ok-clause-answers
 returns-in-Ok-clause-answers c =
     let after : Option Verb → Type 0 = λ o. Answers c.of_verb.result c.of_verb.new.world.journal
-        (of_asked c.args.limit c.args.world.now.journal c.args.client o) in
+    (of_asked c.args.limit c.args.world.now.journal c.args.client o) in
     subst after (sym (asked_complete c.args.text.now c.in-Ok.verb c.in-Ok.ensures.read)) c.of_verb.ensures.answers
 
 pub returns-in-Err-BadVerb-clause-answers : goal.returns-in-Err-BadVerb-clause-answers
 returns-in-Err-BadVerb-clause-answers c =
     ap (of_asked c.args.limit c.args.world.now.journal c.args.client) (none_asked c.args.text.now
-        (c.in-Err-BadVerb.ensures.bad (let is = c.in-Err-BadVerb.field-0-is in cc)))
+    (c.in-Err-BadVerb.ensures.bad (let is = c.in-Err-BadVerb.field-0-is in cc)))
     ∙ ap (λ r. (c.args.world.now.journal, r)) (sym c.refused.ensures)

@@ -16,22 +16,22 @@ returns-in_err-place-clause-went g c =
 pub returns-in-Quiet-clause-went : goal.returns-in-Quiet-clause-went
 returns-in-Quiet-clause-went g c =
     at-once g.B.Backend.known g.B.Backend.goes c.args.backend.now (start (g.B.Backend.known c.args.backend.now).shards
-        (g.B.Backend.known c.args.backend.now).seen c.args.session.now c.args.line)
+    (g.B.Backend.known c.args.backend.now).seen c.args.session.now c.args.line)
     turn.Quiet c.args.session.now (ap (start (g.B.Backend.known c.args.backend.now).shards
-        (g.B.Backend.known c.args.backend.now).seen c.args.session.now) c.in-Quiet.is)
+    (g.B.Backend.known c.args.backend.now).seen c.args.session.now) c.in-Quiet.is)
 
 pub returns-in-Unbuilt-clause-went : goal.returns-in-Unbuilt-clause-went
 returns-in-Unbuilt-clause-went g c =
     at-once g.B.Backend.known g.B.Backend.goes c.args.backend.now (start (g.B.Backend.known c.args.backend.now).shards
-        (g.B.Backend.known c.args.backend.now).seen c.args.session.now c.args.line)
+    (g.B.Backend.known c.args.backend.now).seen c.args.session.now c.args.line)
     turn.Unbuilt c.args.session.now (ap (start (g.B.Backend.known c.args.backend.now).shards
-        (g.B.Backend.known c.args.backend.now).seen c.args.session.now) c.in-Unbuilt.is)
+    (g.B.Backend.known c.args.backend.now).seen c.args.session.now) c.in-Unbuilt.is)
 
 pub returns-in-Refused-clause-went : goal.returns-in-Refused-clause-went
 returns-in-Refused-clause-went g c =
     let first = start (g.B.Backend.known c.args.backend.now).shards (g.B.Backend.known c.args.backend.now).seen c.args.session.now c.args.line in
     went-by g.B.Backend.known g.B.Backend.goes c.args.backend.now first (Ok (reply.Refused c.in-Refused.reason)) c.said.result c.args.backend.now
-        c.args.session.now c.said.ensures
+    c.args.session.now c.said.ensures
     (at-once g.B.Backend.known g.B.Backend.goes c.args.backend.now first (said (reply.Refused c.in-Refused.reason)) c.args.session.now
     (ap (start (g.B.Backend.known c.args.backend.now).shards (g.B.Backend.known c.args.backend.now).seen c.args.session.now) c.in-Refused.is))
 
@@ -39,7 +39,7 @@ pub returns-in-Drop-clause-went : goal.returns-in-Drop-clause-went
 returns-in-Drop-clause-went g c =
     let first = start (g.B.Backend.known c.args.backend.now).shards (g.B.Backend.known c.args.backend.now).seen c.args.session.now c.args.line in
     went-by g.B.Backend.known g.B.Backend.goes c.args.backend.now first (Ok c.give_up.result) c.said-in-Drop.result c.args.backend.now
-        c.give_up.new.session c.said-in-Drop.ensures
+    c.give_up.new.session c.said-in-Drop.ensures
     (at-once g.B.Backend.known g.B.Backend.goes c.args.backend.now first (said c.give_up.result) c.give_up.new.session
     (ap (start (g.B.Backend.known c.args.backend.now).shards (g.B.Backend.known c.args.backend.now).seen c.args.session.now) c.in-Drop.is
     ∙ c.give_up.ensures (g.B.Backend.known c.args.backend.now).shards (g.B.Backend.known c.args.backend.now).seen))
@@ -48,7 +48,7 @@ pub returns-in-Seen-clause-went : goal.returns-in-Seen-clause-went
 returns-in-Seen-clause-went g c =
     let first = start (g.B.Backend.known c.args.backend.now).shards (g.B.Backend.known c.args.backend.now).seen c.args.session.now c.args.line in
     went-by g.B.Backend.known g.B.Backend.goes c.args.backend.now first (Ok (reply.Seen c.seen.result)) c.said-in-Seen.result c.args.backend.now
-        c.args.session.now c.said-in-Seen.ensures
+    c.args.session.now c.said-in-Seen.ensures
     (at-once g.B.Backend.known g.B.Backend.goes c.args.backend.now first (said (reply.Seen c.seen.result)) c.args.session.now
     (ap (start (g.B.Backend.known c.args.backend.now).shards (g.B.Backend.known c.args.backend.now).seen c.args.session.now) c.in-Seen.is
     ∙ ap (λ n. Phase.over c.args.session.now (said (reply.Seen n))) (sym c.seen.ensures)))
@@ -56,7 +56,7 @@ returns-in-Seen-clause-went g c =
 pub returns-in-Quit-clause-went : goal.returns-in-Quit-clause-went
 returns-in-Quit-clause-went g c =
     at-once g.B.Backend.known g.B.Backend.goes c.args.backend.now (start (g.B.Backend.known c.args.backend.now).shards
-        (g.B.Backend.known c.args.backend.now).seen c.args.session.now c.args.line)
+    (g.B.Backend.known c.args.backend.now).seen c.args.session.now c.args.line)
     (turn.Ended c.placed.result) (closed c.args.session.now)
     (ap (start (g.B.Backend.known c.args.backend.now).shards (g.B.Backend.known c.args.backend.now).seen c.args.session.now) c.in-Quit.is
     ∙ ap (λ replies. Phase.over (closed c.args.session.now) (turn.Ended replies)) (sym c.placed.ensures))

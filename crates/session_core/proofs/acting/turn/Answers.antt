@@ -11,7 +11,7 @@ use Rattle.session_core.proofs.acting.turn.Goals as goal
 pub returns-then-session-clause-went : goal.returns-then-session-clause-went
 returns-then-session-clause-went g c = none-done g.B.Backend.known g.B.Backend.goes c.args.backend.now
     (start (g.B.Backend.known c.args.backend.now).shards (g.B.Backend.known c.args.backend.now).seen c.args.session.now
-        (line_of c.args.bytes.now)) error.NoMemory refl
+    (line_of c.args.bytes.now)) error.NoMemory refl
 
 pub returns-in_err-line-clause-went : goal.returns-in_err-line-clause-went
 returns-in_err-line-clause-went g c =
@@ -28,4 +28,4 @@ returns-in_err-line-clause-attends g c =
 pub returns-clause-attends : goal.returns-clause-attends
 returns-clause-attends g c =
     went-attends g.B.Backend.known g.B.Backend.goes c.args.backend.now c.args.session.now c.in_ok-line.line c.act.result c.act.new.backend
-        c.act.new.session c.requires.attends c.in_ok-line.ensures.ready c.act.ensures.went
+    c.act.new.session c.requires.attends c.in_ok-line.ensures.ready c.act.ensures.went

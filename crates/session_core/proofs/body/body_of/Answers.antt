@@ -15,7 +15,7 @@ pub returns-in-Ok-check-clause-reads : goal.returns-in-Ok-check-clause-reads
 returns-in-Ok-check-clause-reads c =
     reads-checked c.args.read_only c.args.text.now c.in-Ok.body c.in-Ok-check.checked c.in-Ok-check.ensures.body
     (c.in-Ok-check.ensures.source ∙ (c.in_ok-source.ensures ∙ c.trimmed_end.ensures.value)) c.in-Ok.ensures.tree c.in-Ok-check.ensures.typed
-        c.in-Ok-check.ensures.read_only c.in-Ok-check.ensures.writes_none
+    c.in-Ok-check.ensures.read_only c.in-Ok-check.ensures.writes_none
 
 pub returns-in-Ok-check-clause-ready : goal.returns-in-Ok-check-clause-ready
 returns-in-Ok-check-clause-ready c =

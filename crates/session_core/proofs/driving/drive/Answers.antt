@@ -16,10 +16,10 @@ returns-in_err-next-clause-drives g c =
     let p = err_from_is_err_and c.from_residual.result c.from_residual.ensures.1 in
     drives-err g.B.Backend.known g.B.Backend.goes c.args.session.now c.args.attempt c.args.backend.now c.from_residual.result p.0 c.event.new.backend p.1
     (λ left. made-stops g.B.Backend.known g.B.Backend.goes c.args.backend.now
-        (Phase.going c.args.session.now left c.args.attempt) c.loop.counter c.loop.backend c.event.new.backend c.args.session.now left c.loop.attempt
+    (Phase.going c.args.session.now left c.args.attempt) c.loop.counter c.loop.backend c.event.new.backend c.args.session.now left c.loop.attempt
     (c.loop.invariant.led left) p.0
     (subst (λ (e : SessionError). Tries g.B.Backend.known g.B.Backend.goes c.args.session.now c.loop.attempt c.loop.backend e c.event.new.backend)
-        (sym p.2) c.in_err-next.ensures.makes))
+    (sym p.2) c.in_err-next.ensures.makes))
 
 pub returns-in-End-clause-drives : goal.returns-in-End-clause-drives
 returns-in-End-clause-drives g c = λ left. record {
@@ -29,20 +29,20 @@ returns-in-End-clause-drives g c = λ left. record {
       c.loop.backend c.event.new.backend c.args.session.now left c.loop.attempt
       (c.loop.invariant.led left) c.in-End.last c.in-End.reply
       (subst (λ (m : Moved). Moves g.B.Backend.known g.B.Backend.goes c.args.session.now c.loop.attempt c.loop.backend m c.event.new.backend)
-          c.in-End.is c.in_ok-next.ensures.makes);
+      c.in-End.is c.in_ok-next.ensures.makes);
 }
 
 pub loop-preserved : goal.loop-preserved
 loop-preserved g c =
     let m : Moves g.B.Backend.known g.B.Backend.goes c.args.session.now c.loop.attempt c.loop.backend
-        (moved.More c.in-More.next c.in-More.field-1) c.event.new.backend =
+    (moved.More c.in-More.next c.in-More.field-1) c.event.new.backend =
     subst (λ (m : Moved). Moves g.B.Backend.known g.B.Backend.goes c.args.session.now c.loop.attempt c.loop.backend m c.event.new.backend)
-        c.in-More.is c.in_ok-next.ensures.makes in
+    c.in-More.is c.in_ok-next.ensures.makes in
     let led = λ (left : ℕ). more-led g.B.Backend.known g.B.Backend.goes c.args.backend.now
-        (Phase.going c.args.session.now left c.args.attempt) c.loop.counter c.loop.backend c.event.new.backend c.args.session.now left c.loop.attempt
+    (Phase.going c.args.session.now left c.args.attempt) c.loop.counter c.loop.backend c.event.new.backend c.args.session.now left c.loop.attempt
     (c.loop.invariant.led left) c.in-More.next c.in-More.field-1 m in
     let h = led-holds g.B.Backend.known g.B.Backend.goes c.args.backend.now (Phase.going c.args.session.now 0 c.args.attempt)
-        (c.loop.counter + 1) c.event.new.backend (Phase.going c.args.session.now 0 c.in-More.next)
+    (c.loop.counter + 1) c.event.new.backend (Phase.going c.args.session.now 0 c.in-More.next)
     (c.requires.attends, c.requires.holds) (led 0) in
     record { led = led; attends = h.0; holds = h.1; home = c.event.ensures.home ∙ c.loop.invariant.home }
 

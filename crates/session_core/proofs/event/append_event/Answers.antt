@@ -15,14 +15,14 @@ pub returns-in_err-ready-clause-makes : goal.returns-in_err-ready-clause-makes
 returns-in_err-ready-clause-makes g c =
     let p = err_from_is_err_and c.from_residual.result c.from_residual.ensures.1 in
     unmade g.B.Backend.known g.B.Backend.goes c.args.session.now c.args.attempt c.args.backend.now c.from_residual.result p.0 p.1
-        (p.2 ∙ c.in_err-ready.ensures.err c.in_err-ready.field-0.0 refl)
+    (p.2 ∙ c.in_err-ready.ensures.err c.in_err-ready.field-0.0 refl)
 
 pub append-answer-requires : goal.append-answer-requires
 append-answer-requires g c =
     let e : c.in_ok-ready.ready ≡ ready_of c.args.attempt c.args.run c.args.session.now.client c.args.session.now.seq = c.in_ok-ready.ensures.ok in
     subst (CanAppend (g.B.Backend.known c.args.backend.now)) (sym e)
     (can-append (g.B.Backend.known c.args.backend.now) (closed c.args.session.now) c.args.attempt c.args.run c.requires.attends c.requires.holds
-        c.in_ok-ready.ensures.few c.requires.next)
+    c.in_ok-ready.ensures.few c.requires.next)
 
 pub after_append-requires : goal.after_append-requires
 after_append-requires g c = c.requires.next ∙ ap (λ (r : Ready). next.Append r.run) (sym c.in_ok-ready.ensures.ok)
@@ -31,8 +31,8 @@ pub returns-clause-makes : goal.returns-clause-makes
 returns-clause-makes g c =
     let e : c.in_ok-ready.ready ≡ ready_of c.args.attempt c.args.run c.args.session.now.client c.args.session.now.seq = c.in_ok-ready.ensures.ok in
     answered g.B.Backend.known g.B.Backend.goes c.args.session.now c.args.attempt c.args.backend.now c.append-answer.new.self
-        (next.Append c.args.run) (commit_answered c.append-answer.result) c.after_append.result
+    (next.Append c.args.run) (commit_answered c.append-answer.result) c.after_append.result
     c.requires.next
     (subst (λ (r : Ready). Goes g.B.Backend.known g.B.Backend.goes c.args.backend.now (append r)
-        (commit_answered c.append-answer.result) c.append-answer.new.self) e c.append-answer.ensures.goes)
+    (commit_answered c.append-answer.result) c.append-answer.new.self) e c.append-answer.ensures.goes)
     c.after_append.ensures

@@ -7,4 +7,4 @@ pub returns-in_err-address-clause-makes : goal.returns-in_err-address-clause-mak
 returns-in_err-address-clause-makes g c =
     let p = err_from_is_err_and c.from_residual.result c.from_residual.ensures.1 in
     unmade g.B.Backend.known g.B.Backend.goes c.args.session.now c.args.attempt c.args.backend.now c.from_residual.result p.0 p.1
-        (p.2 ∙ c.in_err-address.ensures.err c.in_err-address.field-0.0 refl)
+    (p.2 ∙ c.in_err-address.ensures.err c.in_err-address.field-0.0 refl)

@@ -10,7 +10,7 @@ pub returns-in_err-shown-clause-makes : goal.returns-in_err-shown-clause-makes
 returns-in_err-shown-clause-makes g c =
     let p = err_from_is_err_and c.from_residual.result c.from_residual.ensures.1 in
     unmade g.B.Backend.known g.B.Backend.goes c.args.session.now c.args.attempt c.args.backend.now c.from_residual.result p.0 p.1
-        (p.2 ∙ c.in_err-shown.ensures.err c.in_err-shown.field-0.0 refl)
+    (p.2 ∙ c.in_err-shown.ensures.err c.in_err-shown.field-0.0 refl)
 
 pub read-answer-requires : goal.read-answer-requires
 read-answer-requires g c = short-need c.args.attempt c.args.address c.requires.next

@@ -9,9 +9,9 @@ pub returns-in_err-seen-clause-replies : goal.returns-in_err-seen-clause-replies
 returns-in_err-seen-clause-replies g c =
     let p = err_from_is_err_and c.from_residual.result c.from_residual.ensures.1 in
     replies-err g.B.Backend.known g.B.Backend.goes c.args.backend.now (Phase.looking c.args.session.now c.args.upto c.args.body.now)
-        c.from_residual.result p.0 c.refresh.new.self c.args.session.now p.1
+    c.from_residual.result p.0 c.refresh.new.self c.args.session.now p.1
     (refresh-stops g.B.Backend.known g.B.Backend.goes c.args.backend.now (Phase.looking c.args.session.now c.args.upto c.args.body.now) 0
-        c.args.backend.now (Phase.looking c.args.session.now c.args.upto c.args.body.now)
+    c.args.backend.now (Phase.looking c.args.session.now c.args.upto c.args.body.now)
     p.0 c.in_err-seen.field-0.0 c.refresh.new.self refl (λ f. refl) p.2 Leads.stays c.in_err-seen.ensures.goes)
 
 pub look_at-requires-clause-attends : goal.look_at-requires-clause-attends
@@ -26,17 +26,17 @@ pub returns-then-seen-number-clause-replies : goal.returns-then-seen-number-clau
 returns-then-seen-number-clause-replies g c =
     let h = c.in-Some.is in rw h
     (looked-ahead g.B.Backend.known g.B.Backend.goes c.args.backend.now c.args.session.now c.args.body.now c.in_ok-seen.seen c.in-Some.number
-        c.refresh.new.self (let h = c.if-seen-number.true in omega arith) c.in_ok-seen.ensures.goes)
+    c.refresh.new.self (let h = c.if-seen-number.true in omega arith) c.in_ok-seen.ensures.goes)
 
 pub returns-in-None-clause-replies : goal.returns-in-None-clause-replies
 returns-in-None-clause-replies g c =
     looked-from g.B.Backend.known g.B.Backend.goes c.args.backend.now c.args.session.now c.args.upto c.args.body.now c.in_ok-seen.seen
-        c.in_ok-seen.seen c.refresh.new.self c.look_at.new.backend c.look_at.result
+    c.in_ok-seen.seen c.refresh.new.self c.look_at.new.backend c.look_at.result
     (let h = c.in-None.is in rw h refl) c.in_ok-seen.ensures.goes c.look_at.ensures.looks
 
 pub returns-else-seen-number-clause-replies : goal.returns-else-seen-number-clause-replies
 returns-else-seen-number-clause-replies g c =
     looked-from g.B.Backend.known g.B.Backend.goes c.args.backend.now c.args.session.now c.args.upto c.args.body.now c.in_ok-seen.seen
-        c.in-Some.number c.refresh.new.self c.look_at-in-Some.new.backend c.look_at-in-Some.result
+    c.in-Some.number c.refresh.new.self c.look_at-in-Some.new.backend c.look_at-in-Some.result
     (let h = c.in-Some.is in rw h (not-ahead g.B.Backend.known g.B.Backend.goes c.args.session.now c.args.body.now c.in_ok-seen.seen c.in-Some.number
-        (let k = c.if-seen-number.false in omega arith))) c.in_ok-seen.ensures.goes c.look_at-in-Some.ensures.looks
+    (let k = c.if-seen-number.false in omega arith))) c.in_ok-seen.ensures.goes c.look_at-in-Some.ensures.looks

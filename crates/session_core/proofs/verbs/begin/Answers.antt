@@ -8,21 +8,21 @@ use Rattle.session_core.proofs.verbs.begin.Goals as goal
 pub returns-then-is_some-clause-replies : goal.returns-then-is_some-clause-replies
 returns-then-is_some-clause-replies g c =
     busy g.B.Backend.known g.B.Backend.goes c.args.session.now c.args.backend.now
-        (Phase.beginning (closed c.args.session.now) (opened (g.B.Backend.known c.args.backend.now).shards c.args.body))
+    (Phase.beginning (closed c.args.session.now) (opened (g.B.Backend.known c.args.backend.now).shards c.args.body))
     (sym c.is_some.ensures ∙ c.if-is_some.true)
 
 pub returns-in_err-seen-clause-replies : goal.returns-in_err-seen-clause-replies
 returns-in_err-seen-clause-replies g c =
     let p = err_from_is_err_and c.from_residual.result c.from_residual.ensures.1 in
     replies-err g.B.Backend.known g.B.Backend.goes c.args.backend.now (unless_open c.args.session.now
-        (Phase.beginning (closed c.args.session.now) (opened (g.B.Backend.known c.args.backend.now).shards c.args.body)))
+    (Phase.beginning (closed c.args.session.now) (opened (g.B.Backend.known c.args.backend.now).shards c.args.body)))
     c.from_residual.result p.0 c.refresh.new.self c.args.session.now p.1
     (begin-fails g.B.Backend.known g.B.Backend.goes c.args.session.now c.args.backend.now c.refresh.new.self
-        (opened (g.B.Backend.known c.args.backend.now).shards c.args.body) p.0 c.in_err-seen.field-0.0
+    (opened (g.B.Backend.known c.args.backend.now).shards c.args.body) p.0 c.in_err-seen.field-0.0
     (free g.B.Backend.known g.B.Backend.goes c.args.session.now (sym c.is_some.ensures ∙ c.if-is_some.false)) p.2 c.in_err-seen.ensures.goes)
 
 pub returns-clause-replies : goal.returns-clause-replies
 returns-clause-replies g c =
     begins g.B.Backend.known g.B.Backend.goes c.args.session.now c.args.backend.now c.refresh.new.self
-        (opened (g.B.Backend.known c.args.backend.now).shards c.args.body) c.opened-attempt.result c.in_ok-seen.seen
+    (opened (g.B.Backend.known c.args.backend.now).shards c.args.body) c.opened-attempt.result c.in_ok-seen.seen
     (free g.B.Backend.known g.B.Backend.goes c.args.session.now (sym c.is_some.ensures ∙ c.if-is_some.false)) c.opened-attempt.ensures c.in_ok-seen.ensures.goes

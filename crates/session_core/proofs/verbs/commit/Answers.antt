@@ -10,7 +10,7 @@ use Rattle.session_core.proofs.verbs.commit.Goals as goal
 pub returns-then-is_some-clause-replies : goal.returns-then-is_some-clause-replies
 returns-then-is_some-clause-replies g c =
     busy g.B.Backend.known g.B.Backend.goes c.args.session.now c.args.backend.now
-        (Phase.trying (closed c.args.session.now) (c.args.tries - 1) (opened (g.B.Backend.known c.args.backend.now).shards c.args.body))
+    (Phase.trying (closed c.args.session.now) (c.args.tries - 1) (opened (g.B.Backend.known c.args.backend.now).shards c.args.body))
     (sym c.is_some.ensures ∙ c.if-is_some.true)
 
 pub returns-in_err-reply-clause-replies : goal.returns-in_err-reply-clause-replies
@@ -18,19 +18,19 @@ returns-in_err-reply-clause-replies g c =
     let p = err_from_is_err_and c.from_residual.result c.from_residual.ensures.1 in
     replies-err g.B.Backend.known g.B.Backend.goes c.args.backend.now
     (unless_open c.args.session.now (Phase.trying (closed c.args.session.now) (c.args.tries - 1)
-        (opened (g.B.Backend.known c.args.backend.now).shards c.args.body)))
+    (opened (g.B.Backend.known c.args.backend.now).shards c.args.body)))
     c.from_residual.result p.0 c.try_times.new.backend c.args.session.now p.1
     (commit-fails g.B.Backend.known g.B.Backend.goes c.args.session.now c.args.backend.now c.try_times.new.backend
-        (opened (g.B.Backend.known c.args.backend.now).shards c.args.body) c.opened-attempt.result
+    (opened (g.B.Backend.known c.args.backend.now).shards c.args.body) c.opened-attempt.result
     (c.args.tries - 1) p.0 (free g.B.Backend.known g.B.Backend.goes c.args.session.now (sym c.is_some.ensures ∙ c.if-is_some.false)) c.opened-attempt.ensures
     (subst (λ (e : SessionError). Closes g.B.Backend.known g.B.Backend.goes c.args.session.now c.args.backend.now
-        (Phase.trying c.args.session.now (c.args.tries - 1) c.opened-attempt.result) (Err e) c.try_times.new.backend)
+    (Phase.trying c.args.session.now (c.args.tries - 1) c.opened-attempt.result) (Err e) c.try_times.new.backend)
     (sym p.2) c.in_err-reply.ensures.closes))
 
 pub returns-clause-replies : goal.returns-clause-replies
 returns-clause-replies g c =
     commits g.B.Backend.known g.B.Backend.goes c.args.session.now c.args.backend.now c.try_times.new.backend
-        (opened (g.B.Backend.known c.args.backend.now).shards c.args.body) c.opened-attempt.result
+    (opened (g.B.Backend.known c.args.backend.now).shards c.args.body) c.opened-attempt.result
     (c.args.tries - 1) c.next_seq-session.result c.in_ok-reply.reply (free g.B.Backend.known g.B.Backend.goes c.args.session.now
-        (sym c.is_some.ensures ∙ c.if-is_some.false)) c.opened-attempt.ensures
+    (sym c.is_some.ensures ∙ c.if-is_some.false)) c.opened-attempt.ensures
     c.next_seq-session.ensures c.in_ok-reply.ensures.closes

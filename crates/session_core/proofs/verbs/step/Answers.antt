@@ -11,32 +11,32 @@ use Rattle.session_core.proofs.verbs.step.Goals as goal
 pub returns-in-None-clause-replies : goal.returns-in-None-clause-replies
 returns-in-None-clause-replies g c =
     none-open g.B.Backend.known g.B.Backend.goes c.args.session.now c.take.new.self c.take.ensures.after c.args.backend.now
-        (Phase.stepping (closed c.args.session.now))
+    (Phase.stepping (closed c.args.session.now))
     (sym c.take.ensures.value ∙ c.in-None.is)
 
 pub returns-in_err-attempt-in-Some-clause-replies : goal.returns-in_err-attempt-in-Some-clause-replies
 returns-in_err-attempt-in-Some-clause-replies g c =
     let p = err_from_is_err_and c.from_residual.result c.from_residual.ensures.1 in
     replies-err g.B.Backend.known g.B.Backend.goes c.args.backend.now (if_open c.args.session.now (Phase.stepping (closed c.args.session.now)))
-        c.from_residual.result p.0 c.event.new.backend
+    c.from_residual.result p.0 c.event.new.backend
     (with_attempt c.args.session.now c.take.new.self) p.1
     (step-err g.B.Backend.known g.B.Backend.goes c.args.session.now c.take.new.self c.take.ensures.after c.in-Some.attempt c.args.backend.now
-        c.event.new.backend p.0 (sym c.take.ensures.value ∙ c.in-Some.is)
+    c.event.new.backend p.0 (sym c.take.ensures.value ∙ c.in-Some.is)
     (subst (λ (e : SessionError). Tries g.B.Backend.known g.B.Backend.goes (with_attempt c.args.session.now c.take.new.self) c.in-Some.attempt
-        c.args.backend.now e c.event.new.backend) (sym p.2) c.in_err-attempt-in-Some.ensures.makes))
+    c.args.backend.now e c.event.new.backend) (sym p.2) c.in_err-attempt-in-Some.ensures.makes))
 
 pub returns-in-More-clause-replies : goal.returns-in-More-clause-replies
 returns-in-More-clause-replies g c =
     step-goes-on g.B.Backend.known g.B.Backend.goes c.args.session.now c.take.new.self c.take.ensures.after c.in-Some.attempt c.in-More.attempt
-        c.in-More.reply c.args.backend.now c.event.new.backend
+    c.in-More.reply c.args.backend.now c.event.new.backend
     (sym c.take.ensures.value ∙ c.in-Some.is)
     (subst (λ (m : Moved). Moves g.B.Backend.known g.B.Backend.goes (with_attempt c.args.session.now c.take.new.self) c.in-Some.attempt
-        c.args.backend.now m c.event.new.backend) c.in-More.is c.in_ok-attempt-in-Some.ensures.makes)
+    c.args.backend.now m c.event.new.backend) c.in-More.is c.in_ok-attempt-in-Some.ensures.makes)
 
 pub returns-clause-replies : goal.returns-clause-replies
 returns-clause-replies g c =
     step-ends g.B.Backend.known g.B.Backend.goes c.args.session.now c.take.new.self c.take.ensures.after c.in-Some.attempt c.in-End.field-0
-        c.in-End.reply c.next_seq-session.result c.args.backend.now c.event.new.backend
+    c.in-End.reply c.next_seq-session.result c.args.backend.now c.event.new.backend
     (sym c.take.ensures.value ∙ c.in-Some.is) c.next_seq-session.ensures
     (subst (λ (m : Moved). Moves g.B.Backend.known g.B.Backend.goes (with_attempt c.args.session.now c.take.new.self) c.in-Some.attempt
-        c.args.backend.now m c.event.new.backend) c.in-End.is c.in_ok-attempt-in-Some.ensures.makes)
+    c.args.backend.now m c.event.new.backend) c.in-End.is c.in_ok-attempt-in-Some.ensures.makes)

@@ -46,7 +46,7 @@ returns-clause-ok c =
     ∙ ap (λ m. cond (is_at (address_cmp change.address) a) (Some put) (get address_cmp m a)) c.get_mut.follows.holds-at-none)
     (c.in_ok-change.ensures.ok
     ∙ ap (λ h. trimmed h (changed change.number change.delta c.new-versions.result))
-        (c.horizon_of-horizon.ensures ∙ ap (horizon_at c.args.window) c.saturating_sub.ensures)
+    (c.horizon_of-horizon.ensures ∙ ap (horizon_at c.args.window) c.saturating_sub.ensures)
     ∙ ap (followed c.args.window change)
     (c.new-versions.ensures ∙ ap (λ (v : Value). unversioned v) c.default_value-base.ensures
     ∙ ap (λ (o : Option Versioned). unwrap_or o (unchanged change.address)) c.in_default.ensures.value))

@@ -11,4 +11,4 @@ witness_of-requires-clause-hit g c =
     let numbered : AreNumbered c.commits.result.now = rw c.commits.ensures.commits c.commits.ensures.numbered in
     rw (commits, based)
     (least-hits c.args.self.now.shards c.args.ready.now.fronts c.args.ready.now.based c.args.self.now.commits c.args.found.now
-        (subst AreNumbered commits numbered) c.requires.found)
+    (subst AreNumbered commits numbered) c.requires.found)

@@ -10,4 +10,4 @@ returns-clause-rises c =
     let log = c.self.inside in
     rw c.in_shard.ensures (rw c.as_slice.ensures.value (rw (c.self.invariant.theirs.theirs c.args.shard)
     (rises-filter (λ change. shard_of change.address log.shards == c.args.shard) 0 (changes log.commits.0)
-        (changes-rise 0 log.commits.0 c.self.invariant.numbered))))
+    (changes-rise 0 log.commits.0 c.self.invariant.numbered))))

@@ -46,7 +46,7 @@ returns-clause-front c = c.length-end.ensures ∙ ap (λ (o : Stored). length o.
 pub returns-clause-ok : goal.returns-clause-ok
 returns-clause-ok c =
     followed-to c.self.inside.settings c.self.inside.journal c.self.inside.shards.items c.self.inside.seens c.self.inside.registry c.self.invariant
-        c.args.client c.requires.client c.args.shard c.follow_at.new.shards.items c.set.new.self c.length-end.result c.length-end.ensures
-        c.in_ok-follow_at.ensures.ok (c.set.ensures ∙ ap (set c.self.inside.seens c.args.client) c.max.ensures
-        ∙ ap (λ (n : ℕ). set c.self.inside.seens c.args.client (max n c.length-end.result)) (ap (λ ns. get_or ns c.args.client 0) c.as_slice.ensures))
+    c.args.client c.requires.client c.args.shard c.follow_at.new.shards.items c.set.new.self c.length-end.result c.length-end.ensures
+    c.in_ok-follow_at.ensures.ok (c.set.ensures ∙ ap (set c.self.inside.seens c.args.client) c.max.ensures
+    ∙ ap (λ (n : ℕ). set c.self.inside.seens c.args.client (max n c.length-end.result)) (ap (λ ns. get_or ns c.args.client 0) c.as_slice.ensures))
     ∙ ap (λ (o : Stored). followed (store_of o) c.args.client c.args.shard) c.self.view_is

@@ -11,20 +11,20 @@ hush-requires c = record { following = c.self.invariant.following }
 pub invariant_of-self : goal.invariant_of-self
 invariant_of-self c =
     stays c.self.inside.settings c.self.inside.journal c.self.inside.shards.items c.self.inside.seens c.self.inside.registry c.self.invariant
-        c.args.client c.requires.client
+    c.args.client c.requires.client
     c.self.inside.journal c.self.inside.shards.items c.self.inside.seens c.hush.new.registry (Call.unsubscribe c.args.address.now)
-        (Answer.done) c.requires.short
+    (Answer.done) c.requires.short
     (ap (λ (s : Store). let p : Store × Answer = (s, Answer.done) in p) (telling-to c.self.inside.settings c.self.inside.journal
-        c.self.inside.shards.items c.self.inside.seens c.self.inside.registry c.self.invariant c.args.client c.requires.client c.args.address.now
-        false c.hush.new.registry c.hush.ensures.told c.hush.ensures.taken))
+    c.self.inside.shards.items c.self.inside.seens c.self.inside.registry c.self.invariant c.args.client c.requires.client c.args.address.now
+    false c.hush.new.registry c.hush.ensures.told c.hush.ensures.taken))
     refl refl c.self.invariant.held c.hush.ensures.following
 
 pub returns : goal.returns
 returns c =
     goes c.self.inside.settings c.self.inside.journal c.self.inside.shards.items c.self.inside.seens c.self.inside.registry c.self.invariant
-        c.args.client c.requires.client
+    c.args.client c.requires.client
     c.args.self.now (stored c.self.inside.settings c.self.inside.journal.commits c.self.inside.shards.items c.self.inside.seens c.hush.new.registry)
-        (Call.unsubscribe c.args.address.now) (Answer.done) c.self.view_is c.requires.short
+    (Call.unsubscribe c.args.address.now) (Answer.done) c.self.view_is c.requires.short
     (λ can. ap (λ (s : Store). let p : Store × Answer = (s, Answer.done) in p)
-        (telling-to c.self.inside.settings c.self.inside.journal c.self.inside.shards.items c.self.inside.seens c.self.inside.registry
-        c.self.invariant c.args.client c.requires.client c.args.address.now false c.hush.new.registry c.hush.ensures.told c.hush.ensures.taken))
+    (telling-to c.self.inside.settings c.self.inside.journal c.self.inside.shards.items c.self.inside.seens c.self.inside.registry
+    c.self.invariant c.args.client c.requires.client c.args.address.now false c.hush.new.registry c.hush.ensures.told c.hush.ensures.taken))

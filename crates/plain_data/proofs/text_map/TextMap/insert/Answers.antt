@@ -13,5 +13,5 @@ pub returns-clause-ok : goal.returns-clause-ok
 returns-clause-ok g c =
     on_ok_weaker c.insert.result
     (λ is. from_sorted-put text_cmp nat_list_cmp_total _ _ _ _ c.self.invariant (invariant_of-self g c) is
-        ∙ ap (λ m. map.insert m c.args.key c.args.value) c.self.view_is)
+    ∙ ap (λ m. map.insert m c.args.key c.args.value) c.self.view_is)
     c.insert.ensures.ok

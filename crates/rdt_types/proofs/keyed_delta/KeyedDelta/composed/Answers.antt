@@ -9,4 +9,4 @@ invariant_of-result g c =
     let left = g.M.Leaves.left in
     subst (λ (m : MapOf g.row.M.Denot). T (has_form left (record { cleared = c.self.inside.cleared; marks = m }))) (sym c.in_ok-marks.ensures)
     (form-composed left (record { cleared = c.self.inside.cleared; marks = c.self.inside.marks })
-        (record { cleared = c.second.inside.cleared; marks = c.second.inside.marks }) c.if-second.false c.self.invariant c.second.invariant)
+    (record { cleared = c.second.inside.cleared; marks = c.second.inside.marks }) c.if-second.false c.self.invariant c.second.invariant)

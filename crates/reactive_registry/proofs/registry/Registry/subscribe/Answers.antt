@@ -14,6 +14,6 @@ invariant_of-self-in-Some c =
     c.self.invariant (sym c.in-Some.ensures.value)
     (((c.get_mut.follows.holds kept').3 (ap is_some (sym c.in-Some.ensures.value))).0)
     (subst (UpTo inside.front) (sym c.as_slice.ensures) (subst (λ n. UpTo n missed.changes) front
-        (up_to-tail missed.from missed.to missed.changes missed.in_order)))
+    (up_to-tail missed.from missed.to missed.changes missed.in_order)))
     c.subscribe_pair.ensures.kept c.subscribe_pair.ensures.has c.subscribe_pair.ensures.places
     c.subscribe_pair.ensures.as_kept c.subscribe_pair.ensures.as_placed

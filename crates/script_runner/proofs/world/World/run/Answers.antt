@@ -8,7 +8,7 @@ use Rattle.script_runner.proofs.world.World.run.Goals as goal
 pub returns-in-Done : goal.returns-in-Done
 returns-in-Done c =
     run_on_state c.args.body.now.body (left_by c.args.self.now.journal) c.loop-snaps.snaps c.in-Done.run' c.loop-snaps.invariant
-        (sym c.in_ok-run.ensures ∙ ap ran_of c.in-Done.is)
+    (sym c.in_ok-run.ensures ∙ ap ran_of c.in-Done.is)
 
 -- what it needs is new
 pub snap-requires-clause-new : goal.snap-requires-clause-new

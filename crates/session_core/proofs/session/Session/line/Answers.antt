@@ -8,7 +8,7 @@ use Rattle.session_core.proofs.session.Session.line.Goals as goal
 pub returns-in_default-turn-clause-follows : goal.returns-in_default-turn-clause-follows
 returns-in_default-turn-clause-follows g c = follows-on (g.B.Backend.known c.turn-turn.new.backend) c.turn-turn.new.session
     (where-ok c.turn-turn.result (Attends (g.B.Backend.known c.turn-turn.new.backend) c.turn-turn.new.session) c.in_default-turn.not-Err
-        c.turn-turn.ensures.attends)
+    c.turn-turn.ensures.attends)
 
 pub returns-in-Err-clause-fault : goal.returns-in-Err-clause-fault
 returns-in-Err-clause-fault g c = λ h. inr (went-fault g.B.Backend.known g.B.Backend.goes c.args.backend.now c.args.self.now

@@ -45,7 +45,7 @@ returns-in-Err-clause-holds c =
     let old : Sharded = record { number = inside.number; shards = inside.shards; window = inside.window; front = inside.front; kept = inside.kept.entries } in
     let new : Sharded = record old { front = c.in-Err.front; kept = c.reach.new.kept.entries } in
     subst (λ (s : Sharded). (journal : Journal) → IsNext journal s tail → Holds (take s.front journal) s
-        → Holds (take c.in-Err.front journal) new) c.self.view_is
+    → Holds (take c.in-Err.front journal) new) c.self.view_is
     (λ journal next holds.
     held-after journal old new tail c.self.invariant (record { number = refl; shards = refl; window = refl }) next holds
     (omega (arith, from, low)) within.1 c.in-Err.ensures.err)

@@ -21,9 +21,11 @@ returns-in_ok-witness_of-in-Some-least_hit-clause-answers g c journal holds =
     let hit : Hit = (c.in-Some-least_hit.hit.based.now, c.in-Some-least_hit.hit.version.now) in
     let timely : late shard based ≡ None = sym (c.in_default.ensures ∙ ap (λ h. late_base h (least_base based)) c.horizon-horizon.ensures) in
     let found : least_hit shard.kept based ≡ Some hit =
-    sym (c.in-Some-least_hit.ensures.least ∙ ap (λ (s : Sharded). least_hit s.kept based) c.self.view_is) in
-    (timely, names-least journal shard holds based c.requires.here timely hit c.in_ok-witness_of-in-Some-least_hit.field-0 found
-        c.in_ok-witness_of-in-Some-least_hit.ensures)
+    sym (c.in-Some-least_hit.ensures.least ∙ ap (λ (s : Sharded). least_hit s.kept based) c.self.view_is) in (
+      timely,
+      names-least journal shard holds based c.requires.here timely hit c.in_ok-witness_of-in-Some-least_hit.field-0 found
+          c.in_ok-witness_of-in-Some-least_hit.ensures,
+    )
 
 pub returns-in_err-witness_of-in-Some-least_hit-clause-answers : goal.returns-in_err-witness_of-in-Some-least_hit-clause-answers
 returns-in_err-witness_of-in-Some-least_hit-clause-answers g c journal holds =
@@ -50,7 +52,7 @@ returns-in_ok-witness_of-in-Some-least_hit-clause-steps g c journal holds =
     let based = c.args.based.now in
     let timely : late shard based ≡ None = sym (c.in_default.ensures ∙ ap (λ h. late_base h (least_base based)) c.horizon-horizon.ensures) in
     let same = ap (λ (s : Sharded). most_steps s.kept based) c.self.view_is
-        ∙ steps-same journal shard holds based c.requires.here (in_time (horizon shard) based timely) in
+    ∙ steps-same journal shard holds based c.requires.here (in_time (horizon shard) based timely) in
     let few = c.least_hit.ensures.steps in
     omega (arith, same, few)
 
@@ -60,7 +62,7 @@ returns-in_err-witness_of-in-Some-least_hit-clause-steps g c journal holds =
     let based = c.args.based.now in
     let timely : late shard based ≡ None = sym (c.in_default.ensures ∙ ap (λ h. late_base h (least_base based)) c.horizon-horizon.ensures) in
     let same = ap (λ (s : Sharded). most_steps s.kept based) c.self.view_is
-        ∙ steps-same journal shard holds based c.requires.here (in_time (horizon shard) based timely) in
+    ∙ steps-same journal shard holds based c.requires.here (in_time (horizon shard) based timely) in
     let few = c.least_hit.ensures.steps in
     omega (arith, same, few)
 
@@ -70,6 +72,6 @@ returns-in-None-clause-steps g c journal holds =
     let based = c.args.based.now in
     let timely : late shard based ≡ None = sym (c.in_default.ensures ∙ ap (λ h. late_base h (least_base based)) c.horizon-horizon.ensures) in
     let same = ap (λ (s : Sharded). most_steps s.kept based) c.self.view_is
-        ∙ steps-same journal shard holds based c.requires.here (in_time (horizon shard) based timely) in
+    ∙ steps-same journal shard holds based c.requires.here (in_time (horizon shard) based timely) in
     let few = c.least_hit.ensures.steps in
     omega (arith, same, few)

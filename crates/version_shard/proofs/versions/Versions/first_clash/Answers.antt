@@ -21,7 +21,7 @@ loop-version-init g c =
     ∙ ap (λ n. take (n - from.result) (drop from.result all)) len
     ∙ all_behind all from.result
     ∙ sym (filter-back (λ version. nat_le version.number base) (λ version. nat_lt base version.number)
-        (λ version. later base version.number) all from.result point (omega (arith, len, bound)))
+    (λ version. later base version.number) all from.result point (omega (arith, len, bound)))
     ∙ ap (λ (v : Versioned). past base v.later) c.self.view_is
     in
     let same = ap length past_is in
