@@ -1,0 +1,3 @@
+pub mod Stale
+pub mod Shown
+pub mod CacheRuns

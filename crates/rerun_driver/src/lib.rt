@@ -1,0 +1,21 @@
+//! The watches of a client: bodies that are run anew once a change touches what their last run observed. A [`Driver`] keeps
+//! them in the order of their making; it is told of feeds, names the first watch that is stale, runs its body on the values of
+//! a cache, and takes the report. It stands on `txn_eval` and `client_cache`; a client's session will stand on it.
+//!
+//! Read first `specs/Watches.antt` (what is kept of a watch, what a feed does to it, and what is run next) and then
+//! `specs/Touched.antt` (the law that the stale watches are those that commits touched).
+#![tactic(auto)]
+
+mod driver;
+mod laws;
+mod rerun;
+mod touching;
+mod watch;
+
+pub use driver::Driver;
+pub use laws::stale_is_touched;
+pub use rerun::{Rerun, run_on};
+pub use watch::Watch;
+
+#[cfg(test)]
+mod tests;

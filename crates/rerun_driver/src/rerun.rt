@@ -1,0 +1,83 @@
+//! Runs on the values of a cache.
+
+ghost use Rattle.std.specs.Prelude.{◌≡◌, OnOk, IfOk};
+ghost use Rattle.std.specs.BTreeMap.{insert_entry};
+ghost use Rattle.rdt_types.specs.Addresses.{address_cmp};
+ghost use Rattle.client_cache.specs.Cached.{held};
+ghost use Rattle.txn_lang.specs.Execution.{exec};
+ghost use Rattle.txn_eval.specs.Running.{ran_of};
+ghost use Rattle.rerun_driver.specs.Watches.{rerun_of};
+
+use client_cache::Cache;
+use plain_data::{ExactClone, Text};
+use rdt_types::{Address, Value};
+use std::alloc::{AllocError, Global};
+use txn_eval::{Step, run};
+use txn_lang::{Checked, Run, Snap, Snaps};
+
+/// More often than this no body runs to be done: each run before needed a value, and reading one takes one of 10,000 ticks.
+const MOST_RUNS: u64 = 10_001;
+
+/// What the next rerun comes to.
+#[derive(Debug, Drop)]
+pub enum Rerun {
+    /// It needs the value at an address, which the cache doesn't hold.
+    Need(Address),
+    /// The first stale watch has run: its name, and its run.
+    Ran(Text, Run),
+    /// No watch is stale.
+    NoneLeft,
+}
+
+/// A copy, which equals its original.
+fn copied<T: ExactClone>(original: &T) -> Result<T, AllocError>
+    ensures { IfOk result (λ copy. copy ≡ original.now) }
+{
+    original.clone()
+}
+
+/// Takes a copy of a value among those that a run rests on.
+fn take_value(
+    snaps: &mut Snaps,
+    address: Address,
+    base: u64,
+    value: &Value,
+) -> Result<(), AllocError>
+    ensures { OnOk result (snaps.new ≡ insert_entry address_cmp snaps.old address (record { base = base; value = value.now })) }
+{
+    let value = copied(value)?;
+    snaps.insert(address, Snap { base, value })?;
+    Ok(())
+}
+
+/// Runs a body on the values of a cache. What it needs is taken from there, until it is done or needs what isn't held.
+pub fn run_on(alloc: Global, body: &Checked, cache: &Cache) -> Result<Step, AllocError>
+    ensures { IfOk result (λ step. ran_of step ≡ exec body.now.body (held cache.now)) }
+{
+    let mut snaps = Snaps::new(alloc);
+    for _ in 0..MOST_RUNS {
+        match run(alloc, body, &snaps)? {
+            Step::Done(run) => return Ok(Step::Done(run)),
+            Step::Need(address) => match cache.get(&address) {
+                None => return Ok(Step::Need(address)),
+                Some(value) => take_value(&mut snaps, address, cache.at(), value)?,
+            },
+        }
+    }
+    Err(AllocError)
+}
+
+/// The run of a watch, by its name and its body, on the values of a cache.
+pub(crate) fn run_watch(
+    alloc: Global,
+    name: &[u8],
+    body: &Checked,
+    cache: &Cache,
+) -> Result<Rerun, AllocError>
+    ensures { IfOk result (λ next. next ≡ rerun_of name.now (exec body.now.body (held cache.now))) }
+{
+    match run_on(alloc, body, cache)? {
+        Step::Need(address) => Ok(Rerun::Need(address)),
+        Step::Done(run) => Ok(Rerun::Ran(Text::from_slice(alloc, name)?, run)),
+    }
+}

@@ -1,0 +1,52 @@
+//! What is kept of a watch.
+
+ghost use Rattle.std.specs.Prelude.{◌≡◌};
+ghost use Rattle.rerun_driver.specs.Watches.{reported, told, settled};
+
+use crate::touching::touches;
+use rdt_types::DeltaMap;
+use txn_lang::{Checked, Run, SeenList};
+
+/// A body, and of its last run what was reported.
+#[derive(Debug, Drop)]
+pub struct Watch {
+    pub body: Checked,
+    /// The number of the journal as of which its last run was reported.
+    pub number: u64,
+    /// What that run observed.
+    pub observations: SeenList,
+    /// Whether a change since then clashes with one of these observations.
+    pub stale: bool,
+}
+
+impl Watch {
+    /// A watch whose first run is reported.
+    pub(crate) fn new(body: Checked, number: u64, run: Run) -> Watch
+        ensures { result ≡ reported body number run }
+    {
+        Watch {
+            body,
+            number,
+            observations: run.observations,
+            stale: false,
+        }
+    }
+
+    /// Becomes stale where changes touch what it observed. It takes no memory.
+    pub(crate) fn tell(&mut self, changes: &DeltaMap)
+        ensures { self.new ≡ told changes.now self.old }
+    {
+        if touches(changes, self.observations.as_slice()) {
+            self.stale = true;
+        }
+    }
+
+    /// Takes the report of a run. It takes no memory.
+    pub(crate) fn settle(&mut self, number: u64, run: Run)
+        ensures { self.new ≡ settled number run self.old }
+    {
+        self.number = number;
+        self.observations = run.observations;
+        self.stale = false;
+    }
+}
