@@ -20,4 +20,5 @@ pub mod Explained
 pub mod Stays
 pub mod Talked
 pub mod GoingOn
+pub mod Unbroken
 pub mod Went
