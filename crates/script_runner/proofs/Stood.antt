@@ -33,6 +33,7 @@ pub record IsDriven (s : Store) (client : ℕ) (session : Session) (text : Text)
   pub way : IsOnItsWay (known_by s client) session text (known_by x.0 client) x.1
   pub sound : IsSound x.0
   pub others : (other : ℕ) → other ≢ client → (theirs : Session) → Attends (known_by s other) theirs → Attends (known_by x.0 other) theirs
+  pub seen_others : (other : ℕ) → other ≢ client → seen_by x.0 other ≡ seen_by s other
   pub unbroken : is_broken x.1 ≡ false
   pub counted : (way.calls ≡ n) ⊎ (asks x.1 ≡ None)
 
@@ -71,7 +72,7 @@ module _ (s : Store) (client : ℕ) (session : Session) (text : Text) (mine : cl
   call-driven : (n : ℕ) (t : Store) (p : Phase) (o : Option Call) → asks p ≡ o → IsDriven s client session text n (t, p)
       → IsDriven s client session text (suc n) (asked_by client t p o)
   call-driven n t p None e h =
-      record { way = h.way; sound = h.sound; others = h.others; unbroken = h.unbroken; counted = inr e }
+      record { way = h.way; sound = h.sound; others = h.others; seen_others = h.seen_others; unbroken = h.unbroken; counted = inr e }
   call-driven n t p (Some call) e h =
       let can : CanCall (known_by t client) call = lines_are_ready (known_by s client) session text (known_by t client) p call h.way e in
       let does = steps_may_be_done.done t client call h.sound in
@@ -86,6 +87,7 @@ module _ (s : Store) (client : ℕ) (session : Session) (text : Text) (mine : cl
         sound = answered.1;
         others = λ other apart theirs is. sessions_go_on.others (known_by t other) (known_by next.0 other) theirs (h.others other apart theirs is)
             (steps_leave_others t next.0 client other call next.1 h.sound apart can does);
+        seen_others = λ other apart. (steps_leave_others t next.0 client other call next.1 h.sound apart can does).seen ∙ h.seen_others other apart;
         unbroken = failures_alone_break (known_by t client) (known_by next.0 client) p call next.1 e answered.0 (succeeds t client p call e next.1 refl);
         counted = one-more n h.way.calls (asks p) call e h.counted;
       }
@@ -108,6 +110,7 @@ module _ (s : Store) (client : ℕ) (session : Session) (text : Text) (mine : cl
     way = record { goes_on = is; short = short; calls = 0; leads = Leads.stays };
     sound = sound;
     others = λ other apart theirs h. h;
+    seen_others = λ other apart. refl;
     unbroken = start-unbroken s.shards (seen_by s client) session (line_of text);
     counted = inl refl;
   })
@@ -132,13 +135,15 @@ lines_are_over s client session text sound mine is short = ends-over x (none (as
   where
     x : Place
     x = line_done client s session (line_of text)
+
     h : IsDriven s client session text MOST_CALLS x
     h = line-driven s client session text mine sound is short
+
     none : (o : Option Call) → asks x.1 ≡ o → (h.way.calls ≡ MOST_CALLS) ⊎ (asks x.1 ≡ None) → asks x.1 ≡ None
     none o e (inr ended) = ended
     none None e (inl all) = e
     none (Some call) e (inl all) =
         let fewer = (calls_suffice s.shards (seen_by s client) session text h.way.calls x.1
-            (way-comes (known_by s client) (start s.shards (seen_by s client) session (line_of text)) h.way.calls (known_by x.0 client) x.1 h.way.leads)).more
-            call e in
+        (way-comes (known_by s client) (start s.shards (seen_by s client) session (line_of text)) h.way.calls (known_by x.0 client) x.1 h.way.leads)).more
+        call e in
         absurd (let no : ⊥ = omega arith in no)
