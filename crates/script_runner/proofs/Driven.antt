@@ -1,5 +1,5 @@
 -- A line that was led over a backend by steps of the store has come where the driven line comes.
-use Rattle.std.proofs.Common.{◌≡◌, ℕ, zero, suc, ◌+◌, ◌-◌, ◌≤◌, Bool, true, false, Option, Some, None, ◌⊎◌, inl, inr, refl, sym, ap, ◌∙◌, subst, arith}
+use Rattle.std.proofs.Common.{◌≡◌, ◌≢◌, ℕ, zero, suc, ◌+◌, ◌≤◌, Bool, true, false, Option, Some, None, ◌⊎◌, inl, inr, refl, sym, ap, ◌∙◌, subst, arith}
 use Rattle.docc_prepare.specs.Calls.{Known, Call, Answer}
 use Rattle.docc_prepare.specs.Backends.{Goes}
 use Rattle.docc_prepare.specs.Stores.{Store, seen_by, step, Does}
@@ -10,7 +10,8 @@ use Rattle.session_core.specs.declared.turn.Turn.{Turn}
 use Rattle.session_core.specs.Phases.{Phase, moved_by, stepped, gone, asks, after, start}
 use Rattle.session_core.specs.Leading.{Leads}
 use Rattle.session_core.proofs.Steps.{moved-failed}
-use Rattle.script_runner.specs.Driving.{Place, answered, asked_by, advance, drive, line_done}
+use Rattle.script_runner.proofs.Places.{same-or-not}
+use Rattle.script_runner.specs.Driving.{Place, answered, asked_by, advance, drive, all_calls, line_done}
 
 -- ---- failed calls
 
@@ -55,7 +56,8 @@ call-more : (client : ℕ) (x : Place) (n : ℕ) (s t : Store) (p : Phase) (call
     → step s client call ≡ (t, a)
     → drive (n + 1) client x ≡ (t, after p a)
 call-more client x n s t p call a e asked is =
-    ap (advance client) e ∙ (ap (asked_by client s p) asked ∙ ap (answered p) is)
+    subst (λ (m : ℕ). drive m client x ≡ (t, after p a)) (let one : suc n ≡ n + 1 = omega arith in one)
+    (ap (advance client) e ∙ (ap (asked_by client s p) asked ∙ ap (answered p) is))
 
 -- one call more, whatever came of it
 driven-more : (client : ℕ) (x : Place) (n : ℕ) (s t : Store) (p : Phase) (call : Call) (a : Answer) → Drives client x n s p → asks p ≡ Some call
@@ -90,24 +92,25 @@ module _ {B : Type 0} (known : B → Known) (goes : B → Call → Answer → B 
 
 -- ---- where a line is over
 
--- a line that is over makes no more calls
-over-stays : (client : ℕ) (x : Place) (n more : ℕ) (s : Store) (t : Session) (turn : Turn) → drive n client x ≡ (s, Phase.over t turn)
-    → drive (more + n) client x ≡ (s, Phase.over t turn)
-over-stays client x n zero s t turn e = e
-over-stays client x n (suc more) s t turn e = ap (advance client) (over-stays client x n more s t turn e)
-
--- so it is over after any greater number of them
+-- a line that is over makes no more calls, so it is over after any greater number of them
 over-within : (client : ℕ) (x : Place) (n most : ℕ) (s : Store) (t : Session) (turn : Turn) → n ≤ most → drive n client x ≡ (s, Phase.over t turn)
     → drive most client x ≡ (s, Phase.over t turn)
-over-within client x n most s t turn few e =
-    subst (λ (m : ℕ). drive m client x ≡ (s, Phase.over t turn)) (let all : (most - n) + n ≡ most = omega arith in all)
-    (over-stays client x n (most - n) s t turn e)
+over-within client x n zero s t turn few e = subst (λ (m : ℕ). drive m client x ≡ (s, Phase.over t turn)) (let none : n ≡ zero = omega arith in none) e
+over-within client x n (suc most) s t turn few e = by (over-within client x n most s t turn) (same-or-not n (suc most))
+  where
+    by : (n ≤ most → drive n client x ≡ (s, Phase.over t turn) → drive most client x ≡ (s, Phase.over t turn)) → (n ≡ suc most) ⊎ (n ≢ suc most) → drive (suc most) client x ≡ (s, Phase.over t turn)
+    by rest (inl same) = subst (λ (m : ℕ). drive m client x ≡ (s, Phase.over t turn)) same e
+    by rest (inr apart) = ap (advance client) (rest (let fewer : n ≤ most = omega arith in fewer) e)
+
+-- it is the bound of all lines
+pub all-calls : all_calls ≡ MOST_CALLS
+unfolding all_calls
+all-calls = refl
 
 -- the driven line is over where one is that was led there by no more calls than a line may make
-pub line-is-done : (client : ℕ) (s : Store) (session : Session) (line : Line) (n : ℕ) (t : Store) (then : Session) (turn : Turn) → n ≤ MOST_CALLS
-    → Drives client (s, start s.shards (seen_by s client) session line) n t (Phase.over then turn)
-    → line_done client s session line ≡ (t, Phase.over then turn)
-unfolding line_done
-line-is-done client s session line n t then turn few (inl e) =
-    over-within client (s, start s.shards (seen_by s client) session line) n MOST_CALLS t then turn few e
-line-is-done client s session line n t then turn few (inr broken) = absurd (let no : Phase.over then turn ≡ Phase.broken broken.0 = broken.1 in cc)
+pub line-is-done : (client : ℕ) (s : Store) (session : Session) (line : Line) (n : ℕ) (t : Store) (next : Session) (turn : Turn) → n ≤ MOST_CALLS
+    → Drives client (s, start s.shards (seen_by s client) session line) n t (Phase.over next turn)
+    → line_done client s session line ≡ (t, Phase.over next turn)
+line-is-done client s session line n t next turn few (inl e) =
+    over-within client (s, start s.shards (seen_by s client) session line) n all_calls t next turn (subst (λ (m : ℕ). n ≤ m) (sym all-calls) few) e
+line-is-done client s session line n t next turn few (inr broken) = absurd (let no : Phase.over next turn ≡ Phase.broken broken.0 = broken.1 in cc)

@@ -1,5 +1,7 @@
+pub mod Spoken
 pub mod Places
 pub mod Driven
+pub mod Viewed
 pub mod Stood
 pub mod Standing
 pub mod Telling

@@ -10,6 +10,7 @@ use Rattle.dio_core.specs.declared.line.Line.{Line}
 use Rattle.dio_core.specs.declared.line.Line.TheVariants as line
 use Rattle.dio_core.specs.Lines.{lines, Answers, TakesLine, IsBegun}
 use Rattle.dio_core.specs.Sinks.{with_more}
+use Rattle.dio_core.specs.Told.{WhereTold}
 use Rattle.dio_core.proofs.Told.{WhereTold-then, WhereTold-refl}
 use Rattle.dio_core.proofs.Sinks.{with_more-with_more, with_more-nil}
 use Rattle.rdt_types.specs.declared.settings.Settings.{Settings}
@@ -17,7 +18,7 @@ use Rattle.txn_grammar.specs.Characters.{Text}
 use Rattle.script_runner.specs.declared.stop.Cause.{Cause}
 use Rattle.script_runner.specs.declared.stop.Cause.TheVariants as cause
 use Rattle.script_runner.specs.declared.stop.TheConstants.{MOST_LINES}
-use Rattle.script_runner.specs.Play.{ScriptWorld, Played, played, nothing_played, first_world, one_more, reply_to}
+use Rattle.script_runner.specs.Play.{ScriptWorld, Played, played, nothing_played, first_world, one_more, world_after, reply_to}
 use Rattle.script_runner.specs.Script.{IsPlayed, IsBrokenOff, HasTooManyLines, IsCutOff, IsCutOffBehindLine, but_last}
 use Rattle.script_runner.specs.code.Turns.{Moment, moment, DoesLine, BeginsLine, Turns, StopsReading, HasPlayed, Plays, Ran}
 
@@ -81,7 +82,7 @@ module _ (settings : Settings) where
         read = past.read ∙ ap (λ ls. past.raws ++ ls) line.read ∙ sym (append_assoc past.raws (line.raw ∷ []) (lines rest));
         many = length-append past.raws (line.raw ∷ []) ∙ ap (λ k. k + 1) past.many;
         made =
-            line.world ∙ ap (λ (w : ScriptWorld). (one_more (record { world = w; output = out }) line.raw).world) past.made
+            line.world ∙ ap (λ (w : ScriptWorld). world_after w line.raw) past.made
             ∙ sym (ap (λ (p : Played). p.world) (played-push settings past.raws line.raw));
         output =
             line.output ∙ ap (λ t. with_more t (reply_to now.world line.raw)) past.output

@@ -1,7 +1,8 @@
 -- The world of a script stands before its first line, and behind each.
-use Rattle.std.proofs.Common.{◌≡◌, ◌≢◌, ℕ, zero, suc, ◌+◌, ◌≤◌, ◌<◌, Bool, true, false, cond, List, [], ◌∷◌, ◌++◌, length, get_or, set, fold, Option, Some, None}
+use Rattle.std.proofs.Common.{◌≡◌, ◌≢◌, ℕ, zero, suc, ◌+◌, ◌≤◌, ◌<◌, Bool, true, false, cond, List, [], ◌∷◌, ◌++◌, length, get_or, set, fold, Option, Some, None, Result, Ok, Err}
 use Rattle.std.proofs.Common.{◌⊎◌, inl, inr, refl, sym, ap, ◌∙◌, subst, arith, length-append, drop}
-use Rattle.std.specs.Prelude.{IfSome, nat_le, nat_lt, ◌==◌}
+use Rattle.std.specs.declared.alloc.AllocError.{AllocError}
+use Rattle.std.specs.Prelude.{OnOk, IfSome, nat_le, nat_lt, ◌==◌}
 use Rattle.std.proofs.lemmas.List.{length-set, length-drop}
 use Rattle.std.specs.List.{prefix_len}
 use Rattle.std.proofs.lemmas.Bool.Decides.{nat_tests}
@@ -20,16 +21,16 @@ use Rattle.session_core.specs.declared.session.Session.{Session}
 use Rattle.session_core.specs.declared.turn.Turn.{Turn}
 use Rattle.session_core.specs.declared.turn.Turn.TheVariants as turn
 use Rattle.session_core.specs.Lines.{line_of}
-use Rattle.session_core.specs.declared.limits.TheConstants.{MOST_CALLS}
 use Rattle.session_core.specs.Phases.{Phase}
 use Rattle.session_core.specs.Holding.{Attends}
-use Rattle.session_core.specs.Words.{trimmed_start, is_quiet}
+use Rattle.session_core.specs.Words.{trimmed_start, trimmed_end, is_quiet}
 use Rattle.session_core.proofs.GoingOn.{sessions_go_on}
 use Rattle.script_runner.specs.declared.words.TheConstants.{LAST_CLIENT}
-use Rattle.script_runner.specs.Driving.{Place, line_done}
+use Rattle.script_runner.specs.Driving.{Place, all_calls, line_done}
 use Rattle.script_runner.specs.Words.{is_solid, first_word, after_word, small_number, client_named, if_client, is_follow, if_shard, shard_named}
 use Rattle.script_runner.specs.Play.{ScriptWorld, first_session, first_sessions, first_world, session_of, Told, Did, did, left, ended_line, follow_line, client_line}
-use Rattle.script_runner.specs.Play.{Done, placed, named_line, text_line, answer, Played, nothing_played, one_more, play}
+use Rattle.script_runner.specs.Play.{Done, done, placed, named_line, text_line, answer, Played, nothing_played, one_more, play}
+use Rattle.script_runner.specs.Lines.{Answers}
 use Rattle.script_runner.specs.Worlds.{Stands}
 use Rattle.script_runner.proofs.Places.{set-here, set-elsewhere, at-end, same-or-not}
 use Rattle.script_runner.proofs.Stood.{IsDriven, line-driven}
@@ -44,16 +45,17 @@ many-first (suc n) = let long = length-append (first_sessions n) (Some (first_se
 -- each stands at its client's place
 pub each-first : (n client : ℕ) → IfSome (get_or (first_sessions n) client None) (λ s. s ≡ first_session client)
 each-first zero client = tt
-each-first (suc n) client = by (at-end (first_sessions n) (Some (first_session n)) None client)
+each-first (suc n) client = by (each-first n client) (at-end (first_sessions n) (Some (first_session n)) None client)
   where
     goal : Option Session → Type 0
     goal o = IfSome o (λ s. s ≡ first_session client)
 
-    by : (get_or (first_sessions n ++ Some (first_session n) ∷ []) client None ≡ get_or (first_sessions n) client None)
+    by : goal (get_or (first_sessions n) client None)
+        → (get_or (first_sessions n ++ Some (first_session n) ∷ []) client None ≡ get_or (first_sessions n) client None)
         ⊎ ((client ≡ length (first_sessions n)) × (get_or (first_sessions n ++ Some (first_session n) ∷ []) client None ≡ Some (first_session n)))
         → goal (get_or (first_sessions n ++ Some (first_session n) ∷ []) client None)
-    by (inl same) = subst goal (sym same) (each-first n client)
-    by (inr last) = subst goal (sym last.1) (ap first_session (sym (last.0 ∙ many-first n)))
+    by before (inl same) = subst goal (sym same) before
+    by before (inr last) = subst goal (sym last.1) (ap first_session (sym (last.0 ∙ many-first n)))
 
 -- a first session attends the first store
 first-attends : (settings : Settings) (client : ℕ)
@@ -85,13 +87,22 @@ first-stands settings =
     by client (Some s) e =
         subst (Attends (known_by (first_store settings.shards settings.window settings.limit) client)) (sym e) (first-attends settings client)
 
+-- so does what is made of the first store and the first sessions
+pub made-stands : (settings : Settings) (store : Store) (sessions : List (Option Session))
+    → store ≡ first_store settings.shards settings.window settings.limit → sessions ≡ first_sessions CLIENTS
+    → Stands (record { store = store; sessions = sessions })
+made-stands settings store sessions first all =
+    subst (λ (s : Store). Stands (record { store = s; sessions = sessions })) (sym first)
+    (subst (λ (xs : List (Option Session)). Stands (record { store = first_store settings.shards settings.window settings.limit; sessions = xs })) (sym all)
+    (first-stands settings))
+
 -- ---- the line of a client
 
 -- What a client's line leaves: a sound store, its session, if it goes on, and those of all others.
-record Leaves (s : Store) (client : ℕ) (d : Did) : Type 0 where
-  sound : IsSound d.store
-  mine : IfSome d.session (Attends (known_by d.store client))
-  others : (other : ℕ) → other ≢ client → (theirs : Session) → Attends (known_by s other) theirs → Attends (known_by d.store other) theirs
+pub record Leaves (s : Store) (client : ℕ) (d : Did) : Type 0 where
+  pub sound : IsSound d.store
+  pub mine : IfSome d.session (Attends (known_by d.store client))
+  pub others : (other : ℕ) → other ≢ client → (theirs : Session) → Attends (known_by s other) theirs → Attends (known_by d.store other) theirs
 
 module _ (s : Store) (client : ℕ) (sound : IsSound s) (below : client < CLIENTS) where
   -- a line that changes nothing
@@ -122,7 +133,7 @@ module _ (s : Store) (client : ℕ) (sound : IsSound s) (below : client < CLIENT
     left-attends k t (turn.Ended replies) h = tt
 
     -- what a line is driven to, wherever that is
-    ended-leaves : (text : Text) (asked : Asked) (x : Place) → IsDriven s client session text MOST_CALLS x → Leaves s client (ended_line client s session asked x)
+    ended-leaves : (text : Text) (asked : Asked) (x : Place) → IsDriven s client session text all_calls x → Leaves s client (ended_line client s session asked x)
     ended-leaves text asked (after, Phase.over t x) h = record {
       sound = h.sound;
       mine = left-attends after t x (sessions_go_on.behind (known_by s client) session text (known_by after client) t x h.way);
@@ -142,7 +153,8 @@ module _ (s : Store) (client : ℕ) (sound : IsSound s) (below : client < CLIENT
     either-leaves false x y kx ky = ky
 
     line-leaves : (text : Text) → length text ≤ LONGEST_LINE → Leaves s client (client_line client s (Some session) text)
-    line-leaves text short = either-leaves (is_follow text) _ _ (follow-leaves (small_number _))
+    line-leaves text short = either-leaves (is_follow text) (follow_line client s session (shard_named s.shards (after_word text)))
+        (ended_line client s session (line_of text) (line_done client s session (line_of text))) (follow-leaves (small_number (trimmed_end (after_word text))))
         (ended-leaves text (line_of text) (line_done client s session (line_of text)) (line-driven s client session text below sound is short))
 
   -- the line of a client who may have quit
@@ -207,7 +219,7 @@ cut-short raw = by (nat_lt LONGEST_LINE (length raw)) refl
 
 -- a line without the blanks at its beginning
 text-stands : (world : ScriptWorld) (text : Text) → Stands world → length text ≤ LONGEST_LINE → Stands (text_line world text).world
-text-stands world text h short = either-stands (is_quiet text) _ _ h
+text-stands world text h short = either-stands (is_quiet text) (done world Told.nothing) (named_line world (client_named (first_word text)) (after_word text)) h
     (named-stands world (small_number (first_word text)) (after_word text) h (let shorter = after-shorter text in omega arith))
 
 -- Behind each line the world stands.
@@ -215,6 +227,12 @@ pub answer-stands : (world : ScriptWorld) (l : Line) → Stands world → IsShor
 answer-stands world (line.Bytes bytes) h short = text-stands world (trimmed_start bytes) h (let shorter = trimmed-shorter bytes in omega arith)
 answer-stands world line.TooLong h short = h
 answer-stands world line.End h short = h
+
+-- so the world stands that code has left, unless memory ran out
+pub answered-stands : (r : Result Text AllocError) (world left : ScriptWorld) (l : Line) → Stands world → IsShort l → Answers r left (answer world l)
+    → OnOk r (Stands left)
+answered-stands (Ok output) world left l h short done = subst Stands done.left_is (answer-stands world l h short)
+answered-stands (Err e) world left l h short done = tt
 
 -- ---- many lines
 

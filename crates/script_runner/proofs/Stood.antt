@@ -13,10 +13,10 @@ use Rattle.docc_prepare.specs.Stores.{Store, CLIENTS, seen_by, step, IsSound, kn
 use Rattle.docc_prepare.proofs.StepDoes.{steps_may_be_done}
 use Rattle.docc_prepare.proofs.Answered.{steps_are_answered}
 use Rattle.docc_prepare.proofs.Elsewhere.{steps_leave_others}
-use Rattle.session_core.specs.declared.limits.TheConstants.{MOST_CALLS}
 use Rattle.session_core.specs.declared.session.Session.{Session}
 use Rattle.session_core.specs.declared.turn.Turn.{Turn}
 use Rattle.session_core.specs.declared.line.Line.{Line}
+use Rattle.session_core.specs.declared.line.Line.TheVariants as asked
 use Rattle.session_core.specs.Lines.{line_of}
 use Rattle.session_core.specs.Phases.{Phase, with_attempt, event_call, asks, after, start}
 use Rattle.session_core.specs.Holding.{Attends}
@@ -25,8 +25,9 @@ use Rattle.session_core.specs.GoingOn.{IsOnItsWay, has_failed, is_broken}
 use Rattle.session_core.specs.Bounds.{Comes}
 use Rattle.session_core.proofs.Bounds.{calls_suffice}
 use Rattle.session_core.proofs.Unbroken.{failures_alone_break}
+use Rattle.script_runner.proofs.Driven.{all-calls}
 use Rattle.session_core.proofs.GoingOn.{lines_are_ready, sessions_go_on}
-use Rattle.script_runner.specs.Driving.{Place, asked_by, advance, drive, line_done, IsOverBy, LinesAreOver}
+use Rattle.script_runner.specs.Driving.{Place, asked_by, advance, drive, all_calls, line_done, IsOverBy, LinesAreOver}
 
 -- What so many calls of a client's line leave: a sound store; the line is on its way there; and every other client's session goes on.
 pub record IsDriven (s : Store) (client : ℕ) (session : Session) (text : Text) (n : ℕ) (x : Place) : Type 0 where
@@ -64,8 +65,23 @@ start-unbroken : (shards seen : ℕ) (s : Session) (l : Line) → is_broken (sta
 start-unbroken shards seen s l = by s.attempt l
   where
     by : (o : Option Attempt) (l : Line) → is_broken (start shards seen (with_attempt s o) l) ≡ false
-    by None l = refl
-    by (Some a) l = refl
+    by o asked.Quiet = refl
+    by o asked.Unbuilt = refl
+    by o (asked.Refused reason) = refl
+    by None (asked.Begin body) = refl
+    by (Some a) (asked.Begin body) = refl
+    by None (asked.Try tries body) = refl
+    by (Some a) (asked.Try tries body) = refl
+    by None asked.Step = refl
+    by (Some a) asked.Step = refl
+    by None asked.Go = refl
+    by (Some a) asked.Go = refl
+    by None asked.Drop = refl
+    by (Some a) asked.Drop = refl
+    by o (asked.Look body) = refl
+    by o (asked.At n body) = refl
+    by o asked.Seen = refl
+    by o asked.Quit = refl
 
 module _ (s : Store) (client : ℕ) (session : Session) (text : Text) (mine : client < CLIENTS) where
   -- one call more leaves that too: it may be made, so it is answered within the clause of every call
@@ -104,9 +120,8 @@ module _ (s : Store) (client : ℕ) (session : Session) (text : Text) (mine : cl
 
   -- a line of a session that attends is driven so
   pub line-driven : IsSound s → Attends (known_by s client) session → length text ≤ LONGEST_LINE
-      → IsDriven s client session text MOST_CALLS (line_done client s session (line_of text))
-  unfolding line_done
-  line-driven sound is short = all-driven MOST_CALLS (s, start s.shards (seen_by s client) session (line_of text)) (record {
+      → IsDriven s client session text all_calls (line_done client s session (line_of text))
+  line-driven sound is short = all-driven all_calls (s, start s.shards (seen_by s client) session (line_of text)) (record {
     way = record { goes_on = is; short = short; calls = 0; leads = Leads.stays };
     sound = sound;
     others = λ other apart theirs h. h;
@@ -136,14 +151,14 @@ lines_are_over s client session text sound mine is short = ends-over x (none (as
     x : Place
     x = line_done client s session (line_of text)
 
-    h : IsDriven s client session text MOST_CALLS x
+    h : IsDriven s client session text all_calls x
     h = line-driven s client session text mine sound is short
 
-    none : (o : Option Call) → asks x.1 ≡ o → (h.way.calls ≡ MOST_CALLS) ⊎ (asks x.1 ≡ None) → asks x.1 ≡ None
+    none : (o : Option Call) → asks x.1 ≡ o → (h.way.calls ≡ all_calls) ⊎ (asks x.1 ≡ None) → asks x.1 ≡ None
     none o e (inr ended) = ended
     none None e (inl all) = e
     none (Some call) e (inl all) =
         let fewer = (calls_suffice s.shards (seen_by s client) session text h.way.calls x.1
         (way-comes (known_by s client) (start s.shards (seen_by s client) session (line_of text)) h.way.calls (known_by x.0 client) x.1 h.way.leads)).more
         call e in
-        absurd (let no : ⊥ = omega arith in no)
+        absurd (let no : ⊥ = omega (arith, all, all-calls) in no)

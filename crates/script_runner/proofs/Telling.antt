@@ -27,12 +27,11 @@ use Rattle.session_core.specs.declared.line.Line.TheVariants as asks
 use Rattle.session_core.specs.declared.session.Session.{Session}
 use Rattle.session_core.specs.declared.turn.Turn.{Turn}
 use Rattle.session_core.specs.declared.turn.Turn.TheVariants as turn
-use Rattle.session_core.specs.declared.limits.TheConstants.{MOST_CALLS}
 use Rattle.session_core.specs.Lines.{line_of}
 use Rattle.session_core.specs.Phases.{Phase, said, start}
 use Rattle.session_core.specs.Holding.{Attends}
 use Rattle.session_core.specs.Leading.{Leads}
-use Rattle.session_core.specs.Words.{trimmed_start, is_quiet}
+use Rattle.session_core.specs.Words.{trimmed_start, trimmed_end, is_quiet}
 use Rattle.session_core.specs.Explained.{Setting, Story, Passes, story_after, LinePasses, AreFrom, MayBeTold}
 use Rattle.session_core.proofs.Explained.{line-explained}
 use Rattle.session_core.proofs.Grown.{prefix-whole, prefix-again, prefix-shorter}
@@ -41,10 +40,10 @@ use Rattle.session_core.proofs.Ready.{line-ready}
 use Rattle.session_core.proofs.Said.{same-along}
 use Rattle.session_core.proofs.Stories.{story-stays, story-told}
 use Rattle.script_runner.specs.declared.words.TheConstants.{LAST_CLIENT}
-use Rattle.script_runner.specs.Driving.{Place, line_done}
+use Rattle.script_runner.specs.Driving.{Place, all_calls, line_done}
 use Rattle.script_runner.specs.Words.{first_word, after_word, small_number, client_named, if_client, is_follow, if_shard, shard_named}
 use Rattle.script_runner.specs.Play.{ScriptWorld, first_session, first_sessions, first_world, session_of, Told, Did, did, left, ended_line, follow_line, client_line}
-use Rattle.script_runner.specs.Play.{Done, placed, named_line, text_line, answer, cut_line, world_after, Played, nothing_played, one_more, play}
+use Rattle.script_runner.specs.Play.{Done, done, placed, named_line, text_line, answer, cut_line, world_after, Played, nothing_played, one_more, play}
 use Rattle.script_runner.specs.Explained.{setting_of, first_story, is_to, told_to, ExplainsTold, ExplainsScript}
 use Rattle.script_runner.specs.Worlds.{Stands}
 use Rattle.script_runner.proofs.Places.{set-here, set-elsewhere, same-or-not}
@@ -73,11 +72,11 @@ record IsFront (s : Store) (client : ℕ) (session : Session) (d : Did) (who fro
   within : front ≤ length d.store.journal
   seen : front ≤ seen_by d.store client
 
-TellsMine : Store → ℕ → Session → Did → Told → Type 0
+abbrev TellsMine : Store → ℕ → Session → Did → Told → Type 0
 TellsMine s client session d Told.nothing = (d.session ≡ Some session) × (seen_by s client ≤ seen_by d.store client)
 TellsMine s client session d (Told.nobody reason) = ⊥
 TellsMine s client session d (Told.answered who asked t) = IsAnswer s client session d who asked t
-TellsMine s client session d (Told.followed who shard front) = IsFront s client session d who front
+TellsMine s client session d (Told.follow who shard front) = IsFront s client session d who front
 
 -- what a client's line leaves of the journal, and tells
 record Tells (s : Store) (client : ℕ) (session : Session) (d : Did) : Type 0 where
@@ -135,7 +134,7 @@ module _ (s : Store) (client : ℕ) (session : Session) (sound : IsSound s) (bel
       by true e = tells-front shard (let there : shard < s.shards = grind (arith, nat_tests) in there)
 
   -- a line that is driven is explained
-  tells-over : (text : Text) → length text ≤ LONGEST_LINE → (x : Place) → IsDriven s client session text MOST_CALLS x
+  tells-over : (text : Text) → length text ≤ LONGEST_LINE → (x : Place) → IsDriven s client session text all_calls x
       → Tells s client session (ended_line client s session (line_of text) x)
   tells-over text short (after, Phase.over t turn) h =
       let k = known_by s client in
@@ -179,18 +178,19 @@ module _ (s : Store) (client : ℕ) (session : Session) (sound : IsSound s) (bel
   tells-either false x y kx ky = ky
 
   tells-line : (text : Text) → length text ≤ LONGEST_LINE → Tells s client session (client_line client s (Some session) text)
-  tells-line text short = tells-either (is_follow text) _ _ (tells-follow (small_number _))
+  tells-line text short = tells-either (is_follow text) (follow_line client s session (shard_named s.shards (after_word text)))
+      (ended_line client s session (line_of text) (line_done client s session (line_of text))) (tells-follow (small_number (trimmed_end (after_word text))))
       (tells-over text short (line_done client s session (line_of text)) (line-driven s client session text below sound is short))
 
 -- ---- what a client hears of a line
 
 -- A client's story so far may be told: its numbers were seen, and its session is the client's.
-record Listens (w : ScriptWorld) (c : ℕ) (y : Story) : Type 0 where
+pub record Listens (w : ScriptWorld) (c : ℕ) (y : Story) : Type 0 where
   may : MayBeTold (known_by w.store c) y
   session : IfSome (session_of w c) (λ s. y.session ≡ s)
 
 -- Its story goes on behind what is told, and what is told is explained where that story is.
-record Hears (these : Setting) (d : Done) (c : ℕ) (y : Story) : Type 0 where
+pub record Hears (these : Setting) (d : Done) (c : ℕ) (y : Story) : Type 0 where
   next : Story
   listens : Listens d.world c next
   explains : (journal : Journal) (rest : List Told) → IsPrefix d.world.store.journal journal → ExplainsTold these journal next (told_to c rest)
@@ -211,10 +211,10 @@ same-tests : (a b : ℕ) → a ≡ b → (a == b) ≡ true
 same-tests a b e = grind (arith, nat_tests)
 
 apart-tests : (a b : ℕ) → (a ≡ b → ⊥) → (a == b) ≡ false
-apart-tests a b no = by (a == b) refl
+apart-tests a b differ = by (a == b) refl
   where
     by : (x : Bool) → (a == b) ≡ x → x ≡ false
-    by true e = absurd (no (let same : a ≡ b = grind (arith, nat_tests) in same))
+    by true e = absurd (differ (let same : a ≡ b = grind (arith, nat_tests) in same))
     by false e = refl
 
 -- a story may be told on where no less is seen
@@ -263,7 +263,7 @@ module _ (these : Setting) (w : ScriptWorld) (client : ℕ) (session : Session) 
       goes (turn.Replies rs) e = e
       goes turn.Unbuilt e = e
       goes (turn.Ended rs) e = tt
-  own-hears y same may (Told.followed who shard front) is mine = record {
+  own-hears y same may (Told.follow who shard front) is mine = record {
     next = record y { low = max y.low front };
     listens = record {
       may = record {
@@ -289,7 +289,7 @@ module _ (these : Setting) (w : ScriptWorld) (client : ℕ) (session : Session) 
   to-nobody-else c apart Told.nothing mine = refl
   to-nobody-else c apart (Told.nobody reason) mine = refl
   to-nobody-else c apart (Told.answered who asked t) mine = apart-tests who c (λ same. apart (sym same ∙ mine.is_mine))
-  to-nobody-else c apart (Told.followed who shard front) mine = apart-tests who c (λ same. apart (sym same ∙ mine.is_mine))
+  to-nobody-else c apart (Told.follow who shard front) mine = apart-tests who c (λ same. apart (sym same ∙ mine.is_mine))
 
   others-hear : (c : ℕ) (y : Story) → c ≢ client → Listens w c y → Hears these (placed w client d) c y
   others-hear c y apart l = record {
@@ -315,7 +315,7 @@ module _ (these : Setting) (w : ScriptWorld) (client : ℕ) (session : Session) 
 -- ---- one line
 
 -- what a line leaves of the journal, and what each client hears of it
-record HasTold (these : Setting) (w : ScriptWorld) (d : Done) : Type 0 where
+pub record HasTold (these : Setting) (w : ScriptWorld) (d : Done) : Type 0 where
   grows : IsPrefix w.store.journal d.world.store.journal
   setting : setting_in d.world.store ≡ these
   hears : (c : ℕ) (y : Story) → Listens w c y → Hears these d c y
@@ -372,7 +372,7 @@ module _ (these : Setting) (w : ScriptWorld) (e : setting_in w.store ≡ these) 
   told-either false x y kx ky = ky
 
   text-told : (text : Text) → length text ≤ LONGEST_LINE → HasTold these w (text_line w text)
-  text-told text short = told-either (is_quiet text) _ _ (told-nobody Told.nothing (λ c. refl))
+  text-told text short = told-either (is_quiet text) (done w Told.nothing) (named_line w (client_named (first_word text)) (after_word text)) (told-nobody Told.nothing (λ c. refl))
       (named-told (small_number (first_word text)) (after_word text) (let shorter = after-shorter text in omega arith))
 
   -- any line
@@ -384,7 +384,7 @@ module _ (these : Setting) (w : ScriptWorld) (e : setting_in w.store ≡ these) 
 -- ---- many lines
 
 -- what is told of lines from a world on
-tolds_from : ScriptWorld → List Text → List Told
+abbrev tolds_from : ScriptWorld → List Text → List Told
 tolds_from w [] = []
 tolds_from w (raw ∷ raws) = (cut_line w raw).told ∷ tolds_from (world_after w raw) raws
 

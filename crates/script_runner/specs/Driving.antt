@@ -34,10 +34,14 @@ abbrev pub drive : ℕ → ℕ → Place → Place
 drive zero client x = x
 drive (suc n) client x = advance client (drive n client x)
 
+-- as many calls as a line may make
+unfoldable pub all_calls : ℕ
+all_calls = MOST_CALLS
+
 -- A LINE IS DONE by as many calls as a line may make. Where it is over it asks for no more, so more would change nothing; and by the
 -- law that the calls of a line suffice, none needs more.
-unfoldable pub line_done : ℕ → Store → Session → Line → Place
-line_done client s session line = drive MOST_CALLS client (s, start s.shards (seen_by s client) session line)
+abbrev pub line_done : ℕ → Store → Session → Line → Place
+line_done client s session line = drive all_calls client (s, start s.shards (seen_by s client) session line)
 
 -- ---- a law
 

@@ -21,7 +21,7 @@ first_story client = record { low = 0; begun = 0; session = first_session client
 -- whether something is told to a client
 abbrev pub is_to : ℕ → Told → Bool
 is_to client (Told.answered c asked t) = c == client
-is_to client (Told.followed c shard front) = c == client
+is_to client (Told.follow c shard front) = c == client
 is_to client told = false
 
 -- what is told to a client, in its order
@@ -34,7 +34,7 @@ abbrev pub ExplainsTold : Setting → Journal → Story → List Told → Type 0
 ExplainsTold set journal y [] = Unit {0}
 ExplainsTold set journal y (Told.answered client asked t ∷ rest) =
     Passes set journal y asked t × ExplainsTold set journal (story_after set journal y asked t) rest
-ExplainsTold set journal y (Told.followed client shard front ∷ rest) =
+ExplainsTold set journal y (Told.follow client shard front ∷ rest) =
     IsShown y.low journal front × ExplainsTold set journal (record y { low = max y.low front }) rest
 ExplainsTold set journal y (told ∷ rest) = ExplainsTold set journal y rest
 
@@ -48,5 +48,5 @@ ExplainsScript settings bytes =
 
 -- what is another's or nobody's is passed over
 told_to-example :
-    told_to 3 (Told.nobody why.Client ∷ Told.followed 5 0 7 ∷ Told.answered 3 asks.Quiet turn.Quiet ∷ []) ≡ Told.answered 3 asks.Quiet turn.Quiet ∷ []
+    told_to 3 (Told.nobody why.Client ∷ Told.follow 5 0 7 ∷ Told.answered 3 asks.Quiet turn.Quiet ∷ []) ≡ Told.answered 3 asks.Quiet turn.Quiet ∷ []
 told_to-example = refl

@@ -9,15 +9,25 @@ use Rattle.session_core.specs.Phases.{Phase}
 use Rattle.script_runner.specs.Driving.{Place}
 use Rattle.script_runner.specs.Play.{ScriptWorld, Did, Done, printed}
 
--- the world after a line and the output are those of the definition, unless memory ran out
-abbrev pub Answers : Result Text AllocError → ScriptWorld → Done → Type 0
-Answers (Ok output) world done = (done.world, printed done.told) ≡ (world, output)
-Answers (Err e) world done = Unit {0}
+-- a line leaves this world, and its output is what is told of it
+pub record Leaves (output : Text) (world : ScriptWorld) (d : Done) : Type 0 where
+  pub left_is : d.world ≡ world
+  pub output_is : printed d.told ≡ output
 
--- the same of a client's line: the store, the client's session, and the output
+-- so does the line of a client: it leaves the store, and the client's session
+pub record LeavesClient (output : Text) (store : Store) (session : Option Session) (d : Did) : Type 0 where
+  pub store_is : d.store ≡ store
+  pub session_is : d.session ≡ session
+  pub output_is : printed d.told ≡ output
+
+-- the same unless memory ran out
+abbrev pub Answers : Result Text AllocError → ScriptWorld → Done → Type 0
+Answers (Ok output) world d = Leaves output world d
+Answers (Err e) world d = Unit {0}
+
 abbrev pub Does : Result Text AllocError → Store → Option Session → Did → Type 0
-Does (Ok output) store session did = (did.store, did.session, printed did.told) ≡ (store, session, output)
-Does (Err e) store session did = Unit {0}
+Does (Ok output) store session d = LeavesClient output store session d
+Does (Err e) store session d = Unit {0}
 
 -- the line is over: the store, the session and the turn are those where it ends, unless memory ran out
 abbrev pub IsOver : Result Turn AllocError → Store → Session → Place → Type 0

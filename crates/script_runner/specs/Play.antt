@@ -88,14 +88,14 @@ pub data Told : Type 0 where
   -- a client's session was asked for this, and answers this
   answered : ℕ → Asked → Turn → Told
   -- a client let a shard follow to a front
-  followed : ℕ → ℕ → ℕ → Told
+  follow : ℕ → ℕ → ℕ → Told
 
 -- the bytes that answer it
 abbrev pub printed : Told → Text
 printed Told.nothing = []
 printed (Told.nobody reason) = refused_line None reason
 printed (Told.answered client asked t) = turn_lines client t
-printed (Told.followed client shard front) = reply_line (Some client) (printed_reply (reply.Followed shard front))
+printed (Told.follow client shard front) = reply_line (Some client) (printed_reply (reply.Followed shard front))
 
 -- ---- the line of a client
 
@@ -115,7 +115,7 @@ left session t = Some session
 
 -- Where a line of a session is over. (By the law that lines are over, no other phase is reached by so many calls.)
 abbrev pub ended_line : ℕ → Store → Session → Asked → Place → Did
-ended_line client store session asked (after, Phase.over then t) = did after (left then t) (Told.answered client asked t)
+ended_line client store session asked (after, Phase.over next t) = did after (left next t) (Told.answered client asked t)
 ended_line client store session asked (after, p) = did store (Some session) Told.nothing
 
 abbrev pub asked_line : ℕ → Store → Session → Asked → Did
@@ -128,7 +128,7 @@ session_line client store session text = asked_line client store session (line_o
 abbrev pub follow_line : ℕ → Store → Session → Option ℕ → Did
 follow_line client store session None = did store (Some session) (Told.answered client (asks.Refused why.Verb) (said (reply.Refused why.Verb)))
 follow_line client store session (Some shard) =
-    did (followed store client shard) (Some session) (Told.followed client shard (length store.journal))
+    did (followed store client shard) (Some session) (Told.follow client shard (length store.journal))
 
 -- a client who has quit is none
 abbrev pub client_line : ℕ → Store → Option Session → Text → Did
@@ -206,9 +206,10 @@ play settings bytes = played settings (lines bytes)
 
 -- ---- worked lines
 
--- a refusal names its client, or nobody
-named-refusal : refused_line (Some 7) why.Busy ≡ codes "7 refused busy" ++ NEWLINE ∷ []
-named-refusal = refl
+-- a reply to nobody's line
+nobody-line : reply_line None (codes "refused client") ≡ codes "- refused client" ++ NEWLINE ∷ []
+nobody-line = refl
 
-nobody-refused : refused_line None why.Client ≡ codes "- refused client" ++ NEWLINE ∷ []
-nobody-refused = refl
+-- who has quit has no session, and neither has who is no client
+nobody-there : session_of (record { store = first_store 4 2 100; sessions = None ∷ [] }) 0 ≡ None
+nobody-there = refl

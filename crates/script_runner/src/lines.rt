@@ -32,6 +32,7 @@ fn over_view(
     requires short { length text.now ≤ LONGEST_LINE }
     ensures over { IsOver result (store_of view.new.world.now) session.new
         (line_done view.old.client (store_of view.old.world.now) session.old (line_of text.now)) }
+    ensures home { view.new.world.ghost_name ≡ view.old.world.ghost_name }
 {
     match session.line(alloc, view, text) {
         Ok(turn) => Ok(turn),
@@ -52,7 +53,7 @@ fn in_world(
     requires short { length text.now ≤ LONGEST_LINE }
     ensures over { IsOver result (store_of world.new) session.new (line_done client (store_of world.old) session.old (line_of text.now)) }
 {
-    let mut view = world.view(client);
+    let mut view = View { world, client };
     over_view(alloc, &mut view, session, text)
 }
 
@@ -97,11 +98,13 @@ fn follow_line(
     requires below { IfSome shard (λ k. k < world.old.shards) }
     ensures { (session : Session) → Does result (store_of world.new) (Some session) (spec.follow_line client (store_of world.old) session shard) }
 {
-    let Some(shard) = shard else {
-        return refused_line(alloc, Some(client), Why::Verb);
-    };
-    let front = world.follow(client, shard)?;
-    reply_line(alloc, Some(client), &Reply::Followed(shard, front))
+    match shard {
+        Some(shard) => {
+            let front = world.follow(client, shard)?;
+            reply_line(alloc, Some(client), &Reply::Followed(shard, front))
+        }
+        None => refused_line(alloc, Some(client), Why::Verb),
+    }
 }
 
 /// What follows a client, whose session stands at the place.

@@ -3,7 +3,7 @@ use Rattle.std.proofs.lemmas.Grind.{common_steps}
 use Rattle.std.proofs.lemmas.Result.{err_from_is_err_and}
 use Rattle.script_runner.specs.Worlds.{world_of}
 use Rattle.script_runner.specs.code.Turns.{moment, Turns}
-use Rattle.script_runner.proofs.Plays.{plays-more, plays-stopped, plays-unread}
+use Rattle.script_runner.proofs.Plays.{plays-more, plays-stopped, plays-unread, plays-too_many, cut_unread}
 use Rattle.script_runner.proofs.script.run_lines.Goals as goal
 
 -- a turn stopped
@@ -13,7 +13,7 @@ returns-in_err-turn-clause-ran g c =
     let taken = g.W.Sink.taken in
     let now = moment (world_of c.loop.script) (left c.loop.source) (taken c.loop.sink) in
     let then = moment (world_of c.turn.new.script) (left c.turn.new.source) (taken c.turn.new.sink) in
-    let p = err_from_is_err_and c.from_residual.result c.from_residual.ensures.1 in
+    let p = err_from_is_err_and c.from_residual-in_err-turn.result c.from_residual-in_err-turn.ensures.1 in
     rw (p.1, p.2) (plays-stopped c.args.settings.now c.loop.counter (left c.args.source.now) (taken c.args.sink.now) now then
     (omega arith) c.loop.invariant.plays c.in_err-turn.field-0.0
     c.in_err-turn.ensures.turns)
@@ -43,3 +43,22 @@ returns-in_err-read_line-clause-ran g c =
     rw (p.1, p.2) (plays-unread c.args.settings.now c.loop.counter (left c.args.source.now) (taken c.args.sink.now) now then
     (omega arith) c.loop.invariant.plays refl
     c.in_err-read_line.field-0.0 c.in_err-read_line.ensures.stops)
+
+-- there was no memory for a world
+pub returns-in_err-script-clause-ran : goal.returns-in_err-script-clause-ran
+returns-in_err-script-clause-ran g c =
+    let p = err_from_is_err_and c.from_residual.result c.from_residual.ensures.1 in
+    rw (p.1, p.2) (cut_unread c.args.settings.now (g.S.Source.left c.args.source.now) (g.W.Sink.taken c.args.sink.now))
+
+-- there is a line behind the last one that may be read
+pub returns : goal.returns
+returns g c =
+    let left = g.S.Source.left in
+    let taken = g.W.Sink.taken in
+    let now = moment (world_of c.loop.script) (left c.loop.source) (taken c.loop.sink) in
+    let then = moment (world_of c.loop.script) (left c.read_line.new.source) (taken c.loop.sink) in record {
+      ran = plays-too_many c.args.settings.now c.loop.counter (left c.args.source.now) (taken c.args.sink.now) now then c.in_ok-read_line.field-0
+          (omega arith) refl c.in_default.not-End c.loop.invariant.plays c.in_ok-read_line.ensures.line;
+      reads = grind (arith, common_steps);
+      writes = c.loop.invariant.writes;
+    }
