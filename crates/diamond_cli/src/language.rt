@@ -1,40 +1,9 @@
 //! Lines of the whole language, and the reply to each.
 
+use crate::rows::{Row, answered};
 use crate::tests::{expect, in_pieces};
 use std::alloc::Global;
-use std::process::Abort;
-use std::sync::Wait;
 use std::test::Fail;
-use std::thread::Threads;
-
-/// A line without its end, and the reply to it, which is empty where there is none.
-type Row = (&'static [u8], &'static [u8]);
-
-/// Runs the lines as one script, in which each is answered as its row says.
-fn answered(
-    rt: &(impl Abort + Threads + Wait + Sync),
-    alloc: Global,
-    rows: &[Row],
-) -> Result<(), Fail> {
-    let mut script = Vec::new(alloc);
-    let mut output = Vec::new(alloc);
-    for (line, reply) in rows {
-        script.extend_from_slice(line)?;
-        script.push(b'\n')?;
-        if !reply.is_empty() {
-            output.extend_from_slice(reply)?;
-            output.push(b'\n')?;
-        }
-    }
-    expect(
-        rt,
-        alloc,
-        &in_pieces(4096),
-        script.as_slice(),
-        0,
-        output.as_slice(),
-    )
-}
 
 /// Lines that ask for nothing, and refusals, in the order of their tests. Client 1 commits in between.
 const REFUSALS: [Row; 77] = [
