@@ -12,6 +12,7 @@ pub mod EachRead
 pub mod Stored
 pub mod Feeding
 pub mod Answered
+pub mod StepDoes
 pub mod Elsewhere
 pub mod Laters
 pub mod Sound

@@ -215,6 +215,10 @@ StepsAreAnswered =
     (s t : Store) (client : ℕ) (c : Call) (a : Answer) → IsSound s → client < CLIENTS → CanCall (known_by s client) c → Does s client c a t
     → IsAnswered (known_by s client) c a (known_by t client) × IsSound t
 
+-- Each step may be done: a store that wants for no memory does it.
+abbrev pub StepsMayBeDone : Type 0
+StepsMayBeDone = (s : Store) (client : ℕ) (c : Call) → IsSound s → Does s client c (step s client c).1 (step s client c).0
+
 -- To each other client it is as if others had been at work.
 abbrev pub StepsLeaveOthers : Type 0
 StepsLeaveOthers =

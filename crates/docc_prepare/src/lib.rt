@@ -23,7 +23,7 @@ pub use laws::{
 };
 pub use store_laws::{
     first_stores_are_sound, others_count_as_within, shards_follow, steps_are_answered,
-    steps_leave_others, witness_is_named,
+    steps_leave_others, steps_may_be_done, witness_is_named,
 };
 
 #[cfg(test)]

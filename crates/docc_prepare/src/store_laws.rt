@@ -1,7 +1,7 @@
 //! The laws of backends, of stores and of witnesses: functions that do nothing, whose contracts are theorems over the definitions.
 
 ghost use Rattle.docc_prepare.specs.Backends.{OthersCountAsWithin};
-ghost use Rattle.docc_prepare.specs.Stores.{FirstStoreIsSound, StepsAreAnswered, StepsLeaveOthers, ShardsFollow};
+ghost use Rattle.docc_prepare.specs.Stores.{FirstStoreIsSound, StepsMayBeDone, StepsAreAnswered, StepsLeaveOthers, ShardsFollow};
 ghost use Rattle.docc_prepare.specs.Witnesses.{WitnessIsNamed};
 
 /// The law that the least pair has a witness, which names the observation and the change.
@@ -17,6 +17,11 @@ pub fn others_count_as_within()
 /// The law that the first store is sound.
 pub fn first_stores_are_sound()
     ensures { FirstStoreIsSound }
+{}
+
+/// The law that each step may be done: a store that wants for no memory does it.
+pub fn steps_may_be_done()
+    ensures { StepsMayBeDone }
 {}
 
 /// The law that each call of a client is answered within what all backends promise, and leaves a sound store.

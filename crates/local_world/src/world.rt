@@ -87,7 +87,7 @@ impl World {
     }
 
     /// How many shards hold the data.
-    pub(crate) fn shards(&self) -> u8
+    pub fn shards(&self) -> u8
         ensures shards { result ≡ self.now.shards }
         ensures in_range { (LEAST_SHARDS ≤ result) × (result ≤ MOST_SHARDS) }
     {

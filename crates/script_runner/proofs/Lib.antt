@@ -1,9 +1,6 @@
-pub mod Verbs
-pub mod Bodies
-pub mod Snaps
-pub mod Trims
-pub mod Writes
+pub mod Driven
+pub mod Stood
+pub mod Standing
 pub mod Turns
 pub mod Plays
-pub mod Legality
 pub mod Promises

@@ -17,33 +17,33 @@ use Rattle.txn_grammar.specs.Characters.{Text}
 use Rattle.script_runner.specs.declared.stop.Cause.{Cause}
 use Rattle.script_runner.specs.declared.stop.Cause.TheVariants as cause
 use Rattle.script_runner.specs.declared.stop.TheConstants.{MOST_LINES}
-use Rattle.script_runner.specs.Play.{ScriptWorld, Played, played, nothing_played, one_more, reply_to, world_of}
+use Rattle.script_runner.specs.Play.{ScriptWorld, Played, played, nothing_played, first_world, one_more, reply_to}
 use Rattle.script_runner.specs.Script.{IsPlayed, IsBrokenOff, HasTooManyLines, IsCutOff, IsCutOffBehindLine, but_last}
-use Rattle.script_runner.specs.code.Turns.{Moment, DoesLine, BeginsLine, Turns, StopsReading, HasPlayed, Plays, Ran}
+use Rattle.script_runner.specs.code.Turns.{Moment, moment, DoesLine, BeginsLine, Turns, StopsReading, HasPlayed, Plays, Ran}
 
 -- one more line, played after the others
 played-push : (settings : Settings) (raws : List Text) (raw : Text)
-    → played settings (raws ++ raw ∷ []) ≡ one_more settings (played settings raws) raw
-played-push settings raws raw = fold-append (one_more settings) nothing_played raws (raw ∷ [])
+    → played settings (raws ++ raw ∷ []) ≡ one_more (played settings raws) raw
+played-push settings raws raw = fold-append one_more (nothing_played settings) raws (raw ∷ [])
 
 -- its output is that of the others and the reply to it
 output-push : (settings : Settings) (raws : List Text) (raw : Text)
-    → (played settings (raws ++ raw ∷ [])).output ≡ (played settings raws).output ++ reply_to settings (played settings raws).world raw
+    → (played settings (raws ++ raw ∷ [])).output ≡ (played settings raws).output ++ reply_to (played settings raws).world raw
 output-push settings raws raw = ap (λ (p : Played). p.output) (played-push settings raws raw)
 
 -- more lines only add to the output
-output-grows : (settings : Settings) (raws : List Text) (p : Played) → length p.output ≤ length (fold (one_more settings) p raws).output
-output-grows settings [] p = omega arith
-output-grows settings (raw ∷ raws) p =
-    omega (arith, output-grows settings raws (one_more settings p raw), length-append p.output (reply_to settings p.world raw))
+output-grows : (raws : List Text) (p : Played) → length p.output ≤ length (fold one_more p raws).output
+output-grows [] p = omega arith
+output-grows (raw ∷ raws) p =
+    omega (arith, output-grows raws (one_more p raw), length-append p.output (reply_to p.world raw))
 
 -- so some of the lines have no more output than all of them
 output-take : (settings : Settings) (n : ℕ) (raws : List Text)
     → length (played settings (take n raws)).output ≤ length (played settings raws).output
 output-take settings n raws =
-    let all : played settings raws ≡ fold (one_more settings) (played settings (take n raws)) (drop n raws) =
-    ap (played settings) (sym (take-append-drop n raws)) ∙ fold-append (one_more settings) nothing_played (take n raws) (drop n raws) in
-    omega (arith, output-grows settings (drop n raws) (played settings (take n raws)), ap (λ (p : Played). length p.output) all)
+    let all : played settings raws ≡ fold one_more (played settings (take n raws)) (drop n raws) =
+    ap (played settings) (sym (take-append-drop n raws)) ∙ fold-append one_more (nothing_played settings) (take n raws) (drop n raws) in
+    omega (arith, output-grows (drop n raws) (played settings (take n raws)), ap (λ (p : Played). length p.output) all)
 
 -- all of one text and then some of another
 take-beyond : (xs ys : Text) (k : ℕ) → take (length xs + k) (xs ++ ys) ≡ xs ++ take k ys
@@ -58,63 +58,63 @@ but_last-push raws raw =
     let long : length (raws ++ raw ∷ []) - 1 ≡ length raws = omega (arith, length-append raws (raw ∷ [])) in
     ap (λ (n : ℕ). take n (raws ++ raw ∷ [])) long ∙ take_at raws (raw ∷ []) (length raws) refl
 
--- nothing was played yet
-pub plays-none : (settings : Settings) (left taken : Option Text) (start : Moment) → start.world ≡ world_of []
-    → Plays settings 0 start start
-plays-none settings left taken start empty = WhereTold-refl (HasPlayed settings 0 start start) start.left (λ all. record {
+-- nothing was played yet, in the first world
+pub plays-none : (settings : Settings) (left taken : Option Text) (world : ScriptWorld) → world ≡ first_world settings
+    → Plays settings 0 left taken (moment world left taken)
+plays-none settings left taken world first = WhereTold-refl (HasPlayed settings 0 taken (moment world left taken)) left (λ all. record {
   raws = [];
   read = refl;
   many = refl;
-  made = empty;
-  output = sym (with_more-nil start.taken);
+  made = first;
+  output = sym (with_more-nil taken);
 })
 
 module _ (settings : Settings) where
   -- one more line of an input that is told
-  more_played : (n : ℕ) (start now then : Moment) (all mid rest : Text) → HasPlayed settings n start now all mid
-      → DoesLine settings now then mid rest
-      → HasPlayed settings (n + 1) start then all rest
-  more_played n start now then all mid rest past line =
+  more_played : (n : ℕ) (left taken : Option Text) (now then : Moment) (all mid rest : Text) → HasPlayed settings n taken now all mid
+      → DoesLine now then mid rest
+      → HasPlayed settings (n + 1) taken then all rest
+  more_played n left taken now then all mid rest past line =
       let out = (played settings past.raws).output in
-      let same = ap (λ (w : ScriptWorld). reply_to settings w line.raw) past.made in record {
+      let same = ap (λ (w : ScriptWorld). reply_to w line.raw) past.made in record {
         raws = past.raws ++ line.raw ∷ [];
         read = past.read ∙ ap (λ ls. past.raws ++ ls) line.read ∙ sym (append_assoc past.raws (line.raw ∷ []) (lines rest));
         many = length-append past.raws (line.raw ∷ []) ∙ ap (λ k. k + 1) past.many;
         made =
-            line.world ∙ ap (λ (w : ScriptWorld). (one_more settings (record { world = w; output = out }) line.raw).world) past.made
+            line.world ∙ ap (λ (w : ScriptWorld). (one_more (record { world = w; output = out }) line.raw).world) past.made
             ∙ sym (ap (λ (p : Played). p.world) (played-push settings past.raws line.raw));
         output =
-            line.output ∙ ap (λ t. with_more t (reply_to settings now.world line.raw)) past.output
-            ∙ with_more-with_more start.taken out (reply_to settings now.world line.raw)
-            ∙ ap (λ reply. with_more start.taken (out ++ reply)) same
-            ∙ ap (with_more start.taken) (sym (output-push settings past.raws line.raw));
+            line.output ∙ ap (λ t. with_more t (reply_to now.world line.raw)) past.output
+            ∙ with_more-with_more taken out (reply_to now.world line.raw)
+            ∙ ap (λ reply. with_more taken (out ++ reply)) same
+            ∙ ap (with_more taken) (sym (output-push settings past.raws line.raw));
       }
 
   -- and then a line
-  pub plays-more : (n : ℕ) (start now then : Moment) → Plays settings n start now → Turns settings (Ok true) now then
-      → Plays settings (n + 1) start then
-  plays-more n start now then = WhereTold-then start.left now.left then.left (more_played n start now then)
+  pub plays-more : (n : ℕ) (left taken : Option Text) (now then : Moment) → Plays settings n left taken now → Turns (Ok true) now then
+      → Plays settings (n + 1) left taken then
+  plays-more n left taken now then = WhereTold-then left now.left then.left (more_played n left taken now then)
 
   -- the input ended behind these lines
-  ended : (n : ℕ) (start now then : Moment) (all mid rest : Text) → n ≤ MOST_LINES → then.taken ≡ now.taken
-      → HasPlayed settings n start now all mid → (mid ≡ []) × (rest ≡ []) → IsPlayed settings start.taken then.taken all rest
-  ended n start now then all mid rest few same past none =
+  ended : (n : ℕ) (left taken : Option Text) (now then : Moment) (all mid rest : Text) → n ≤ MOST_LINES → then.taken ≡ now.taken
+      → HasPlayed settings n taken now all mid → (mid ≡ []) × (rest ≡ []) → IsPlayed settings taken then.taken all rest
+  ended n left taken now then all mid rest few same past none =
       let read : lines all ≡ past.raws = past.read ∙ ap (λ bytes. past.raws ++ lines bytes) none.0 ∙ append-nil past.raws in record {
         whole = none.1;
         few = omega (arith, ap length read, past.many);
-        output = same ∙ past.output ∙ ap (λ raws. with_more start.taken (played settings raws).output) (sym read);
+        output = same ∙ past.output ∙ ap (λ raws. with_more taken (played settings raws).output) (sym read);
       }
 
   -- a turn that found no line
-  pub plays-ended : (n : ℕ) (start now then : Moment) → n ≤ MOST_LINES → Plays settings n start now → Turns settings (Ok false) now then
-      → Ran settings (Ok tt) start then
-  plays-ended n start now then few past none =
-      WhereTold-then start.left now.left then.left (λ all mid rest. ended n start now then all mid rest few none.1) past none.0
+  pub plays-ended : (n : ℕ) (left taken : Option Text) (now then : Moment) → n ≤ MOST_LINES → Plays settings n left taken now → Turns (Ok false) now then
+      → Ran settings (Ok tt) left taken then.left then.taken
+  plays-ended n left taken now then few past none =
+      WhereTold-then left now.left then.left (λ all mid rest. ended n left taken now then all mid rest few none.1) past none.0
 
   -- a line was begun behind these, and nothing more was written
-  broken : (n k : ℕ) (start now then : Moment) (all mid rest : Text) → n ≤ MOST_LINES → k < LONGEST_RUN → then.taken ≡ now.taken
-      → HasPlayed settings n start now all mid → IsBegun k mid rest → IsBrokenOff settings start.taken then.taken all rest
-  broken n k start now then all mid rest few short same past begun = record {
+  broken : (n k : ℕ) (left taken : Option Text) (now then : Moment) (all mid rest : Text) → n ≤ MOST_LINES → k < LONGEST_RUN → then.taken ≡ now.taken
+      → HasPlayed settings n taken now all mid → IsBegun k mid rest → IsBrokenOff settings taken then.taken all rest
+  broken n k left taken now then all mid rest few short same past begun = record {
     raws = past.raws;
     broken = mid;
     read = past.read;
@@ -140,14 +140,14 @@ module _ (settings : Settings) where
       }
 
   -- a line was read behind these, and of its reply a prefix was taken
-  cut_begun : (n : ℕ) (start now then : Moment) (all mid rest : Text) → n < MOST_LINES
-      → HasPlayed settings n start now all mid → BeginsLine settings now then mid rest → IsCutOff settings start.taken then.taken all rest
-  cut_begun n start now then all mid rest few past line =
+  cut_begun : (n : ℕ) (left taken : Option Text) (now then : Moment) (all mid rest : Text) → n < MOST_LINES
+      → HasPlayed settings n taken now all mid → BeginsLine now then mid rest → IsCutOff settings taken then.taken all rest
+  cut_begun n left taken now then all mid rest few past line =
       let raws = past.raws ++ line.raw ∷ [] in
       let out = (played settings past.raws).output in
-      let reply = reply_to settings now.world line.raw in
+      let reply = reply_to now.world line.raw in
       let whole : (played settings raws).output ≡ out ++ reply =
-      output-push settings past.raws line.raw ∙ ap (λ (w : ScriptWorld). out ++ reply_to settings w line.raw) (sym past.made) in
+      output-push settings past.raws line.raw ∙ ap (λ (w : ScriptWorld). out ++ reply_to w line.raw) (sym past.made) in
       let k = line.output.0 in
       let some : take (length out + k) (out ++ reply) ≡ out ++ take k reply = take-beyond out reply k in record {
         raws = raws;
@@ -160,56 +160,56 @@ module _ (settings : Settings) where
         answered = omega (arith, ap (λ ls. length (played settings ls).output) (but_last-push past.raws line.raw));
         output =
             line.output.2 ∙ ap (λ t. with_more t (take k reply)) past.output
-            ∙ with_more-with_more start.taken out (take k reply)
-            ∙ ap (with_more start.taken) (sym some ∙ ap (take (length out + k)) (sym whole));
+            ∙ with_more-with_more taken out (take k reply)
+            ∙ ap (with_more taken) (sym some ∙ ap (take (length out + k)) (sym whole));
       }
 
   -- a line broke off behind these
-  stopped_reading : (n : ℕ) (start now then : Moment) → n ≤ MOST_LINES → Plays settings n start now → then.taken ≡ now.taken
-      → (e : OrNoMemory Cause) → StopsReading e now.left then.left → Ran settings (Err e) start then
-  stopped_reading n start now then few past same (stop.Cause cause.ReadFault) off =
-      WhereTold-then start.left now.left then.left (λ all mid rest. broken n off.0 start now then all mid rest few off.2 same) past off.3
-  stopped_reading n start now then few past same (stop.Cause cause.WriteFault) off = absurd off
-  stopped_reading n start now then few past same (stop.Cause cause.TooManyLines) off = absurd off
-  stopped_reading n start now then few past same stop.NoMemory off =
-      WhereTold-then start.left now.left then.left
-      (λ all mid rest played begun. cut_broken start.taken then.taken all rest
-      (broken n off.0 start now then all mid rest few off.2 same played begun))
+  stopped_reading : (n : ℕ) (left taken : Option Text) (now then : Moment) → n ≤ MOST_LINES → Plays settings n left taken now → then.taken ≡ now.taken
+      → (e : OrNoMemory Cause) → StopsReading e now.left then.left → Ran settings (Err e) left taken then.left then.taken
+  stopped_reading n left taken now then few past same (stop.Cause cause.ReadFault) off =
+      WhereTold-then left now.left then.left (λ all mid rest. broken n off.0 left taken now then all mid rest few off.2 same) past off.3
+  stopped_reading n left taken now then few past same (stop.Cause cause.WriteFault) off = absurd off
+  stopped_reading n left taken now then few past same (stop.Cause cause.TooManyLines) off = absurd off
+  stopped_reading n left taken now then few past same stop.NoMemory off =
+      WhereTold-then left now.left then.left
+      (λ all mid rest played begun. cut_broken taken then.taken all rest
+      (broken n off.0 left taken now then all mid rest few off.2 same played begun))
       past off.3
 
   -- a turn that stopped
-  pub plays-stopped : (n : ℕ) (start now then : Moment) → n < MOST_LINES → Plays settings n start now → (e : OrNoMemory Cause)
-      → Turns settings (Err e) now then → Ran settings (Err e) start then
+  pub plays-stopped : (n : ℕ) (left taken : Option Text) (now then : Moment) → n < MOST_LINES → Plays settings n left taken now → (e : OrNoMemory Cause)
+      → Turns (Err e) now then → Ran settings (Err e) left taken then.left then.taken
   unfolding cut_begun
-  plays-stopped n start now then few past (stop.Cause cause.ReadFault) turn =
-      stopped_reading n start now then (omega arith) past turn.1 (stop.Cause cause.ReadFault) turn.0
-  plays-stopped n start now then few past (stop.Cause cause.WriteFault) turn =
-      WhereTold-then start.left now.left then.left
-      (λ all mid rest played line. (cut_begun n start now then all mid rest few played line, refl)) past turn
-  plays-stopped n start now then few past (stop.Cause cause.TooManyLines) turn = absurd turn
-  plays-stopped n start now then few past stop.NoMemory (inl off) = stopped_reading n start now then
+  plays-stopped n left taken now then few past (stop.Cause cause.ReadFault) turn =
+      stopped_reading n left taken now then (omega arith) past turn.1 (stop.Cause cause.ReadFault) turn.0
+  plays-stopped n left taken now then few past (stop.Cause cause.WriteFault) turn =
+      WhereTold-then left now.left then.left
+      (λ all mid rest played line. (cut_begun n left taken now then all mid rest few played line, refl)) past turn
+  plays-stopped n left taken now then few past (stop.Cause cause.TooManyLines) turn = absurd turn
+  plays-stopped n left taken now then few past stop.NoMemory (inl off) = stopped_reading n left taken now then
       (omega arith) past off.1 stop.NoMemory off.0
-  plays-stopped n start now then few past stop.NoMemory (inr line) =
-      WhereTold-then start.left now.left then.left (λ all mid rest. cut_begun n start now then all mid rest few) past line
+  plays-stopped n left taken now then few past stop.NoMemory (inr line) =
+      WhereTold-then left now.left then.left (λ all mid rest. cut_begun n left taken now then all mid rest few) past line
 
   -- a line broke off behind the last one that may be read
-  pub plays-unread : (n : ℕ) (start now then : Moment) → n ≤ MOST_LINES → Plays settings n start now → then.taken ≡ now.taken
-      → (e : OrNoMemory Cause) → StopsReading e now.left then.left → Ran settings (Err e) start then
-  plays-unread n start now then few past same e off = stopped_reading n start now then few past same e off
+  pub plays-unread : (n : ℕ) (left taken : Option Text) (now then : Moment) → n ≤ MOST_LINES → Plays settings n left taken now → then.taken ≡ now.taken
+      → (e : OrNoMemory Cause) → StopsReading e now.left then.left → Ran settings (Err e) left taken then.left then.taken
+  plays-unread n left taken now then few past same e off = stopped_reading n left taken now then few past same e off
 
   -- a line behind the last one that may be read
-  one_too_many : (n : ℕ) (start now then : Moment) (l : Line) (all mid rest : Text) → n ≡ MOST_LINES → then.taken ≡ now.taken
+  one_too_many : (n : ℕ) (left taken : Option Text) (now then : Moment) (l : Line) (all mid rest : Text) → n ≡ MOST_LINES → then.taken ≡ now.taken
       → (l ≡ line.End → ⊥)
-      → HasPlayed settings n start now all mid → Answers l mid rest → HasTooManyLines settings start.taken then.taken all rest
-  one_too_many n start now then line.End all mid rest most same some past takes = absurd (some refl)
-  one_too_many n start now then (line.Bytes bytes) all mid rest most same some past takes = record {
+      → HasPlayed settings n taken now all mid → Answers l mid rest → HasTooManyLines settings taken then.taken all rest
+  one_too_many n left taken now then line.End all mid rest most same some past takes = absurd (some refl)
+  one_too_many n left taken now then (line.Bytes bytes) all mid rest most same some past takes = record {
     raws = past.raws;
     next = takes.raw;
     read = past.read ∙ ap (λ ls. past.raws ++ ls) takes.first.0;
     most = past.many ∙ most;
     output = same ∙ past.output;
   }
-  one_too_many n start now then line.TooLong all mid rest most same some past takes = record {
+  one_too_many n left taken now then line.TooLong all mid rest most same some past takes = record {
     raws = past.raws;
     next = takes.raw;
     read = past.read ∙ ap (λ ls. past.raws ++ ls) takes.first.0;
@@ -217,10 +217,10 @@ module _ (settings : Settings) where
     output = same ∙ past.output;
   }
 
-  pub plays-too_many : (n : ℕ) (start now then : Moment) (l : Line) → n ≡ MOST_LINES → then.taken ≡ now.taken → (l ≡ line.End → ⊥)
-      → Plays settings n start now → TakesLine l now.left then.left → Ran settings (Err (stop.Cause cause.TooManyLines)) start then
-  plays-too_many n start now then l most same some =
-      WhereTold-then start.left now.left then.left (λ all mid rest. one_too_many n start now then l all mid rest most same some)
+  pub plays-too_many : (n : ℕ) (left taken : Option Text) (now then : Moment) (l : Line) → n ≡ MOST_LINES → then.taken ≡ now.taken → (l ≡ line.End → ⊥)
+      → Plays settings n left taken now → TakesLine l now.left then.left → Ran settings (Err (stop.Cause cause.TooManyLines)) left taken then.left then.taken
+  plays-too_many n left taken now then l most same some =
+      WhereTold-then left now.left then.left (λ all mid rest. one_too_many n left taken now then l all mid rest most same some)
 
 -- a run whose flush failed at the end is cut off behind the last line
 pub cut_whole : (settings : Settings) (taken taken_then : Option Text) (all rest : Text) → IsPlayed settings taken taken_then all rest
@@ -240,3 +240,17 @@ cut_whole settings taken taken_then all rest is =
       },
       is.whole,
     )
+
+-- where nothing was read and nothing taken, a run is cut off before its first line
+pub cut_unread : (settings : Settings) (left taken : Option Text) → WhereTold (IsCutOff settings taken taken) left left
+cut_unread settings left taken = WhereTold-refl (IsCutOff settings taken taken) left (λ all. record {
+  raws = [];
+  behind = all;
+  read = refl;
+  few = omega arith;
+  place = (0, omega arith, omega arith, (omega arith, tt, refl));
+  count = 0;
+  within = omega arith;
+  answered = omega arith;
+  output = sym (with_more-nil taken);
+})

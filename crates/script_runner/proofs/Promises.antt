@@ -19,7 +19,7 @@ use Rattle.script_runner.specs.declared.stop.Cause.TheVariants as cause
 use Rattle.script_runner.specs.Script.{Reading, Writing, IsPlayed, IsBrokenOff, HasTooManyLines, IsCutOff, IsCutOffBehindLine, TriesFlush, KeepsPromises}
 use Rattle.script_runner.specs.code.Turns.{read_stopped, write_stopped, Ends, Closes}
 use Rattle.script_runner.proofs.Plays.{cut_whole}
-use Rattle.script_runner.proofs.Legality.{played_is_legal}
+use Rattle.script_runner.proofs.Standing.{played_is_legal}
 
 -- an input with a line too many has more lines than may be read
 too_many-lines : (settings : Settings) (taken taken_then : Option Text) (all rest : Text)

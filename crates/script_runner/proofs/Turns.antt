@@ -7,10 +7,8 @@ use Rattle.dio_core.specs.Lines.{TakesFirst, Answers, TakesLine, line_of}
 use Rattle.dio_core.specs.Sinks.{with_more, TakesPrefix}
 use Rattle.dio_core.proofs.Told.{WhereTold-map}
 use Rattle.dio_core.proofs.Sinks.{with_more-nil}
-use Rattle.rdt_types.specs.declared.settings.Settings.{Settings}
 use Rattle.txn_grammar.specs.Characters.{Text}
-use Rattle.txn_lang.specs.States.{Journal}
-use Rattle.script_runner.specs.Play.{answer, world_of}
+use Rattle.script_runner.specs.Play.{ScriptWorld, Done, done, answer}
 use Rattle.script_runner.specs.code.Turns.{moment, DoesLine, BeginsLine}
 
 -- a line that is there is the first of the input
@@ -19,41 +17,41 @@ first_taken line.End all rest some takes = absurd (some refl)
 first_taken (line.Bytes bytes) all rest some takes = takes
 first_taken line.TooLong all rest some takes = takes
 
-module _ (settings : Settings) (old new : Journal) (reply : Text) (l : Line) (some : l ≡ line.End → ⊥)
-    (answered : answer settings.limit old l ≡ (new, reply)) (left left_then taken taken_then : Option Text) where
+module _ (old new : ScriptWorld) (reply : Text) (l : Line) (some : l ≡ line.End → ⊥)
+    (answered : answer old l ≡ done new reply) (left left_then taken taken_then : Option Text) where
   -- what was answered to the line is what the play answers to it
-  answer_is : (raw : Text) → l ≡ line_of raw → answer settings.limit old (line_of raw) ≡ (new, reply)
-  answer_is raw is = subst (λ (k : Line). answer settings.limit old k ≡ (new, reply)) is answered
+  answer_is : (raw : Text) → l ≡ line_of raw → answer old (line_of raw) ≡ done new reply
+  answer_is raw is = subst (λ (k : Line). answer old k ≡ done new reply) is answered
 
   -- a line was done, and its reply was taken
   pub line-done : TakesLine l left left_then → taken_then ≡ with_more taken reply
-      → WhereTold (DoesLine settings (moment old left taken) (moment new left_then taken_then)) left left_then
+      → WhereTold (DoesLine (moment old left taken) (moment new left_then taken_then)) left left_then
   line-done takes wrote = WhereTold-map left left_then (λ all rest is.
       let line = first_taken l all rest some is in
       let same = answer_is line.raw line.answered in record {
         raw = line.raw;
         read = line.first.0;
-        world = ap (λ (a : Journal × Text). world_of a.0) (sym same);
-        output = wrote ∙ ap (λ (a : Journal × Text). with_more taken a.1) (sym same);
+        world = ap (λ (a : Done). a.world) (sym same);
+        output = wrote ∙ ap (λ (a : Done). with_more taken a.output) (sym same);
       }) takes
 
   -- a line was done, and of its reply a prefix was taken
   pub line-begun : TakesLine l left left_then → TakesPrefix reply taken taken_then
-      → WhereTold (BeginsLine settings (moment old left taken) (moment new left_then taken_then)) left left_then
+      → WhereTold (BeginsLine (moment old left taken) (moment new left_then taken_then)) left left_then
   line-begun takes wrote = WhereTold-map left left_then (λ all rest is.
       let line = first_taken l all rest some is in
       let same = answer_is line.raw line.answered in record {
         raw = line.raw;
         read = line.first.0;
-        output = subst (λ (bytes : Text). TakesPrefix bytes taken taken_then) (ap (λ (a : Journal × Text). a.1) (sym same)) wrote;
+        output = subst (λ (bytes : Text). TakesPrefix bytes taken taken_then) (ap (λ (a : Done). a.output) (sym same)) wrote;
       }) takes
 
 -- a line was read, and there was no memory for what it does
-pub line-wanting : (settings : Settings) (old new : Journal) (l : Line) → (l ≡ line.End → ⊥)
+pub line-wanting : (old new : ScriptWorld) (l : Line) → (l ≡ line.End → ⊥)
     → (left left_then taken taken_then : Option Text)
     → TakesLine l left left_then → taken_then ≡ taken
-    → WhereTold (BeginsLine settings (moment old left taken) (moment new left_then taken_then)) left left_then
-line-wanting settings old new l some left left_then taken taken_then takes same = WhereTold-map left left_then (λ all rest is.
+    → WhereTold (BeginsLine (moment old left taken) (moment new left_then taken_then)) left left_then
+line-wanting old new l some left left_then taken taken_then takes same = WhereTold-map left left_then (λ all rest is.
     let line = first_taken l all rest some is in record {
       raw = line.raw;
       read = line.first.0;

@@ -1,10 +1,7 @@
-pub mod Values
-pub mod Seqs
-pub mod Worlds
 pub mod Words
-pub mod Verbs
-pub mod Snaps
+pub mod Driving
 pub mod Play
+pub mod Worlds
 pub mod Lines
 pub mod Script
 pub mod code

@@ -1,19 +1,25 @@
 -- What a function that does a line returns and leaves.
-use Rattle.std.specs.Prelude.{◌≡◌, Result, Ok, Err}
+use Rattle.std.specs.Prelude.{◌≡◌, Option, Result, Ok, Err}
 use Rattle.std.specs.declared.alloc.AllocError.{AllocError}
-use Rattle.plain_data.specs.declared.or_no_memory.OrNoMemory.{OrNoMemory}
-use Rattle.plain_data.specs.declared.or_no_memory.OrNoMemory.TheVariants.{Cause}
-use Rattle.session_text.specs.declared.reply.Why.{Why}
-use Rattle.txn_trees.specs.declared.statement.Body.{Body}
-use Rattle.txn_lang.specs.declared.checked.Checked.{Checked}
-use Rattle.txn_lang.specs.States.{Journal}
+use Rattle.txn_grammar.specs.Characters.{Text}
+use Rattle.docc_prepare.specs.Stores.{Store}
+use Rattle.session_core.specs.declared.session.Session.{Session}
+use Rattle.session_core.specs.declared.turn.Turn.{Turn}
+use Rattle.session_core.specs.Phases.{Phase}
+use Rattle.script_runner.specs.Driving.{Place}
+use Rattle.script_runner.specs.Play.{ScriptWorld, Did, Done}
 
--- what is answered and the journal are those of the definition, unless memory ran out
-abbrev pub Answers : {A : Type 0} → Result A AllocError → Journal → Journal × A → Type 0
-Answers (Ok a) journal answer = answer ≡ (journal, a)
-Answers (Err e) journal answer = Unit {0}
+-- the world after a line and the output are those of the definition, unless memory ran out
+abbrev pub Answers : Result Text AllocError → ScriptWorld → Done → Type 0
+Answers (Ok output) world done = done ≡ record { world = world; output = output }
+Answers (Err e) world done = Unit {0}
 
--- the body is the one that is read, or it is refused for this reason, unless memory ran out
-abbrev pub ReadsBody : Result Checked (OrNoMemory Why) → Result Body Why → Type 0
-ReadsBody (Ok checked) read = read ≡ Ok checked.body
-ReadsBody (Err fault) read = (reason : Why) → fault ≡ Cause reason → read ≡ Err reason
+-- the same of a client's line: the store, the client's session, and the output
+abbrev pub Does : Result Text AllocError → Store → Option Session → Did → Type 0
+Does (Ok output) store session did = did ≡ record { store = store; session = session; output = output }
+Does (Err e) store session did = Unit {0}
+
+-- the line is over: the store, the session and the turn are those where it ends, unless memory ran out
+abbrev pub IsOver : Result Turn AllocError → Store → Session → Place → Type 0
+IsOver (Ok turn) store session place = place ≡ (store, Phase.over session turn)
+IsOver (Err e) store session place = Unit {0}

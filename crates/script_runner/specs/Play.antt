@@ -1,36 +1,54 @@
--- What a script does: the journal that its lines make, and the bytes that answer them.
+-- What a script does: the world that its lines make, and the bytes that answer them.
 --
--- Each line is tested in this order: whether it is too long; whether it asks for nothing; whether its first word is a
--- client; whether the rest asks for nothing; whether the rest is of a verb's form; whether the verb's body is of the
--- grammar; whether it is well typed; and whether the verb is built, which so far is `do` alone. The first test that fails
--- is answered, and the journal stays. (Too long a line is told from all others where it is cut from the input.)
-use Rattle.std.specs.Prelude.{ℕ, ◌+◌, nat_le, if◌then◌else◌, List, [], ◌∷◌, ◌++◌, fold, length, Option, Some, None, Result, Ok, Err, codes}
+-- Each line is tested in this order: whether it is too long; whether it asks for nothing; whether its first word is a client who
+-- hasn't quit; whether it lets a shard follow. The rest is a line of the client's session, over the client's view of the one store.
+-- (Too long a line is told from all others where it is cut from the input.)
+use Rattle.std.specs.Prelude.{◌≡◌, ℕ, zero, suc, ◌+◌, if◌then◌else◌, List, [], ◌∷◌, ◌++◌, fold, length, set, get_or, Option, Some, None, codes, refl}
 use Rattle.std.specs.Fmt.{decimal}
 use Rattle.dio_core.specs.declared.line.TheConstants.{NEWLINE}
 use Rattle.dio_core.specs.declared.line.Line.{Line}
 use Rattle.dio_core.specs.declared.line.Line.TheVariants as line
-use Rattle.dio_core.specs.Lines.{lines, line_of}
+use Rattle.dio_core.specs.Lines.{lines, line_of as cut_of}
 use Rattle.rdt_types.specs.declared.settings.Settings.{Settings}
+use Rattle.session_text.specs.declared.reply.Reply.{Reply}
 use Rattle.session_text.specs.declared.reply.Reply.TheVariants as reply
 use Rattle.session_text.specs.declared.reply.Why.{Why}
 use Rattle.session_text.specs.declared.reply.Why.TheVariants as why
-use Rattle.session_text.specs.declared.verb.Verb.{Verb}
-use Rattle.session_text.specs.declared.verb.Verb.TheVariants as verb
 use Rattle.session_text.specs.Printing.{printed_reply}
-use Rattle.txn_trees.specs.declared.statement.Body.{Body}
 use Rattle.txn_grammar.specs.Characters.{Text}
-use Rattle.txn_grammar.specs.Parsed.{parsed, syntax_column}
-use Rattle.txn_lang.specs.declared.run.Run.{Run}
-use Rattle.txn_lang.specs.States.{State, Journal, left_by}
-use Rattle.txn_lang.specs.Types.{Names}
-use Rattle.txn_lang.specs.Typing.{Judged, judge}
-use Rattle.txn_lang.specs.Journals.{commit_of}
-use Rattle.txn_lang.proofs.Observed.{whole_runs_are_done}
-use Rattle.script_runner.specs.declared.reply.Early.{Early}
-use Rattle.script_runner.specs.declared.reply.Early.TheVariants as early
-use Rattle.script_runner.specs.declared.reply.Told.{Told}
-use Rattle.script_runner.specs.Words.{trimmed_start, trimmed_end, first_word, after_word, is_quiet, client_named}
-use Rattle.script_runner.specs.Verbs.{asked}
+use Rattle.docc_prepare.specs.Stores.{Store, CLIENTS, first_store, followed}
+use Rattle.session_core.specs.declared.session.Session.{Session}
+use Rattle.session_core.specs.declared.turn.Turn.{Turn}
+use Rattle.session_core.specs.declared.turn.Turn.TheVariants as turn
+use Rattle.session_core.specs.Lines.{line_of}
+use Rattle.session_core.specs.Phases.{Phase}
+use Rattle.session_core.specs.Words.{trimmed_start, is_quiet}
+use Rattle.script_runner.specs.Words.{first_word, after_word, client_named, is_follow, shard_named}
+use Rattle.script_runner.specs.Driving.{Place, line_done}
+
+-- ---- worlds
+
+-- What a script has: the store, and the session of each client, or None where the client has quit.
+pub record ScriptWorld : Type 0 where
+  pub store : Store
+  pub sessions : List (Option Session)
+
+-- a client's session, before its first line
+abbrev pub first_session : ℕ → Session
+first_session client = record { client = client; seq = 1; at = 0; attempt = None; over = None }
+
+-- those of the first so many clients
+abbrev pub first_sessions : ℕ → List (Option Session)
+first_sessions zero = []
+first_sessions (suc n) = first_sessions n ++ Some (first_session n) ∷ []
+
+-- Nothing is committed, and nobody has quit.
+abbrev pub first_world : Settings → ScriptWorld
+first_world settings = record { store = first_store settings.shards settings.window settings.limit; sessions = first_sessions CLIENTS }
+
+-- the session of a client, if it goes on
+abbrev pub session_of : ScriptWorld → ℕ → Option Session
+session_of world client = get_or world.sessions client None
 
 -- ---- replies
 
@@ -39,118 +57,91 @@ abbrev pub named : Option ℕ → Text
 named None = codes "-"
 named (Some client) = decimal client
 
--- the words of a reply
-abbrev pub words : Early → Text
-words (early.Built r) = printed_reply r
-words early.Unbuilt = codes "refused unbuilt"
-
 -- a reply line: whom it names, a space, the words and a newline
-abbrev pub reply_line : Told → Text
-reply_line told = ((named told.client ++ 32 ∷ []) ++ words told.reply) ++ NEWLINE ∷ []
+abbrev pub reply_line : Option ℕ → Text → Text
+reply_line client words = ((named client ++ 32 ∷ []) ++ words) ++ NEWLINE ∷ []
 
--- a line that asks for nothing has no reply
-abbrev pub printed : Option Told → Text
-printed None = []
-printed (Some told) = reply_line told
+-- the lines of replies, in their order
+abbrev pub reply_lines : Option ℕ → List Reply → Text
+reply_lines client [] = []
+reply_lines client (r ∷ rest) = reply_line client (printed_reply r) ++ reply_lines client rest
 
-abbrev pub refused : Why → Early
-refused reason = early.Built (reply.Refused reason)
+-- a refusal
+abbrev pub refused_line : Option ℕ → Why → Text
+refused_line client reason = reply_line client (printed_reply (reply.Refused reason))
 
--- ---- the body of a verb
+-- what a client is answered
+abbrev pub printed : ℕ → Turn → Text
+printed client turn.Quiet = []
+printed client (turn.Replies replies) = reply_lines (Some client) replies
+printed client turn.Unbuilt = reply_line (Some client) (codes "refused unbuilt")
+printed client (turn.Ended replies) = reply_lines (Some client) replies
 
-abbrev pub if_typed : Body → Judged Names → Result Body Why
-if_typed body (Ok names) = Ok body
-if_typed body (Err column) = Err (why.BadType column)
+-- ---- the line of a client
 
-abbrev pub if_parsed : Text → Option Body → Result Body Why
-if_parsed text None = Err (why.Syntax (syntax_column text))
-if_parsed text (Some body) = if_typed body (judge body)
+-- What it comes to: the store, the client's session, and the bytes that answer it.
+pub record Did : Type 0 where
+  pub store : Store
+  pub session : Option Session
+  pub output : Text
 
--- The body that a text is, or why it is refused. Blanks at its end mean nothing; where it only ends too early its column is
--- the one behind them.
-unfoldable pub body_of : Text → Result Body Why
-body_of text = if_parsed text (parsed text)
+abbrev pub did : Store → Option Session → Text → Did
+did store session output = record { store = store; session = session; output = output }
 
--- ---- what one verb does
+-- a session goes on, unless its turn ended it
+abbrev pub left : Session → Turn → Option Session
+left session (turn.Ended replies) = None
+left session t = Some session
 
--- the journal after a verb, and the reply to it
-abbrev pub Answer : Type 0
-Answer = Journal × Early
+-- where a line of a session is over. (No other phase is reached by so many calls.)
+abbrev pub ended_line : ℕ → Store → Session → Place → Did
+ended_line client store session (after, Phase.over then t) = did after (left then t) (printed client t)
+ended_line client store session (after, p) = did store (Some session) []
 
--- a journal that has as many commits as its limit takes no more
-abbrev pub committed : ℕ → Journal → ℕ → Text → Run → Answer
-committed limit journal client body run =
-    if nat_le limit (length journal) then (journal, early.Built (reply.Full limit))
-    else (journal ++ commit_of journal client body run ∷ [], early.Built (reply.Commit (length journal + 1) run.outcome))
+abbrev pub session_line : ℕ → Store → Session → Text → Did
+session_line client store session text = ended_line client store session (line_done client store session (line_of text))
 
--- The run of a body on a state. A state has every value that a run may need, so by the law `whole_runs_are_done` each run
--- on it is done; this is the run of which the law speaks.
-unfoldable pub run_on : Body → State → Run
-run_on body state = (whole_runs_are_done body state).0
+-- `follow K`: the shard follows to the journal's end. Where it names no shard, it is of no verb's form.
+abbrev pub follow_line : ℕ → Store → Session → Option ℕ → Did
+follow_line client store session None = did store (Some session) (refused_line (Some client) why.Verb)
+follow_line client store session (Some shard) =
+    did (followed store client shard) (Some session) (reply_line (Some client) (printed_reply (reply.Followed shard (length store.journal))))
 
--- A body runs on the state that the journal leaves, and is committed without the blanks at its end.
-abbrev pub ran : ℕ → Journal → ℕ → Text → Result Body Why → Answer
-ran limit journal client text (Err reason) = (journal, refused reason)
-ran limit journal client text (Ok body) = committed limit journal client (trimmed_end text) (run_on body (left_by journal))
+-- a client who has quit is none
+abbrev pub client_line : ℕ → Store → Option Session → Text → Did
+client_line client store None text = did store None (refused_line None why.Client)
+client_line client store (Some session) text =
+    if is_follow text then follow_line client store session (shard_named store.shards (after_word text)) else session_line client store session text
 
--- what is said of the body of a verb that isn't built
-abbrev pub only_read : Result Body Why → Early
-only_read (Err reason) = refused reason
-only_read (Ok body) = early.Unbuilt
+-- ---- one line
 
-abbrev pub of_verb : ℕ → Journal → ℕ → Verb → Answer
-of_verb limit journal client (verb.Do text) = ran limit journal client text (body_of text)
-of_verb limit journal client (verb.Try attempts text) = (journal, only_read (body_of text))
-of_verb limit journal client (verb.Begin text) = (journal, only_read (body_of text))
-of_verb limit journal client (verb.Look text) = (journal, only_read (body_of text))
-of_verb limit journal client (verb.At number text) = (journal, only_read (body_of text))
-of_verb limit journal client (verb.Watch name text) = (journal, only_read (body_of text))
-of_verb limit journal client other = (journal, early.Unbuilt)
+-- the world after a line, and the bytes that answer it
+pub record Done : Type 0 where
+  pub world : ScriptWorld
+  pub output : Text
 
--- ---- what one line does
+abbrev pub done : ScriptWorld → Text → Done
+done world output = record { world = world; output = output }
 
-abbrev pub of_asked : ℕ → Journal → ℕ → Option Verb → Answer
-of_asked limit journal client None = (journal, refused why.Verb)
-of_asked limit journal client (Some v) = of_verb limit journal client v
+-- the client's line has changed the store and the client's session
+abbrev pub placed : ScriptWorld → ℕ → Did → Done
+placed world client d = done (record { store = d.store; sessions = set world.sessions client d.session }) d.output
 
--- the journal after a line, and what is told of it
-abbrev pub Done : Type 0
-Done = Journal × Option Told
-
-abbrev pub tells : Option ℕ → Answer → Done
-tells client answer = (answer.0, Some (record { client = client; reply = answer.1 }))
-
--- what follows a client
-unfoldable pub client_line : ℕ → Journal → ℕ → Text → Done
-client_line limit journal client text =
-    if is_quiet text then (journal, None) else tells (Some client) (of_asked limit journal client (asked text))
-
-abbrev pub line_of_client : ℕ → Journal → Text → Option ℕ → Done
-line_of_client limit journal text None = tells None (journal, refused why.Client)
-line_of_client limit journal text (Some client) = client_line limit journal client (after_word text)
+-- what a line does whose first word names this client, or none
+abbrev pub named_line : ScriptWorld → Option ℕ → Text → Done
+named_line world None text = done world (refused_line None why.Client)
+named_line world (Some client) text = placed world client (client_line client world.store (session_of world client) text)
 
 -- a line without the blanks at its beginning
-unfoldable pub text_line : ℕ → Journal → Text → Done
-text_line limit journal text = if is_quiet text then (journal, None) else line_of_client limit journal text (client_named (first_word text))
+abbrev pub text_line : ScriptWorld → Text → Done
+text_line world text = if is_quiet text then done world [] else named_line world (client_named (first_word text)) (after_word text)
 
-abbrev pub does : ℕ → Journal → Line → Done
-does limit journal (line.Bytes bytes) = text_line limit journal (trimmed_start bytes)
-does limit journal line.TooLong = tells None (journal, refused why.Long)
-does limit journal line.End = (journal, None)
-
--- the journal after a line, and the bytes that answer it
-abbrev pub answer : ℕ → Journal → Line → Journal × Text
-answer limit journal l = ((does limit journal l).0, printed (does limit journal l).1)
+abbrev pub answer : ScriptWorld → Line → Done
+answer world (line.Bytes bytes) = text_line world (trimmed_start bytes)
+answer world line.TooLong = done world (refused_line None why.Long)
+answer world line.End = done world []
 
 -- ---- what a script does
-
--- What a script has made so far: its journal.
-pub record ScriptWorld : Type 0 where
-  pub journal : Journal
-
--- the world of this journal
-abbrev pub world_of : Journal → ScriptWorld
-world_of journal = record { journal = journal }
 
 -- What lines have made of the world that they began with, and their replies.
 pub record Played : Type 0 where
@@ -158,28 +149,34 @@ pub record Played : Type 0 where
   pub output : Text
 
 -- before the first line
-abbrev pub nothing_played : Played
-nothing_played = record { world = world_of []; output = [] }
+abbrev pub nothing_played : Settings → Played
+nothing_played settings = record { world = first_world settings; output = [] }
 
 -- the world after a line as it stands in the input
-abbrev pub world_after : Settings → ScriptWorld → Text → ScriptWorld
-world_after settings world raw = world_of (answer settings.limit world.journal (line_of raw)).0
+abbrev pub world_after : ScriptWorld → Text → ScriptWorld
+world_after world raw = (answer world (cut_of raw)).world
 
 -- the reply to such a line
-abbrev pub reply_to : Settings → ScriptWorld → Text → Text
-reply_to settings world raw = (answer settings.limit world.journal (line_of raw)).1
+abbrev pub reply_to : ScriptWorld → Text → Text
+reply_to world raw = (answer world (cut_of raw)).output
 
 -- and then one more line
-abbrev pub one_more : Settings → Played → Text → Played
-one_more settings played raw = record {
-  world = world_after settings played.world raw;
-  output = played.output ++ reply_to settings played.world raw;
-}
+abbrev pub one_more : Played → Text → Played
+one_more played raw = record { world = world_after played.world raw; output = played.output ++ reply_to played.world raw }
 
 -- lines in order
 abbrev pub played : Settings → List Text → Played
-played settings raws = fold (one_more settings) nothing_played raws
+played settings raws = fold one_more (nothing_played settings) raws
 
 -- a whole input
 abbrev pub play : Settings → Text → Played
 play settings bytes = played settings (lines bytes)
+
+-- ---- worked lines
+
+-- a refusal names its client, or nobody
+named-refusal : refused_line (Some 7) why.Busy ≡ codes "7 refused busy" ++ NEWLINE ∷ []
+named-refusal = refl
+
+nobody-refused : refused_line None why.Client ≡ codes "- refused client" ++ NEWLINE ∷ []
+nobody-refused = refl

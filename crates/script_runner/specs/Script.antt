@@ -107,7 +107,7 @@ pub record KeepsPromises (settings : Settings) (status : ℕ) (r : Reading) (w :
   -- and passed on
   pub flushed : status ≡ WHOLE → IsPassedOn w.taken_then w.passed_then
   -- the journal that the script leaves is legal: each commit is what its body does on the state of those before it
-  pub legal : IfSome r.left (λ all. IsLegal 0 (play settings all).world.journal)
+  pub legal : IfSome r.left (λ all. IsLegal 0 (play settings all).world.store.journal)
   -- at 3 the output of the lines that were read whole was taken
   pub broken_off : status ≡ READ_FAULT → WhereTold (IsBrokenOff settings w.taken w.taken_then) r.left r.left_then
   -- at 9 that of the most lines that may be read

@@ -1,13 +1,17 @@
--- What is kept beside a journal.
-use Rattle.std.specs.Prelude.{◌≡◌, ℕ, length}
-use Rattle.rdt_types.specs.declared.address.Address.{Address}
-use Rattle.txn_lang.specs.States.{left_by}
-use Rattle.txn_lang.specs.Journals.{own}
-use Rattle.script_runner.specs.declared.world.World.{World}
-use Rattle.script_runner.specs.Values.{state_in}
-use Rattle.script_runner.specs.Seqs.{last_seq}
+-- The world of a script in code, and what it keeps to between its lines.
+use Rattle.std.specs.Prelude.{◌≡◌, ℕ, ◌<◌, length, get_or, None, IfSome}
+use Rattle.docc_prepare.specs.Stores.{CLIENTS, IsSound, known_by}
+use Rattle.local_world.specs.Stored.{store_of}
+use Rattle.session_core.specs.Holding.{Attends}
+use Rattle.script_runner.specs.declared.world.Script.{Script}
+use Rattle.script_runner.specs.Play.{ScriptWorld, session_of}
 
--- The values are those that the journal leaves, and the seqs count each client's commits in it.
-pub record Keeps (world : World) : Type 0 where
-  pub values : (a : Address) → state_in world.values a ≡ left_by world.journal a
-  pub seqs : (client : ℕ) → last_seq world.seqs client ≡ length (own client world.journal)
+-- the world that a script has
+abbrev pub world_of : Script → ScriptWorld
+world_of script = record { store = store_of script.world; sessions = script.sessions.items }
+
+-- The store is sound, there is a place for each client, and each session attends its client's backend.
+pub record Stands (world : ScriptWorld) : Type 0 where
+  pub sound : IsSound world.store
+  pub places : length world.sessions ≡ CLIENTS
+  pub attend : (client : ℕ) → IfSome (session_of world client) (Attends (known_by world.store client))

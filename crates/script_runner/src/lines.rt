@@ -1,206 +1,178 @@
 //! What each line of a script does.
 
-ghost use Rattle.std.specs.Prelude.{◌≡◌, ◌≤◌, length, OnOk, Some, None};
+ghost use Rattle.std.specs.Prelude.{◌≡◌, ◌≤◌, ◌<◌, length, IfOk, IfSome, OnOk, None, Some};
 ghost use Rattle.dio_core.specs.Lines.{IsShort};
+ghost use Rattle.docc_prepare.specs.Stores.{CLIENTS, seen_by, known_by};
+ghost use Rattle.local_world.specs.Stored.{store_of};
+ghost use Rattle.session_core.specs.Lines.{line_of};
+ghost use Rattle.session_core.specs.Holding.{Attends};
+ghost use Rattle.script_runner.specs.Driving.{line_done};
+ghost use Rattle.script_runner.specs.Lines.{Answers, Does, IsOver};
 ghost use Rattle.script_runner.specs.Play as spec;
-ghost use Rattle.script_runner.specs.Worlds.{Keeps};
-ghost use Rattle.session_text.specs.Bodies.{IsWithin};
-ghost use Rattle.script_runner.specs.Verbs.{asked as asked_in};
-ghost use Rattle.script_runner.specs.Lines.{Answers};
+ghost use Rattle.script_runner.specs.Worlds.{world_of, Stands};
 
-use crate::body::body_of;
-use crate::reply::{Early, Told, printed, refused};
-use crate::words::{after_word, client_named, first_word, is_quiet, trimmed_start};
-use crate::world::World;
+use crate::replies::{printed, refused_line, reply_line};
+use crate::words::{after_word, client_named, first_word, is_follow, shard_named};
+use crate::world::Script;
 use dio_core::{LONGEST_LINE, Line};
-use plain_data::{OrNoMemory, Text};
-use session_text::{Reply, Verb, VerbError, Why, read_verb};
+use local_world::{View, World};
+use plain_data::Text;
+use session_core::{Session, Turn, is_quiet, trimmed_start};
+use session_text::{Reply, Why};
 use std::alloc::{AllocError, Global};
-use txn_lang::Run;
 
-/// Commits a run, where the journal has room.
-fn commit(
+/// Does a line of a session over its client's view. The store of one thread never fails, so an error is want of memory.
+fn over_view(
     alloc: Global,
-    limit: u32,
-    world: &mut World,
-    client: u32,
-    body: Text,
-    run: Run,
-) -> Result<Early, AllocError>
-    requires { Keeps world.old }
-    ensures answers { Answers result world.new.journal (spec.committed limit world.old.journal client body run) }
-    ensures keeps { OnOk result (Keeps world.new) }
+    view: &mut View<'_>,
+    session: &mut Session,
+    text: &[u8],
+) -> Result<Turn, AllocError>
+    requires attends { Attends (known_by (store_of view.old.world.now) view.old.client) session.old }
+    requires short { length text.now ≤ LONGEST_LINE }
+    ensures over { IsOver result (store_of view.new.world.now) session.new
+        (line_done view.old.client (store_of view.old.world.now) session.old (line_of text.now)) }
 {
-    let number = world.journal.len();
-    if number >= limit as usize {
-        return Ok(Early::Built(Reply::Full(limit)));
+    match session.line(alloc, view, text) {
+        Ok(turn) => Ok(turn),
+        Err(_) => Err(AllocError),
     }
-    let outcome = run.outcome.clone()?;
-    world.add(alloc, client, body, run)?;
-    Ok(Early::Built(Reply::Commit(number as u64 + 1, outcome)))
 }
 
-/// Runs the body that a text is, and commits it.
-fn run_body(
+/// Does a line of a client's session.
+fn in_world(
     alloc: Global,
-    limit: u32,
     world: &mut World,
     client: u32,
+    session: &mut Session,
     text: &[u8],
-) -> Result<Early, AllocError>
-    requires keeps { Keeps world.old }
+) -> Result<Turn, AllocError>
+    requires client { client < CLIENTS }
+    requires attends { Attends (known_by (store_of world.old) client) session.old }
     requires short { length text.now ≤ LONGEST_LINE }
-    ensures answers { Answers result world.new.journal (spec.ran limit world.old.journal client text.now (spec.body_of text.now)) }
-    ensures keeps { OnOk result (Keeps world.new) }
+    ensures over { IsOver result (store_of world.new) session.new (line_done client (store_of world.old) session.old (line_of text.now)) }
 {
-    let checked = match body_of(alloc, text) {
-        Ok(checked) => checked,
-        Err(OrNoMemory::Cause(reason)) => return Ok(refused(reason)),
-        Err(OrNoMemory::NoMemory) => return Err(AllocError),
+    let mut view = world.view(client);
+    over_view(alloc, &mut view, session, text)
+}
+
+/// A session goes on, unless its turn ended it.
+fn left(session: Session, turn: &Turn) -> Option<Session>
+    ensures { result ≡ spec.left session turn.now }
+{
+    match turn {
+        Turn::Ended(_) => None,
+        _ => Some(session),
+    }
+}
+
+/// A line of a client's session, where the session then stands at the place.
+fn session_line(
+    alloc: Global,
+    world: &mut World,
+    client: u32,
+    mut session: Session,
+    place: &mut Option<Session>,
+    text: &[u8],
+) -> Result<Text, AllocError>
+    requires client { client < CLIENTS }
+    requires attends { Attends (known_by (store_of world.old) client) session }
+    requires short { length text.now ≤ LONGEST_LINE }
+    ensures { Does result (store_of world.new) place.new (spec.session_line client (store_of world.old) session text.now) }
+{
+    let turn = in_world(alloc, world, client, &mut session, text)?;
+    let output = printed(alloc, client, &turn)?;
+    *place = left(session, &turn);
+    Ok(output)
+}
+
+/// `follow K`.
+fn follow_line(
+    alloc: Global,
+    world: &mut World,
+    client: u32,
+    shard: Option<u8>,
+) -> Result<Text, AllocError>
+    requires client { client < CLIENTS }
+    requires below { IfSome shard (λ k. k < world.old.shards) }
+    ensures { (session : Session) → Does result (store_of world.new) (Some session) (spec.follow_line client (store_of world.old) session shard) }
+{
+    let Some(shard) = shard else {
+        return refused_line(alloc, Some(client), Why::Verb);
     };
-    let run = world.run(alloc, &checked)?;
-    commit(alloc, limit, world, client, checked.source, run)
+    let front = world.follow(client, shard)?;
+    reply_line(alloc, Some(client), &Reply::Followed(shard, front))
 }
 
-/// Reads the body that a text is, for a verb that isn't built.
-fn only_read(alloc: Global, world: &World, text: &[u8]) -> Result<Early, AllocError>
-    requires { length text.now ≤ LONGEST_LINE }
-    ensures { Answers result world.now.journal (world.now.journal, spec.only_read (spec.body_of text.now)) }
-{
-    let _ = world;
-    match body_of(alloc, text) {
-        Ok(_) => Ok(Early::Unbuilt),
-        Err(OrNoMemory::Cause(reason)) => Ok(refused(reason)),
-        Err(OrNoMemory::NoMemory) => Err(AllocError),
-    }
-}
-
-/// Does what a verb asks for.
-fn of_verb(
-    alloc: Global,
-    limit: u32,
-    world: &mut World,
-    client: u32,
-    verb: &Verb,
-) -> Result<Early, AllocError>
-    requires keeps { Keeps world.old }
-    requires short { IsWithin LONGEST_LINE verb.now }
-    ensures answers { Answers result world.new.journal (spec.of_verb limit world.old.journal client verb.now) }
-    ensures keeps { OnOk result (Keeps world.new) }
-{
-    match verb {
-        Verb::Do(text) => run_body(alloc, limit, world, client, text.as_slice()),
-        Verb::Try(_, text) => only_read(alloc, world, text.as_slice()),
-        Verb::Begin(text) => only_read(alloc, world, text.as_slice()),
-        Verb::Look(text) => only_read(alloc, world, text.as_slice()),
-        Verb::At(_, text) => only_read(alloc, world, text.as_slice()),
-        Verb::Watch(_, text) => only_read(alloc, world, text.as_slice()),
-        _ => Ok(Early::Unbuilt),
-    }
-}
-
-/// Does what a text asks for that follows a client.
-fn asked(
-    alloc: Global,
-    limit: u32,
-    world: &mut World,
-    client: u32,
-    text: &[u8],
-) -> Result<Early, AllocError>
-    requires keeps { Keeps world.old }
-    requires short { length text.now ≤ LONGEST_LINE }
-    ensures answers { Answers result world.new.journal (spec.of_asked limit world.old.journal client (asked_in text.now)) }
-    ensures keeps { OnOk result (Keeps world.new) }
-{
-    match read_verb(alloc, text) {
-        Ok(verb) => of_verb(alloc, limit, world, client, &verb),
-        Err(VerbError::BadVerb) => Ok(refused(Why::Verb)),
-        Err(VerbError::NoMemory) => Err(AllocError),
-    }
-}
-
-/// What follows a client.
-#[tactic(auto, unfolding(crate::specs::Play::client_line))]
+/// What follows a client, whose session stands at the place.
 fn client_line(
     alloc: Global,
-    limit: u32,
     world: &mut World,
     client: u32,
+    place: &mut Option<Session>,
     text: &[u8],
-) -> Result<Option<Told>, AllocError>
-    requires keeps { Keeps world.old }
+) -> Result<Text, AllocError>
+    requires client { client < CLIENTS }
+    requires attends { IfSome place.old (Attends (known_by (store_of world.old) client)) }
     requires short { length text.now ≤ LONGEST_LINE }
-    ensures answers { Answers result world.new.journal (spec.client_line limit world.old.journal client text.now) }
-    ensures keeps { OnOk result (Keeps world.new) }
+    ensures { Does result (store_of world.new) place.new (spec.client_line client (store_of world.old) place.old text.now) }
 {
-    if is_quiet(text) {
-        return Ok(None);
+    let Some(session) = place.take() else {
+        return refused_line(alloc, None, Why::Client);
+    };
+    if is_follow(text) {
+        let shard = shard_named(world.shards(), after_word(text));
+        *place = Some(session);
+        follow_line(alloc, world, client, shard)
+    } else {
+        session_line(alloc, world, client, session, place, text)
     }
-    let reply = asked(alloc, limit, world, client, text)?;
-    Ok(Some(Told {
-        client: Some(client),
-        reply,
-    }))
 }
 
-/// The refusal of a line that names no client.
-fn refused_line(reason: Why) -> Option<Told>
-    ensures { result ≡ Some (record { client = None; reply = spec.refused reason }) }
+/// What follows the first word of a line, which names a client or none.
+fn named_line(
+    alloc: Global,
+    script: &mut Script,
+    client: Option<u32>,
+    text: &[u8],
+) -> Result<Text, AllocError>
+    requires client { IfSome client (λ n. n < CLIENTS) }
+    requires stands { Stands (world_of script.old) }
+    requires short { length text.now ≤ LONGEST_LINE }
+    ensures { Answers result (world_of script.new) (spec.named_line (world_of script.old) client text.now) }
 {
-    Some(Told {
-        client: None,
-        reply: refused(reason),
-    })
+    match client {
+        Some(client) => {
+            let place = &mut script.sessions[client as usize];
+            client_line(alloc, &mut script.world, client, place, text)
+        }
+        None => refused_line(alloc, None, Why::Client),
+    }
 }
 
 /// A line without the blanks at its beginning.
-#[tactic(auto, unfolding(crate::specs::Play::text_line))]
-fn text_line(
-    alloc: Global,
-    limit: u32,
-    world: &mut World,
-    text: &[u8],
-) -> Result<Option<Told>, AllocError>
-    requires keeps { Keeps world.old }
+fn text_line(alloc: Global, script: &mut Script, text: &[u8]) -> Result<Text, AllocError>
+    requires stands { Stands (world_of script.old) }
     requires short { length text.now ≤ LONGEST_LINE }
-    ensures answers { Answers result world.new.journal (spec.text_line limit world.old.journal text.now) }
-    ensures keeps { OnOk result (Keeps world.new) }
+    ensures { Answers result (world_of script.new) (spec.text_line (world_of script.old) text.now) }
 {
     if is_quiet(text) {
-        return Ok(None);
+        return Ok(Text::new(alloc));
     }
-    match client_named(first_word(text)) {
-        Some(client) => client_line(alloc, limit, world, client, after_word(text)),
-        None => Ok(refused_line(Why::Client)),
-    }
+    let client = client_named(first_word(text));
+    named_line(alloc, script, client, after_word(text))
 }
 
-/// Does a line.
-fn does(
-    alloc: Global,
-    limit: u32,
-    world: &mut World,
-    line: &Line,
-) -> Result<Option<Told>, AllocError>
-    requires keeps { Keeps world.old }
+/// Does a line, and answers the bytes of its reply. After want of memory the script is of no use.
+pub fn answer(alloc: Global, script: &mut Script, line: &Line) -> Result<Text, AllocError>
+    requires stands { Stands (world_of script.old) }
     requires short { IsShort line.now }
-    ensures answers { Answers result world.new.journal (spec.does limit world.old.journal line.now) }
-    ensures keeps { OnOk result (Keeps world.new) }
+    ensures answers { Answers result (world_of script.new) (spec.answer (world_of script.old) line.now) }
+    ensures stands { OnOk result (Stands (world_of script.new)) }
 {
     match line {
-        Line::Bytes(bytes) => text_line(alloc, limit, world, trimmed_start(bytes.as_slice())),
-        Line::TooLong => Ok(refused_line(Why::Long)),
-        Line::End => Ok(None),
+        Line::Bytes(bytes) => text_line(alloc, script, trimmed_start(bytes.as_slice())),
+        Line::TooLong => refused_line(alloc, None, Why::Long),
+        Line::End => Ok(Text::new(alloc)),
     }
-}
-
-/// Does a line, and answers its reply. After want of memory the world is of no use.
-pub fn answer(alloc: Global, limit: u32, world: &mut World, line: &Line) -> Result<Text, AllocError>
-    requires keeps { Keeps world.old }
-    requires short { IsShort line.now }
-    ensures answers { Answers result world.new.journal (spec.answer limit world.old.journal line.now) }
-    ensures keeps { OnOk result (Keeps world.new) }
-{
-    let told = does(alloc, limit, world, line)?;
-    printed(alloc, &told)
 }

@@ -1,16 +1,17 @@
 //! A script: its lines are read, done and answered, one after another.
 
-ghost use Rattle.std.specs.Prelude.{◌≡◌, [], IfOk, IfErr, OnOk};
+ghost use Rattle.std.specs.Prelude.{◌≡◌, IfOk, IfErr, OnOk};
 ghost use Rattle.dio_core.specs.Counts.{IsCounted};
 ghost use Rattle.dio_core.specs.Lines.{TakesLine, IsShort};
-ghost use Rattle.script_runner.specs.Worlds.{Keeps};
+ghost use Rattle.script_runner.specs.Worlds.{world_of, Stands};
+ghost use Rattle.script_runner.specs.Play.{first_world};
 ghost use Rattle.script_runner.specs.Script.{reading, writing, TriesFlush, KeepsPromises};
 ghost use Rattle.script_runner.specs.code.Turns.{moment, read_stopped, write_stopped, StopsReading, Turns, Ran, Closes};
 
 use crate::lines::answer;
 use crate::status::{NO_MEMORY, READ_FAULT, TOO_MANY_LINES, WHOLE, WRITE_FAULT};
 use crate::stop::{Cause, MOST_LINES, Stop};
-use crate::world::World;
+use crate::world::Script;
 use dio_core::{Line, LineFault, Sink, Source, next_line, write_all};
 use plain_data::OrNoMemory;
 use rdt_types::Settings;
@@ -33,15 +34,14 @@ fn read_line<S: Source>(alloc: Global, source: &mut S) -> Result<Line, Stop>
 /// Reads, does and answers one line. `false` says that there was none.
 fn turn<S: Source, W: Sink>(
     alloc: Global,
-    settings: &Settings,
-    world: &mut World,
+    script: &mut Script,
     source: &mut S,
     sink: &mut W,
 ) -> Result<bool, Stop>
-    requires { Keeps world.old }
-    ensures turns { Turns settings.now result (moment world.old.journal (S.left source.old) (W.taken sink.old))
-        (moment world.new.journal (S.left source.new) (W.taken sink.new)) }
-    ensures keeps { OnOk result (Keeps world.new) }
+    requires { Stands (world_of script.old) }
+    ensures turns { Turns result (moment (world_of script.old) (S.left source.old) (W.taken sink.old))
+        (moment (world_of script.new) (S.left source.new) (W.taken sink.new)) }
+    ensures stands { OnOk result (Stands (world_of script.new)) }
     ensures reads { IsCounted (read_stopped result) (S.read_faults source.old) (S.read_faults source.new) }
     ensures writes { IsCounted (write_stopped result) (W.write_faults sink.old) (W.write_faults sink.new) }
 {
@@ -49,7 +49,7 @@ fn turn<S: Source, W: Sink>(
         Line::End => return Ok(false),
         line => line,
     };
-    let reply = answer(alloc, settings.limit, world, &line)?;
+    let reply = answer(alloc, script, &line)?;
     if write_all(sink, reply.as_slice()) {
         Ok(true)
     } else {
@@ -64,13 +64,13 @@ fn run_lines<S: Source, W: Sink>(
     source: &mut S,
     sink: &mut W,
 ) -> Result<(), Stop>
-    ensures ran { Ran settings.now result (moment [] (S.left source.old) (W.taken sink.old)) (moment [] (S.left source.new) (W.taken sink.new)) }
+    ensures ran { Ran settings.now result (S.left source.old) (W.taken sink.old) (S.left source.new) (W.taken sink.new) }
     ensures reads { IsCounted (read_stopped result) (S.read_faults source.old) (S.read_faults source.new) }
     ensures writes { IsCounted (write_stopped result) (W.write_faults sink.old) (W.write_faults sink.new) }
 {
-    let mut world = World::new(alloc);
+    let mut script = Script::new(alloc, settings)?;
     for _ in 0..MOST_LINES {
-        if !turn(alloc, settings, &mut world, source, sink)? {
+        if !turn(alloc, &mut script, source, sink)? {
             return Ok(());
         }
     }

@@ -19,4 +19,5 @@ pub mod Explaining
 pub mod Explained
 pub mod Stays
 pub mod Talked
+pub mod GoingOn
 pub mod Went

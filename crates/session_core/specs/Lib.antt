@@ -8,4 +8,5 @@ pub mod Reading
 pub mod Leading
 pub mod Explained
 pub mod Bounds
+pub mod GoingOn
 pub mod Sessions

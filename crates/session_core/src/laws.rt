@@ -1,6 +1,7 @@
 //! The laws of lines: functions that do nothing, whose contracts are theorems over the definitions.
 
 ghost use Rattle.session_core.specs.Bounds.{LinesAreBounded, TriesAreFew, CallsSuffice};
+ghost use Rattle.session_core.specs.GoingOn.{LinesAreReady, SessionsGoOn};
 ghost use Rattle.session_core.specs.Lines.{VerbsAreForms};
 ghost use Rattle.session_core.specs.Sessions.{ExplainsStays, SessionsAreExplained};
 
@@ -33,4 +34,14 @@ pub fn explained_stays()
 /// that its client's commits and denials are the answered ones.
 pub fn sessions_are_explained()
     ensures { SessionsAreExplained }
+{}
+
+/// The law that each call which a line asks for may be made, by whatever answers it came there.
+pub fn lines_are_ready()
+    ensures { LinesAreReady }
+{}
+
+/// The law that a session goes on behind its line, behind what others do, and where a shard was let follow.
+pub fn sessions_go_on()
+    ensures { SessionsGoOn }
 {}

@@ -9,11 +9,10 @@ use Rattle.dio_core.specs.Lines.{lines, BreaksOff}
 use Rattle.dio_core.specs.Sinks.{with_more, TakesPrefix, IsPassedOn}
 use Rattle.rdt_types.specs.declared.settings.Settings.{Settings}
 use Rattle.txn_grammar.specs.Characters.{Text}
-use Rattle.txn_lang.specs.States.{Journal}
 use Rattle.script_runner.specs.declared.status.TheConstants.{WHOLE, READ_FAULT, WRITE_FAULT, NO_MEMORY, TOO_MANY_LINES}
 use Rattle.script_runner.specs.declared.stop.Cause.{Cause}
 use Rattle.script_runner.specs.declared.stop.Cause.TheVariants as cause
-use Rattle.script_runner.specs.Play.{ScriptWorld, world_of, played, world_after, reply_to}
+use Rattle.script_runner.specs.Play.{ScriptWorld, played, world_after, reply_to}
 use Rattle.script_runner.specs.Script.{Writing, IsPlayed, IsBrokenOff, HasTooManyLines, IsCutOff, IsCutOffBehindLine, TriesFlush}
 
 -- What a run has at a moment: its world, what the source has left, and what the sink has taken.
@@ -22,8 +21,8 @@ pub record Moment : Type 0 where
   pub left : Option Text
   pub taken : Option Text
 
-abbrev pub moment : Journal → Option Text → Option Text → Moment
-moment journal left taken = record { world = world_of journal; left = left; taken = taken }
+abbrev pub moment : ScriptWorld → Option Text → Option Text → Moment
+moment world left taken = record { world = world; left = left; taken = taken }
 
 -- the run stops for a fault of its source
 abbrev pub read_stopped : {A : Type 0} → Result A (OrNoMemory Cause) → Bool
@@ -51,42 +50,42 @@ StopsReading (stop.Cause cause.TooManyLines) left left_then = ⊥
 -- ---- one line
 
 -- One line was read, done and answered.
-pub record DoesLine (settings : Settings) (before after : Moment) (all rest : Text) : Type 0 where
+pub record DoesLine (before after : Moment) (all rest : Text) : Type 0 where
   pub raw : Text
   pub read : lines all ≡ raw ∷ lines rest
-  pub world : after.world ≡ world_after settings before.world raw
-  pub output : after.taken ≡ with_more before.taken (reply_to settings before.world raw)
+  pub world : after.world ≡ world_after before.world raw
+  pub output : after.taken ≡ with_more before.taken (reply_to before.world raw)
 
 -- One line was read, and a prefix of its reply was taken.
-pub record BeginsLine (settings : Settings) (before after : Moment) (all rest : Text) : Type 0 where
+pub record BeginsLine (before after : Moment) (all rest : Text) : Type 0 where
   pub raw : Text
   pub read : lines all ≡ raw ∷ lines rest
-  pub output : TakesPrefix (reply_to settings before.world raw) before.taken after.taken
+  pub output : TakesPrefix (reply_to before.world raw) before.taken after.taken
 
 -- What a turn did: `true` says that there was a line.
-abbrev pub Turns : Settings → Result Bool (OrNoMemory Cause) → Moment → Moment → Type 0
-Turns settings (Ok true) before after = WhereTold (DoesLine settings before after) before.left after.left
-Turns settings (Ok false) before after =
+abbrev pub Turns : Result Bool (OrNoMemory Cause) → Moment → Moment → Type 0
+Turns (Ok true) before after = WhereTold (DoesLine before after) before.left after.left
+Turns (Ok false) before after =
     WhereTold (λ all rest. (all ≡ []) × (rest ≡ [])) before.left after.left × (after.taken ≡ before.taken)
-Turns settings (Err (stop.Cause cause.ReadFault)) before after = BreaksOff before.left after.left × (after.taken ≡ before.taken)
-Turns settings (Err (stop.Cause cause.WriteFault)) before after = WhereTold (BeginsLine settings before after) before.left after.left
-Turns settings (Err (stop.Cause cause.TooManyLines)) before after = ⊥
-Turns settings (Err stop.NoMemory) before after =
-    (BreaksOff before.left after.left × (after.taken ≡ before.taken)) ⊎ WhereTold (BeginsLine settings before after) before.left after.left
+Turns (Err (stop.Cause cause.ReadFault)) before after = BreaksOff before.left after.left × (after.taken ≡ before.taken)
+Turns (Err (stop.Cause cause.WriteFault)) before after = WhereTold (BeginsLine before after) before.left after.left
+Turns (Err (stop.Cause cause.TooManyLines)) before after = ⊥
+Turns (Err stop.NoMemory) before after =
+    (BreaksOff before.left after.left × (after.taken ≡ before.taken)) ⊎ WhereTold (BeginsLine before after) before.left after.left
 
 -- ---- many lines
 
--- So many lines of the input were read, done and answered.
-pub record HasPlayed (settings : Settings) (count : ℕ) (start now : Moment) (all rest : Text) : Type 0 where
+-- So many lines of the input were read, done and answered, behind what was taken when the run began.
+pub record HasPlayed (settings : Settings) (count : ℕ) (taken : Option Text) (now : Moment) (all rest : Text) : Type 0 where
   pub raws : List Text
   pub read : lines all ≡ raws ++ lines rest
   pub many : length raws ≡ count
   pub made : now.world ≡ (played settings raws).world
-  pub output : now.taken ≡ with_more start.taken (played settings raws).output
+  pub output : now.taken ≡ with_more taken (played settings raws).output
 
 -- the same of a source that may not tell what it has left
-abbrev pub Plays : Settings → ℕ → Moment → Moment → Type 0
-Plays settings count start now = WhereTold (HasPlayed settings count start now) start.left now.left
+abbrev pub Plays : Settings → ℕ → Option Text → Option Text → Moment → Type 0
+Plays settings count left taken now = WhereTold (HasPlayed settings count taken now) left now.left
 
 -- how a run ended
 abbrev pub Ends : Settings → Result (Unit {0}) (OrNoMemory Cause) → Option Text → Option Text → Text → Text → Type 0
@@ -97,8 +96,8 @@ Ends settings (Err (stop.Cause cause.WriteFault)) taken taken_then = IsCutOffBeh
 Ends settings (Err stop.NoMemory) taken taken_then = IsCutOff settings taken taken_then
 
 -- what a run did, of a source that may not tell what it has left
-abbrev pub Ran : Settings → Result (Unit {0}) (OrNoMemory Cause) → Moment → Moment → Type 0
-Ran settings result start now = WhereTold (Ends settings result start.taken now.taken) start.left now.left
+abbrev pub Ran : Settings → Result (Unit {0}) (OrNoMemory Cause) → Option Text → Option Text → Option Text → Option Text → Type 0
+Ran settings result left taken left_then taken_then = WhereTold (Ends settings result taken taken_then) left left_then
 
 -- ---- the end
 

@@ -1,6 +1,7 @@
-use Rattle.std.proofs.Common.{Bool, Ok, [], refl, subst, arith}
+use Rattle.std.proofs.Common.{Bool, Ok, refl, subst, arith}
 use Rattle.std.proofs.lemmas.Grind.{common_steps}
 use Rattle.std.proofs.lemmas.Result.{err_from_is_err_and}
+use Rattle.script_runner.specs.Worlds.{world_of}
 use Rattle.script_runner.specs.code.Turns.{moment, Turns}
 use Rattle.script_runner.proofs.Plays.{plays-more, plays-stopped, plays-unread}
 use Rattle.script_runner.proofs.script.run_lines.Goals as goal
@@ -10,11 +11,10 @@ pub returns-in_err-turn-clause-ran : goal.returns-in_err-turn-clause-ran
 returns-in_err-turn-clause-ran g c =
     let left = g.S.Source.left in
     let taken = g.W.Sink.taken in
-    let start = moment [] (left c.args.source.now) (taken c.args.sink.now) in
-    let now = moment c.loop.world.journal (left c.loop.source) (taken c.loop.sink) in
-    let then = moment c.turn.new.world.journal (left c.turn.new.source) (taken c.turn.new.sink) in
+    let now = moment (world_of c.loop.script) (left c.loop.source) (taken c.loop.sink) in
+    let then = moment (world_of c.turn.new.script) (left c.turn.new.source) (taken c.turn.new.sink) in
     let p = err_from_is_err_and c.from_residual.result c.from_residual.ensures.1 in
-    rw (p.1, p.2) (plays-stopped c.args.settings.now c.loop.counter start now then
+    rw (p.1, p.2) (plays-stopped c.args.settings.now c.loop.counter (left c.args.source.now) (taken c.args.sink.now) now then
     (omega arith) c.loop.invariant.plays c.in_err-turn.field-0.0
     c.in_err-turn.ensures.turns)
 
@@ -23,13 +23,11 @@ pub loop-preserved : goal.loop-preserved
 loop-preserved g c =
     let left = g.S.Source.left in
     let taken = g.W.Sink.taken in
-    let start = moment [] (left c.args.source.now) (taken c.args.sink.now) in
-    let now = moment c.loop.world.journal (left c.loop.source) (taken c.loop.sink) in
-    let then = moment c.turn.new.world.journal (left c.turn.new.source) (taken c.turn.new.sink) in
-    let turned = subst (λ (b : Bool). Turns c.args.settings.now
-    (Ok b) now then) c.if-not-branch.false c.in_ok-turn.ensures.turns in record {
-      keeps = c.in_ok-turn.ensures.keeps;
-      plays = plays-more c.args.settings.now c.loop.counter start now then c.loop.invariant.plays turned;
+    let now = moment (world_of c.loop.script) (left c.loop.source) (taken c.loop.sink) in
+    let then = moment (world_of c.turn.new.script) (left c.turn.new.source) (taken c.turn.new.sink) in
+    let turned = subst (λ (b : Bool). Turns (Ok b) now then) c.if-not-branch.false c.in_ok-turn.ensures.turns in record {
+      stands = c.in_ok-turn.ensures.stands;
+      plays = plays-more c.args.settings.now c.loop.counter (left c.args.source.now) (taken c.args.sink.now) now then c.loop.invariant.plays turned;
       reads = grind (arith, common_steps);
       writes = grind (arith, common_steps);
     }
@@ -39,9 +37,9 @@ pub returns-in_err-read_line-clause-ran : goal.returns-in_err-read_line-clause-r
 returns-in_err-read_line-clause-ran g c =
     let left = g.S.Source.left in
     let taken = g.W.Sink.taken in
-    let start = moment [] (left c.args.source.now) (taken c.args.sink.now) in
-    let now = moment c.loop.world.journal (left c.loop.source) (taken c.loop.sink) in
-    let then = moment [] (left c.read_line.new.source) (taken c.loop.sink) in
+    let now = moment (world_of c.loop.script) (left c.loop.source) (taken c.loop.sink) in
+    let then = moment (world_of c.loop.script) (left c.read_line.new.source) (taken c.loop.sink) in
     let p = err_from_is_err_and c.from_residual-in_err-read_line.result c.from_residual-in_err-read_line.ensures.1 in
-    rw (p.1, p.2) (plays-unread c.args.settings.now c.loop.counter start now then (omega arith) c.loop.invariant.plays refl
+    rw (p.1, p.2) (plays-unread c.args.settings.now c.loop.counter (left c.args.source.now) (taken c.args.sink.now) now then
+    (omega arith) c.loop.invariant.plays refl
     c.in_err-read_line.field-0.0 c.in_err-read_line.ensures.stops)

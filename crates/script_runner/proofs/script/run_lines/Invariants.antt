@@ -1,14 +1,14 @@
-use Rattle.std.proofs.Common.{◌≡◌, []}
-use Rattle.script_runner.specs.Worlds.{Keeps}
+use Rattle.std.proofs.Common.{◌≡◌}
+use Rattle.script_runner.specs.Worlds.{world_of, Stands}
 use Rattle.script_runner.specs.code.Turns.{moment, Plays}
 use Rattle.script_runner.proofs.script.run_lines.Given as goal
 
--- so many lines were played, the world is that of their journal, and no call has failed
+-- so many lines were played, the world stands, and no call has failed
 abbrev pub invariant-loop : goal.invariant-loop
 invariant-loop g l = record {
-  keeps : Keeps l.world;
-  plays : Plays l.fn.settings l.counter (moment [] (g.S.Source.left l.fn.source) (g.W.Sink.taken l.fn.sink))
-      (moment l.world.journal (g.S.Source.left l.source) (g.W.Sink.taken l.sink));
+  stands : Stands (world_of l.script);
+  plays : Plays l.fn.settings l.counter (g.S.Source.left l.fn.source) (g.W.Sink.taken l.fn.sink)
+      (moment (world_of l.script) (g.S.Source.left l.source) (g.W.Sink.taken l.sink));
   reads : g.S.Source.read_faults l.source ≡ g.S.Source.read_faults l.fn.source;
   writes : g.W.Sink.write_faults l.sink ≡ g.W.Sink.write_faults l.fn.sink;
 }

@@ -1,5 +1,6 @@
 use Rattle.std.proofs.Common.{refl, inr}
 use Rattle.std.proofs.lemmas.Result.{err_from_is_err_and}
+use Rattle.script_runner.specs.Worlds.{world_of}
 use Rattle.script_runner.proofs.Turns.{line-wanting}
 use Rattle.script_runner.proofs.script.turn.Goals as goal
 
@@ -8,7 +9,7 @@ pub returns-in_err-reply : goal.returns-in_err-reply
 returns-in_err-reply g c =
     let left = g.S.Source.left in
     let taken = g.W.Sink.taken in
-    let wanting = line-wanting c.args.settings.now c.args.world.now.journal c.answer.new.world.journal c.in_ok-line.line c.in_default.not-End
+    let wanting = line-wanting (world_of c.args.script.now) (world_of c.answer.new.script) c.in_ok-line.line c.in_default.not-End
     (left c.args.source.now) (left c.read_line.new.source) (taken c.args.sink.now) (taken c.args.sink.now) c.in_ok-line.ensures.line refl in
     let p = err_from_is_err_and c.from_residual-in_err-reply.result c.from_residual-in_err-reply.ensures.1 in
-    rw (p.1, p.2) (record { turns = inr wanting; keeps = tt; reads = c.in_ok-line.ensures.reads; writes = refl })
+    rw (p.1, p.2) (record { turns = inr wanting; stands = tt; reads = c.in_ok-line.ensures.reads; writes = refl })

@@ -1,0 +1,267 @@
+-- The world of a script stands before its first line, and behind each.
+use Rattle.std.proofs.Common.{◌≡◌, ◌≢◌, ℕ, zero, suc, ◌+◌, ◌≤◌, ◌<◌, Bool, true, false, cond, List, [], ◌∷◌, ◌++◌, length, get_or, set, fold, Option, Some, None}
+use Rattle.std.proofs.Common.{◌⊎◌, inl, inr, refl, sym, ap, ◌∙◌, subst, arith, length-append, drop}
+use Rattle.std.specs.Prelude.{IfSome, nat_le, nat_lt, ◌==◌}
+use Rattle.std.proofs.lemmas.List.{length-set, length-drop}
+use Rattle.std.specs.List.{prefix_len}
+use Rattle.std.proofs.lemmas.Bool.Decides.{nat_tests}
+use Rattle.dio_core.specs.declared.line.TheConstants.{LONGEST_LINE}
+use Rattle.dio_core.specs.declared.line.Line.{Line}
+use Rattle.dio_core.specs.declared.line.Line.TheVariants as line
+use Rattle.dio_core.specs.Lines.{lines, line_of as cut_of, IsShort}
+use Rattle.rdt_types.specs.declared.settings.Settings.{Settings}
+use Rattle.txn_grammar.specs.Characters.{Text, is_blank}
+use Rattle.txn_lang.specs.Journals.{IsLegal}
+use Rattle.docc_prepare.specs.Stores.{Store, CLIENTS, IsSound, known_by, first_store, followed}
+use Rattle.docc_prepare.proofs.Stored.{first_store_is_sound}
+use Rattle.docc_prepare.proofs.Elsewhere.{shards_follow}
+use Rattle.session_core.specs.declared.session.Session.{Session}
+use Rattle.session_core.specs.declared.turn.Turn.{Turn}
+use Rattle.session_core.specs.declared.turn.Turn.TheVariants as turn
+use Rattle.session_core.specs.Lines.{line_of}
+use Rattle.session_core.specs.Phases.{Phase}
+use Rattle.session_core.specs.Holding.{Attends}
+use Rattle.session_core.specs.Words.{trimmed_start, is_quiet}
+use Rattle.session_core.proofs.GoingOn.{sessions_go_on}
+use Rattle.script_runner.specs.declared.words.TheConstants.{LAST_CLIENT}
+use Rattle.script_runner.specs.Driving.{Place, line_done}
+use Rattle.script_runner.specs.Words.{is_solid, first_word, after_word, small_number, client_named, if_client, is_follow, if_shard, shard_named}
+use Rattle.script_runner.specs.Play.{ScriptWorld, first_session, first_sessions, first_world, session_of, Did, left, ended_line, session_line, follow_line, client_line}
+use Rattle.script_runner.specs.Play.{Done, placed, named_line, text_line, answer, Played, nothing_played, one_more, play}
+use Rattle.script_runner.specs.Worlds.{Stands}
+use Rattle.script_runner.proofs.Stood.{IsDriven, line-driven}
+
+-- ---- places of a list
+
+-- what was set at a place stands there, where the list has it
+set-here : {A : Type 0} (P : A → Type 0) (xs : List A) (i : ℕ) (v d : A) → P v → P d → P (get_or (set xs i v) i d)
+set-here P [] i v d new none = none
+set-here P (x ∷ xs) zero v d new none = new
+set-here P (x ∷ xs) (suc i) v d new none = set-here P xs i v d new none
+
+-- at any other place nothing has changed
+set-elsewhere : {A : Type 0} (xs : List A) (i j : ℕ) (v d : A) → j ≢ i → get_or (set xs i v) j d ≡ get_or xs j d
+set-elsewhere [] i j v d apart = refl
+set-elsewhere (x ∷ xs) zero zero v d apart = absurd (apart refl)
+set-elsewhere (x ∷ xs) zero (suc j) v d apart = refl
+set-elsewhere (x ∷ xs) (suc i) zero v d apart = refl
+set-elsewhere (x ∷ xs) (suc i) (suc j) v d apart = set-elsewhere xs i j v d (λ e. apart (ap suc e))
+
+-- with one item more each place has what it had, or that item where the list ended
+at-end : {A : Type 0} (xs : List A) (v d : A) (j : ℕ)
+    → (get_or (xs ++ v ∷ []) j d ≡ get_or xs j d) ⊎ ((j ≡ length xs) × (get_or (xs ++ v ∷ []) j d ≡ v))
+at-end [] v d zero = inr (refl, refl)
+at-end [] v d (suc j) = inl refl
+at-end (x ∷ xs) v d zero = inl refl
+at-end (x ∷ xs) v d (suc j) = by (at-end xs v d j)
+  where
+    by : (get_or (xs ++ v ∷ []) j d ≡ get_or xs j d) ⊎ ((j ≡ length xs) × (get_or (xs ++ v ∷ []) j d ≡ v))
+        → (get_or (xs ++ v ∷ []) j d ≡ get_or xs j d) ⊎ ((suc j ≡ suc (length xs)) × (get_or (xs ++ v ∷ []) j d ≡ v))
+    by (inl same) = inl same
+    by (inr last) = inr (ap suc last.0, last.1)
+
+-- two numbers are the same or not
+same-or-not : (i j : ℕ) → (i ≡ j) ⊎ (i ≢ j)
+same-or-not i j = by (i == j) refl
+  where
+    by : (b : Bool) → (i == j) ≡ b → (i ≡ j) ⊎ (i ≢ j)
+    by true e = inl (let same : i ≡ j = grind (arith, nat_tests) in same)
+    by false e = inr (λ same. let no : ⊥ = grind (arith, nat_tests) in no)
+
+-- ---- the first world
+
+-- there are as many sessions as clients
+many-first : (n : ℕ) → length (first_sessions n) ≡ n
+many-first zero = refl
+many-first (suc n) = let long = length-append (first_sessions n) (Some (first_session n) ∷ []) in let most = many-first n in omega arith
+
+-- each stands at its client's place
+each-first : (n client : ℕ) → IfSome (get_or (first_sessions n) client None) (λ s. s ≡ first_session client)
+each-first zero client = tt
+each-first (suc n) client = by (at-end (first_sessions n) (Some (first_session n)) None client)
+  where
+    goal : Option Session → Type 0
+    goal o = IfSome o (λ s. s ≡ first_session client)
+
+    by : (get_or (first_sessions n ++ Some (first_session n) ∷ []) client None ≡ get_or (first_sessions n) client None)
+        ⊎ ((client ≡ length (first_sessions n)) × (get_or (first_sessions n ++ Some (first_session n) ∷ []) client None ≡ Some (first_session n)))
+        → goal (get_or (first_sessions n ++ Some (first_session n) ∷ []) client None)
+    by (inl same) = subst goal (sym same) (each-first n client)
+    by (inr last) = subst goal (sym last.1) (ap first_session (sym (last.0 ∙ many-first n)))
+
+-- a first session attends the first store
+first-attends : (settings : Settings) (client : ℕ)
+    → Attends (known_by (first_store settings.shards settings.window settings.limit) client) (first_session client)
+first-attends settings client =
+    let some = settings.shards_in_range.0 in
+    let sound = first_store_is_sound settings.shards settings.window settings.limit (omega arith) in record {
+      on = refl;
+      shards = settings.shards_in_range;
+      client = refl;
+      begun = omega arith;
+      counts = record { seq_is = refl; within = sound.seen client };
+      attempt = tt;
+    }
+
+-- The first world stands.
+pub first-stands : (settings : Settings) → Stands (first_world settings)
+first-stands settings =
+    let some = settings.shards_in_range.0 in
+    let store = first_store settings.shards settings.window settings.limit in record {
+      sound = first_store_is_sound settings.shards settings.window settings.limit (omega arith);
+      places = many-first CLIENTS;
+      attend = λ client. by client (get_or (first_sessions CLIENTS) client None) (each-first CLIENTS client);
+    }
+  where
+    by : (client : ℕ) (o : Option Session) → IfSome o (λ s. s ≡ first_session client)
+        → IfSome o (Attends (known_by (first_store settings.shards settings.window settings.limit) client))
+    by client None e = tt
+    by client (Some s) e =
+        subst (Attends (known_by (first_store settings.shards settings.window settings.limit) client)) (sym e) (first-attends settings client)
+
+-- ---- the line of a client
+
+-- What a client's line leaves: a sound store, its session, if it goes on, and those of all others.
+record Leaves (s : Store) (client : ℕ) (d : Did) : Type 0 where
+  sound : IsSound d.store
+  mine : IfSome d.session (Attends (known_by d.store client))
+  others : (other : ℕ) → other ≢ client → (theirs : Session) → Attends (known_by s other) theirs → Attends (known_by d.store other) theirs
+
+module _ (s : Store) (client : ℕ) (sound : IsSound s) (below : client < CLIENTS) where
+  -- a line that changes nothing
+  stays : (o : Option Session) (output : Text) → IfSome o (Attends (known_by s client)) → Leaves s client (record { store = s; session = o; output = output })
+  stays o output is = record { sound = sound; mine = is; others = λ other apart theirs h. h }
+
+  module _ (session : Session) (is : Attends (known_by s client) session) where
+    -- a shard that follows takes nothing of what a session rests on
+    follow-leaves : (o : Option ℕ) → Leaves s client (follow_line client s session (if_shard s.shards o))
+    follow-leaves None = stays (Some session) _ is
+    follow-leaves (Some shard) = by (nat_lt shard s.shards) refl
+      where
+        by : (b : Bool) → nat_lt shard s.shards ≡ b → Leaves s client (follow_line client s session (cond b (Some shard) None))
+        by false e = stays (Some session) _ is
+        by true e =
+            let there : shard < s.shards = grind (arith, nat_tests) in
+            let after = shards_follow s client shard sound below there in record {
+              sound = after.sound;
+              mine = sessions_go_on.followed (known_by s client) (known_by (followed s client shard) client) session is after.mine;
+              others = λ other apart theirs h. sessions_go_on.others (known_by s other) (known_by (followed s client shard) other) theirs h (after.others other apart);
+            }
+
+    -- a session that goes on behind its line attends
+    left-attends : (k : Store) (t : Session) (x : Turn) → Attends (known_by k client) t → IfSome (left t x) (Attends (known_by k client))
+    left-attends k t turn.Quiet h = h
+    left-attends k t (turn.Replies replies) h = h
+    left-attends k t turn.Unbuilt h = h
+    left-attends k t (turn.Ended replies) h = tt
+
+    -- what a line is driven to, wherever that is
+    ended-leaves : (text : Text) (x : Place) → IsDriven s client session text x → Leaves s client (ended_line client s session x)
+    ended-leaves text (after, Phase.over t x) h = record {
+      sound = h.sound;
+      mine = left-attends after t x (sessions_go_on.behind (known_by s client) session text (known_by after client) t x h.way);
+      others = h.others;
+    }
+    ended-leaves text (after, Phase.beginning t a) h = stays (Some session) [] is
+    ended-leaves text (after, Phase.stepping t a) h = stays (Some session) [] is
+    ended-leaves text (after, Phase.trying t more a) h = stays (Some session) [] is
+    ended-leaves text (after, Phase.going t more a) h = stays (Some session) [] is
+    ended-leaves text (after, Phase.looking t upto body) h = stays (Some session) [] is
+    ended-leaves text (after, Phase.looked t n body snaps address) h = stays (Some session) [] is
+    ended-leaves text (after, Phase.broken by_fault) h = stays (Some session) [] is
+
+    -- a line of the session, or one that lets a shard follow
+    either-leaves : (b : Bool) (x y : Did) → Leaves s client x → Leaves s client y → Leaves s client (cond b x y)
+    either-leaves true x y kx ky = kx
+    either-leaves false x y kx ky = ky
+
+    line-leaves : (text : Text) → length text ≤ LONGEST_LINE → Leaves s client (client_line client s (Some session) text)
+    line-leaves text short = either-leaves (is_follow text) _ _ (follow-leaves (small_number _))
+        (ended-leaves text (line_done client s session (line_of text)) (line-driven s client session text below sound is short))
+
+  -- the line of a client who may have quit
+  pub client-leaves : (o : Option Session) (text : Text) → length text ≤ LONGEST_LINE → IfSome o (Attends (known_by s client))
+      → Leaves s client (client_line client s o text)
+  client-leaves None text short is = stays None _ tt
+  client-leaves (Some session) text short is = line-leaves session is text short
+
+-- ---- one line
+
+-- the world stands where the client's line has left that
+placed-stands : (world : ScriptWorld) (client : ℕ) (d : Did) → Stands world → Leaves world.store client d → Stands (placed world client d).world
+placed-stands world client d h leaves = record {
+  sound = leaves.sound;
+  places = length-set world.sessions client d.session ∙ h.places;
+  attend = λ c. by c (same-or-not c client);
+}
+  where
+    by : (c : ℕ) → (c ≡ client) ⊎ (c ≢ client) → IfSome (get_or (set world.sessions client d.session) c None) (Attends (known_by d.store c))
+    by c (inl same) = subst (λ (n : ℕ). IfSome (get_or (set world.sessions client d.session) n None) (Attends (known_by d.store n))) (sym same)
+        (set-here (λ o. IfSome o (Attends (known_by d.store client))) world.sessions client d.session None leaves.mine tt)
+    by c (inr apart) = subst (λ o. IfSome o (Attends (known_by d.store c))) (sym (set-elsewhere world.sessions client c d.session None apart))
+        (all (get_or world.sessions c None) (h.attend c))
+      where
+        all : (o : Option Session) → IfSome o (Attends (known_by world.store c)) → IfSome o (Attends (known_by d.store c))
+        all None is = tt
+        all (Some theirs) is = leaves.others c apart theirs is
+
+-- the client that a word names is one of them
+named-stands : (world : ScriptWorld) (o : Option ℕ) (text : Text) → Stands world → length text ≤ LONGEST_LINE → Stands (named_line world (if_client o) text).world
+named-stands world None text h short = h
+named-stands world (Some client) text h short = by (nat_le client LAST_CLIENT) refl
+  where
+    by : (b : Bool) → nat_le client LAST_CLIENT ≡ b → Stands (named_line world (cond b (Some client) None) text).world
+    by false e = h
+    by true e =
+        let below : client < CLIENTS = grind (arith, nat_tests) in
+        placed-stands world client (client_line client world.store (session_of world client) text) h
+        (client-leaves world.store client h.sound below (session_of world client) text short (h.attend client))
+
+-- either of two worlds that stand does
+either-stands : (b : Bool) (x y : Done) → Stands x.world → Stands y.world → Stands (cond b x y).world
+either-stands true x y kx ky = kx
+either-stands false x y kx ky = ky
+
+-- without the blanks at its beginning a text is no longer
+trimmed-shorter : (z : Text) → length (trimmed_start z) ≤ length z
+trimmed-shorter z = let e = length-drop (prefix_len is_blank z) z in omega arith
+
+-- nor is what comes behind its first word
+after-shorter : (z : Text) → length (after_word z) ≤ length z
+after-shorter z =
+    let e = length-drop (prefix_len is_solid z) z in let t = trimmed-shorter (drop (prefix_len is_solid z) z) in omega arith
+
+-- what is cut from an input is short, or too long to be read
+cut-short : (raw : Text) → IsShort (cut_of raw)
+cut-short raw = by (nat_lt LONGEST_LINE (length raw)) refl
+  where
+    by : (b : Bool) → nat_lt LONGEST_LINE (length raw) ≡ b → IsShort (cond b line.TooLong (line.Bytes raw))
+    by true e = tt
+    by false e = let short : length raw ≤ LONGEST_LINE = grind (arith, nat_tests) in short
+
+-- a line without the blanks at its beginning
+text-stands : (world : ScriptWorld) (text : Text) → Stands world → length text ≤ LONGEST_LINE → Stands (text_line world text).world
+text-stands world text h short = either-stands (is_quiet text) _ _ h
+    (named-stands world (small_number (first_word text)) (after_word text) h (let shorter = after-shorter text in omega arith))
+
+-- Behind each line the world stands.
+pub answer-stands : (world : ScriptWorld) (l : Line) → Stands world → IsShort l → Stands (answer world l).world
+answer-stands world (line.Bytes bytes) h short = text-stands world (trimmed_start bytes) h (let shorter = trimmed-shorter bytes in omega arith)
+answer-stands world line.TooLong h short = h
+answer-stands world line.End h short = h
+
+-- ---- many lines
+
+-- lines in order keep it standing
+played-stands : (raws : List Text) (p : Played) → Stands p.world → Stands (fold one_more p raws).world
+played-stands [] p h = h
+played-stands (raw ∷ raws) p h = played-stands raws (one_more p raw) (answer-stands p.world (cut_of raw) h (cut-short raw))
+
+-- the journal of a script is legal, as that of every world that stands
+pub play-legal : (settings : Settings) (bytes : Text) → IsLegal 0 (play settings bytes).world.store.journal
+play-legal settings bytes = (played-stands (lines bytes) (nothing_played settings) (first-stands settings)).sound.legal
+
+-- the same of an input that may not be told
+pub played_is_legal : (settings : Settings) (o : Option Text) → IfSome o (λ bytes. IsLegal 0 (play settings bytes).world.store.journal)
+played_is_legal settings None = tt
+played_is_legal settings (Some bytes) = play-legal settings bytes

@@ -1,0 +1,35 @@
+-- A line of a session, driven over the store of one thread: what each phase asks for is done by a step of the store.
+use Rattle.std.specs.Prelude.{ℕ, zero, suc, Option, Some, None}
+use Rattle.docc_prepare.specs.Calls.{Call, Answer}
+use Rattle.docc_prepare.specs.Stores.{Store, seen_by, step}
+use Rattle.session_core.specs.declared.limits.TheConstants.{MOST_CALLS}
+use Rattle.session_core.specs.declared.line.Line.{Line}
+use Rattle.session_core.specs.declared.session.Session.{Session}
+use Rattle.session_core.specs.Phases.{Phase, asks, after, start}
+
+-- a store, and how far a line has come over it
+abbrev pub Place : Type 0
+Place = Store × Phase
+
+-- the store after a call, and the phase after its answer
+abbrev pub answered : Phase → Store × Answer → Place
+answered p done = (done.0, after p done.1)
+
+-- a phase that asks for nothing stays
+abbrev pub asked_by : ℕ → Store → Phase → Option Call → Place
+asked_by client s p None = (s, p)
+asked_by client s p (Some call) = answered p (step s client call)
+
+-- one call of a client
+abbrev pub advance : ℕ → Place → Place
+advance client x = asked_by client x.0 x.1 (asks x.1)
+
+-- so many calls
+abbrev pub drive : ℕ → ℕ → Place → Place
+drive zero client x = x
+drive (suc n) client x = advance client (drive n client x)
+
+-- A LINE IS DONE by as many calls as a line may make. Where it is over it asks for no more, so more would change nothing; and by the
+-- law that the calls of a line suffice, none needs more.
+unfoldable pub line_done : ℕ → Store → Session → Line → Place
+line_done client s session line = drive MOST_CALLS client (s, start s.shards (seen_by s client) session line)

@@ -1,0 +1,32 @@
+-- What a line owes its backend, and what goes on behind it.
+use Rattle.std.specs.Prelude.{◌≡◌, ℕ, ◌≤◌, length, Some}
+use Rattle.dio_core.specs.declared.line.TheConstants.{LONGEST_LINE}
+use Rattle.txn_grammar.specs.Characters.{Text}
+use Rattle.docc_prepare.specs.Calls.{Known, Call}
+use Rattle.docc_prepare.specs.Backends.{CanCall, IsAnswered, IsLater}
+use Rattle.docc_prepare.specs.Stores.{HasFollowed}
+use Rattle.session_core.specs.declared.session.Session.{Session}
+use Rattle.session_core.specs.declared.turn.Turn.{Turn}
+use Rattle.session_core.specs.Lines.{line_of}
+use Rattle.session_core.specs.Phases.{Phase, asks, start}
+use Rattle.session_core.specs.Holding.{Attends}
+use Rattle.session_core.specs.Leading.{Leads}
+
+-- A line of a session that goes on comes to a phase by calls that keep the clause of every call.
+pub record IsOnItsWay (k : Known) (s : Session) (text : Text) (l : Known) (q : Phase) : Type 0 where
+  pub goes_on : Attends k s
+  pub short : length text ≤ LONGEST_LINE
+  pub calls : ℕ
+  pub leads : Leads IsAnswered k (start k.shards k.seen s (line_of text)) calls l q
+
+-- ---- laws
+
+-- Each call that a line asks for may be made.
+abbrev pub LinesAreReady : Type 0
+LinesAreReady = (k : Known) (s : Session) (text : Text) (l : Known) (q : Phase) (call : Call) → IsOnItsWay k s text l q → asks q ≡ Some call → CanCall l call
+
+-- The session goes on behind its line, behind what others do, and where a shard was let follow.
+pub record SessionsGoOn : Type 0 where
+  pub behind : (k : Known) (s : Session) (text : Text) (l : Known) (t : Session) (turn : Turn) → IsOnItsWay k s text l (Phase.over t turn) → Attends l t
+  pub others : (k l : Known) (s : Session) → Attends k s → IsLater k l → Attends l s
+  pub followed : (k l : Known) (s : Session) → Attends k s → HasFollowed k l → Attends l s
