@@ -10,13 +10,6 @@ use std::thread::Threads;
 /// A line or a reply, without its end.
 type Line = &'static [u8];
 
-/// The order of two clients' lines, and the replies to those of each.
-type Schedule<const N: usize, const M: usize> = (
-    &'static [u8],
-    &'static [Line; N],
-    &'static [Line; M],
-);
-
 /// Two clients' texts in the order of a schedule, which says of each whose it is.
 fn woven(alloc: Global, order: &[u8], zero: &[Line], one: &[Line]) -> Result<Vec<u8>, Fail> {
     let mut text = Vec::new(alloc);
@@ -36,7 +29,8 @@ fn woven(alloc: Global, order: &[u8], zero: &[Line], one: &[Line]) -> Result<Vec
     Ok(text)
 }
 
-/// Two clients' lines, of which each is answered by a reply.
+/// The lines of two clients, or the replies to them.
+#[derive(Clone, Copy)]
 struct Talk {
     zero: &'static [Line],
     one: &'static [Line],
@@ -123,90 +117,118 @@ const ONE_BEHIND: [Line; 4] = [
     b"1 commit 2 ok",
 ];
 
-/// All 70 orders of the eight events. Whoever appends first commits; the other is refused, unless it began behind that.
-const SKEWS: [Schedule<4, 4>; 70] = [
-    (b"00001111", &ZERO_FIRST, &ONE_BEHIND),
-    (b"00010111", &ZERO_FIRST, &ONE_REFUSED),
-    (b"00011011", &ZERO_FIRST, &ONE_REFUSED),
-    (b"00011101", &ZERO_FIRST, &ONE_REFUSED),
-    (b"00011110", &ZERO_REFUSED, &ONE_FIRST),
-    (b"00100111", &ZERO_FIRST, &ONE_REFUSED),
-    (b"00101011", &ZERO_FIRST, &ONE_REFUSED),
-    (b"00101101", &ZERO_FIRST, &ONE_REFUSED),
-    (b"00101110", &ZERO_REFUSED, &ONE_FIRST),
-    (b"00110011", &ZERO_FIRST, &ONE_REFUSED),
-    (b"00110101", &ZERO_FIRST, &ONE_REFUSED),
-    (b"00110110", &ZERO_REFUSED, &ONE_FIRST),
-    (b"00111001", &ZERO_FIRST, &ONE_REFUSED),
-    (b"00111010", &ZERO_REFUSED, &ONE_FIRST),
-    (b"00111100", &ZERO_REFUSED, &ONE_FIRST),
-    (b"01000111", &ZERO_FIRST, &ONE_REFUSED),
-    (b"01001011", &ZERO_FIRST, &ONE_REFUSED),
-    (b"01001101", &ZERO_FIRST, &ONE_REFUSED),
-    (b"01001110", &ZERO_REFUSED, &ONE_FIRST),
-    (b"01010011", &ZERO_FIRST, &ONE_REFUSED),
-    (b"01010101", &ZERO_FIRST, &ONE_REFUSED),
-    (b"01010110", &ZERO_REFUSED, &ONE_FIRST),
-    (b"01011001", &ZERO_FIRST, &ONE_REFUSED),
-    (b"01011010", &ZERO_REFUSED, &ONE_FIRST),
-    (b"01011100", &ZERO_REFUSED, &ONE_FIRST),
-    (b"01100011", &ZERO_FIRST, &ONE_REFUSED),
-    (b"01100101", &ZERO_FIRST, &ONE_REFUSED),
-    (b"01100110", &ZERO_REFUSED, &ONE_FIRST),
-    (b"01101001", &ZERO_FIRST, &ONE_REFUSED),
-    (b"01101010", &ZERO_REFUSED, &ONE_FIRST),
-    (b"01101100", &ZERO_REFUSED, &ONE_FIRST),
-    (b"01110001", &ZERO_FIRST, &ONE_REFUSED),
-    (b"01110010", &ZERO_REFUSED, &ONE_FIRST),
-    (b"01110100", &ZERO_REFUSED, &ONE_FIRST),
-    (b"01111000", &ZERO_REFUSED, &ONE_FIRST),
-    (b"10000111", &ZERO_FIRST, &ONE_REFUSED),
-    (b"10001011", &ZERO_FIRST, &ONE_REFUSED),
-    (b"10001101", &ZERO_FIRST, &ONE_REFUSED),
-    (b"10001110", &ZERO_REFUSED, &ONE_FIRST),
-    (b"10010011", &ZERO_FIRST, &ONE_REFUSED),
-    (b"10010101", &ZERO_FIRST, &ONE_REFUSED),
-    (b"10010110", &ZERO_REFUSED, &ONE_FIRST),
-    (b"10011001", &ZERO_FIRST, &ONE_REFUSED),
-    (b"10011010", &ZERO_REFUSED, &ONE_FIRST),
-    (b"10011100", &ZERO_REFUSED, &ONE_FIRST),
-    (b"10100011", &ZERO_FIRST, &ONE_REFUSED),
-    (b"10100101", &ZERO_FIRST, &ONE_REFUSED),
-    (b"10100110", &ZERO_REFUSED, &ONE_FIRST),
-    (b"10101001", &ZERO_FIRST, &ONE_REFUSED),
-    (b"10101010", &ZERO_REFUSED, &ONE_FIRST),
-    (b"10101100", &ZERO_REFUSED, &ONE_FIRST),
-    (b"10110001", &ZERO_FIRST, &ONE_REFUSED),
-    (b"10110010", &ZERO_REFUSED, &ONE_FIRST),
-    (b"10110100", &ZERO_REFUSED, &ONE_FIRST),
-    (b"10111000", &ZERO_REFUSED, &ONE_FIRST),
-    (b"11000011", &ZERO_FIRST, &ONE_REFUSED),
-    (b"11000101", &ZERO_FIRST, &ONE_REFUSED),
-    (b"11000110", &ZERO_REFUSED, &ONE_FIRST),
-    (b"11001001", &ZERO_FIRST, &ONE_REFUSED),
-    (b"11001010", &ZERO_REFUSED, &ONE_FIRST),
-    (b"11001100", &ZERO_REFUSED, &ONE_FIRST),
-    (b"11010001", &ZERO_FIRST, &ONE_REFUSED),
-    (b"11010010", &ZERO_REFUSED, &ONE_FIRST),
-    (b"11010100", &ZERO_REFUSED, &ONE_FIRST),
-    (b"11011000", &ZERO_REFUSED, &ONE_FIRST),
-    (b"11100001", &ZERO_FIRST, &ONE_REFUSED),
-    (b"11100010", &ZERO_REFUSED, &ONE_FIRST),
-    (b"11100100", &ZERO_REFUSED, &ONE_FIRST),
-    (b"11101000", &ZERO_REFUSED, &ONE_FIRST),
-    (b"11110000", &ZERO_BEHIND, &ONE_FIRST),
+// All 70 orders of the eight events: whoever appends first commits, and the other is refused, unless it began behind that.
+
+/// Client 1 begins when client 0 has committed.
+const ZERO_THEN_ONE: [&[u8]; 1] = [b"00001111"];
+
+/// Client 0 begins when client 1 has committed.
+const ONE_THEN_ZERO: [&[u8]; 1] = [b"11110000"];
+
+/// Client 0 appends first, and client 1 began before.
+const ZERO_COMMITS: [&[u8]; 34] = [
+    b"00010111",
+    b"00011011",
+    b"00011101",
+    b"00100111",
+    b"00101011",
+    b"00101101",
+    b"00110011",
+    b"00110101",
+    b"00111001",
+    b"01000111",
+    b"01001011",
+    b"01001101",
+    b"01010011",
+    b"01010101",
+    b"01011001",
+    b"01100011",
+    b"01100101",
+    b"01101001",
+    b"01110001",
+    b"10000111",
+    b"10001011",
+    b"10001101",
+    b"10010011",
+    b"10010101",
+    b"10011001",
+    b"10100011",
+    b"10100101",
+    b"10101001",
+    b"10110001",
+    b"11000011",
+    b"11000101",
+    b"11001001",
+    b"11010001",
+    b"11100001",
 ];
 
-#[test]
-fn write_skew_is_refused_in_every_order(rt: HostRuntime) -> Result<(), Fail> {
+/// Client 1 appends first, and client 0 began before.
+const ONE_COMMITS: [&[u8]; 34] = [
+    b"00011110",
+    b"00101110",
+    b"00110110",
+    b"00111010",
+    b"00111100",
+    b"01001110",
+    b"01010110",
+    b"01011010",
+    b"01011100",
+    b"01100110",
+    b"01101010",
+    b"01101100",
+    b"01110010",
+    b"01110100",
+    b"01111000",
+    b"10001110",
+    b"10010110",
+    b"10011010",
+    b"10011100",
+    b"10100110",
+    b"10101010",
+    b"10101100",
+    b"10110010",
+    b"10110100",
+    b"10111000",
+    b"11000110",
+    b"11001010",
+    b"11001100",
+    b"11010010",
+    b"11010100",
+    b"11011000",
+    b"11100010",
+    b"11100100",
+    b"11101000",
+];
+
+/// Runs the two in some orders, in each of which they are answered so.
+fn skewed(
+    rt: &(impl Abort + Threads + Wait + Sync),
+    alloc: Global,
+    orders: &[&'static [u8]],
+    zero: &'static [Line],
+    one: &'static [Line],
+) -> Result<(), Fail> {
     let lines = Talk {
         zero: &SKEW_ZERO,
         one: &SKEW_ONE,
     };
-    for (order, zero, one) in SKEWS {
-        scheduled(&rt, rt.alloc(), order, &lines, &Talk { zero, one })?;
+    for order in orders {
+        scheduled(rt, alloc, order, &lines, &Talk { zero, one })?;
     }
     Ok(())
+}
+
+#[test]
+fn one_behind_the_other_both_commit(rt: HostRuntime) -> Result<(), Fail> {
+    skewed(&rt, rt.alloc(), &ZERO_THEN_ONE, &ZERO_FIRST, &ONE_BEHIND)?;
+    skewed(&rt, rt.alloc(), &ONE_THEN_ZERO, &ZERO_BEHIND, &ONE_FIRST)
+}
+
+#[test]
+fn of_two_at_once_the_second_is_refused(rt: HostRuntime) -> Result<(), Fail> {
+    skewed(&rt, rt.alloc(), &ZERO_COMMITS, &ZERO_FIRST, &ONE_REFUSED)?;
+    skewed(&rt, rt.alloc(), &ONE_COMMITS, &ZERO_REFUSED, &ONE_FIRST)
 }
 
 /// A reader of both counters, and one who puts both and lets shard 2 follow. The six events of the reader, each a line.
@@ -280,46 +302,116 @@ const FOLLOWS_LAST: [Line; 2] = [b"1 commit 1 ok", b"1 follow 2 front 2"];
 
 const PUTS_LAST: [Line; 2] = [b"1 commit 2 ok", b"1 follow 2 front 2"];
 
-/// All 28 orders of the eight events.
-const READINGS: [Schedule<6, 2>; 28] = [
-    (b"11000000", &READS_BEHIND, &PUTS_FIRST),
-    (b"10100000", &READS_BEHIND, &PUTS_FIRST),
-    (b"10010000", &READS_BEHIND, &PUTS_FIRST),
-    (b"10001000", &READS_BEHIND, &PUTS_FIRST),
-    (b"10000100", &READS_BEHIND, &PUTS_FIRST),
-    (b"10000010", &READS_BEHIND, &PUTS_FIRST),
-    (b"10000001", &READS_BEHIND, &FOLLOWS_LAST),
-    (b"01100000", &READS_MIXED, &PUTS_FIRST),
-    (b"01010000", &READS_MIXED, &PUTS_FIRST),
-    (b"01001000", &REFUSED_BY_SHARD, &PUTS_FIRST),
-    (b"01000100", &REFUSED_BY_SHARD, &PUTS_FIRST),
-    (b"01000010", &REFUSED_BY_JOURNAL, &PUTS_FIRST),
-    (b"01000001", &REFUSED_BY_JOURNAL, &PUTS_FIRST),
-    (b"00110000", &READS_MIXED, &PUTS_FIRST),
-    (b"00101000", &REFUSED_BY_SHARD, &PUTS_FIRST),
-    (b"00100100", &REFUSED_BY_SHARD, &PUTS_FIRST),
-    (b"00100010", &REFUSED_BY_JOURNAL, &PUTS_FIRST),
-    (b"00100001", &REFUSED_BY_JOURNAL, &PUTS_FIRST),
-    (b"00011000", &REFUSED_BY_SHARD, &PUTS_FIRST),
-    (b"00010100", &REFUSED_BY_SHARD, &PUTS_FIRST),
-    (b"00010010", &REFUSED_BY_JOURNAL, &PUTS_FIRST),
-    (b"00010001", &REFUSED_BY_JOURNAL, &PUTS_FIRST),
-    (b"00001100", &REFUSED_BY_SHARD, &PUTS_FIRST),
-    (b"00001010", &REFUSED_BY_JOURNAL, &PUTS_FIRST),
-    (b"00001001", &REFUSED_BY_JOURNAL, &PUTS_FIRST),
-    (b"00000110", &REFUSED_BY_JOURNAL, &PUTS_FIRST),
-    (b"00000101", &REFUSED_BY_JOURNAL, &PUTS_FIRST),
-    (b"00000011", &READS_BEFORE, &PUTS_LAST),
+// All 28 orders of the eight events.
+
+/// Put before the reader begins, and shard 2 follows before its append.
+const PUT_BEFORE_ALL: [&[u8]; 6] = [
+    b"11000000",
+    b"10100000",
+    b"10010000",
+    b"10001000",
+    b"10000100",
+    b"10000010",
 ];
 
-#[test]
-fn two_counters_are_read_as_they_were_at_once(rt: HostRuntime) -> Result<(), Fail> {
+/// Put before the reader begins, and shard 2 follows behind its commit.
+const PUT_BEFORE_AND_FOLLOWED_BEHIND: [&[u8]; 1] = [b"10000001"];
+
+/// Shard 2 follows before it is read.
+const FOLLOWED_BEFORE_ITS_READ: [&[u8]; 3] = [b"01100000", b"01010000", b"00110000"];
+
+/// Shard 2 follows when it was read, and before it is prepared.
+const FOLLOWED_BEFORE_ITS_PREPARING: [&[u8]; 7] = [
+    b"01001000",
+    b"01000100",
+    b"00101000",
+    b"00100100",
+    b"00011000",
+    b"00010100",
+    b"00001100",
+];
+
+/// Shard 2 follows when it was prepared; both counters are put before the append.
+const FOLLOWED_WHEN_PREPARED: [&[u8]; 10] = [
+    b"01000010",
+    b"01000001",
+    b"00100010",
+    b"00100001",
+    b"00010010",
+    b"00010001",
+    b"00001010",
+    b"00001001",
+    b"00000110",
+    b"00000101",
+];
+
+/// Put when the reader has committed.
+const PUT_BEHIND_ALL: [&[u8]; 1] = [b"00000011"];
+
+/// Runs the two in some orders, in each of which they are answered so.
+fn read_beside(
+    rt: &(impl Abort + Threads + Wait + Sync),
+    alloc: Global,
+    orders: &[&'static [u8]],
+    zero: &'static [Line],
+    one: &'static [Line],
+) -> Result<(), Fail> {
     let lines = Talk {
         zero: &READER,
         one: &WRITER,
     };
-    for (order, zero, one) in READINGS {
-        scheduled(&rt, rt.alloc(), order, &lines, &Talk { zero, one })?;
+    for order in orders {
+        scheduled(rt, alloc, order, &lines, &Talk { zero, one })?;
     }
     Ok(())
+}
+
+#[test]
+fn what_was_put_before_is_read_at_once(rt: HostRuntime) -> Result<(), Fail> {
+    read_beside(&rt, rt.alloc(), &PUT_BEFORE_ALL, &READS_BEHIND, &PUTS_FIRST)?;
+    read_beside(
+        &rt,
+        rt.alloc(),
+        &PUT_BEFORE_AND_FOLLOWED_BEHIND,
+        &READS_BEHIND,
+        &FOLLOWS_LAST,
+    )
+}
+
+#[test]
+fn what_is_put_behind_is_not_read(rt: HostRuntime) -> Result<(), Fail> {
+    read_beside(&rt, rt.alloc(), &PUT_BEHIND_ALL, &READS_BEFORE, &PUTS_LAST)
+}
+
+#[test]
+fn a_mixed_read_is_refused(rt: HostRuntime) -> Result<(), Fail> {
+    read_beside(
+        &rt,
+        rt.alloc(),
+        &FOLLOWED_BEFORE_ITS_READ,
+        &READS_MIXED,
+        &PUTS_FIRST,
+    )
+}
+
+#[test]
+fn a_shard_that_followed_refuses(rt: HostRuntime) -> Result<(), Fail> {
+    read_beside(
+        &rt,
+        rt.alloc(),
+        &FOLLOWED_BEFORE_ITS_PREPARING,
+        &REFUSED_BY_SHARD,
+        &PUTS_FIRST,
+    )
+}
+
+#[test]
+fn a_journal_that_grew_refuses(rt: HostRuntime) -> Result<(), Fail> {
+    read_beside(
+        &rt,
+        rt.alloc(),
+        &FOLLOWED_WHEN_PREPARED,
+        &REFUSED_BY_JOURNAL,
+        &PUTS_FIRST,
+    )
 }
