@@ -22,6 +22,8 @@ mod looks;
 #[cfg(test)]
 mod order;
 #[cfg(test)]
+mod rival;
+#[cfg(test)]
 mod rows;
 #[cfg(test)]
 mod schedules;
@@ -29,6 +31,8 @@ mod schedules;
 mod sizes;
 #[cfg(test)]
 mod tests;
+#[cfg(test)]
+mod tries;
 #[cfg(test)]
 mod verbs;
 #[cfg(test)]

@@ -36,6 +36,10 @@ struct Talk {
     one: &'static [Line],
 }
 
+fn talk(zero: &'static [Line], one: &'static [Line]) -> Talk {
+    Talk { zero, one }
+}
+
 /// Runs two clients' lines in the order of a schedule, in which each is answered as its replies say.
 fn scheduled(
     rt: &(impl Abort + Threads + Wait + Sync),
@@ -56,6 +60,20 @@ fn scheduled(
     )
 }
 
+/// Runs them in some orders, in each of which they are answered alike.
+fn in_orders(
+    rt: &(impl Abort + Threads + Wait + Sync),
+    alloc: Global,
+    orders: &[&'static [u8]],
+    lines: &Talk,
+    replies: &Talk,
+) -> Result<(), Fail> {
+    for order in orders {
+        scheduled(rt, alloc, order, lines, replies)?;
+    }
+    Ok(())
+}
+
 /// Write skew: each client reads the counter that the other puts. The four events of client 0, each a line.
 const SKEW_ZERO: [Line; 4] = [
     br#"0 begin if counter("y").get() == 0 { counter("x").put(1); }"#,
@@ -70,6 +88,11 @@ const SKEW_ONE: [Line; 4] = [
     b"1 step",
     b"1 step",
 ];
+
+const SKEW: Talk = Talk {
+    zero: &SKEW_ZERO,
+    one: &SKEW_ONE,
+};
 
 /// Client 0 appends first.
 const ZERO_FIRST: [Line; 4] = [
@@ -201,34 +224,40 @@ const ONE_COMMITS: [&[u8]; 34] = [
     b"11101000",
 ];
 
-/// Runs the two in some orders, in each of which they are answered so.
-fn skewed(
-    rt: &(impl Abort + Threads + Wait + Sync),
-    alloc: Global,
-    orders: &[&'static [u8]],
-    zero: &'static [Line],
-    one: &'static [Line],
-) -> Result<(), Fail> {
-    let lines = Talk {
-        zero: &SKEW_ZERO,
-        one: &SKEW_ONE,
-    };
-    for order in orders {
-        scheduled(rt, alloc, order, &lines, &Talk { zero, one })?;
-    }
-    Ok(())
-}
-
 #[test]
 fn one_behind_the_other_both_commit(rt: HostRuntime) -> Result<(), Fail> {
-    skewed(&rt, rt.alloc(), &ZERO_THEN_ONE, &ZERO_FIRST, &ONE_BEHIND)?;
-    skewed(&rt, rt.alloc(), &ONE_THEN_ZERO, &ZERO_BEHIND, &ONE_FIRST)
+    in_orders(
+        &rt,
+        rt.alloc(),
+        &ZERO_THEN_ONE,
+        &SKEW,
+        &talk(&ZERO_FIRST, &ONE_BEHIND),
+    )?;
+    in_orders(
+        &rt,
+        rt.alloc(),
+        &ONE_THEN_ZERO,
+        &SKEW,
+        &talk(&ZERO_BEHIND, &ONE_FIRST),
+    )
 }
 
 #[test]
 fn of_two_at_once_the_second_is_refused(rt: HostRuntime) -> Result<(), Fail> {
-    skewed(&rt, rt.alloc(), &ZERO_COMMITS, &ZERO_FIRST, &ONE_REFUSED)?;
-    skewed(&rt, rt.alloc(), &ONE_COMMITS, &ZERO_REFUSED, &ONE_FIRST)
+    in_orders(
+        &rt,
+        rt.alloc(),
+        &ZERO_COMMITS,
+        &SKEW,
+        &talk(&ZERO_FIRST, &ONE_REFUSED),
+    )?;
+    in_orders(
+        &rt,
+        rt.alloc(),
+        &ONE_COMMITS,
+        &SKEW,
+        &talk(&ZERO_REFUSED, &ONE_FIRST),
+    )
 }
 
 /// A reader of both counters, and one who puts both and lets shard 2 follow. The six events of the reader, each a line.
@@ -245,6 +274,11 @@ const WRITER: [Line; 2] = [
     br#"1 do counter("x").put(7); counter("y").put(7);"#,
     b"1 follow 2",
 ];
+
+const READING: Talk = Talk {
+    zero: &READER,
+    one: &WRITER,
+};
 
 /// The reader has read and appended before anything is put.
 const READS_BEFORE: [Line; 6] = [
@@ -348,70 +382,64 @@ const FOLLOWED_WHEN_PREPARED: [&[u8]; 10] = [
 /// Put when the reader has committed.
 const PUT_BEHIND_ALL: [&[u8]; 1] = [b"00000011"];
 
-/// Runs the two in some orders, in each of which they are answered so.
-fn read_beside(
-    rt: &(impl Abort + Threads + Wait + Sync),
-    alloc: Global,
-    orders: &[&'static [u8]],
-    zero: &'static [Line],
-    one: &'static [Line],
-) -> Result<(), Fail> {
-    let lines = Talk {
-        zero: &READER,
-        one: &WRITER,
-    };
-    for order in orders {
-        scheduled(rt, alloc, order, &lines, &Talk { zero, one })?;
-    }
-    Ok(())
-}
-
 #[test]
 fn what_was_put_before_is_read_at_once(rt: HostRuntime) -> Result<(), Fail> {
-    read_beside(&rt, rt.alloc(), &PUT_BEFORE_ALL, &READS_BEHIND, &PUTS_FIRST)?;
-    read_beside(
+    in_orders(
+        &rt,
+        rt.alloc(),
+        &PUT_BEFORE_ALL,
+        &READING,
+        &talk(&READS_BEHIND, &PUTS_FIRST),
+    )?;
+    in_orders(
         &rt,
         rt.alloc(),
         &PUT_BEFORE_AND_FOLLOWED_BEHIND,
-        &READS_BEHIND,
-        &FOLLOWS_LAST,
+        &READING,
+        &talk(&READS_BEHIND, &FOLLOWS_LAST),
     )
 }
 
 #[test]
 fn what_is_put_behind_is_not_read(rt: HostRuntime) -> Result<(), Fail> {
-    read_beside(&rt, rt.alloc(), &PUT_BEHIND_ALL, &READS_BEFORE, &PUTS_LAST)
+    in_orders(
+        &rt,
+        rt.alloc(),
+        &PUT_BEHIND_ALL,
+        &READING,
+        &talk(&READS_BEFORE, &PUTS_LAST),
+    )
 }
 
 #[test]
 fn a_mixed_read_is_refused(rt: HostRuntime) -> Result<(), Fail> {
-    read_beside(
+    in_orders(
         &rt,
         rt.alloc(),
         &FOLLOWED_BEFORE_ITS_READ,
-        &READS_MIXED,
-        &PUTS_FIRST,
+        &READING,
+        &talk(&READS_MIXED, &PUTS_FIRST),
     )
 }
 
 #[test]
 fn a_shard_that_followed_refuses(rt: HostRuntime) -> Result<(), Fail> {
-    read_beside(
+    in_orders(
         &rt,
         rt.alloc(),
         &FOLLOWED_BEFORE_ITS_PREPARING,
-        &REFUSED_BY_SHARD,
-        &PUTS_FIRST,
+        &READING,
+        &talk(&REFUSED_BY_SHARD, &PUTS_FIRST),
     )
 }
 
 #[test]
 fn a_journal_that_grew_refuses(rt: HostRuntime) -> Result<(), Fail> {
-    read_beside(
+    in_orders(
         &rt,
         rt.alloc(),
         &FOLLOWED_WHEN_PREPARED,
-        &REFUSED_BY_JOURNAL,
-        &PUTS_FIRST,
+        &READING,
+        &talk(&REFUSED_BY_JOURNAL, &PUTS_FIRST),
     )
 }
