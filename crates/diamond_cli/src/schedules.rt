@@ -36,7 +36,8 @@ struct Talk {
     one: &'static [Line],
 }
 
-fn talk(zero: &'static [Line], one: &'static [Line]) -> Talk {
+/// What the two are answered.
+fn replies(zero: &'static [Line], one: &'static [Line]) -> Talk {
     Talk { zero, one }
 }
 
@@ -231,14 +232,14 @@ fn one_behind_the_other_both_commit(rt: HostRuntime) -> Result<(), Fail> {
         rt.alloc(),
         &ZERO_THEN_ONE,
         &SKEW,
-        &talk(&ZERO_FIRST, &ONE_BEHIND),
+        &replies(&ZERO_FIRST, &ONE_BEHIND),
     )?;
     in_orders(
         &rt,
         rt.alloc(),
         &ONE_THEN_ZERO,
         &SKEW,
-        &talk(&ZERO_BEHIND, &ONE_FIRST),
+        &replies(&ZERO_BEHIND, &ONE_FIRST),
     )
 }
 
@@ -249,14 +250,14 @@ fn of_two_at_once_the_second_is_refused(rt: HostRuntime) -> Result<(), Fail> {
         rt.alloc(),
         &ZERO_COMMITS,
         &SKEW,
-        &talk(&ZERO_FIRST, &ONE_REFUSED),
+        &replies(&ZERO_FIRST, &ONE_REFUSED),
     )?;
     in_orders(
         &rt,
         rt.alloc(),
         &ONE_COMMITS,
         &SKEW,
-        &talk(&ZERO_REFUSED, &ONE_FIRST),
+        &replies(&ZERO_REFUSED, &ONE_FIRST),
     )
 }
 
@@ -389,14 +390,14 @@ fn what_was_put_before_is_read_at_once(rt: HostRuntime) -> Result<(), Fail> {
         rt.alloc(),
         &PUT_BEFORE_ALL,
         &READING,
-        &talk(&READS_BEHIND, &PUTS_FIRST),
+        &replies(&READS_BEHIND, &PUTS_FIRST),
     )?;
     in_orders(
         &rt,
         rt.alloc(),
         &PUT_BEFORE_AND_FOLLOWED_BEHIND,
         &READING,
-        &talk(&READS_BEHIND, &FOLLOWS_LAST),
+        &replies(&READS_BEHIND, &FOLLOWS_LAST),
     )
 }
 
@@ -407,7 +408,7 @@ fn what_is_put_behind_is_not_read(rt: HostRuntime) -> Result<(), Fail> {
         rt.alloc(),
         &PUT_BEHIND_ALL,
         &READING,
-        &talk(&READS_BEFORE, &PUTS_LAST),
+        &replies(&READS_BEFORE, &PUTS_LAST),
     )
 }
 
@@ -418,7 +419,7 @@ fn a_mixed_read_is_refused(rt: HostRuntime) -> Result<(), Fail> {
         rt.alloc(),
         &FOLLOWED_BEFORE_ITS_READ,
         &READING,
-        &talk(&READS_MIXED, &PUTS_FIRST),
+        &replies(&READS_MIXED, &PUTS_FIRST),
     )
 }
 
@@ -429,7 +430,7 @@ fn a_shard_that_followed_refuses(rt: HostRuntime) -> Result<(), Fail> {
         rt.alloc(),
         &FOLLOWED_BEFORE_ITS_PREPARING,
         &READING,
-        &talk(&REFUSED_BY_SHARD, &PUTS_FIRST),
+        &replies(&REFUSED_BY_SHARD, &PUTS_FIRST),
     )
 }
 
@@ -440,6 +441,6 @@ fn a_journal_that_grew_refuses(rt: HostRuntime) -> Result<(), Fail> {
         rt.alloc(),
         &FOLLOWED_WHEN_PREPARED,
         &READING,
-        &talk(&REFUSED_BY_JOURNAL, &PUTS_FIRST),
+        &replies(&REFUSED_BY_JOURNAL, &PUTS_FIRST),
     )
 }
