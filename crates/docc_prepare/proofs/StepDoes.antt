@@ -1,6 +1,6 @@
 -- Each step of a store may be done.
 use Rattle.std.proofs.Common.{◌≡◌, ℕ, ◌≤◌, ◌-◌, Bool, true, false, cond, List, Option, Some, None, length, refl, sym}
-use Rattle.std.proofs.Common.{arith}
+use Rattle.std.proofs.Common.{subst, arith}
 use Rattle.std.specs.Prelude.{nat_lt, nat_le}
 use Rattle.abort_witness.specs.declared.witness.Witness.{Witness}
 use Rattle.journal_core.specs.declared.ready.Ready.{Ready}
@@ -48,21 +48,45 @@ either-succeeds false x y kx ky = ky
 stands : (s : Store) → IsSound s → HasStalled s s
 stands s sound = record { all_shards = refl; risen = λ shard. omega arith; reached = sound.reached; same = refl }
 
--- The answer of each call but a wait is no failure, and a wait does nothing.
-pub steps_may_be_done : StepsMayBeDone
-steps_may_be_done s client Call.refresh sound = refl
-steps_may_be_done s client (Call.read address) sound = refl
-steps_may_be_done s client (Call.prepare shard based) sound =
+-- the answer of each call but a wait is no failure, and a wait does nothing
+step-does : (s : Store) (client : ℕ) (c : Call) → IsSound s → Does s client c (step s client c).1 (step s client c).0
+step-does s client Call.refresh sound = refl
+step-does s client (Call.read address) sound = refl
+step-does s client (Call.prepare shard based) sound =
     let front = front_of s shard in
     done-by s (step s client (Call.prepare shard based)).0 client (Call.prepare shard based) (step s client (Call.prepare shard based)).1 refl
     (validated-succeeds shard front (front - s.window) (late_base (front - s.window) (least_base based)) _)
-steps_may_be_done s client (Call.append ready) sound =
+step-does s client (Call.append ready) sound =
     done-by s (step s client (Call.append ready)).0 client (Call.append ready) (step s client (Call.append ready)).1 refl
     (decided-succeeds s client ready (witness_past s ready) (nat_le s.limit (length s.journal)))
-steps_may_be_done s client (Call.read_at address number) sound =
+step-does s client (Call.read_at address number) sound =
     done-by s (step s client (Call.read_at address number)).0 client (Call.read_at address number) (step s client (Call.read_at address number)).1 refl
     (either-succeeds (nat_lt number _) _ _ tt tt)
-steps_may_be_done s client (Call.subscribe address) sound = refl
-steps_may_be_done s client (Call.unsubscribe address) sound = refl
-steps_may_be_done s client Call.take sound = refl
-steps_may_be_done s client Call.wait sound = (refl, stands s sound)
+step-does s client (Call.subscribe address) sound = refl
+step-does s client (Call.unsubscribe address) sound = refl
+step-does s client Call.take sound = refl
+step-does s client Call.wait sound = (refl, stands s sound)
+
+-- what succeeds has not failed
+no-failure : (a : Answer) (by_fault : Bool) → Succeeds a → a ≡ Answer.failed by_fault → ⊥
+no-failure a f ok e = subst Succeeds e ok
+
+-- so where the answer is a failure, the call is a wait
+waits-alone : (s : Store) (client : ℕ) (c : Call) (by_fault : Bool) → (step s client c).1 ≡ Answer.failed by_fault → c ≡ Call.wait
+waits-alone s client Call.refresh f e = absurd (cc)
+waits-alone s client (Call.read address) f e = absurd (cc)
+waits-alone s client (Call.prepare shard based) f e =
+    let front = front_of s shard in
+    absurd (no-failure (step s client (Call.prepare shard based)).1 f
+    (validated-succeeds shard front (front - s.window) (late_base (front - s.window) (least_base based)) _) e)
+waits-alone s client (Call.append ready) f e =
+    absurd (no-failure (step s client (Call.append ready)).1 f (decided-succeeds s client ready (witness_past s ready) (nat_le s.limit (length s.journal))) e)
+waits-alone s client (Call.read_at address number) f e =
+    absurd (no-failure (step s client (Call.read_at address number)).1 f (either-succeeds (nat_lt number _) _ _ tt tt) e)
+waits-alone s client (Call.subscribe address) f e = absurd (cc)
+waits-alone s client (Call.unsubscribe address) f e = absurd (cc)
+waits-alone s client Call.take f e = absurd (cc)
+waits-alone s client Call.wait f e = refl
+
+pub steps_may_be_done : StepsMayBeDone
+steps_may_be_done = record { done = step-does; failing = waits-alone }

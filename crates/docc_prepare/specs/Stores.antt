@@ -215,9 +215,10 @@ StepsAreAnswered =
     (s t : Store) (client : ℕ) (c : Call) (a : Answer) → IsSound s → client < CLIENTS → CanCall (known_by s client) c → Does s client c a t
     → IsAnswered (known_by s client) c a (known_by t client) × IsSound t
 
--- Each step may be done: a store that wants for no memory does it.
-abbrev pub StepsMayBeDone : Type 0
-StepsMayBeDone = (s : Store) (client : ℕ) (c : Call) → IsSound s → Does s client c (step s client c).1 (step s client c).0
+-- Each step may be done, since a store that wants for no memory does it; and only a wait, for which there is nobody, fails.
+pub record StepsMayBeDone : Type 0 where
+  pub done : (s : Store) (client : ℕ) (c : Call) → IsSound s → Does s client c (step s client c).1 (step s client c).0
+  pub failing : (s : Store) (client : ℕ) (c : Call) (by_fault : Bool) → (step s client c).1 ≡ Answer.failed by_fault → c ≡ Call.wait
 
 -- To each other client it is as if others had been at work.
 abbrev pub StepsLeaveOthers : Type 0

@@ -19,7 +19,7 @@ pub fn first_stores_are_sound()
     ensures { FirstStoreIsSound }
 {}
 
-/// The law that each step may be done: a store that wants for no memory does it.
+/// The law that each step may be done, and that only a wait fails.
 pub fn steps_may_be_done()
     ensures { StepsMayBeDone }
 {}

@@ -20,6 +20,7 @@ use Rattle.script_runner.specs.Script.{Reading, Writing, IsPlayed, IsBrokenOff, 
 use Rattle.script_runner.specs.code.Turns.{read_stopped, write_stopped, Ends, Closes}
 use Rattle.script_runner.proofs.Plays.{cut_whole}
 use Rattle.script_runner.proofs.Standing.{played_is_legal}
+use Rattle.script_runner.proofs.Telling.{scripts_are_explained}
 
 -- an input with a line too many has more lines than may be read
 too_many-lines : (settings : Settings) (taken taken_then : Option Text) (all rest : Text)
@@ -69,6 +70,7 @@ module _ (settings : Settings) (r : Reading) (w : Writing) where
     whole = λ is. (at WHOLE is).0;
     flushed = λ is. (at WHOLE is).1;
     legal = played_is_legal settings r.left;
+    explained = scripts_are_explained settings r.left;
     broken_off = λ is. (at READ_FAULT is).0;
     too_many = λ is. (at TOO_MANY_LINES is).0;
     unwritten = λ is. (at WRITE_FAULT is).0;

@@ -15,10 +15,12 @@ use Rattle.txn_lang.specs.Journals.{IsLegal}
 use Rattle.docc_prepare.specs.Stores.{Store, CLIENTS, IsSound, known_by, first_store, followed}
 use Rattle.docc_prepare.proofs.Stored.{first_store_is_sound}
 use Rattle.docc_prepare.proofs.Elsewhere.{shards_follow}
+use Rattle.session_core.specs.declared.line.Line.{Line as Asked}
 use Rattle.session_core.specs.declared.session.Session.{Session}
 use Rattle.session_core.specs.declared.turn.Turn.{Turn}
 use Rattle.session_core.specs.declared.turn.Turn.TheVariants as turn
 use Rattle.session_core.specs.Lines.{line_of}
+use Rattle.session_core.specs.declared.limits.TheConstants.{MOST_CALLS}
 use Rattle.session_core.specs.Phases.{Phase}
 use Rattle.session_core.specs.Holding.{Attends}
 use Rattle.session_core.specs.Words.{trimmed_start, is_quiet}
@@ -26,47 +28,11 @@ use Rattle.session_core.proofs.GoingOn.{sessions_go_on}
 use Rattle.script_runner.specs.declared.words.TheConstants.{LAST_CLIENT}
 use Rattle.script_runner.specs.Driving.{Place, line_done}
 use Rattle.script_runner.specs.Words.{is_solid, first_word, after_word, small_number, client_named, if_client, is_follow, if_shard, shard_named}
-use Rattle.script_runner.specs.Play.{ScriptWorld, first_session, first_sessions, first_world, session_of, Did, left, ended_line, session_line, follow_line, client_line}
+use Rattle.script_runner.specs.Play.{ScriptWorld, first_session, first_sessions, first_world, session_of, Told, Did, did, left, ended_line, follow_line, client_line}
 use Rattle.script_runner.specs.Play.{Done, placed, named_line, text_line, answer, Played, nothing_played, one_more, play}
 use Rattle.script_runner.specs.Worlds.{Stands}
+use Rattle.script_runner.proofs.Places.{set-here, set-elsewhere, at-end, same-or-not}
 use Rattle.script_runner.proofs.Stood.{IsDriven, line-driven}
-
--- ---- places of a list
-
--- what was set at a place stands there, where the list has it
-set-here : {A : Type 0} (P : A → Type 0) (xs : List A) (i : ℕ) (v d : A) → P v → P d → P (get_or (set xs i v) i d)
-set-here P [] i v d new none = none
-set-here P (x ∷ xs) zero v d new none = new
-set-here P (x ∷ xs) (suc i) v d new none = set-here P xs i v d new none
-
--- at any other place nothing has changed
-set-elsewhere : {A : Type 0} (xs : List A) (i j : ℕ) (v d : A) → j ≢ i → get_or (set xs i v) j d ≡ get_or xs j d
-set-elsewhere [] i j v d apart = refl
-set-elsewhere (x ∷ xs) zero zero v d apart = absurd (apart refl)
-set-elsewhere (x ∷ xs) zero (suc j) v d apart = refl
-set-elsewhere (x ∷ xs) (suc i) zero v d apart = refl
-set-elsewhere (x ∷ xs) (suc i) (suc j) v d apart = set-elsewhere xs i j v d (λ e. apart (ap suc e))
-
--- with one item more each place has what it had, or that item where the list ended
-at-end : {A : Type 0} (xs : List A) (v d : A) (j : ℕ)
-    → (get_or (xs ++ v ∷ []) j d ≡ get_or xs j d) ⊎ ((j ≡ length xs) × (get_or (xs ++ v ∷ []) j d ≡ v))
-at-end [] v d zero = inr (refl, refl)
-at-end [] v d (suc j) = inl refl
-at-end (x ∷ xs) v d zero = inl refl
-at-end (x ∷ xs) v d (suc j) = by (at-end xs v d j)
-  where
-    by : (get_or (xs ++ v ∷ []) j d ≡ get_or xs j d) ⊎ ((j ≡ length xs) × (get_or (xs ++ v ∷ []) j d ≡ v))
-        → (get_or (xs ++ v ∷ []) j d ≡ get_or xs j d) ⊎ ((suc j ≡ suc (length xs)) × (get_or (xs ++ v ∷ []) j d ≡ v))
-    by (inl same) = inl same
-    by (inr last) = inr (ap suc last.0, last.1)
-
--- two numbers are the same or not
-same-or-not : (i j : ℕ) → (i ≡ j) ⊎ (i ≢ j)
-same-or-not i j = by (i == j) refl
-  where
-    by : (b : Bool) → (i == j) ≡ b → (i ≡ j) ⊎ (i ≢ j)
-    by true e = inl (let same : i ≡ j = grind (arith, nat_tests) in same)
-    by false e = inr (λ same. let no : ⊥ = grind (arith, nat_tests) in no)
 
 -- ---- the first world
 
@@ -76,7 +42,7 @@ many-first zero = refl
 many-first (suc n) = let long = length-append (first_sessions n) (Some (first_session n) ∷ []) in let most = many-first n in omega arith
 
 -- each stands at its client's place
-each-first : (n client : ℕ) → IfSome (get_or (first_sessions n) client None) (λ s. s ≡ first_session client)
+pub each-first : (n client : ℕ) → IfSome (get_or (first_sessions n) client None) (λ s. s ≡ first_session client)
 each-first zero client = tt
 each-first (suc n) client = by (at-end (first_sessions n) (Some (first_session n)) None client)
   where
@@ -129,8 +95,8 @@ record Leaves (s : Store) (client : ℕ) (d : Did) : Type 0 where
 
 module _ (s : Store) (client : ℕ) (sound : IsSound s) (below : client < CLIENTS) where
   -- a line that changes nothing
-  stays : (o : Option Session) (output : Text) → IfSome o (Attends (known_by s client)) → Leaves s client (record { store = s; session = o; output = output })
-  stays o output is = record { sound = sound; mine = is; others = λ other apart theirs h. h }
+  stays : (o : Option Session) (told : Told) → IfSome o (Attends (known_by s client)) → Leaves s client (did s o told)
+  stays o told is = record { sound = sound; mine = is; others = λ other apart theirs h. h }
 
   module _ (session : Session) (is : Attends (known_by s client) session) where
     -- a shard that follows takes nothing of what a session rests on
@@ -156,19 +122,19 @@ module _ (s : Store) (client : ℕ) (sound : IsSound s) (below : client < CLIENT
     left-attends k t (turn.Ended replies) h = tt
 
     -- what a line is driven to, wherever that is
-    ended-leaves : (text : Text) (x : Place) → IsDriven s client session text x → Leaves s client (ended_line client s session x)
-    ended-leaves text (after, Phase.over t x) h = record {
+    ended-leaves : (text : Text) (asked : Asked) (x : Place) → IsDriven s client session text MOST_CALLS x → Leaves s client (ended_line client s session asked x)
+    ended-leaves text asked (after, Phase.over t x) h = record {
       sound = h.sound;
       mine = left-attends after t x (sessions_go_on.behind (known_by s client) session text (known_by after client) t x h.way);
       others = h.others;
     }
-    ended-leaves text (after, Phase.beginning t a) h = stays (Some session) [] is
-    ended-leaves text (after, Phase.stepping t a) h = stays (Some session) [] is
-    ended-leaves text (after, Phase.trying t more a) h = stays (Some session) [] is
-    ended-leaves text (after, Phase.going t more a) h = stays (Some session) [] is
-    ended-leaves text (after, Phase.looking t upto body) h = stays (Some session) [] is
-    ended-leaves text (after, Phase.looked t n body snaps address) h = stays (Some session) [] is
-    ended-leaves text (after, Phase.broken by_fault) h = stays (Some session) [] is
+    ended-leaves text asked (after, Phase.beginning t a) h = stays (Some session) Told.nothing is
+    ended-leaves text asked (after, Phase.stepping t a) h = stays (Some session) Told.nothing is
+    ended-leaves text asked (after, Phase.trying t more a) h = stays (Some session) Told.nothing is
+    ended-leaves text asked (after, Phase.going t more a) h = stays (Some session) Told.nothing is
+    ended-leaves text asked (after, Phase.looking t upto body) h = stays (Some session) Told.nothing is
+    ended-leaves text asked (after, Phase.looked t n body snaps address) h = stays (Some session) Told.nothing is
+    ended-leaves text asked (after, Phase.broken by_fault) h = stays (Some session) Told.nothing is
 
     -- a line of the session, or one that lets a shard follow
     either-leaves : (b : Bool) (x y : Did) → Leaves s client x → Leaves s client y → Leaves s client (cond b x y)
@@ -177,7 +143,7 @@ module _ (s : Store) (client : ℕ) (sound : IsSound s) (below : client < CLIENT
 
     line-leaves : (text : Text) → length text ≤ LONGEST_LINE → Leaves s client (client_line client s (Some session) text)
     line-leaves text short = either-leaves (is_follow text) _ _ (follow-leaves (small_number _))
-        (ended-leaves text (line_done client s session (line_of text)) (line-driven s client session text below sound is short))
+        (ended-leaves text (line_of text) (line_done client s session (line_of text)) (line-driven s client session text below sound is short))
 
   -- the line of a client who may have quit
   pub client-leaves : (o : Option Session) (text : Text) → length text ≤ LONGEST_LINE → IfSome o (Attends (known_by s client))
@@ -223,16 +189,16 @@ either-stands true x y kx ky = kx
 either-stands false x y kx ky = ky
 
 -- without the blanks at its beginning a text is no longer
-trimmed-shorter : (z : Text) → length (trimmed_start z) ≤ length z
+pub trimmed-shorter : (z : Text) → length (trimmed_start z) ≤ length z
 trimmed-shorter z = let e = length-drop (prefix_len is_blank z) z in omega arith
 
 -- nor is what comes behind its first word
-after-shorter : (z : Text) → length (after_word z) ≤ length z
+pub after-shorter : (z : Text) → length (after_word z) ≤ length z
 after-shorter z =
     let e = length-drop (prefix_len is_solid z) z in let t = trimmed-shorter (drop (prefix_len is_solid z) z) in omega arith
 
 -- what is cut from an input is short, or too long to be read
-cut-short : (raw : Text) → IsShort (cut_of raw)
+pub cut-short : (raw : Text) → IsShort (cut_of raw)
 cut-short raw = by (nat_lt LONGEST_LINE (length raw)) refl
   where
     by : (b : Bool) → nat_lt LONGEST_LINE (length raw) ≡ b → IsShort (cond b line.TooLong (line.Bytes raw))

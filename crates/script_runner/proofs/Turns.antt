@@ -8,7 +8,7 @@ use Rattle.dio_core.specs.Sinks.{with_more, TakesPrefix}
 use Rattle.dio_core.proofs.Told.{WhereTold-map}
 use Rattle.dio_core.proofs.Sinks.{with_more-nil}
 use Rattle.txn_grammar.specs.Characters.{Text}
-use Rattle.script_runner.specs.Play.{ScriptWorld, Done, done, answer}
+use Rattle.script_runner.specs.Play.{ScriptWorld, printed, answer}
 use Rattle.script_runner.specs.code.Turns.{moment, DoesLine, BeginsLine}
 
 -- a line that is there is the first of the input
@@ -18,10 +18,10 @@ first_taken (line.Bytes bytes) all rest some takes = takes
 first_taken line.TooLong all rest some takes = takes
 
 module _ (old new : ScriptWorld) (reply : Text) (l : Line) (some : l ≡ line.End → ⊥)
-    (answered : answer old l ≡ done new reply) (left left_then taken taken_then : Option Text) where
+    (answered : ((answer old l).world, printed (answer old l).told) ≡ (new, reply)) (left left_then taken taken_then : Option Text) where
   -- what was answered to the line is what the play answers to it
-  answer_is : (raw : Text) → l ≡ line_of raw → answer old (line_of raw) ≡ done new reply
-  answer_is raw is = subst (λ (k : Line). answer old k ≡ done new reply) is answered
+  answer_is : (raw : Text) → l ≡ line_of raw → ((answer old (line_of raw)).world, printed (answer old (line_of raw)).told) ≡ (new, reply)
+  answer_is raw is = subst (λ (k : Line). ((answer old k).world, printed (answer old k).told) ≡ (new, reply)) is answered
 
   -- a line was done, and its reply was taken
   pub line-done : TakesLine l left left_then → taken_then ≡ with_more taken reply
@@ -31,8 +31,8 @@ module _ (old new : ScriptWorld) (reply : Text) (l : Line) (some : l ≡ line.En
       let same = answer_is line.raw line.answered in record {
         raw = line.raw;
         read = line.first.0;
-        world = ap (λ (a : Done). a.world) (sym same);
-        output = wrote ∙ ap (λ (a : Done). with_more taken a.output) (sym same);
+        world = ap (λ (a : ScriptWorld × Text). a.0) (sym same);
+        output = wrote ∙ ap (λ (a : ScriptWorld × Text). with_more taken a.1) (sym same);
       }) takes
 
   -- a line was done, and of its reply a prefix was taken
@@ -43,7 +43,7 @@ module _ (old new : ScriptWorld) (reply : Text) (l : Line) (some : l ≡ line.En
       let same = answer_is line.raw line.answered in record {
         raw = line.raw;
         read = line.first.0;
-        output = subst (λ (bytes : Text). TakesPrefix bytes taken taken_then) (ap (λ (a : Done). a.output) (sym same)) wrote;
+        output = subst (λ (bytes : Text). TakesPrefix bytes taken taken_then) (ap (λ (a : ScriptWorld × Text). a.1) (sym same)) wrote;
       }) takes
 
 -- a line was read, and there was no memory for what it does

@@ -1,10 +1,15 @@
 -- A line of a session, driven over the store of one thread: what each phase asks for is done by a step of the store.
-use Rattle.std.specs.Prelude.{ℕ, zero, suc, Option, Some, None}
+use Rattle.std.specs.Prelude.{◌≡◌, ℕ, zero, suc, ◌≤◌, ◌<◌, length, Option, Some, None}
+use Rattle.dio_core.specs.declared.line.TheConstants.{LONGEST_LINE}
+use Rattle.txn_grammar.specs.Characters.{Text}
 use Rattle.docc_prepare.specs.Calls.{Call, Answer}
-use Rattle.docc_prepare.specs.Stores.{Store, seen_by, step}
+use Rattle.docc_prepare.specs.Stores.{Store, CLIENTS, IsSound, known_by, seen_by, step}
 use Rattle.session_core.specs.declared.limits.TheConstants.{MOST_CALLS}
 use Rattle.session_core.specs.declared.line.Line.{Line}
 use Rattle.session_core.specs.declared.session.Session.{Session}
+use Rattle.session_core.specs.declared.turn.Turn.{Turn}
+use Rattle.session_core.specs.Holding.{Attends}
+use Rattle.session_core.specs.Lines.{line_of}
 use Rattle.session_core.specs.Phases.{Phase, asks, after, start}
 
 -- a store, and how far a line has come over it
@@ -33,3 +38,17 @@ drive (suc n) client x = advance client (drive n client x)
 -- law that the calls of a line suffice, none needs more.
 unfoldable pub line_done : ℕ → Store → Session → Line → Place
 line_done client s session line = drive MOST_CALLS client (s, start s.shards (seen_by s client) session line)
+
+-- ---- a law
+
+-- A line comes to its turn, and leaves the session that goes on behind it.
+pub record IsOverBy (x : Place) : Type 0 where
+  pub session : Session
+  pub turn : Turn
+  pub over : x.1 ≡ Phase.over session turn
+
+-- EVERY LINE IS OVER by then: over a sound store, for a session that may have its next line, there is a turn.
+abbrev pub LinesAreOver : Type 0
+LinesAreOver =
+    (s : Store) (client : ℕ) (session : Session) (text : Text) → IsSound s → client < CLIENTS → Attends (known_by s client) session
+    → length text ≤ LONGEST_LINE → IsOverBy (line_done client s session (line_of text))

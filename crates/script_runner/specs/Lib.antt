@@ -3,5 +3,6 @@ pub mod Driving
 pub mod Play
 pub mod Worlds
 pub mod Lines
+pub mod Explained
 pub mod Script
 pub mod code

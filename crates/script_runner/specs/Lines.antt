@@ -7,16 +7,16 @@ use Rattle.session_core.specs.declared.session.Session.{Session}
 use Rattle.session_core.specs.declared.turn.Turn.{Turn}
 use Rattle.session_core.specs.Phases.{Phase}
 use Rattle.script_runner.specs.Driving.{Place}
-use Rattle.script_runner.specs.Play.{ScriptWorld, Did, Done}
+use Rattle.script_runner.specs.Play.{ScriptWorld, Did, Done, printed}
 
 -- the world after a line and the output are those of the definition, unless memory ran out
 abbrev pub Answers : Result Text AllocError → ScriptWorld → Done → Type 0
-Answers (Ok output) world done = done ≡ record { world = world; output = output }
+Answers (Ok output) world done = (done.world, printed done.told) ≡ (world, output)
 Answers (Err e) world done = Unit {0}
 
 -- the same of a client's line: the store, the client's session, and the output
 abbrev pub Does : Result Text AllocError → Store → Option Session → Did → Type 0
-Does (Ok output) store session did = did ≡ record { store = store; session = session; output = output }
+Does (Ok output) store session did = (did.store, did.session, printed did.told) ≡ (store, session, output)
 Does (Err e) store session did = Unit {0}
 
 -- the line is over: the store, the session and the turn are those where it ends, unless memory ran out

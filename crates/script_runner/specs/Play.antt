@@ -21,7 +21,9 @@ use Rattle.session_core.specs.declared.session.Session.{Session}
 use Rattle.session_core.specs.declared.turn.Turn.{Turn}
 use Rattle.session_core.specs.declared.turn.Turn.TheVariants as turn
 use Rattle.session_core.specs.Lines.{line_of}
-use Rattle.session_core.specs.Phases.{Phase}
+use Rattle.session_core.specs.declared.line.Line.{Line as Asked}
+use Rattle.session_core.specs.declared.line.Line.TheVariants as asks
+use Rattle.session_core.specs.Phases.{Phase, said}
 use Rattle.session_core.specs.Words.{trimmed_start, is_quiet}
 use Rattle.script_runner.specs.Words.{first_word, after_word, client_named, is_follow, shard_named}
 use Rattle.script_runner.specs.Driving.{Place, line_done}
@@ -70,99 +72,129 @@ reply_lines client (r ∷ rest) = reply_line client (printed_reply r) ++ reply_l
 abbrev pub refused_line : Option ℕ → Why → Text
 refused_line client reason = reply_line client (printed_reply (reply.Refused reason))
 
--- what a client is answered
-abbrev pub printed : ℕ → Turn → Text
-printed client turn.Quiet = []
-printed client (turn.Replies replies) = reply_lines (Some client) replies
-printed client turn.Unbuilt = reply_line (Some client) (codes "refused unbuilt")
-printed client (turn.Ended replies) = reply_lines (Some client) replies
+-- the lines of a turn
+abbrev pub turn_lines : ℕ → Turn → Text
+turn_lines client turn.Quiet = []
+turn_lines client (turn.Replies replies) = reply_lines (Some client) replies
+turn_lines client turn.Unbuilt = reply_line (Some client) (codes "refused unbuilt")
+turn_lines client (turn.Ended replies) = reply_lines (Some client) replies
+
+-- WHAT IS TOLD OF A LINE.
+pub data Told : Type 0 where
+  -- it asks for nothing
+  nothing : Told
+  -- it is no client's, and is refused
+  nobody : Why → Told
+  -- a client's session was asked for this, and answers this
+  answered : ℕ → Asked → Turn → Told
+  -- a client let a shard follow to a front
+  followed : ℕ → ℕ → ℕ → Told
+
+-- the bytes that answer it
+abbrev pub printed : Told → Text
+printed Told.nothing = []
+printed (Told.nobody reason) = refused_line None reason
+printed (Told.answered client asked t) = turn_lines client t
+printed (Told.followed client shard front) = reply_line (Some client) (printed_reply (reply.Followed shard front))
 
 -- ---- the line of a client
 
--- What it comes to: the store, the client's session, and the bytes that answer it.
+-- What it comes to: the store, the client's session, and what is told of it.
 pub record Did : Type 0 where
   pub store : Store
   pub session : Option Session
-  pub output : Text
+  pub told : Told
 
-abbrev pub did : Store → Option Session → Text → Did
-did store session output = record { store = store; session = session; output = output }
+abbrev pub did : Store → Option Session → Told → Did
+did store session told = record { store = store; session = session; told = told }
 
 -- a session goes on, unless its turn ended it
 abbrev pub left : Session → Turn → Option Session
 left session (turn.Ended replies) = None
 left session t = Some session
 
--- where a line of a session is over. (No other phase is reached by so many calls.)
-abbrev pub ended_line : ℕ → Store → Session → Place → Did
-ended_line client store session (after, Phase.over then t) = did after (left then t) (printed client t)
-ended_line client store session (after, p) = did store (Some session) []
+-- Where a line of a session is over. (By the law that lines are over, no other phase is reached by so many calls.)
+abbrev pub ended_line : ℕ → Store → Session → Asked → Place → Did
+ended_line client store session asked (after, Phase.over then t) = did after (left then t) (Told.answered client asked t)
+ended_line client store session asked (after, p) = did store (Some session) Told.nothing
+
+abbrev pub asked_line : ℕ → Store → Session → Asked → Did
+asked_line client store session asked = ended_line client store session asked (line_done client store session asked)
 
 abbrev pub session_line : ℕ → Store → Session → Text → Did
-session_line client store session text = ended_line client store session (line_done client store session (line_of text))
+session_line client store session text = asked_line client store session (line_of text)
 
 -- `follow K`: the shard follows to the journal's end. Where it names no shard, it is of no verb's form.
 abbrev pub follow_line : ℕ → Store → Session → Option ℕ → Did
-follow_line client store session None = did store (Some session) (refused_line (Some client) why.Verb)
+follow_line client store session None = did store (Some session) (Told.answered client (asks.Refused why.Verb) (said (reply.Refused why.Verb)))
 follow_line client store session (Some shard) =
-    did (followed store client shard) (Some session) (reply_line (Some client) (printed_reply (reply.Followed shard (length store.journal))))
+    did (followed store client shard) (Some session) (Told.followed client shard (length store.journal))
 
 -- a client who has quit is none
 abbrev pub client_line : ℕ → Store → Option Session → Text → Did
-client_line client store None text = did store None (refused_line None why.Client)
+client_line client store None text = did store None (Told.nobody why.Client)
 client_line client store (Some session) text =
     if is_follow text then follow_line client store session (shard_named store.shards (after_word text)) else session_line client store session text
 
 -- ---- one line
 
--- the world after a line, and the bytes that answer it
+-- the world after a line, and what is told of it
 pub record Done : Type 0 where
   pub world : ScriptWorld
-  pub output : Text
+  pub told : Told
 
-abbrev pub done : ScriptWorld → Text → Done
-done world output = record { world = world; output = output }
+abbrev pub done : ScriptWorld → Told → Done
+done world told = record { world = world; told = told }
 
 -- the client's line has changed the store and the client's session
 abbrev pub placed : ScriptWorld → ℕ → Did → Done
-placed world client d = done (record { store = d.store; sessions = set world.sessions client d.session }) d.output
+placed world client d = done (record { store = d.store; sessions = set world.sessions client d.session }) d.told
 
 -- what a line does whose first word names this client, or none
 abbrev pub named_line : ScriptWorld → Option ℕ → Text → Done
-named_line world None text = done world (refused_line None why.Client)
+named_line world None text = done world (Told.nobody why.Client)
 named_line world (Some client) text = placed world client (client_line client world.store (session_of world client) text)
 
 -- a line without the blanks at its beginning
 abbrev pub text_line : ScriptWorld → Text → Done
-text_line world text = if is_quiet text then done world [] else named_line world (client_named (first_word text)) (after_word text)
+text_line world text = if is_quiet text then done world Told.nothing else named_line world (client_named (first_word text)) (after_word text)
 
 abbrev pub answer : ScriptWorld → Line → Done
 answer world (line.Bytes bytes) = text_line world (trimmed_start bytes)
-answer world line.TooLong = done world (refused_line None why.Long)
-answer world line.End = done world []
+answer world line.TooLong = done world (Told.nobody why.Long)
+answer world line.End = done world Told.nothing
 
 -- ---- what a script does
 
--- What lines have made of the world that they began with, and their replies.
+-- What lines have made of the world that they began with, what was told of each, and the bytes of that.
 pub record Played : Type 0 where
   pub world : ScriptWorld
+  pub told : List Told
   pub output : Text
 
 -- before the first line
 abbrev pub nothing_played : Settings → Played
-nothing_played settings = record { world = first_world settings; output = [] }
+nothing_played settings = record { world = first_world settings; told = []; output = [] }
 
--- the world after a line as it stands in the input
+-- what a line does as it stands in the input
+abbrev pub cut_line : ScriptWorld → Text → Done
+cut_line world raw = answer world (cut_of raw)
+
+-- the world after such a line
 abbrev pub world_after : ScriptWorld → Text → ScriptWorld
-world_after world raw = (answer world (cut_of raw)).world
+world_after world raw = (cut_line world raw).world
 
--- the reply to such a line
+-- the reply to it
 abbrev pub reply_to : ScriptWorld → Text → Text
-reply_to world raw = (answer world (cut_of raw)).output
+reply_to world raw = printed (cut_line world raw).told
 
 -- and then one more line
 abbrev pub one_more : Played → Text → Played
-one_more played raw = record { world = world_after played.world raw; output = played.output ++ reply_to played.world raw }
+one_more played raw = record {
+  world = world_after played.world raw;
+  told = played.told ++ (cut_line played.world raw).told ∷ [];
+  output = played.output ++ reply_to played.world raw;
+}
 
 -- lines in order
 abbrev pub played : Settings → List Text → Played

@@ -11,6 +11,7 @@ use Rattle.txn_lang.specs.Journals.{IsLegal}
 use Rattle.script_runner.specs.declared.status.TheConstants.{WHOLE, READ_FAULT, WRITE_FAULT, NO_MEMORY, TOO_MANY_LINES}
 use Rattle.script_runner.specs.declared.stop.TheConstants.{MOST_LINES}
 use Rattle.script_runner.specs.Play.{played, play}
+use Rattle.script_runner.specs.Explained.{ExplainsScript}
 
 -- ---- the limits and the statuses
 
@@ -108,6 +109,8 @@ pub record KeepsPromises (settings : Settings) (status : ℕ) (r : Reading) (w :
   pub flushed : status ≡ WHOLE → IsPassedOn w.taken_then w.passed_then
   -- the journal that the script leaves is legal: each commit is what its body does on the state of those before it
   pub legal : IfSome r.left (λ all. IsLegal 0 (play settings all).world.store.journal)
+  -- and the answers of every client are explained by it
+  pub explained : IfSome r.left (ExplainsScript settings)
   -- at 3 the output of the lines that were read whole was taken
   pub broken_off : status ≡ READ_FAULT → WhereTold (IsBrokenOff settings w.taken w.taken_then) r.left r.left_then
   -- at 9 that of the most lines that may be read

@@ -6,6 +6,7 @@
 //! says what a run promises at each status.
 #![tactic(auto)]
 
+mod laws;
 mod lines;
 mod replies;
 mod script;
@@ -14,6 +15,7 @@ mod stop;
 mod words;
 mod world;
 
+pub use laws::lines_are_over;
 pub use script::run_script;
 pub use status::{NO_MEMORY, READ_FAULT, TOO_MANY_LINES, WHOLE, WRITE_FAULT};
 pub use stop::MOST_LINES;

@@ -11,7 +11,7 @@ ghost use Rattle.script_runner.specs.Lines.{Answers, Does, IsOver};
 ghost use Rattle.script_runner.specs.Play as spec;
 ghost use Rattle.script_runner.specs.Worlds.{world_of, Stands};
 
-use crate::replies::{printed, refused_line, reply_line};
+use crate::replies::{refused_line, reply_line, turn_lines};
 use crate::words::{after_word, client_named, first_word, is_follow, shard_named};
 use crate::world::Script;
 use dio_core::{LONGEST_LINE, Line};
@@ -81,7 +81,7 @@ fn session_line(
     ensures { Does result (store_of world.new) place.new (spec.session_line client (store_of world.old) session text.now) }
 {
     let turn = in_world(alloc, world, client, &mut session, text)?;
-    let output = printed(alloc, client, &turn)?;
+    let output = turn_lines(alloc, client, &turn)?;
     *place = left(session, &turn);
     Ok(output)
 }

@@ -59,9 +59,9 @@ fn reply_lines(alloc: Global, client: u32, replies: &[Reply]) -> Result<Text, Al
     Ok(lines)
 }
 
-/// What a client is answered.
-pub fn printed(alloc: Global, client: u32, turn: &Turn) -> Result<Text, AllocError>
-    ensures { IfOk result (λ text. text ≡ spec.printed client turn.now) }
+/// The lines of a turn.
+pub fn turn_lines(alloc: Global, client: u32, turn: &Turn) -> Result<Text, AllocError>
+    ensures { IfOk result (λ text. text ≡ spec.turn_lines client turn.now) }
 {
     match turn {
         Turn::Quiet => Ok(Text::new(alloc)),

@@ -51,7 +51,7 @@ phase-owed k (Phase.going s left a) call h e =
     subst (CanCall k) (let same : call_of s a ≡ call = cc in same) (event-owed k s a (next_event a) refl h.0 h.1)
 phase-owed k (Phase.looking s upto body) call h e = subst (CanCall k) (let same : Call.refresh ≡ call = cc in same) tt
 phase-owed k (Phase.looked s n body snaps address) call h e =
-    subst (CanCall k) (let same : Call.read_at address n ≡ call = cc in same) (h.1.1, h.1.0)
+    subst (CanCall k) (let same : Call.read_at address n ≡ call = cc in same) (h.2, h.1)
 phase-owed k (Phase.over s t) call h e = absurd (cc)
 phase-owed k (Phase.broken by_fault) call h e = absurd (cc)
 

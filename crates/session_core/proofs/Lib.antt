@@ -19,5 +19,7 @@ pub mod Explaining
 pub mod Explained
 pub mod Stays
 pub mod Talked
+pub mod Stories
 pub mod GoingOn
+pub mod Unbroken
 pub mod Went

@@ -276,7 +276,7 @@ abbrev story : ℕ → ℕ → Session → Option Attempt → Story
 story low begun s o = record { low = low; begun = begun; session = with_attempt s o }
 
 -- an attempt begins at what is shown then, which doesn't fall
-begun-below : (low begun : ℕ) (s : Session) (o : Option Attempt) (l : Line) (t : Turn) → begun ≤ low
+pub begun-below : (low begun : ℕ) (s : Session) (o : Option Attempt) (l : Line) (t : Turn) → begun ≤ low
     → begun_after (story low begun s o) l t ≤ low_after low l t
 begun-below low begun s None (asked.Begin body) t h = omega arith
 begun-below low begun s (Some a) (asked.Begin body) t h = let up = line-up low (asked.Begin body) t in omega arith
@@ -304,7 +304,7 @@ module _ (set : Setting) (journal : Journal) (low begun : ℕ) (s : Session) (be
   step-from a t from h = absurd h
 
   -- a new attempt has no base, and a base that is shown isn't below what was
-  from-on : (o : Option Attempt) (l : Line) (t : Turn) → IfSome o (AreFrom begun) → Passes set journal (story low begun s o) l t
+  pub from-on : (o : Option Attempt) (l : Line) (t : Turn) → IfSome o (AreFrom begun) → Passes set journal (story low begun s o) l t
       → IfSome (session_after set journal (with_attempt s o) l t).attempt (AreFrom (begun_after (story low begun s o) l t))
   from-on None (asked.Begin body) t from h = tt
   from-on (Some a) (asked.Begin body) t from h = from

@@ -1,14 +1,14 @@
 -- What a line owes its backend, and what goes on behind it.
-use Rattle.std.specs.Prelude.{◌≡◌, ℕ, ◌≤◌, length, Some}
+use Rattle.std.specs.Prelude.{◌≡◌, ℕ, ◌≤◌, Bool, true, false, length, Some}
 use Rattle.dio_core.specs.declared.line.TheConstants.{LONGEST_LINE}
 use Rattle.txn_grammar.specs.Characters.{Text}
-use Rattle.docc_prepare.specs.Calls.{Known, Call}
+use Rattle.docc_prepare.specs.Calls.{Known, Call, Answer}
 use Rattle.docc_prepare.specs.Backends.{CanCall, IsAnswered, IsLater}
 use Rattle.docc_prepare.specs.Stores.{HasFollowed}
 use Rattle.session_core.specs.declared.session.Session.{Session}
 use Rattle.session_core.specs.declared.turn.Turn.{Turn}
 use Rattle.session_core.specs.Lines.{line_of}
-use Rattle.session_core.specs.Phases.{Phase, asks, start}
+use Rattle.session_core.specs.Phases.{Phase, asks, after, start}
 use Rattle.session_core.specs.Holding.{Attends}
 use Rattle.session_core.specs.Leading.{Leads}
 
@@ -18,6 +18,16 @@ pub record IsOnItsWay (k : Known) (s : Session) (text : Text) (l : Known) (q : P
   pub short : length text ≤ LONGEST_LINE
   pub calls : ℕ
   pub leads : Leads IsAnswered k (start k.shards k.seen s (line_of text)) calls l q
+
+-- whether a call has failed
+abbrev pub has_failed : Answer → Bool
+has_failed (Answer.failed by_fault) = true
+has_failed answer = false
+
+-- whether a line is broken
+abbrev pub is_broken : Phase → Bool
+is_broken (Phase.broken by_fault) = true
+is_broken p = false
 
 -- ---- laws
 
@@ -30,3 +40,9 @@ pub record SessionsGoOn : Type 0 where
   pub behind : (k : Known) (s : Session) (text : Text) (l : Known) (t : Session) (turn : Turn) → IsOnItsWay k s text l (Phase.over t turn) → Attends l t
   pub others : (k l : Known) (s : Session) → Attends k s → IsLater k l → Attends l s
   pub followed : (k l : Known) (s : Session) → Attends k s → HasFollowed k l → Attends l s
+
+-- Only a failed call breaks a line: any answer within the clause of every call is one that the line's phase goes on with.
+abbrev pub FailuresAloneBreak : Type 0
+FailuresAloneBreak =
+    (k l : Known) (q : Phase) (call : Call) (answer : Answer) → asks q ≡ Some call → IsAnswered k call answer l → has_failed answer ≡ false
+    → is_broken (after q answer) ≡ false

@@ -1,7 +1,7 @@
 //! The laws of lines: functions that do nothing, whose contracts are theorems over the definitions.
 
 ghost use Rattle.session_core.specs.Bounds.{LinesAreBounded, TriesAreFew, CallsSuffice};
-ghost use Rattle.session_core.specs.GoingOn.{LinesAreReady, SessionsGoOn};
+ghost use Rattle.session_core.specs.GoingOn.{FailuresAloneBreak, LinesAreReady, SessionsGoOn};
 ghost use Rattle.session_core.specs.Lines.{VerbsAreForms};
 ghost use Rattle.session_core.specs.Sessions.{ExplainsStays, SessionsAreExplained};
 
@@ -44,4 +44,9 @@ pub fn lines_are_ready()
 /// The law that a session goes on behind its line, behind what others do, and where a shard was let follow.
 pub fn sessions_go_on()
     ensures { SessionsGoOn }
+{}
+
+/// The law that only a failed call breaks a line.
+pub fn failures_alone_break()
+    ensures { FailuresAloneBreak }
 {}

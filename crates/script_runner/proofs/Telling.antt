@@ -1,0 +1,439 @@
+-- What a client's line tells it, and that the journal explains it.
+use Rattle.std.proofs.Common.{◌≡◌, ◌≢◌, ℕ, suc, ◌+◌, ◌≤◌, ◌<◌, max, Bool, true, false, cond, List, [], ◌∷◌, ◌++◌, length, get_or, set, fold, filter, Option, Some, None}
+use Rattle.std.proofs.Common.{◌⊎◌, inl, inr, refl, sym, ap, ◌∙◌, subst, arith, append_assoc}
+use Rattle.std.specs.List.{AllByRecursion}
+use Rattle.std.specs.Prelude.{IfSome, nat_le, nat_lt, ◌==◌}
+use Rattle.std.proofs.lemmas.Bool.Decides.{nat_tests}
+use Rattle.std.proofs.lemmas.List.{append-nil}
+use Rattle.dio_core.specs.declared.line.TheConstants.{LONGEST_LINE}
+use Rattle.dio_core.specs.declared.line.Line.{Line}
+use Rattle.dio_core.specs.declared.line.Line.TheVariants as line
+use Rattle.dio_core.specs.Lines.{lines, line_of as cut_of, IsShort}
+use Rattle.rdt_types.specs.declared.settings.Settings.{Settings}
+use Rattle.session_text.specs.declared.reply.Reply.TheVariants as reply
+use Rattle.session_text.specs.declared.reply.Why.TheVariants as why
+use Rattle.txn_grammar.specs.Characters.{Text}
+use Rattle.txn_lang.specs.States.{Journal}
+use Rattle.rdt_types.specs.declared.address.Address.{Address}
+use Rattle.txn_lang.specs.declared.snaps.Snap.{Snap}
+use Rattle.docc_prepare.specs.declared.attempt.Attempt.{Attempt}
+use Rattle.docc_prepare.specs.Attempts.{SnapList}
+use Rattle.docc_prepare.specs.Calls.{Known}
+use Rattle.docc_prepare.specs.Backends.{IsPrefix, IsAnswered}
+use Rattle.docc_prepare.specs.Stores.{Store, CLIENTS, IsSound, known_by, seen_by, followed}
+use Rattle.docc_prepare.proofs.Elsewhere.{shards_follow}
+use Rattle.session_core.specs.declared.line.Line.{Line as Asked}
+use Rattle.session_core.specs.declared.line.Line.TheVariants as asks
+use Rattle.session_core.specs.declared.session.Session.{Session}
+use Rattle.session_core.specs.declared.turn.Turn.{Turn}
+use Rattle.session_core.specs.declared.turn.Turn.TheVariants as turn
+use Rattle.session_core.specs.declared.limits.TheConstants.{MOST_CALLS}
+use Rattle.session_core.specs.Lines.{line_of}
+use Rattle.session_core.specs.Phases.{Phase, said, start}
+use Rattle.session_core.specs.Holding.{Attends}
+use Rattle.session_core.specs.Leading.{Leads}
+use Rattle.session_core.specs.Words.{trimmed_start, is_quiet}
+use Rattle.session_core.specs.Explained.{Setting, Story, Passes, story_after, LinePasses, AreFrom, MayBeTold}
+use Rattle.session_core.proofs.Explained.{line-explained}
+use Rattle.session_core.proofs.Grown.{prefix-whole, prefix-again, prefix-shorter}
+use Rattle.session_core.proofs.Phases.{phase-begins}
+use Rattle.session_core.proofs.Ready.{line-ready}
+use Rattle.session_core.proofs.Said.{same-along}
+use Rattle.session_core.proofs.Stories.{story-stays, story-told}
+use Rattle.script_runner.specs.declared.words.TheConstants.{LAST_CLIENT}
+use Rattle.script_runner.specs.Driving.{Place, line_done}
+use Rattle.script_runner.specs.Words.{first_word, after_word, small_number, client_named, if_client, is_follow, if_shard, shard_named}
+use Rattle.script_runner.specs.Play.{ScriptWorld, first_session, first_sessions, first_world, session_of, Told, Did, did, left, ended_line, follow_line, client_line}
+use Rattle.script_runner.specs.Play.{Done, placed, named_line, text_line, answer, cut_line, world_after, Played, nothing_played, one_more, play}
+use Rattle.script_runner.specs.Explained.{setting_of, first_story, is_to, told_to, ExplainsTold, ExplainsScript}
+use Rattle.script_runner.specs.Worlds.{Stands}
+use Rattle.script_runner.proofs.Places.{set-here, set-elsewhere, same-or-not}
+use Rattle.script_runner.proofs.Standing.{each-first, first-stands, answer-stands, trimmed-shorter, after-shorter, cut-short}
+use Rattle.script_runner.proofs.Stood.{IsDriven, line-driven}
+
+-- the settings of a store, as far as answers go by them
+abbrev pub setting_in : Store → Setting
+setting_in s = record { shards = s.shards; window = s.window; limit = s.limit }
+
+-- ---- what a client's line tells it
+
+-- its session answers: the answer passes, whatever was shown before, and the session goes on unless that ended it
+record IsAnswer (s : Store) (client : ℕ) (session : Session) (d : Did) (who : ℕ) (asked : Asked) (t : Turn) : Type 0 where
+  is_mine : who ≡ client
+  after : Session
+  goes : d.session ≡ left after t
+  passes : (y : Story) → y.session ≡ session → MayBeTold (known_by s client) y
+      → LinePasses (known_by s client) (known_by d.store client) y asked t after s.journal d.store.journal
+
+-- it let a shard follow: it has seen the front, which is the journal's end
+record IsFront (s : Store) (client : ℕ) (session : Session) (d : Did) (who front : ℕ) : Type 0 where
+  is_mine : who ≡ client
+  goes : d.session ≡ Some session
+  not_back : seen_by s client ≤ front
+  within : front ≤ length d.store.journal
+  seen : front ≤ seen_by d.store client
+
+TellsMine : Store → ℕ → Session → Did → Told → Type 0
+TellsMine s client session d Told.nothing = (d.session ≡ Some session) × (seen_by s client ≤ seen_by d.store client)
+TellsMine s client session d (Told.nobody reason) = ⊥
+TellsMine s client session d (Told.answered who asked t) = IsAnswer s client session d who asked t
+TellsMine s client session d (Told.followed who shard front) = IsFront s client session d who front
+
+-- what a client's line leaves of the journal, and tells
+record Tells (s : Store) (client : ℕ) (session : Session) (d : Did) : Type 0 where
+  grows : IsPrefix s.journal d.store.journal
+  setting : setting_in d.store ≡ setting_in s
+  others : (other : ℕ) → other ≢ client → seen_by s other ≤ seen_by d.store other
+  mine : TellsMine s client session d d.told
+
+-- the same settings, field by field
+same-setting-in : (s t : Store) → t.shards ≡ s.shards → t.window ≡ s.window → t.limit ≡ s.limit → setting_in t ≡ setting_in s
+same-setting-in s t a b c = ap (λ (n : ℕ). record { shards = n; window = t.window; limit = t.limit }) a
+    ∙ (ap (λ (n : ℕ). record { shards = s.shards; window = n; limit = t.limit }) b ∙ ap (λ (n : ℕ). record { shards = s.shards; window = s.window; limit = n }) c)
+
+module _ (s : Store) (client : ℕ) (session : Session) (sound : IsSound s) (below : client < CLIENTS) (is : Attends (known_by s client) session) where
+  -- where nothing is done, nothing is told
+  tells-nothing : Tells s client session (did s (Some session) Told.nothing)
+  tells-nothing = record { grows = prefix-whole s.journal; setting = refl; others = λ other apart. omega arith; mine = (refl, omega arith) }
+
+  -- a line that names no shard is refused, and a refusal passes
+  tells-refusal : Tells s client session (follow_line client s session None)
+  tells-refusal = record {
+    grows = prefix-whole s.journal;
+    setting = refl;
+    others = λ other apart. omega arith;
+    mine = record {
+      is_mine = refl;
+      after = session;
+      goes = refl;
+      passes = λ y same may. record { grows = prefix-whole s.journal; passes = refl; session = sym same; shown = may.seen };
+    };
+  }
+
+  -- a shard that follows shows the journal's end
+  tells-front : (shard : ℕ) → shard < s.shards → Tells s client session (follow_line client s session (Some shard))
+  tells-front shard there =
+      let after = shards_follow s client shard sound below there in record {
+        grows = prefix-whole s.journal;
+        setting = refl;
+        others = λ other apart. let same = (after.others other apart).seen in omega arith;
+        mine = record {
+          is_mine = refl;
+          goes = refl;
+          not_back = sound.seen client;
+          within = omega arith;
+          seen = let all = after.mine.all_seen in omega arith;
+        };
+      }
+
+  tells-follow : (o : Option ℕ) → Tells s client session (follow_line client s session (if_shard s.shards o))
+  tells-follow None = tells-refusal
+  tells-follow (Some shard) = by (nat_lt shard s.shards) refl
+    where
+      by : (b : Bool) → nat_lt shard s.shards ≡ b → Tells s client session (follow_line client s session (cond b (Some shard) None))
+      by false e = tells-refusal
+      by true e = tells-front shard (let there : shard < s.shards = grind (arith, nat_tests) in there)
+
+  -- a line that is driven is explained
+  tells-over : (text : Text) → length text ≤ LONGEST_LINE → (x : Place) → IsDriven s client session text MOST_CALLS x
+      → Tells s client session (ended_line client s session (line_of text) x)
+  tells-over text short (after, Phase.over t turn) h =
+      let k = known_by s client in
+      let l = known_by after client in
+      let explained : (y : Story) → y.session ≡ session → MayBeTold k y → LinePasses k l y (line_of text) turn t s.journal after.journal =
+      λ y same may. line-explained k y.session (line_of text) h.way.calls l t turn y.low y.begun (subst (Attends k) (sym same) is) (line-ready text short) may
+      (subst (λ (z : Session). Leads IsAnswered k (start k.shards k.seen z (line_of text)) h.way.calls l (Phase.over t turn)) (sym same) h.way.leads) in
+      let client_same = same-along k (start k.shards k.seen session (line_of text)) (phase-begins k session (line_of text) is (line-ready text short))
+      h.way.calls l (Phase.over t turn) h.way.leads in record {
+        grows = (explained first refl first-may).grows;
+        setting = same-setting-in s after client_same.shards client_same.window client_same.limit;
+        others = λ other apart. let same = h.seen_others other apart in omega arith;
+        mine = record { is_mine = refl; after = t; goes = refl; passes = explained };
+      }
+    where
+      -- a story in which nothing was shown may always be told
+      first : Story
+      first = record { low = 0; begun = 0; session = session }
+
+      first-may : MayBeTold (known_by s client) first
+      first-may = record { seen = omega arith; before = omega arith; bases = all session.attempt }
+        where
+          all : (o : Option Attempt) → IfSome o (AreFrom 0)
+          all None = tt
+          all (Some a) = each a.snaps
+            where
+              each : (snaps : SnapList) → AllByRecursion (λ (read : Address × Snap). 0 ≤ read.1.base) snaps
+              each [] = tt
+              each (r ∷ rest) = (omega arith, each rest)
+  tells-over text short (after, Phase.beginning t a) h = tells-nothing
+  tells-over text short (after, Phase.stepping t a) h = tells-nothing
+  tells-over text short (after, Phase.trying t more a) h = tells-nothing
+  tells-over text short (after, Phase.going t more a) h = tells-nothing
+  tells-over text short (after, Phase.looking t upto body) h = tells-nothing
+  tells-over text short (after, Phase.looked t n body snaps address) h = tells-nothing
+  tells-over text short (after, Phase.broken by_fault) h = tells-nothing
+
+  -- either of two lines
+  tells-either : (b : Bool) (x y : Did) → Tells s client session x → Tells s client session y → Tells s client session (cond b x y)
+  tells-either true x y kx ky = kx
+  tells-either false x y kx ky = ky
+
+  tells-line : (text : Text) → length text ≤ LONGEST_LINE → Tells s client session (client_line client s (Some session) text)
+  tells-line text short = tells-either (is_follow text) _ _ (tells-follow (small_number _))
+      (tells-over text short (line_done client s session (line_of text)) (line-driven s client session text below sound is short))
+
+-- ---- what a client hears of a line
+
+-- A client's story so far may be told: its numbers were seen, and its session is the client's.
+record Listens (w : ScriptWorld) (c : ℕ) (y : Story) : Type 0 where
+  may : MayBeTold (known_by w.store c) y
+  session : IfSome (session_of w c) (λ s. y.session ≡ s)
+
+-- Its story goes on behind what is told, and what is told is explained where that story is.
+record Hears (these : Setting) (d : Done) (c : ℕ) (y : Story) : Type 0 where
+  next : Story
+  listens : Listens d.world c next
+  explains : (journal : Journal) (rest : List Told) → IsPrefix d.world.store.journal journal → ExplainsTold these journal next (told_to c rest)
+      → ExplainsTold these journal y (told_to c (d.told ∷ rest))
+
+-- what is told to others is passed over
+passed-over : (these : Setting) (journal : Journal) (c : ℕ) (y : Story) (told : Told) (rest : List Told) → is_to c told ≡ false
+    → ExplainsTold these journal y (told_to c rest) → ExplainsTold these journal y (told_to c (told ∷ rest))
+passed-over these journal c y told rest e h = subst (λ b. ExplainsTold these journal y (cond b (told ∷ told_to c rest) (told_to c rest))) (sym e) h
+
+-- what is told to the client is heard
+heard : (these : Setting) (journal : Journal) (c : ℕ) (y : Story) (told : Told) (rest : List Told) → is_to c told ≡ true
+    → ExplainsTold these journal y (told ∷ told_to c rest) → ExplainsTold these journal y (told_to c (told ∷ rest))
+heard these journal c y told rest e h = subst (λ b. ExplainsTold these journal y (cond b (told ∷ told_to c rest) (told_to c rest))) (sym e) h
+
+-- the test says whether numbers are the same
+same-tests : (a b : ℕ) → a ≡ b → (a == b) ≡ true
+same-tests a b e = grind (arith, nat_tests)
+
+apart-tests : (a b : ℕ) → (a ≡ b → ⊥) → (a == b) ≡ false
+apart-tests a b no = by (a == b) refl
+  where
+    by : (x : Bool) → (a == b) ≡ x → x ≡ false
+    by true e = absurd (no (let same : a ≡ b = grind (arith, nat_tests) in same))
+    by false e = refl
+
+-- a story may be told on where no less is seen
+may-on : (k l : Known) (y : Story) → k.seen ≤ l.seen → MayBeTold k y → MayBeTold l y
+may-on k l y up may = record { seen = let b = may.seen in omega arith; before = may.before; bases = may.bases }
+
+module _ (these : Setting) (w : ScriptWorld) (client : ℕ) (session : Session) (d : Did) (e : setting_in w.store ≡ these)
+    (there : session_of w client ≡ Some session) (h : Tells w.store client session d) where
+  -- the session that is set at the client's place
+  own-place : (P : Session → Type 0) → IfSome d.session P → IfSome (session_of (placed w client d).world client) P
+  own-place P is = set-here (λ o. IfSome o P) w.sessions client d.session None is tt
+
+  -- what the client itself hears
+  own-hears : (y : Story) → y.session ≡ session → MayBeTold (known_by w.store client) y → (told : Told) → d.told ≡ told
+      → TellsMine w.store client session d told → Hears these (placed w client d) client y
+  own-hears y same may Told.nothing is mine = record {
+    next = y;
+    listens = record {
+      may = may-on (known_by w.store client) (known_by d.store client) y mine.1 may;
+      session = own-place (λ s. y.session ≡ s) (subst (λ o. IfSome o (λ s. y.session ≡ s)) (sym mine.0) same);
+    };
+    explains = λ journal rest grows h. passed-over these journal client y d.told rest (ap (is_to client) is) h;
+  }
+  own-hears y same may (Told.nobody reason) is mine = absurd mine
+  own-hears y same may (Told.answered who asked t) is mine =
+      let passing = mine.passes y same may in
+      let passes = subst (λ (x : Setting). Passes x d.store.journal y asked t) e passing.passes in
+      let after : mine.after ≡ (story_after these d.store.journal y asked t).session =
+      passing.session ∙ ap (λ (x : Setting). (story_after x d.store.journal y asked t).session) e in record {
+        next = story_after these d.store.journal y asked t;
+        listens = record {
+          may = subst (λ (x : Setting). MayBeTold (known_by d.store client) (story_after x d.store.journal y asked t)) e
+              (story-told (known_by w.store client) (known_by d.store client) y asked t mine.after w.store.journal d.store.journal may passing);
+          session = own-place (λ s. (story_after these d.store.journal y asked t).session ≡ s)
+              (subst (λ o. IfSome o (λ s. (story_after these d.store.journal y asked t).session ≡ s)) (sym mine.goes) (goes t (sym after)));
+        };
+        explains = λ journal rest grows h.
+            let stays = story-stays these d.store.journal journal y asked t grows passes in
+            heard these journal client y d.told rest (ap (is_to client) is ∙ same-tests who client mine.is_mine)
+            (subst (λ (x : Told). ExplainsTold these journal y (x ∷ told_to client rest)) (sym is)
+            (stays.passes, subst (λ (z : Story). ExplainsTold these journal z (told_to client rest)) (sym stays.same) h));
+      }
+    where
+      goes : (t : Turn) → {s z : Session} → z ≡ s → IfSome (left s t) (λ s. z ≡ s)
+      goes turn.Quiet e = e
+      goes (turn.Replies rs) e = e
+      goes turn.Unbuilt e = e
+      goes (turn.Ended rs) e = tt
+  own-hears y same may (Told.followed who shard front) is mine = record {
+    next = record y { low = max y.low front };
+    listens = record {
+      may = record {
+        seen = let b = may.seen in let up = mine.not_back in let s = mine.seen in omega arith;
+        before = let b = may.before in omega arith;
+        bases = may.bases;
+      };
+      session = own-place (λ s. y.session ≡ s) (subst (λ o. IfSome o (λ s. y.session ≡ s)) (sym mine.goes) same);
+    };
+    explains = λ journal rest grows h.
+        heard these journal client y d.told rest (ap (is_to client) is ∙ same-tests who client mine.is_mine)
+        (subst (λ (x : Told). ExplainsTold these journal y (x ∷ told_to client rest)) (sym is) (
+          record {
+            not_back = let b = may.seen in let up = mine.not_back in omega arith;
+            within = let w = mine.within in let longer = prefix-shorter d.store.journal journal grows in omega arith;
+          },
+          h,
+        ));
+  }
+
+  -- what another client hears: nothing
+  to-nobody-else : (c : ℕ) → c ≢ client → (told : Told) → TellsMine w.store client session d told → is_to c told ≡ false
+  to-nobody-else c apart Told.nothing mine = refl
+  to-nobody-else c apart (Told.nobody reason) mine = refl
+  to-nobody-else c apart (Told.answered who asked t) mine = apart-tests who c (λ same. apart (sym same ∙ mine.is_mine))
+  to-nobody-else c apart (Told.followed who shard front) mine = apart-tests who c (λ same. apart (sym same ∙ mine.is_mine))
+
+  others-hear : (c : ℕ) (y : Story) → c ≢ client → Listens w c y → Hears these (placed w client d) c y
+  others-hear c y apart l = record {
+    next = y;
+    listens = record {
+      may = may-on (known_by w.store c) (known_by d.store c) y (h.others c apart) l.may;
+      session = subst (λ o. IfSome o (λ s. y.session ≡ s)) (sym (set-elsewhere w.sessions client c d.session None apart)) l.session;
+    };
+    explains = λ journal rest grows there. passed-over these journal c y d.told rest (to-nobody-else c apart d.told h.mine) there;
+  }
+
+  -- either way
+  placed-hears : (c : ℕ) (y : Story) → Listens w c y → Hears these (placed w client d) c y
+  placed-hears c y l = by (same-or-not c client)
+    where
+      by : (c ≡ client) ⊎ (c ≢ client) → Hears these (placed w client d) c y
+      by (inl same) =
+          let mine : Listens w client y = subst (λ (n : ℕ). Listens w n y) same l in
+          subst (λ (n : ℕ). Hears these (placed w client d) n y) (sym same)
+          (own-hears y (subst (λ o. IfSome o (λ s. y.session ≡ s)) there mine.session) mine.may d.told refl h.mine)
+      by (inr apart) = others-hear c y apart l
+
+-- ---- one line
+
+-- what a line leaves of the journal, and what each client hears of it
+record HasTold (these : Setting) (w : ScriptWorld) (d : Done) : Type 0 where
+  grows : IsPrefix w.store.journal d.world.store.journal
+  setting : setting_in d.world.store ≡ these
+  hears : (c : ℕ) (y : Story) → Listens w c y → Hears these d c y
+
+module _ (these : Setting) (w : ScriptWorld) (e : setting_in w.store ≡ these) (stands : Stands w) where
+  -- where nothing is done, and nothing is told to a client
+  told-nobody : (told : Told) → ((c : ℕ) → is_to c told ≡ false) → HasTold these w (record { world = w; told = told })
+  told-nobody told none = record {
+    grows = prefix-whole w.store.journal;
+    setting = e;
+    hears = λ c y l. record { next = y; listens = l; explains = λ journal rest grows h. passed-over these journal c y told rest (none c) h };
+  }
+
+  -- a client who has quit stays so
+  quit-told : (client : ℕ) (text : Text) → session_of w client ≡ None → HasTold these w (placed w client (client_line client w.store None text))
+  quit-told client text gone = record {
+    grows = prefix-whole w.store.journal;
+    setting = e;
+    hears = λ c y l. record {
+      next = y;
+      listens = record { may = l.may; session = by c y l (same-or-not c client) };
+      explains = λ journal rest grows h. passed-over these journal c y (Told.nobody why.Client) rest refl h;
+    };
+  }
+    where
+      by : (c : ℕ) (y : Story) → Listens w c y → (c ≡ client) ⊎ (c ≢ client) → IfSome (get_or (set w.sessions client None) c None) (λ s. y.session ≡ s)
+      by c y l (inl same) = subst (λ (n : ℕ). IfSome (get_or (set w.sessions client None) n None) (λ s. y.session ≡ s)) (sym same)
+          (set-here (λ o. IfSome o (λ s. y.session ≡ s)) w.sessions client None None tt tt)
+      by c y l (inr apart) = subst (λ o. IfSome o (λ s. y.session ≡ s)) (sym (set-elsewhere w.sessions client c None None apart)) l.session
+
+  -- the line of a client
+  client-told : (client : ℕ) (text : Text) → client < CLIENTS → length text ≤ LONGEST_LINE → (o : Option Session) → session_of w client ≡ o
+      → HasTold these w (placed w client (client_line client w.store o text))
+  client-told client text below short None there = quit-told client text there
+  client-told client text below short (Some session) there =
+      let attends = subst (λ o. IfSome o (Attends (known_by w.store client))) there (stands.attend client) in
+      let tells = tells-line w.store client session stands.sound below attends text short in record {
+        grows = tells.grows;
+        setting = tells.setting ∙ e;
+        hears = placed-hears these w client session (client_line client w.store (Some session) text) e there tells;
+      }
+
+  -- a line that names a client, or none
+  named-told : (o : Option ℕ) (text : Text) → length text ≤ LONGEST_LINE → HasTold these w (named_line w (if_client o) text)
+  named-told None text short = told-nobody (Told.nobody why.Client) (λ c. refl)
+  named-told (Some client) text short = by (nat_le client LAST_CLIENT) refl
+    where
+      by : (b : Bool) → nat_le client LAST_CLIENT ≡ b → HasTold these w (named_line w (cond b (Some client) None) text)
+      by false is = told-nobody (Told.nobody why.Client) (λ c. refl)
+      by true is = client-told client text (let below : client < CLIENTS = grind (arith, nat_tests) in below) short (session_of w client) refl
+
+  told-either : (b : Bool) (x y : Done) → HasTold these w x → HasTold these w y → HasTold these w (cond b x y)
+  told-either true x y kx ky = kx
+  told-either false x y kx ky = ky
+
+  text-told : (text : Text) → length text ≤ LONGEST_LINE → HasTold these w (text_line w text)
+  text-told text short = told-either (is_quiet text) _ _ (told-nobody Told.nothing (λ c. refl))
+      (named-told (small_number (first_word text)) (after_word text) (let shorter = after-shorter text in omega arith))
+
+  -- any line
+  pub line-told : (l : Line) → IsShort l → HasTold these w (answer w l)
+  line-told (line.Bytes bytes) short = text-told (trimmed_start bytes) (let shorter = trimmed-shorter bytes in omega arith)
+  line-told line.TooLong short = told-nobody (Told.nobody why.Long) (λ c. refl)
+  line-told line.End short = told-nobody Told.nothing (λ c. refl)
+
+-- ---- many lines
+
+-- what is told of lines from a world on
+tolds_from : ScriptWorld → List Text → List Told
+tolds_from w [] = []
+tolds_from w (raw ∷ raws) = (cut_line w raw).told ∷ tolds_from (world_after w raw) raws
+
+-- it stands behind what was told before
+told-split : (raws : List Text) (p : Played) → (fold one_more p raws).told ≡ p.told ++ tolds_from p.world raws
+told-split [] p = sym (append-nil p.told)
+told-split (raw ∷ raws) p = told-split raws (one_more p raw) ∙ append_assoc p.told ((cut_line p.world raw).told ∷ []) (tolds_from (world_after p.world raw) raws)
+
+module _ (these : Setting) where
+  -- lines only add to the journal
+  lines-grow : (raws : List Text) (p : Played) → setting_in p.world.store ≡ these → Stands p.world
+      → IsPrefix p.world.store.journal (fold one_more p raws).world.store.journal
+  lines-grow [] p e h = prefix-whole p.world.store.journal
+  lines-grow (raw ∷ raws) p e h =
+      let one = line-told these p.world e h (cut_of raw) (cut-short raw) in
+      prefix-again p.world.store.journal (one_more p raw).world.store.journal (fold one_more (one_more p raw) raws).world.store.journal one.grows
+      (lines-grow raws (one_more p raw) one.setting (answer-stands p.world (cut_of raw) h (cut-short raw)))
+
+  -- what is told of lines to a client that listens is explained by the journal at their end
+  lines-explained : (raws : List Text) (p : Played) (c : ℕ) (y : Story) → setting_in p.world.store ≡ these → Stands p.world → Listens p.world c y
+      → ExplainsTold these (fold one_more p raws).world.store.journal y (told_to c (tolds_from p.world raws))
+  lines-explained [] p c y e h l = tt
+  lines-explained (raw ∷ raws) p c y e h l =
+      let one = line-told these p.world e h (cut_of raw) (cut-short raw) in
+      let stands = answer-stands p.world (cut_of raw) h (cut-short raw) in
+      let hears = one.hears c y l in
+      hears.explains (fold one_more (one_more p raw) raws).world.store.journal (tolds_from (world_after p.world raw) raws)
+      (lines-grow raws (one_more p raw) one.setting stands)
+      (lines-explained raws (one_more p raw) c hears.next one.setting stands hears.listens)
+
+-- a client listens from the first world on
+first-listens : (settings : Settings) (c : ℕ) → Listens (first_world settings) c (first_story c)
+first-listens settings c = record {
+  may = record { seen = omega arith; before = omega arith; bases = tt };
+  session = flip (get_or (first_sessions CLIENTS) c None) (each-first CLIENTS c);
+}
+  where
+    flip : (o : Option Session) → IfSome o (λ s. s ≡ first_session c) → IfSome o (λ s. first_session c ≡ s)
+    flip None e = tt
+    flip (Some s) e = sym e
+
+-- Each client's answers are explained by the journal that the script leaves.
+pub scripts-explained : (settings : Settings) (bytes : Text) → ExplainsScript settings bytes
+scripts-explained settings bytes c =
+    subst (λ (tolds : List Told). ExplainsTold (setting_of settings) (play settings bytes).world.store.journal (first_story c) (told_to c tolds))
+    (sym (told-split (lines bytes) (nothing_played settings)))
+    (lines-explained (setting_of settings) (lines bytes) (nothing_played settings) c (first_story c) refl (first-stands settings) (first-listens settings c))
+
+-- the same of an input that may not be told
+pub scripts_are_explained : (settings : Settings) (o : Option Text) → IfSome o (ExplainsScript settings)
+scripts_are_explained settings None = tt
+scripts_are_explained settings (Some bytes) = scripts-explained settings bytes
