@@ -149,7 +149,8 @@ impl Backend for Rival {
     }
 
     fn read_at(&mut self, address: &Address, number: u64) -> Result<Value, ReadAtError> {
-        let _ = (address, number);
+        let _ = address;
+        let _ = number;
         Err(ReadAtError::NoMemory)
     }
 
