@@ -1,43 +1,12 @@
 //! Lines of the whole language, and the reply to each.
 
+use crate::rows::{Row, answered};
 use crate::tests::{expect, in_pieces};
 use std::alloc::Global;
-use std::process::Abort;
-use std::sync::Wait;
 use std::test::Fail;
-use std::thread::Threads;
-
-/// A line without its end, and the reply to it, which is empty where there is none.
-type Row = (&'static [u8], &'static [u8]);
-
-/// Runs the lines as one script, in which each is answered as its row says.
-fn answered(
-    rt: &(impl Abort + Threads + Wait + Sync),
-    alloc: Global,
-    rows: &[Row],
-) -> Result<(), Fail> {
-    let mut script = Vec::new(alloc);
-    let mut output = Vec::new(alloc);
-    for (line, reply) in rows {
-        script.extend_from_slice(line)?;
-        script.push(b'\n')?;
-        if !reply.is_empty() {
-            output.extend_from_slice(reply)?;
-            output.push(b'\n')?;
-        }
-    }
-    expect(
-        rt,
-        alloc,
-        &in_pieces(4096),
-        script.as_slice(),
-        0,
-        output.as_slice(),
-    )
-}
 
 /// Lines that ask for nothing, and refusals, in the order of their tests. Client 1 commits in between.
-const REFUSALS: [Row; 77] = [
+const REFUSALS: [Row; 79] = [
     (b"", b""),
     (b" \t \r", b""),
     (b"# a", b""),
@@ -88,33 +57,38 @@ const REFUSALS: [Row; 77] = [
     (b"0 try", b"0 refused verb"),
     (b"0 try 3", b"0 refused syntax 1"),
     (b"0 try 3 emit y;", b"0 refused type 6"),
-    (b"0 try 3 emit 1;", b"0 refused unbuilt"),
+    (b"0 try 3 emit 1;", b"0 commit 4 ok 1"),
     (b"0 begin emit 1", b"0 refused syntax 7"),
-    (b"0 begin emit 1;", b"0 refused unbuilt"),
+    (b"0 begin emit 1;", b"0 seen 4"),
     (b"0 look emit y;", b"0 refused type 6"),
-    (b"0 look counter(\"x\").add(1);", b"0 refused unbuilt"),
+    (b"0 look counter(\"x\").add(1);", b"0 refused writes 1"),
     (b"0 at", b"0 refused verb"),
     (b"0 at 5", b"0 refused syntax 1"),
-    (b"0 at 5 emit 1;", b"0 refused unbuilt"),
-    (b"0 at 18446744073709551615 emit 1;", b"0 refused unbuilt"),
+    (b"0 at 5 emit 1;", b"0 ahead 5 4"),
+    (
+        b"0 at 18446744073709551615 emit 1;",
+        b"0 ahead 18446744073709551615 4",
+    ),
     (b"0 at 18446744073709551616 emit 1;", b"0 refused verb"),
     (b"0 watch 1 emit 1;", b"0 refused verb"),
     (b"0 watch w", b"0 refused syntax 1"),
     (b"0 watch w emit 1", b"0 refused syntax 7"),
+    (b"0 watch w counter(\"x\").add(1);", b"0 refused writes 1"),
     (b"0 watch peak emit 1;", b"0 refused unbuilt"),
     (b"0 unwatch", b"0 refused verb"),
     (b"0 unwatch w x", b"0 refused verb"),
     (b"0 unwatch w", b"0 refused unbuilt"),
     (b"0 step now", b"0 refused verb"),
-    (b"0 step", b"0 refused unbuilt"),
-    (b"0 go", b"0 refused unbuilt"),
-    (b"0 drop", b"0 refused unbuilt"),
+    (b"0 step", b"0 commit 5 ok 1"),
+    (b"0 go", b"0 refused none"),
+    (b"0 drop", b"0 refused none"),
     (b"0 sync", b"0 refused unbuilt"),
     (b"0 wait\r", b"0 refused unbuilt"),
-    (b"0 seen", b"0 refused unbuilt"),
-    (b"0 quit", b"0 refused unbuilt"),
-    (b"0 follow 1", b"0 refused verb"),
-    (b"1 do emit 2;", b"1 commit 4 ok 2"),
+    (b"0 follow 1", b"0 follow 1 front 5"),
+    (b"0 seen", b"0 seen 5"),
+    (b"0 quit", b"0 dropped"),
+    (b"0 follow 1", b"- refused client"),
+    (b"1 do emit 2;", b"1 commit 6 ok 2"),
 ];
 
 #[test]

@@ -14,8 +14,28 @@ pub use top::{BAD_WORDS, diamond};
 pub use words::USAGE;
 
 #[cfg(test)]
+mod attempts;
+#[cfg(test)]
 mod language;
+#[cfg(test)]
+mod looks;
 #[cfg(test)]
 mod order;
 #[cfg(test)]
+mod rival;
+#[cfg(test)]
+mod rows;
+#[cfg(test)]
+mod schedules;
+#[cfg(test)]
+mod sizes;
+#[cfg(test)]
 mod tests;
+#[cfg(test)]
+mod tries;
+#[cfg(test)]
+mod verbs;
+#[cfg(test)]
+mod windows;
+#[cfg(test)]
+mod witnesses;
