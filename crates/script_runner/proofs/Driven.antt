@@ -1,5 +1,5 @@
 -- A line that was led over a backend by steps of the store has come where the driven line comes.
-use Rattle.std.proofs.Common.{◌≡◌, ◌≢◌, ℕ, zero, suc, ◌+◌, ◌≤◌, Bool, true, false, Option, Some, None, ◌⊎◌, inl, inr, refl, sym, ap, ◌∙◌, subst, arith}
+use Rattle.std.proofs.Common.{◌≡◌, ◌≢◌, ℕ, zero, suc, ◌+◌, ◌≤◌, Bool, Some, None, ◌⊎◌, inl, inr, refl, sym, ap, ◌∙◌, subst, arith}
 use Rattle.docc_prepare.specs.Calls.{Known, Call, Answer}
 use Rattle.docc_prepare.specs.Backends.{Goes}
 use Rattle.docc_prepare.specs.Stores.{Store, seen_by, step, Does}
@@ -7,7 +7,7 @@ use Rattle.session_core.specs.declared.limits.TheConstants.{MOST_CALLS}
 use Rattle.session_core.specs.declared.line.Line.{Line}
 use Rattle.session_core.specs.declared.session.Session.{Session}
 use Rattle.session_core.specs.declared.turn.Turn.{Turn}
-use Rattle.session_core.specs.Phases.{Phase, moved_by, stepped, gone, asks, after, start}
+use Rattle.session_core.specs.Phases.{Phase, stepped, gone, asks, after, start}
 use Rattle.session_core.specs.Leading.{Leads}
 use Rattle.session_core.proofs.Steps.{moved-failed}
 use Rattle.script_runner.proofs.Places.{same-or-not}

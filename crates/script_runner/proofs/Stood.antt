@@ -1,5 +1,5 @@
 -- A line that is driven over a sound store leaves a sound one, and every session goes on.
-use Rattle.std.proofs.Common.{◌≡◌, ◌≢◌, ℕ, zero, suc, ◌+◌, ◌≤◌, ◌<◌, Bool, true, false, Option, Some, None, ◌⊎◌, inl, inr, length, refl, sym, ap}
+use Rattle.std.proofs.Common.{◌≡◌, ◌≢◌, ℕ, zero, suc, ◌+◌, ◌≤◌, ◌<◌, false, Option, Some, None, ◌⊎◌, inl, inr, length, refl, sym, ap}
 use Rattle.std.proofs.Common.{◌∙◌, subst, arith}
 use Rattle.dio_core.specs.declared.line.TheConstants.{LONGEST_LINE}
 use Rattle.txn_grammar.specs.Characters.{Text}
@@ -14,7 +14,6 @@ use Rattle.docc_prepare.proofs.StepDoes.{steps_may_be_done}
 use Rattle.docc_prepare.proofs.Answered.{steps_are_answered}
 use Rattle.docc_prepare.proofs.Elsewhere.{steps_leave_others}
 use Rattle.session_core.specs.declared.session.Session.{Session}
-use Rattle.session_core.specs.declared.turn.Turn.{Turn}
 use Rattle.session_core.specs.declared.line.Line.{Line}
 use Rattle.session_core.specs.declared.line.Line.TheVariants as asked
 use Rattle.session_core.specs.Lines.{line_of}
@@ -27,7 +26,7 @@ use Rattle.session_core.proofs.Bounds.{calls_suffice}
 use Rattle.session_core.proofs.Unbroken.{failures_alone_break}
 use Rattle.script_runner.proofs.Driven.{all-calls}
 use Rattle.session_core.proofs.GoingOn.{lines_are_ready, sessions_go_on}
-use Rattle.script_runner.specs.Driving.{Place, asked_by, advance, drive, all_calls, line_done, IsOverBy, LinesAreOver}
+use Rattle.script_runner.specs.Driving.{Place, asked_by, drive, all_calls, line_done, IsOverBy, LinesAreOver}
 
 -- What so many calls of a client's line leave: a sound store; the line is on its way there; and every other client's session goes on.
 pub record IsDriven (s : Store) (client : ℕ) (session : Session) (text : Text) (n : ℕ) (x : Place) : Type 0 where

@@ -1,5 +1,5 @@
 -- What a client's line tells it, and that the journal explains it.
-use Rattle.std.proofs.Common.{◌≡◌, ◌≢◌, ℕ, suc, ◌+◌, ◌≤◌, ◌<◌, max, Bool, true, false, cond, List, [], ◌∷◌, ◌++◌, length, get_or, set, fold, filter, Option, Some, None}
+use Rattle.std.proofs.Common.{◌≡◌, ◌≢◌, ℕ, ◌≤◌, ◌<◌, max, Bool, true, false, cond, List, [], ◌∷◌, ◌++◌, length, get_or, set, fold, Option, Some, None}
 use Rattle.std.proofs.Common.{◌⊎◌, inl, inr, refl, sym, ap, ◌∙◌, subst, arith, append_assoc}
 use Rattle.std.specs.List.{AllByRecursion}
 use Rattle.std.specs.Prelude.{IfSome, nat_le, nat_lt, ◌==◌}
@@ -10,7 +10,6 @@ use Rattle.dio_core.specs.declared.line.Line.{Line}
 use Rattle.dio_core.specs.declared.line.Line.TheVariants as line
 use Rattle.dio_core.specs.Lines.{lines, line_of as cut_of, IsShort}
 use Rattle.rdt_types.specs.declared.settings.Settings.{Settings}
-use Rattle.session_text.specs.declared.reply.Reply.TheVariants as reply
 use Rattle.session_text.specs.declared.reply.Why.TheVariants as why
 use Rattle.txn_grammar.specs.Characters.{Text}
 use Rattle.txn_lang.specs.States.{Journal}
@@ -20,15 +19,14 @@ use Rattle.docc_prepare.specs.declared.attempt.Attempt.{Attempt}
 use Rattle.docc_prepare.specs.Attempts.{SnapList}
 use Rattle.docc_prepare.specs.Calls.{Known}
 use Rattle.docc_prepare.specs.Backends.{IsPrefix, IsAnswered}
-use Rattle.docc_prepare.specs.Stores.{Store, CLIENTS, IsSound, known_by, seen_by, followed}
+use Rattle.docc_prepare.specs.Stores.{Store, CLIENTS, IsSound, known_by, seen_by}
 use Rattle.docc_prepare.proofs.Elsewhere.{shards_follow}
 use Rattle.session_core.specs.declared.line.Line.{Line as Asked}
-use Rattle.session_core.specs.declared.line.Line.TheVariants as asks
 use Rattle.session_core.specs.declared.session.Session.{Session}
 use Rattle.session_core.specs.declared.turn.Turn.{Turn}
 use Rattle.session_core.specs.declared.turn.Turn.TheVariants as turn
 use Rattle.session_core.specs.Lines.{line_of}
-use Rattle.session_core.specs.Phases.{Phase, said, start}
+use Rattle.session_core.specs.Phases.{Phase, start}
 use Rattle.session_core.specs.Holding.{Attends}
 use Rattle.session_core.specs.Leading.{Leads}
 use Rattle.session_core.specs.Words.{trimmed_start, trimmed_end, is_quiet}

@@ -1,8 +1,8 @@
 -- A session's line over a client's view comes where the driven line comes.
-use Rattle.std.proofs.Common.{◌≡◌, ℕ, refl, sym, ◌∙◌, subst}
+use Rattle.std.proofs.Common.{◌≡◌, ℕ, refl, ◌∙◌, subst}
 use Rattle.docc_prepare.specs.Calls.{Known, Call, Answer}
 use Rattle.docc_prepare.specs.Backends.{Goes}
-use Rattle.docc_prepare.specs.Stores.{Store, Does, IsSound, known_by}
+use Rattle.docc_prepare.specs.Stores.{Does, IsSound, known_by}
 use Rattle.local_world.specs.Stored.{store_of}
 use Rattle.local_world.specs.declared.view.View.{View}
 use Rattle.session_core.specs.declared.limits.TheConstants.{MOST_CALLS}

@@ -1,6 +1,6 @@
 -- WHICH ANSWERS OF A SCRIPT ITS JOURNAL EXPLAINS: for each client, its lines with what each was answered, in their order. What
 -- explains an answer of a session is `Passes` of session_core; here a client may let shards follow besides.
-use Rattle.std.specs.Prelude.{◌≡◌, ℕ, ◌==◌, max, Bool, true, false, List, [], ◌∷◌, filter, codes, refl}
+use Rattle.std.specs.Prelude.{◌≡◌, ℕ, ◌==◌, max, Bool, false, List, [], ◌∷◌, filter, refl}
 use Rattle.rdt_types.specs.declared.settings.Settings.{Settings}
 use Rattle.session_text.specs.declared.reply.Why.TheVariants as why
 use Rattle.txn_grammar.specs.Characters.{Text}

@@ -3,7 +3,7 @@
 -- Each line is tested in this order: whether it is too long; whether it asks for nothing; whether its first word is a client who
 -- hasn't quit; whether it lets a shard follow. The rest is a line of the client's session, over the client's view of the one store.
 -- (Too long a line is told from all others where it is cut from the input.)
-use Rattle.std.specs.Prelude.{◌≡◌, ℕ, zero, suc, ◌+◌, if◌then◌else◌, List, [], ◌∷◌, ◌++◌, fold, length, set, get_or, Option, Some, None, codes, refl}
+use Rattle.std.specs.Prelude.{◌≡◌, ℕ, zero, suc, if◌then◌else◌, List, [], ◌∷◌, ◌++◌, fold, length, set, get_or, Option, Some, None, codes, refl}
 use Rattle.std.specs.Fmt.{decimal}
 use Rattle.dio_core.specs.declared.line.TheConstants.{NEWLINE}
 use Rattle.dio_core.specs.declared.line.Line.{Line}

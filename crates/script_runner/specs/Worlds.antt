@@ -1,5 +1,5 @@
 -- The world of a script in code, and what it keeps to between its lines.
-use Rattle.std.specs.Prelude.{◌≡◌, ℕ, ◌<◌, length, get_or, None, IfSome}
+use Rattle.std.specs.Prelude.{◌≡◌, ℕ, length, IfSome}
 use Rattle.docc_prepare.specs.Stores.{CLIENTS, IsSound, known_by}
 use Rattle.local_world.specs.Stored.{store_of}
 use Rattle.session_core.specs.Holding.{Attends}
