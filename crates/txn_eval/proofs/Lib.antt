@@ -1,4 +1,5 @@
 pub mod Bound
 pub mod Buffered
 pub mod Ending
+pub mod FoundKept
 pub mod PlacesKept

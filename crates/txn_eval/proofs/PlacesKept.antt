@@ -4,7 +4,6 @@ use Rattle.std.proofs.Common.{Option, Some, None, refl, ap, sym, ◌∙◌, subs
 use Rattle.std.proofs.Common.{append_assoc}
 use Rattle.std.specs.List.{slice_get, take-map}
 use Rattle.std.specs.Option.{option_map}
-use Rattle.std.specs.declared.cmp.Ordering.{Ordering}
 use Rattle.std.specs.declared.cmp.Ordering.TheVariants.{Equal}
 use Rattle.std.specs.Ordering.{eq_by_cmp, is_eq}
 use Rattle.std.specs.FinMap as fin
@@ -13,6 +12,7 @@ use Rattle.std.proofs.lemmas.List.Sums.{fold-append}
 use Rattle.std.proofs.lemmas.Cmp.{nat_list_cmp_total}
 use Rattle.std.proofs.Math.Seq.{take-append_seam}
 use Rattle.plain_data.specs.Texts.{Bytes, MapOf, text_cmp}
+use Rattle.plain_data.proofs.Entries.{equal}
 use Rattle.plain_data.proofs.Histories.{IsLawful-push, IsLawful-prefix, IsLawful-place}
 use Rattle.rdt_types.specs.declared.outcome.Item.{Item}
 use Rattle.txn_lang.specs.Bindings.{bound, later}
@@ -93,11 +93,6 @@ keeps-bound places bs names x key own i hidden place keeps are hides is own_is p
 
 -- ---- the last binding forgotten
 
--- the only answer that is a tie
-is_equal : (o : Ordering) → is_eq o ≡ true → o ≡ Equal
-is_equal Equal e = refl
-is_equal _ e = absurd (cc)
-
 -- the same name has the same place
 later-tied : (names : List (Bytes × ℕ)) (x y : Bytes) (start : Option ℕ) → text_cmp x y ≡ Equal → fold (later x) start names ≡ fold (later y) start names
 later-tied [] x y start tied = refl
@@ -122,7 +117,7 @@ keeps-forget places bs b keeps = record {
         (IsLawful-place Hides 0 (bs ++ b ∷ []) keeps.hidden (length bs) b (item_behind bs [] b))
 
     by : (x : Bytes) (tied : Bool) → eq_by_cmp text_cmp x b.name ≡ tied → cond tied b.hidden (place_there (fin.get places x)) ≡ place_bound (names_of bs) x
-    by x true e = last_hides ∙ sym (later-tied (placed 0 (names_of bs)) x b.name None (is_equal (text_cmp x b.name) e))
+    by x true e = last_hides ∙ sym (later-tied (placed 0 (names_of bs)) x b.name None (equal (text_cmp x b.name) e))
     by x false e = keeps.newest x ∙ place-push bs b x ∙ ap (λ t. cond t (Some (length bs)) (place_bound (names_of bs) x)) e
 
 -- the same, of a list whose last place is known

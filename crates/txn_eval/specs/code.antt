@@ -3,3 +3,4 @@ pub mod Answers
 pub mod Lengths
 pub mod Loops
 pub mod Places
+pub mod Found

@@ -2,7 +2,6 @@
 
 ghost use Rattle.std.specs.Prelude.{◌≡◌, OnOk};
 ghost use Rattle.std.specs.Option.{option_copied};
-ghost use Rattle.txn_lang.specs.Own.{with_seen};
 ghost use Rattle.txn_lang.specs.Steps as steps;
 ghost use Rattle.txn_eval.specs.code.Answers.{Answers};
 ghost use Rattle.txn_eval.specs.code.Buffering.{kept, noted};
@@ -12,18 +11,8 @@ use crate::kept::Kept;
 use conflict_table::{Obs, ReadOp};
 use rdt_types::{Address, Item, Value, WriteOp};
 use std::alloc::{AllocError, Global};
-use txn_lang::{Progress, Seen, SeenList, Snaps, Stop};
+use txn_lang::{Progress, Seen, Snaps, Stop};
 use write_buffer::Asked;
-
-/// Lists an observation, unless it is listed.
-fn observe(observations: &mut SeenList, seen: Seen) -> Result<(), AllocError>
-    ensures { OnOk result (observations.new ≡ with_seen observations.old seen) }
-{
-    if observations.as_slice().contains(&seen) {
-        return Ok(());
-    }
-    observations.push(seen)
-}
 
 /// Lists what a read observed at an address, if it observed anything.
 fn note(memory: &mut Kept, address: Address, seen: Option<Obs>) -> Result<(), AllocError>
@@ -31,7 +20,7 @@ fn note(memory: &mut Kept, address: Address, seen: Option<Obs>) -> Result<(), Al
 {
     match seen {
         None => Ok(()),
-        Some(obs) => observe(&mut memory.observations, Seen { address, obs }),
+        Some(obs) => memory.observations.note(Seen { address, obs }),
     }
 }
 

@@ -8,8 +8,8 @@ ghost use Rattle.txn_eval.specs.code.Buffering.{exec_over};
 
 use crate::environment::Environment;
 use crate::kept::Kept;
+use crate::observed::Observed;
 use crate::statement::steps_of;
-use plain_data::Sequence;
 use rdt_types::{Address, DeltaMap, ItemList, Outcome};
 use std::alloc::{AllocError, Global};
 use txn_lang::{Checked, Progress, Run, Snaps, Stop};
@@ -42,7 +42,7 @@ fn stopped(alloc: Global, run: Progress<Kept>, outcome: Outcome) -> Step
     Step::Done(Run {
         outcome,
         deltas: DeltaMap::new(alloc),
-        observations,
+        observations: observations.into_list(),
     })
 }
 
@@ -63,7 +63,7 @@ fn finished(run: Progress<Kept>) -> Step
     Step::Done(Run {
         outcome: Outcome::Ok(emitted),
         deltas: buffer.into_deltas(),
-        observations,
+        observations: observations.into_list(),
     })
 }
 
@@ -90,7 +90,7 @@ fn run_body(alloc: Global, snaps: &Snaps, body: &Body) -> Result<Step, AllocErro
     let mut run = Progress {
         memory: Kept {
             buffer: Buffer::new(alloc),
-            observations: Sequence::new(alloc),
+            observations: Observed::new(alloc),
         },
         emitted: ItemList::new(alloc),
         ticks: 0,

@@ -1,12 +1,12 @@
 //! What statements do.
 
-ghost use Rattle.std.specs.Prelude.{◌≡◌, ◌+◌, map, [], take, length, OnOk};
+ghost use Rattle.std.specs.Prelude.{◌≡◌, ◌+◌, [], take, length, OnOk};
 ghost use Rattle.txn_lang.specs.Steps as steps;
 ghost use Rattle.txn_lang.specs.Rules as rules;
 ghost use Rattle.txn_lang.specs.Items.{named, texts_in};
 ghost use Rattle.txn_eval.specs.code.Answers.{Answers, Leaves};
 ghost use Rattle.txn_eval.specs.code.Buffering.{kept};
-ghost use Rattle.txn_eval.specs.code.Loops.{for_run};
+ghost use Rattle.txn_eval.specs.code.Loops.{for_run, stmts_on};
 ghost use Rattle.txn_eval.specs.Running.{values_of};
 
 use crate::charging::{carry, charge};
@@ -71,7 +71,7 @@ pub(crate) fn steps_of(
     run: &mut Progress<Kept>,
     stmts: &[Stmt],
 ) -> Result<(), Stop>
-    ensures leaves { Leaves result names.new run.new (rules.all_steps (map (rules.stmt_run (kept (values_of snaps.now))) stmts.now) names.old run.old) }
+    ensures leaves { Leaves result names.new run.new (rules.all_steps (stmts_on snaps.now stmts.now) names.old run.old) }
     ensures bound { OnOk result (take (length names.old) names.new ≡ names.old) }
 {
     for stmt in stmts {
@@ -89,7 +89,7 @@ fn block(
     run: &mut Progress<Kept>,
     stmts: &[Stmt],
 ) -> Result<(), Stop>
-    ensures leaves { Leaves result names.new run.new (rules.block (map (rules.stmt_run (kept (values_of snaps.now))) stmts.now) names.old run.old) }
+    ensures leaves { Leaves result names.new run.new (rules.block (stmts_on snaps.now stmts.now) names.old run.old) }
     ensures same { OnOk result (names.new ≡ names.old) }
 {
     let outside = names.len();
@@ -110,7 +110,7 @@ fn turn(
     text: Text,
     stmts: &[Stmt],
 ) -> Result<(), Stop>
-    ensures leaves { Leaves result names.new run.new (rules.turn name.now (map (rules.stmt_run (kept (values_of snaps.now))) stmts.now) text names.old run.old) }
+    ensures leaves { Leaves result names.new run.new (rules.turn name.now (stmts_on snaps.now stmts.now) text names.old run.old) }
     ensures same { OnOk result (names.new ≡ names.old) }
 {
     charge(run, 1)?;
@@ -132,7 +132,7 @@ fn turns(
     texts: &[Text],
     stmts: &[Stmt],
 ) -> Result<(), Stop>
-    ensures leaves { Leaves result names.new run.new (rules.turns name.now (map (rules.stmt_run (kept (values_of snaps.now))) stmts.now) texts.now names.old run.old) }
+    ensures leaves { Leaves result names.new run.new (rules.turns name.now (stmts_on snaps.now stmts.now) texts.now names.old run.old) }
     ensures same { OnOk result (names.new ≡ names.old) }
 {
     for text in texts {
@@ -153,7 +153,8 @@ fn turns_named(
     listed: &Text,
     stmts: &[Stmt],
 ) -> Result<(), Stop>
-    ensures leaves { Leaves result names.new run.new (rules.turns name.now (map (rules.stmt_run (kept (values_of snaps.now))) stmts.now) (texts_in (named names.old listed.now)) names.old run.old) }
+    ensures leaves { Leaves result names.new run.new
+        (rules.turns name.now (stmts_on snaps.now stmts.now) (texts_in (named names.old listed.now)) names.old run.old) }
     ensures same { OnOk result (names.new ≡ names.old) }
 {
     for place in 0..texts_named(names, listed).len() {
@@ -174,7 +175,7 @@ fn repeat(
     stmts: &[Stmt],
     expr: &Expr,
 ) -> Result<(), Stop>
-    ensures leaves { Leaves result names.new run.new (for_run (kept (values_of snaps.now)) name.now expr.now (map (rules.stmt_run (kept (values_of snaps.now))) stmts.now) names.old run.old) }
+    ensures leaves { Leaves result names.new run.new (for_run (kept (values_of snaps.now)) name.now expr.now (stmts_on snaps.now stmts.now) names.old run.old) }
     ensures same { OnOk result (names.new ≡ names.old) }
 {
     match &expr.node {

@@ -1,0 +1,83 @@
+//! What a run has observed.
+
+ghost use Rattle.std.specs.Prelude.{◌≡◌, true, if◌then◌else◌, [], OnOk, OnErr};
+ghost use Rattle.std.specs.BTreeMap.{is_at};
+ghost use Rattle.txn_lang.specs.Own.{with_seen};
+ghost use Rattle.txn_eval.specs.declared.seen_key.SeenKey.{SeenKey};
+ghost use Rattle.txn_eval.specs.contracts.seen_key.SeenKeyOrd.TheImpl as order;
+ghost use Rattle.txn_eval.specs.code.Found.{has_key};
+
+use crate::seen_key::{SeenKey, key_of};
+use plain_data::Sequence;
+use std::alloc::{AllocError, Global};
+use std::collections::BTreeSet;
+use std::marker::Model;
+use txn_lang::{Seen, SeenList};
+
+/// Observations in the order of their first making, each once. One is found by halving.
+#[derive(Drop)]
+pub(crate) struct Observed {
+    list: SeenList,
+    keys: BTreeSet<SeenKey>,
+}
+
+impl Model for Observed {
+    ghost use Rattle.std.specs.Prelude.{List};
+    ghost use Rattle.txn_lang.specs.declared.run.Seen.{Seen};
+    ghost use Rattle.txn_eval.specs.code.Found.{AreFound};
+
+    ghost Value = { List Seen };
+
+    ghost view = { λ o. o.list };
+
+    ghost invariant = { λ o. AreFound o.keys o.list };
+}
+
+/// Keeps one key more.
+fn keep(keys: &mut BTreeSet<SeenKey>, key: SeenKey) -> Result<(), AllocError>
+    ensures ok { OnOk result ((q : SeenKey) → has_key keys.new q ≡ (if is_at (order.ghosts.cmp key) q then true else has_key keys.old q)) }
+    ensures err { OnErr result (keys.new.keys ≡ keys.old.keys) }
+{
+    keys.insert(key)?;
+    Ok(())
+}
+
+impl Observed {
+    /// Nothing was observed. It takes no memory yet.
+    pub fn new(alloc: Global) -> Observed
+        ensures { result ≡ [] }
+    {
+        Observed {
+            list: Sequence::new(alloc),
+            keys: BTreeSet::new(alloc),
+        }
+    }
+
+    /// Lists an observation, unless it is listed.
+    pub fn note(&mut self, seen: Seen) -> Result<(), AllocError>
+        ensures ok { OnOk result (self.new ≡ with_seen self.old seen) }
+        ensures err { OnErr result (self.new ≡ self.old) }
+    {
+        let key = key_of(&seen)?;
+        if self.keys.contains(&key) {
+            return Ok(());
+        }
+        let count = self.list.len();
+        self.list.push(seen)?;
+        match keep(&mut self.keys, key) {
+            Ok(()) => Ok(()),
+            Err(error) => {
+                self.list.truncate(count);
+                Err(error)
+            }
+        }
+    }
+
+    /// The observations in order. It takes no memory.
+    pub fn into_list(self) -> SeenList
+        ensures { result ≡ self }
+    {
+        let Observed { list, keys: _ } = self;
+        list
+    }
+}

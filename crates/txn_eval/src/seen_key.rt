@@ -1,0 +1,59 @@
+//! By what observations are found.
+
+ghost use Rattle.std.specs.Prelude.{◌≡◌, IfOk};
+ghost use Rattle.txn_eval.specs.code.Found as spec;
+
+use conflict_table::Obs;
+use plain_data::{ExactClone, Text};
+use rdt_types::{Address, Kind};
+use std::alloc::AllocError;
+use txn_lang::Seen;
+
+/// Of what in a value an observation is.
+#[derive(Drop, PartialEq, Eq, PartialOrd, Ord)]
+pub(crate) enum Part {
+    /// All of it.
+    Whole,
+    /// What is at an element or a field.
+    At(Text),
+    /// The item at a place.
+    Place(u64),
+}
+
+/// What an observation says, in an order.
+#[derive(Drop, PartialEq, Eq, PartialOrd, Ord)]
+pub(crate) struct SeenKey {
+    pub address: Address,
+    pub kind: Kind,
+    pub part: Part,
+}
+
+/// A copy, which equals its original.
+fn copied<T: ExactClone>(original: &T) -> Result<T, AllocError>
+    ensures { IfOk result (λ copy. copy ≡ original.now) }
+{
+    original.clone()
+}
+
+/// Of what in a value an observation is.
+fn part_of(obs: &Obs) -> Result<Part, AllocError>
+    ensures { IfOk result (λ part. part ≡ spec.part_of obs.now) }
+{
+    Ok(match obs {
+        Obs::SetHas(name) | Obs::HashAt(name) => Part::At(copied(name)?),
+        Obs::ListAt(place) => Part::Place(*place),
+        Obs::BoolIs | Obs::CounterIs | Obs::TextIs | Obs::SetAll | Obs::HashAll | Obs::ListAll =>
+            Part::Whole,
+    })
+}
+
+/// By what an observation is found.
+pub(crate) fn key_of(seen: &Seen) -> Result<SeenKey, AllocError>
+    ensures { IfOk result (λ key. key ≡ spec.key_of seen.now) }
+{
+    Ok(SeenKey {
+        address: copied(&seen.address)?,
+        kind: seen.obs.kind(),
+        part: part_of(&seen.obs)?,
+    })
+}
