@@ -15,3 +15,4 @@ pub mod Answered
 pub mod Elsewhere
 pub mod Laters
 pub mod Sound
+pub mod Appending
