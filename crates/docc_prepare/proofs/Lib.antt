@@ -16,3 +16,4 @@ pub mod StepDoes
 pub mod Elsewhere
 pub mod Laters
 pub mod Sound
+pub mod Appending

@@ -1,5 +1,10 @@
 //! Attempts stepped through by hand. Shard numbers were worked out apart from the code, by the rule of the printed address.
 
+ghost use Rattle.std.specs.Prelude.{◌≡◌, ◌≤◌, length, Some, IfOk};
+ghost use Rattle.txn_lang.specs.Tree.{tree};
+
+mod appending;
+
 use crate::{Attempt, Next};
 use abort_witness::Based;
 use conflict_table::Obs;
@@ -13,7 +18,10 @@ use txn_parse::parse;
 use version_shard::Prepared;
 
 /// A body that is read and checked.
-fn checked(alloc: Global, source: &[u8]) -> Result<Checked, CheckError> {
+fn checked(alloc: Global, source: &[u8]) -> Result<Checked, CheckError>
+    ensures read { IfOk result (λ body. tree body.source ≡ Some body.body) }
+    ensures short { IfOk result (λ body. length body.source ≤ 4096) }
+{
     if source.len() > 4096 {
         return Err(CheckError::NoMemory);
     }

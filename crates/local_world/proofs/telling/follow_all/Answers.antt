@@ -20,4 +20,6 @@ returns-clause-taken c = taken-after c.follow.result c.args.registry.now c.follo
 
 pub returns-clause-ok : goal.returns-clause-ok
 returns-clause-ok c =
-    on_ok_weaker c.follow.result (λ (e : c.follow.new.self.front ≡ c.in_ok-tail.tail.to). e ∙ c.in_ok-tail.ensures.ends ∙ c.length.ensures) c.follow.ensures.front
+    on_ok_weaker c.follow.result
+    (λ (e : c.follow.new.self.front ≡ c.in_ok-tail.tail.to). e ∙ c.in_ok-tail.ensures.ends ∙ c.length.ensures)
+    c.follow.ensures.front
