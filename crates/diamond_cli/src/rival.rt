@@ -64,7 +64,7 @@ impl Rival {
 }
 
 impl Backend for Rival {
-    ghost use Rattle.std.specs.Prelude.{None, true, false, Unit};
+    ghost use Rattle.std.specs.Prelude.{None, true, false};
 
     ghost known = { λ r. record {
       journal = None;

@@ -4,6 +4,7 @@
 //! each time, which is one shard further among sixteen: they are in shards 2 to 15, and then in 0 and 1.
 
 use crate::rows::{Row, answered_with, with_limit, with_shards};
+use rdt_types::Settings;
 use std::alloc::Global;
 use std::process::Abort;
 use std::test::Fail;
@@ -122,128 +123,12 @@ fn a_journal_of_three_commits(rt: HostRuntime) -> Result<(), Fail> {
     answered_with(&rt, rt.alloc(), &with_limit(3), &NEARLY_FULL)
 }
 
-/// So many shards; what is prepared of the shard of `counter("x")`, which is the sum's remainder; and follows of the last shard
-/// and of the one behind it.
-const COUNTS: [(u8, &[u8], &[u8], &[u8], &[u8]); 16] = [
-    (
-        1,
-        b"0 prepare 0 front 0",
-        b"1 follow 0",
-        b"1 follow 0 front 1",
-        b"1 follow 1",
-    ),
-    (
-        2,
-        b"0 prepare 1 front 0",
-        b"1 follow 1",
-        b"1 follow 1 front 1",
-        b"1 follow 2",
-    ),
-    (
-        3,
-        b"0 prepare 0 front 0",
-        b"1 follow 2",
-        b"1 follow 2 front 1",
-        b"1 follow 3",
-    ),
-    (
-        4,
-        b"0 prepare 1 front 0",
-        b"1 follow 3",
-        b"1 follow 3 front 1",
-        b"1 follow 4",
-    ),
-    (
-        5,
-        b"0 prepare 3 front 0",
-        b"1 follow 4",
-        b"1 follow 4 front 1",
-        b"1 follow 5",
-    ),
-    (
-        6,
-        b"0 prepare 3 front 0",
-        b"1 follow 5",
-        b"1 follow 5 front 1",
-        b"1 follow 6",
-    ),
-    (
-        7,
-        b"0 prepare 0 front 0",
-        b"1 follow 6",
-        b"1 follow 6 front 1",
-        b"1 follow 7",
-    ),
-    (
-        8,
-        b"0 prepare 1 front 0",
-        b"1 follow 7",
-        b"1 follow 7 front 1",
-        b"1 follow 8",
-    ),
-    (
-        9,
-        b"0 prepare 0 front 0",
-        b"1 follow 8",
-        b"1 follow 8 front 1",
-        b"1 follow 9",
-    ),
-    (
-        10,
-        b"0 prepare 3 front 0",
-        b"1 follow 9",
-        b"1 follow 9 front 1",
-        b"1 follow 10",
-    ),
-    (
-        11,
-        b"0 prepare 5 front 0",
-        b"1 follow 10",
-        b"1 follow 10 front 1",
-        b"1 follow 11",
-    ),
-    (
-        12,
-        b"0 prepare 9 front 0",
-        b"1 follow 11",
-        b"1 follow 11 front 1",
-        b"1 follow 12",
-    ),
-    (
-        13,
-        b"0 prepare 3 front 0",
-        b"1 follow 12",
-        b"1 follow 12 front 1",
-        b"1 follow 13",
-    ),
-    (
-        14,
-        b"0 prepare 7 front 0",
-        b"1 follow 13",
-        b"1 follow 13 front 1",
-        b"1 follow 14",
-    ),
-    (
-        15,
-        b"0 prepare 3 front 0",
-        b"1 follow 14",
-        b"1 follow 14 front 1",
-        b"1 follow 15",
-    ),
-    (
-        16,
-        b"0 prepare 9 front 0",
-        b"1 follow 15",
-        b"1 follow 15 front 1",
-        b"1 follow 16",
-    ),
-];
-
-/// Runs a lost update by steps over so many shards.
+/// Runs a lost update by steps. The shard of `counter("x")` is the sum's remainder by the number of shards; the last shard
+/// follows, and the one behind it is none.
 fn counted(
     rt: &impl Abort,
     alloc: Global,
-    shards: u8,
+    settings: &Settings,
     prepared: &'static [u8],
     follow: Row,
     beyond: &'static [u8],
@@ -282,20 +167,153 @@ fn counted(
             b"0 at 0 ok 0 [] []",
         ),
     ];
-    answered_with(rt, alloc, &with_shards(shards), &rows)
+    answered_with(rt, alloc, settings, &rows)
 }
 
 #[test]
-fn stores_have_from_one_shard_to_sixteen(rt: HostRuntime) -> Result<(), Fail> {
-    for (shards, prepared, follow, followed, beyond) in COUNTS {
-        counted(
-            &rt,
-            rt.alloc(),
-            shards,
-            prepared,
-            (follow, followed),
-            beyond,
-        )?;
-    }
-    Ok(())
+fn stores_of_one_to_four_shards(rt: HostRuntime) -> Result<(), Fail> {
+    let alloc = rt.alloc();
+    counted(
+        &rt,
+        alloc,
+        &with_shards(1),
+        b"0 prepare 0 front 0",
+        (b"1 follow 0", b"1 follow 0 front 1"),
+        b"1 follow 1",
+    )?;
+    counted(
+        &rt,
+        alloc,
+        &with_shards(2),
+        b"0 prepare 1 front 0",
+        (b"1 follow 1", b"1 follow 1 front 1"),
+        b"1 follow 2",
+    )?;
+    counted(
+        &rt,
+        alloc,
+        &with_shards(3),
+        b"0 prepare 0 front 0",
+        (b"1 follow 2", b"1 follow 2 front 1"),
+        b"1 follow 3",
+    )?;
+    counted(
+        &rt,
+        alloc,
+        &with_shards(4),
+        b"0 prepare 1 front 0",
+        (b"1 follow 3", b"1 follow 3 front 1"),
+        b"1 follow 4",
+    )
+}
+
+#[test]
+fn stores_of_five_to_eight_shards(rt: HostRuntime) -> Result<(), Fail> {
+    let alloc = rt.alloc();
+    counted(
+        &rt,
+        alloc,
+        &with_shards(5),
+        b"0 prepare 3 front 0",
+        (b"1 follow 4", b"1 follow 4 front 1"),
+        b"1 follow 5",
+    )?;
+    counted(
+        &rt,
+        alloc,
+        &with_shards(6),
+        b"0 prepare 3 front 0",
+        (b"1 follow 5", b"1 follow 5 front 1"),
+        b"1 follow 6",
+    )?;
+    counted(
+        &rt,
+        alloc,
+        &with_shards(7),
+        b"0 prepare 0 front 0",
+        (b"1 follow 6", b"1 follow 6 front 1"),
+        b"1 follow 7",
+    )?;
+    counted(
+        &rt,
+        alloc,
+        &with_shards(8),
+        b"0 prepare 1 front 0",
+        (b"1 follow 7", b"1 follow 7 front 1"),
+        b"1 follow 8",
+    )
+}
+
+#[test]
+fn stores_of_nine_to_twelve_shards(rt: HostRuntime) -> Result<(), Fail> {
+    let alloc = rt.alloc();
+    counted(
+        &rt,
+        alloc,
+        &with_shards(9),
+        b"0 prepare 0 front 0",
+        (b"1 follow 8", b"1 follow 8 front 1"),
+        b"1 follow 9",
+    )?;
+    counted(
+        &rt,
+        alloc,
+        &with_shards(10),
+        b"0 prepare 3 front 0",
+        (b"1 follow 9", b"1 follow 9 front 1"),
+        b"1 follow 10",
+    )?;
+    counted(
+        &rt,
+        alloc,
+        &with_shards(11),
+        b"0 prepare 5 front 0",
+        (b"1 follow 10", b"1 follow 10 front 1"),
+        b"1 follow 11",
+    )?;
+    counted(
+        &rt,
+        alloc,
+        &with_shards(12),
+        b"0 prepare 9 front 0",
+        (b"1 follow 11", b"1 follow 11 front 1"),
+        b"1 follow 12",
+    )
+}
+
+#[test]
+fn stores_of_thirteen_to_sixteen_shards(rt: HostRuntime) -> Result<(), Fail> {
+    let alloc = rt.alloc();
+    counted(
+        &rt,
+        alloc,
+        &with_shards(13),
+        b"0 prepare 3 front 0",
+        (b"1 follow 12", b"1 follow 12 front 1"),
+        b"1 follow 13",
+    )?;
+    counted(
+        &rt,
+        alloc,
+        &with_shards(14),
+        b"0 prepare 7 front 0",
+        (b"1 follow 13", b"1 follow 13 front 1"),
+        b"1 follow 14",
+    )?;
+    counted(
+        &rt,
+        alloc,
+        &with_shards(15),
+        b"0 prepare 3 front 0",
+        (b"1 follow 14", b"1 follow 14 front 1"),
+        b"1 follow 15",
+    )?;
+    counted(
+        &rt,
+        alloc,
+        &with_shards(16),
+        b"0 prepare 9 front 0",
+        (b"1 follow 15", b"1 follow 15 front 1"),
+        b"1 follow 16",
+    )
 }
