@@ -1,11 +1,13 @@
 -- Watches that stand where they observed something: who is told along the addresses of changes, and who observes an address.
-use Rattle.std.proofs.Common.{◌≡◌, ℕ, Bool, true, false, cond, nat_eq, ◌||◌, ◌<◌, ◌+◌, List, [], ◌∷◌, length, fold, Option, Some, None, refl, sym, ap, subst, ◌∙◌, arith, true≢false, ⊎_elim}
-use Rattle.std.proofs.lemmas.Bool.{eq-eqb, ne_eqb, eqb-true, cases_eq, or_parts, or_left, or_right, or_cases}
+use Rattle.std.proofs.Common.{◌≡◌, ℕ, suc, Bool, true, false, cond, nat_eq, ◌||◌, ◌<◌, ◌+◌, List, [], ◌∷◌, length, fold}
+use Rattle.std.proofs.Common.{Option, Some, None, refl, sym, ap, subst, ◌∙◌, arith, true≢false, ◌⊎◌, inl, inr, ⊎_elim, ◌&&◌, drop, get_or}
+use Rattle.std.proofs.lemmas.Bool.{eq-eqb, ne_eqb, eqb-true, cases_eq, or_parts, or_left, or_right, or_cases, and_parts}
 use Rattle.std.specs.List.{list_any, AllByRecursion}
 use Rattle.std.specs.Option.{option_map_or}
 use Rattle.std.specs.BTreeMap.{is_at}
 use Rattle.std.specs.Cmp.{eq_by_cmp_equiv}
 use Rattle.plain_data.proofs.Entries.{equal}
+use Rattle.plain_data.proofs.Merging.{drop-item}
 use Rattle.rdt_types.specs.declared.address.Address.{Address}
 use Rattle.rdt_types.specs.declared.delta.Delta.{Delta}
 use Rattle.rdt_types.specs.Addresses.{address_cmp}
@@ -19,7 +21,8 @@ use Rattle.rerun_driver.specs.declared.places.Places.{Places}
 use Rattle.rerun_driver.specs.Watches.{Watches, clashes, touches, told, all_told, is_observed_by, is_observed}
 use Rattle.rerun_driver.specs.code.Numbers.{IsRising, is_among}
 use Rattle.rerun_driver.specs.code.Places.{numbers_at, stands}
-use Rattle.rerun_driver.specs.code.Rolls.{Rolled, IsInOrder, seen_in, seen_by, told_if, told_numbered, told_at, told_set, told_along, Covers}
+use Rattle.rerun_driver.specs.code.Rolls.{Rolled, IsInOrder, IsPlaced, seen_in, seen_by, told_if}
+use Rattle.rerun_driver.specs.code.Rolls.{told_numbered, told_at, told_set, told_along, Covers, CoversBut}
 use Rattle.rerun_driver.proofs.Rolls.{seen-below}
 
 -- ---- row by row
@@ -46,14 +49,14 @@ seen-behind n ns e ws k a above seen = by (nat_eq n k) refl
         let none = seen-below k ns ws (subst (λ x. AllByRecursion (λ y. x < y) ns) (eqb-true n k f) above) in
         absurd (true≢false (sym seen ∙ ap (is_observed_by a) none))
 
+-- a number is that of one row: those behind the first are above its number
 rows : (places : Places) (order : List ℕ) (ws : Watches) → IsRising order → Covers places (order, ws) → RowsCovered places order ws
 rows places [] ws r covers = tt
 rows places (n ∷ ns) [] r covers = tt
-rows places (n ∷ ns) (e ∷ ws) r covers =
-    (
-      (λ a seen. covers n a (ap (is_observed_by a) (seen-first n ns e ws) ∙ seen)),
-      rows places ns ws r.1 (λ k a seen. covers k a (ap (is_observed_by a) (seen-behind n ns e ws k a r.0 seen) ∙ seen)),
-    )
+rows places (n ∷ ns) (e ∷ ws) r covers = (
+  (λ a seen. covers n a (ap (is_observed_by a) (seen-first n ns e ws) ∙ seen)),
+  rows places ns ws r.1 (λ k a seen. covers k a (ap (is_observed_by a) (seen-behind n ns e ws k a r.0 seen) ∙ seen)),
+)
 
 -- ---- one watch, told by numbers
 
@@ -67,11 +70,13 @@ module _ (changes : Deltas) where
       by false true = refl
       by false false = refl
 
+  -- told by one test and then by another is told by both, since twice is once
   told_if-or : (b c : Bool) (w : Watch) → told_if c changes (told_if b changes w) ≡ told_if (b || c) changes w
   told_if-or true true w = told-twice w
   told_if-or true false w = refl
   told_if-or false c w = refl
 
+  -- equality of numbers is the same either way round
   same_eq : (m n : ℕ) → nat_eq m n ≡ nat_eq n m
   same_eq m n = ⊎_elim (λ e. eq-eqb m n e ∙ sym (eq-eqb n m (sym e))) (λ d. ne_eqb m n d ∙ sym (ne_eqb n m (λ e. d (sym e)))) (cases_eq m n)
 
@@ -80,6 +85,7 @@ module _ (changes : Deltas) where
     abbrev told_by : List ℕ → Watch → Watch
     told_by numbers w = fold (λ v n. told_if (nat_eq m n) changes v) w numbers
 
+    -- it is told where one of the numbers is its own; by induction, a number at a time
     by_numbers : (numbers : List ℕ) (w : Watch) → told_by numbers w ≡ told_if (is_among numbers m) changes w
     by_numbers [] w = refl
     by_numbers (n ∷ ns) w =
@@ -92,6 +98,7 @@ module _ (changes : Deltas) where
       abbrev told_from : Deltas → Watch → Watch
       told_from deltas w = fold (λ v delta. told_by (numbers_at places delta.0) v) w deltas
 
+      -- it is told where it stands at one of their addresses; by induction, a delta at a time
       by_deltas : (deltas : Deltas) (w : Watch) → told_from deltas w ≡ told_if (list_any (λ delta. stands places delta.0 m) deltas) changes w
       by_deltas [] w = refl
       by_deltas (d ∷ ds) w =
@@ -142,10 +149,12 @@ module _ (changes : Deltas) where
   set-cons m ms [] e ws = refl
   set-cons m ms (n ∷ ns) e ws = set-cons m ms ns (e.0, told_if (nat_eq m n) changes e.1) (told_numbered changes n ms ws)
 
+  -- telling changes no number
   set-order : (numbers : List ℕ) (roll : Rolled) → (told_set changes numbers roll).0 ≡ roll.0
   set-order [] roll = refl
   set-order (n ∷ ns) roll = set-order ns (told_at changes roll n)
 
+  -- so along the addresses of deltas; by induction, a delta at a time
   along-cons : (places : Places) (m : ℕ) (ms : List ℕ) (deltas : Deltas) (e : List ℕ × Watch) (ws : Watches)
       → told_along places changes deltas (m ∷ ms, e ∷ ws) ≡ (m ∷ ms, (e.0, told_from m places deltas e.1) ∷ (told_along places changes deltas (ms, ws)).1)
   along-cons places m ms [] e ws = refl
@@ -156,6 +165,7 @@ module _ (changes : Deltas) where
       ∙ ap (λ (o : List ℕ). (m ∷ ms, (e.0, told_from m places (d ∷ ds) e.1) ∷ (told_along places changes ds (o, (told_set changes numbers (ms, ws)).1)).1))
       (sym (set-order numbers (ms, ws)))
 
+  -- of no watches none are told
   along-none : (places : Places) (deltas : Deltas) → told_along places changes deltas ([], []) ≡ ([], [])
   along-none places [] = refl
   along-none places (d ∷ ds) = ap (told_along places changes ds) (set-none (numbers_at places d.0)) ∙ along-none places ds
@@ -164,6 +174,7 @@ module _ (changes : Deltas) where
       set-none [] = refl
       set-none (n ∷ ns) = set-none ns
 
+  -- row by row each is told as if all were, since each stands where it observed something
   along-rows : (places : Places) (order : List ℕ) (ws : Watches) → length order ≡ length ws → RowsCovered places order ws
       → told_along places changes changes (order, ws) ≡ (order, all_told changes ws)
   along-rows places [] [] same covered = along-none places changes
@@ -184,16 +195,18 @@ module _ (changes : Deltas) where
   seen-told (m ∷ ms) [] n = refl
   seen-told (m ∷ ms) (e ∷ ws) n = ap (cond (nat_eq m n) e.1.observations) (seen-told ms ws n)
 
+  -- telling keeps the numbers, and as many watches
   pub ordered-told : (roll : Rolled) → IsInOrder roll → IsInOrder (roll.0, all_told changes roll.1)
   ordered-told roll ordered = record { rising = ordered.rising; as_many = ordered.as_many ∙ sym (length-told roll.1) }
     where
       length-told : (ws : Watches) → length (all_told changes ws) ≡ length ws
       length-told [] = refl
-      length-told (e ∷ ws) = ap (λ n. 1 + n) (length-told ws)
+      length-told (e ∷ ws) = ap suc (length-told ws)
 
 -- ---- who observes an address
 
 module _ (a : Address) where
+  -- the watch of a number observed something at the address
   abbrev observes : List ℕ → Watches → ℕ → Bool
   observes order ws n = is_observed_by a (seen_in order ws n)
 
@@ -229,6 +242,7 @@ module _ (a : Address) where
       (λ later. or_right (f x) (list_any f xs) (any-among f xs n later passes))
       (or_cases (nat_eq x n) (is_among xs n) e)
 
+  -- and of some numbers that pass, one does
   among-any : (f : ℕ → Bool) (xs : List ℕ) → list_any f xs ≡ true → (n : ℕ) × (f n ≡ true)
   among-any f [] e = absurd (true≢false (sym e))
   among-any f (x ∷ xs) e = ⊎_elim (λ here. (x, here)) (λ later. among-any f xs later) (or_cases (f x) (list_any f xs) e)
@@ -247,3 +261,78 @@ module _ (a : Address) where
       same true false f g = sym (f refl)
       same false true f g = g refl
       same false false f g = refl
+
+-- ---- a call's parts
+
+-- the same numbers everywhere
+pub placed-same : (b : Bool) (old new : Places) (roll : Rolled) → ((a : Address) → numbers_at new a ≡ numbers_at old a) → IsPlaced b old roll → IsPlaced b new roll
+placed-same b old new roll same placed = record {
+  ordered = placed.ordered;
+  covers = λ e n a seen. ap (λ (xs : List ℕ). is_among xs n) (same a) ∙ placed.covers e n a seen;
+}
+
+-- a watch that is put where it observed something, beside others that stand
+pub placed-put : (b c : Bool) (old new : Places) (roll : Rolled) (made : ℕ) → IsInOrder roll → (b ≡ true → CoversBut made old roll)
+    → (c ≡ true → (a : Address) (m : ℕ) → stands old a m ≡ true → stands new a m ≡ true)
+    → (c ≡ true → (a : Address) → is_observed_by a (seen_by roll made) ≡ true → stands new a made ≡ true)
+    → IsPlaced (b && c) new roll
+placed-put b c old new roll made ordered others stays put = record {
+  ordered = ordered;
+  covers = λ e n a seen. by (and_parts b c e) n a seen (nat_eq made n) refl;
+}
+  where
+    by : (b ≡ true) × (c ≡ true) → (n : ℕ) (a : Address) → is_observed_by a (seen_by roll n) ≡ true → (d : Bool) → nat_eq made n ≡ d → stands new a n ≡ true
+    by parts n a seen true f =
+        let same = eqb-true made n f in
+        subst (λ k. stands new a k ≡ true) same (put parts.1 a (ap (λ k. is_observed_by a (seen_by roll k)) same ∙ seen))
+    by parts n a seen false f = stays parts.1 a n (others parts.0 n a f seen)
+
+-- what one watch more, or another report of one, leaves of the others
+pub others-stand : (made : ℕ) (places : Places) (old new : Rolled) (observations : List Seen)
+    → ((n : ℕ) → seen_by new n ≡ cond (nat_eq made n) observations (seen_by old n)) → Covers places old → CoversBut made places new
+others-stand made places old new observations is covers n a other seen =
+    covers n a (sym (ap (is_observed_by a) (is n ∙ ap (λ b. cond b observations (seen_by old n)) other)) ∙ seen)
+
+-- where a number is taken out, the others stand
+pub others-taken : (made : ℕ) (old new : Places) (roll : Rolled)
+    → ((a : Address) (m : ℕ) → nat_eq made m ≡ false → stands new a m ≡ stands old a m) → CoversBut made old roll → CoversBut made new roll
+others-taken made old new roll same covers n a other seen = same a n other ∙ covers n a other seen
+
+-- and where its watch observed nothing, or is gone, all do
+pub all-stand : (made : ℕ) (places : Places) (roll : Rolled) → seen_by roll made ≡ [] → CoversBut made places roll → Covers places roll
+all-stand made places roll none covers n a seen = by (nat_eq made n) refl
+  where
+    by : (b : Bool) → nat_eq made n ≡ b → stands places a n ≡ true
+    by true f = absurd (true≢false (sym seen ∙ ap (λ k. is_observed_by a (seen_by roll k)) (sym (eqb-true made n f)) ∙ ap (is_observed_by a) none))
+    by false f = covers n a f seen
+
+-- whoever observed something has a number
+pub seen-among : (order : List ℕ) (ws : Watches) (a : Address) (n : ℕ) → is_observed_by a (seen_in order ws n) ≡ true → is_among order n ≡ true
+seen-among [] ws a n e = absurd (true≢false (sym e))
+seen-among (m ∷ ms) [] a n e = absurd (true≢false (sym e))
+seen-among (m ∷ ms) (w ∷ ws) a n e = by (nat_eq m n) e (seen-among ms ws a n)
+  where
+    by : (b : Bool) → is_observed_by a (cond b w.1.observations (seen_in ms ws n)) ≡ true
+        → (is_observed_by a (seen_in ms ws n) ≡ true → is_among ms n ≡ true) → (b || is_among ms n) ≡ true
+    by true e rest = refl
+    by false e rest = rest e
+
+-- once the next number stands where its watch observed something, those are left that were behind it
+pub place-next : (old now : Places) (roll : Rolled) (numbers : List ℕ) (i k : ℕ) → i < length numbers → get_or numbers i k ≡ k
+    → ((a : Address) (m : ℕ) → stands old a m ≡ true → stands now a m ≡ true)
+    → ((a : Address) → is_observed_by a (seen_by roll k) ≡ true → stands now a k ≡ true)
+    → (n : ℕ) (a : Address) → is_observed_by a (seen_by roll n) ≡ true
+    → (stands old a n ≡ true) ⊎ (is_among (drop i numbers) n ≡ true) → (stands now a n ≡ true) ⊎ (is_among (drop (i + 1) numbers) n ≡ true)
+place-next old now roll numbers i k within is stays put n a seen (inl there) = inl (stays a n there)
+place-next old now roll numbers i k within is stays put n a seen (inr left) =
+    ⊎_elim (λ here.
+    let same = eqb-true k n here in
+    inl (subst (λ m. stands now a m ≡ true) same (put a (ap (λ m. is_observed_by a (seen_by roll m)) same ∙ seen)))) (λ later. inr later)
+    (or_cases (nat_eq k n) (is_among (drop (i + 1) numbers) n) (sym (ap (λ (xs : List ℕ). is_among xs n) (drop-item numbers i k within is)) ∙ left))
+
+-- who is told stands where it stood
+pub placed-told : (changes : Deltas) (b : Bool) (places : Places) (roll : Rolled) → IsPlaced b places roll → IsPlaced b places (roll.0, all_told changes roll.1)
+placed-told changes b places roll placed = record {
+  ordered = ordered-told changes roll placed.ordered;
+  covers = λ e n a seen. placed.covers e n a (sym (ap (is_observed_by a) (seen-told changes roll.0 roll.1 n)) ∙ seen);
+}

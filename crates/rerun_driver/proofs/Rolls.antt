@@ -1,7 +1,8 @@
 -- Watches by their numbers, which rise, and by their names.
 use Rattle.std.proofs.Common.{◌≡◌, ℕ, zero, suc, ◌+◌, ◌<◌, ◌≤◌, Bool, true, false, not, cond, nat_eq, nat_lt, List, [], ◌∷◌, ◌++◌, length, slice_get, position}
 use Rattle.std.proofs.Common.{Option, Some, None, option_map, option_and_then, Vec, Global, refl, sym, ap, subst, ◌∙◌, arith}
-use Rattle.std.proofs.lemmas.Bool.{eq-eqb, ne_eqb, eqb-true, lt-ltb, le-ltb}
+use Rattle.std.proofs.lemmas.Bool.{eq-eqb, ne_eqb, eqb-true, lt-ltb, le-ltb, cases_lt}
+use Rattle.std.proofs.Common.{one-add, ⊎_elim}
 use Rattle.std.specs.List.{AllByRecursion, position_or_len}
 use Rattle.std.specs.Map.{keys_of, values_of, lookup, set_value, remove_entry}
 use Rattle.std.specs.Option.{option_map_or}
@@ -50,25 +51,30 @@ above-at m (x ∷ xs) (suc p) n all e = above-at m xs p n all.1 e
 
 -- ---- places
 
+-- a number is below another where the one after it is below the one after that
+below-next : (p l : ℕ) → nat_lt (suc p) (suc l) ≡ nat_lt p l
+below-next p l =
+    ⊎_elim (λ h. lt-ltb (suc p) (suc l) (omega (arith, h)) ∙ sym (lt-ltb p l h)) (λ h. le-ltb (suc p) (suc l) (omega (arith, h)) ∙ sym (le-ltb p l h))
+    (cases_lt p l)
+
 -- the place of the first that passes, by whether the first does
 position-cons : {X : Type 0} (test : X → Bool) (x : X) (xs : List X)
     → position test (x ∷ xs) ≡ cond (test x) (Some 0) (option_map suc (position test xs))
 position-cons test x xs = by (test x)
   where
-    behind : (p l : ℕ) (b : Bool) → nat_lt p l ≡ b → cond b (Some (1 + p)) None ≡ option_map suc (cond b (Some p) None)
-    behind p l true e = refl
-    behind p l false e = refl
-
-    same : (p l : ℕ) → nat_lt (1 + p) (1 + l) ≡ nat_lt p l
-    same p l = refl
+    behind : (p : ℕ) (b : Bool) → cond b (Some (suc p)) None ≡ option_map suc (cond b (Some p) None)
+    behind p true = refl
+    behind p false = refl
 
     by : (b : Bool)
-        → cond (nat_lt (cond (not b) (1 + position_or_len test xs) 0) (1 + length xs)) (Some (cond (not b) (1 + position_or_len test xs) 0)) None
+        → cond (nat_lt (cond (not b) (1 + position_or_len test xs) 0) (suc (length xs))) (Some (cond (not b) (1 + position_or_len test xs) 0)) None
         ≡ cond b (Some 0) (option_map suc (position test xs))
-    by true = refl
+    by true = ap (λ c. cond c (Some 0) None) (lt-ltb 0 (suc (length xs)) (omega arith))
     by false =
-        ap (λ c. cond c (Some (1 + position_or_len test xs)) None) (same (position_or_len test xs) (length xs))
-        ∙ behind (position_or_len test xs) (length xs) (nat_lt (position_or_len test xs) (length xs)) refl
+        let p = position_or_len test xs in
+        (λ j. cond (nat_lt (one-add p j) (suc (length xs))) (Some (one-add p j)) None)
+        ∙ ap (λ c. cond c (Some (suc p)) None) (below-next p (length xs))
+        ∙ behind p (nat_lt p (length xs))
 
 -- what a place behind the first is of
 and-then-suc : {X : Type 0} (x : X) (xs : List X) (o : Option ℕ) → option_and_then (slice_get (x ∷ xs)) (option_map suc o) ≡ option_and_then (slice_get xs) o
@@ -93,7 +99,7 @@ number-at name (n ∷ ns) (e ∷ kept) same =
 -- ---- what was observed, by numbers
 
 -- nothing is known of a number below all
-seen-below : (n : ℕ) (order : List ℕ) (ws : Watches) → AllByRecursion (λ k. n < k) order → seen_in order ws n ≡ []
+pub seen-below : (n : ℕ) (order : List ℕ) (ws : Watches) → AllByRecursion (λ k. n < k) order → seen_in order ws n ≡ []
 seen-below n [] ws all = refl
 seen-below n (m ∷ ms) [] all = refl
 seen-below n (m ∷ ms) (e ∷ ws) all =
@@ -103,6 +109,7 @@ seen-below n (m ∷ ms) (e ∷ ws) all =
 abbrev seen_at : Kept → Option ℕ → List Seen
 seen_at kept place = option_map_or (λ entry. entry.1.observations) (option_and_then (slice_get kept) place) []
 
+-- at no entry nothing was observed
 seen_at-none : (place : Option ℕ) → seen_at [] place ≡ []
 seen_at-none None = refl
 seen_at-none (Some p) = refl
@@ -118,6 +125,7 @@ seen-place (m ∷ ms) (entry ∷ kept) n = by (nat_eq m n) (seen-place ms kept n
     by true rest = refl
     by false rest = ap (λ f. option_map_or (λ e. e.1.observations) f []) (and-then-suc entry kept (place_in ms n)) ∙ rest
 
+-- the same, where the place is known
 pub seen-found : (order : List ℕ) (kept : Kept) (n : ℕ) (o : Option ℕ) → place_in order n ≡ o
     → option_map_or (λ entry. entry.1.observations) (option_and_then (slice_get kept) o) [] ≡ seen_in order (shown kept) n
 seen-found order kept n o e = ap (seen_at kept) (sym e) ∙ seen-place order kept n
@@ -138,6 +146,7 @@ only-one true true x y z apart = absurd (apart refl refl)
 only-one true false x y z apart = refl
 only-one false b x y z apart = refl
 
+-- different numbers do not both equal a third
 apart : (m k n : ℕ) → m < k → nat_eq m n ≡ true → nat_eq k n ≡ true → ⊥
 apart m k n h e f = let a = eqb-true m n e in let b = eqb-true k n f in omega (arith, h, a, b)
 
@@ -205,6 +214,7 @@ seen-added name v made n (m ∷ ms) (w ∷ ws) same all =
 
 -- ---- the stale ones
 
+-- what holds of all numbers holds of the stale ones, which are among them
 all-stale : (P : ℕ → Type 0) (order : List ℕ) (vs : List Watch) → AllByRecursion P order → AllByRecursion P (stale_numbers order vs)
 all-stale P [] vs all = tt
 all-stale P (n ∷ ns) [] all = tt
@@ -220,7 +230,7 @@ stale-few [] vs = omega arith
 stale-few (n ∷ ns) [] = omega arith
 stale-few (n ∷ ns) (v ∷ vs) = by v.stale (stale-few ns vs)
   where
-    by : (b : Bool) → length (stale_numbers ns vs) ≤ length vs → length (cond b (n ∷ stale_numbers ns vs) (stale_numbers ns vs)) ≤ 1 + length vs
+    by : (b : Bool) → length (stale_numbers ns vs) ≤ length vs → length (cond b (n ∷ stale_numbers ns vs) (stale_numbers ns vs)) ≤ suc (length vs)
     by true h = omega (arith, h)
     by false h = omega (arith, h)
 
@@ -233,10 +243,10 @@ stale-fewer (n ∷ ns) [] p v e f = absurd (cc)
 stale-fewer (n ∷ ns) (w ∷ vs) zero v e f =
     let same : w.stale ≡ false = (let is : w ≡ v = cc in ap (λ x. x.stale) is ∙ f) in
     let few = stale-few ns vs in
-    subst (λ b. length (cond b (n ∷ stale_numbers ns vs) (stale_numbers ns vs)) < 1 + length vs) (sym same) (omega (arith, few))
+    subst (λ b. length (cond b (n ∷ stale_numbers ns vs) (stale_numbers ns vs)) < suc (length vs)) (sym same) (omega (arith, few))
 stale-fewer (n ∷ ns) (w ∷ vs) (suc p) v e f = by w.stale (stale-fewer ns vs p v e f)
   where
-    by : (b : Bool) → length (stale_numbers ns vs) < length vs → length (cond b (n ∷ stale_numbers ns vs) (stale_numbers ns vs)) < 1 + length vs
+    by : (b : Bool) → length (stale_numbers ns vs) < length vs → length (cond b (n ∷ stale_numbers ns vs) (stale_numbers ns vs)) < suc (length vs)
     by true h = omega (arith, h)
     by false h = omega (arith, h)
 
@@ -366,7 +376,7 @@ as-many-removed name made (m ∷ ms) (x ∷ kept) r e same =
     by false e rest =
         let lower = above-named m ms (shown kept) name made r.0 e in
         ap (λ c. length (cond c ms (m ∷ without_number ms made))) (ne_eqb m made (λ k. omega (arith, lower, k)))
-        ∙ ap (λ n. 1 + n) (rest e)
+        ∙ ap suc (rest e)
 
 -- all that are left pass what all did
 pub all-without : (P : ℕ → Type 0) (xs : List ℕ) (n : ℕ) → AllByRecursion P xs → AllByRecursion P (without_number xs n)
@@ -383,7 +393,7 @@ removed-few name [] = omega arith
 removed-few name (x ∷ kept) = by (is_named name x.0) (removed-few name kept)
   where
     by : (b : Bool) → length (remove_entry (is_named name) kept) ≤ length kept
-        → length (cond b kept (x ∷ remove_entry (is_named name) kept)) ≤ 1 + length kept
+        → length (cond b kept (x ∷ remove_entry (is_named name) kept)) ≤ suc (length kept)
     by true h = omega arith
     by false h = omega (arith, h)
 
@@ -459,6 +469,7 @@ told-found changes (m ∷ ms) (x ∷ ws) n p r e = by (nat_eq m n) refl e (λ q.
         ∙ ap (λ (rest : Watches). (x.0, told changes x.1) ∷ rest) (sym (untold-above changes n ms ws (subst (λ k. AllByRecursion (λ y. k < y) ms) (eqb-true m n f) r.0)))
     by false f e rest = further (place_in ms n) p refl e rest
 
+-- a number that has no place is that of no watch, so none is told
 pub told-missed : (changes : Deltas) (order : List ℕ) (ws : Watches) (n : ℕ) → place_in order n ≡ None → ws ≡ told_numbered changes n order ws
 told-missed changes [] ws n e = refl
 told-missed changes (m ∷ ms) [] n e = refl
@@ -494,3 +505,27 @@ all-first_told changes zero [] h = refl
 all-first_told changes zero (e ∷ ws) h = absurd (omega (arith, h))
 all-first_told changes (suc n) [] h = refl
 all-first_told changes (suc n) (e ∷ ws) h = ap (λ (rest : Watches). (e.0, told changes e.1) ∷ rest) (all-first_told changes n ws (omega (arith, h)))
+
+-- ---- names that aren't in use
+
+-- a name without a number is none's
+pub named-none : (order : List ℕ) (ws : Watches) (name : Bytes) → length order ≡ length ws → number_in order ws name ≡ None → watch_of ws name ≡ None
+named-none [] [] name same e = refl
+named-none [] (w ∷ ws) name same e = absurd (omega (arith, same))
+named-none (n ∷ ns) [] name same e = refl
+named-none (n ∷ ns) (w ∷ ws) name same e = by (bytes_eq name w.0) e (named-none ns ws name (omega (arith, same)))
+  where
+    by : (b : Bool) → cond b (Some n) (number_in ns ws name) ≡ None → (number_in ns ws name ≡ None → watch_of ws name ≡ None)
+        → cond b (Some w.1) (watch_of ws name) ≡ None
+    by true e rest = absurd (cc)
+    by false e rest = rest e
+
+-- and nothing is taken out
+pub without-none : (ws : Watches) (name : Bytes) → watch_of ws name ≡ None → without_watch ws name ≡ ws
+without-none [] name e = refl
+without-none (w ∷ ws) name e = by (bytes_eq name w.0) e (without-none ws name)
+  where
+    by : (b : Bool) → cond b (Some w.1) (watch_of ws name) ≡ None → (watch_of ws name ≡ None → without_watch ws name ≡ ws)
+        → cond b ws (w ∷ without_watch ws name) ≡ w ∷ ws
+    by true e rest = absurd (cc)
+    by false e rest = ap (λ (later : Watches). w ∷ later) (rest e)

@@ -63,5 +63,6 @@ counter_seen key = record { address = record { kind = kind.Counter; key = key };
 touched-example : is_touched (changes (adding 1 (codes "x") ∷ adding 2 (codes "y") ∷ [])) 0 2 (counter_seen (codes "x") ∷ []) ≡ true
 touched-example = refl
 
+-- by the commit after it nobody is touched who observed it at 1
 untouched-example : is_touched (changes (adding 1 (codes "x") ∷ adding 2 (codes "y") ∷ [])) 1 2 (counter_seen (codes "x") ∷ []) ≡ false
 untouched-example = refl

@@ -7,8 +7,8 @@ ghost use Rattle.rerun_driver.specs.Watches as spec;
 ghost use Rattle.rerun_driver.specs.Watches.{watch_of, is_observed, next_rerun};
 ghost use Rattle.rerun_driver.specs.code.Rolls.{seen_by};
 
-use crate::placing::{put_all, reserve_all, sweep_all, take_all};
 use crate::places::Places;
+use crate::placing::{make_room, put_watch, sweep_all, take_all};
 use crate::rerun::{Rerun, run_watch};
 use crate::roll::Roll;
 use crate::telling::tell_placed;
@@ -48,25 +48,11 @@ impl Model for Driver {
     ghost invariant = { λ d. IsPlaced d.is_placed d.places d.roll };
 }
 
-/// Puts all watches at the addresses that they observed, and answers whether there was memory for all.
-fn place_all(roll: &Roll, places: &mut Places) -> Result<bool, AllocError> {
-    for number in roll.numbers() {
-        let observations = roll.observations(*number);
-        reserve_all(places, observations)?;
-        if !put_all(places, observations, *number) {
-            return Ok(false);
-        }
-    }
-    Ok(true)
-}
-
 /// Whether one of the watches of some numbers observed something at an address.
 fn any_observes(roll: &Roll, numbers: &[u64], address: &Address) -> bool
     ensures { result ≡ list_any (λ n. spec.is_observed_by address.now (seen_by roll.now n)) numbers.now }
 {
-    numbers
-        .iter()
-        .any(|number| is_observed_by(address, roll.observations(*number)))
+    numbers.iter().any(|number| is_observed_by(address, roll.observations(*number)))
 }
 
 impl Driver {
@@ -93,10 +79,8 @@ impl Driver {
     pub fn reserve(&mut self, run: &Run) -> Result<(), AllocError>
         ensures { self.new ≡ self.old }
     {
-        if !self.is_placed {
-            self.is_placed = place_all(&self.roll, &mut self.places)?;
-        }
-        reserve_all(&mut self.places, run.observations.as_slice())
+        let observations = run.observations.as_slice();
+        make_room(&self.roll, &mut self.places, &mut self.is_placed, observations)
     }
 
     /// A new watch, whose first run was reported at a number. For want of memory it is dropped.
@@ -111,10 +95,10 @@ impl Driver {
         ensures ok { OnOk result (self.new ≡ spec.with_watch self.old name (spec.reported body number run)) }
         ensures err { OnErr result (self.new ≡ self.old) }
     {
-        self.reserve(&run)?;
+        let observations = run.observations.as_slice();
+        make_room(&self.roll, &mut self.places, &mut self.is_placed, observations)?;
         let made = self.roll.add(name, Watch::new(body, number, run))?;
-        let is_put = put_all(&mut self.places, self.roll.observations(made), made);
-        self.is_placed = self.is_placed && is_put;
+        put_watch(&self.roll, &mut self.places, &mut self.is_placed, made);
         Ok(())
     }
 
@@ -161,8 +145,7 @@ impl Driver {
             return;
         };
         take_all(&mut self.places, before.as_slice(), made);
-        let is_put = put_all(&mut self.places, self.roll.observations(made), made);
-        self.is_placed = self.is_placed && is_put;
+        put_watch(&self.roll, &mut self.places, &mut self.is_placed, made);
         sweep_all(&mut self.places, before.as_slice());
     }
 

@@ -1,6 +1,7 @@
 //! Numbers in rising order.
 
 ghost use Rattle.std.specs.Prelude.{◌≡◌, ◌+◌, ◌≤◌, ◌<◌, [], length, slice_get, nat_lt, OnOk};
+ghost use Rattle.std.specs.Bool.{OnTrue};
 ghost use Rattle.rerun_driver.specs.code.Numbers.{IsRising, place_in, with_number, without_number};
 ghost use Rattle.std.specs.Vec.{vec_capacity};
 
@@ -42,8 +43,11 @@ fn put(items: &mut Vec<u64>, number: u64)
     ensures put { items.new.items ≡ with_number items.old.items number }
     ensures room { vec_capacity items.new ≡ vec_capacity items.old }
 {
-    if let Err(place) = items.binary_search(&number) {
-        let _put = items.insert(place, number);
+    match items.as_slice().binary_search(&number) {
+        Ok(_) => {}
+        Err(place) => {
+            let _put = items.insert(place, number);
+        }
     }
 }
 
@@ -53,8 +57,11 @@ fn take_out(items: &mut Vec<u64>, number: u64)
     ensures gone { items.new.items ≡ without_number items.old.items number }
     ensures room { vec_capacity items.new ≡ vec_capacity items.old }
 {
-    if let Ok(place) = items.binary_search(&number) {
-        items.remove(place);
+    match items.as_slice().binary_search(&number) {
+        Ok(place) => {
+            items.remove(place);
+        }
+        Err(_) => {}
     }
 }
 
@@ -90,7 +97,14 @@ impl Numbers {
         place_of(self.items.as_slice(), number)
     }
 
-    /// Whether one more is put without memory.
+    /// Whether a number is there: it is put without memory then.
+    pub fn has(&self, number: u64) -> bool
+        ensures { OnTrue result (with_number self.now.0 number ≡ self.now.0) }
+    {
+        place_of(self.items.as_slice(), number).is_some()
+    }
+
+    /// Whether there is memory for one more.
     pub fn has_room(&self) -> bool
         ensures { result ≡ nat_lt (length self.now.0) self.now.1 }
     {

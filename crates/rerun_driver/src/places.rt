@@ -1,6 +1,7 @@
 //! Which watches stand at an address.
 
-ghost use Rattle.std.specs.Prelude.{◌≡◌, [], if◌then◌else◌, OnTrue};
+ghost use Rattle.std.specs.Bool.{OnTrue};
+ghost use Rattle.std.specs.Prelude.{◌≡◌, [], if◌then◌else◌};
 ghost use Rattle.std.specs.BTreeMap.{is_at};
 ghost use Rattle.rdt_types.specs.declared.address.Address.{Address};
 ghost use Rattle.rdt_types.specs.Addresses.{address_cmp};
@@ -24,7 +25,7 @@ pub(crate) struct Places {
 fn put_in(set: &mut Numbers, number: u64) -> bool
     ensures { OnTrue result (set.new.0 ≡ with_number set.old.0 number) }
 {
-    if is_in(set, number) {
+    if set.has(number) {
         return true;
     }
     if !set.has_room() {
@@ -32,13 +33,6 @@ fn put_in(set: &mut Numbers, number: u64) -> bool
     }
     set.put(number);
     true
-}
-
-/// Whether a number is in a set: it needs no room then.
-fn is_in(set: &Numbers, number: u64) -> bool
-    ensures { OnTrue result (with_number set.now.0 number ≡ set.now.0) }
-{
-    set.place_of(number).is_some()
 }
 
 impl Places {

@@ -1,10 +1,11 @@
 //! The watches of a client by their names and by their numbers.
 
-ghost use Rattle.std.specs.Prelude.{◌≡◌, ◌++◌, ◌∷◌, [], ℕ, false, None, is_some, length, option_map, nat_eq, position, if◌then◌else◌, OnOk, OnErr, IfOk, IfSome};
+ghost use Rattle.std.specs.Prelude.{◌≡◌, ◌++◌, ◌∷◌, [], ℕ, false, None, is_some, length, option_map, nat_eq, position, if◌then◌else◌, OnOk, OnErr, IfOk, IfSome, IfNone};
 ghost use Rattle.std.specs.List.{list_any};
 ghost use Rattle.std.specs.Map.{values_of};
 ghost use Rattle.rerun_driver.specs.Watches as spec;
 ghost use Rattle.rerun_driver.specs.Watches.{watch_of, first_stale};
+ghost use Rattle.rerun_driver.specs.code.Numbers.{IsRising};
 ghost use Rattle.rerun_driver.specs.code.Rolls.{IsInOrder, number_of, seen_by, stale_numbers, told_at, told_place};
 ghost use Rattle.rerun_driver.specs.code.Shown.{shown};
 
@@ -46,6 +47,7 @@ impl Model for Roll {
 
 /// The place of the first stale watch, by the first number of a stale one.
 fn first_stale_place(order: &Numbers, stale: &Numbers, watches: &[Watch]) -> Option<usize>
+    requires rising { IsRising order.now.0 }
     requires listed { stale.now.0 ≡ stale_numbers order.now.0 watches.now }
     requires as_many { length order.now.0 ≡ length watches.now }
     ensures { result ≡ position (λ watch. watch.stale) watches.now }
@@ -60,9 +62,7 @@ fn first_stale_place(order: &Numbers, stale: &Numbers, watches: &[Watch]) -> Opt
 fn any_observes(watches: &[Watch], address: &Address) -> bool
     ensures { result ≡ list_any (λ watch. spec.is_observed_by address.now watch.observations) watches.now }
 {
-    watches
-        .iter()
-        .any(|watch| is_observed_by(address, watch.observations.as_slice()))
+    watches.iter().any(|watch| is_observed_by(address, watch.observations.as_slice()))
 }
 
 impl Roll {
@@ -125,14 +125,14 @@ impl Roll {
         ensures err { OnErr result (self.new ≡ self.old) }
     {
         let made = self.made;
-        let Some(next) = made.checked_add(1) else {
+        if made == u64::MAX {
             return Err(AllocError);
-        };
+        }
         self.order.reserve(1)?;
         self.stale.reserve(self.watches.len() + 1)?;
         self.watches.insert(name.into_vec(), watch)?;
         self.order.put(made);
-        self.made = next;
+        self.made = made + 1;
         Ok(made)
     }
 
@@ -140,11 +140,16 @@ impl Roll {
     pub fn remove(&mut self, name: &Text) -> Option<(u64, Watch)>
         ensures answer { is_some result ≡ is_some (watch_of self.old.1 name.now) }
         ensures gone { self.new.1 ≡ spec.without_watch self.old.1 name.now }
+        ensures none { IfNone result (self.new ≡ self.old) }
         ensures seen { IfSome result (λ r. (n : ℕ) → seen_by self.new n ≡ (if nat_eq r.0 n then [] else seen_by self.old n)) }
         ensures order { IsInOrder self.new }
     {
-        let made = self.number_of(name)?;
-        let watch = self.watches.shift_remove(name.as_slice())?;
+        let Some(made) = self.number_of(name) else {
+            return None;
+        };
+        let Some(watch) = self.watches.shift_remove(name.as_slice()) else {
+            return None;
+        };
         self.order.take_out(made);
         self.stale.take_out(made);
         Some((made, watch))
@@ -189,8 +194,12 @@ impl Roll {
         ensures seen { IfSome result (λ r. (n : ℕ) → seen_by self.new n ≡ (if nat_eq r.0 n then run.observations else seen_by self.old n)) }
         ensures order { IsInOrder self.new }
     {
-        let made = self.number_of(name)?;
-        let watch = self.watches.get_mut(name.as_slice())?;
+        let Some(made) = self.number_of(name) else {
+            return None;
+        };
+        let Some(watch) = self.watches.get_mut(name.as_slice()) else {
+            return None;
+        };
         let before = watch.settle(number, run);
         self.stale.take_out(made);
         Some((made, before))
@@ -201,9 +210,13 @@ impl Roll {
         ensures { option_map (λ entry. (entry.0.now, entry.1.now)) result ≡ first_stale self.now.1 }
     {
         let watches = self.watches.values();
-        let place = first_stale_place(&self.order, &self.stale, watches.as_slice())?;
-        let (name, watch) = self.watches.get_index(place)?;
-        Some((name.as_slice(), watch))
+        let Some(place) = first_stale_place(&self.order, &self.stale, watches.as_slice()) else {
+            return None;
+        };
+        match self.watches.get_index(place) {
+            Some((name, watch)) => Some((name.as_slice(), watch)),
+            None => None,
+        }
     }
 
     /// Whether the last run of a watch observed something at an address.

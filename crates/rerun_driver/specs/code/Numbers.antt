@@ -32,8 +32,10 @@ without_number (m ∷ ms) n = if nat_eq m n then ms else m ∷ without_number ms
 
 -- ---- worked
 
+-- a number goes between those below and those above it
 with_number-example : with_number (2 ∷ 5 ∷ []) 4 ≡ 2 ∷ 4 ∷ 5 ∷ []
 with_number-example = refl
 
+-- and is taken out from there
 without_number-example : without_number (2 ∷ 4 ∷ 5 ∷ []) 4 ≡ 2 ∷ 5 ∷ []
 without_number-example = refl

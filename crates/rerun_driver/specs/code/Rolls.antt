@@ -1,5 +1,5 @@
 -- The watches of a client by their numbers: each is given one at its making, above all before it.
-use Rattle.std.specs.Prelude.{◌≡◌, ℕ, zero, suc, ◌<◌, ◌≤◌, Bool, true, List, [], ◌∷◌, fold, length, Option, Some, None, Vec, if◌then◌else◌, nat_eq}
+use Rattle.std.specs.Prelude.{◌≡◌, ℕ, zero, suc, ◌<◌, ◌≤◌, Bool, true, false, List, [], ◌∷◌, fold, length, Option, Some, None, Vec, if◌then◌else◌, nat_eq}
 use Rattle.std.specs.declared.alloc.Global.{Global}
 use Rattle.std.specs.List.{AllByRecursion}
 use Rattle.std.specs.Map.{values_of}
@@ -41,6 +41,7 @@ number_in [] watches name = None
 number_in (n ∷ ns) [] name = None
 number_in (n ∷ ns) (e ∷ es) name = if bytes_eq name e.0 then Some n else number_in ns es name
 
+-- the same of a whole roll
 abbrev pub number_of : Rolled → Bytes → Option ℕ
 number_of roll name = number_in roll.0 roll.1 name
 
@@ -50,6 +51,7 @@ seen_in [] watches n = []
 seen_in (m ∷ ms) [] n = []
 seen_in (m ∷ ms) (e ∷ es) n = if nat_eq m n then e.1.observations else seen_in ms es n
 
+-- the same of a whole roll
 abbrev pub seen_by : Rolled → ℕ → List Seen
 seen_by roll n = seen_in roll.0 roll.1 n
 
@@ -71,6 +73,7 @@ told_numbered changes n [] watches = watches
 told_numbered changes n (m ∷ ms) [] = []
 told_numbered changes n (m ∷ ms) (e ∷ es) = (e.0, told_if (nat_eq m n) changes e.1) ∷ told_numbered changes n ms es
 
+-- the same of a whole roll, whose numbers stay
 abbrev pub told_at : Deltas → Rolled → ℕ → Rolled
 told_at changes roll n = (roll.0, told_numbered changes n roll.0 roll.1)
 
@@ -87,6 +90,11 @@ told_along places changes deltas roll = fold (λ r delta. told_set changes (numb
 -- each watch stands at all addresses that its last run observed
 abbrev pub Covers : Places → Rolled → Type 0
 Covers places roll = (n : ℕ) (address : Address) → is_observed_by address (seen_by roll n) ≡ true → stands places address n ≡ true
+
+-- and each but one does
+abbrev pub CoversBut : ℕ → Places → Rolled → Type 0
+CoversBut made places roll =
+    (n : ℕ) (address : Address) → nat_eq made n ≡ false → is_observed_by address (seen_by roll n) ≡ true → stands places address n ≡ true
 
 -- There are as many numbers as watches, and they rise.
 pub record IsInOrder (roll : Rolled) : Type 0 where

@@ -1,5 +1,6 @@
 -- Numbers in rising order: where a number is found and put, and what is left without it.
-use Rattle.std.proofs.Common.{◌≡◌, ℕ, zero, suc, ◌<◌, ◌≤◌, ◌⊎◌, ⊎_elim, Bool, true, false, cond, nat_eq, nat_lt, ◌||◌, List, [], ◌∷◌, ◌++◌, length, get_or, insert, remove}
+use Rattle.std.proofs.Common.{◌≡◌, ℕ, zero, suc, ◌<◌, ◌≤◌, ◌⊎◌, ⊎_elim, Bool, true, false}
+use Rattle.std.proofs.Common.{cond, nat_eq, nat_lt, ◌||◌, List, [], ◌∷◌, ◌++◌, length, get_or, insert, remove}
 use Rattle.std.proofs.Common.{Option, Some, None, option_map, is_some, Result, Ok, Err, MatchResult, nat_cmp, refl, sym, ap, ◌∙◌, arith, le_refl, true≢false}
 use Rattle.std.proofs.lemmas.Bool.{eq-eqb, ne_eqb, eqb-true, eqb-false, lt-ltb, le-ltb, ltb-true, ltb-false, cases_lt, cases_order}
 use Rattle.std.proofs.lemmas.List.Sorted.{searched}
@@ -66,6 +67,7 @@ gap-tail x xs n i gap = (λ k lt. gap.0 (suc k) (omega (arith, lt)), λ k le lt.
 abbrev Says : List ℕ → ℕ → Result ℕ ℕ → Type 0
 Says xs n r = MatchResult r (λ i. (i < length xs) × (get_or xs i 0 ≡ n)) (λ i. (i ≤ length xs) × IsGap xs n i)
 
+-- by std, since the numbers of a rising list rise from place to place
 says : (xs : List ℕ) (n : ℕ) (r : Result ℕ ℕ) → IsRising xs → IsBinarySearchResult (λ y. nat_cmp y n) xs r → Says xs n r
 says xs n (Ok i) rising by = searched xs n (Ok i) by (rising-places xs rising)
 says xs n (Err i) rising by = let h = searched xs n (Err i) by (rising-places xs rising) in (h.0, (h.1, h.2))
@@ -105,6 +107,7 @@ with-gap (x ∷ xs) (suc i) n gap =
     ∙ sym (λ j. cond (ne_eqb x n (λ same. omega (arith, under, same)) j) (x ∷ xs)
     (cond (lt-ltb x n under j) (x ∷ with_number xs n) (n ∷ x ∷ xs)))
 
+-- so a number is put where the search says, or is there
 pub put-searched : (xs : List ℕ) (n : ℕ) (r : Result ℕ ℕ) → IsRising xs → IsBinarySearchResult (λ y. nat_cmp y n) xs r
     → MatchResult r (λ i. xs ≡ with_number xs n) (λ i. insert xs i n ≡ with_number xs n)
 put-searched xs n (Ok i) rising by = let h = says xs n (Ok i) rising by in sym (with-hit xs i n rising h.0 h.1)
@@ -144,6 +147,7 @@ all-with m n (x ∷ xs) lt all = by (nat_eq x n) (nat_lt x n) (all-with m n xs l
     by false true rest = (all.0, rest)
     by false false rest = (lt, all)
 
+-- by where it goes: all in front is below it, and all behind is above it
 pub rising-with : (xs : List ℕ) (n : ℕ) → IsRising xs → IsRising (with_number xs n)
 rising-with [] n r = (tt, tt)
 rising-with (x ∷ xs) n r = by (nat_eq x n) (nat_lt x n) refl refl (rising-with xs n r.1)
@@ -159,6 +163,7 @@ rising-with (x ∷ xs) n r = by (nat_eq x n) (nat_lt x n) refl refl (rising-with
 
 -- ---- taken out
 
+-- what holds of all holds of those that are left
 all-without : (m n : ℕ) (xs : List ℕ) → AllByRecursion (λ k. m < k) xs → AllByRecursion (λ k. m < k) (without_number xs n)
 all-without m n [] all = tt
 all-without m n (x ∷ xs) all = by (nat_eq x n) (all-without m n xs all.1)
@@ -167,6 +172,7 @@ all-without m n (x ∷ xs) all = by (nat_eq x n) (all-without m n xs all.1)
     by true rest = all.1
     by false rest = (all.0, rest)
 
+-- those that are left are in order, as they were
 pub rising-without : (xs : List ℕ) (n : ℕ) → IsRising xs → IsRising (without_number xs n)
 rising-without [] n r = tt
 rising-without (x ∷ xs) n r = by (nat_eq x n) (rising-without xs n r.1)
@@ -191,6 +197,7 @@ without-gap (x ∷ xs) n out =
     ap (λ b. cond b xs (x ∷ without_number xs n)) (ne_eqb x n (out 0 (omega arith)))
     ∙ ap (λ rest. x ∷ rest) (without-gap xs n (λ k lt. out (suc k) (omega (arith, lt))))
 
+-- so a number is taken out where the search says, or is nowhere
 pub out-searched : (xs : List ℕ) (n : ℕ) (r : Result ℕ ℕ) → IsRising xs → IsBinarySearchResult (λ y. nat_cmp y n) xs r
     → MatchResult r (λ i. remove xs i ≡ without_number xs n) (λ i. xs ≡ without_number xs n)
 out-searched xs n (Ok i) rising by = let h = says xs n (Ok i) rising by in without-hit xs i n rising h.0 h.1
@@ -198,6 +205,7 @@ out-searched xs n (Err i) rising by = let h = says xs n (Err i) rising by in sym
 
 -- ---- who is among them
 
+-- the new one, and those that were there; by where it goes
 pub among-with : (xs : List ℕ) (n m : ℕ) → is_among (with_number xs n) m ≡ (nat_eq n m || is_among xs m)
 among-with [] n m = refl
 among-with (x ∷ xs) n m = by (nat_eq x n) (nat_lt x n) refl (among-with xs n m)
