@@ -1,6 +1,6 @@
 -- Watches that stand where they observed something: who is told along the addresses of changes, and who observes an address.
 use Rattle.std.proofs.Common.{◌≡◌, ℕ, suc, Bool, true, false, cond, nat_eq, ◌||◌, ◌<◌, ◌+◌, List, [], ◌∷◌, length, fold}
-use Rattle.std.proofs.Common.{Option, Some, None, refl, sym, ap, subst, ◌∙◌, arith, true≢false, ◌⊎◌, inl, inr, ⊎_elim, ◌&&◌, drop, get_or}
+use Rattle.std.proofs.Common.{Some, None, refl, sym, ap, subst, ◌∙◌, arith, true≢false, ◌⊎◌, inl, inr, ⊎_elim, ◌&&◌, drop, get_or}
 use Rattle.std.proofs.lemmas.Bool.{eq-eqb, ne_eqb, eqb-true, cases_eq, or_parts, or_left, or_right, or_cases, and_parts}
 use Rattle.std.specs.List.{list_any, AllByRecursion}
 use Rattle.std.specs.Option.{option_map_or}
@@ -9,7 +9,6 @@ use Rattle.std.specs.Cmp.{eq_by_cmp_equiv}
 use Rattle.plain_data.proofs.Entries.{equal}
 use Rattle.plain_data.proofs.Merging.{drop-item}
 use Rattle.rdt_types.specs.declared.address.Address.{Address}
-use Rattle.rdt_types.specs.declared.delta.Delta.{Delta}
 use Rattle.rdt_types.specs.Addresses.{address_cmp}
 use Rattle.rdt_types.specs.DeltaMaps.{Deltas, delta_at}
 use Rattle.rdt_types.specs.contracts.address.AddressOrd.TheImpl.Laws as addresses
@@ -18,7 +17,7 @@ use Rattle.conflict_table.specs.Clashes.{clash}
 use Rattle.txn_lang.specs.declared.run.Seen.{Seen}
 use Rattle.rerun_driver.specs.declared.watch.Watch.{Watch}
 use Rattle.rerun_driver.specs.declared.places.Places.{Places}
-use Rattle.rerun_driver.specs.Watches.{Watches, clashes, touches, told, all_told, is_observed_by, is_observed}
+use Rattle.rerun_driver.specs.Watches.{Watches, touches, told, all_told, is_observed_by, is_observed}
 use Rattle.rerun_driver.specs.code.Numbers.{IsRising, is_among}
 use Rattle.rerun_driver.specs.code.Places.{numbers_at, stands}
 use Rattle.rerun_driver.specs.code.Rolls.{Rolled, IsInOrder, IsPlaced, seen_in, seen_by, told_if}
@@ -265,7 +264,8 @@ module _ (a : Address) where
 -- ---- a call's parts
 
 -- the same numbers everywhere
-pub placed-same : (b : Bool) (old new : Places) (roll : Rolled) → ((a : Address) → numbers_at new a ≡ numbers_at old a) → IsPlaced b old roll → IsPlaced b new roll
+pub placed-same : (b : Bool) (old new : Places) (roll : Rolled)
+    → ((a : Address) → numbers_at new a ≡ numbers_at old a) → IsPlaced b old roll → IsPlaced b new roll
 placed-same b old new roll same placed = record {
   ordered = placed.ordered;
   covers = λ e n a seen. ap (λ (xs : List ℕ). is_among xs n) (same a) ∙ placed.covers e n a seen;

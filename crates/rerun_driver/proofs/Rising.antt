@@ -1,5 +1,5 @@
 -- Numbers in rising order: where a number is found and put, and what is left without it.
-use Rattle.std.proofs.Common.{◌≡◌, ℕ, zero, suc, ◌<◌, ◌≤◌, ◌⊎◌, ⊎_elim, Bool, true, false}
+use Rattle.std.proofs.Common.{◌≡◌, ℕ, zero, suc, ◌<◌, ◌≤◌, ⊎_elim, Bool, true, false}
 use Rattle.std.proofs.Common.{cond, nat_eq, nat_lt, ◌||◌, List, [], ◌∷◌, ◌++◌, length, get_or, insert, remove}
 use Rattle.std.proofs.Common.{Option, Some, None, option_map, is_some, Result, Ok, Err, MatchResult, nat_cmp, refl, sym, ap, ◌∙◌, arith, le_refl, true≢false}
 use Rattle.std.proofs.lemmas.Bool.{eq-eqb, ne_eqb, eqb-true, eqb-false, lt-ltb, le-ltb, ltb-true, ltb-false, cases_lt, cases_order}
@@ -90,7 +90,8 @@ with-hit (x ∷ xs) zero n r lt e =
     ap (λ b. cond b (x ∷ xs) (cond (nat_lt x n) (x ∷ with_number xs n) (n ∷ x ∷ xs))) (eq-eqb x n e)
 with-hit (x ∷ xs) (suc i) n r lt e =
     let above = all-at x xs i r.0 (omega arith) in
-    (λ j. cond (ne_eqb x n (λ same. omega (arith, above, e, same)) j) (x ∷ xs) (cond (lt-ltb x n (omega (arith, above, e)) j) (x ∷ with_number xs n) (n ∷ x ∷ xs)))
+    (λ j. cond (ne_eqb x n (λ same. omega (arith, above, e, same)) j) (x ∷ xs)
+    (cond (lt-ltb x n (omega (arith, above, e)) j) (x ∷ with_number xs n) (n ∷ x ∷ xs)))
     ∙ ap (λ rest. x ∷ rest) (with-hit xs i n r.1 (omega arith) e)
 
 -- another goes to its place
@@ -153,7 +154,8 @@ rising-with [] n r = (tt, tt)
 rising-with (x ∷ xs) n r = by (nat_eq x n) (nat_lt x n) refl refl (rising-with xs n r.1)
   where
     above : nat_lt x n ≡ false → (x ≡ n → ⊥) → n < x
-    above f apart = ⊎_elim (λ same. absurd (apart same)) (λ h. ⊎_elim (λ l. let m = ltb-false x n f in absurd (omega (arith, l, m))) (λ l. l) h) (cases_order x n)
+    above f apart = ⊎_elim (λ same. absurd (apart same))
+        (λ h. ⊎_elim (λ l. let m = ltb-false x n f in absurd (omega (arith, l, m))) (λ l. l) h) (cases_order x n)
 
     by : (b c : Bool) → nat_eq x n ≡ b → nat_lt x n ≡ c → IsRising (with_number xs n)
         → IsRising (cond b (x ∷ xs) (cond c (x ∷ with_number xs n) (n ∷ x ∷ xs)))

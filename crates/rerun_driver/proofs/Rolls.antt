@@ -4,16 +4,15 @@ use Rattle.std.proofs.Common.{Option, Some, None, option_map, option_and_then, V
 use Rattle.std.proofs.lemmas.Bool.{eq-eqb, ne_eqb, eqb-true, lt-ltb, le-ltb, cases_lt}
 use Rattle.std.proofs.Common.{one-add, ⊎_elim}
 use Rattle.std.specs.List.{AllByRecursion, position_or_len}
-use Rattle.std.specs.Map.{keys_of, values_of, lookup, set_value, remove_entry}
+use Rattle.std.specs.Map.{keys_of, values_of, set_value, remove_entry}
 use Rattle.std.specs.Option.{option_map_or}
 use Rattle.std.specs.Str.{bytes_eq}
 use Rattle.indexmap.specs.IndexMap.{set_value_at}
 use Rattle.plain_data.specs.Texts.{Bytes}
 use Rattle.rdt_types.specs.DeltaMaps.{Deltas}
-use Rattle.txn_lang.specs.declared.run.Run.{Run}
 use Rattle.txn_lang.specs.declared.run.Seen.{Seen}
 use Rattle.rerun_driver.specs.declared.watch.Watch.{Watch}
-use Rattle.rerun_driver.specs.Watches.{Watches, told, all_told, watch_of, settled, with_report, without_watch}
+use Rattle.rerun_driver.specs.Watches.{Watches, told, all_told, watch_of, without_watch}
 use Rattle.rerun_driver.specs.code.Numbers.{IsRising, place_in, with_number, without_number}
 use Rattle.rerun_driver.specs.code.Rolls.{stale_numbers, number_in, seen_in, told_if, told_place, told_numbered}
 use Rattle.rerun_driver.specs.code.Shown.{shown}
@@ -88,7 +87,8 @@ number-at name [] [] same = refl
 number-at name [] (e ∷ kept) same = absurd (omega (arith, same))
 number-at name (n ∷ ns) [] same = absurd (omega (arith, same))
 number-at name (n ∷ ns) (e ∷ kept) same =
-    ap (option_and_then (slice_get (n ∷ ns))) (position-cons (is_named name) e.0 (keys_of kept)) ∙ by (is_named name e.0) (number-at name ns kept (omega (arith, same)))
+    ap (option_and_then (slice_get (n ∷ ns))) (position-cons (is_named name) e.0 (keys_of kept))
+    ∙ by (is_named name e.0) (number-at name ns kept (omega (arith, same)))
   where
     by : (b : Bool) → option_and_then (slice_get ns) (position (is_named name) (keys_of kept)) ≡ number_in ns (shown kept) name
         → option_and_then (slice_get (n ∷ ns)) (cond b (Some 0) (option_map suc (position (is_named name) (keys_of kept))))
@@ -466,7 +466,8 @@ told-found changes (m ∷ ms) (x ∷ ws) n p r e = by (nat_eq m n) refl e (λ q.
     by true f e rest =
         let first : 0 ≡ p = cc in
         ap (λ i. told_place changes i (x ∷ ws)) (sym first)
-        ∙ ap (λ (rest : Watches). (x.0, told changes x.1) ∷ rest) (sym (untold-above changes n ms ws (subst (λ k. AllByRecursion (λ y. k < y) ms) (eqb-true m n f) r.0)))
+        ∙ ap (λ (rest : Watches). (x.0, told changes x.1) ∷ rest)
+        (sym (untold-above changes n ms ws (subst (λ k. AllByRecursion (λ y. k < y) ms) (eqb-true m n f) r.0)))
     by false f e rest = further (place_in ms n) p refl e rest
 
 -- a number that has no place is that of no watch, so none is told

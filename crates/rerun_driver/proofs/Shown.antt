@@ -1,6 +1,6 @@
 -- What is kept of watches by their names, and how contracts see it.
-use Rattle.std.proofs.Common.{◌≡◌, ℕ, zero, suc, Bool, true, false, not, cond, ◌+◌, ◌||◌, List, [], ◌∷◌, ◌++◌}
-use Rattle.std.proofs.Common.{length, map, slice_get, nat_lt, position, Option, Some, None, option_map, Vec, Global, refl, ap, sym, ◌∙◌, arith}
+use Rattle.std.proofs.Common.{◌≡◌, ℕ, suc, Bool, true, false, not, cond, ◌+◌, ◌||◌, List, [], ◌∷◌, ◌++◌}
+use Rattle.std.proofs.Common.{length, slice_get, nat_lt, position, Option, Some, None, option_map, Vec, Global, refl, ap, sym, ◌∙◌, arith}
 use Rattle.std.proofs.lemmas.List.Folds.{find_at}
 use Rattle.std.proofs.lemmas.Option.{slice_get_past}
 use Rattle.std.proofs.lemmas.Bool.{ltb-false}
@@ -8,16 +8,11 @@ use Rattle.std.specs.List.{list_any, find, position_or_len}
 use Rattle.std.specs.Option.{option_and_then, option_map_or}
 use Rattle.std.specs.Map.{lookup, remove_entry, set_value, values_of}
 use Rattle.std.specs.Str.{bytes_eq}
-use Rattle.indexmap.specs.IndexMap.{set_value_at}
 use Rattle.plain_data.specs.Texts.{Bytes}
 use Rattle.rdt_types.specs.declared.address.Address.{Address}
-use Rattle.rdt_types.specs.DeltaMaps.{Deltas}
 use Rattle.rerun_driver.specs.declared.watch.Watch.{Watch}
 use Rattle.txn_lang.specs.declared.run.Run.{Run}
-use Rattle.txn_lang.specs.States.{PartialState}
-use Rattle.txn_lang.specs.Execution.{exec}
-use Rattle.rerun_driver.specs.declared.rerun.Rerun.TheVariants as rerun
-use Rattle.rerun_driver.specs.Watches.{rerun_of, next_rerun, told, all_told, first_stale, is_observed, is_observed_by, settled, with_report}
+use Rattle.rerun_driver.specs.Watches.{first_stale, is_observed, is_observed_by, settled, with_report}
 use Rattle.rerun_driver.specs.code.Shown.{shown}
 
 -- the watches by their names, as the code keeps them
@@ -111,7 +106,8 @@ found_at kept found e =
         → slice_get kept (position_or_len is_stale (values_of kept)) ≡ option_and_then (slice_get kept) found
     by true is e = ap (option_and_then (slice_get kept)) e
     by false is e =
-        slice_get_past kept (position_or_len is_stale (values_of kept)) (let same = length-values kept in let past = ltb-false _ _ is in omega (arith, same, past))
+        slice_get_past kept (position_or_len is_stale (values_of kept))
+        (let same = length-values kept in let past = ltb-false _ _ is in omega (arith, same, past))
         ∙ ap (option_and_then (slice_get kept)) e
 
 -- none is stale

@@ -1,6 +1,6 @@
 -- A watch is stale exactly where commits since its report touch what its run observed.
-use Rattle.std.proofs.Common.{◌≡◌, ℕ, ◌≤◌, ◌<◌, ◌⊎◌, inl, inr, nat_lt, nat_le, Bool, true, false, cond, ◌&&◌}
-use Rattle.std.proofs.Common.{◌||◌, List, [], ◌∷◌, map, filter, fold, Option, Some, None, refl, sym, ap, ◌∙◌, arith}
+use Rattle.std.proofs.Common.{◌≡◌, ℕ, ◌≤◌, nat_lt, nat_le, Bool, true, false, cond, ◌&&◌}
+use Rattle.std.proofs.Common.{◌||◌, List, [], ◌∷◌, map, filter, Some, None, refl, sym, ap, ◌∙◌, arith}
 use Rattle.std.proofs.Math.Bool.{or_assoc}
 use Rattle.std.proofs.Math.Nat.{le_refl, le_trans}
 use Rattle.std.proofs.lemmas.Bool.Decides.{leb_tells}
@@ -27,7 +27,7 @@ use Rattle.journal_core.specs.Changes.{between, up_to}
 use Rattle.txn_lang.specs.declared.run.Seen.{Seen}
 use Rattle.rerun_driver.specs.declared.watch.Watch.{Watch}
 use Rattle.rerun_driver.specs.Watches.{clashes, touches, told}
-use Rattle.rerun_driver.specs.Touched.{meets, is_touched, Feeds, Follow, reached, told_each, StaleIsTouched}
+use Rattle.rerun_driver.specs.Touched.{meets, is_touched, Follow, reached, told_each, StaleIsTouched}
 
 -- ---- what is pending clashes where one of its deltas does
 
@@ -189,7 +189,8 @@ untouched changes n (seen ∷ observations) =
 -- ---- feeds, one after another
 
 -- feeds that follow one another go forward, each from where the one before it went
-reached-forward : (changes : List Change) (observations : List Seen) (from : ℕ) (feeds : List Fed) → Follow changes observations from feeds → from ≤ reached from feeds
+reached-forward : (changes : List Change) (observations : List Seen) (from : ℕ) (feeds : List Fed) → Follow changes observations from feeds
+    → from ≤ reached from feeds
 reached-forward changes observations from [] follow = le_refl from
 reached-forward changes observations from (feed ∷ feeds) follow =
     le_trans follow.0.forward (reached-forward changes observations feed.to feeds follow.1)

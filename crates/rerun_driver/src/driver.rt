@@ -80,7 +80,12 @@ impl Driver {
         ensures { self.new ≡ self.old }
     {
         let observations = run.observations.as_slice();
-        make_room(&self.roll, &mut self.places, &mut self.is_placed, observations)
+        make_room(
+            &self.roll,
+            &mut self.places,
+            &mut self.is_placed,
+            observations,
+        )
     }
 
     /// A new watch, whose first run was reported at a number. For want of memory it is dropped.
@@ -96,7 +101,12 @@ impl Driver {
         ensures err { OnErr result (self.new ≡ self.old) }
     {
         let observations = run.observations.as_slice();
-        make_room(&self.roll, &mut self.places, &mut self.is_placed, observations)?;
+        make_room(
+            &self.roll,
+            &mut self.places,
+            &mut self.is_placed,
+            observations,
+        )?;
         let made = self.roll.add(name, Watch::new(body, number, run))?;
         put_watch(&self.roll, &mut self.places, &mut self.is_placed, made);
         Ok(())

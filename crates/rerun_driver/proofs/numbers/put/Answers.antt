@@ -20,6 +20,7 @@ returns-in-Err-clause-put c =
     let xs = c.args.items.now.items in
     let n = c.args.number in
     c.insert-put.ensures.items
-    ∙ ap (λ b. cond b (insert xs c.in-Err.place n) xs) (c.insert-put.ensures.succeeds (omega (arith, c.requires.room, c.as_slice.ensures.len, ap length c.as_slice.ensures.value)))
+    ∙ ap (λ b. cond b (insert xs c.in-Err.place n) xs)
+    (c.insert-put.ensures.succeeds (omega (arith, c.requires.room, c.as_slice.ensures.len, ap length c.as_slice.ensures.value)))
     ∙ subst (Says xs n) c.in-Err.is (put-searched xs n c.binary_search.result c.requires.rising
     (subst (λ (l : List ℕ). IsBinarySearchResult (λ y. nat_cmp y n) l c.binary_search.result) c.as_slice.ensures.value c.binary_search.ensures.position))

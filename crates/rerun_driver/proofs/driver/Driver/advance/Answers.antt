@@ -1,8 +1,7 @@
-use Rattle.std.proofs.Common.{◌≡◌, ap, sym, subst, ◌∙◌}
+use Rattle.std.proofs.Common.{ap, sym, subst, ◌∙◌}
 use Rattle.rdt_types.specs.DeltaMaps.{Deltas}
-use Rattle.rerun_driver.specs.Watches.{Watches, all_told, is_observed_by}
-use Rattle.rerun_driver.specs.code.Rolls.{Rolled, IsPlaced, seen_by}
-use Rattle.rerun_driver.specs.code.Places.{stands}
+use Rattle.rerun_driver.specs.Watches.{all_told}
+use Rattle.rerun_driver.specs.code.Rolls.{Rolled, IsPlaced}
 use Rattle.rerun_driver.proofs.Placed.{along-all, placed-told}
 use Rattle.rerun_driver.proofs.driver.Driver.advance.Goals as goal
 

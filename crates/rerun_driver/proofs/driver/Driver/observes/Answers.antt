@@ -1,4 +1,4 @@
-use Rattle.std.proofs.Common.{ℕ, List, ap, sym, ◌∙◌}
+use Rattle.std.proofs.Common.{ℕ, List, ap, ◌∙◌}
 use Rattle.std.specs.List.{list_any}
 use Rattle.rerun_driver.specs.Watches.{Watches, is_observed, is_observed_by}
 use Rattle.rerun_driver.specs.code.Rolls.{seen_by}

@@ -1,4 +1,4 @@
-use Rattle.std.proofs.Common.{◌≡◌, Option, ap, sym, subst, ◌∙◌, IfOk}
+use Rattle.std.proofs.Common.{◌≡◌, Option, ap, subst, ◌∙◌, IfOk}
 use Rattle.std.specs.Option.{option_map_or}
 use Rattle.plain_data.specs.Texts.{Bytes}
 use Rattle.txn_lang.specs.Execution.{exec}

@@ -1,4 +1,4 @@
-use Rattle.std.proofs.Common.{◌≡◌, ℕ, [], cond, nat_eq, refl, sym, ap, subst, ◌∙◌}
+use Rattle.std.proofs.Common.{[], cond, refl, sym, ap, subst, ◌∙◌}
 use Rattle.std.proofs.lemmas.Bool.{eq-eqb}
 use Rattle.rerun_driver.specs.code.Rolls.{Rolled, IsPlaced, seen_by}
 use Rattle.rerun_driver.proofs.Placed.{placed-same, all-stand, others-taken, others-stand}

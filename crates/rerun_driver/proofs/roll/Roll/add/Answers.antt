@@ -1,8 +1,7 @@
 use Rattle.std.proofs.Common.{◌≡◌, ℕ, ◌+◌, None, ◌++◌, ◌∷◌, [], List, cond, nat_eq, ap, sym, subst, ◌∙◌, arith}
 use Rattle.std.specs.Map.{lookup}
 use Rattle.indexmap.proofs.CallerLemmas.{insert_entry-new}
-use Rattle.txn_lang.specs.declared.run.Seen.{Seen}
-use Rattle.rerun_driver.specs.Watches.{Watches, watch_of}
+use Rattle.rerun_driver.specs.Watches.{watch_of}
 use Rattle.rerun_driver.specs.code.Numbers.{Roomy, with_number}
 use Rattle.rerun_driver.specs.code.Rolls.{Rolled, IsRoll, seen_in, seen_by}
 use Rattle.rerun_driver.specs.code.Shown.{shown}
@@ -20,9 +19,11 @@ invariant_of-self-2 c =
     let none : lookup (is_named key.items) kept ≡ None =
     sym (lookup-shown key.items kept) ∙ (λ i. watch_of (c.self.view_is i).1 (c.into_vec.ensures i)) ∙ c.requires.free in
     subst (λ (order : Roomy). IsRoll order c.reserve-2.new.self (inside.made + 1) c.insert.new.self.entries) (sym c.put.ensures)
-    (subst (λ (numbers : List ℕ). IsRoll (with_number numbers inside.made, c.reserve.new.self.1) c.reserve-2.new.self (inside.made + 1) c.insert.new.self.entries)
+    (subst (λ (numbers : List ℕ).
+    IsRoll (with_number numbers inside.made, c.reserve.new.self.1) c.reserve-2.new.self (inside.made + 1) c.insert.new.self.entries)
     (sym c.in_ok-reserve.ensures.numbers)
-    (subst (λ (numbers : List ℕ). IsRoll (with_number inside.order.0 inside.made, c.reserve.new.self.1) (numbers, c.reserve-2.new.self.1) (inside.made + 1) c.insert.new.self.entries)
+    (subst (λ (numbers : List ℕ).
+    IsRoll (with_number inside.order.0 inside.made, c.reserve.new.self.1) (numbers, c.reserve-2.new.self.1) (inside.made + 1) c.insert.new.self.entries)
     (sym c.in_ok-reserve-2.ensures.numbers)
     (subst (λ (es : Kept). IsRoll (with_number inside.order.0 inside.made, c.reserve.new.self.1) (inside.stale.0, c.reserve-2.new.self.1) (inside.made + 1) es)
     (sym (c.in_ok-insert.ensures.entries ∙ insert_entry-new _ inside.watches key c.args.watch none))
@@ -49,7 +50,8 @@ returns-clause-seen c n =
     sym (lookup-shown key.items kept) ∙ (λ i. watch_of (c.self.view_is i).1 (c.into_vec.ensures i)) ∙ c.requires.free in
     let order = ap (λ (o : Roomy). o.0) c.put.ensures ∙ ap (λ (numbers : List ℕ). with_number numbers made) c.in_ok-reserve.ensures.numbers
     ∙ with-last inside.order.0 made c.self.invariant.below in
-    let ws = ap shown (c.in_ok-insert.ensures.entries ∙ insert_entry-new _ inside.watches key c.args.watch none) ∙ shown-append kept ((key, c.args.watch) ∷ []) in
+    let ws = ap shown (c.in_ok-insert.ensures.entries ∙ insert_entry-new _ inside.watches key c.args.watch none)
+    ∙ shown-append kept ((key, c.args.watch) ∷ []) in
     (λ i. seen_in (order i) (ws i) n)
     ∙ seen-added key.items c.args.watch made n inside.order.0 (shown kept)
     (in-order inside.order inside.stale made kept c.self.invariant).as_many c.self.invariant.below

@@ -1,4 +1,4 @@
-use Rattle.std.proofs.Common.{◌≡◌, Some, None, Option, option_map, option_and_then, position, slice_get, ap, sym, ◌∙◌}
+use Rattle.std.proofs.Common.{◌≡◌, Some, None, option_map, position, ap, sym, ◌∙◌}
 use Rattle.std.specs.Map.{values_of}
 use Rattle.plain_data.specs.Texts.{Bytes}
 use Rattle.rerun_driver.specs.declared.watch.Watch.{Watch}

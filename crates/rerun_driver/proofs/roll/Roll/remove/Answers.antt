@@ -1,11 +1,9 @@
-use Rattle.std.proofs.Common.{◌≡◌, ℕ, Some, None, [], cond, nat_eq, is_some, ap, sym, subst, ◌∙◌}
-use Rattle.std.specs.Map.{remove_entry}
-use Rattle.std.specs.Str.{bytes_eq}
-use Rattle.rerun_driver.specs.Watches.{Watches, watch_of, without_watch}
+use Rattle.std.proofs.Common.{◌≡◌, Some, [], cond, nat_eq, is_some, ap, sym, subst, ◌∙◌}
+use Rattle.rerun_driver.specs.Watches.{watch_of, without_watch}
 use Rattle.rerun_driver.specs.code.Numbers.{Roomy, without_number}
 use Rattle.rerun_driver.specs.code.Rolls.{Rolled, IsRoll, IsInOrder, number_of, number_in, seen_in, seen_by}
 use Rattle.rerun_driver.specs.code.Shown.{shown}
-use Rattle.rerun_driver.proofs.Shown.{Kept, is_named, lookup-shown, shown-remove_entry}
+use Rattle.rerun_driver.proofs.Shown.{Kept, lookup-shown, shown-remove_entry}
 use Rattle.rerun_driver.proofs.Rolls.{named-none, without-none, seen-removed}
 use Rattle.rerun_driver.proofs.Keeping.{in-order, keeps-removed}
 use Rattle.rerun_driver.proofs.roll.Roll.remove.Goals as goal

@@ -1,10 +1,7 @@
-use Rattle.std.proofs.Common.{◌≡◌, ℕ, Some, None, false, cond, nat_eq, is_some, ap, sym, subst, ◌∙◌}
+use Rattle.std.proofs.Common.{◌≡◌, Some, None, cond, nat_eq, is_some, ap, sym, subst, ◌∙◌}
 use Rattle.std.specs.Map.{set_value}
-use Rattle.std.specs.Option.{option_map_or}
-use Rattle.std.specs.Str.{bytes_eq}
-use Rattle.txn_lang.specs.declared.run.Seen.{Seen}
 use Rattle.rerun_driver.specs.declared.watch.Watch.{Watch}
-use Rattle.rerun_driver.specs.Watches.{Watches, watch_of, settled, with_report}
+use Rattle.rerun_driver.specs.Watches.{Watches, watch_of, with_report}
 use Rattle.rerun_driver.specs.code.Numbers.{Roomy, without_number}
 use Rattle.rerun_driver.specs.code.Rolls.{Rolled, IsRoll, IsInOrder, number_of, number_in, seen_in, seen_by}
 use Rattle.rerun_driver.specs.code.Shown.{shown}

@@ -1,4 +1,4 @@
-use Rattle.std.proofs.Common.{◌≡◌, ◌≤◌, length, ap, sym, subst, ◌∙◌, arith, add-one}
+use Rattle.std.proofs.Common.{◌≤◌, length, ap, sym, subst, ◌∙◌, arith, add-one}
 use Rattle.rerun_driver.specs.Watches.{Watches}
 use Rattle.rerun_driver.specs.code.Rolls.{Rolled, told_place}
 use Rattle.rerun_driver.specs.code.Shown.{shown}

@@ -1,4 +1,4 @@
-use Rattle.std.proofs.Common.{◌≡◌, ◌<◌, ◌≤◌, ℕ, Bool, true, false, not, ◌&&◌, length, slice_get, Some, None, sym, ap, subst, ◌∙◌, arith}
+use Rattle.std.proofs.Common.{◌≤◌, not, length, sym, ap, subst, ◌∙◌, arith}
 use Rattle.std.proofs.lemmas.Bool.{and_parts, not-true}
 use Rattle.std.specs.Map.{values_of}
 use Rattle.indexmap.specs.IndexMap.{set_value_at}
@@ -27,7 +27,8 @@ pub put-requires : goal.put-requires
 put-requires c =
     let kept = c.self.inside.watches.entries in
     let w = c.index_mut.result.now in
-    let fresh = not-true w.stale (and_parts (not w.stale) (touches c.args.changes.now w.observations) (sym c.tell-turned.ensures.turned ∙ c.if-turned.true)).0 in
+    let fresh = not-true w.stale
+    (and_parts (not w.stale) (touches c.args.changes.now w.observations) (sym c.tell-turned.ensures.turned ∙ c.if-turned.true)).0 in
     let few = stale-fewer c.self.inside.order.0 (values_of kept) c.args.place w c.index_mut.ensures.value fresh in
     omega (arith, few, ap length c.self.invariant.listed, values-long kept, c.self.invariant.room)
 
