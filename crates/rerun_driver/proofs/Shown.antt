@@ -1,5 +1,6 @@
 -- What is kept of watches by their names, and how contracts see it.
-use Rattle.std.proofs.Common.{◌≡◌, ℕ, zero, suc, Bool, true, false, not, cond, ◌+◌, ◌||◌, List, [], ◌∷◌, ◌++◌, length, map, slice_get, nat_lt, position, Option, Some, None, option_map, Vec, Global, refl, ap, sym, ◌∙◌, arith}
+use Rattle.std.proofs.Common.{◌≡◌, ℕ, suc, Bool, true, false, not, cond, ◌+◌, ◌||◌, List, [], ◌∷◌, ◌++◌}
+use Rattle.std.proofs.Common.{length, slice_get, nat_lt, position, Option, Some, None, option_map, Vec, Global, refl, ap, sym, ◌∙◌, arith}
 use Rattle.std.proofs.lemmas.List.Folds.{find_at}
 use Rattle.std.proofs.lemmas.Option.{slice_get_past}
 use Rattle.std.proofs.lemmas.Bool.{ltb-false}
@@ -7,18 +8,14 @@ use Rattle.std.specs.List.{list_any, find, position_or_len}
 use Rattle.std.specs.Option.{option_and_then, option_map_or}
 use Rattle.std.specs.Map.{lookup, remove_entry, set_value, values_of}
 use Rattle.std.specs.Str.{bytes_eq}
-use Rattle.indexmap.specs.IndexMap.{set_value_at}
 use Rattle.plain_data.specs.Texts.{Bytes}
 use Rattle.rdt_types.specs.declared.address.Address.{Address}
-use Rattle.rdt_types.specs.DeltaMaps.{Deltas}
 use Rattle.rerun_driver.specs.declared.watch.Watch.{Watch}
 use Rattle.txn_lang.specs.declared.run.Run.{Run}
-use Rattle.txn_lang.specs.States.{PartialState}
-use Rattle.txn_lang.specs.Execution.{exec}
-use Rattle.rerun_driver.specs.declared.rerun.Rerun.TheVariants as rerun
-use Rattle.rerun_driver.specs.Watches.{rerun_of, next_rerun, told, all_told, first_stale, is_observed, is_observed_by, settled, with_report}
+use Rattle.rerun_driver.specs.Watches.{first_stale, is_observed, is_observed_by, settled, with_report}
 use Rattle.rerun_driver.specs.code.Shown.{shown}
 
+-- the watches by their names, as the code keeps them
 abbrev pub Kept : Type 0
 Kept = List (Vec ℕ Global × Watch)
 
@@ -30,6 +27,7 @@ shown-append (e ∷ kept) more = ap (λ rest. (e.0.items, e.1) ∷ rest) (shown-
 -- ---- by names
 
 module _ (name : Bytes) where
+  -- the kept name is this one
   abbrev pub is_named : Vec ℕ Global → Bool
   is_named key = bytes_eq name key.items
 
@@ -59,42 +57,14 @@ module _ (name : Bytes) where
       by true rest = refl
       by false rest = ap (λ (r : List (List ℕ × Watch)). (e.0.items, e.1) ∷ r) rest
 
--- ---- told one by one
-
-module _ (changes : Deltas) where
-  -- the first so many watches are told
-  abbrev pub first_told : ℕ → Kept → Kept
-  first_told zero kept = kept
-  first_told (suc n) [] = []
-  first_told (suc n) (e ∷ kept) = (e.0, told changes e.1) ∷ first_told n kept
-
-  pub length-first_told : (n : ℕ) (kept : Kept) → length (first_told n kept) ≡ length kept
-  length-first_told zero kept = refl
-  length-first_told (suc n) [] = refl
-  length-first_told (suc n) (e ∷ kept) = ap suc (length-first_told n kept)
-
-  -- the next is told
-  pub told-next : (n : ℕ) (kept : Kept) (watch : Watch) → slice_get (values_of (first_told n kept)) n ≡ Some watch
-      → set_value_at (first_told n kept) n (told changes watch) ≡ first_told (suc n) kept
-  told-next zero [] watch e = refl
-  told-next zero (first ∷ kept) watch e = ap (λ w. (first.0, told changes w) ∷ kept) (sym (some_same e))
-    where
-      some_same : {X : Type 0} {x y : X} → Some x ≡ Some y → x ≡ y
-      some_same e = cc
-  told-next (suc n) [] watch e = refl
-  told-next (suc n) (first ∷ kept) watch e = ap (λ (rest : Kept). (first.0, told changes first.1) ∷ rest) (told-next n kept watch e)
-
-  -- once all are told
-  pub shown-all_told : (kept : Kept) → shown (first_told (length kept) kept) ≡ all_told changes (shown kept)
-  shown-all_told [] = refl
-  shown-all_told (e ∷ kept) = ap (λ (rest : List (List ℕ × Watch)). (e.0.items, told changes e.1) ∷ rest) (shown-all_told kept)
-
 -- ---- the first stale watch
 
+-- the test by which the first stale watch is found
 abbrev is_stale : Watch → Bool
 is_stale watch = watch.stale
 
-abbrev as_shown : Vec ℕ Global × Watch → Bytes × Watch
+-- an entry as contracts see it
+abbrev pub as_shown : Vec ℕ Global × Watch → Bytes × Watch
 as_shown entry = (entry.0.items, entry.1)
 
 -- it is the first that is kept as stale
@@ -118,12 +88,13 @@ place-values (e ∷ kept) = by e.1.stale (place-values kept)
     by true rest = refl
     by false rest = ap (λ n. 1 + n) rest
 
+-- there is a value for each entry
 length-values : (kept : Kept) → length (values_of kept) ≡ length kept
 length-values [] = refl
 length-values (e ∷ kept) = ap suc (length-values kept)
 
 -- what stands at the place that was found, or that there is none
-found_at : (kept : Kept) (found : Option ℕ) → position is_stale (values_of kept) ≡ found
+pub found_at : (kept : Kept) (found : Option ℕ) → position is_stale (values_of kept) ≡ found
     → first_stale (shown kept) ≡ option_map as_shown (option_and_then (slice_get kept) found)
 found_at kept found e =
     first_stale-shown kept
@@ -135,7 +106,8 @@ found_at kept found e =
         → slice_get kept (position_or_len is_stale (values_of kept)) ≡ option_and_then (slice_get kept) found
     by true is e = ap (option_and_then (slice_get kept)) e
     by false is e =
-        slice_get_past kept (position_or_len is_stale (values_of kept)) (let same = length-values kept in let past = ltb-false _ _ is in omega (arith, same, past))
+        slice_get_past kept (position_or_len is_stale (values_of kept))
+        (let same = length-values kept in let past = ltb-false _ _ is in omega (arith, same, past))
         ∙ ap (option_and_then (slice_get kept)) e
 
 -- none is stale
@@ -149,6 +121,7 @@ stale_at kept place entry e f = found_at kept (Some place) e ∙ ap (option_map 
 
 -- ---- addresses
 
+-- a test of the values is one of the entries, which have the same watches
 pub any-shown : (address : Address) (kept : Kept)
     → list_any (λ (watch : Watch). is_observed_by address watch.observations) (values_of kept) ≡ is_observed (shown kept) address
 any-shown address [] = refl
@@ -165,16 +138,3 @@ module _ (name bytes : Bytes) (same : bytes ≡ name) (number : ℕ) (run : Run)
       ∙ ap (λ b. set_value (bytes_eq b) (shown kept) (settled number run watch)) same
       ∙ sym (ap (λ o. option_map_or (λ w. set_value (bytes_eq name) (shown kept) (settled number run w)) o (shown kept))
       (lookup-shown name kept ∙ ap (λ b. lookup (is_named b) kept) (sym same) ∙ there))
-
--- ---- the next rerun
-
--- nothing is left where no kept watch is stale
-pub next-none : (state : PartialState) (kept : Kept) → position is_stale (values_of kept) ≡ None → rerun.NoneLeft ≡ next_rerun state (shown kept)
-next-none state kept e =
-    sym (ap (λ (o : Option (Bytes × Watch)). option_map_or (λ entry. rerun_of entry.0 (exec entry.1.body.body state)) o rerun.NoneLeft) (none_stale kept e))
-
--- else the first of them runs
-pub next-some : (state : PartialState) (kept : Kept) (place : ℕ) (entry : Vec ℕ Global × Watch) → position is_stale (values_of kept) ≡ Some place
-    → slice_get kept place ≡ Some entry → rerun_of entry.0.items (exec entry.1.body.body state) ≡ next_rerun state (shown kept)
-next-some state kept place entry e f =
-    sym (ap (λ (o : Option (Bytes × Watch)). option_map_or (λ entry. rerun_of entry.0 (exec entry.1.body.body state)) o rerun.NoneLeft) (stale_at kept place entry e f))

@@ -1,5 +1,6 @@
 -- A watch is stale exactly where commits since its report touch what its run observed.
-use Rattle.std.proofs.Common.{◌≡◌, ℕ, ◌≤◌, ◌<◌, ◌⊎◌, inl, inr, nat_lt, nat_le, Bool, true, false, cond, ◌&&◌, ◌||◌, List, [], ◌∷◌, map, filter, fold, Option, Some, None, refl, sym, ap, ◌∙◌, arith}
+use Rattle.std.proofs.Common.{◌≡◌, ℕ, ◌≤◌, nat_lt, nat_le, Bool, true, false, cond, ◌&&◌}
+use Rattle.std.proofs.Common.{◌||◌, List, [], ◌∷◌, map, filter, Some, None, refl, sym, ap, ◌∙◌, arith}
 use Rattle.std.proofs.Math.Bool.{or_assoc}
 use Rattle.std.proofs.Math.Nat.{le_refl, le_trans}
 use Rattle.std.proofs.lemmas.Bool.Decides.{leb_tells}
@@ -26,10 +27,11 @@ use Rattle.journal_core.specs.Changes.{between, up_to}
 use Rattle.txn_lang.specs.declared.run.Seen.{Seen}
 use Rattle.rerun_driver.specs.declared.watch.Watch.{Watch}
 use Rattle.rerun_driver.specs.Watches.{clashes, touches, told}
-use Rattle.rerun_driver.specs.Touched.{meets, is_touched, Feeds, Follow, reached, told_each, StaleIsTouched}
+use Rattle.rerun_driver.specs.Touched.{meets, is_touched, Follow, reached, told_each, StaleIsTouched}
 
 -- ---- what is pending clashes where one of its deltas does
 
+-- all of some deltas are of one kind
 abbrev AreOfKind : Kind → List Delta → Type 0
 AreOfKind k deltas = AllByRecursion (λ d. kind_changed d ≡ k) deltas
 
@@ -51,9 +53,11 @@ module _ (o : Obs) (k : Kind) where
 
 -- ---- the deltas at the observed address
 
+-- the changes at an address
 abbrev at : Address → List Change → List Change
 at address changes = filter (λ c. is_at (address_cmp address) c.address) changes
 
+-- what changes do, in order
 abbrev deltas_of : List Change → List Delta
 deltas_of changes = map (λ c. c.delta) changes
 
@@ -87,6 +91,7 @@ of_kinds-filter test (change ∷ changes) all = by (test change) (of_kinds-filte
     by true rest = (all.0, rest)
     by false rest = rest
 
+-- so are those between two numbers, which two tests choose
 of_kinds-between : (from to : ℕ) (changes : List Change) → AreOfTheirKinds changes → AreOfTheirKinds (between from to changes)
 of_kinds-between from to changes all =
     of_kinds-filter (λ c. nat_lt from c.number) (up_to to changes) (of_kinds-filter (λ c. nat_le c.number to) changes all)
@@ -127,6 +132,7 @@ any-filter test chosen (x ∷ xs) = by (chosen x) (any-filter test chosen xs)
 abbrev within : (Change → Bool) → ℕ → ℕ → Change → Bool
 within test from to change = nat_le change.number to && (nat_lt from change.number && test change)
 
+-- a change between two numbers passes two tests, which are one
 any-between : (test : Change → Bool) (from to : ℕ) (changes : List Change) → list_any test (between from to changes) ≡ list_any (within test from to) changes
 any-between test from to changes =
     any-filter test (λ c. nat_lt from c.number) (up_to to changes) ∙ any-filter (λ c. nat_lt from c.number && test c) (λ c. nat_le c.number to) changes
@@ -142,6 +148,7 @@ within_none : (n m : ℕ) (t : Bool) → (nat_le m n && (nat_lt n m && t)) ≡ f
 within_none n m true = grind (arith, leb_tells)
 within_none n m false = grind (arith, leb_tells)
 
+-- of four tests two pairs pass in any order
 shuffled : (p q r s : Bool) → ((p || q) || (r || s)) ≡ ((p || r) || (q || s))
 shuffled true q r s = refl
 shuffled false true true s = refl
@@ -157,6 +164,7 @@ module _ (a b c : ℕ) (first : a ≤ b) (second : b ≤ c) where
       shuffled (within test a b change) _ (within test b c change) _
       ∙ (λ i. within_or a b c change.number (test change) first second i || any-joined test changes i)
 
+  -- so observations are touched in one of two spans where they are in both together; by induction, an observation at a time
   touched-joined : (changes : List Change) (observations : List Seen)
       → (is_touched changes a b observations || is_touched changes b c observations) ≡ is_touched changes a c observations
   touched-joined changes [] = refl
@@ -167,10 +175,12 @@ module _ (a b c : ℕ) (first : a ≤ b) (second : b ≤ c) where
       ((λ i. any-between test a b changes i || any-between test b c changes i) ∙ any-joined test changes ∙ sym (any-between test a c changes))
       ∙ ap (λ t. list_any test (between a c changes) || t) (touched-joined changes observations)
 
+-- no change is past a number and up to it
 untouched_by : (test : Change → Bool) (n : ℕ) (changes : List Change) → list_any (within test n n) changes ≡ false
 untouched_by test n [] = refl
 untouched_by test n (change ∷ changes) = λ i. within_none n change.number (test change) i || untouched_by test n changes i
 
+-- so nothing is touched from a number up to the same
 untouched : (changes : List Change) (n : ℕ) (observations : List Seen) → is_touched changes n n observations ≡ false
 untouched changes n [] = refl
 untouched changes n (seen ∷ observations) =
@@ -178,11 +188,14 @@ untouched changes n (seen ∷ observations) =
 
 -- ---- feeds, one after another
 
-reached-forward : (changes : List Change) (observations : List Seen) (from : ℕ) (feeds : List Fed) → Follow changes observations from feeds → from ≤ reached from feeds
+-- feeds that follow one another go forward, each from where the one before it went
+reached-forward : (changes : List Change) (observations : List Seen) (from : ℕ) (feeds : List Fed) → Follow changes observations from feeds
+    → from ≤ reached from feeds
 reached-forward changes observations from [] follow = le_refl from
 reached-forward changes observations from (feed ∷ feeds) follow =
     le_trans follow.0.forward (reached-forward changes observations feed.to feeds follow.1)
 
+-- by induction over the feeds: one touches what is touched up to where it goes, and the rest what is touched from there on
 stale-told_each : (changes : List Change) (watch : Watch) (from : ℕ) (feeds : List Fed) → AreOfTheirKinds changes → Follow changes watch.observations from feeds
     → (told_each feeds watch).stale ≡ (watch.stale || is_touched changes from (reached from feeds) watch.observations)
 stale-told_each changes watch from [] kinds follow = sym (ap (λ b. watch.stale || b) (untouched changes from watch.observations) ∙ or_none watch.stale)
@@ -194,6 +207,7 @@ stale-told_each changes watch from (feed ∷ feeds) kinds follow =
     ∙ or_assoc watch.stale (is_touched changes from feed.to seen) (is_touched changes feed.to to seen)
     ∙ ap (λ b. watch.stale || b) (touched-joined from feed.to to follow.0.forward (reached-forward changes seen feed.to feeds follow.1) changes seen)
 
+-- a watch that was just reported is not stale, so only the touched ones are
 pub stale_is_touched : StaleIsTouched
 stale_is_touched changes watch feeds kinds fresh follow =
     stale-told_each changes watch watch.number feeds kinds follow

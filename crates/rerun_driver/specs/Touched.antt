@@ -1,9 +1,8 @@
 -- Which watches are touched by commits, and the law that these are the stale ones.
-use Rattle.std.specs.Prelude.{◌≡◌, ℕ, ◌≤◌, Bool, true, false, ◌&&◌, List, [], ◌∷◌, fold, codes, pos, refl}
+use Rattle.std.specs.Prelude.{◌≡◌, ℕ, ◌≤◌, Bool, true, false, ◌&&◌, List, [], ◌∷◌, fold, codes, refl}
 use Rattle.std.specs.List.{list_any, AllByRecursion}
 use Rattle.std.specs.BTreeMap.{is_at}
 use Rattle.rdt_types.specs.declared.address.Kind.TheVariants as kind
-use Rattle.rdt_types.specs.declared.address.Address.{Address}
 use Rattle.rdt_types.specs.Addresses.{address_cmp}
 use Rattle.rdt_types.specs.DeltaMaps.{delta_at}
 use Rattle.conflict_table.specs.declared.observation.Obs.TheVariants as obs
@@ -63,5 +62,6 @@ counter_seen key = record { address = record { kind = kind.Counter; key = key };
 touched-example : is_touched (changes (adding 1 (codes "x") ∷ adding 2 (codes "y") ∷ [])) 0 2 (counter_seen (codes "x") ∷ []) ≡ true
 touched-example = refl
 
+-- by the commit after it nobody is touched who observed it at 1
 untouched-example : is_touched (changes (adding 1 (codes "x") ∷ adding 2 (codes "y") ∷ [])) 1 2 (counter_seen (codes "x") ∷ []) ≡ false
 untouched-example = refl

@@ -1,5 +1,5 @@
 -- Watches: bodies that are run anew once a change touches what their last run observed.
-use Rattle.std.specs.Prelude.{◌≡◌, ℕ, Bool, true, false, ◌||◌, List, [], ◌∷◌, ◌++◌, map, Option, Some, None, codes, pos, refl}
+use Rattle.std.specs.Prelude.{◌≡◌, ℕ, Bool, true, false, ◌||◌, List, [], ◌∷◌, ◌++◌, map, Option, codes, pos, refl}
 use Rattle.std.specs.List.{list_any, find}
 use Rattle.std.specs.Map.{lookup, remove_entry, set_value}
 use Rattle.std.specs.Option.{option_map_or}
@@ -91,11 +91,13 @@ next_rerun state watches = option_map_or (λ entry. rerun_of entry.0 (exec entry
 abbrev pub is_observed_by : Address → List Seen → Bool
 is_observed_by address observations = list_any (λ seen. is_at (address_cmp address) seen.address) observations
 
+-- one of the last runs did
 abbrev pub is_observed : Watches → Address → Bool
 is_observed watches address = list_any (λ entry. is_observed_by address entry.1.observations) watches
 
 -- ---- worked
 
+-- the counter of a key
 abbrev counter : List ℕ → Address
 counter key = record { kind = kind.Counter; key = key }
 
@@ -103,6 +105,7 @@ counter key = record { kind = kind.Counter; key = key }
 touches-example : touches ((counter (codes "x"), delta.AddCounter (pos 0)) ∷ []) (record { address = counter (codes "x"); obs = obs.CounterIs } ∷ []) ≡ true
 touches-example = refl
 
+-- who observed another counter
 touches-elsewhere : touches ((counter (codes "x"), delta.AddCounter (pos 0)) ∷ []) (record { address = counter (codes "y"); obs = obs.CounterIs } ∷ []) ≡ false
 touches-elsewhere = refl
 

@@ -1,1 +1,4 @@
 pub mod Shown
+pub mod Numbers
+pub mod Places
+pub mod Rolls

@@ -1,65 +1,58 @@
 //! A client's watches.
 
-ghost use Rattle.std.specs.Prelude.{◌≡◌, [], None, IsSome, is_some, position, OnOk, OnErr, IfOk};
+ghost use Rattle.std.specs.Prelude.{◌≡◌, [], None, IsSome, is_some, OnOk, OnErr, IfOk};
 ghost use Rattle.std.specs.List.{list_any};
 ghost use Rattle.client_cache.specs.Cached.{held};
 ghost use Rattle.rerun_driver.specs.Watches as spec;
 ghost use Rattle.rerun_driver.specs.Watches.{watch_of, is_observed, next_rerun};
-ghost use Rattle.rerun_driver.specs.code.Shown.{shown};
+ghost use Rattle.rerun_driver.specs.code.Rolls.{seen_by};
 
+use crate::places::Places;
+use crate::placing::{make_room, put_watch, sweep_all, take_all};
 use crate::rerun::{Rerun, run_watch};
+use crate::roll::Roll;
+use crate::telling::tell_placed;
 use crate::touching::is_observed_by;
 use crate::watch::Watch;
 use change_feed::Feed;
 use client_cache::Cache;
-use indexmap::IndexMap;
 use plain_data::Text;
-use rdt_types::{Address, DeltaMap};
+use rdt_types::Address;
 use std::alloc::{AllocError, Global};
 use std::marker::Model;
 use txn_lang::{Checked, Run};
 
-/// The watches of a client by their names, in the order of their making.
+/// The watches of a client by their names, in the order of their making. It also keeps which of them stand at an address,
+/// so that a feed costs the watches at its addresses.
 #[derive(Drop)]
 pub struct Driver {
     alloc: Global,
-    watches: IndexMap<Vec<u8>, Watch>,
+    roll: Roll,
+    places: Places,
+    /// Whether each watch stands at all addresses that its last run observed.
+    is_placed: bool,
 }
 
 impl Model for Driver {
     ghost use Rattle.std.specs.Coded.{coded×, coded_list, coded_ℕ};
     ghost use Rattle.rerun_driver.specs.contracts.watch.Watch as watch;
     ghost use Rattle.rerun_driver.specs.Watches.{Watches};
-    ghost use Rattle.rerun_driver.specs.code.Shown.{shown};
+    ghost use Rattle.rerun_driver.specs.code.Rolls.{IsPlaced};
 
     ghost Value = { Watches };
 
     ghost coded = { coded_list (coded× (coded_list coded_ℕ) watch.the_row.coded) };
 
-    ghost view = { λ d. shown d.watches.entries };
+    ghost view = { λ d. d.roll.1 };
+
+    ghost invariant = { λ d. IsPlaced d.is_placed d.places d.roll };
 }
 
-/// Tells all watches of changes.
-fn tell_all(watches: &mut IndexMap<Vec<u8>, Watch>, changes: &DeltaMap)
-    ensures { shown watches.new.entries ≡ spec.all_told changes.now (shown watches.old.entries) }
+/// Whether one of the watches of some numbers observed something at an address.
+fn any_observes(roll: &Roll, numbers: &[u64], address: &Address) -> bool
+    ensures { result ≡ list_any (λ n. spec.is_observed_by address.now (seen_by roll.now n)) numbers.now }
 {
-    for place in 0..watches.len() {
-        watches[place].tell(changes);
-    }
-}
-
-/// The place of the first stale watch.
-fn first_stale(watches: &[Watch]) -> Option<usize>
-    ensures { result ≡ position (λ watch. watch.stale) watches.now }
-{
-    watches.iter().position(|watch| watch.stale)
-}
-
-/// Whether the last run of a watch observed something at an address.
-fn any_observes(watches: &[Watch], address: &Address) -> bool
-    ensures { result ≡ list_any (λ watch. spec.is_observed_by address.now watch.observations) watches.now }
-{
-    watches.iter().any(|watch| is_observed_by(address, watch.observations.as_slice()))
+    numbers.iter().any(|number| is_observed_by(address, roll.observations(*number)))
 }
 
 impl Driver {
@@ -69,7 +62,9 @@ impl Driver {
     {
         Driver {
             alloc,
-            watches: IndexMap::new(alloc),
+            roll: Roll::new(alloc),
+            places: Places::new(alloc),
+            is_placed: true,
         }
     }
 
@@ -77,7 +72,20 @@ impl Driver {
     pub fn has(&self, name: &Text) -> bool
         ensures { result ≡ is_some (watch_of self.now name.now) }
     {
-        self.watches.contains_key(name.as_slice())
+        self.roll.has(name)
+    }
+
+    /// Takes the memory that the report of a run will want, so that feeds find its watch by its addresses.
+    pub fn reserve(&mut self, run: &Run) -> Result<(), AllocError>
+        ensures { self.new ≡ self.old }
+    {
+        let observations = run.observations.as_slice();
+        make_room(
+            &self.roll,
+            &mut self.places,
+            &mut self.is_placed,
+            observations,
+        )
     }
 
     /// A new watch, whose first run was reported at a number. For want of memory it is dropped.
@@ -92,8 +100,15 @@ impl Driver {
         ensures ok { OnOk result (self.new ≡ spec.with_watch self.old name (spec.reported body number run)) }
         ensures err { OnErr result (self.new ≡ self.old) }
     {
-        self.watches
-            .insert(name.into_vec(), Watch::new(body, number, run))?;
+        let observations = run.observations.as_slice();
+        make_room(
+            &self.roll,
+            &mut self.places,
+            &mut self.is_placed,
+            observations,
+        )?;
+        let made = self.roll.add(name, Watch::new(body, number, run))?;
+        put_watch(&self.roll, &mut self.places, &mut self.is_placed, made);
         Ok(())
     }
 
@@ -102,26 +117,31 @@ impl Driver {
         ensures answer { result ≡ is_some (watch_of self.old name.now) }
         ensures gone { self.new ≡ spec.without_watch self.old name.now }
     {
-        self.watches.shift_remove(name.as_slice()).is_some()
+        let Some((made, watch)) = self.roll.remove(name) else {
+            return false;
+        };
+        take_all(&mut self.places, watch.observations.as_slice(), made);
+        sweep_all(&mut self.places, watch.observations.as_slice());
+        true
     }
 
     /// Tells all watches of a feed: they become stale where its changes touch what they observed. It takes no memory.
     pub fn advance(&mut self, feed: &Feed)
         ensures { self.new ≡ spec.all_told feed.now.changes self.old }
     {
-        tell_all(&mut self.watches, feed.changes());
+        if self.is_placed {
+            tell_placed(&mut self.roll, &self.places, feed.changes());
+        } else {
+            self.roll.tell_all(feed.changes());
+        }
     }
 
     /// The run of the first stale watch on the values of a cache.
     pub fn run_next(&self, cache: &Cache) -> Result<Rerun, AllocError>
         ensures { IfOk result (λ next. next ≡ next_rerun (held cache.now) self.now) }
     {
-        let watches = self.watches.values();
-        let Some(place) = first_stale(watches.as_slice()) else {
-            return Ok(Rerun::NoneLeft);
-        };
-        match self.watches.get_index(place) {
-            Some((name, watch)) => run_watch(self.alloc, name.as_slice(), &watch.body, cache),
+        match self.roll.first_stale() {
+            Some((name, watch)) => run_watch(self.alloc, name, &watch.body, cache),
             None => Ok(Rerun::NoneLeft),
         }
     }
@@ -131,17 +151,22 @@ impl Driver {
         requires there { IsSome (watch_of self.old name.now) }
         ensures { self.new ≡ spec.with_report self.old name.now number run }
     {
-        let Some(watch) = self.watches.get_mut(name.as_slice()) else {
+        let Some((made, before)) = self.roll.settle(name, number, run) else {
             return;
         };
-        watch.settle(number, run);
+        take_all(&mut self.places, before.as_slice(), made);
+        put_watch(&self.roll, &mut self.places, &mut self.is_placed, made);
+        sweep_all(&mut self.places, before.as_slice());
     }
 
     /// Whether the last run of a watch observed something at an address.
     pub fn observes(&self, address: &Address) -> bool
         ensures { result ≡ is_observed self.now address.now }
     {
-        let watches = self.watches.values();
-        any_observes(watches.as_slice(), address)
+        if self.is_placed {
+            any_observes(&self.roll, self.places.at(address), address)
+        } else {
+            self.roll.any_observes(address)
+        }
     }
 }

@@ -8,7 +8,12 @@
 
 mod driver;
 mod laws;
+mod numbers;
+mod places;
+mod placing;
 mod rerun;
+mod roll;
+mod telling;
 mod touching;
 mod watch;
 

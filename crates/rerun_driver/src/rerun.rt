@@ -30,7 +30,7 @@ pub enum Rerun {
 }
 
 /// A copy, which equals its original.
-fn copied<T: ExactClone>(original: &T) -> Result<T, AllocError>
+pub(crate) fn copied<T: ExactClone>(original: &T) -> Result<T, AllocError>
     ensures { IfOk result (λ copy. copy ≡ original.now) }
 {
     original.clone()

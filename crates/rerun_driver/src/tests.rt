@@ -92,7 +92,7 @@ fn gives(run: &Run, number: i64) -> bool {
     }
 }
 
-/// Whether the next rerun is that of a name and gives a number. It is reported then.
+/// Whether the next rerun is that of a name and gives a number. It is reported then, after the memory for it was taken.
 fn reruns(
     driver: &mut Driver,
     alloc: Global,
@@ -104,10 +104,21 @@ fn reruns(
         return Ok(false);
     };
     let is_so = gives(&run, number) && ran == Text::from_slice(alloc, name)?;
+    driver.reserve(&run)?;
     if driver.has(&ran) {
         driver.settle(&ran, cache.at(), run);
     }
     Ok(is_so)
+}
+
+/// The next rerun is reported, though no memory was taken for that.
+fn settle_next(driver: &mut Driver, cache: &Cache) -> Result<(), AllocError> {
+    if let Rerun::Ran(ran, run) = driver.run_next(cache)? {
+        if driver.has(&ran) {
+            driver.settle(&ran, cache.at(), run);
+        }
+    }
+    Ok(())
 }
 
 /// Whether no watch is stale.
@@ -173,6 +184,29 @@ fn a_rerun_observes_other_addresses(rt: HostRuntime) -> Result<(), Fail> {
     assert!(rt; is_current(&driver, &cache)?);
     add(&mut driver, alloc, &mut cache, b"z", 1)?;
     assert!(rt; reruns(&mut driver, alloc, &cache, b"w", 10)?);
+    Ok(())
+}
+
+#[test]
+fn a_report_without_memory_is_found_all_the_same(rt: HostRuntime) -> Result<(), Fail> {
+    let alloc = rt.alloc();
+    let mut cache = cache(alloc)?;
+    let mut driver = Driver::new(alloc);
+    let (x, z) = (counter(alloc, b"x")?, counter(alloc, b"z")?);
+    cache.fill(counter(alloc, b"z")?, Value::Counter(9))?;
+    let source =
+        b"if counter(\"x\").get() == 1 { emit counter(\"y\").get(); } else { emit counter(\"z\").get(); }";
+    assert!(rt; watch(&mut driver, alloc, &cache, b"w", source)?);
+    add(&mut driver, alloc, &mut cache, b"x", 1)?;
+    settle_next(&mut driver, &cache)?;
+    assert!(rt; driver.observes(&z) && driver.observes(&x) && is_current(&driver, &cache)?);
+    add(&mut driver, alloc, &mut cache, b"y", 1)?;
+    assert!(rt; is_current(&driver, &cache)?);
+    add(&mut driver, alloc, &mut cache, b"z", 1)?;
+    assert!(rt; reruns(&mut driver, alloc, &cache, b"w", 10)?);
+    add(&mut driver, alloc, &mut cache, b"z", 1)?;
+    assert!(rt; driver.observes(&z) && !driver.observes(&counter(alloc, b"y")?));
+    assert!(rt; reruns(&mut driver, alloc, &cache, b"w", 11)?);
     Ok(())
 }
 

@@ -1,10 +1,12 @@
 //! What is kept of a watch.
 
-ghost use Rattle.std.specs.Prelude.{◌≡◌};
+ghost use Rattle.std.specs.Prelude.{◌≡◌, ◌&&◌, not};
+ghost use Rattle.rerun_driver.specs.Watches as spec;
 ghost use Rattle.rerun_driver.specs.Watches.{reported, told, settled};
 
 use crate::touching::touches;
 use rdt_types::DeltaMap;
+use std::mem::replace;
 use txn_lang::{Checked, Run, SeenList};
 
 /// A body, and of its last run what was reported.
@@ -32,21 +34,25 @@ impl Watch {
         }
     }
 
-    /// Becomes stale where changes touch what it observed. It takes no memory.
-    pub(crate) fn tell(&mut self, changes: &DeltaMap)
-        ensures { self.new ≡ told changes.now self.old }
+    /// Becomes stale where changes touch what it observed, and answers whether it wasn't before. It takes no memory.
+    pub(crate) fn tell(&mut self, changes: &DeltaMap) -> bool
+        ensures told { self.new ≡ told changes.now self.old }
+        ensures turned { result ≡ (not self.old.stale && spec.touches changes.now self.old.observations) }
     {
-        if touches(changes, self.observations.as_slice()) {
-            self.stale = true;
+        if self.stale {
+            return false;
         }
+        self.stale = touches(changes, self.observations.as_slice());
+        self.stale
     }
 
-    /// Takes the report of a run. It takes no memory.
-    pub(crate) fn settle(&mut self, number: u64, run: Run)
-        ensures { self.new ≡ settled number run self.old }
+    /// Takes the report of a run, and answers what the run before observed. It takes no memory.
+    pub(crate) fn settle(&mut self, number: u64, run: Run) -> SeenList
+        ensures kept { self.new ≡ settled number run self.old }
+        ensures before { result ≡ self.old.observations }
     {
         self.number = number;
-        self.observations = run.observations;
         self.stale = false;
+        replace(&mut self.observations, run.observations)
     }
 }

@@ -1,4 +1,4 @@
-use Rattle.std.proofs.Common.{List, [], Some, sym, ap, subst, ◌∙◌}
+use Rattle.std.proofs.Common.{List, sym, ap, subst, ◌∙◌}
 use Rattle.rdt_types.specs.declared.address.Address.{Address}
 use Rattle.txn_lang.specs.declared.snaps.Snap.{Snap}
 use Rattle.txn_lang.specs.Observed.{Extends}
@@ -10,7 +10,8 @@ use Rattle.rerun_driver.proofs.rerun.run_on.Goals as goal
 
 pub loop-init : goal.loop-init
 loop-init c =
-    subst (λ (snaps : List (Address × Snap)). Extends (values_of snaps) (held c.args.cache.now)) (sym c.new-snaps.ensures) (extends-none (held c.args.cache.now))
+    subst (λ (snaps : List (Address × Snap)). Extends (values_of snaps) (held c.args.cache.now)) (sym c.new-snaps.ensures)
+    (extends-none (held c.args.cache.now))
 
 pub returns-in-Done : goal.returns-in-Done
 returns-in-Done c =

@@ -1,17 +1,27 @@
-use Rattle.std.proofs.Common.{is_some, ap, sym, ◌∙◌}
-use Rattle.rerun_driver.specs.Watches.{watch_of, without_watch}
-use Rattle.rerun_driver.specs.code.Shown.{shown}
-use Rattle.rerun_driver.proofs.Shown.{lookup-shown, shown-remove_entry}
+use Rattle.std.proofs.Common.{[], cond, refl, sym, ap, subst, ◌∙◌}
+use Rattle.std.proofs.lemmas.Bool.{eq-eqb}
+use Rattle.rerun_driver.specs.code.Rolls.{Rolled, IsPlaced, seen_by}
+use Rattle.rerun_driver.proofs.Placed.{placed-same, all-stand, others-taken, others-stand}
 use Rattle.rerun_driver.proofs.driver.Driver.unwatch.Goals as goal
 
-pub returns-clause-answer : goal.returns-clause-answer
-returns-clause-answer c =
-    let kept = c.self.inside.watches.entries in
-    c.is_some.ensures ∙ ap is_some (c.shift_remove.ensures.value ∙ sym (lookup-shown c.as_slice.result.now kept)
-    ∙ (λ i. watch_of (c.self.view_is i) (c.as_slice.ensures i)))
+pub invariant_of-self : goal.invariant_of-self
+invariant_of-self c =
+    let inside = c.self.inside in
+    subst (λ (roll : Rolled). IsPlaced inside.is_placed inside.places roll) (sym c.in_default.ensures.none) c.self.invariant
 
-pub returns-clause-gone : goal.returns-clause-gone
-returns-clause-gone c =
-    let kept = c.self.inside.watches.entries in
-    ap shown c.shift_remove.ensures.entries ∙ shown-remove_entry c.as_slice.result.now kept
-    ∙ (λ i. without_watch (c.self.view_is i) (c.as_slice.ensures i))
+pub invariant_of-self-2 : goal.invariant_of-self-2
+invariant_of-self-2 c =
+    let inside = c.self.inside in
+    let old = inside.roll in
+    let new = c.remove.new.self in
+    let made = c.in-Some.made in
+    let seen = c.in-Some.ensures.seen in
+    let none = seen made ∙ ap (λ b. cond b [] (seen_by old made)) (eq-eqb made made refl) in
+    placed-same inside.is_placed c.take_all.new.places c.sweep_all.new.places new c.sweep_all.ensures
+    (record {
+      ordered = c.remove.ensures.order;
+      covers = λ e.
+          all-stand made c.take_all.new.places new none
+          (others-taken made inside.places c.take_all.new.places new c.take_all.ensures
+          (others-stand made inside.places old new [] seen (c.self.invariant.covers e)));
+    })

@@ -2,8 +2,9 @@ use Rattle.std.proofs.Common.{is_some, ap, sym, ◌∙◌}
 use Rattle.std.specs.Map.{lookup}
 use Rattle.std.specs.Str.{bytes_eq}
 use Rattle.rerun_driver.specs.Watches.{watch_of}
+use Rattle.rerun_driver.specs.code.Rolls.{Rolled}
 use Rattle.rerun_driver.proofs.Shown.{lookup-shown}
-use Rattle.rerun_driver.proofs.driver.Driver.has.Goals as goal
+use Rattle.rerun_driver.proofs.roll.Roll.has.Goals as goal
 
 pub returns : goal.returns
 returns c =
@@ -11,4 +12,4 @@ returns c =
     c.contains_key.ensures
     ∙ ap (λ bytes. is_some (lookup (λ key. bytes_eq bytes key.items) kept)) c.as_slice.ensures
     ∙ ap is_some (sym (lookup-shown c.args.name.now kept))
-    ∙ ap (λ watches. is_some (watch_of watches c.args.name.now)) c.self.view_is
+    ∙ ap (λ (roll : Rolled). is_some (watch_of roll.1 c.args.name.now)) c.self.view_is

@@ -1,0 +1,16 @@
+-- Which watches stand at an address, by their numbers.
+use Rattle.std.specs.Prelude.{ℕ, Bool, List, []}
+use Rattle.std.specs.Option.{option_map_or}
+use Rattle.std.specs.BTreeMap.{get}
+use Rattle.rdt_types.specs.declared.address.Address.{Address}
+use Rattle.rdt_types.specs.Addresses.{address_cmp}
+use Rattle.rerun_driver.specs.declared.places.Places.{Places}
+use Rattle.rerun_driver.specs.code.Numbers.{Roomy, is_among}
+
+-- the numbers at an address
+abbrev pub numbers_at : Places → Address → List ℕ
+numbers_at places address = option_map_or (λ (set : Roomy). set.0) (get address_cmp places.sets address) []
+
+-- whether a number stands there
+abbrev pub stands : Places → Address → ℕ → Bool
+stands places address n = is_among (numbers_at places address) n

@@ -1,0 +1,106 @@
+//! Watches come to stand at the addresses that their runs observed, and leave them.
+
+ghost use Rattle.std.specs.Bool.{OnTrue};
+ghost use Rattle.std.specs.Prelude.{◌≡◌, ℕ, true, false, nat_eq, IfOk, OnErr};
+ghost use Rattle.rdt_types.specs.declared.address.Address.{Address};
+ghost use Rattle.rerun_driver.specs.Watches.{is_observed_by};
+ghost use Rattle.rerun_driver.specs.code.Places.{numbers_at, stands};
+ghost use Rattle.rerun_driver.specs.code.Rolls.{IsInOrder, IsPlaced, Covers, CoversBut};
+
+use crate::places::Places;
+use crate::roll::Roll;
+use std::alloc::AllocError;
+use txn_lang::Seen;
+
+/// Takes the memory for one number more at each observed address.
+fn reserve_all(places: &mut Places, observations: &[Seen]) -> Result<(), AllocError>
+    ensures { (a : Address) → numbers_at places.new a ≡ numbers_at places.old a }
+{
+    for seen in observations {
+        places.reserve(&seen.address)?;
+    }
+    Ok(())
+}
+
+/// Puts a number at each observed address, and answers whether there was memory for all. It takes none.
+fn put_all(places: &mut Places, observations: &[Seen], number: u64) -> bool
+    ensures stays { OnTrue result ((a : Address) (m : ℕ) → stands places.old a m ≡ true → stands places.new a m ≡ true) }
+    ensures put { OnTrue result ((a : Address) → is_observed_by a observations.now ≡ true → stands places.new a number ≡ true) }
+{
+    for seen in observations {
+        if !places.put(&seen.address, number) {
+            return false;
+        }
+    }
+    true
+}
+
+/// Takes a number from each observed address. It takes no memory.
+pub(crate) fn take_all(places: &mut Places, observations: &[Seen], number: u64)
+    ensures { (a : Address) (m : ℕ) → nat_eq number m ≡ false → stands places.new a m ≡ stands places.old a m }
+{
+    for seen in observations {
+        places.take_out(&seen.address, number);
+    }
+}
+
+/// Gives the memory for each observed address back where nobody stands there. It takes none.
+pub(crate) fn sweep_all(places: &mut Places, observations: &[Seen])
+    ensures { (a : Address) → numbers_at places.new a ≡ numbers_at places.old a }
+{
+    for seen in observations {
+        places.sweep(&seen.address);
+    }
+}
+
+/// Puts all watches at the addresses that they observed, and answers whether there was memory for all.
+fn place_all(roll: &Roll, places: &mut Places) -> Result<bool, AllocError>
+    ensures { IfOk result (λ all. all ≡ true → Covers places.new roll.now) }
+{
+    for number in roll.numbers() {
+        let observations = roll.observations(*number);
+        reserve_all(places, observations)?;
+        if !put_all(places, observations, *number) {
+            return Ok(false);
+        }
+    }
+    Ok(true)
+}
+
+/// Puts all watches in their places, where they aren't yet, and answers whether all are.
+fn place_rest(roll: &Roll, places: &mut Places, is_placed: bool) -> Result<bool, AllocError>
+    requires { is_placed ≡ true → Covers places.old roll.now }
+    ensures ok { IfOk result (λ all. all ≡ true → Covers places.new roll.now) }
+    ensures err { OnErr result (is_placed ≡ false) }
+{
+    if is_placed {
+        Ok(true)
+    } else {
+        place_all(roll, places)
+    }
+}
+
+/// Takes the memory for one number more at each observed address. All watches are put in their places first, where they
+/// aren't yet.
+pub(crate) fn make_room(
+    roll: &Roll,
+    places: &mut Places,
+    is_placed: &mut bool,
+    observations: &[Seen],
+) -> Result<(), AllocError>
+    requires { IsPlaced is_placed.old places.old roll.now }
+    ensures { IsPlaced is_placed.new places.new roll.now }
+{
+    *is_placed = place_rest(roll, places, *is_placed)?;
+    reserve_all(places, observations)
+}
+
+/// Puts a watch at the addresses that it observed, where there is memory for that. It takes none.
+pub(crate) fn put_watch(roll: &Roll, places: &mut Places, is_placed: &mut bool, made: u64)
+    requires order { IsInOrder roll.now }
+    requires others { is_placed.old ≡ true → CoversBut made places.old roll.now }
+    ensures { IsPlaced is_placed.new places.new roll.now }
+{
+    let is_put = put_all(places, roll.observations(made), made);
+    *is_placed = *is_placed && is_put;
+}
