@@ -22,8 +22,6 @@ mod looks;
 #[cfg(test)]
 mod order;
 #[cfg(test)]
-mod rival;
-#[cfg(test)]
 mod rows;
 #[cfg(test)]
 mod schedules;
@@ -31,8 +29,6 @@ mod schedules;
 mod sizes;
 #[cfg(test)]
 mod tests;
-#[cfg(test)]
-mod tries;
 #[cfg(test)]
 mod verbs;
 #[cfg(test)]
