@@ -47,13 +47,13 @@ get_or-found (y ∷ ys) zero x d e = cc
 get_or-found (y ∷ ys) (suc i) x d e = get_or-found ys i x d e
 
 -- the key at a place is the key of the pair there
-keys_of-get : {K V : Type 0} (es : List (K × V)) (i : ℕ) (d : K × V) → get_or (keys_of es) i d.0 ≡ (get_or es i d).0
+pub keys_of-get : {K V : Type 0} (es : List (K × V)) (i : ℕ) (d : K × V) → get_or (keys_of es) i d.0 ≡ (get_or es i d).0
 keys_of-get [] i d = refl
 keys_of-get (e ∷ es) zero d = refl
 keys_of-get (e ∷ es) (suc i) d = keys_of-get es i d
 
 -- there are as many keys as pairs
-length-keys : {K V : Type 0} (es : List (K × V)) → length (keys_of es) ≡ length es
+pub length-keys : {K V : Type 0} (es : List (K × V)) → length (keys_of es) ≡ length es
 length-keys [] = refl
 length-keys (e ∷ es) = ap suc (length-keys es)
 

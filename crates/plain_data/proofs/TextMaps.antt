@@ -1,5 +1,5 @@
 -- Lists of pairs whose keys rise, as the finite maps of std see them.
-use Rattle.std.proofs.Common.{◌≡◌, ℕ, zero, suc, ◌+◌, ◌<◌, get_or, Option, Some, None, IfSome, option_map, Bor, Bool, true, false, cond, T}
+use Rattle.std.proofs.Common.{◌≡◌, ℕ, ◌+◌, ◌<◌, get_or, Option, Some, None, IfSome, option_map, Bor, Bool, true, false, cond, T}
 use Rattle.std.proofs.Common.{◌&&◌, List, [], ◌∷◌, length, ◌↔◌, refl, sym, ap, ◌∙◌, subst, arith}
 use Rattle.std.specs.Cmp.{IsTotalOrder}
 use Rattle.std.specs.List.{AllByRecursion, IsAllAdjacentAnswer}
@@ -17,6 +17,7 @@ use Rattle.std.specs.FinMap.{nat_cmp-IsAntisymmetric, slice_cmp-IsAntisymmetric}
 use Rattle.std.specs.Option.{option_copied}
 use Rattle.std.proofs.lemmas.Bool.{false≢true}
 use Rattle.plain_data.specs.Texts.{Bytes, text_cmp}
+use Rattle.plain_data.proofs.Entries.{keys_of-get, length-keys}
 
 -- two that hold
 pub both : (a b : Bool) → T a → T b → T (a && b)
@@ -108,21 +109,10 @@ is_less : (r : Ordering) → is_lt r ≡ true → r ≡ Less
 is_less r h = less r (subst T (sym h) tt)
 
 module _ {V : Type 0} (R : Bytes → Bytes → Ordering) (o : IsTotalOrder R) where
-  -- the key at a place is the key of the pair there
-  get_or-keys : (es : List (Bytes × V)) (k : ℕ) (d : Bytes × V) → get_or (keys_of es) k d.0 ≡ (get_or es k d).0
-  get_or-keys [] k d = refl
-  get_or-keys (e ∷ es) zero d = refl
-  get_or-keys (e ∷ es) (suc k) d = get_or-keys es k d
-
-  -- there are as many keys as pairs
-  length-keys : (es : List (Bytes × V)) → length (keys_of es) ≡ length es
-  length-keys [] = refl
-  length-keys (e ∷ es) = ap suc (length-keys es)
-
   -- so two neighbouring keys compare as the keys of two neighbouring pairs
   next-keys : (es : List (Bytes × V)) (k : ℕ) (d : Bytes × V)
       → R (get_or (keys_of es) k d.0) (get_or (keys_of es) (k + 1) d.0) ≡ R (get_or es k d).0 (get_or es (k + 1) d).0
-  next-keys es k d i = R (get_or-keys es k d i) (get_or-keys es (k + 1) d i)
+  next-keys es k d i = R (keys_of-get es k d i) (keys_of-get es (k + 1) d i)
 
   -- keys rise exactly where each is below the next
   pub rising-from_adjacent : (es : List (Bytes × V)) (b : Bool) → IsAllAdjacentAnswer (λ x y t. t ≡ is_lt (R x.0 y.0)) es b

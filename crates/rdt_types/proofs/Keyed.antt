@@ -31,7 +31,7 @@ module _ {M V : Type 0} (left : M → Option V) where
       by (Some v) e = e
 
   -- a delta that clears begins with nothing at any key, and another with what was there
-  begun-get : (cleared : Bool) (m : MapOf V) (q : Bytes) → map.get (cond cleared map.empty m) q ≡ cond cleared None (map.get m q)
+  pub begun-get : (cleared : Bool) (m : MapOf V) (q : Bytes) → map.get (cond cleared map.empty m) q ≡ cond cleared None (map.get m q)
   begun-get true m q = map.get-empty text_cmp q
   begun-get false m q = refl
 

@@ -35,37 +35,13 @@ pub fn number_of(token: &Token) -> Option<i64>
     }
 }
 
-/// The truth value that the symbol is.
-fn truth_of(symbol: Symbol) -> Option<bool>
-    ensures { result ≡ spec.truth_of symbol }
-{
-    match symbol {
-        Symbol::True => Some(true),
-        Symbol::False => Some(false),
-        _ => None,
-    }
-}
-
 /// The truth value that the token is.
 pub fn truth_at(token: &Token) -> Option<bool>
     ensures { result ≡ spec.of_symbol spec.truth_of token.now }
 {
     match token {
-        Token::Symbol(symbol) => truth_of(*symbol),
-        _ => None,
-    }
-}
-
-/// The operator of this rank that the symbol is.
-fn operator_of(rank: Rank, symbol: Symbol) -> Option<Operator>
-    ensures { result ≡ spec.operator_of rank symbol }
-{
-    match (rank, symbol) {
-        (Rank::Disjunction, Symbol::Or) => Some(Operator::Or),
-        (Rank::Conjunction, Symbol::And) => Some(Operator::And),
-        (Rank::Sum, Symbol::Plus) => Some(Operator::Plus),
-        (Rank::Sum, Symbol::Minus) => Some(Operator::Minus),
-        (Rank::Product, Symbol::Times) => Some(Operator::Times),
+        Token::Symbol(Symbol::True) => Some(true),
+        Token::Symbol(Symbol::False) => Some(false),
         _ => None,
     }
 }
@@ -74,23 +50,12 @@ fn operator_of(rank: Rank, symbol: Symbol) -> Option<Operator>
 pub fn operator_at(rank: Rank, token: &Token) -> Option<Operator>
     ensures { result ≡ spec.of_symbol (spec.operator_of rank) token.now }
 {
-    match token {
-        Token::Symbol(symbol) => operator_of(rank, *symbol),
-        _ => None,
-    }
-}
-
-/// The comparison that the symbol is.
-fn relation_of(symbol: Symbol) -> Option<Relation>
-    ensures { result ≡ spec.relation_of symbol }
-{
-    match symbol {
-        Symbol::Equal => Some(Relation::Equal),
-        Symbol::Unequal => Some(Relation::Unequal),
-        Symbol::Less => Some(Relation::Less),
-        Symbol::AtMost => Some(Relation::AtMost),
-        Symbol::Greater => Some(Relation::Greater),
-        Symbol::AtLeast => Some(Relation::AtLeast),
+    match (rank, token) {
+        (Rank::Disjunction, Token::Symbol(Symbol::Or)) => Some(Operator::Or),
+        (Rank::Conjunction, Token::Symbol(Symbol::And)) => Some(Operator::And),
+        (Rank::Sum, Token::Symbol(Symbol::Plus)) => Some(Operator::Plus),
+        (Rank::Sum, Token::Symbol(Symbol::Minus)) => Some(Operator::Minus),
+        (Rank::Product, Token::Symbol(Symbol::Times)) => Some(Operator::Times),
         _ => None,
     }
 }
@@ -100,32 +65,27 @@ pub fn relation_at(token: &Token) -> Option<Relation>
     ensures { result ≡ spec.of_symbol spec.relation_of token.now }
 {
     match token {
-        Token::Symbol(symbol) => relation_of(*symbol),
+        Token::Symbol(Symbol::Equal) => Some(Relation::Equal),
+        Token::Symbol(Symbol::Unequal) => Some(Relation::Unequal),
+        Token::Symbol(Symbol::Less) => Some(Relation::Less),
+        Token::Symbol(Symbol::AtMost) => Some(Relation::AtMost),
+        Token::Symbol(Symbol::Greater) => Some(Relation::Greater),
+        Token::Symbol(Symbol::AtLeast) => Some(Relation::AtLeast),
         _ => None,
     }
 }
 
-/// The kind whose word the symbol is. `peak` is kept for one to come.
-fn kind_of(symbol: Symbol) -> Option<Kind>
-    ensures { result ≡ spec.kind_of symbol }
-{
-    match symbol {
-        Symbol::Bool => Some(Kind::Bool),
-        Symbol::Counter => Some(Kind::Counter),
-        Symbol::Text => Some(Kind::Text),
-        Symbol::Set => Some(Kind::Set),
-        Symbol::Hash => Some(Kind::Hash),
-        Symbol::List => Some(Kind::List),
-        _ => None,
-    }
-}
-
-/// The kind whose word the token is.
+/// The kind whose word the token is. `peak` is kept for one to come.
 pub fn kind_at(token: &Token) -> Option<Kind>
     ensures { result ≡ spec.of_symbol spec.kind_of token.now }
 {
     match token {
-        Token::Symbol(symbol) => kind_of(*symbol),
+        Token::Symbol(Symbol::Bool) => Some(Kind::Bool),
+        Token::Symbol(Symbol::Counter) => Some(Kind::Counter),
+        Token::Symbol(Symbol::Text) => Some(Kind::Text),
+        Token::Symbol(Symbol::Set) => Some(Kind::Set),
+        Token::Symbol(Symbol::Hash) => Some(Kind::Hash),
+        Token::Symbol(Symbol::List) => Some(Kind::List),
         _ => None,
     }
 }

@@ -15,7 +15,7 @@ use Rattle.rdt_types.specs.declared.operation.WriteOp.{WriteOp}
 use Rattle.rdt_types.specs.declared.outcome.Item.{Item}
 use Rattle.plain_data.specs.Texts.{Bytes}
 use Rattle.conflict_table.specs.declared.observation.Obs.TheVariants as obs
-use Rattle.std.proofs.lemmas.Bool.{eqb-true}
+use Rattle.std.proofs.lemmas.Bool.{eqb-true, false≢true}
 use Rattle.rdt_types.specs.Values.{kind_written, default_of}
 use Rattle.conflict_table.specs.declared.read.ReadOp.{ReadOp}
 use Rattle.conflict_table.specs.Reads.{replay, answer, is_decided, observed}
@@ -61,7 +61,7 @@ obs_same (obs.HashAt x) (obs.HashAt y) e = ap (λ t. obs.HashAt t) (text_same x 
 obs_same obs.HashAll obs.HashAll e = refl
 obs_same (obs.ListAt i) (obs.ListAt j) e = ap (λ k. obs.ListAt k) (eqb-true i j e)
 obs_same obs.ListAll obs.ListAll e = refl
-obs_same _ _ e = absurd (cc)
+obs_same _ _ e = absurd (false≢true e)
 
 -- kind, key and observation each pass their own test, so each is the same
 seen_alike : (x z : Seen) → seen_eq.ghosts.eq x z ≡ true → x ≡ z

@@ -1,11 +1,11 @@
 -- Values over which a delta lies: what stands at a key and at a place.
-use Rattle.std.proofs.Common.{◌≡◌, ◌+◌, ◌-◌, ℕ, zero, suc, nat_eq, Bool, true, false, not, cond, List, [], ◌∷◌, ◌++◌}
-use Rattle.std.proofs.Common.{length, slice_get, Option, Some, None, Result, Ok, Err, is_some, refl, sym, ap, ◌∙◌}
-use Rattle.std.proofs.Common.{subst, arith}
+use Rattle.std.proofs.Common.{◌≡◌, ◌-◌, ℕ, zero, suc, nat_eq, Bool, true, false, not, cond, List, [], ◌∷◌, ◌++◌}
+use Rattle.std.proofs.Common.{slice_get, Option, Some, None, Result, Ok, Err, is_some, refl, sym, ap, ◌∙◌}
+use Rattle.std.proofs.Common.{arith}
 use Rattle.std.specs.FinMap as map
 use Rattle.std.proofs.Common.{map as list_map}
 use Rattle.plain_data.specs.Texts.{Bytes, MapOf, SetOfTexts, text_cmp, has_text}
-use Rattle.plain_data.specs.Overlays.{overlaid, found_after}
+use Rattle.plain_data.specs.Overlays.{found_after}
 use Rattle.plain_data.proofs.Overlays.{get-overlaid, entries-empty, nonzero}
 use Rattle.rdt_types.specs.declared.value.Value.{Value}
 use Rattle.rdt_types.specs.declared.value.Value.TheVariants as value
@@ -13,28 +13,24 @@ use Rattle.rdt_types.specs.declared.delta.Delta.{Delta}
 use Rattle.rdt_types.specs.declared.delta.Delta.TheVariants as delta
 use Rattle.rdt_types.specs.Values.{set_in, hash_in, list_in}
 use Rattle.rdt_types.specs.Deltas.{apply}
-use Rattle.rdt_types.specs.Marks.{added, put_by}
+use Rattle.rdt_types.specs.Marks.{added}
 use Rattle.rdt_types.specs.declared.mark.Mark.{Mark}
 use Rattle.rdt_types.specs.Keyed.{Keyed, applied}
 use Rattle.rdt_types.specs.Listed as listed
 use Rattle.rdt_types.specs.Listed.{Listed, without}
+use Rattle.rdt_types.proofs.Keyed.{begun-get}
 use Rattle.rdt_types.proofs.Listed.{without-none}
 use Rattle.write_buffer.specs.code.Kept.{kept_from}
 
 -- ---- sets and hashes
 
 module _ {M V : Type 0} (left : M → Option V) where
-  -- after a clear there is nothing at any key, and else what was there
-  begun : (cleared : Bool) (m : MapOf V) (x : Bytes) → map.get (cond cleared map.empty m) x ≡ cond cleared None (map.get m x)
-  begun true m x = map.get-empty text_cmp x
-  begun false m x = refl
-
   -- at a key stands what its mark leaves, or what was there, if that isn't cleared
   pub get-applied : (d : Keyed M) (m : MapOf V) (x : Bytes) (o : Option M) (b : Bool) → map.get d.marks x ≡ o → d.cleared ≡ b
       → map.get (applied left d m) x ≡ found_after left o (cond b None (map.get m x))
   get-applied d m x o b marked is =
       get-overlaid left (cond d.cleared map.empty m) d.marks x
-      ∙ ap (λ u. found_after left (map.get d.marks x) u) (begun d.cleared m x ∙ ap (λ c. cond c None (map.get m x)) is)
+      ∙ ap (λ u. found_after left (map.get d.marks x) u) (begun-get left d.cleared m x ∙ ap (λ c. cond c None (map.get m x)) is)
       ∙ ap (λ p. found_after left p (cond b None (map.get m x))) marked
 
 -- an element is there exactly where its mark adds it

@@ -1,7 +1,6 @@
 use Rattle.std.proofs.Common.{◌≡◌, ◌++◌, nat_eq, not, true, Ok, Err, slice_get, sym, ◌∙◌, ap}
 use Rattle.conflict_table.proofs.Keys.{empty-has_some}
 use Rattle.std.specs.FinMap as fin
-use Rattle.rdt_types.specs.Listed.{without}
 use Rattle.write_buffer.specs.code.Kept.{kept_from}
 use Rattle.write_buffer.proofs.Over.{whole_list, kept_place, kept_or}
 use Rattle.write_buffer.proofs.answering.item_over.Goals as goal

@@ -1,4 +1,4 @@
-use Rattle.std.proofs.Common.{◌≡◌, map, take}
+use Rattle.std.proofs.Common.{◌≡◌, map}
 use Rattle.write_buffer.proofs.keys.into_keys.Given as goal
 
 abbrev pub invariant-loop-key : goal.invariant-loop-key

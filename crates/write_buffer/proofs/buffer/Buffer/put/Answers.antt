@@ -1,5 +1,4 @@
 use Rattle.std.proofs.Common.{◌≡◌, OnOk, subst}
-use Rattle.rdt_types.specs.declared.address.Address.{Address}
 use Rattle.rdt_types.specs.Deltas.{delta_of}
 use Rattle.rdt_types.specs.DeltaMaps.{with_delta}
 use Rattle.write_buffer.proofs.buffer.Buffer.put.Goals as goal
