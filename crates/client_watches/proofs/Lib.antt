@@ -1,0 +1,4 @@
+pub mod Names
+pub mod Stale
+pub mod Kept
+pub mod Steps

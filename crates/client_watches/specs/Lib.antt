@@ -1,0 +1,5 @@
+pub mod Errors
+pub mod Watching
+pub mod Phases
+pub mod Keeping
+pub mod Leading
