@@ -104,11 +104,12 @@ distinct-told changes (x ∷ ws) all = (none-told x.0 changes ws all.0, distinct
 -- and once there is one more, of a name that none had
 pub distinct-append : (ws : Watches) (e : Bytes × Watch) → AreDistinct ws → watch_of ws e.0 ≡ None → AreDistinct (ws ++ e ∷ [])
 distinct-append [] e all free = (refl, tt)
-distinct-append (x ∷ ws) e all free = by (bytes_eq e.0 x.0) refl free
+distinct-append (x ∷ ws) e all free = by (bytes_eq e.0 x.0) refl free (λ h. distinct-append ws e all.1 h)
   where
-    by : (b : Bool) → bytes_eq e.0 x.0 ≡ b → cond b (Some x.1) (watch_of ws e.0) ≡ None → AreDistinct (x ∷ (ws ++ e ∷ []))
-    by true is h = absurd (cc)
-    by false is h = (none-append x.0 ws e all.0 (other_name e.0 x.0 is), distinct-append ws e all.1 h)
+    by : (b : Bool) → bytes_eq e.0 x.0 ≡ b → cond b (Some x.1) (watch_of ws e.0) ≡ None → (watch_of ws e.0 ≡ None → AreDistinct (ws ++ e ∷ []))
+        → AreDistinct (x ∷ (ws ++ e ∷ []))
+    by true is h rest = absurd (cc)
+    by false is h rest = (none-append x.0 ws e all.0 (other_name e.0 x.0 is), rest h)
 
 -- ---- reports
 

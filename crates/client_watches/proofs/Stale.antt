@@ -1,5 +1,5 @@
 -- The first stale watch: it is the one of its name, and once it takes a report one less is stale.
-use Rattle.std.proofs.Common.{◌≡◌, ℕ, zero, suc, Bool, true, false, cond, List, [], ◌∷◌, Option, Some, None, is_some, IsSome, refl, sym, ap, ◌∙◌, subst}
+use Rattle.std.proofs.Common.{◌≡◌, ℕ, zero, suc, Bool, true, false, cond, List, [], ◌∷◌, Option, Some, None, is_some, IsSome, refl, sym, ap, ◌∙◌, subst, arith}
 use Rattle.std.specs.List.{find}
 use Rattle.std.specs.Map.{set_value}
 use Rattle.std.specs.Option.{option_map_or}
@@ -127,3 +127,24 @@ pub is-there : (state : PartialState) (ws : Watches) (name : Bytes) (run : Run) 
 is-there state ws name run all e =
     let h = has-run state ws name run e in
     ap is_some (first-among ws (name, h.watch) all h.first).found
+
+-- where none counts as stale, none is the first
+pub none-if-zero : (ws : Watches) → stale_count ws ≡ 0 → first_stale ws ≡ None
+none-if-zero [] e = refl
+none-if-zero (x ∷ ws) e = by x.1.stale e (none-if-zero ws)
+  where
+    by : (b : Bool) → one_if b (stale_count ws) ≡ 0 → (stale_count ws ≡ 0 → first_stale ws ≡ None) → cond b (Some x) (first_stale ws) ≡ None
+    by true h rest = absurd (omega arith)
+    by false h rest = rest h
+
+-- so it is where nothing is left to run
+pub none-if-left : (state : PartialState) (ws : Watches) → next_rerun state ws ≡ rerun.NoneLeft → first_stale ws ≡ None
+none-if-left state ws e = by (first_stale ws) refl e
+  where
+    one : (x : Bytes × Watch) (r : Ran) → rerun_of x.0 r ≡ rerun.NoneLeft → ⊥
+    one x (need address) h = cc
+    one x (done run) h = cc
+
+    by : (o : Option (Bytes × Watch)) → first_stale ws ≡ o → rerun_by_first state o ≡ rerun.NoneLeft → first_stale ws ≡ None
+    by None f h = f
+    by (Some x) f h = absurd (one x (exec x.1.body.body state) h)

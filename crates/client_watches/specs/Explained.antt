@@ -17,6 +17,7 @@ use Rattle.txn_lang.specs.Execution.{Ran, need, done, exec}
 use Rattle.journal_core.specs.Changes.{changes}
 use Rattle.rerun_driver.specs.Touched.{is_touched}
 use Rattle.rerun_driver.specs.Watches.{Watches}
+use Rattle.client_watches.specs.Phases.{Goal}
 
 -- ---- what replies have shown of watches
 
@@ -131,3 +132,8 @@ abbrev pub WatchPasses : ℕ → Journal → ℕ → Bytes → Checked → Shown
 WatchPasses window journal low name body before replies later =
     (IsNamed name before × IsRefused (reply.Refused why.Name ∷ []) before replies later)
     ⊎ IsMade journal low name body before replies later ⊎ IsCutShort window journal low before replies later
+
+-- which pass for a line that is to come to a goal
+abbrev pub GoalPasses : ℕ → Journal → ℕ → Goal → ShownList → List Reply → ShownList → Type 0
+GoalPasses window journal low Goal.current before replies later = SyncPasses window journal low before replies later
+GoalPasses window journal low (Goal.watch name body) before replies later = WatchPasses window journal low name body before replies later
