@@ -122,7 +122,7 @@ module _ (window low : ℕ) (goal : Goal) (story : ShownList) (old new : Journal
 
   job-stays : (job : Job) (w : Watching) (said : List Reply) → JobTells window low goal story old job w said → JobTells window low goal story new job w said
   job-stays (Job.rerun_for g) w said is = (is.0, going-stays w said is.1)
-  job-stays (Job.first_of name body) w said is = (is.0, going-stays w said is.1.0, holds-stay w is.1.0.stands is.1.1)
+  job-stays (Job.first_of name body) w said is = (is.0, going-stays w said is.1, holds-stay w is.1.stands is.2)
 
 -- ---- replies that pass
 
@@ -207,13 +207,13 @@ module _ (window low : ℕ) (goal : Goal) (story : ShownList) (upto : AreUpTo lo
           on.0,
           record {
             stands = stands;
-            shown_at = subst (λ (n : ℕ). low ≤ n) (sym at) on.1.0.shown_at;
-            before = subst (λ (n : ℕ). AreUpTo n story) (sym at) on.1.0.before;
+            shown_at = subst (λ (n : ℕ). low ≤ n) (sym at) on.1.shown_at;
+            before = subst (λ (n : ℕ). AreUpTo n story) (sym at) on.1.before;
             reports = subst (λ (n : ℕ). Reports new n story said (shown_of v.watches)) (sym at)
-                (subst (λ (ws : Watches). Reports new w.cache.at story said (shown_of ws)) (sym watches) on.1.0.reports);
+                (subst (λ (ws : Watches). Reports new w.cache.at story said (shown_of ws)) (sym watches) on.1.reports);
           },
           subst (λ (n : ℕ). AllHold new n (shown_of v.watches)) (sym at)
-          (subst (λ (ws : Watches). AllHold new w.cache.at (shown_of ws)) (sym watches) on.1.1),
+          (subst (λ (ws : Watches). AllHold new w.cache.at (shown_of ws)) (sym watches) on.2),
         ),
         taken ∙ is.1 ∙ sym at,
         free is.2,
@@ -235,7 +235,7 @@ module _ (window low : ℕ) (goal : Goal) (story : ShownList) (upto : AreUpTo lo
     where
       going : (j : Job) → JobTells window low goal story new j w said → Going window low goal story new w said
       going (Job.rerun_for g) h = h.1
-      going (Job.first_of name body) h = h.1.0
+      going (Job.first_of name body) h = h.1
 
       cut : Going window low goal story new w said → IsCutShort window new low story (said ++ reply.Late w.cache.at horizon ∷ []) (shown_of w.watches)
       cut h = record {
@@ -316,7 +316,7 @@ module _ (window low : ℕ) (goal : Goal) (story : ShownList) (upto : AreUpTo lo
     where
       job-stands : (j : Job) → JobTells window low goal story new j w said → Stands new w
       job-stands (Job.rerun_for g) h = h.1.stands
-      job-stands (Job.first_of name body) h = h.1.0.stands
+      job-stands (Job.first_of name body) h = h.1.stands
 
   -- its changes are told: the run goes on
   subscribe-kept : (job : Job) (w : Watching) (said : List Reply) (address : Address) (value : Value)
@@ -340,7 +340,7 @@ module _ (window low : ℕ) (goal : Goal) (story : ShownList) (upto : AreUpTo lo
 
       within : (j : Job) → JobTells window low goal story old j w said → w.cache.at ≤ length old
       within (Job.rerun_for g) h = h.1.stands.within
-      within (Job.first_of name body) h = h.1.0.stands.within
+      within (Job.first_of name body) h = h.1.stands.within
 
       going : Going window low goal story new w said → Going window low goal story new v said
       going h = record {
@@ -354,7 +354,7 @@ module _ (window low : ℕ) (goal : Goal) (story : ShownList) (upto : AreUpTo lo
       by (Job.rerun_for g) h = reruns-tell window low goal story l new (stale_count v.watches) g v said refl h.0 ready (event.goes_on.taken ∙ is.taken)
           (free-value goal w address value is.free) (going h.1)
       by (Job.first_of name body) h = first-tells window low goal story l new name body v said ready
-          ((h.0, going h.1.0, h.1.1), event.goes_on.taken ∙ is.taken, free-value goal w address value is.free)
+          ((h.0, going h.1, h.2), event.goes_on.taken ∙ is.taken, free-value goal w address value is.free)
 
   -- a value is let go
   drop-kept : (next : Then) (w : Watching) (said : List Reply) (address : Address) (rest : List Address)
@@ -374,7 +374,7 @@ module _ (window low : ℕ) (goal : Goal) (story : ShownList) (upto : AreUpTo lo
     where
       then-stands : (t : Then) → ThenTells window low goal story k old t w said → Stands old w
       then-stands Then.ends h = h.0
-      then-stands (Then.begins name body) h = h.0.1.0.stands
+      then-stands (Then.begins name body) h = h.0.1.stands
 
   -- each step
   pub tells-kept : (q : Phase) (call : Call) (answer : Answer) → Tells k old q → asks q ≡ Some call → IsAnswered k call answer l

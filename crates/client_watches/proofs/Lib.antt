@@ -9,4 +9,4 @@ pub mod Values
 pub mod Moving
 pub mod Telling
 pub mod Answering
-pub mod Laws
+pub mod Lined

@@ -74,11 +74,12 @@ all-tell journal cache (x ∷ ws) all = (stands-tells journal cache x.1 all.0, a
 -- none is stale: all hold
 pub none-touched : (journal : Journal) (n : ℕ) (ws : Watches) → TellTouched journal n ws → first_stale ws ≡ None → AllHold journal n (shown_of ws)
 none-touched journal n [] tell none = tt
-none-touched journal n (x ∷ ws) tell none = by x.1.stale refl none
+none-touched journal n (x ∷ ws) tell none = by x.1.stale refl none (λ h. none-touched journal n ws tell.1 h)
   where
-    by : (b : Bool) → x.1.stale ≡ b → cond b (Some x) (first_stale ws) ≡ None → AllHold journal n (shown_of (x ∷ ws))
-    by true is h = absurd (cc)
-    by false is h = (tell.0 ∙ is, none-touched journal n ws tell.1 h)
+    by : (b : Bool) → x.1.stale ≡ b → cond b (Some x) (first_stale ws) ≡ None → (first_stale ws ≡ None → AllHold journal n (shown_of ws))
+        → AllHold journal n (shown_of (x ∷ ws))
+    by true is h rest = absurd (cc)
+    by false is h rest = (tell.0 ∙ is, rest h)
 
 -- ---- one report more
 

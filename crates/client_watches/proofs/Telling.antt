@@ -43,7 +43,7 @@ use Rattle.client_watches.proofs.Moving.{AllStand, run-is, stands-value, stands-
 -- ---- what is shown of watches
 
 -- no feed changes that
-shown-told : (changes : Deltas) (ws : Watches) → shown_of (all_told changes ws) ≡ shown_of ws
+pub shown-told : (changes : Deltas) (ws : Watches) → shown_of (all_told changes ws) ≡ shown_of ws
 shown-told changes [] = refl
 shown-told changes (x ∷ ws) = ap (λ (rest : ShownList). (x.0, record { body = x.1.body; number = x.1.number }) ∷ rest) (shown-told changes ws)
 
@@ -116,7 +116,7 @@ module _ (window low : ℕ) (goal : Goal) (story : ShownList) where
     -- values that no watch observes are looked at, and then the line is over
     drops-end : (w : Watching) (said : List Reply) (rest : List Address) → IsReady k w → ThenTells k journal Then.ends w said
         → PhaseTells k journal (drop_idle Phase.over Then.ends w said rest)
-    drops-end w said [] ready tells = (ready, tells)
+    drops-end w said [] ready tells = (ready, tells.0, tells.1)
     drops-end w said (address ∷ rest) ready tells = by (is_idle w address) refl (drops-end w said rest ready tells)
       where
         by : (b : Bool) → is_idle w address ≡ b → PhaseTells k journal (drop_idle Phase.over Then.ends w said rest)
@@ -157,19 +157,19 @@ module _ (window low : ℕ) (goal : Goal) (story : ShownList) where
         made : (run : Run) → exec body.body (held w.cache) ≡ done run → IsMade journal low name body story (told run) (shown_of (later run).watches)
         made run e = record {
           n = w.cache.at;
-          shown_at = record { not_back = tells.0.1.0.shown_at; within = tells.0.1.0.stands.within };
+          shown_at = record { not_back = tells.0.1.shown_at; within = tells.0.1.stands.within };
           front = said;
           others = shown_of w.watches;
-          reports = tells.0.1.0.reports;
-          all = tells.0.1.1;
+          reports = tells.0.1.reports;
+          all = tells.0.2;
           outcome = run.outcome;
-          outcome_is = record { run = run; ran = run-is journal w body run tells.0.1.0.stands e; outcome_is = refl };
+          outcome_is = record { run = run; ran = run-is journal w body run tells.0.1.stands e; outcome_is = refl };
           replies_are = refl;
           later_are = shown-last w.watches (name, reported body w.cache.at run);
         }
 
         free : watch_of w.watches name ≡ None
-        free = subst (λ g. IsFree g w) tells.0.0 tells.2.1
+        free = subst (λ g. IsFree g w) tells.0.0 tells.2
 
         by : (r : Ran) → exec body.body (held w.cache) ≡ r → PhaseTells k journal (first_by name body w said r)
         by (need address) e = record {
@@ -185,7 +185,7 @@ module _ (window low : ℕ) (goal : Goal) (story : ShownList) where
               subscribes = record { rising = ready.subscribes.rising; told = ready.subscribes.told; taken = ready.subscribes.taken };
               window_is = ready.window_is;
             })
-            (stands-first journal w name body run e tells.0.1.0.stands)
+            (stands-first journal w name body run e tells.0.1.stands)
             (subst (λ g. GoalPasses window journal low g story (told run) (shown_of (later run).watches)) (sym tells.0.0) (inr (inl (made run e))))
 
     -- values that no watch observes are looked at, and then a new watch runs
@@ -222,7 +222,7 @@ module _ (window low : ℕ) (goal : Goal) (story : ShownList) where
         })))
     caught-up (Goal.watch name body) w said same ready taken free going all =
         drops-begin name body (none_loose w) said w.loose (ready-none w ready)
-        ((sym same, going-none w said going, all), taken, subst (λ g. IsFree g w) refl (free-none free))
+        ((sym same, going-none w said going, all), taken, free-none free)
       where
         free-none : IsFree goal w → IsFree goal (none_loose w)
         free-none f = by goal f

@@ -1,6 +1,6 @@
 //! The lines of watches: all are brought up to date, one is made, and one is forgotten.
 
-ghost use Rattle.std.specs.Prelude.{◌≡◌, ◌≤◌, IfOk};
+ghost use Rattle.std.specs.Prelude.{◌≡◌, ◌≤◌, ◌∷◌, [], IfOk, OnOk};
 ghost use Rattle.client_watches.specs.Phases.{start_sync, start_watch, start_unwatch};
 ghost use Rattle.client_watches.specs.Keeping.{Keeps};
 ghost use Rattle.client_watches.specs.Leading.{Went};

@@ -1,4 +1,4 @@
-use Rattle.client_watches.proofs.Laws.{beginnings_attend as lemma}
+use Rattle.client_watches.proofs.Lined.{beginnings_attend as lemma}
 use Rattle.client_watches.proofs.laws.beginnings_attend.Goals as goal
 
 pub returns : goal.returns

@@ -1,4 +1,4 @@
-use Rattle.client_watches.proofs.Laws.{lines_are_explained as lemma}
+use Rattle.client_watches.proofs.Lined.{lines_are_explained as lemma}
 use Rattle.client_watches.proofs.laws.lines_are_explained.Goals as goal
 
 pub returns : goal.returns

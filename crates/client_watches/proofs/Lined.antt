@@ -71,11 +71,11 @@ lines_are_explained k l w v low calls goal said old is on may leads =
           told = there.told;
           keeps = there.tells.0.keeps;
           subscribes = there.tells.0.subscribes;
-          stands = there.tells.1.0;
+          stands = there.tells.1;
           can = there.can;
         };
       };
-      passes = there.tells.1.1;
+      passes = there.tells.2;
     }
 
 pub passing_stays : PassingStays
