@@ -1,5 +1,5 @@
 -- What a cache holds once a feed's deltas were applied.
-use Rattle.std.proofs.Common.{◌≡◌, Bool, true, false, cond, List, [], ◌∷◌, map, Option, Some, None, option_map, IsSome, is_some, refl, sym, ap, ◌∙◌}
+use Rattle.std.proofs.Common.{◌≡◌, Bool, true, false, cond, List, [], ◌∷◌, map, Option, Some, None, option_map, IsSome, is_some, refl, sym, ap, subst, ◌∙◌}
 use Rattle.std.specs.List.{AllByRecursion}
 use Rattle.std.specs.List.Sorted.{IsStrictlySortedBy}
 use Rattle.std.specs.Map.{lookup, set_value, keys_of}
@@ -8,13 +8,14 @@ use Rattle.std.specs.Cmp.{eq_by_cmp_equiv}
 use Rattle.std.specs.Ordering.{is_eq, ordering_reverse}
 use Rattle.std.specs.declared.cmp.Ordering.{Ordering}
 use Rattle.std.specs.declared.cmp.Ordering.TheVariants.{Less, Equal, Greater}
-use Rattle.std.proofs.lemmas.Map.{lookup-set_value}
+use Rattle.std.proofs.lemmas.Map.{lookup-set_value, keys-set_value}
 use Rattle.plain_data.proofs.Entries.{equal, lookup-alike}
 use Rattle.rdt_types.specs.declared.address.Address.{Address}
 use Rattle.rdt_types.specs.declared.value.Value.{Value}
 use Rattle.rdt_types.specs.declared.delta.Delta.{Delta}
 use Rattle.rdt_types.specs.Addresses.{address_cmp}
 use Rattle.rdt_types.specs.contracts.address.AddressOrd.TheImpl.Laws as order
+use Rattle.rdt_types.proofs.Addresses.{address_cmp-equal}
 use Rattle.rdt_types.specs.Deltas.{apply}
 use Rattle.rdt_types.specs.DeltaMaps.{Deltas, delta_at}
 use Rattle.client_cache.specs.Histories.{apply_maybe}
@@ -149,3 +150,90 @@ held-advanced values changes a rising = all_after values values changes a rising
     by (Some d) v e = refl
     by None None e = e ∙ sym (ap (option_map (apply_maybe None)) e)
     by None (Some v) e = e ∙ sym (ap (option_map (apply_maybe None)) e)
+
+-- ---- as one list
+
+-- at an address below all others nothing is held
+none_held : (q address : Address) (values : Values) → address_cmp q address ≡ Equal
+    → AllByRecursion (λ y. address_cmp address y ≡ Less) (keys_of values) → value_at values q ≡ None
+none_held q address [] same below = refl
+none_held q address (pair ∷ values) same below =
+    ap (λ r. cond (is_eq r) (Some pair.1) (value_at values q)) (order.total-law.congr q address pair.0 same ∙ below.0)
+    ∙ none_held q address values same below.1
+
+-- values at the same addresses, which rise, are the same where each is
+same_values : (xs ys : Values) → keys_of xs ≡ keys_of ys → IsStrictlySortedBy address_cmp (keys_of xs)
+    → ((a : Address) → value_at xs a ≡ value_at ys a) → xs ≡ ys
+unfolding IsStrictlySortedBy
+same_values [] [] keys rising same = refl
+same_values [] (y ∷ ys) keys rising same = absurd (cc)
+same_values (x ∷ xs) [] keys rising same = absurd (cc)
+same_values (x ∷ xs) (y ∷ ys) keys rising same =
+    λ i. (first i, here i) ∷ same_values xs ys rest rising.1 behind i
+  where
+    first : x.0 ≡ y.0
+    first = cc
+
+    rest : keys_of xs ≡ keys_of ys
+    rest = cc
+
+    own : is_at (address_cmp x.0) x.0 ≡ true
+    own = (eq_by_cmp_equiv order.total-law).refl x.0
+
+    -- what is found at the first address, of either
+    found : cond (is_at (address_cmp x.0) x.0) (Some x.1) (value_at xs x.0) ≡ cond (is_at (address_cmp x.0) x.0) (Some y.1) (value_at ys x.0)
+    found = same x.0 ∙ ap (λ a. cond (is_at (address_cmp x.0) a) (Some y.1) (value_at ys x.0)) (sym first)
+
+    here : x.1 ≡ y.1
+    here =
+        let both : Some x.1 ≡ Some y.1 =
+        sym (ap (λ b. cond b (Some x.1) (value_at xs x.0)) own) ∙ found ∙ ap (λ b. cond b (Some y.1) (value_at ys x.0)) own in cc
+
+    behind : (a : Address) → value_at xs a ≡ value_at ys a
+    behind a = by (is_at (address_cmp a) x.0) refl
+      where
+        by : (b : Bool) → is_at (address_cmp a) x.0 ≡ b → value_at xs a ≡ value_at ys a
+        by true e =
+            let at = equal (address_cmp a x.0) e in
+            none_held a x.0 xs at rising.0
+            ∙ sym (none_held a x.0 ys at (subst (AllByRecursion (λ z. address_cmp x.0 z ≡ Less)) rest rising.0))
+        by false e =
+            ap (λ b. cond b (Some x.1) (value_at xs a)) (sym e) ∙ same a
+            ∙ ap (λ b. cond b (Some y.1) (value_at ys a)) (sym (ap (λ z. is_at (address_cmp a) z) first) ∙ e)
+
+-- values with deltas applied
+abbrev all_applied : Deltas → Values → Values
+all_applied changes values = map (λ entry. (entry.0, apply_maybe (delta_at changes entry.0) entry.1)) values
+
+keys-applied : (changes : Deltas) (values : Values) → keys_of (all_applied changes values) ≡ keys_of values
+keys-applied changes [] = refl
+keys-applied changes (pair ∷ values) = ap (λ ks. pair.0 ∷ ks) (keys-applied changes values)
+
+keys-with_all : (now changed : Values) → keys_of (with_all now changed) ≡ keys_of now
+keys-with_all now [] = refl
+keys-with_all now (pair ∷ changed) =
+    keys-with_all (set_value (is_at (address_cmp pair.0)) now pair.1) changed ∙ keys-set_value (is_at (address_cmp pair.0)) now pair.1
+
+-- what is found among them
+value_at-applied : (changes : Deltas) (values : Values) (a : Address)
+    → value_at (all_applied changes values) a ≡ option_map (apply_maybe (delta_at changes a)) (value_at values a)
+value_at-applied changes [] a = refl
+value_at-applied changes (pair ∷ values) a = by (is_at (address_cmp a) pair.0) refl (value_at-applied changes values a)
+  where
+    by : (b : Bool) → is_at (address_cmp a) pair.0 ≡ b
+        → value_at (all_applied changes values) a ≡ option_map (apply_maybe (delta_at changes a)) (value_at values a)
+        → cond b (Some (apply_maybe (delta_at changes pair.0) pair.1)) (value_at (all_applied changes values) a)
+        ≡ option_map (apply_maybe (delta_at changes a)) (cond b (Some pair.1) (value_at values a))
+    by true e rest =
+        ap (λ x. Some (apply_maybe (delta_at changes x) pair.1)) (sym (address_cmp-equal a pair.0 (equal (address_cmp a pair.0) e)))
+    by false e rest = rest
+
+-- the code's two passes leave each held value with its delta applied, and nothing else
+pub with_all-applied : (values : Values) (changes : Deltas) → IsStrictlySortedBy address_cmp (keys_of values)
+    → IsStrictlySortedBy address_cmp (keys_of changes) → with_all values (changed_from values changes) ≡ all_applied changes values
+with_all-applied values changes held rising =
+    let keys = keys-with_all values (changed_from values changes) in
+    same_values (with_all values (changed_from values changes)) (all_applied changes values)
+    (keys ∙ sym (keys-applied changes values))
+    (subst (IsStrictlySortedBy address_cmp) (sym keys) held)
+    (λ a. held-advanced values changes a rising ∙ sym (value_at-applied changes values a))

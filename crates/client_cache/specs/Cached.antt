@@ -1,5 +1,5 @@
 -- What a cache holds, and what a feed makes of it.
-use Rattle.std.specs.Prelude.{◌≡◌, ℕ, List, [], ◌∷◌, Option, Some, None, option_map, codes, pos, refl}
+use Rattle.std.specs.Prelude.{◌≡◌, ℕ, List, [], ◌∷◌, map, Option, Some, None, option_map, codes, pos, refl}
 use Rattle.std.specs.Coded.{Coded, code_by, coded×, coded_list, coded_ℕ}
 use Rattle.std.specs.Map.{lookup, remove_entry}
 use Rattle.std.specs.BTreeMap.{insert_entry, is_at}
@@ -47,7 +47,14 @@ released cache address = record cache { values = remove_entry (is_at (address_cm
 abbrev pub after_feed : Fed → Address → Option Value → Option Value
 after_feed feed address old = option_map (apply_maybe (delta_at feed.changes address)) old
 
--- A cache after a feed goes as far as the feed, and each value that it held has the feed's delta applied.
+-- a cache after a feed: it goes as far as the feed, and each value that it holds has the feed's delta at its address applied
+abbrev pub advanced : Cached → Fed → Cached
+advanced cache feed = record {
+  at = feed.to;
+  values = map (λ entry. (entry.0, apply_maybe (delta_at feed.changes entry.0) entry.1)) cache.values;
+}
+
+-- A cache after a feed, address by address: it goes as far as the feed, and each value that it held has the feed's delta applied.
 pub record Advances (old new : Cached) (feed : Fed) : Type 0 where
   pub at : new.at ≡ feed.to
   pub held : (address : Address) → held new address ≡ after_feed feed address (held old address)
@@ -61,6 +68,13 @@ after_feed-example :
     (counter (codes "x")) (held (filled (empty 1) (counter (codes "x")) (value.Counter (pos 3))) (counter (codes "x")))
     ≡ Some (value.Counter (pos 7))
 after_feed-example = refl
+
+-- and it is all that is held then
+advanced-example :
+    advanced (filled (empty 1) (counter (codes "x")) (value.Counter (pos 3)))
+    (record { to = 2; changes = (counter (codes "x"), delta.AddCounter (pos 4)) ∷ (counter (codes "y"), delta.PutCounter (pos 9)) ∷ [] })
+    ≡ filled (empty 2) (counter (codes "x")) (value.Counter (pos 7))
+advanced-example = refl
 
 -- a feed fills nothing
 after_feed-nothing :

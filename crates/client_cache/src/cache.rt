@@ -2,6 +2,8 @@
 
 ghost use Rattle.std.specs.Prelude.{◌≡◌, ◌≤◌, OnOk, OnErr, IfOk};
 ghost use Rattle.std.specs.Option.{option_copied};
+ghost use Rattle.std.specs.BTreeMap.{IsOrdered};
+ghost use Rattle.rdt_types.specs.Addresses.{address_cmp};
 ghost use Rattle.client_cache.specs.Cached as spec;
 ghost use Rattle.client_cache.specs.code.Changing.{changed_from, with_all};
 
@@ -37,9 +39,11 @@ fn changed_values(
     values: &BTreeMap<Address, Value>,
     changes: &[(Address, Delta)],
 ) -> Result<Vec<(Address, Value)>, AllocError>
-    ensures { IfOk result (λ changed. changed.items ≡ changed_from values.now.entries changes.now) }
+    ensures changed { IfOk result (λ changed. changed.items ≡ changed_from values.now.entries changes.now) }
+    ensures ordered { IsOrdered address_cmp values.now }
 {
-    let mut changed = Vec::new(alloc);
+    let most = values.len().min(changes.len());
+    let mut changed = Vec::with_capacity(alloc, most)?;
     for (address, delta) in changes {
         if let Some(value) = values.get(address) {
             let value = apply(alloc, delta, value)?;
@@ -100,7 +104,8 @@ impl Cache {
     /// its place; the feed's addresses are looked up, and no other value is touched.
     pub fn advance(&mut self, feed: &Feed) -> Result<(), AllocError>
         requires { self.old.at ≤ feed.now.to }
-        ensures ok { OnOk result (spec.Advances self.old self.new feed.now) }
+        ensures ok { OnOk result (self.new ≡ spec.advanced self.old feed.now) }
+        ensures each { OnOk result (spec.Advances self.old self.new feed.now) }
         ensures err { OnErr result (self.new ≡ self.old) }
     {
         let changed = changed_values(self.alloc, &self.values, feed.changes().as_slice())?;

@@ -12,7 +12,7 @@ use Rattle.rdt_types.specs.Addresses.{address_cmp}
 use Rattle.rdt_types.specs.DeltaMaps.{delta_at}
 use Rattle.change_feed.specs.Feeds.{Fed}
 use Rattle.client_cache.specs.Histories.{apply_maybe}
-use Rattle.client_cache.specs.Cached.{Cached, held, filled, released}
+use Rattle.client_cache.specs.Cached.{Cached, held, filled, released, advanced}
 use Rattle.session_text.specs.declared.reply.Reply.{Reply}
 use Rattle.session_text.specs.declared.reply.Reply.TheVariants as reply
 use Rattle.txn_lang.specs.declared.checked.Checked.{Checked}
@@ -24,7 +24,7 @@ use Rattle.rerun_driver.specs.Watches.{Watches, watch_of, all_told, is_observed}
 use Rattle.docc_prepare.specs.Calls.{Known, Call, Answer, is_fault}
 use Rattle.docc_prepare.specs.Backends.{IsAnswered, SaysOfJournal, IsPrefix, IsBelowHorizon}
 use Rattle.client_watches.specs.declared.watching.Watching.{Watching}
-use Rattle.client_watches.specs.Watching.{advanced, after_feed, with_value, is_idle, without_value, stale_count}
+use Rattle.client_watches.specs.Watching.{after_feed, with_value, is_idle, without_value, stale_count}
 use Rattle.client_watches.specs.Phases.{Phase, Goal, Job, Then, asks, after, drop_idle, then_on, ending, rerun_up_to, rerun_all, go_on}
 use Rattle.client_watches.specs.Keeping.{Keeps}
 use Rattle.client_watches.specs.Standing.{Subscribes, Stands, CanRead, CanReadOn}

@@ -15,7 +15,7 @@ use Rattle.rdt_types.specs.DeltaMaps.{delta_at}
 use Rattle.change_feed.specs.Pending.{pending}
 use Rattle.change_feed.specs.Feeds.{Fed}
 use Rattle.client_cache.specs.Histories.{apply_maybe}
-use Rattle.client_cache.specs.Cached.{Cached, held, filled, released}
+use Rattle.client_cache.specs.Cached.{Cached, held, filled, released, advanced}
 use Rattle.txn_lang.specs.declared.checked.Checked.{Checked}
 use Rattle.txn_lang.specs.declared.run.Run.{Run}
 use Rattle.txn_lang.specs.declared.run.Seen.{Seen}
@@ -32,7 +32,7 @@ use Rattle.rerun_driver.proofs.Stale.{touches-pending, touched-joined, untouched
 use Rattle.docc_prepare.specs.Calls.{Known, Call, Answer}
 use Rattle.docc_prepare.specs.Backends.{IsAnswered, SaysOfJournal, IsPrefix}
 use Rattle.client_watches.specs.declared.watching.Watching.{Watching}
-use Rattle.client_watches.specs.Watching.{advanced, after_feed, with_value, with_rerun, with_first, without, is_idle, without_value}
+use Rattle.client_watches.specs.Watching.{after_feed, with_value, with_rerun, with_first, without, is_idle, without_value}
 use Rattle.client_watches.specs.Keeping.{AreDistinct, Keeps}
 use Rattle.client_watches.specs.Standing.{Subscribes, AreHeld, WatchStands, Stands, CanRead}
 use Rattle.client_watches.proofs.Names.{reported_in}

@@ -10,7 +10,7 @@ use Rattle.rdt_types.specs.Addresses.{address_cmp}
 use Rattle.rdt_types.specs.DeltaMaps.{Deltas, delta_at}
 use Rattle.change_feed.specs.Feeds.{Fed}
 use Rattle.client_cache.specs.Histories.{apply_maybe}
-use Rattle.client_cache.specs.Cached.{Cached, held, filled, released}
+use Rattle.client_cache.specs.Cached.{Cached, held, filled, released, advanced}
 use Rattle.session_text.specs.declared.reply.Reply.{Reply}
 use Rattle.session_text.specs.declared.reply.Reply.TheVariants as reply
 use Rattle.txn_lang.specs.declared.checked.Checked.{Checked}
@@ -26,7 +26,7 @@ use Rattle.rerun_driver.specs.Watches.{Watches, watch_of, all_told, settled, rep
 use Rattle.docc_prepare.specs.Calls.{Known, Call, Answer, is_fault}
 use Rattle.docc_prepare.specs.Backends.{IsAnswered, SaysOfJournal, IsPrefix}
 use Rattle.client_watches.specs.declared.watching.Watching.{Watching}
-use Rattle.client_watches.specs.Watching.{advanced, after_feed, with_value, with_rerun, with_first, is_idle, without_value, stale_count}
+use Rattle.client_watches.specs.Watching.{after_feed, with_value, with_rerun, with_first, is_idle, without_value, stale_count}
 use Rattle.client_watches.specs.Phases.{Phase, Goal, Job, Then, asks, after, settled as none_loose, drop_idle, then_on, ending, first_by, first_run, caught_up, rerun_by, rerun_up_to, rerun_all, go_on}
 use Rattle.client_watches.specs.Keeping.{AreDistinct, Keeps}
 use Rattle.client_watches.specs.Standing.{Subscribes, WatchStands, Stands, CanRead}

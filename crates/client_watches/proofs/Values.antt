@@ -19,8 +19,7 @@ use Rattle.rdt_types.specs.DeltaMaps.{delta_at}
 use Rattle.rdt_types.proofs.Addresses.{address_cmp-equal}
 use Rattle.change_feed.specs.Feeds.{Fed}
 use Rattle.client_cache.specs.Histories.{apply_maybe}
-use Rattle.client_cache.specs.Cached.{Cached, Values, held, filled, released}
-use Rattle.client_watches.specs.Watching.{advanced}
+use Rattle.client_cache.specs.Cached.{Cached, Values, held, filled, released, advanced}
 
 -- the value at an address
 abbrev value_at : Values → Address → Option Value

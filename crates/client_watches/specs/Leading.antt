@@ -82,6 +82,12 @@ module _ {B : Type 0} (known : B → Known) (goes : B → Call → Answer → B 
   Catches goal old w said (Ok false) new v told = Reaches known goes old (rerun_all goal w said) new (ending v told)
   Catches goal old w said (Err e) new v told = Stops known goes old (rerun_all goal w said) e new
 
+  -- what one rerun comes to: it has run, or it has a value more; or the same as above
+  abbrev pub Reruns : Goal → B → Watching → List Reply → Result (Option Bool) WatchError → B → Watching → List Reply → Type 0
+  Reruns goal old w said (Ok None) new v told = Reaches known goes old (rerun_all goal w said) new (rerun_all goal v told)
+  Reruns goal old w said (Ok (Some all)) new v told = Catches goal old w said (Ok all) new v told
+  Reruns goal old w said (Err e) new v told = Stops known goes old (rerun_all goal w said) e new
+
   -- what the first run of a body comes to, whatever name it is to have: it is done, or a value was late
   abbrev pub Runs : Checked → B → Watching → List Reply → Result (Option Run) WatchError → B → Watching → List Reply → Type 0
   Runs body old w said (Ok (Some run)) new v told = (name : Bytes)
@@ -93,3 +99,10 @@ module _ {B : Type 0} (known : B → Known) (goes : B → Call → Answer → B 
   abbrev pub Drops : B → Watching → List Address → Result (Unit {0}) WatchError → B → Watching → Type 0
   Drops old w loose (Ok u) new v = (next : Then) (said : List Reply) → Reaches known goes old (drop_idle (then_on next) next w said loose) new (then_on next v said)
   Drops old w loose (Err e) new v = (next : Then) (said : List Reply) → Stops known goes old (drop_idle (then_on next) next w said loose) e new
+
+  -- the same of the first of some addresses
+  abbrev pub DropsOne : B → Watching → Address → List Address → Result (Unit {0}) WatchError → B → Watching → Type 0
+  DropsOne old w address rest (Ok u) new v = (next : Then) (said : List Reply)
+      → Reaches known goes old (drop_idle (then_on next) next w said (address ∷ rest)) new (drop_idle (then_on next) next v said rest)
+  DropsOne old w address rest (Err e) new v = (next : Then) (said : List Reply)
+      → Stops known goes old (drop_idle (then_on next) next w said (address ∷ rest)) e new

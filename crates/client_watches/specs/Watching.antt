@@ -3,23 +3,14 @@ use Rattle.std.specs.Prelude.{◌≡◌, ℕ, suc, Bool, true, false, not, ◌&&
 use Rattle.plain_data.specs.Texts.{Bytes}
 use Rattle.rdt_types.specs.declared.address.Address.{Address}
 use Rattle.rdt_types.specs.declared.value.Value.{Value}
-use Rattle.rdt_types.specs.DeltaMaps.{delta_at}
 use Rattle.change_feed.specs.Feeds.{Fed}
-use Rattle.client_cache.specs.Histories.{apply_maybe}
-use Rattle.client_cache.specs.Cached.{Cached, empty, held, filled, released}
+use Rattle.client_cache.specs.Cached.{empty, held, filled, released, advanced}
 use Rattle.txn_lang.specs.declared.checked.Checked.{Checked}
 use Rattle.txn_lang.specs.declared.run.Run.{Run}
 use Rattle.txn_lang.specs.declared.run.Seen.{Seen}
 use Rattle.rerun_driver.specs.declared.watch.Watch.{Watch}
 use Rattle.rerun_driver.specs.Watches.{Watches, watch_of, with_watch, without_watch, reported, with_report, all_told, is_observed}
 use Rattle.client_watches.specs.declared.watching.Watching.{Watching}
-
--- A feed goes as far as it goes, and each value that is held has the feed's delta applied.
-abbrev pub advanced : Cached → Fed → Cached
-advanced cache feed = record {
-  at = feed.to;
-  values = map (λ (entry : Address × Value). (entry.0, apply_maybe (delta_at feed.changes entry.0) entry.1)) cache.values;
-}
 
 -- no watch yet, where so many commits are seen
 abbrev pub none_yet : ℕ → Watching

@@ -6,7 +6,7 @@ ghost use Rattle.rerun_driver.specs.Watches.{watch_of};
 ghost use Rattle.client_watches.specs.Watching as spec;
 ghost use Rattle.client_watches.specs.Phases.{Goal};
 ghost use Rattle.client_watches.specs.Keeping.{Keeps};
-ghost use Rattle.client_watches.specs.Leading.{Catches};
+ghost use Rattle.client_watches.specs.Leading.{Reruns, Catches};
 
 use crate::copies::copied;
 use crate::error::WatchError;
@@ -62,6 +62,35 @@ fn report(
     Ok(())
 }
 
+/// Runs the first stale watch, or asks for a value that its run needs. Where that is all, it answers whether none is stale; else
+/// a value was late, and that was said.
+fn rerun_one<B: Backend>(
+    backend: &mut B,
+    watching: &mut Watching,
+    said: &mut ReplyList,
+) -> Result<Option<bool>, WatchError>
+    requires { Keeps (B.known backend.old) watching.old }
+    ensures reruns { (goal : Goal) → Reruns B.known B.goes goal backend.old watching.old said.old result backend.new watching.new said.new }
+    ensures keeps { IfOk result (λ all. Keeps (B.known backend.new) watching.new) }
+    ensures free { IfOk result (λ all. spec.KeepsFree watching.old watching.new) }
+    ensures home { B.home backend.new ≡ B.home backend.old }
+{
+    match watching.watches.run_next(&watching.cache)? {
+        Rerun::NoneLeft => Ok(Some(true)),
+        Rerun::Ran(name, run) => {
+            report(watching, said, name, run)?;
+            Ok(None)
+        }
+        Rerun::Need(address) => match fetch(backend, watching, address)? {
+            Some(late) => {
+                said.push(late)?;
+                Ok(Some(false))
+            }
+            None => Ok(None),
+        },
+    }
+}
+
 /// Runs the stale watches one after another. It answers whether none is stale then; else a value was late, and that was said.
 pub(crate) fn catch_up<B: Backend>(
     backend: &mut B,
@@ -75,15 +104,8 @@ pub(crate) fn catch_up<B: Backend>(
     ensures home { B.home backend.new ≡ B.home backend.old }
 {
     for _ in 0..u64::MAX {
-        match watching.watches.run_next(&watching.cache)? {
-            Rerun::NoneLeft => return Ok(true),
-            Rerun::Ran(name, run) => report(watching, said, name, run)?,
-            Rerun::Need(address) => {
-                if let Some(late) = fetch(backend, watching, address)? {
-                    said.push(late)?;
-                    return Ok(false);
-                }
-            }
+        if let Some(all) = rerun_one(backend, watching, said)? {
+            return Ok(all);
         }
     }
     Err(WatchError::NoMemory)

@@ -1,12 +1,12 @@
 //! Values that no watch observes any longer are let go, and their changes are told no longer.
 
-ghost use Rattle.std.specs.Prelude.{◌≡◌, ◌≤◌, IfOk};
+ghost use Rattle.std.specs.Prelude.{◌≡◌, ◌≤◌, List, IfOk};
 ghost use Rattle.std.specs.List.{AllByRecursion};
 ghost use Rattle.txn_lang.specs.Short.{IsShortAddress};
 ghost use Rattle.client_watches.specs.Watching as spec;
 ghost use Rattle.client_watches.specs.Phases.{settled};
 ghost use Rattle.client_watches.specs.Keeping.{Keeps};
-ghost use Rattle.client_watches.specs.Leading.{Drops};
+ghost use Rattle.client_watches.specs.Leading.{Drops, DropsOne};
 
 use crate::error::WatchError;
 use crate::watching::{AddressList, Watching};
@@ -22,6 +22,26 @@ fn is_idle(watching: &Watching, address: &Address) -> bool
     watching.cache.get(address).is_some() && !watching.watches.observes(address)
 }
 
+/// Lets go what is held at an address, where no watch observes it.
+fn drop_one<B: Backend>(
+    backend: &mut B,
+    watching: &mut Watching,
+    address: &Address,
+) -> Result<(), WatchError>
+    requires { IsShortAddress address.now }
+    ensures drops { (rest : List Address) → DropsOne B.known B.goes backend.old watching.old address.now rest result backend.new watching.new }
+    ensures values { IfOk result (λ u. spec.IsButForValues watching.old watching.new) }
+    ensures seen { (B.known backend.old).seen ≤ (B.known backend.new).seen }
+    ensures home { B.home backend.new ≡ B.home backend.old }
+{
+    if !is_idle(watching, address) {
+        return Ok(());
+    }
+    backend.unsubscribe(address)?;
+    watching.cache.release(address);
+    Ok(())
+}
+
 /// Lets go what is held at addresses, where no watch observes it.
 fn drop_each<B: Backend>(
     backend: &mut B,
@@ -35,10 +55,7 @@ fn drop_each<B: Backend>(
     ensures home { B.home backend.new ≡ B.home backend.old }
 {
     for address in loose {
-        if is_idle(watching, address) {
-            backend.unsubscribe(address)?;
-            watching.cache.release(address);
-        }
+        drop_one(backend, watching, address)?;
     }
     Ok(())
 }

@@ -1,9 +1,10 @@
 //! The lines of watches: all are brought up to date, one is made, and one is forgotten.
 
-ghost use Rattle.std.specs.Prelude.{◌≡◌, ◌≤◌, ◌∷◌, [], IfOk, OnOk};
-ghost use Rattle.client_watches.specs.Phases.{start_sync, start_watch, start_unwatch};
+ghost use Rattle.std.specs.Prelude.{◌≡◌, ◌≤◌, ◌∷◌, [], None, IfOk, OnOk};
+ghost use Rattle.rerun_driver.specs.Watches.{watch_of};
+ghost use Rattle.client_watches.specs.Phases.{Goal, rerun_all, ending, start_sync, start_watch, start_unwatch};
 ghost use Rattle.client_watches.specs.Keeping.{Keeps};
-ghost use Rattle.client_watches.specs.Leading.{Went};
+ghost use Rattle.client_watches.specs.Leading.{Continues, Went};
 ghost use Rattle.client_watches.specs.Watching as spec;
 
 use crate::catching::{catch_up, loosen};
@@ -38,6 +39,46 @@ fn forget(watching: &mut Watching, name: &Text) -> Result<(), AllocError>
     Ok(())
 }
 
+/// Brings all watches up to date, and says that they hold, unless a value was late.
+fn say_current<B: Backend>(
+    backend: &mut B,
+    watching: &mut Watching,
+    said: &mut ReplyList,
+) -> Result<(), WatchError>
+    requires { Keeps (B.known backend.old) watching.old }
+    ensures continues { Continues B.known B.goes backend.old (rerun_all Goal.current watching.old said.old) (ending watching.new) result backend.new said.new }
+    ensures keeps { IfOk result (λ u. Keeps (B.known backend.new) watching.new) }
+    ensures home { B.home backend.new ≡ B.home backend.old }
+{
+    if catch_up(backend, watching, said)? {
+        said.push(Reply::Current(watching.cache.at()))?;
+    }
+    Ok(())
+}
+
+/// Brings all watches up to date, and makes a new one, unless a value was late.
+fn make<B: Backend>(
+    alloc: Global,
+    backend: &mut B,
+    watching: &mut Watching,
+    said: &mut ReplyList,
+    name: Text,
+    body: Checked,
+) -> Result<(), WatchError>
+    requires keeps { Keeps (B.known backend.old) watching.old }
+    requires free { watch_of watching.old.watches name ≡ None }
+    ensures continues { Continues B.known B.goes backend.old (rerun_all (Goal.watch name body) watching.old said.old)
+        (ending watching.new) result backend.new said.new }
+    ensures keeps { IfOk result (λ u. Keeps (B.known backend.new) watching.new) }
+    ensures home { B.home backend.new ≡ B.home backend.old }
+{
+    if catch_up(backend, watching, said)? {
+        drop_idle(alloc, backend, watching)?;
+        first_run(alloc, backend, watching, said, name, body)?;
+    }
+    Ok(())
+}
+
 impl Watching {
     /// No watch, where so many commits are seen. It takes no memory yet.
     pub fn new(alloc: Global, at: u64) -> Watching
@@ -63,9 +104,7 @@ impl Watching {
     {
         let mut said = ReplyList::new(alloc);
         take(backend, self)?;
-        if catch_up(backend, self, &mut said)? {
-            said.push(Reply::Current(self.cache.at()))?;
-        }
+        say_current(backend, self, &mut said)?;
         drop_idle(alloc, backend, self)?;
         Ok(said)
     }
@@ -88,10 +127,7 @@ impl Watching {
         }
         let mut said = ReplyList::new(alloc);
         take(backend, self)?;
-        if catch_up(backend, self, &mut said)? {
-            drop_idle(alloc, backend, self)?;
-            first_run(alloc, backend, self, &mut said, name, body)?;
-        }
+        make(alloc, backend, self, &mut said, name, body)?;
         drop_idle(alloc, backend, self)?;
         Ok(said)
     }
