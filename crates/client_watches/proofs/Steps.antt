@@ -22,7 +22,7 @@ use Rattle.client_watches.specs.declared.error.WatchError.TheVariants as error
 use Rattle.client_watches.specs.declared.watching.Watching.{Watching}
 use Rattle.client_watches.specs.Errors.{error_of}
 use Rattle.client_watches.specs.Watching.{after_feed, with_value, with_rerun, with_first, stale_count, is_idle, without_value}
-use Rattle.client_watches.specs.Phases.{Phase, Goal, Job, Then, asks, after, drop_idle, then_on, ending, first_by, first_run, caught_up, rerun_by, rerun_up_to, rerun_all, go_on}
+use Rattle.client_watches.specs.Phases.{Phase, Goal, Job, Then, asks, after, settled as none_loose, drop_idle, then_on, ending, first_by, first_run, caught_up, rerun_by, rerun_up_to, rerun_all, go_on}
 use Rattle.client_watches.specs.Keeping.{AreDistinct}
 use Rattle.client_watches.specs.Leading.{Leads, Reaches, Stops, Went, IsLateBy, Takes, HasFetched, WasLate, Fetches, Catches, Reruns, Runs, Drops, DropsOne, Continues}
 use Rattle.client_watches.proofs.Stale.{it-needs, some-stale, one-fewer}
@@ -396,3 +396,42 @@ module _ {B : Type 0} (known : B → Known) (goes : B → Call → Answer → B 
   pub drops-err : (b : B) (w : Watching) (loose : List Address) (result : Result (Unit {0}) WatchError) (e : WatchError) (c : B) (v : Watching) → result ≡ Err e
       → ((next : Then) (said : List Reply) → Stops known goes b (drop_idle (then_on next) next w said loose) e c) → Drops known goes b w loose result c v
   drops-err b w loose result e c v is stops = subst (λ r. Drops known goes b w loose r c v) (sym is) stops
+
+-- an option in which nothing stands is none
+pub none-else : {A : Type 0} (o : Option A) → ((x : A) → o ≡ Some x → ⊥) → o ≡ None
+none-else None h = refl
+none-else (Some x) h = absurd (h x refl)
+
+module _ {B : Type 0} (known : B → Known) (goes : B → Call → Answer → B → Type 0) where
+  -- ---- whole lines
+
+  -- what is owed of an error
+  pub went-err : (b : B) (p : Phase) (result : Result (List Reply) WatchError) (e : WatchError) (c : B) (w : Watching) → result ≡ Err e
+      → Stops known goes b p e c → Went known goes b p result c w
+  went-err b p result e c w is stops = subst (λ r. Went known goes b p r c w) (sym is) stops
+
+  pub continues-err : (b : B) (p : Phase) (next : List Reply → Phase) (result : Result (Unit {0}) WatchError) (e : WatchError) (c : B) (said : List Reply)
+      → result ≡ Err e → Stops known goes b p e c → Continues known goes b p next result c said
+  continues-err b p next result e c said is stops = subst (λ r. Continues known goes b p next r c said) (sym is) stops
+
+  -- the line ends once what no watch observes is let go
+  pub line-ends : (b : B) (p : Phase) (c : B) (w : Watching) (said : List Reply) (u : Unit {0}) (d : B) (v : Watching) → Reaches known goes b p c (ending w said)
+      → Drops known goes c (none_loose w) w.loose (Ok u) d v → Reaches known goes b p d (Phase.over v said)
+  line-ends b p c w said u d v led drops = and-then known goes b p c (ending w said) d (Phase.over v said) led (drops Then.ends said)
+
+  pub line-breaks : (b : B) (p : Phase) (c : B) (w : Watching) (said : List Reply) (e : WatchError) (d : B) (v : Watching)
+      → Reaches known goes b p c (ending w said) → Drops known goes c (none_loose w) w.loose (Err e) d v → Stops known goes b p e d
+  line-breaks b p c w said e d v led drops = stops-behind known goes b p c (ending w said) e d led (drops Then.ends said)
+
+  -- a new watch begins
+  pub line-begins : (b : B) (p : Phase) (c : B) (name : Bytes) (body : Checked) (w : Watching) (said : List Reply) (u : Unit {0}) (d : B) (v : Watching)
+      → Reaches known goes b p c (caught_up (Goal.watch name body) w said) → Drops known goes c (none_loose w) w.loose (Ok u) d v
+      → Reaches known goes b p d (first_run name body v said)
+  line-begins b p c name body w said u d v led drops =
+      and-then known goes b p c (caught_up (Goal.watch name body) w said) d (first_run name body v said) led (drops (Then.begins name body) said)
+
+  pub line-halts : (b : B) (p : Phase) (c : B) (name : Bytes) (body : Checked) (w : Watching) (said : List Reply) (e : WatchError) (d : B) (v : Watching)
+      → Reaches known goes b p c (caught_up (Goal.watch name body) w said) → Drops known goes c (none_loose w) w.loose (Err e) d v
+      → Stops known goes b p e d
+  line-halts b p c name body w said e d v led drops =
+      stops-behind known goes b p c (caught_up (Goal.watch name body) w said) e d led (drops (Then.begins name body) said)
