@@ -1,5 +1,6 @@
 -- Steps put together.
-use Rattle.std.proofs.Common.{◌≡◌, ℕ, zero, suc, ◌+◌, ◌≤◌, Bool, true, false, cond, List, [], ◌∷◌, ◌++◌, Option, Some, None, Result, Ok, Err, refl, sym, ap, ◌∙◌, subst, arith}
+use Rattle.std.proofs.Common.{◌≡◌, ℕ, zero, suc, ◌+◌, ◌≤◌, ◌<◌, Bool, true, false, cond, List, [], ◌∷◌, ◌++◌, length, drop, get_or, Option, Some, None, Result, Ok, Err, refl, sym, ap, ◌∙◌, subst, arith, add-one}
+use Rattle.std.proofs.Math.Seq.{drop-cons}
 use Rattle.plain_data.specs.Texts.{Bytes}
 use Rattle.rdt_types.specs.declared.address.Address.{Address}
 use Rattle.rdt_types.specs.declared.value.Value.{Value}
@@ -435,3 +436,7 @@ module _ {B : Type 0} (known : B → Known) (goes : B → Call → Answer → B 
       → Stops known goes b p e d
   line-halts b p c name body w said e d v led drops =
       stops-behind known goes b p c (caught_up (Goal.watch name body) w said) e d led (drops (Then.begins name body) said)
+
+-- the next of some items, and the rest
+pub next-drop : {A : Type 0} (xs : List A) (i : ℕ) (x : A) → i < length xs → x ≡ get_or xs i x → drop i xs ≡ x ∷ drop (i + 1) xs
+next-drop xs i x within e = drop-cons xs i x within ∙ (λ j. sym e j ∷ drop (sym (add-one i) j) xs)

@@ -1,7 +1,9 @@
 //! A new watch: its first run, and that it is kept then.
 
-ghost use Rattle.std.specs.Prelude.{◌≡◌, ◌∷◌, [], ◌++◌, None, IfOk, OnOk};
+ghost use Rattle.std.specs.Prelude.{◌≡◌, ◌∷◌, [], ◌++◌, None, IfSome, IfOk, OnOk};
 ghost use Rattle.session_text.specs.declared.reply.Reply.TheVariants as reply;
+ghost use Rattle.txn_lang.specs.Execution.{exec, done};
+ghost use Rattle.client_cache.specs.Cached.{held};
 ghost use Rattle.rerun_driver.specs.Watches.{watch_of};
 ghost use Rattle.client_watches.specs.Watching as spec;
 ghost use Rattle.client_watches.specs.Phases as phases;
@@ -33,6 +35,7 @@ fn run_body<B: Backend>(
     ensures runs { Runs B.known B.goes body.now backend.old watching.old said.old result backend.new watching.new said.new }
     ensures keeps { IfOk result (λ run. Keeps (B.known backend.new) watching.new) }
     ensures watches { IfOk result (λ run. watching.new.watches ≡ watching.old.watches) }
+    ensures done { IfOk result (λ run. IfSome run (λ run. exec body.now.body (held watching.new.cache) ≡ done run)) }
     ensures home { B.home backend.new ≡ B.home backend.old }
 {
     for _ in 0..u64::MAX {
