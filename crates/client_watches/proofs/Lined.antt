@@ -39,7 +39,7 @@ shown-named (x ∷ ws) name = by (bytes_eq name x.0) (shown-named ws name)
     by false rest = rest
 
 -- a name that isn't found is free
-free-name : (o : Option Watch) → is_some o ≡ false → o ≡ None
+pub free-name : (o : Option Watch) → is_some o ≡ false → o ≡ None
 free-name None e = refl
 free-name (Some watch) e = absurd (cc)
 

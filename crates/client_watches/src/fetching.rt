@@ -3,6 +3,7 @@
 ghost use Rattle.std.specs.Prelude.{◌≡◌, ◌≤◌, IfOk, Err};
 ghost use Rattle.txn_lang.specs.Short.{IsShortAddress};
 ghost use Rattle.docc_prepare.specs.Calls.{value_answered};
+ghost use Rattle.client_watches.specs.Watching.{KeepsFree};
 ghost use Rattle.client_watches.specs.Keeping.{Keeps};
 ghost use Rattle.client_watches.specs.Leading.{Takes, Fetches, IsLateBy};
 
@@ -18,6 +19,7 @@ pub(crate) fn take<B: Backend>(backend: &mut B, watching: &mut Watching) -> Resu
     requires { Keeps (B.known backend.old) watching.old }
     ensures takes { Takes B.known B.goes backend.old watching.old result backend.new watching.new }
     ensures keeps { IfOk result (λ u. Keeps (B.known backend.new) watching.new) }
+    ensures free { IfOk result (λ u. KeepsFree watching.old watching.new) }
     ensures home { B.home backend.new ≡ B.home backend.old }
 {
     let feed = backend.take()?;

@@ -22,7 +22,7 @@ use std::alloc::{AllocError, Global};
 use txn_lang::Checked;
 
 /// One reply.
-fn said(alloc: Global, reply: Reply) -> Result<ReplyList, AllocError>
+fn one_reply(alloc: Global, reply: Reply) -> Result<ReplyList, AllocError>
     ensures { IfOk result (λ said. said ≡ reply ∷ []) }
 {
     let mut said = ReplyList::new(alloc);
@@ -50,9 +50,11 @@ fn say_current<B: Backend>(
     ensures keeps { IfOk result (λ u. Keeps (B.known backend.new) watching.new) }
     ensures home { B.home backend.new ≡ B.home backend.old }
 {
-    if catch_up(backend, watching, said)? {
-        said.push(Reply::Current(watching.cache.at()))?;
+    let all = catch_up(backend, watching, said)?;
+    if !all {
+        return Ok(());
     }
+    said.push(Reply::Current(watching.cache.at()))?;
     Ok(())
 }
 
@@ -72,10 +74,12 @@ fn make<B: Backend>(
     ensures keeps { IfOk result (λ u. Keeps (B.known backend.new) watching.new) }
     ensures home { B.home backend.new ≡ B.home backend.old }
 {
-    if catch_up(backend, watching, said)? {
-        drop_idle(alloc, backend, watching)?;
-        first_run(alloc, backend, watching, said, name, body)?;
+    let all = catch_up(backend, watching, said)?;
+    if !all {
+        return Ok(());
     }
+    drop_idle(alloc, backend, watching)?;
+    first_run(alloc, backend, watching, said, name, body)?;
     Ok(())
 }
 
@@ -122,8 +126,9 @@ impl Watching {
         ensures keeps { IfOk result (λ said. Keeps (B.known backend.new) self.new) }
         ensures home { B.home backend.new ≡ B.home backend.old }
     {
+        let refusal = one_reply(alloc, Reply::Refused(Why::Name))?;
         if self.watches.has(&name) {
-            return Ok(said(alloc, Reply::Refused(Why::Name))?);
+            return Ok(refusal);
         }
         let mut said = ReplyList::new(alloc);
         take(backend, self)?;
@@ -144,12 +149,13 @@ impl Watching {
         ensures keeps { IfOk result (λ said. Keeps (B.known backend.new) self.new) }
         ensures home { B.home backend.new ≡ B.home backend.old }
     {
+        let refusal = one_reply(alloc, Reply::Refused(Why::NoAttempt))?;
         if !self.watches.has(name) {
-            return Ok(said(alloc, Reply::Refused(Why::NoAttempt))?);
+            return Ok(refusal);
         }
-        let said = said(alloc, Reply::Dropped)?;
+        let dropped = one_reply(alloc, Reply::Dropped)?;
         forget(self, name)?;
         drop_idle(alloc, backend, self)?;
-        Ok(said)
+        Ok(dropped)
     }
 }

@@ -2,6 +2,8 @@ use Rattle.std.proofs.Common.{◌≡◌, refl, subst, sym, ap, ◌∙◌}
 use Rattle.std.proofs.lemmas.Result.{err_from_is_err_and}
 use Rattle.client_watches.specs.Keeping.{Keeps}
 use Rattle.client_watches.specs.Watching.{after_feed}
+use Rattle.rerun_driver.specs.Watches.{Watches, watch_of}
+use Rattle.client_watches.proofs.Names.{none-told}
 use Rattle.client_watches.proofs.Kept.{keeps-feed}
 use Rattle.client_watches.proofs.Steps.{take-failed, take-wants, take-done}
 use Rattle.client_watches.proofs.fetching.take.Goals as goal
@@ -30,3 +32,7 @@ returns-clause-keeps g c =
     (sym (λ i. record { watches = c.advance-2.ensures i; cache = c.in_ok-advance.ensures.ok i; loose = c.args.watching.now.loose }))
     (keeps-feed (g.B.Backend.known c.args.backend.now) (g.B.Backend.known c.take.new.self) c.args.watching.now c.in_ok-feed.feed c.requires
     c.in_ok-feed.ensures.goes.answered.shows.0)
+
+pub returns-clause-free : goal.returns-clause-free
+returns-clause-free g c = λ name none.
+    ap (λ (ws : Watches). watch_of ws name) c.advance-2.ensures ∙ none-told name c.in_ok-feed.feed.changes c.args.watching.now.watches none
