@@ -1,5 +1,6 @@
 -- Each answer keeps what a phase tells, of a journal that may have grown; so the whole line keeps to it.
-use Rattle.std.proofs.Common.{◌≡◌, ◌⊎◌, inl, inr, ℕ, zero, suc, ◌+◌, ◌≤◌, Bool, true, false, cond, not, ◌&&◌, ◌||◌, List, [], ◌∷◌, ◌++◌, map, length, Option, Some, None, option_map, is_some, IsSome, refl, sym, ap, ◌∙◌, subst, arith}
+use Rattle.std.proofs.Common.{◌≡◌, ◌⊎◌, inl, inr, ℕ, zero, suc, ◌+◌, ◌≤◌, Bool, true, false, cond, not, ◌&&◌, ◌||◌, List, [], ◌∷◌, ◌++◌, map, length}
+use Rattle.std.proofs.Common.{Option, Some, None, option_map, is_some, IsSome, refl, sym, ap, ◌∙◌, subst, arith}
 use Rattle.std.specs.List.{AllByRecursion}
 use Rattle.std.specs.BTreeMap.{is_at}
 use Rattle.std.specs.Ordering.{is_eq}
@@ -29,14 +30,16 @@ use Rattle.client_watches.specs.Phases.{Phase, Goal, Job, Then, asks, after, dro
 use Rattle.client_watches.specs.Keeping.{Keeps}
 use Rattle.client_watches.specs.Standing.{Subscribes, Stands, CanRead, CanReadOn}
 use Rattle.client_watches.specs.Leading.{Leads}
-use Rattle.client_watches.specs.Explained.{Shown, ShownList, shown_of, Reports, AllHold, IsShownAt, IsCurrent, IsCutShort, IsMade, SyncPasses, WatchPasses, GoalPasses}
+use Rattle.client_watches.specs.Explained.{Shown, ShownList, shown_of, Reports, AllHold, IsShownAt, IsCurrent, IsCutShort, IsMade, SyncPasses, WatchPasses}
+use Rattle.client_watches.specs.Explained.{GoalPasses}
 use Rattle.client_watches.proofs.Names.{none-told}
 use Rattle.client_watches.proofs.Kept.{keeps-on, keeps-value, keeps-values, keeps-feed}
 use Rattle.client_watches.proofs.Journals.{prefix-shorter, prefix-state, prefix-again}
 use Rattle.client_watches.proofs.Stays.{AreUpTo, outcome-stays, reports-stay, hold-stay, stands-stay, reports-up-to}
 use Rattle.client_watches.proofs.Values.{held-advanced, rise-advanced, held-filled, rise-filled, held-released, rise-released, at-same, at-turned}
 use Rattle.client_watches.proofs.Moving.{stands-value, stands-without_value, stands-feed}
-use Rattle.client_watches.proofs.Telling.{shown-told, all-up-to, up-to-more, IsReady, Going, IsFree, JobTells, ThenTells, IsReading, PhaseTells, drops-on, ending-tells, first-tells, reruns-tell}
+use Rattle.client_watches.proofs.Telling.{shown-told, all-up-to, up-to-more, IsReady, Going, IsFree, JobTells, ThenTells, IsReading, PhaseTells, drops-on}
+use Rattle.client_watches.proofs.Telling.{ending-tells, first-tells, reruns-tell}
 
 -- ---- what is subscribed to
 
@@ -144,7 +147,8 @@ module _ (window low : ℕ) (story : ShownList) (upto : AreUpTo low story) (old 
     below = is.below;
     behind = let b = is.behind in let up = prefix-shorter old new p in omega arith;
     front = is.front;
-    reports = reports-stay old new could.readable.numbered can.readable.numbered p is.n is.shown_at.within story is.front later (at-most is.n is.shown_at) is.reports;
+    reports = reports-stay old new could.readable.numbered can.readable.numbered p is.n is.shown_at.within story is.front later
+        (at-most is.n is.shown_at) is.reports;
     replies_are = is.replies_are;
   }
 
@@ -154,7 +158,8 @@ module _ (window low : ℕ) (story : ShownList) (upto : AreUpTo low story) (old 
     n = is.n;
     shown_at = shown-stays is.n is.shown_at;
     front = is.front;
-    reports = reports-stay old new could.readable.numbered can.readable.numbered p is.n is.shown_at.within story is.front later (at-most is.n is.shown_at) is.reports;
+    reports = reports-stay old new could.readable.numbered can.readable.numbered p is.n is.shown_at.within story is.front later
+        (at-most is.n is.shown_at) is.reports;
     all = hold-stay old new could.readable.numbered can.readable.numbered p is.n is.shown_at.within later
         (reports-up-to old is.n is.n story is.front later (omega arith) (at-most is.n is.shown_at) is.reports) is.all;
     replies_are = is.replies_are;
@@ -199,7 +204,7 @@ module _ (window low : ℕ) (goal : Goal) (story : ShownList) (upto : AreUpTo lo
   then-stays p Then.ends w v said taken watches at stands is = (
     stands,
     subst (λ (ws : Watches). GoalPasses window new low goal story said (shown_of ws)) (sym watches)
-    (passes-stay window low story upto old new could can p goal said (shown_of w.watches) is.1),
+        (passes-stay window low story upto old new could can p goal said (shown_of w.watches) is.1),
   )
   then-stays p (Then.begins name body) w v said taken watches at stands is =
       let on = job-stays window low goal story old new could can p (Job.first_of name body) w said is.0 in (
@@ -213,7 +218,7 @@ module _ (window low : ℕ) (goal : Goal) (story : ShownList) (upto : AreUpTo lo
                 (subst (λ (ws : Watches). Reports new w.cache.at story said (shown_of ws)) (sym watches) on.1.reports);
           },
           subst (λ (n : ℕ). AllHold new n (shown_of v.watches)) (sym at)
-          (subst (λ (ws : Watches). AllHold new w.cache.at (shown_of ws)) (sym watches) on.2),
+              (subst (λ (ws : Watches). AllHold new w.cache.at (shown_of ws)) (sym watches) on.2),
         ),
         taken ∙ is.1 ∙ sym at,
         free is.2,

@@ -1,6 +1,7 @@
 -- What stands for the journal stands for it still: after a feed, a value more, a report, a new watch, and once a watch or a value
 -- is gone.
-use Rattle.std.proofs.Common.{◌≡◌, ℕ, ◌≤◌, Bool, true, false, cond, not, ◌&&◌, ◌||◌, List, [], ◌∷◌, ◌++◌, map, length, Option, Some, None, option_map, is_some, IsSome, refl, sym, ap, ◌∙◌, subst, arith}
+use Rattle.std.proofs.Common.{◌≡◌, ℕ, ◌≤◌, Bool, true, false, cond, not, ◌&&◌, ◌||◌, List, [], ◌∷◌, ◌++◌, map, length, Option, Some, None, option_map}
+use Rattle.std.proofs.Common.{is_some, IsSome, refl, sym, ap, ◌∙◌, subst, arith}
 use Rattle.std.specs.List.{AllByRecursion, list_any}
 use Rattle.std.specs.Map.{set_value, remove_entry}
 use Rattle.std.specs.BTreeMap.{is_at}
@@ -106,14 +107,17 @@ stands-value journal w address value same is = record {
 
     all : (ws : Watches) → AllStand journal w.cache ws → AllStand journal (filled w.cache address value) ws
     all [] h = tt
-    all (x ∷ ws) h = (record {
-      number = h.0.number;
-      run = h.0.run;
-      ran = h.0.ran;
-      observed = h.0.observed;
-      stale = h.0.stale;
-      held = held-more w.cache (filled w.cache address value) x.1.observations more h.0.held;
-    }, all ws h.1)
+    all (x ∷ ws) h = (
+      record {
+        number = h.0.number;
+        run = h.0.run;
+        ran = h.0.ran;
+        observed = h.0.observed;
+        stale = h.0.stale;
+        held = held-more w.cache (filled w.cache address value) x.1.observations more h.0.held;
+      },
+      all ws h.1,
+    )
 
 -- ---- reports
 
@@ -201,14 +205,17 @@ module _ (journal : Journal) (w : Watching) (address : Address) (rising : Rise w
       by : (b : Bool) → is_observed_by address x.1.observations ≡ b → (b || is_observed ws address) ≡ false
           → (is_observed ws address ≡ false → AllStand journal (released w.cache address) ws) → AllStand journal (released w.cache address) (x ∷ ws)
       by true e h rest = absurd (cc)
-      by false e h rest = (record {
-        number = all.0.number;
-        run = all.0.run;
-        ran = all.0.ran;
-        observed = all.0.observed;
-        stale = all.0.stale;
-        held = kept x.1.observations e all.0.held;
-      }, rest h)
+      by false e h rest = (
+        record {
+          number = all.0.number;
+          run = all.0.run;
+          ran = all.0.ran;
+          observed = all.0.observed;
+          stale = all.0.stale;
+          held = kept x.1.observations e all.0.held;
+        },
+        rest h,
+      )
 
   pub stands-without_value : Stands journal (without_value w address)
   stands-without_value = record {
@@ -290,12 +297,15 @@ module _ (k l : Known) (w : Watching) (feed : Fed) (old new : Journal) (keeps : 
     where
       all : (ws : Watches) → AllStand old w.cache ws → AllStand new (advanced w.cache feed) (all_told feed.changes ws)
       all [] h = tt
-      all (x ∷ ws) h = (record {
-        number = let b = h.0.number in let f = forward in omega arith;
-        run = h.0.run;
-        ran = run-stays old new could.readable.numbered can.readable.numbered says.grows x.1.number x.1.body
-            (let b = h.0.number in let within = is.within in omega arith) ∙ h.0.ran;
-        observed = h.0.observed;
-        stale = fed-stale x.1 h.0;
-        held = held-more w.cache (advanced w.cache feed) x.1.observations fed-held h.0.held;
-      }, all ws h.1)
+      all (x ∷ ws) h = (
+        record {
+          number = let b = h.0.number in let f = forward in omega arith;
+          run = h.0.run;
+          ran = run-stays old new could.readable.numbered can.readable.numbered says.grows x.1.number x.1.body
+              (let b = h.0.number in let within = is.within in omega arith) ∙ h.0.ran;
+          observed = h.0.observed;
+          stale = fed-stale x.1 h.0;
+          held = held-more w.cache (advanced w.cache feed) x.1.observations fed-held h.0.held;
+        },
+        all ws h.1,
+      )

@@ -73,7 +73,8 @@ pub record HasRun (state : PartialState) (ws : Watches) (name : Bytes) (run : Ru
 pub has-run : (state : PartialState) (ws : Watches) (name : Bytes) (run : Run) → next_rerun state ws ≡ rerun.Ran name run → HasRun state ws name run
 has-run state ws name run e = by (first_stale ws) refl e
   where
-    one : (x : Bytes × Watch) (r : Ran) → first_stale ws ≡ Some x → exec x.1.body.body state ≡ r → rerun_of x.0 r ≡ rerun.Ran name run → HasRun state ws name run
+    one : (x : Bytes × Watch) (r : Ran) → first_stale ws ≡ Some x → exec x.1.body.body state ≡ r → rerun_of x.0 r ≡ rerun.Ran name run
+        → HasRun state ws name run
     one x (need address) f is h = absurd (cc)
     one x (done other) f is h =
         let named : x.0 ≡ name = cc in let same : other ≡ run = cc in record {
@@ -95,7 +96,8 @@ pub record Needs (state : PartialState) (ws : Watches) (address : Address) : Typ
 pub it-needs : (state : PartialState) (ws : Watches) (address : Address) → next_rerun state ws ≡ rerun.Need address → Needs state ws address
 it-needs state ws address e = by (first_stale ws) refl e
   where
-    one : (x : Bytes × Watch) (r : Ran) → first_stale ws ≡ Some x → exec x.1.body.body state ≡ r → rerun_of x.0 r ≡ rerun.Need address → Needs state ws address
+    one : (x : Bytes × Watch) (r : Ran) → first_stale ws ≡ Some x → exec x.1.body.body state ≡ r → rerun_of x.0 r ≡ rerun.Need address
+        → Needs state ws address
     one x (need other) f is h = let same : other ≡ address = cc in record { entry = x; first = f; needed = is ∙ ap need same }
     one x (done run) f is h = absurd (cc)
 

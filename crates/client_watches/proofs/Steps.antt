@@ -1,5 +1,6 @@
 -- Steps put together.
-use Rattle.std.proofs.Common.{◌≡◌, ℕ, zero, suc, ◌+◌, ◌≤◌, ◌<◌, Bool, true, false, cond, List, [], ◌∷◌, ◌++◌, length, drop, get_or, Option, Some, None, Result, Ok, Err, refl, sym, ap, ◌∙◌, subst, arith, add-one}
+use Rattle.std.proofs.Common.{◌≡◌, ℕ, zero, suc, ◌+◌, ◌≤◌, ◌<◌, Bool, true, false, cond, List, [], ◌∷◌, ◌++◌, length, drop, get_or, Option, Some, None}
+use Rattle.std.proofs.Common.{Result, Ok, Err, refl, sym, ap, ◌∙◌, subst, arith, add-one}
 use Rattle.std.proofs.Math.Seq.{drop-cons}
 use Rattle.plain_data.specs.Texts.{Bytes}
 use Rattle.rdt_types.specs.declared.address.Address.{Address}
@@ -23,9 +24,11 @@ use Rattle.client_watches.specs.declared.error.WatchError.TheVariants as error
 use Rattle.client_watches.specs.declared.watching.Watching.{Watching}
 use Rattle.client_watches.specs.Errors.{error_of}
 use Rattle.client_watches.specs.Watching.{after_feed, with_value, with_rerun, with_first, stale_count, is_idle, without_value}
-use Rattle.client_watches.specs.Phases.{Phase, Goal, Job, Then, asks, after, settled as none_loose, drop_idle, then_on, ending, first_by, first_run, caught_up, rerun_by, rerun_up_to, rerun_all, go_on}
+use Rattle.client_watches.specs.Phases.{Phase, Goal, Job, Then, asks, after, settled as none_loose, drop_idle, then_on, ending, first_by, first_run}
+use Rattle.client_watches.specs.Phases.{caught_up, rerun_by, rerun_up_to, rerun_all, go_on}
 use Rattle.client_watches.specs.Keeping.{AreDistinct}
-use Rattle.client_watches.specs.Leading.{Leads, Reaches, Stops, Went, IsLateBy, Takes, HasFetched, WasLate, Fetches, Catches, Reruns, Runs, Drops, DropsOne, Continues}
+use Rattle.client_watches.specs.Leading.{Leads, Reaches, Stops, Went, IsLateBy, Takes, HasFetched, WasLate, Fetches, Catches, Reruns, Runs, Drops}
+use Rattle.client_watches.specs.Leading.{DropsOne, Continues}
 use Rattle.client_watches.proofs.Stale.{it-needs, some-stale, one-fewer}
 
 -- more steps behind
@@ -416,7 +419,8 @@ module _ {B : Type 0} (known : B → Known) (goes : B → Call → Answer → B 
   continues-err b p next result e c said is stops = subst (λ r. Continues known goes b p next r c said) (sym is) stops
 
   -- the line ends once what no watch observes is let go
-  pub line-ends : (b : B) (p : Phase) (c : B) (w : Watching) (said : List Reply) (u : Unit {0}) (d : B) (v : Watching) → Reaches known goes b p c (ending w said)
+  pub line-ends : (b : B) (p : Phase) (c : B) (w : Watching) (said : List Reply) (u : Unit {0}) (d : B) (v : Watching)
+      → Reaches known goes b p c (ending w said)
       → Drops known goes c (none_loose w) w.loose (Ok u) d v → Reaches known goes b p d (Phase.over v said)
   line-ends b p c w said u d v led drops = and-then known goes b p c (ending w said) d (Phase.over v said) led (drops Then.ends said)
 

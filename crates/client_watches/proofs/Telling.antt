@@ -1,5 +1,6 @@
 -- What the phases of a line tell of the journal, and that each step keeps to it.
-use Rattle.std.proofs.Common.{◌≡◌, ◌⊎◌, inl, inr, ℕ, zero, suc, ◌+◌, ◌≤◌, Bool, true, false, cond, not, ◌&&◌, ◌||◌, List, [], ◌∷◌, ◌++◌, map, length, Option, Some, None, option_map, is_some, IsSome, refl, sym, ap, ◌∙◌, subst, arith}
+use Rattle.std.proofs.Common.{◌≡◌, ◌⊎◌, inl, inr, ℕ, zero, suc, ◌+◌, ◌≤◌, Bool, true, false, cond, not, ◌&&◌, ◌||◌, List, [], ◌∷◌, ◌++◌, map, length}
+use Rattle.std.proofs.Common.{Option, Some, None, option_map, is_some, IsSome, refl, sym, ap, ◌∙◌, subst, arith}
 use Rattle.std.specs.List.{AllByRecursion}
 use Rattle.std.specs.BTreeMap.{is_at}
 use Rattle.std.specs.Ordering.{is_eq}
@@ -27,10 +28,12 @@ use Rattle.docc_prepare.specs.Calls.{Known, Call, Answer, is_fault}
 use Rattle.docc_prepare.specs.Backends.{IsAnswered, SaysOfJournal, IsPrefix}
 use Rattle.client_watches.specs.declared.watching.Watching.{Watching}
 use Rattle.client_watches.specs.Watching.{after_feed, with_value, with_rerun, with_first, is_idle, without_value, stale_count}
-use Rattle.client_watches.specs.Phases.{Phase, Goal, Job, Then, asks, after, settled as none_loose, drop_idle, then_on, ending, first_by, first_run, caught_up, rerun_by, rerun_up_to, rerun_all, go_on}
+use Rattle.client_watches.specs.Phases.{Phase, Goal, Job, Then, asks, after, settled as none_loose, drop_idle, then_on, ending, first_by, first_run}
+use Rattle.client_watches.specs.Phases.{caught_up, rerun_by, rerun_up_to, rerun_all, go_on}
 use Rattle.client_watches.specs.Keeping.{AreDistinct, Keeps}
 use Rattle.client_watches.specs.Standing.{Subscribes, WatchStands, Stands, CanRead}
-use Rattle.client_watches.specs.Explained.{Shown, ShownList, shown_of, IsOutcomeAt, Reports, AllHold, IsShownAt, IsCurrent, IsCutShort, IsMade, SyncPasses, WatchPasses, GoalPasses}
+use Rattle.client_watches.specs.Explained.{Shown, ShownList, shown_of, IsOutcomeAt, Reports, AllHold, IsShownAt, IsCurrent, IsCutShort, IsMade, SyncPasses}
+use Rattle.client_watches.specs.Explained.{WatchPasses, GoalPasses}
 use Rattle.client_watches.proofs.Names.{reported_in, none-report}
 use Rattle.client_watches.proofs.Stale.{has-run, it-needs, first-among, one-fewer, none-if-zero, none-if-left}
 use Rattle.client_watches.proofs.Kept.{keeps-on, keeps-value, keeps-feed, keeps-rerun, keeps-first, keeps-none_loose}

@@ -1,5 +1,6 @@
 -- The values that are held: after a feed, with one more, and with one less.
-use Rattle.std.proofs.Common.{◌≡◌, ℕ, ◌≤◌, Bool, true, false, cond, not, ◌&&◌, ◌||◌, List, [], ◌∷◌, ◌++◌, map, Option, Some, None, option_map, is_some, IsSome, refl, sym, ap, ◌∙◌, subst}
+use Rattle.std.proofs.Common.{◌≡◌, ℕ, ◌≤◌, Bool, true, false, cond, not, ◌&&◌, ◌||◌, List, [], ◌∷◌, ◌++◌, map, Option, Some, None, option_map, is_some}
+use Rattle.std.proofs.Common.{IsSome, refl, sym, ap, ◌∙◌, subst}
 use Rattle.std.specs.List.{AllByRecursion, list_any}
 use Rattle.std.specs.List.Sorted.{IsStrictlySortedBy}
 use Rattle.std.specs.Map.{lookup, keys_of, remove_entry}
@@ -32,7 +33,8 @@ Rise values = IsStrictlySortedBy address_cmp (keys_of values)
 -- ---- a feed
 
 -- each value has the delta at its address applied
-pub held-advanced : (cache : Cached) (feed : Fed) (a : Address) → held (advanced cache feed) a ≡ option_map (apply_maybe (delta_at feed.changes a)) (held cache a)
+pub held-advanced : (cache : Cached) (feed : Fed) (a : Address)
+    → held (advanced cache feed) a ≡ option_map (apply_maybe (delta_at feed.changes a)) (held cache a)
 held-advanced cache feed a = all cache.values
   where
     all : (values : Values) → value_at (map (λ (entry : Address × Value). (entry.0, apply_maybe (delta_at feed.changes entry.0) entry.1)) values) a
@@ -53,7 +55,8 @@ held-advanced cache feed a = all cache.values
 pub rise-advanced : (cache : Cached) (feed : Fed) → Rise cache.values → Rise (advanced cache feed).values
 rise-advanced cache feed rising = subst (IsStrictlySortedBy address_cmp) (sym (all cache.values)) rising
   where
-    all : (values : Values) → keys_of (map (λ (entry : Address × Value). (entry.0, apply_maybe (delta_at feed.changes entry.0) entry.1)) values) ≡ keys_of values
+    all : (values : Values)
+        → keys_of (map (λ (entry : Address × Value). (entry.0, apply_maybe (delta_at feed.changes entry.0) entry.1)) values) ≡ keys_of values
     all [] = refl
     all (entry ∷ values) = ap (λ keys. entry.0 ∷ keys) (all values)
 

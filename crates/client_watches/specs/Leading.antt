@@ -97,7 +97,8 @@ module _ {B : Type 0} (known : B → Known) (goes : B → Call → Answer → B 
 
   -- what letting go comes to, whatever is done then
   abbrev pub Drops : B → Watching → List Address → Result (Unit {0}) WatchError → B → Watching → Type 0
-  Drops old w loose (Ok u) new v = (next : Then) (said : List Reply) → Reaches known goes old (drop_idle (then_on next) next w said loose) new (then_on next v said)
+  Drops old w loose (Ok u) new v = (next : Then) (said : List Reply)
+      → Reaches known goes old (drop_idle (then_on next) next w said loose) new (then_on next v said)
   Drops old w loose (Err e) new v = (next : Then) (said : List Reply) → Stops known goes old (drop_idle (then_on next) next w said loose) e new
 
   -- the same of the first of some addresses
