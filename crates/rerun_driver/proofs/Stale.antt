@@ -105,7 +105,7 @@ clash-pending seen changes all =
 -- ---- one feed
 
 -- it touches what the changes do of which it has what is pending
-touches-pending : (changes : List Change) (from : ℕ) (feed : Fed) (observations : List Seen) → AreOfTheirKinds changes
+pub touches-pending : (changes : List Change) (from : ℕ) (feed : Fed) (observations : List Seen) → AreOfTheirKinds changes
     → AllByRecursion (λ seen. delta_at feed.changes seen.address ≡ pending seen.address (between from feed.to changes)) observations
     → touches feed.changes observations ≡ is_touched changes from feed.to observations
 touches-pending changes from feed [] kinds all = refl
@@ -165,7 +165,7 @@ module _ (a b c : ℕ) (first : a ≤ b) (second : b ≤ c) where
       ∙ (λ i. within_or a b c change.number (test change) first second i || any-joined test changes i)
 
   -- so observations are touched in one of two spans where they are in both together; by induction, an observation at a time
-  touched-joined : (changes : List Change) (observations : List Seen)
+  pub touched-joined : (changes : List Change) (observations : List Seen)
       → (is_touched changes a b observations || is_touched changes b c observations) ≡ is_touched changes a c observations
   touched-joined changes [] = refl
   touched-joined changes (seen ∷ observations) =
@@ -181,7 +181,7 @@ untouched_by test n [] = refl
 untouched_by test n (change ∷ changes) = λ i. within_none n change.number (test change) i || untouched_by test n changes i
 
 -- so nothing is touched from a number up to the same
-untouched : (changes : List Change) (n : ℕ) (observations : List Seen) → is_touched changes n n observations ≡ false
+pub untouched : (changes : List Change) (n : ℕ) (observations : List Seen) → is_touched changes n n observations ≡ false
 untouched changes n [] = refl
 untouched changes n (seen ∷ observations) =
     λ i. (any-between (meets seen) n n changes ∙ untouched_by (meets seen) n changes) i || untouched changes n observations i

@@ -2,6 +2,7 @@
 
 ghost use Rattle.std.specs.Prelude.{◌≡◌, [], None, IsSome, is_some, OnOk, OnErr, IfOk};
 ghost use Rattle.std.specs.List.{list_any};
+ghost use Rattle.std.specs.Option.{option_copied};
 ghost use Rattle.client_cache.specs.Cached.{held};
 ghost use Rattle.rerun_driver.specs.Watches as spec;
 ghost use Rattle.rerun_driver.specs.Watches.{watch_of, is_observed, next_rerun};
@@ -86,6 +87,13 @@ impl Driver {
             &mut self.is_placed,
             observations,
         )
+    }
+
+    /// The watch of a name, if there is one.
+    pub fn get(&self, name: &Text) -> Option<&Watch>
+        ensures { option_copied result ≡ watch_of self.now name.now }
+    {
+        self.roll.get(name)
     }
 
     /// A new watch, whose first run was reported at a number. For want of memory it is dropped.

@@ -3,6 +3,7 @@
 ghost use Rattle.std.specs.Prelude.{◌≡◌, ◌++◌, ◌∷◌, [], ℕ, false, None, is_some, length, option_map, nat_eq, position, if◌then◌else◌, OnOk, OnErr, IfOk, IfSome, IfNone};
 ghost use Rattle.std.specs.List.{list_any};
 ghost use Rattle.std.specs.Map.{values_of};
+ghost use Rattle.std.specs.Option.{option_copied};
 ghost use Rattle.rerun_driver.specs.Watches as spec;
 ghost use Rattle.rerun_driver.specs.Watches.{watch_of, first_stale};
 ghost use Rattle.rerun_driver.specs.code.Numbers.{IsRising};
@@ -90,6 +91,13 @@ impl Roll {
         ensures { result ≡ is_some (watch_of self.now.1 name.now) }
     {
         self.watches.contains_key(name.as_slice())
+    }
+
+    /// The watch of a name, if there is one.
+    pub fn get(&self, name: &Text) -> Option<&Watch>
+        ensures { option_copied result ≡ watch_of self.now.1 name.now }
+    {
+        self.watches.get(name.as_slice())
     }
 
     /// The number of the watch of a name.

@@ -1,0 +1,12 @@
+pub mod Names
+pub mod Stale
+pub mod Kept
+pub mod Steps
+pub mod Journals
+pub mod Stays
+pub mod Reporting
+pub mod Values
+pub mod Moving
+pub mod Telling
+pub mod Answering
+pub mod Lined

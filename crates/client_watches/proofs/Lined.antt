@@ -1,0 +1,97 @@
+-- The laws of lines of watches.
+use Rattle.std.proofs.Common.{◌≡◌, ◌⊎◌, inl, inr, ℕ, ◌≤◌, Bool, true, false, cond, List, [], ◌∷◌, length, Option, Some, None, is_some, IsSome, refl, sym}
+use Rattle.std.proofs.Common.{ap, ◌∙◌, subst, arith}
+use Rattle.std.specs.List.{AllByRecursion}
+use Rattle.std.specs.List.Sorted.{IsStrictlySortedBy}
+use Rattle.std.specs.Map.{lookup, keys_of}
+use Rattle.std.specs.Str.{bytes_eq}
+use Rattle.plain_data.specs.Texts.{Bytes}
+use Rattle.rdt_types.specs.Addresses.{address_cmp}
+use Rattle.session_text.specs.declared.reply.Reply.{Reply}
+use Rattle.session_text.specs.declared.reply.Reply.TheVariants as reply
+use Rattle.session_text.specs.declared.reply.Why.TheVariants as why
+use Rattle.txn_lang.specs.declared.checked.Checked.{Checked}
+use Rattle.txn_lang.specs.States.{Journal}
+use Rattle.version_shard.proofs.Legal.{legal-is-readable}
+use Rattle.docc_prepare.proofs.Growing.{legal_is_orderly}
+use Rattle.docc_prepare.specs.Calls.{Known}
+use Rattle.docc_prepare.specs.Backends.{IsPrefix, IsAnswered}
+use Rattle.rerun_driver.specs.declared.watch.Watch.{Watch}
+use Rattle.rerun_driver.specs.Watches.{Watches, watch_of}
+use Rattle.client_watches.specs.declared.watching.Watching.{Watching}
+use Rattle.client_watches.specs.Watching.{none_yet}
+use Rattle.client_watches.specs.Phases.{Phase, Goal, start_sync, start_watch}
+use Rattle.client_watches.specs.Leading.{Leads}
+use Rattle.client_watches.specs.Standing.{CanReadOn}
+use Rattle.client_watches.specs.Explained.{Shown, ShownList, shown_of, IsNamed, GoalPasses}
+use Rattle.client_watches.specs.Laws.{Attends, MayBeShown, GoesOn, Passes, starts_for, LinesAreExplained, PassingStays, BeginningsAttend}
+use Rattle.client_watches.proofs.Telling.{IsReady, PhaseTells}
+use Rattle.client_watches.proofs.Answering.{Led, led, passes-stay}
+
+-- a watch that has a name is shown by it
+pub shown-named : (ws : Watches) (name : Bytes) → is_some (watch_of ws name) ≡ is_some (lookup (bytes_eq name) (shown_of ws))
+shown-named [] name = refl
+shown-named (x ∷ ws) name = by (bytes_eq name x.0) (shown-named ws name)
+  where
+    by : (b : Bool) → is_some (watch_of ws name) ≡ is_some (lookup (bytes_eq name) (shown_of ws))
+        → is_some (cond b (Some x.1) (watch_of ws name))
+        ≡ is_some (cond b (Some (record { body = x.1.body; number = x.1.number })) (lookup (bytes_eq name) (shown_of ws)))
+    by true rest = refl
+    by false rest = rest
+
+-- a name that isn't found is free
+pub free-name : (o : Option Watch) → is_some o ≡ false → o ≡ None
+free-name None e = refl
+free-name (Some watch) e = absurd (cc)
+
+-- how a line begins
+begins : (k : Known) (w : Watching) (low : ℕ) (goal : Goal) (old : Journal) → Attends k w old → MayBeShown k w low
+    → PhaseTells k.window low goal (shown_of w.watches) k old (starts_for goal w)
+begins k w low Goal.current old is may =
+    (refl, record { keeps = is.keeps; subscribes = is.subscribes; window_is = refl }, is.stands, refl, may.seen, tt)
+begins k w low (Goal.watch name body) old is may = by (is_some (watch_of w.watches name)) refl
+  where
+    ready : IsReady k.window low (Goal.watch name body) (shown_of w.watches) k w
+    ready = record { keeps = is.keeps; subscribes = is.subscribes; window_is = refl }
+
+    by : (b : Bool) → is_some (watch_of w.watches name) ≡ b
+        → PhaseTells k.window low (Goal.watch name body) (shown_of w.watches) k old
+        (cond b (Phase.over w (reply.Refused why.Name ∷ [])) (Phase.taking (Goal.watch name body) w))
+    by true e = (ready, is.stands, inl (sym (shown-named w.watches name) ∙ e, record { replies_are = refl; same = refl }))
+    by false e = (refl, ready, is.stands, refl, may.seen, free-name (watch_of w.watches name) e)
+
+pub lines_are_explained : LinesAreExplained
+lines_are_explained k l w v low calls goal said old is on may leads =
+    let there : Led k.window low goal (shown_of w.watches) k l old (Phase.over v said) =
+    led k.window low goal (shown_of w.watches) may.reported k (starts_for goal w) calls l (Phase.over v said) old on is.can is.told
+    (begins k w low goal old is may) leads in record {
+      new = there.journal;
+      goes_on = record {
+        grows = there.grows;
+        attends = record {
+          told = there.told;
+          keeps = there.tells.0.keeps;
+          subscribes = there.tells.0.subscribes;
+          stands = there.tells.1;
+          can = there.can;
+        };
+      };
+      passes = there.tells.2;
+    }
+
+pub passing_stays : PassingStays
+passing_stays window low goal before later said old new upto could can p passes =
+    passes-stay window low before upto old new could can p goal said later passes
+
+pub beginnings_attend : BeginningsAttend
+unfolding IsStrictlySortedBy
+beginnings_attend = record {
+  none = λ k journal at told seen within can. record {
+    told = told;
+    keeps = record { seen = seen; names = tt; short = tt; loose = tt };
+    subscribes = record { rising = tt; told = λ a v found. absurd (cc); taken = λ a v found. absurd (cc) };
+    stands = record { within = within; values = λ a v found. absurd (cc); watches = tt };
+    can = can;
+  };
+  readable = λ journal later grows legal. record { orderly = legal_is_orderly later legal; readable = legal-is-readable later legal };
+}

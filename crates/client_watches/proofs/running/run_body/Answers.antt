@@ -1,0 +1,74 @@
+use Rattle.std.proofs.Common.{◌≡◌, ◌++◌, ◌∷◌, [], List, Option, Some, None, Ok, Err, refl, subst, sym, ap, ◌∙◌}
+use Rattle.std.proofs.lemmas.Result.{err_from_is_err_and}
+use Rattle.session_text.specs.declared.reply.Reply.{Reply}
+use Rattle.txn_lang.proofs.Observed.{runs_ask_short}
+use Rattle.txn_eval.specs.Running.{ran_of}
+use Rattle.client_cache.specs.Cached.{held}
+use Rattle.client_watches.specs.declared.error.WatchError.{WatchError}
+use Rattle.client_watches.specs.declared.watching.Watching.{Watching}
+use Rattle.client_watches.specs.Phases.{first_run}
+use Rattle.client_watches.specs.Keeping.{Keeps}
+use Rattle.client_watches.specs.Leading.{Fetches, HasFetched}
+use Rattle.client_watches.proofs.Kept.{keeps-value}
+use Rattle.client_watches.proofs.Steps.{here, run-unfetched, run-fetched, run-late, run-late-wants, none-else}
+use Rattle.client_watches.proofs.running.run_body.Goals as goal
+
+pub loop-init : goal.loop-init
+loop-init g c = record {
+  led = λ name. here g.B.Backend.known g.B.Backend.goes c.args.backend.now (first_run name c.args.body.now c.args.watching.now c.args.said.now)
+      (first_run name c.args.body.now c.args.watching.now c.args.said.now) refl;
+  said = refl;
+  watches = refl;
+  keeps = c.requires;
+  home = refl;
+}
+
+pub fetch-requires-clause-short : goal.fetch-requires-clause-short
+fetch-requires-clause-short g c = runs_ask_short.needed c.args.body.now.body (held c.loop.watching.cache) c.in-Need.address
+    (sym c.in_ok-run.ensures ∙ ap ran_of c.in-Need.is)
+
+pub returns-in_err-late-in-Need-clause-runs : goal.returns-in_err-late-in-Need-clause-runs
+returns-in_err-late-in-Need-clause-runs g c =
+    let p = err_from_is_err_and c.from_residual-in_err-late-in-Need.result c.from_residual-in_err-late-in-Need.ensures.1 in
+    run-unfetched g.B.Backend.known g.B.Backend.goes c.args.body.now c.args.backend.now c.args.watching.now c.args.said.now c.loop.backend c.loop.watching
+    c.loop.invariant.led c.in-Need.address (sym c.in_ok-run.ensures ∙ ap ran_of c.in-Need.is) c.from_residual-in_err-late-in-Need.result p.0
+    c.fetch.new.backend c.fetch.new.watching c.fetch.new.watching c.loop.said p.1
+    (subst (λ (e : WatchError). Fetches g.B.Backend.known g.B.Backend.goes c.loop.backend c.loop.watching c.in-Need.address
+    (Err e) c.fetch.new.backend c.fetch.new.watching) (sym p.2) c.in_err-late-in-Need.ensures.fetches)
+
+pub returns-in_err-push-in-Need-clause-runs : goal.returns-in_err-push-in-Need-clause-runs
+returns-in_err-push-in-Need-clause-runs g c =
+    let p = err_from_is_err_and c.from_residual-in_err-push-in-Need.result c.from_residual-in_err-push-in-Need.ensures.1 in
+    run-late-wants g.B.Backend.known g.B.Backend.goes c.args.body.now c.args.backend.now c.args.watching.now c.args.said.now c.loop.backend c.loop.watching
+    c.loop.invariant.led c.in-Need.address (sym c.in_ok-run.ensures ∙ ap ran_of c.in-Need.is) c.from_residual-in_err-push-in-Need.result p.0
+    c.fetch.new.backend c.fetch.new.watching c.fetch.new.watching c.in-Some.late c.push.new.self p.1 p.2
+    (subst (λ (o : Option Reply). Fetches g.B.Backend.known g.B.Backend.goes c.loop.backend c.loop.watching c.in-Need.address
+    (Ok o) c.fetch.new.backend c.fetch.new.watching) c.in-Some.is c.in_ok-late-in-Need.ensures.fetches)
+
+pub returns-in-Some-clause-runs : goal.returns-in-Some-clause-runs
+returns-in-Some-clause-runs g c = λ name.
+    run-late g.B.Backend.known g.B.Backend.goes c.args.body.now c.args.backend.now c.args.watching.now c.args.said.now c.loop.backend c.loop.watching
+    c.loop.invariant.led c.in-Need.address (sym c.in_ok-run.ensures ∙ ap ran_of c.in-Need.is) c.fetch.new.backend c.fetch.new.watching c.in-Some.late
+    c.push.new.self
+    (c.in_ok-push-in-Need.ensures.ok ∙ ap (λ (all : List Reply). all ++ c.in-Some.late ∷ []) c.loop.invariant.said)
+    (subst (λ (o : Option Reply). Fetches g.B.Backend.known g.B.Backend.goes c.loop.backend c.loop.watching c.in-Need.address
+    (Ok o) c.fetch.new.backend c.fetch.new.watching) c.in-Some.is c.in_ok-late-in-Need.ensures.fetches) name
+
+pub loop-preserved : goal.loop-preserved
+loop-preserved g c =
+    let fetched : HasFetched g.B.Backend.known g.B.Backend.goes c.loop.backend c.loop.watching c.in-Need.address c.fetch.new.backend
+    c.fetch.new.watching =
+    subst (λ (o : Option Reply). Fetches g.B.Backend.known g.B.Backend.goes c.loop.backend c.loop.watching c.in-Need.address
+    (Ok o) c.fetch.new.backend c.fetch.new.watching) (none-else _ c.in_default.not-Some) c.in_ok-late-in-Need.ensures.fetches in
+    record {
+      led = run-fetched g.B.Backend.known g.B.Backend.goes c.args.body.now c.args.backend.now c.args.watching.now c.args.said.now c.loop.backend
+          c.loop.watching c.loop.invariant.led c.in-Need.address (sym c.in_ok-run.ensures ∙ ap ran_of c.in-Need.is) c.fetch.new.backend
+          c.fetch.new.watching fetched;
+      said = c.loop.invariant.said;
+      watches = ap (λ (w : Watching). w.watches) fetched.kept ∙ c.loop.invariant.watches;
+      keeps = subst (Keeps (g.B.Backend.known c.fetch.new.backend)) (sym fetched.kept)
+          (keeps-value (g.B.Backend.known c.loop.backend) (g.B.Backend.known c.fetch.new.backend) c.loop.watching c.fetch.ensures.seen
+          c.loop.invariant.keeps c.in-Need.address fetched.value
+          (runs_ask_short.needed c.args.body.now.body (held c.loop.watching.cache) c.in-Need.address (sym c.in_ok-run.ensures ∙ ap ran_of c.in-Need.is)));
+      home = c.fetch.ensures.home ∙ c.loop.invariant.home;
+    }

@@ -1,0 +1,16 @@
+use Rattle.std.proofs.Common.{◌≡◌}
+use Rattle.plain_data.specs.Texts.{Bytes}
+use Rattle.client_watches.specs.Phases.{first_run}
+use Rattle.client_watches.specs.Keeping.{Keeps}
+use Rattle.client_watches.specs.Leading.{Reaches}
+use Rattle.client_watches.proofs.running.run_body.Given as goal
+
+abbrev pub invariant-loop : goal.invariant-loop
+invariant-loop g l = record {
+  led : (name : Bytes) → Reaches g.B.Backend.known g.B.Backend.goes l.fn.backend (first_run name l.body l.fn.watching l.fn.said) l.backend
+      (first_run name l.body l.watching l.fn.said);
+  said : l.said ≡ l.fn.said;
+  watches : l.watching.watches ≡ l.fn.watching.watches;
+  keeps : Keeps (g.B.Backend.known l.backend) l.watching;
+  home : g.B.Backend.home l.backend ≡ g.B.Backend.home l.fn.backend;
+}

@@ -1,0 +1,65 @@
+-- Lines of watches are explained by the journal: theorems over the definitions, whatever backend stands behind the calls.
+use Rattle.std.specs.Prelude.{◌≡◌, ℕ, ◌≤◌, List, length, Some}
+use Rattle.plain_data.specs.Texts.{Bytes}
+use Rattle.std.specs.List.{AllByRecursion}
+use Rattle.session_text.specs.declared.reply.Reply.{Reply}
+use Rattle.txn_lang.specs.declared.checked.Checked.{Checked}
+use Rattle.txn_lang.specs.States.{Journal}
+use Rattle.docc_prepare.specs.Calls.{Known}
+use Rattle.docc_prepare.specs.Backends.{IsPrefix, IsAnswered}
+use Rattle.client_watches.specs.declared.watching.Watching.{Watching}
+use Rattle.client_watches.specs.Watching.{none_yet}
+use Rattle.client_watches.specs.Phases.{Phase, Goal, start_sync, start_watch}
+use Rattle.client_watches.specs.Keeping.{Keeps}
+use Rattle.client_watches.specs.Leading.{Leads}
+use Rattle.client_watches.specs.Standing.{Subscribes, Stands, CanRead, CanReadOn}
+use Rattle.client_watches.specs.Explained.{Shown, ShownList, shown_of, GoalPasses}
+
+-- what is kept stands for the journal that the backend tells
+pub record Attends (k : Known) (w : Watching) (journal : Journal) : Type 0 where
+  pub told : k.journal ≡ Some journal
+  pub keeps : Keeps k w
+  pub subscribes : Subscribes k w
+  pub stands : Stands journal w
+  pub can : CanRead journal
+
+-- what replies may have shown: no number above what was seen, and the number of each watch's last report
+pub record MayBeShown (k : Known) (w : Watching) (low : ℕ) : Type 0 where
+  pub seen : low ≤ k.seen
+  pub reported : AllByRecursion (λ (entry : Bytes × Shown). entry.1.number ≤ low) (shown_of w.watches)
+
+-- a journal that has grown, for which what is kept stands then
+pub record GoesOn (k l : Known) (v : Watching) (old new : Journal) : Type 0 where
+  pub grows : IsPrefix old new
+  pub attends : Attends l v new
+
+-- the line's replies pass
+pub record Passes (k l : Known) (w v : Watching) (low : ℕ) (goal : Goal) (said : List Reply) (old : Journal) : Type 0 where
+  pub new : Journal
+  pub goes_on : GoesOn k l v old new
+  pub passes : GoalPasses k.window new low goal (shown_of w.watches) said (shown_of v.watches)
+
+-- how a line that is to come to a goal begins
+abbrev pub starts_for : Goal → Watching → Phase
+starts_for Goal.current w = start_sync w
+starts_for (Goal.watch name body) w = start_watch w name body
+
+-- `sync` and `watch`: whatever the store answers by the clause of every call, the reports are those of the touched watches, in
+-- order, each its body's outcome on one prefix, which isn't below what was shown.
+abbrev pub LinesAreExplained : Type 0
+LinesAreExplained =
+    (k l : Known) (w v : Watching) (low calls : ℕ) (goal : Goal) (said : List Reply) (old : Journal) → Attends k w old → CanReadOn k.trusted old
+    → MayBeShown k w low → Leads IsAnswered k (starts_for goal w) calls l (Phase.over v said) → Passes k l w v low goal said old
+
+-- Replies that pass stay passing when the journal grows, where no watch was reported past what was shown.
+abbrev pub PassingStays : Type 0
+PassingStays =
+    (window low : ℕ) (goal : Goal) (before later : ShownList) (said : List Reply) (old new : Journal)
+    → AllByRecursion (λ (entry : Bytes × Shown). entry.1.number ≤ low) before → CanRead old → CanRead new → IsPrefix old new
+    → GoalPasses window old low goal before said later → GoalPasses window new low goal before said later
+
+-- A client without watches stands for every journal that can be read; and where nothing is taken on trust, that is every one.
+pub record BeginningsAttend : Type 0 where
+  pub none : (k : Known) (journal : Journal) (at : ℕ) → k.journal ≡ Some journal → at ≤ k.seen → at ≤ length journal → CanRead journal
+      → Attends k (none_yet at) journal
+  pub readable : (journal : Journal) → CanReadOn 0 journal

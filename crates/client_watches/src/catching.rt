@@ -1,0 +1,112 @@
+//! Watches are brought up to date: the stale ones run anew, in the order of their making.
+
+ghost use Rattle.std.specs.Prelude.{◌≡◌, ◌∷◌, [], ◌++◌, None, IfOk, OnOk, IsSome};
+ghost use Rattle.session_text.specs.declared.reply.Reply.TheVariants as reply;
+ghost use Rattle.rerun_driver.specs.Watches.{watch_of};
+ghost use Rattle.client_watches.specs.Watching as spec;
+ghost use Rattle.client_watches.specs.Phases.{Goal};
+ghost use Rattle.client_watches.specs.Keeping.{Keeps};
+ghost use Rattle.client_watches.specs.Leading.{Reruns, Catches};
+
+use crate::copies::copied;
+use crate::error::WatchError;
+use crate::fetching::fetch;
+use crate::watching::{AddressList, ReplyList, Watching};
+use docc_prepare::Backend;
+use plain_data::Text;
+use rerun_driver::{Driver, Rerun};
+use session_text::Reply;
+use std::alloc::AllocError;
+use txn_lang::{Run, Seen};
+
+/// Adds the addresses at which something was observed.
+fn add_addresses(loose: &mut AddressList, observations: &[Seen]) -> Result<(), AllocError>
+    ensures { OnOk result (loose.new ≡ loose.old ++ spec.addresses_of observations.now) }
+{
+    for seen in observations {
+        loose.push(copied(&seen.address)?)?;
+    }
+    Ok(())
+}
+
+/// What the last run of a watch observed may be observed no longer.
+pub(crate) fn loosen(
+    watches: &Driver,
+    loose: &mut AddressList,
+    name: &Text,
+) -> Result<(), AllocError>
+    ensures { OnOk result (loose.new ≡ loose.old ++ spec.observed_by (watch_of watches.now name.now)) }
+{
+    match watches.get(name) {
+        Some(watch) => add_addresses(loose, watch.observations.as_slice()),
+        None => Ok(()),
+    }
+}
+
+/// A watch takes the report of its run, which is said.
+fn report(
+    watching: &mut Watching,
+    said: &mut ReplyList,
+    name: Text,
+    run: Run,
+) -> Result<(), AllocError>
+    requires there { IsSome (watch_of watching.old.watches name) }
+    ensures watching { OnOk result (watching.new ≡ spec.with_rerun watching.old name run) }
+    ensures said { OnOk result (said.new ≡ said.old ++ reply.Ran name watching.old.cache.at run.outcome ∷ []) }
+{
+    let number = watching.cache.at();
+    let outcome = copied(&run.outcome)?;
+    loosen(&watching.watches, &mut watching.loose, &name)?;
+    watching.watches.settle(&name, number, run);
+    said.push(Reply::Ran(name, number, outcome))?;
+    Ok(())
+}
+
+/// Runs the first stale watch, or asks for a value that its run needs. Where that is all, it answers whether none is stale; else
+/// a value was late, and that was said.
+fn rerun_one<B: Backend>(
+    backend: &mut B,
+    watching: &mut Watching,
+    said: &mut ReplyList,
+) -> Result<Option<bool>, WatchError>
+    requires { Keeps (B.known backend.old) watching.old }
+    ensures reruns { (goal : Goal) → Reruns B.known B.goes goal backend.old watching.old said.old result backend.new watching.new said.new }
+    ensures keeps { IfOk result (λ all. Keeps (B.known backend.new) watching.new) }
+    ensures free { IfOk result (λ all. spec.KeepsFree watching.old watching.new) }
+    ensures home { B.home backend.new ≡ B.home backend.old }
+{
+    match watching.watches.run_next(&watching.cache)? {
+        Rerun::NoneLeft => Ok(Some(true)),
+        Rerun::Ran(name, run) => {
+            report(watching, said, name, run)?;
+            Ok(None)
+        }
+        Rerun::Need(address) => match fetch(backend, watching, address)? {
+            Some(late) => {
+                said.push(late)?;
+                Ok(Some(false))
+            }
+            None => Ok(None),
+        },
+    }
+}
+
+/// Runs the stale watches one after another. It answers whether none is stale then; else a value was late, and that was said.
+pub(crate) fn catch_up<B: Backend>(
+    backend: &mut B,
+    watching: &mut Watching,
+    said: &mut ReplyList,
+) -> Result<bool, WatchError>
+    requires { Keeps (B.known backend.old) watching.old }
+    ensures catches { (goal : Goal) → Catches B.known B.goes goal backend.old watching.old said.old result backend.new watching.new said.new }
+    ensures keeps { IfOk result (λ all. Keeps (B.known backend.new) watching.new) }
+    ensures free { IfOk result (λ all. spec.KeepsFree watching.old watching.new) }
+    ensures home { B.home backend.new ≡ B.home backend.old }
+{
+    for _ in 0..u64::MAX {
+        if let Some(all) = rerun_one(backend, watching, said)? {
+            return Ok(all);
+        }
+    }
+    Err(WatchError::NoMemory)
+}

@@ -1,0 +1,161 @@
+//! The lines of watches: all are brought up to date, one is made, and one is forgotten.
+
+ghost use Rattle.std.specs.Prelude.{◌≡◌, ◌≤◌, ◌∷◌, [], None, IfOk, OnOk};
+ghost use Rattle.rerun_driver.specs.Watches.{watch_of};
+ghost use Rattle.client_watches.specs.Phases.{Goal, rerun_all, ending, start_sync, start_watch, start_unwatch};
+ghost use Rattle.client_watches.specs.Keeping.{Keeps};
+ghost use Rattle.client_watches.specs.Leading.{Continues, Went};
+ghost use Rattle.client_watches.specs.Watching as spec;
+
+use crate::catching::{catch_up, loosen};
+use crate::dropping::drop_idle;
+use crate::error::WatchError;
+use crate::fetching::take;
+use crate::running::first_run;
+use crate::watching::{AddressList, ReplyList, Watching};
+use client_cache::Cache;
+use docc_prepare::Backend;
+use plain_data::Text;
+use rerun_driver::Driver;
+use session_text::{Reply, Why};
+use std::alloc::{AllocError, Global};
+use txn_lang::Checked;
+
+/// One reply.
+fn one_reply(alloc: Global, reply: Reply) -> Result<ReplyList, AllocError>
+    ensures { IfOk result (λ said. said ≡ reply ∷ []) }
+{
+    let mut said = ReplyList::new(alloc);
+    said.push(reply)?;
+    Ok(said)
+}
+
+/// Forgets a watch, if there is one of the name.
+fn forget(watching: &mut Watching, name: &Text) -> Result<(), AllocError>
+    ensures { OnOk result (watching.new ≡ spec.without watching.old name.now) }
+{
+    loosen(&watching.watches, &mut watching.loose, name)?;
+    let _there = watching.watches.unwatch(name);
+    Ok(())
+}
+
+/// Brings all watches up to date, and says that they hold, unless a value was late.
+fn say_current<B: Backend>(
+    backend: &mut B,
+    watching: &mut Watching,
+    said: &mut ReplyList,
+) -> Result<(), WatchError>
+    requires { Keeps (B.known backend.old) watching.old }
+    ensures continues { Continues B.known B.goes backend.old (rerun_all Goal.current watching.old said.old) (ending watching.new) result backend.new said.new }
+    ensures keeps { IfOk result (λ u. Keeps (B.known backend.new) watching.new) }
+    ensures home { B.home backend.new ≡ B.home backend.old }
+{
+    let all = catch_up(backend, watching, said)?;
+    if !all {
+        return Ok(());
+    }
+    said.push(Reply::Current(watching.cache.at()))?;
+    Ok(())
+}
+
+/// Brings all watches up to date, and makes a new one, unless a value was late.
+fn make<B: Backend>(
+    alloc: Global,
+    backend: &mut B,
+    watching: &mut Watching,
+    said: &mut ReplyList,
+    name: Text,
+    body: Checked,
+) -> Result<(), WatchError>
+    requires keeps { Keeps (B.known backend.old) watching.old }
+    requires free { watch_of watching.old.watches name ≡ None }
+    ensures continues { Continues B.known B.goes backend.old (rerun_all (Goal.watch name body) watching.old said.old)
+        (ending watching.new) result backend.new said.new }
+    ensures keeps { IfOk result (λ u. Keeps (B.known backend.new) watching.new) }
+    ensures home { B.home backend.new ≡ B.home backend.old }
+{
+    let all = catch_up(backend, watching, said)?;
+    if !all {
+        return Ok(());
+    }
+    drop_idle(alloc, backend, watching)?;
+    first_run(alloc, backend, watching, said, name, body)?;
+    Ok(())
+}
+
+impl Watching {
+    /// No watch, where so many commits are seen. It takes no memory yet.
+    pub fn new(alloc: Global, at: u64) -> Watching
+        ensures { result ≡ spec.none_yet at }
+    {
+        Watching {
+            watches: Driver::new(alloc),
+            cache: Cache::new(alloc, at),
+            loose: AddressList::new(alloc),
+        }
+    }
+
+    /// Brings all watches up to date: each that is touched runs anew, in the order of their making, and is reported.
+    pub fn sync<B: Backend>(
+        &mut self,
+        alloc: Global,
+        backend: &mut B,
+    ) -> Result<ReplyList, WatchError>
+        requires { Keeps (B.known backend.old) self.old }
+        ensures went { Went B.known B.goes backend.old (start_sync self.old) result backend.new self.new }
+        ensures keeps { IfOk result (λ said. Keeps (B.known backend.new) self.new) }
+        ensures home { B.home backend.new ≡ B.home backend.old }
+    {
+        let mut said = ReplyList::new(alloc);
+        take(backend, self)?;
+        say_current(backend, self, &mut said)?;
+        drop_idle(alloc, backend, self)?;
+        Ok(said)
+    }
+
+    /// Brings all watches up to date, and watches a body by a name, unless that is in use.
+    pub fn watch<B: Backend>(
+        &mut self,
+        alloc: Global,
+        backend: &mut B,
+        name: Text,
+        body: Checked,
+    ) -> Result<ReplyList, WatchError>
+        requires { Keeps (B.known backend.old) self.old }
+        ensures went { Went B.known B.goes backend.old (start_watch self.old name body) result backend.new self.new }
+        ensures keeps { IfOk result (λ said. Keeps (B.known backend.new) self.new) }
+        ensures home { B.home backend.new ≡ B.home backend.old }
+    {
+        let refusal = one_reply(alloc, Reply::Refused(Why::Name))?;
+        if self.watches.has(&name) {
+            return Ok(refusal);
+        }
+        let mut said = ReplyList::new(alloc);
+        take(backend, self)?;
+        make(alloc, backend, self, &mut said, name, body)?;
+        drop_idle(alloc, backend, self)?;
+        Ok(said)
+    }
+
+    /// Forgets the watch of a name, if there is one.
+    pub fn unwatch<B: Backend>(
+        &mut self,
+        alloc: Global,
+        backend: &mut B,
+        name: &Text,
+    ) -> Result<ReplyList, WatchError>
+        requires { Keeps (B.known backend.old) self.old }
+        ensures went { Went B.known B.goes backend.old (start_unwatch self.old name.now) result backend.new self.new }
+        ensures keeps { IfOk result (λ said. Keeps (B.known backend.new) self.new) }
+        ensures home { B.home backend.new ≡ B.home backend.old }
+    {
+        let refusal = one_reply(alloc, Reply::Refused(Why::NoAttempt))?;
+        if !self.watches.has(name) {
+            return Ok(refusal);
+        }
+        let dropped = one_reply(alloc, Reply::Dropped)?;
+        forget(self, name)?;
+        drop_idle(alloc, backend, self)?;
+        Ok(dropped)
+    }
+}

@@ -1,0 +1,95 @@
+//! A new watch: its first run, and that it is kept then.
+
+ghost use Rattle.std.specs.Prelude.{◌≡◌, ◌∷◌, [], ◌++◌, None, IfSome, IfOk, OnOk};
+ghost use Rattle.session_text.specs.declared.reply.Reply.TheVariants as reply;
+ghost use Rattle.txn_lang.specs.Execution.{exec, done};
+ghost use Rattle.client_cache.specs.Cached.{held};
+ghost use Rattle.rerun_driver.specs.Watches.{watch_of};
+ghost use Rattle.client_watches.specs.Watching as spec;
+ghost use Rattle.client_watches.specs.Phases as phases;
+ghost use Rattle.client_watches.specs.Phases.{ending};
+ghost use Rattle.client_watches.specs.Keeping.{Keeps};
+ghost use Rattle.client_watches.specs.Leading.{Continues, Runs};
+
+use crate::copies::copied;
+use crate::error::WatchError;
+use crate::fetching::fetch;
+use crate::watching::{ReplyList, Watching};
+use docc_prepare::Backend;
+use plain_data::Text;
+use rerun_driver::run_on;
+use session_text::Reply;
+use std::alloc::{AllocError, Global};
+use txn_eval::Step;
+use txn_lang::{Checked, Run};
+
+/// Runs a body on the values that are held, and on those that it asks for. Where one of them was late, that was said.
+fn run_body<B: Backend>(
+    alloc: Global,
+    backend: &mut B,
+    watching: &mut Watching,
+    said: &mut ReplyList,
+    body: &Checked,
+) -> Result<Option<Run>, WatchError>
+    requires { Keeps (B.known backend.old) watching.old }
+    ensures runs { Runs B.known B.goes body.now backend.old watching.old said.old result backend.new watching.new said.new }
+    ensures keeps { IfOk result (λ run. Keeps (B.known backend.new) watching.new) }
+    ensures watches { IfOk result (λ run. watching.new.watches ≡ watching.old.watches) }
+    ensures done { IfOk result (λ run. IfSome run (λ run. exec body.now.body (held watching.new.cache) ≡ done run)) }
+    ensures home { B.home backend.new ≡ B.home backend.old }
+{
+    for _ in 0..u64::MAX {
+        match run_on(alloc, body, &watching.cache)? {
+            Step::Done(run) => return Ok(Some(run)),
+            Step::Need(address) => {
+                if let Some(late) = fetch(backend, watching, address)? {
+                    said.push(late)?;
+                    return Ok(None);
+                }
+            }
+        }
+    }
+    Err(WatchError::NoMemory)
+}
+
+/// Keeps a new watch, of which the first run is reported.
+fn keep(
+    watching: &mut Watching,
+    said: &mut ReplyList,
+    name: Text,
+    body: Checked,
+    run: Run,
+) -> Result<(), AllocError>
+    requires free { watch_of watching.old.watches name ≡ None }
+    ensures watching { OnOk result (watching.new ≡ spec.with_first watching.old name body run) }
+    ensures said { OnOk result (said.new ≡ said.old ++ reply.Ran name watching.old.cache.at run.outcome ∷ []) }
+{
+    let number = watching.cache.at();
+    let outcome = copied(&run.outcome)?;
+    let shown = copied(&name)?;
+    watching.watches.watch(name, body, number, run)?;
+    said.push(Reply::Ran(shown, number, outcome))?;
+    Ok(())
+}
+
+/// Runs a body for the first time, and keeps it as a watch.
+pub(crate) fn first_run<B: Backend>(
+    alloc: Global,
+    backend: &mut B,
+    watching: &mut Watching,
+    said: &mut ReplyList,
+    name: Text,
+    body: Checked,
+) -> Result<(), WatchError>
+    requires keeps { Keeps (B.known backend.old) watching.old }
+    requires free { watch_of watching.old.watches name ≡ None }
+    ensures continues { Continues B.known B.goes backend.old (phases.first_run name body watching.old said.old)
+        (ending watching.new) result backend.new said.new }
+    ensures keeps { IfOk result (λ u. Keeps (B.known backend.new) watching.new) }
+    ensures home { B.home backend.new ≡ B.home backend.old }
+{
+    if let Some(run) = run_body(alloc, backend, watching, said, &body)? {
+        keep(watching, said, name, body, run)?;
+    }
+    Ok(())
+}
