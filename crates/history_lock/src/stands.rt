@@ -14,8 +14,8 @@ pub trait Stands {
     // The count that the value stands for.
     ghost count: { Self → ℕ };
 
-    // A number that the value keeps for good, as a count of something when the lock was made.
-    ghost origin: { Self → ℕ };
+    // Numbers that the value keeps for good, as a limit, or a count of something when the lock was made.
+    ghost origin: { Self → List ℕ };
 
     // The number of the author whom an entry names.
     ghost names: { Self.Entry → ℕ };

@@ -1,4 +1,4 @@
-ghost use Rattle.std.specs.Prelude.{◌≡◌, [], None};
+ghost use Rattle.std.specs.Prelude.{◌≡◌, [], ◌∷◌, None};
 ghost use mathlib.Core.List.{IsPrefix};
 
 use super::*;
@@ -16,11 +16,12 @@ struct Mark {
     turn: usize,
 }
 
-/// A list of marks, in which every mark may follow, and a count.
+/// A list of marks, in which every mark may follow, a count, and a limit that it keeps for good.
 #[derive(Drop)]
 struct Roll {
     marks: Vec<Mark>,
     count: u64,
+    limit: u64,
 }
 
 impl Stands for Roll {
@@ -30,7 +31,9 @@ impl Stands for Roll {
 
     ghost count = { λ r. r.count };
 
-    ghost origin = { λ _. 0 };
+    ghost use Rattle.std.specs.Prelude.{[], ◌∷◌};
+
+    ghost origin = { λ r. r.limit ∷ [] };
 
     ghost names = { λ mark. mark.author };
 
@@ -51,6 +54,7 @@ fn empty_roll(alloc: Global) -> Roll
     Roll {
         marks: Vec::new(alloc),
         count: 0,
+        limit: 9,
     }
 }
 
@@ -83,6 +87,16 @@ fn raise<N: Naming, R: Wait>(rt: &R, lock: &HistoryLock<Roll, N>, author: &mut A
         section.value.count = 1;
     }
     lock.leave(rt, &mut author.front, section);
+}
+
+/// The limit, which is what it was when the lock was made.
+fn limit<N: Naming, R: Wait>(rt: &R, lock: &HistoryLock<Roll, N>, front: &mut Front<Roll, N>) -> u64
+    ensures { result ∷ [] ≡ N.lock.origin }
+{
+    let section = lock.enter(rt, front);
+    let limit = section.value.limit;
+    lock.leave(rt, front, section);
+    limit
 }
 
 fn author_of<N: Naming, R: Abort>(
@@ -132,6 +146,7 @@ fn two_authors<N: Naming, R: Wait + Abort>(rt: &R, opened: Opened<Roll>) -> Resu
 {
     let (lock, mut front) = opened.named::<N>();
     assert_eq!(rt; lock.length(&mut front), 0);
+    assert_eq!(rt; limit(rt, &lock, &mut front), 9);
     let other = lock.split(&mut front);
     let mut zero = author_of(rt, &lock, other);
     let other = lock.split(&mut front);
