@@ -1,0 +1,72 @@
+-- What may be added under the journal's lock, and what was.
+use Rattle.std.proofs.Common.{◌≡◌, ℕ, ◌≤◌, ◌==◌, Bool, true, false, cond, List, [], ◌∷◌, ◌++◌, All, Option, Some, Result, Ok, Err, IfOk, refl, sym, ap, ◌∙◌, subst, arith}
+use Rattle.std.proofs.Common.{append-nil}
+use Rattle.std.specs.Prelude.{OnErr}
+use Rattle.std.specs.List.Sorted.{IsStrictlySortedBy}
+use Rattle.std.specs.Map.{keys_of}
+use Rattle.history_lock.specs.declared.known.Known.{Known}
+use Rattle.history_lock.specs.Entries.{AddsOwn}
+use Rattle.history_lock.specs.Tokens.{IsLater, IsCurrent}
+use Rattle.history_lock.proofs.Named.{AddsOwn-push}
+use Rattle.plain_data.specs.Histories.{IsLawful}
+use Rattle.plain_data.proofs.Histories.{IsLawful-push}
+use Rattle.rdt_types.specs.Addresses.{address_cmp}
+use Rattle.txn_lang.specs.declared.commit.Commit.{Commit}
+use Rattle.txn_lang.specs.States.{Journal}
+use Rattle.txn_lang.specs.Journals.{own}
+use Rattle.journal_core.specs.declared.ready.Ready.{Ready}
+use Rattle.journal_core.specs.Readies.{made_of}
+use Rattle.diamond_store.specs.declared.decision.Decision.{Decision}
+use Rattle.diamond_store.specs.declared.decision.Decision.TheVariants as decision
+use Rattle.diamond_store.specs.Appending.{client_of}
+use Rattle.diamond_store.specs.Following.{Follows, IsSound}
+use Rattle.diamond_store.specs.Owing.{IsOwed}
+use Rattle.diamond_store.specs.Settling.{CanSettle, Settles}
+use Rattle.diamond_store.proofs.Owed.{owed-later, can-settle, follows}
+use Rattle.diamond_store.proofs.Sound.{lawful-sound}
+
+-- nothing is added
+adds-none : (author : Option ℕ) (list : Journal) → AddsOwn client_of author list list
+adds-none author list = ([], append-nil list, λ k d within. absurd (omega (arith, within)))
+
+module _ (m shards : ℕ) (old entered : Known Commit) (ready : Ready) (author : old.author ≡ Some ready.client) (owed : IsOwed shards old.seen ready)
+    (later : IsLater client_of old entered) (lawful : IsLawful Follows m entered.seen) where
+  -- what is owed is owed under the lock
+  owed-now : IsOwed shards entered.seen ready
+  owed-now = owed-later shards old.seen entered.seen ready owed later.seen (later.own_entries ready.client author)
+
+  -- so the journal may decide on it
+  pub settle-now : CanSettle ready entered.seen
+  settle-now = can-settle m shards entered.seen ready owed-now (lawful-sound m entered.seen lawful)
+
+  -- nothing, or the client's commit, was added to what the lock's value stood for
+  adds-one : (limit : ℕ) (d : Decision) (left : Journal) → Settles shards limit ready entered.seen d left → AddsOwn client_of entered.author entered.seen left
+  adds-one limit (decision.Number n) left s =
+      subst (AddsOwn client_of entered.author entered.seen) (sym s.2)
+      (AddsOwn-push client_of entered.author entered.seen entered.seen (made_of entered.seen ready) (adds-none entered.author entered.seen)
+      (later.author ∙ author))
+  adds-one limit (decision.Clash w) left s = subst (AddsOwn client_of entered.author entered.seen) (sym s.1) (adds-none entered.author entered.seen)
+  adds-one limit (decision.Full l) left s = subst (AddsOwn client_of entered.author entered.seen) (sym s.3) (adds-none entered.author entered.seen)
+  adds-one limit decision.Denied left s = subst (AddsOwn client_of entered.author entered.seen) (sym s.1) (adds-none entered.author entered.seen)
+
+  -- and so it is where memory was wanting
+  pub adds-own : (limit : ℕ) (r : Result Decision (Unit {0})) (left : Journal) → IfOk r (λ d. Settles shards limit ready entered.seen d left)
+      → OnErr r (left ≡ entered.seen) → AddsOwn client_of entered.author entered.seen left
+  adds-own limit (Ok d) left ok err = adds-one limit d left ok
+  adds-own limit (Err e) left ok err = subst (AddsOwn client_of entered.author entered.seen) (sym err) (adds-none entered.author entered.seen)
+
+  module _ (rising : IsStrictlySortedBy address_cmp (keys_of ready.run.deltas)) where
+    -- what the value stands for then is lawful
+    lawful-one : (limit : ℕ) (d : Decision) (left : Journal) → Settles shards limit ready entered.seen d left → IsLawful Follows m left
+    lawful-one limit (decision.Number n) left s =
+        subst (IsLawful Follows m) (sym s.2) (IsLawful-push Follows m entered.seen (made_of entered.seen ready) lawful
+        (follows m shards entered.seen ready owed-now (lawful-sound m entered.seen lawful) s.0 rising))
+    lawful-one limit (decision.Clash w) left s = subst (IsLawful Follows m) (sym s.1) lawful
+    lawful-one limit (decision.Full l) left s = subst (IsLawful Follows m) (sym s.3) lawful
+    lawful-one limit decision.Denied left s = subst (IsLawful Follows m) (sym s.1) lawful
+
+    -- also where memory was wanting
+    pub lawful-left : (limit : ℕ) (r : Result Decision (Unit {0})) (left : Journal) → IfOk r (λ d. Settles shards limit ready entered.seen d left)
+        → OnErr r (left ≡ entered.seen) → IsLawful Follows m left
+    lawful-left limit (Ok d) left ok err = lawful-one limit d left ok
+    lawful-left limit (Err e) left ok err = subst (IsLawful Follows m) (sym err) lawful
