@@ -50,7 +50,7 @@ module _ (m shards : ℕ) (old entered : Known Commit) (ready : Ready) (author :
   adds-one limit decision.Denied left s = subst (AddsOwn client_of entered.author entered.seen) (sym s.1) (adds-none entered.author entered.seen)
 
   -- and so it is where memory was wanting
-  pub adds-own : (limit : ℕ) (r : Result Decision (Unit {0})) (left : Journal) → IfOk r (λ d. Settles shards limit ready entered.seen d left)
+  pub adds-own : {X : Type 0} (limit : ℕ) (r : Result Decision X) (left : Journal) → IfOk r (λ d. Settles shards limit ready entered.seen d left)
       → OnErr r (left ≡ entered.seen) → AddsOwn client_of entered.author entered.seen left
   adds-own limit (Ok d) left ok err = adds-one limit d left ok
   adds-own limit (Err e) left ok err = subst (AddsOwn client_of entered.author entered.seen) (sym err) (adds-none entered.author entered.seen)
@@ -66,7 +66,7 @@ module _ (m shards : ℕ) (old entered : Known Commit) (ready : Ready) (author :
     lawful-one limit decision.Denied left s = subst (IsLawful Follows m) (sym s.1) lawful
 
     -- also where memory was wanting
-    pub lawful-left : (limit : ℕ) (r : Result Decision (Unit {0})) (left : Journal) → IfOk r (λ d. Settles shards limit ready entered.seen d left)
+    pub lawful-left : {X : Type 0} (limit : ℕ) (r : Result Decision X) (left : Journal) → IfOk r (λ d. Settles shards limit ready entered.seen d left)
         → OnErr r (left ≡ entered.seen) → IsLawful Follows m left
     lawful-left limit (Ok d) left ok err = lawful-one limit d left ok
     lawful-left limit (Err e) left ok err = subst (IsLawful Follows m) (sym err) lawful
