@@ -18,8 +18,10 @@ use Rattle.journal_core.specs.declared.ready.Ready.{Ready}
 use Rattle.journal_core.specs.Readies.{made_of}
 use Rattle.diamond_store.specs.declared.decision.Decision.{Decision}
 use Rattle.diamond_store.specs.declared.decision.Decision.TheVariants as decision
-use Rattle.diamond_store.specs.Appending.{client_of}
+use Rattle.diamond_store.specs.Appending.{client_of, Adds}
+use Rattle.diamond_store.specs.Books.{Booked, numbers, denials_after}
 use Rattle.diamond_store.specs.Following.{Follows, IsSound}
+use Rattle.diamond_store.specs.Numbers.{shards_in, limit_in}
 use Rattle.diamond_store.specs.Owing.{IsOwed}
 use Rattle.diamond_store.specs.Settling.{CanSettle, Settles}
 use Rattle.diamond_store.proofs.Owed.{owed-later, can-settle, follows}
@@ -70,3 +72,31 @@ module _ (m shards : ℕ) (old entered : Known Commit) (ready : Ready) (author :
         → OnErr r (left ≡ entered.seen) → IsLawful Follows m left
     lawful-left limit (Ok d) left ok err = lawful-one limit d left ok
     lawful-left limit (Err e) left ok err = subst (IsLawful Follows m) (sym err) lawful
+
+-- what a book settles, said of the numbers that its lock stands for and of the journal that a token knows
+pub settles-here : {X : Type 0} (kept : List ℕ) (b : Booked) (seen : Journal) (ready : Ready) (r : Result Decision X) (left : Journal)
+    → seen ≡ b.journal.commits → numbers b ≡ kept → IfOk r (λ d. Settles b.journal.shards b.journal.limit ready b.journal.commits d left)
+    → IfOk r (λ d. Settles (shards_in kept) (limit_in kept) ready seen d left)
+settles-here kept b seen ready (Ok d) left same of settles =
+    subst (λ (all : List ℕ). Settles (shards_in all) (limit_in all) ready seen d left) of
+    (subst (λ (j : Journal). Settles b.journal.shards b.journal.limit ready j d left) (sym same) settles)
+settles-here kept b seen ready (Err e) left same of settles = tt
+
+-- the token that has left the lock: it was later, and then the journal decided
+pub adds-says : {X : Type 0} (m : ℕ) (kept : List ℕ) (old entered new : Known Commit) (ready : Ready) (r : Result Decision X) (left : Journal) (n count : ℕ)
+    → IsLater client_of old entered → IsSound m entered.seen
+    → IfOk r (λ d. Settles (shards_in kept) (limit_in kept) ready entered.seen d left) → entered.count ≡ n
+    → IfOk r (λ d. count ≡ denials_after n d) → new ≡ record entered { seen = left; count = count }
+    → IfOk r (λ d. Adds m kept old ready d new)
+adds-says m kept old entered new ready (Ok d) left n count later sound settles same counts is = record {
+  entered = entered;
+  later = later;
+  settles = subst (λ (k : Known Commit). Settles (shards_in kept) (limit_in kept) ready entered.seen d k.seen) (sym is) settles;
+  sound = sound;
+  count = ap (λ (k : Known Commit). k.count) is ∙ counts ∙ ap (λ (c : ℕ). denials_after c d) (sym same);
+  rest =
+      is
+      ∙ ap (λ (j : Journal). record entered { seen = j; count = count }) (sym (ap (λ (k : Known Commit). k.seen) is))
+      ∙ ap (λ (c : ℕ). record entered { seen = new.seen; count = c }) (sym (ap (λ (k : Known Commit). k.count) is));
+}
+adds-says m kept old entered new ready (Err e) left n count later sound settles same counts is = tt

@@ -1,5 +1,5 @@
 -- What an append is answered, from what the journal decided.
-use Rattle.std.proofs.Common.{◌≡◌, ◌⊎◌, ℕ, ◌+◌, ◌≤◌, ◌<◌, ◌==◌, Bool, true, false, cond, List, [], ◌∷◌, ◌++◌, length, Some, inl, inr, refl, sym, ap, ◌∙◌, subst, arith}
+use Rattle.std.proofs.Common.{◌≡◌, ◌⊎◌, ℕ, ◌+◌, ◌≤◌, ◌<◌, ◌==◌, Bool, true, false, cond, List, [], ◌∷◌, ◌++◌, length, Some, Result, inl, inr, refl, sym, ap, ◌∙◌, subst, arith}
 use Rattle.std.specs.Prelude.{nat_lt}
 use Rattle.std.proofs.lemmas.List.{length-append}
 use Rattle.std.proofs.lemmas.Bool.Decides.{nat_tests}
@@ -22,6 +22,7 @@ use Rattle.docc_prepare.specs.Backends.{CanAppend, IsAnswered, Gives, Shows, Row
 use Rattle.docc_prepare.specs.Witnesses.{least_witness}
 use Rattle.docc_prepare.proofs.Nexts.{appends}
 use Rattle.docc_prepare.proofs.Witnessed.{witness-within}
+use Rattle.diamond_store.specs.declared.answer.StoreAppendError.{StoreAppendError}
 use Rattle.diamond_store.specs.declared.decision.Decision.{Decision}
 use Rattle.diamond_store.specs.declared.decision.Decision.TheVariants as decision
 use Rattle.diamond_store.specs.Appending.{client_of, Adds}
@@ -31,7 +32,7 @@ use Rattle.diamond_store.specs.Following.{Follows}
 use Rattle.diamond_store.specs.Numbers.{shards_in, limit_in}
 use Rattle.diamond_store.specs.Owing.{IsOwed}
 use Rattle.diamond_store.specs.Passes.{Passed, passed, known_of, is_in, IsPass}
-use Rattle.diamond_store.specs.Settling.{IsClear}
+use Rattle.diamond_store.specs.Settling.{IsClear, Settles}
 use Rattle.diamond_store.proofs.Sound.{lawful-sound}
 use Rattle.diamond_store.proofs.Prefixes.{length-prefix}
 use Rattle.diamond_store.proofs.Known.{Grows, answered, front-of}
@@ -205,3 +206,46 @@ module _ (numbers : List ℕ) (m client : ℕ) (old new : tokens.Known Commit) (
           added = grown;
         },
       ) tt
+
+-- what the journal settles goes on after the journal
+pub settled-grows : (shards limit : ℕ) (ready : Ready) (old : Journal) (d : Decision) (new : Journal) → Settles shards limit ready old d new → IsPrefix old new
+settled-grows shards limit ready old (decision.Number n) new s = (made_of old ready ∷ [], sym s.2)
+settled-grows shards limit ready old (decision.Clash w) new s = subst (IsPrefix old) (sym s.1) (IsPrefix-self old)
+settled-grows shards limit ready old (decision.Full l) new s = subst (IsPrefix old) (sym s.3) (IsPrefix-self old)
+settled-grows shards limit ready old decision.Denied new s = subst (IsPrefix old) (sym s.1) (IsPrefix-self old)
+
+-- the pass that has seen all goes on being one
+pub pass-appended : (numbers : List ℕ) (m client : ℕ) (old new : tokens.Known Commit) (s taken n : ℕ) (settings : Settings) (ready : Ready) (d : Decision)
+    → IsPass numbers client old s taken settings → Adds m numbers old ready d new → n ≡ length new.seen → IsPass numbers client new n taken settings
+pass-appended numbers m client old new s taken n settings ready d pass adds is =
+    let more = settled-grows (shards_in numbers) (limit_in numbers) ready adds.entered.seen d new.seen adds.settles in
+    let first = length-prefix old.seen adds.entered.seen adds.later.seen in
+    let second = length-prefix adds.entered.seen new.seen more in
+    let within = pass.within in
+    let took = pass.taken in
+    record {
+      author = ap (λ (k : tokens.Known Commit). k.author) adds.rest ∙ adds.later.author ∙ pass.author;
+      within = omega arith;
+      taken = omega arith;
+      settings = pass.settings;
+    }
+
+-- the same of numbers and an answer that are found to be those
+pub was-appended-at : (numbers : List ℕ) (m client : ℕ) (old new : tokens.Known Commit) (s taken n : ℕ) (settings : Settings)
+    → (pass : IsPass numbers client old s taken settings) → (subscribed : List Address) (denied denied' : ℕ) (ready : Ready)
+    → CanAppend (known_of (passed m client old s subscribed taken denied settings)) ready → IsLawful Follows m new.seen → (known knows : ℕ) (d : Decision)
+    → Adds m numbers old ready d new → new.count ≤ last_count → (answer : Result ℕ StoreAppendError) → answer ≡ answer_of d known knows
+    → n ≡ length new.seen → denied' ≡ denials_after denied d
+    → IsAnswered (known_of (passed m client old s subscribed taken denied settings)) (Call.append ready) (append_answered answer)
+    (known_of (passed m client new n subscribed taken denied' settings))
+was-appended-at numbers m client old new s taken n settings pass subscribed denied denied' ready can lawful known knows d adds most answer is whole counted =
+    let p = passed m client old s subscribed taken denied settings in
+    let mine : ready.client ≡ client = ap (λ (r : Ready). r.client) can.made in
+    let owed = subst (λ (k : ℕ). IsOwed k old.seen ready) pass.settings.shards (owed-by p ready can) in
+    let here = was-appended numbers m client old new s taken settings pass subscribed denied ready mine owed lawful known knows d adds most in
+    let seen = subst (λ (k : ℕ). IsAnswered (known_of p) (Call.append ready) (append_answered (answer_of d known knows))
+    (known_of (passed m client new k subscribed taken (denials_after denied d) settings))) (sym whole) here in
+    let denies = subst (λ (k : ℕ). IsAnswered (known_of p) (Call.append ready) (append_answered (answer_of d known knows))
+    (known_of (passed m client new n subscribed taken k settings))) (sym counted) seen in
+    subst (λ (a : Result ℕ StoreAppendError). IsAnswered (known_of p) (Call.append ready) (append_answered a)
+    (known_of (passed m client new n subscribed taken denied' settings))) (sym is) denies

@@ -139,19 +139,19 @@ module _ (numbers : List ℕ) (m client : ℕ) (old new : tokens.Known Commit) (
           answered before (saw n) (grows n up within) (Call.prepare shard based) (Answer.failed false) refl p.0 p.1 p.2 p.3 p.4 p.5 p.6 p.7
 
   -- a take gives what is pending at the subscribed addresses since the last one, and the pass has then seen and taken all
-  pub was-taken : (feed : Fed) → feed.to ≡ length new.seen
+  pub was-taken : (feed : Fed) (n : ℕ) → feed.to ≡ n → n ≡ length new.seen
       → feed.changes ≡ with_changes [] (filter (λ change. is_in subscribed change.address) (between taken (length new.seen) (changes new.seen)))
-      → IsAnswered (known_of before) Call.take (Answer.feed feed) (known_of (passed m client new feed.to subscribed feed.to denied settings))
-  was-taken feed to is =
-      answered before (passed m client new feed.to subscribed feed.to denied settings)
-      (knowing.grows numbers m client old new s taken settings pass later lawful subscribed denied feed.to subscribed feed.to denied up (omega arith))
-      Call.take (Answer.feed feed) refl (λ a. refl) refl refl later.count tt
-      (refl, subst AreOfTheirKinds (sym is) kinds)
+      → IsAnswered (known_of before) Call.take (Answer.feed feed) (known_of (passed m client new n subscribed n denied settings))
+  was-taken feed n ends to is =
+      answered before (passed m client new n subscribed n denied settings)
+      (knowing.grows numbers m client old new s taken settings pass later lawful subscribed denied n subscribed n denied up (omega arith))
+      Call.take (Answer.feed feed) refl (λ a. refl) (sym ends) refl later.count tt
+      (ends, subst AreOfTheirKinds (sym is) kinds)
       (λ a. ap (λ ds. delta_at ds a) is
       ∙ fed-is-pending (λ b. is_in subscribed b) a (between taken (length new.seen) (changes new.seen))
       ∙ ap (λ (k : ℕ). cond (is_in subscribed a) (pending a (between taken k (changes new.seen))) None) (sym to)) own_same
     where
-      up : s ≤ feed.to
+      up : s ≤ n
       up = let w = knowing.seen-within numbers m client old new s taken settings pass later lawful subscribed denied in omega arith
 
       kinds : AreOfTheirKinds (with_changes [] (filter (λ change. is_in subscribed change.address)
@@ -214,5 +214,7 @@ module _ (numbers : List ℕ) (m client : ℕ) (token : tokens.Known Commit) (s 
       (omega arith) tt refl tt refl
 
   -- nothing changed for want of memory
-  pub not-subscribed : (c : Call) → IsAnswered (known_of was) c (Answer.failed false) (known_of was)
-  not-subscribed c = knowing.failed numbers m client token token s taken settings pass same-token lawful subscribed denied c
+  pub not-subscribed : (c : Call) → after ≡ subscribed → IsAnswered (known_of was) c (Answer.failed false) (known_of is)
+  not-subscribed c same =
+      subst (λ (all : List Address). IsAnswered (known_of was) c (Answer.failed false) (known_of (passed m client token s all taken denied settings)))
+      (sym same) (knowing.failed numbers m client token token s taken settings pass same-token lawful subscribed denied c)

@@ -1,5 +1,6 @@
 -- What the journal decides is what the store says of it, and a count of denials keeps to the keeper's count.
-use Rattle.std.proofs.Common.{◌≡◌, ◌⊎◌, ℕ, ◌+◌, ◌<◌, ◌≤◌, ◌==◌, Bool, true, false, cond, [], ◌∷◌, ◌++◌, length, Some, None, inl, inr, refl, sym, ap, ◌∙◌, subst, arith}
+use Rattle.std.proofs.Common.{◌≡◌, ◌⊎◌, ℕ, ◌+◌, ◌<◌, ◌≤◌, ◌==◌, Bool, true, false, cond, [], ◌∷◌, ◌++◌, length, Some, None, Result, Ok, Err, inl, inr, refl, sym, ap, ◌∙◌, subst, arith}
+use Rattle.std.specs.Prelude.{OnOk, OnErr}
 use Rattle.std.proofs.lemmas.Bool.Decides.{nat_tests}
 use Rattle.dio_core.specs.Counts.{one_more, last_count, Rose}
 use Rattle.abort_witness.specs.declared.witness.Found.{Found}
@@ -15,6 +16,15 @@ use Rattle.diamond_store.specs.declared.decision.Decision.{Decision}
 use Rattle.diamond_store.specs.declared.decision.Decision.TheVariants as decision
 use Rattle.diamond_store.specs.Books.{denials_after, IsAtMostRise}
 use Rattle.diamond_store.specs.Settling.{CountsFaults, HasSettled, IsAsBefore}
+
+-- what holds anyway holds at an error, and at a success
+pub on_err : {A E : Type 0} (r : Result A E) (P : Type 0) → P → OnErr r P
+on_err (Ok a) P p = tt
+on_err (Err e) P p = p
+
+pub on_ok : {A E : Type 0} (r : Result A E) (P : Type 0) → P → OnOk r P
+on_ok (Ok a) P p = p
+on_ok (Err e) P p = tt
 
 module _ (ready : Ready) (old mid : Standing) (same : mid ≡ record old { room = mid.room }) where
   -- what was made ready beforehand is memory alone, so the pair past the fronts is the same
@@ -46,33 +56,33 @@ module _ (ready : Ready) (old mid : Standing) (same : mid ≡ record old { room 
   -- a commit clashes, of which this is the witness
   pub by-clash : (found : Found) (w : Witness) (new : Standing) → Decides ready mid (appended.Clash found) new
       → IsWitnessOf ready.based new.commits found w → IsOfOneKind w → HasSettled ready old (decision.Clash w) new
-  by-clash found w new d names kinds = let as = as-before new d.1 in record {
-    shards = as.shards;
-    limit = as.limit;
+  by-clash found w new d names kinds = let whole = as-before new d.1 in record {
+    shards = whole.shards;
+    limit = whole.limit;
     settles = (
       record {
         found = found;
         least = found-same ∙ d.0;
-        names = subst (λ (j : Journal). IsWitnessOf ready.based j found w) as.commits names;
+        names = subst (λ (j : Journal). IsWitnessOf ready.based j found w) whole.commits names;
         kinds = kinds;
       },
-      as.commits,
+      whole.commits,
     );
-    counts = as.faults;
+    counts = whole.faults;
   }
 
   -- the journal takes no more
   pub by-full : (limit : ℕ) (new : Standing) → Decides ready mid (appended.Full limit) new → HasSettled ready old (decision.Full limit) new
-  by-full limit new d = let as = as-before new d.1 in record {
-    shards = as.shards;
-    limit = as.limit;
+  by-full limit new d = let whole = as-before new d.1 in record {
+    shards = whole.shards;
+    limit = whole.limit;
     settles = (
       found-same ∙ d.0.clear,
       d.0.limit_is ∙ ap (λ (s : Standing). s.limit) same,
       subst (λ (s : Standing). s.limit ≤ length s.commits) same d.0.reached,
-      as.commits,
+      whole.commits,
     );
-    counts = as.faults;
+    counts = whole.faults;
   }
 
   -- the keeper failed

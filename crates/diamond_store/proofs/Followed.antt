@@ -1,6 +1,7 @@
 -- What a shard holds as it follows, and as its token learns.
-use Rattle.std.proofs.Common.{◌≡◌, ℕ, ◌≤◌, List, [], length, take, refl, sym, ap, ◌∙◌, subst, arith}
+use Rattle.std.proofs.Common.{◌≡◌, ℕ, ◌≤◌, List, [], ◌∷◌, length, take, Result, Ok, Err, IfOk, refl, sym, ap, ◌∙◌, subst, arith}
 use mathlib.Core.List.{IsPrefix}
+use Rattle.rdt_types.specs.declared.settings.Settings.{Settings}
 use Rattle.change_feed.specs.declared.tail.Tail.{Tail}
 use Rattle.change_feed.specs.Feeds.{AreOfTheirKinds}
 use Rattle.txn_lang.specs.States.{Journal}
@@ -77,3 +78,26 @@ next-nothing number shards window tail from to none = record {
     exact = none;
   };
 }
+
+-- the first 0 commits are none
+take-none : (journal : Journal) → take 0 journal ≡ []
+take-none [] = refl
+take-none (commit ∷ journal) = refl
+
+-- so it holds what it is to hold of every journal
+pub replicates-empty : {E : Type 0} (numbers : List ℕ) (journal : Journal) (place : ℕ) (settings : Settings) (tail : Tail) (r : Result Sharded E)
+    → HasSettings numbers settings → tail.from ≡ 0 → tail.to ≡ 0 → tail.changes ≡ []
+    → IfOk r (λ s. s ≡ record (empty place settings.shards settings.window) { front = tail.to; kept = s.kept })
+    → IfOk r (λ s. (j : Journal) → IsNext j (empty place settings.shards settings.window) tail → Holds (take tail.to j) s)
+    → IfOk r (Replicates numbers journal place)
+replicates-empty numbers journal place settings tail (Ok s) has from to none same holds =
+    let front : s.front ≡ 0 = ap (λ (x : Sharded). x.front) same ∙ to in
+    let first : Holds [] s = subst (λ (n : ℕ). Holds (take n []) s) to (holds [] (next-nothing place settings.shards settings.window tail from to none)) in
+    record {
+      number = ap (λ (x : Sharded). x.number) same;
+      shards = ap (λ (x : Sharded). x.shards) same ∙ has.shards;
+      window = ap (λ (x : Sharded). x.window) same ∙ has.window;
+      reached = omega arith;
+      holds = subst (λ (j : Journal). Holds j s) (sym (ap (λ (n : ℕ). take n journal) front ∙ take-none journal)) first;
+    }
+replicates-empty numbers journal place settings tail (Err e) has from to none same holds = tt

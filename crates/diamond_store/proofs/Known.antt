@@ -28,7 +28,7 @@ front-of old new more = subst (λ (j : Journal). take (length old) j ≡ old) mo
 -- The pass is the same client's, and knows no less than before of a journal that is sound.
 pub record Grows (p q : Passed) : Type 0 where
   pub begins : IsPrefix p.journal q.journal
-  pub legal : IsLegal p.trusted q.journal
+  pub legal : IsLegal q.trusted q.journal
   pub seen : p.seen ≤ q.seen
   pub within : q.seen ≤ length q.journal
   pub denials : p.denials ≤ q.denials

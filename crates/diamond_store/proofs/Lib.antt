@@ -2,6 +2,7 @@ pub mod Prefixes
 pub mod Sound
 pub mod Owed
 pub mod Known
+pub mod Bases
 pub mod Decided
 pub mod Called
 pub mod Added

@@ -76,11 +76,11 @@ passed trusted client token seen subscribed taken denied settings = record {
 
 -- The token is the client's own, what was seen is within the prefix that it knows, no more was taken, and the settings are the
 -- store's.
-pub record IsPass (numbers : List ℕ) (client : ℕ) (token : tokens.Known Commit) (seen taken : ℕ) (settings : Settings) : Type 0 where
+pub record IsPass (numbers : List ℕ) (client : ℕ) (token : tokens.Known Commit) (seen took : ℕ) (own : Settings) : Type 0 where
   pub author : token.author ≡ Some client
   pub within : seen ≤ length token.seen
-  pub taken : taken ≤ seen
-  pub settings : HasSettings numbers settings
+  pub taken : took ≤ seen
+  pub settings : HasSettings numbers own
 
 -- A pass, as the backend that it is. It never fails by a fault, and since each shard follows to what it is asked for, any
 -- base that was seen and any front counts as given.

@@ -25,12 +25,14 @@ use txn_lang::{Commit, CommitList};
 pub struct Book<K: Keep> {
     journal: Journal<K>,
     settings: Settings,
+    // How long the journal is.
+    entries: u64,
     denials: u64,
     first_faults: u64,
 }
 
 impl<K: Keep> Model for Book<K> {
-    ghost use Rattle.std.specs.Prelude.{◌≡◌};
+    ghost use Rattle.std.specs.Prelude.{◌≡◌, length};
     ghost use Rattle.txn_lang.specs.contracts.commit.Commit as commit;
     ghost use Rattle.journal_core.specs.Journals.{standing_code};
     ghost use Rattle.diamond_store.specs.Books.{Booked, booked_code, IsAtMostRise};
@@ -44,6 +46,7 @@ impl<K: Keep> Model for Book<K> {
     ghost invariant = { λ b. record {
       shards : b.journal.shards ≡ b.settings.shards;
       limit : b.journal.limit ≡ b.settings.limit;
+      entries : b.entries ≡ length b.journal.commits;
       counted : IsAtMostRise b.first_faults b.denials b.journal.faults;
     } };
 }
@@ -65,7 +68,7 @@ impl<K: Keep> Stands for Book<K> {
     ghost may_follow = { Follows };
 
     fn entries(&self) -> u64 {
-        self.journal.length()
+        self.entries
     }
 
     fn count(&self) -> u64 {
@@ -117,9 +120,11 @@ impl<K: Keep> Book<K> {
     {
         let first_faults = keeper.keep_faults();
         let journal = Journal::new(alloc, settings, keeper, kept)?;
+        let entries = journal.length();
         Ok(Book {
             journal,
             settings: *settings,
+            entries,
             denials: 0,
             first_faults,
         })
@@ -136,6 +141,7 @@ impl<K: Keep> Book<K> {
         ensures may_fail { IfOk result (λ decision. IfDenied decision (K.may_fail ≡ true)) }
     {
         let decision = decide::<K, Brand>(Blank::new(1), &mut self.journal, ready)?;
+        self.entries = self.journal.length();
         self.denials = counted(&decision, self.denials);
         Ok(decision)
     }
@@ -154,7 +160,7 @@ impl<K: Keep> Book<K> {
         requires { from ≤ length self.now.journal.commits }
         ensures { IfOk result (HasAll from (length self.now.journal.commits) (between from (length self.now.journal.commits) (changes self.now.journal.commits))) }
     {
-        self.journal.tail_all(from, self.journal.length())
+        self.journal.tail_all(from, self.entries)
     }
 
     /// The keeper, and the commits. It takes no memory.

@@ -1,7 +1,6 @@
 //! A store's journal before its lock has a name.
 
 ghost use Rattle.std.specs.Prelude.{◌≡◌, ◌<◌, ◌≤◌, length, IfOk, IfSome};
-ghost use Rattle.std.specs.List.{AllByRecursion};
 ghost use Rattle.history_lock.specs.declared.limits.TheConstants.{LAST_FIRST};
 ghost use Rattle.history_lock.specs.Entries.{NamesBelow};
 ghost use Rattle.history_lock.specs.Tokens.{newborn};

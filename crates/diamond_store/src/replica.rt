@@ -223,6 +223,7 @@ impl<K: Keep, N: Naming> Replica<K, N> {
         ensures lawful { IsLawful Follows N.lock.base token.new.seen }
         ensures reads { IfOk result (ReadsFrom seen token.new.seen address.now) }
     {
+        let _known = token.count();
         let place = shard_of(address, store.settings.shards);
         self.settle(store.alloc, place, &store.settings)?;
         let (journal, shard) = (&store.journal, &mut self.shard);
@@ -265,6 +266,7 @@ impl<K: Keep, N: Naming> Replica<K, N> {
         ensures lawful { IsLawful Follows N.lock.base token.new.seen }
         ensures reads { IfOk result (ReadsBack token.new.seen (window_in N.lock.origin) address.now number) }
     {
+        let _known = token.count();
         let place = shard_of(address, store.settings.shards);
         self.settle(store.alloc, place, &store.settings)?;
         let (journal, shard) = (&store.journal, &mut self.shard);
@@ -290,6 +292,7 @@ impl<K: Keep, N: Naming> Replica<K, N> {
         ensures lawful { IsLawful Follows N.lock.base token.new.seen }
         ensures validation { IfOk result (IsValidation token.new.seen (window_in N.lock.origin) place based.now) }
     {
+        let _known = token.count();
         self.settle(store.alloc, place, &store.settings)?;
         let (journal, shard) = (&store.journal, &mut self.shard);
         reach(

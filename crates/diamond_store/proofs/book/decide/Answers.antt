@@ -1,7 +1,7 @@
 use Rattle.std.proofs.Common.{◌≡◌, ◌+◌, length, Some, refl, sym, ap, ◌∙◌, subst}
 use Rattle.txn_lang.specs.Journals.{own}
 use Rattle.journal_core.specs.Journals.{Standing, found_past}
-use Rattle.diamond_store.proofs.Decided.{as-before, by-number, by-clash, by-full, by-fault}
+use Rattle.diamond_store.proofs.Decided.{on_err, as-before, by-number, by-clash, by-full}
 use Rattle.diamond_store.proofs.book.decide.Goals as goal
 
 pub append-requires-clause-can_append : goal.append-requires-clause-can_append
@@ -13,12 +13,12 @@ append-requires-clause-can_append g c ks h = record {
 }
 
 pub witness-requires-clause-found : goal.witness-requires-clause-found
-witness-requires-clause-found g c ks =
+witness-requires-clause-found g c ks h =
     subst (λ (s : Standing). found_past c.args.ready.now s ≡ Some c.in-Clash.found) (sym c.in-Clash.ensures.decides.1) c.in-Clash.ensures.decides.0
 
 pub returns-in_err-witness-in-Clash-clause-err : goal.returns-in_err-witness-in-Clash-clause-err
-returns-in_err-witness-in-Clash-clause-err g c = λ e.
-    as-before c.args.ready.now c.args.journal.now c.reserve.new.self c.reserve.ensures.same c.append.new.self c.in-Clash.ensures.decides.1
+returns-in_err-witness-in-Clash-clause-err g c =
+    on_err c.from_residual-in_err-witness-in-Clash.result _ (as-before c.args.ready.now c.args.journal.now c.reserve.new.self c.reserve.ensures.same c.append.new.self c.in-Clash.ensures.decides.1)
 
 pub returns-in-Number-clause-settled : goal.returns-in-Number-clause-settled
 returns-in-Number-clause-settled g c =
@@ -32,8 +32,3 @@ returns-in-Clash-clause-settled g c =
 pub returns-in-Full-clause-settled : goal.returns-in-Full-clause-settled
 returns-in-Full-clause-settled g c =
     by-full c.args.ready.now c.args.journal.now c.reserve.new.self c.reserve.ensures.same c.in-Full.limit c.append.new.self c.in-Full.ensures.decides
-
-pub returns-in-DiskFault-clause-settled : goal.returns-in-DiskFault-clause-settled
-returns-in-DiskFault-clause-settled g c =
-    by-fault c.args.ready.now c.args.journal.now c.reserve.new.self c.reserve.ensures.same c.in-DiskFault.field-0 c.in-DiskFault.field-1 c.append.new.self
-    c.in-DiskFault.ensures.decides

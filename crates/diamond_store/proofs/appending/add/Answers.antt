@@ -1,0 +1,40 @@
+use Rattle.std.proofs.lemmas.Result.{on_err_weaker}
+use Rattle.std.proofs.Common.{◌≡◌, ℕ, List, sym, ap, ◌∙◌, subst}
+use Rattle.history_lock.specs.declared.known.Known.{Known}
+use Rattle.plain_data.specs.Histories.{IsLawful}
+use Rattle.txn_lang.specs.declared.commit.Commit.{Commit}
+use Rattle.txn_lang.specs.States.{Journal}
+use Rattle.diamond_store.specs.Books.{Booked, numbers}
+use Rattle.diamond_store.specs.Following.{Follows}
+use Rattle.diamond_store.specs.Numbers.{shards_in, limit_in}
+use Rattle.diamond_store.specs.Settling.{CanSettle}
+use Rattle.diamond_store.proofs.Added.{settle-now, settles-here, lawful-left, adds-says}
+use Rattle.diamond_store.proofs.Sound.{lawful-sound}
+use Rattle.diamond_store.proofs.appending.add.Goals as goal
+
+pub append-decision-requires-clause-can : goal.append-decision-requires-clause-can
+append-decision-requires-clause-can g c =
+    let t = c.enter-guard.new.front in
+    let list : t.seen ≡ c.deref_mut.result.now.journal.commits =
+    c.enter-guard.ensures.value.seen ∙ ap (λ (b : Booked). b.journal.commits) (sym c.deref_mut.ensures.value) in
+    subst (CanSettle c.args.ready.now) list (settle-now g.N.Naming.lock.base (shards_in g.N.Naming.lock.origin) c.args.token.now t c.args.ready.now
+    c.requires.author c.requires.owed c.enter-guard.ensures.later c.enter-guard.ensures.lawful)
+
+pub leave-requires-clause-lawful : goal.leave-requires-clause-lawful
+leave-requires-clause-lawful g c =
+    let t = c.enter-guard.new.front in
+    let b = c.deref_mut.result.now in
+    let list : t.seen ≡ b.journal.commits = c.enter-guard.ensures.value.seen ∙ ap (λ (x : Booked). x.journal.commits) (sym c.deref_mut.ensures.value) in
+    let of : numbers b ≡ g.N.Naming.lock.origin = ap numbers c.deref_mut.ensures.value ∙ c.enter-guard.ensures.origin in
+    lawful-left g.N.Naming.lock.base (shards_in g.N.Naming.lock.origin) c.args.token.now t c.args.ready.now c.requires.author c.requires.owed
+    c.enter-guard.ensures.later c.enter-guard.ensures.lawful c.as_slice-rising.ensures.rising (limit_in g.N.Naming.lock.origin) c.append-decision.result
+    c.append-decision.new.self.journal.commits
+    (settles-here g.N.Naming.lock.origin b t.seen c.args.ready.now c.append-decision.result c.append-decision.new.self.journal.commits list of
+    c.append-decision.ensures.settles)
+    (on_err_weaker c.append-decision.result (λ same. same ∙ sym list) c.append-decision.ensures.err)
+
+pub returns-clause-adds : goal.returns-clause-adds
+returns-clause-adds g c = ?
+
+pub returns-clause-lawful : goal.returns-clause-lawful
+returns-clause-lawful g c = ?
