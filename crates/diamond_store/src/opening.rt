@@ -17,6 +17,17 @@ use rdt_types::Settings;
 use std::alloc::{AllocError, Global};
 use txn_lang::{Commit, CommitList};
 
+/// A number that is past a client, and no less than another number.
+fn past_both(past: u32, client: u32) -> u32
+    requires room { client < LAST_FIRST }
+    requires small { past ≤ LAST_FIRST }
+    ensures past { past ≤ result }
+    ensures client { client < result }
+    ensures small { result ≤ LAST_FIRST }
+{
+    if client < past { past } else { client + 1 }
+}
+
 /// The number past the clients of some commits, or 0.
 fn past_clients(kept: &[Commit]) -> u32
     requires { AreClients kept.now }
@@ -25,7 +36,7 @@ fn past_clients(kept: &[Commit]) -> u32
 {
     let mut past = 0;
     for commit in kept {
-        past = past.max(commit.client + 1);
+        past = past_both(past, commit.client);
     }
     past
 }

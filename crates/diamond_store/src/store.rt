@@ -162,13 +162,14 @@ impl<K: Keep, G: Gate + Drop, N: Naming> Store<K, G, N> {
         requires { CanPrepare (known_of pass.old) shard based.now }
         ensures { IsAnswered (known_of pass.old) (Call.prepare shard based.now) (front_answered result) (known_of pass.new) }
     {
+        let seen = pass.seen;
         let found = self.shards[shard as usize]
             .lock(rt)
             .prepare(rt, self, &mut pass.front, shard, based.as_slice());
         let Ok(validation) = found else {
             return Err(PrepareError::NoMemory);
         };
-        pass.seen = pass.seen.max(validation.front);
+        pass.seen = seen.max(validation.front);
         validation.answer
     }
 

@@ -13,7 +13,7 @@ use Rattle.diamond_store.proofs.Sound.{lawful-sound}
 use Rattle.diamond_store.proofs.appending.add.Goals as goal
 
 pub append-decision-requires-clause-can : goal.append-decision-requires-clause-can
-append-decision-requires-clause-can g c =
+append-decision-requires-clause-can g c ks h =
     let t = c.enter-guard.new.front in
     let list : t.seen ≡ c.deref_mut.result.now.journal.commits =
     c.enter-guard.ensures.value.seen ∙ ap (λ (b : Booked). b.journal.commits) (sym c.deref_mut.ensures.value) in
@@ -24,17 +24,35 @@ pub leave-requires-clause-lawful : goal.leave-requires-clause-lawful
 leave-requires-clause-lawful g c =
     let t = c.enter-guard.new.front in
     let b = c.deref_mut.result.now in
+    let left = c.append-decision.new.self.journal.commits in
     let list : t.seen ≡ b.journal.commits = c.enter-guard.ensures.value.seen ∙ ap (λ (x : Booked). x.journal.commits) (sym c.deref_mut.ensures.value) in
     let of : numbers b ≡ g.N.Naming.lock.origin = ap numbers c.deref_mut.ensures.value ∙ c.enter-guard.ensures.origin in
     lawful-left g.N.Naming.lock.base (shards_in g.N.Naming.lock.origin) c.args.token.now t c.args.ready.now c.requires.author c.requires.owed
-    c.enter-guard.ensures.later c.enter-guard.ensures.lawful c.as_slice-rising.ensures.rising (limit_in g.N.Naming.lock.origin) c.append-decision.result
-    c.append-decision.new.self.journal.commits
-    (settles-here g.N.Naming.lock.origin b t.seen c.args.ready.now c.append-decision.result c.append-decision.new.self.journal.commits list of
-    c.append-decision.ensures.settles)
+    c.enter-guard.ensures.later c.enter-guard.ensures.lawful c.as_slice-rising.ensures.rising (limit_in g.N.Naming.lock.origin) c.append-decision.result left
+    (settles-here g.N.Naming.lock.origin b t.seen c.args.ready.now c.append-decision.result left list of c.append-decision.ensures.settles)
     (on_err_weaker c.append-decision.result (λ same. same ∙ sym list) c.append-decision.ensures.err)
 
 pub returns-clause-adds : goal.returns-clause-adds
-returns-clause-adds g c = ?
+returns-clause-adds g c =
+    let t = c.enter-guard.new.front in
+    let b = c.deref_mut.result.now in
+    let left = c.append-decision.new.self.journal.commits in
+    let list : t.seen ≡ b.journal.commits = c.enter-guard.ensures.value.seen ∙ ap (λ (x : Booked). x.journal.commits) (sym c.deref_mut.ensures.value) in
+    let of : numbers b ≡ g.N.Naming.lock.origin = ap numbers c.deref_mut.ensures.value ∙ c.enter-guard.ensures.origin in
+    adds-says g.N.Naming.lock.base g.N.Naming.lock.origin c.args.token.now t c.leave.new.front c.args.ready.now c.append-decision.result left b.denials
+    c.append-decision.new.self.denials c.enter-guard.ensures.later (lawful-sound g.N.Naming.lock.base t.seen c.enter-guard.ensures.lawful)
+    (settles-here g.N.Naming.lock.origin b t.seen c.args.ready.now c.append-decision.result left list of c.append-decision.ensures.settles)
+    (c.enter-guard.ensures.value.count ∙ ap (λ (x : Booked). x.denials) (sym c.deref_mut.ensures.value)) c.append-decision.ensures.denials c.leave.ensures.left
 
 pub returns-clause-lawful : goal.returns-clause-lawful
-returns-clause-lawful g c = ?
+returns-clause-lawful g c =
+    let t = c.enter-guard.new.front in
+    let b = c.deref_mut.result.now in
+    let left = c.append-decision.new.self.journal.commits in
+    let list : t.seen ≡ b.journal.commits = c.enter-guard.ensures.value.seen ∙ ap (λ (x : Booked). x.journal.commits) (sym c.deref_mut.ensures.value) in
+    let of : numbers b ≡ g.N.Naming.lock.origin = ap numbers c.deref_mut.ensures.value ∙ c.enter-guard.ensures.origin in
+    subst (λ (k : Known Commit). IsLawful Follows g.N.Naming.lock.base k.seen) (sym c.leave.ensures.left)
+    (lawful-left g.N.Naming.lock.base (shards_in g.N.Naming.lock.origin) c.args.token.now t c.args.ready.now c.requires.author c.requires.owed
+    c.enter-guard.ensures.later c.enter-guard.ensures.lawful c.as_slice-rising.ensures.rising (limit_in g.N.Naming.lock.origin) c.append-decision.result left
+    (settles-here g.N.Naming.lock.origin b t.seen c.args.ready.now c.append-decision.result left list of c.append-decision.ensures.settles)
+    (on_err_weaker c.append-decision.result (λ same. same ∙ sym list) c.append-decision.ensures.err))

@@ -1,4 +1,4 @@
-use Rattle.std.proofs.Common.{◌≡◌, ◌<◌, ◌≤◌, ℕ, ◌+◌, take, All, sym, subst, arith}
+use Rattle.std.proofs.Common.{◌<◌, take, sym, subst}
 use Rattle.std.proofs.lemmas.List.{take_all}
 use Rattle.std.proofs.lemmas.List.Elements.{All-more}
 use Rattle.history_lock.specs.declared.limits.TheConstants.{LAST_FIRST}
@@ -8,21 +8,22 @@ use Rattle.txn_lang.specs.declared.commit.Commit.{Commit}
 use Rattle.diamond_store.specs.Appending.{client_of}
 use Rattle.diamond_store.proofs.opening.past_clients.Goals as goal
 
+pub past_both-past-requires-clause-room : goal.past_both-past-requires-clause-room
+past_both-past-requires-clause-room c =
+    subst (λ (x : Commit). client_of x < LAST_FIRST) (sym c.commit-item.is)
+    (c.loop-commit.invariant.all c.loop-commit.commit-index c.commit-item.result c.loop-commit-test.true)
+
 pub loop-commit-preserved : goal.loop-commit-preserved
 loop-commit-preserved c =
     let all = c.args.kept.now in
     let at = c.loop-commit.commit-index in
-    let item = c.commit-item.result in
     let kept = c.loop-commit.invariant in
-    let past = c.max-past.result in
-    let greater = c.max-past.ensures in
-    let here : item.client < LAST_FIRST = subst (λ (x : Commit). x.client < LAST_FIRST) (sym c.commit-item.is) (kept.all at item c.loop-commit-test.true) in
-    let next : client_of item < past = omega arith in
+    let past = c.past_both-past.result in
     record {
-      below = All-more (λ (x : Commit). client_of x < past) all at item c.loop-commit-test.true
-          (NamesBelow-more client_of c.loop-commit.past past (take at all) (omega arith) kept.below)
-          (subst (λ (x : Commit). client_of x < past) c.commit-item.is next);
-      small = (let s = kept.small in omega arith);
+      below = All-more (λ (x : Commit). client_of x < past) all at c.commit-item.result c.loop-commit-test.true
+          (NamesBelow-more client_of c.loop-commit.past past (take at all) c.past_both-past.ensures.past kept.below)
+          (subst (λ (x : Commit). client_of x < past) c.commit-item.is c.past_both-past.ensures.client);
+      small = c.past_both-past.ensures.small;
       all = kept.all;
     }
 
