@@ -64,7 +64,7 @@ fn repeat<B: Backend>(
         commits: 0,
         aborts: 0,
     };
-    for _ in 0..times {
+    for _round in 0..times {
         let turn = session.line(alloc, backend, line)?;
         tally = tally.with(&turn);
     }

@@ -73,6 +73,12 @@ module _ (m shards : ℕ) (old entered : Known Commit) (ready : Ready) (author :
     lawful-left limit (Ok d) left ok err = lawful-one limit d left ok
     lawful-left limit (Err e) left ok err = subst (IsLawful Follows m) (sym err) lawful
 
+-- where memory was wanting the journal stayed
+stays-here : {X : Type 0} (b : Booked) (seen : Journal) (r : Result Decision X) (left : Journal) → seen ≡ b.journal.commits
+    → OnErr r (left ≡ b.journal.commits) → OnErr r (left ≡ seen)
+stays-here b seen (Ok d) left same stays = tt
+stays-here b seen (Err e) left same stays = stays ∙ sym same
+
 -- what a book settles, said of the numbers that its lock stands for and of the journal that a token knows
 pub settles-here : {X : Type 0} (kept : List ℕ) (b : Booked) (seen : Journal) (ready : Ready) (r : Result Decision X) (left : Journal)
     → seen ≡ b.journal.commits → numbers b ≡ kept → IfOk r (λ d. Settles b.journal.shards b.journal.limit ready b.journal.commits d left)
@@ -100,3 +106,13 @@ adds-says m kept old entered new ready (Ok d) left n count later sound settles s
       ∙ ap (λ (c : ℕ). record entered { seen = new.seen; count = c }) (sym (ap (λ (k : Known Commit). k.count) is));
 }
 adds-says m kept old entered new ready (Err e) left n count later sound settles same counts is = tt
+
+-- so what a book stands for then is lawful
+pub lawful-book : {X : Type 0} (m : ℕ) (kept : List ℕ) (old entered : Known Commit) (ready : Ready) → old.author ≡ Some ready.client
+    → IsOwed (shards_in kept) old.seen ready → IsLater client_of old entered → IsLawful Follows m entered.seen
+    → IsStrictlySortedBy address_cmp (keys_of ready.run.deltas) → (b : Booked) (r : Result Decision X) (left : Journal)
+    → entered.seen ≡ b.journal.commits → numbers b ≡ kept → IfOk r (λ d. Settles b.journal.shards b.journal.limit ready b.journal.commits d left)
+    → OnErr r (left ≡ b.journal.commits) → IsLawful Follows m left
+lawful-book m kept old entered ready author owed later lawful rising b r left same of settles stays =
+    lawful-left m (shards_in kept) old entered ready author owed later lawful rising (limit_in kept) r left
+    (settles-here kept b entered.seen ready r left same of settles) (stays-here b entered.seen r left same stays)
