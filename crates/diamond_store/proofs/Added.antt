@@ -1,19 +1,18 @@
 -- What may be added under the journal's lock, and what was.
-use Rattle.std.proofs.Common.{◌≡◌, ℕ, ◌≤◌, ◌==◌, Bool, true, false, cond, List, [], ◌∷◌, ◌++◌, All, Option, Some, Result, Ok, Err, IfOk, refl, sym, ap, ◌∙◌, subst, arith}
+use Rattle.std.proofs.Common.{◌≡◌, ℕ, List, [], Option, Some, Result, Ok, Err, IfOk, sym, ap, ◌∙◌, subst, arith}
 use Rattle.std.proofs.Common.{append-nil}
 use Rattle.std.specs.Prelude.{OnErr}
 use Rattle.std.specs.List.Sorted.{IsStrictlySortedBy}
 use Rattle.std.specs.Map.{keys_of}
 use Rattle.history_lock.specs.declared.known.Known.{Known}
 use Rattle.history_lock.specs.Entries.{AddsOwn}
-use Rattle.history_lock.specs.Tokens.{IsLater, IsCurrent}
+use Rattle.history_lock.specs.Tokens.{IsLater}
 use Rattle.history_lock.proofs.Named.{AddsOwn-push}
 use Rattle.plain_data.specs.Histories.{IsLawful}
 use Rattle.plain_data.proofs.Histories.{IsLawful-push}
 use Rattle.rdt_types.specs.Addresses.{address_cmp}
 use Rattle.txn_lang.specs.declared.commit.Commit.{Commit}
 use Rattle.txn_lang.specs.States.{Journal}
-use Rattle.txn_lang.specs.Journals.{own}
 use Rattle.journal_core.specs.declared.ready.Ready.{Ready}
 use Rattle.journal_core.specs.Readies.{made_of}
 use Rattle.diamond_store.specs.declared.decision.Decision.{Decision}

@@ -1,5 +1,5 @@
 -- What an append is answered, from what the journal decided.
-use Rattle.std.proofs.Common.{◌≡◌, ◌⊎◌, ℕ, ◌+◌, ◌≤◌, ◌<◌, ◌==◌, Bool, true, false, cond, List, [], ◌∷◌, ◌++◌, length, Some, Result, inl, inr, refl, sym, ap, ◌∙◌, subst, arith}
+use Rattle.std.proofs.Common.{◌≡◌, ℕ, ◌+◌, ◌≤◌, ◌<◌, ◌==◌, Bool, true, false, cond, List, [], ◌∷◌, ◌++◌, length, Result, inl, inr, refl, sym, ap, ◌∙◌, subst, arith}
 use Rattle.std.specs.Prelude.{nat_lt}
 use Rattle.std.proofs.lemmas.List.{length-append}
 use Rattle.std.proofs.lemmas.Bool.Decides.{nat_tests}
@@ -25,7 +25,7 @@ use Rattle.docc_prepare.proofs.Witnessed.{witness-within}
 use Rattle.diamond_store.specs.declared.answer.StoreAppendError.{StoreAppendError}
 use Rattle.diamond_store.specs.declared.decision.Decision.{Decision}
 use Rattle.diamond_store.specs.declared.decision.Decision.TheVariants as decision
-use Rattle.diamond_store.specs.Appending.{client_of, Adds}
+use Rattle.diamond_store.specs.Appending.{Adds}
 use Rattle.diamond_store.specs.Books.{denials_after}
 use Rattle.diamond_store.specs.Decided.{answer_of, append_answered}
 use Rattle.diamond_store.specs.Following.{Follows}

@@ -1,5 +1,5 @@
 -- What each call but an append is answered, from what was found under its lock.
-use Rattle.std.proofs.Common.{◌≡◌, ℕ, ◌+◌, ◌≤◌, ◌<◌, Bool, true, false, cond, ◌||◌, ◌&&◌, not, max, List, [], ◌∷◌, length, take, filter, Option, Some, None, Result, Ok, Err, refl, sym}
+use Rattle.std.proofs.Common.{◌≡◌, ℕ, ◌≤◌, Bool, true, false, cond, ◌||◌, ◌&&◌, not, max, List, [], length, take, filter, None, Result, Ok, Err, refl, sym}
 use Rattle.std.proofs.Common.{ap, ◌∙◌, subst, arith}
 use Rattle.std.specs.Prelude.{nat_lt, nat_le}
 use Rattle.std.specs.List.{AllByRecursion}
@@ -38,7 +38,6 @@ use Rattle.docc_prepare.proofs.Feeding.{fed-is-pending, kinds-of-changes, kinds-
 use Rattle.docc_prepare.proofs.OfOneKind.{kind-left}
 use Rattle.diamond_store.specs.Appending.{client_of}
 use Rattle.diamond_store.specs.Following.{Follows, IsSound}
-use Rattle.diamond_store.specs.Numbers.{HasSettings, window_in}
 use Rattle.diamond_store.specs.Passes.{Passed, passed, known_of, is_in, IsPass}
 use Rattle.diamond_store.specs.Reading.{ReadsFrom, ReadsBack, Finds, IsValidation}
 use Rattle.diamond_store.specs.declared.replica.Validation.{Validation}

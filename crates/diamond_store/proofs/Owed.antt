@@ -1,5 +1,5 @@
 -- What a client owes holds when the journal has grown, and lets its commit follow.
-use Rattle.std.proofs.Common.{◌≡◌, ℕ, ◌+◌, List, [], ◌∷◌, ◌++◌, length, Option, Some, None, refl, sym, ap, ◌∙◌, subst}
+use Rattle.std.proofs.Common.{◌≡◌, ℕ, ◌+◌, List, [], length, Some, refl, sym, ap, ◌∙◌, subst}
 use Rattle.std.specs.Prelude.{slice_get}
 use Rattle.std.specs.List.{AllByRecursion}
 use Rattle.std.specs.List.Sorted.{IsStrictlySortedBy}
@@ -12,16 +12,14 @@ use Rattle.abort_witness.specs.declared.witness.Found.{Found}
 use Rattle.abort_witness.specs.declared.witness.Witness.{Witness}
 use Rattle.abort_witness.specs.Kinds.{IsBasedOfOneKind}
 use Rattle.txn_lang.specs.States.{Journal, known, left_by}
-use Rattle.txn_lang.specs.Execution.{done, exec}
-use Rattle.txn_lang.specs.Journals.{own, commit_of}
+use Rattle.txn_lang.specs.Journals.{own}
 use Rattle.txn_lang.specs.Tree.{tree}
 use Rattle.txn_eval.specs.Running.{values_of}
 use Rattle.journal_core.specs.declared.ready.Ready.{Ready}
 use Rattle.journal_core.specs.Pairs.{pairs, least_pair, past_fronts}
 use Rattle.journal_core.specs.Readies.{IsRunOf, made_of}
 use Rattle.journal_core.proofs.OfRuns.{kinds-of-run}
-use Rattle.docc_prepare.specs.Attempts.{based, ready_of, Fits}
-use Rattle.docc_prepare.specs.Serial.{IsOrderly}
+use Rattle.docc_prepare.specs.Attempts.{based, Fits}
 use Rattle.docc_prepare.specs.Witnesses.{witness_of, least_witness}
 use Rattle.docc_prepare.proofs.Fronts.{fronts_spare_no_pair}
 use Rattle.docc_prepare.proofs.Growing.{fits_stays}

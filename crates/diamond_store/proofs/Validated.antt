@@ -1,7 +1,7 @@
 -- What a shard answers, said of the journal whose first commits it holds.
-use Rattle.std.proofs.Common.{◌≡◌, ℕ, ◌+◌, ◌-◌, ◌≤◌, ◌<◌, Bool, true, false, cond, zero, suc, min, max, List, [], ◌∷◌, length, take, fold, Option, Some, None, Result, Ok, Err, refl, sym}
-use Rattle.std.proofs.Common.{ap, ◌∙◌, subst, arith}
-use Rattle.std.specs.Prelude.{nat_lt, slice_get}
+use Rattle.std.proofs.Common.{◌≡◌, ℕ, ◌≤◌, ◌<◌, Bool, true, false, cond, zero, suc, min, List, [], ◌∷◌, length, take, Option, Some, None, Ok, Err, refl}
+use Rattle.std.proofs.Common.{◌∙◌, arith}
+use Rattle.std.specs.Prelude.{nat_lt}
 use Rattle.std.specs.List.{AllByRecursion}
 use Rattle.std.proofs.lemmas.List.{length-take}
 use Rattle.std.proofs.lemmas.Bool.Decides.{nat_tests}
@@ -10,7 +10,7 @@ use Rattle.rdt_types.specs.declared.value.Value.{Value}
 use Rattle.abort_witness.specs.declared.witness.Based.{Based}
 use Rattle.abort_witness.specs.declared.witness.Witness.{Witness}
 use Rattle.abort_witness.specs.Kinds.{IsBasedOfOneKind, IsOfOneKind}
-use Rattle.txn_lang.specs.States.{Journal, state}
+use Rattle.txn_lang.specs.States.{Journal}
 use Rattle.journal_core.specs.Pairs.{pairs}
 use Rattle.version_shard.specs.Bases.{least_base, late_base}
 use Rattle.version_shard.specs.Shards.{Sharded, horizon}
@@ -22,7 +22,6 @@ use Rattle.version_shard.specs.Validating.{NamesLeast, ReadsAt, Validates}
 use Rattle.docc_prepare.specs.declared.backend.PrepareError.TheVariants as prepare_error
 use Rattle.docc_prepare.specs.declared.backend.ReadAtError.TheVariants as read_at_error
 use Rattle.docc_prepare.specs.Backends.{IsLeastBase}
-use Rattle.docc_prepare.specs.Serial.{IsOrderly}
 use Rattle.docc_prepare.specs.Witnesses.{least_witness}
 use Rattle.docc_prepare.proofs.Each.{each-more}
 use Rattle.docc_prepare.proofs.Missing.{none-of-least}

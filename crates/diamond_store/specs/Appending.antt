@@ -1,5 +1,5 @@
 -- What a token knows after its holder has handed something to the journal.
-use Rattle.std.specs.Prelude.{◌≡◌, ◌≤◌, ℕ, List}
+use Rattle.std.specs.Prelude.{◌≡◌, ℕ, List}
 use Rattle.history_lock.specs.declared.known.Known.{Known}
 use Rattle.history_lock.specs.Tokens.{IsLater}
 use Rattle.txn_lang.specs.declared.commit.Commit.{Commit}

@@ -1,7 +1,6 @@
 -- The commits with which a store may be opened.
 use Rattle.std.specs.Prelude.{◌<◌, All}
 use Rattle.history_lock.specs.declared.limits.TheConstants.{LAST_FIRST}
-use Rattle.txn_lang.specs.declared.commit.Commit.{Commit}
 use Rattle.txn_lang.specs.States.{Journal}
 
 -- their clients' numbers leave room for others

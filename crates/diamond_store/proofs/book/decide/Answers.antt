@@ -1,4 +1,4 @@
-use Rattle.std.proofs.Common.{◌≡◌, ◌+◌, length, Some, refl, sym, ap, ◌∙◌, subst}
+use Rattle.std.proofs.Common.{◌≡◌, ◌+◌, length, Some, sym, ap, ◌∙◌, subst}
 use Rattle.txn_lang.specs.Journals.{own}
 use Rattle.journal_core.specs.Journals.{Standing, found_past}
 use Rattle.diamond_store.proofs.Decided.{on_err, as-before, by-number, by-clash, by-full}

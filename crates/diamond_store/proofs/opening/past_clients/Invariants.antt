@@ -1,4 +1,4 @@
-use Rattle.std.proofs.Common.{◌≤◌, take, All, ◌<◌}
+use Rattle.std.proofs.Common.{◌≤◌, take}
 use Rattle.history_lock.specs.declared.limits.TheConstants.{LAST_FIRST}
 use Rattle.history_lock.specs.Entries.{NamesBelow}
 use Rattle.diamond_store.specs.Appending.{client_of}

@@ -1,4 +1,4 @@
-use Rattle.std.proofs.Common.{◌≤◌, length, arith}
+use Rattle.std.proofs.Common.{arith}
 use Rattle.diamond_store.specs.Numbers.{shards_in}
 use Rattle.diamond_store.proofs.Followed.{tail-kinds, replicates-followed, replicates-later}
 use Rattle.diamond_store.proofs.Prefixes.{length-prefix}

@@ -1,4 +1,4 @@
-use Rattle.std.proofs.Common.{◌≡◌, take, Err, refl, sym, subst, ap, ◌∙◌, arith}
+use Rattle.std.proofs.Common.{◌≡◌, take, Err, subst}
 use Rattle.version_shard.specs.declared.prepared.Refusal.TheVariants as refusal
 use Rattle.version_shard.specs.Validating.{Validates}
 use Rattle.diamond_store.proofs.Validated.{found-front, found-late, found-clash}

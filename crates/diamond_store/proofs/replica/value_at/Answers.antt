@@ -1,4 +1,4 @@
-use Rattle.std.proofs.Common.{◌≡◌, take, Err, refl, sym, subst, ap, ◌∙◌, arith}
+use Rattle.std.proofs.Common.{◌≡◌, take, Err, subst}
 use Rattle.version_shard.specs.declared.at_error.AtError.TheVariants as at_error
 use Rattle.version_shard.specs.Validating.{ReadsAt}
 use Rattle.diamond_store.proofs.Validated.{back-value, back-late}

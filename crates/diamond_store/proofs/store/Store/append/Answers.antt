@@ -1,4 +1,4 @@
-use Rattle.std.proofs.Common.{◌≤◌, ℕ, sym, subst, arith}
+use Rattle.std.proofs.Common.{ℕ, sym, subst, arith}
 use Rattle.docc_prepare.specs.Backends.{CanAppend}
 use Rattle.docc_prepare.specs.Calls.{Call}
 use Rattle.diamond_store.specs.Owing.{IsOwed}

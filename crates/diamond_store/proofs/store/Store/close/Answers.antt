@@ -1,5 +1,4 @@
 use Rattle.std.proofs.Common.{sym, subst}
-use Rattle.txn_lang.specs.States.{Journal}
 use Rattle.txn_lang.specs.Journals.{IsLegal}
 use Rattle.diamond_store.specs.Passes.{Passed}
 use Rattle.diamond_store.proofs.Sound.{lawful-sound}

@@ -1,4 +1,4 @@
-use Rattle.std.proofs.Common.{◌≤◌, length, arith}
+use Rattle.std.proofs.Common.{arith}
 use Rattle.diamond_store.proofs.Known.{learns, seen-within}
 use Rattle.diamond_store.proofs.Prefixes.{length-prefix}
 use Rattle.diamond_store.proofs.store.Store.meet.Goals as goal
