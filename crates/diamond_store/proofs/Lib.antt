@@ -1,0 +1,11 @@
+pub mod Prefixes
+pub mod Sound
+pub mod Owed
+pub mod Known
+pub mod Bases
+pub mod Decided
+pub mod Called
+pub mod Added
+pub mod Appended
+pub mod Followed
+pub mod Validated

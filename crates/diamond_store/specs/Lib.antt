@@ -1,0 +1,12 @@
+pub mod Following
+pub mod Numbers
+pub mod Settling
+pub mod Books
+pub mod Decided
+pub mod Replicas
+pub mod Reading
+pub mod Passes
+pub mod Owing
+pub mod Appending
+pub mod Opening
+pub mod Answers

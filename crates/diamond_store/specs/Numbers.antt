@@ -1,0 +1,29 @@
+-- The numbers that a store keeps for good: its keeper's count of faults when it was made, and its settings.
+use Rattle.std.specs.Prelude.{◌≡◌, ℕ, List, [], ◌∷◌, get_or, refl}
+use Rattle.rdt_types.specs.declared.settings.Settings.{Settings}
+
+-- these numbers, as the value under a lock keeps them
+abbrev pub numbers_of : ℕ → ℕ → ℕ → ℕ → List ℕ
+numbers_of faults shards window limit = faults ∷ shards ∷ window ∷ limit ∷ []
+
+abbrev pub faults_in : List ℕ → ℕ
+faults_in numbers = get_or numbers 0 0
+
+abbrev pub shards_in : List ℕ → ℕ
+shards_in numbers = get_or numbers 1 0
+
+abbrev pub window_in : List ℕ → ℕ
+window_in numbers = get_or numbers 2 0
+
+abbrev pub limit_in : List ℕ → ℕ
+limit_in numbers = get_or numbers 3 0
+
+-- these are the settings among the numbers
+pub record HasSettings (numbers : List ℕ) (settings : Settings) : Type 0 where
+  pub shards : settings.shards ≡ shards_in numbers
+  pub window : settings.window ≡ window_in numbers
+  pub limit : settings.limit ≡ limit_in numbers
+
+-- of a store of 4 shards, a window of 2 and a limit of 9 the limit is 9
+limit_in-example : limit_in (numbers_of 0 4 2 9) ≡ 9
+limit_in-example = refl

@@ -1,0 +1,312 @@
+//! What stands behind the lock of a shard: the shard, and a token that has seen at least the commits that it holds.
+
+ghost use Rattle.std.specs.Prelude.{◌≡◌, ◌≤◌, ◌<◌, ℕ, List, length, take, IfOk, OnOk};
+ghost use Rattle.std.specs.List.{AllByRecursion};
+ghost use Rattle.abort_witness.specs.Kinds.{IsBasedOfOneKind};
+ghost use Rattle.plain_data.specs.Histories.{IsLawful};
+ghost use Rattle.history_lock.specs.Tokens.{IsLater};
+ghost use Rattle.rdt_types.specs.Shards.{shard_of};
+ghost use Rattle.journal_core.specs.Changes.{changes, between, of_shard};
+ghost use Rattle.journal_core.specs.Tails.{HasAll};
+ghost use Rattle.diamond_store.specs.Appending.{client_of};
+ghost use Rattle.diamond_store.specs.Following.{Follows, IsSound};
+ghost use Rattle.diamond_store.specs.Numbers.{shards_in, window_in, HasSettings};
+ghost use Rattle.diamond_store.specs.Replicas.{Replicates};
+ghost use Rattle.diamond_store.specs.Reading as reading;
+ghost use Rattle.diamond_store.specs.Reading.{ReadsFrom, ReadsBack, Finds, IsValidation};
+ghost use Rattle.txn_lang.specs.States.{Journal};
+ghost use Rattle.version_shard.specs.Shards.{IsIn};
+ghost use Rattle.version_shard.specs.Standing.{Holds};
+
+use crate::book::Book;
+use crate::gate::Gate;
+use crate::store::Store;
+use abort_witness::Based;
+use change_feed::Tail;
+use conflict_table::Steps;
+use docc_prepare::{PrepareError, ReadAtError};
+use history_lock::{Front, HistoryLock, Naming};
+use journal_core::Keep;
+use rdt_types::{Address, Settings, Value, shard_of};
+use std::alloc::{AllocError, Global};
+use std::marker::{Brand, Model};
+use std::sync::Wait;
+use std::sync::ledger::{Blank, Ledger};
+use txn_lang::Snap;
+use version_shard::{AtError, Prepared, Refusal, Shard};
+
+/// A shard, and a token that has seen at least the commits that the shard holds.
+#[derive(Drop)]
+pub(crate) struct Replica<K: Keep, N: Naming> {
+    place: u8,
+    shard: Shard,
+    token: Front<Book<K>, N>,
+}
+
+impl<K: Keep, N: Naming> Model for Replica<K, N> {
+    ghost use Rattle.std.specs.Prelude.{ℕ};
+    ghost use Rattle.std.specs.Coded.{coded_ℕ};
+    ghost use Rattle.diamond_store.specs.Replicas.{Replicates};
+
+    ghost Value = { ℕ };
+
+    ghost coded = { coded_ℕ };
+
+    ghost view = { λ r. r.place };
+
+    ghost invariant = { λ r. Replicates N.lock.origin r.token.seen r.place r.shard };
+}
+
+/// A shard that has followed nothing.
+fn empty_shard(alloc: Global, place: u8, settings: &Settings) -> Result<Shard, AllocError>
+    requires { place < settings.now.shards }
+    ensures { (numbers : List ℕ) (journal : Journal) → HasSettings numbers settings.now → IfOk result (λ shard. Replicates numbers journal place shard) }
+{
+    Shard::new(alloc, place, settings, &Tail::none(alloc, 0))
+}
+
+/// The changes in a shard past one number and up to another, taken under the journal's lock.
+fn tail_of<K: Keep, N: Naming, R: Wait>(
+    rt: &R,
+    journal: &HistoryLock<Book<K>, N>,
+    token: &mut Front<Book<K>, N>,
+    place: u8,
+    from: u64,
+    to: u64,
+) -> Result<Tail, AllocError>
+    requires order { from ≤ to }
+    requires within { to ≤ length token.old.seen }
+    ensures later { IsLater client_of token.old token.new }
+    ensures lawful { IsLawful Follows N.lock.base token.new.seen }
+    ensures tail { IfOk result (HasAll from to (of_shard (shards_in N.lock.origin) place (between from to (changes token.new.seen)))) }
+{
+    let guard = journal.enter(rt, token);
+    let tail = guard.value.tail(place, from, to);
+    journal.leave(rt, token, guard);
+    tail
+}
+
+/// The shard follows to a number, where it is behind that. For want of memory it may stand at a front between.
+fn follow<K: Keep, N: Naming, R: Wait>(
+    rt: &R,
+    journal: &HistoryLock<Book<K>, N>,
+    token: &mut Front<Book<K>, N>,
+    shard: &mut Shard,
+    place: u8,
+    to: u64,
+) -> Result<(), AllocError>
+    requires within { to ≤ length token.old.seen }
+    requires replicates { Replicates N.lock.origin token.old.seen place shard.old }
+    ensures replicates { Replicates N.lock.origin token.new.seen place shard.new }
+    ensures reached { OnOk result (to ≤ shard.new.front) }
+{
+    let front = shard.front();
+    if to <= front {
+        return Ok(());
+    }
+    let tail = tail_of(rt, journal, token, place, front, to)?;
+    shard.follow(&tail)
+}
+
+/// The shard's token and another learn of each other, and the shard follows to a number that the other has seen.
+fn reach<K: Keep, N: Naming, R: Wait>(
+    rt: &R,
+    journal: &HistoryLock<Book<K>, N>,
+    token: &mut Front<Book<K>, N>,
+    shard: &mut Shard,
+    place: u8,
+    other: &mut Front<Book<K>, N>,
+    to: u64,
+) -> Result<(), AllocError>
+    requires within { to ≤ length other.old.seen }
+    requires replicates { Replicates N.lock.origin token.old.seen place shard.old }
+    ensures replicates { Replicates N.lock.origin token.new.seen place shard.new }
+    ensures later { IsLater client_of other.old other.new }
+    ensures lawful { IsLawful Follows N.lock.base other.new.seen }
+    ensures reached { OnOk result (to ≤ shard.new.front) }
+    ensures told { OnOk result (Replicates N.lock.origin other.new.seen place shard.new) }
+{
+    let copy = journal.split(other);
+    journal.meet(token, copy);
+    let followed = follow(rt, journal, token, shard, place, to);
+    let copy = journal.split(token);
+    journal.meet(other, copy);
+    followed
+}
+
+/// The greatest of some bases, or 0.
+fn greatest_base(based: &[Based]) -> u64
+    ensures { result ≡ reading.greatest_base based.now }
+{
+    let mut greatest = 0;
+    for b in based {
+        greatest = greatest.max(b.base);
+    }
+    greatest
+}
+
+/// A shard's front, and what it found there of observations.
+#[derive(Debug, Drop)]
+pub(crate) struct Validation {
+    pub front: u64,
+    pub answer: Result<Prepared, PrepareError>,
+}
+
+/// What a shard finds of observations in it.
+fn validate<L: Ledger>(
+    blank: Blank,
+    shard: &Shard,
+    based: &[Based],
+) -> Result<Prepared, PrepareError>
+    requires name { blank.name ≡ L.name }
+    requires parts { blank.parts ≡ L.parts }
+    requires one { blank.parts ≡ 1 }
+    requires here { AllByRecursion (λ b. shard_of b.address shard.now.shards ≡ shard.now.number) based.now }
+    requires kinds { AllByRecursion IsBasedOfOneKind based.now }
+    ensures { (m : ℕ) (journal : Journal) → IsSound m journal → shard.now.front ≤ length journal → Holds (take shard.now.front journal) shard.now
+        → AllByRecursion (λ b. b.base ≤ shard.now.front) based.now
+        → Finds journal shard.now.window shard.now.number based.now shard.now.front result }
+{
+    let mut steps = Steps::<L>::new(blank);
+    match shard.validate(based, &mut steps) {
+        Ok(prepared) => Ok(prepared),
+        Err(Refusal::Late(base, horizon)) => Err(PrepareError::Late(base, horizon)),
+        Err(Refusal::Clash(witness)) => Err(PrepareError::Clash(witness)),
+        Err(Refusal::NoMemory) => Err(PrepareError::NoMemory),
+    }
+}
+
+impl<K: Keep, N: Naming> Replica<K, N> {
+    /// A shard that has followed nothing, and a token.
+    pub(crate) fn new(
+        alloc: Global,
+        place: u8,
+        settings: &Settings,
+        token: Front<Book<K>, N>,
+    ) -> Result<Replica<K, N>, AllocError>
+        requires place { place < settings.now.shards }
+        requires settings { HasSettings N.lock.origin settings.now }
+    {
+        let shard = empty_shard(alloc, place, settings)?;
+        Ok(Replica {
+            place,
+            shard,
+            token,
+        })
+    }
+
+    /// Sees to it that this is the shard of a place: no clause ties what lies under a lock to the place of the lock. One of
+    /// another place would begin anew.
+    fn settle(&mut self, alloc: Global, place: u8, settings: &Settings) -> Result<(), AllocError>
+        requires place { place < settings.now.shards }
+        requires settings { HasSettings N.lock.origin settings.now }
+        ensures { OnOk result (self.new ≡ place) }
+    {
+        if self.place != place {
+            self.shard = empty_shard(alloc, place, settings)?;
+            self.place = place;
+        }
+        Ok(())
+    }
+
+    /// The value at an address, at the front, which is moved first to what was seen.
+    pub(crate) fn read<G: Gate + Drop, R: Wait>(
+        &mut self,
+        rt: &R,
+        store: &Store<K, G, N>,
+        token: &mut Front<Book<K>, N>,
+        address: &Address,
+        seen: u64,
+    ) -> Result<Snap, AllocError>
+        requires { seen ≤ length token.old.seen }
+        ensures later { IsLater client_of token.old token.new }
+        ensures lawful { IsLawful Follows N.lock.base token.new.seen }
+        ensures reads { IfOk result (ReadsFrom seen token.new.seen address.now) }
+    {
+        let _known = token.count();
+        let place = shard_of(address, store.settings.shards);
+        self.settle(store.alloc, place, &store.settings)?;
+        let (journal, shard) = (&store.journal, &mut self.shard);
+        reach(rt, journal, &mut self.token, shard, place, token, seen)?;
+        store.gate.at(place);
+        self.shard.read(address)
+    }
+}
+
+/// The value that a shard has at an address at a number, or that it is late there.
+fn value_at(
+    shard: &Shard,
+    address: &Address,
+    number: u64,
+) -> Result<Result<Value, ReadAtError>, AllocError>
+    requires here { IsIn shard.now address.now }
+    requires within { number ≤ shard.now.front }
+    ensures { (journal : Journal) → shard.now.front ≤ length journal → Holds (take shard.now.front journal) shard.now
+        → IfOk result (ReadsBack journal shard.now.window address.now number) }
+{
+    match shard.read_at(address, number) {
+        Ok(value) => Ok(Ok(value)),
+        Err(AtError::Late(number, horizon)) => Ok(Err(ReadAtError::Late(number, horizon))),
+        Err(AtError::NoMemory) => Err(AllocError),
+    }
+}
+
+impl<K: Keep, N: Naming> Replica<K, N> {
+    /// The value at an address at a number, to which the front is moved first.
+    pub(crate) fn read_at<G: Gate + Drop, R: Wait>(
+        &mut self,
+        rt: &R,
+        store: &Store<K, G, N>,
+        token: &mut Front<Book<K>, N>,
+        address: &Address,
+        number: u64,
+    ) -> Result<Result<Value, ReadAtError>, AllocError>
+        requires { number ≤ length token.old.seen }
+        ensures later { IsLater client_of token.old token.new }
+        ensures lawful { IsLawful Follows N.lock.base token.new.seen }
+        ensures reads { IfOk result (ReadsBack token.new.seen (window_in N.lock.origin) address.now number) }
+    {
+        let _known = token.count();
+        let place = shard_of(address, store.settings.shards);
+        self.settle(store.alloc, place, &store.settings)?;
+        let (journal, shard) = (&store.journal, &mut self.shard);
+        reach(rt, journal, &mut self.token, shard, place, token, number)?;
+        store.gate.at(place);
+        value_at(&self.shard, address, number)
+    }
+
+    /// What the shard of a place finds of observations in it, at a front that isn't below their bases.
+    pub(crate) fn prepare<G: Gate + Drop, R: Wait>(
+        &mut self,
+        rt: &R,
+        store: &Store<K, G, N>,
+        token: &mut Front<Book<K>, N>,
+        place: u8,
+        based: &[Based],
+    ) -> Result<Validation, AllocError>
+        requires place { place < shards_in N.lock.origin }
+        requires within { reading.greatest_base based.now ≤ length token.old.seen }
+        requires here { AllByRecursion (λ b. shard_of b.address (shards_in N.lock.origin) ≡ place) based.now }
+        requires kinds { AllByRecursion IsBasedOfOneKind based.now }
+        ensures later { IsLater client_of token.old token.new }
+        ensures lawful { IsLawful Follows N.lock.base token.new.seen }
+        ensures validation { IfOk result (IsValidation token.new.seen (window_in N.lock.origin) place based.now) }
+    {
+        let _known = token.count();
+        self.settle(store.alloc, place, &store.settings)?;
+        let (journal, shard) = (&store.journal, &mut self.shard);
+        reach(
+            rt,
+            journal,
+            &mut self.token,
+            shard,
+            place,
+            token,
+            greatest_base(based),
+        )?;
+        store.gate.at(place);
+        let front = self.shard.front();
+        let answer = validate::<Brand>(Blank::new(1), &self.shard, based);
+        Ok(Validation { front, answer })
+    }
+}
