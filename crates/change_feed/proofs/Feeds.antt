@@ -55,7 +55,7 @@ feeds_keep_pending changes q = kept_pending [] changes q
 -- ---- feeds that are joined
 
 -- at an address below all others nothing is found among them
-none_behind : (q address : Address) (deltas : Deltas) → address_cmp q address ≡ Equal
+pub none_behind : (q address : Address) (deltas : Deltas) → address_cmp q address ≡ Equal
     → AllByRecursion (λ y. address_cmp address y ≡ Less) (keys_of deltas) → delta_at deltas q ≡ None
 none_behind q address [] same below = refl
 none_behind q address (pair ∷ deltas) same below =

@@ -18,6 +18,7 @@ use Rattle.rdt_types.specs.contracts.address.AddressOrd.TheImpl.Laws as order
 use Rattle.rdt_types.proofs.Addresses.{address_cmp-equal}
 use Rattle.rdt_types.specs.Deltas.{apply}
 use Rattle.rdt_types.specs.DeltaMaps.{Deltas, delta_at}
+use Rattle.change_feed.proofs.Feeds.{none_behind}
 use Rattle.client_cache.specs.Histories.{apply_maybe}
 use Rattle.client_cache.specs.Cached.{Values}
 use Rattle.client_cache.specs.code.Changing.{changed_one, changed_from, with_all}
@@ -51,14 +52,6 @@ nothing_put test (pair ∷ values) w e = by (test pair.0) (nothing_put test valu
         → cond b ((pair.0, w) ∷ values) (pair ∷ set_value test values w) ≡ pair ∷ values
     by true rest f = absurd (cc)
     by false rest f = ap (λ all. pair ∷ all) (rest f)
-
--- at an address below all others nothing is found among them
-none_behind : (q address : Address) (deltas : Deltas) → address_cmp q address ≡ Equal
-    → AllByRecursion (λ y. address_cmp address y ≡ Less) (keys_of deltas) → delta_at deltas q ≡ None
-none_behind q address [] same below = refl
-none_behind q address (pair ∷ deltas) same below =
-    ap (λ r. cond (is_eq r) (Some pair.1) (delta_at deltas q)) (order.total-law.congr q address pair.0 same ∙ below.0)
-    ∙ none_behind q address deltas same below.1
 
 -- ---- all deltas of a feed, in the order of their addresses
 

@@ -1,11 +1,9 @@
 -- Each answer keeps what a phase tells, of a journal that may have grown; so the whole line keeps to it.
-use Rattle.std.proofs.Common.{◌≡◌, ◌⊎◌, inl, inr, ℕ, zero, suc, ◌+◌, ◌≤◌, Bool, true, false, cond, not, ◌&&◌, ◌||◌, List, [], ◌∷◌, ◌++◌, map, length}
-use Rattle.std.proofs.Common.{Option, Some, None, option_map, is_some, IsSome, refl, sym, ap, ◌∙◌, subst, arith}
-use Rattle.std.specs.List.{AllByRecursion}
+use Rattle.std.proofs.Common.{◌≡◌, inl, inr, ℕ, ◌≤◌, Bool, true, false, cond, not, ◌&&◌, ◌||◌, List, [], ◌∷◌, ◌++◌, length}
+use Rattle.std.proofs.Common.{Option, Some, None, option_map, is_some, refl, sym, ap, ◌∙◌, subst, arith}
 use Rattle.std.specs.BTreeMap.{is_at}
 use Rattle.std.specs.Ordering.{is_eq}
 use Rattle.std.proofs.Math.Seq.{take-length}
-use Rattle.plain_data.specs.Texts.{Bytes}
 use Rattle.dio_core.specs.Told.{WhereTold}
 use Rattle.rdt_types.specs.declared.address.Address.{Address}
 use Rattle.rdt_types.specs.declared.value.Value.{Value}
@@ -13,32 +11,28 @@ use Rattle.rdt_types.specs.Addresses.{address_cmp}
 use Rattle.rdt_types.specs.DeltaMaps.{delta_at}
 use Rattle.change_feed.specs.Feeds.{Fed}
 use Rattle.client_cache.specs.Histories.{apply_maybe}
-use Rattle.client_cache.specs.Cached.{Cached, held, filled, released, advanced}
+use Rattle.client_cache.specs.Cached.{held}
 use Rattle.session_text.specs.declared.reply.Reply.{Reply}
 use Rattle.session_text.specs.declared.reply.Reply.TheVariants as reply
-use Rattle.txn_lang.specs.declared.checked.Checked.{Checked}
 use Rattle.txn_lang.specs.States.{Journal, State, state}
 use Rattle.txn_lang.specs.Journals.{IsLegal}
-use Rattle.txn_lang.specs.Short.{IsShortAddress}
-use Rattle.rerun_driver.specs.declared.watch.Watch.{Watch}
-use Rattle.rerun_driver.specs.Watches.{Watches, watch_of, all_told, is_observed}
-use Rattle.docc_prepare.specs.Calls.{Known, Call, Answer, is_fault}
+use Rattle.rerun_driver.specs.Watches.{Watches, watch_of, is_observed}
+use Rattle.docc_prepare.specs.Calls.{Known, Call, Answer}
 use Rattle.docc_prepare.specs.Backends.{IsAnswered, SaysOfJournal, IsPrefix, IsBelowHorizon}
 use Rattle.client_watches.specs.declared.watching.Watching.{Watching}
 use Rattle.client_watches.specs.Watching.{after_feed, with_value, is_idle, without_value, stale_count}
-use Rattle.client_watches.specs.Phases.{Phase, Goal, Job, Then, asks, after, drop_idle, then_on, ending, rerun_up_to, rerun_all, go_on}
-use Rattle.client_watches.specs.Keeping.{Keeps}
+use Rattle.client_watches.specs.Phases.{Phase, Goal, Job, Then, asks, after, drop_idle, then_on, ending, rerun_all, go_on}
 use Rattle.client_watches.specs.Standing.{Subscribes, Stands, CanRead, CanReadOn}
 use Rattle.client_watches.specs.Leading.{Leads}
-use Rattle.client_watches.specs.Explained.{Shown, ShownList, shown_of, Reports, AllHold, IsShownAt, IsCurrent, IsCutShort, IsMade, SyncPasses, WatchPasses}
+use Rattle.client_watches.specs.Explained.{ShownList, shown_of, Reports, AllHold, IsShownAt, IsCutShort}
 use Rattle.client_watches.specs.Explained.{GoalPasses}
 use Rattle.client_watches.proofs.Names.{none-told}
 use Rattle.client_watches.proofs.Kept.{keeps-on, keeps-value, keeps-values, keeps-feed}
 use Rattle.client_watches.proofs.Journals.{prefix-shorter, prefix-state, prefix-again}
 use Rattle.client_watches.proofs.Stays.{AreUpTo, outcome-stays, reports-stay, hold-stay, stands-stay, reports-up-to}
-use Rattle.client_watches.proofs.Values.{held-advanced, rise-advanced, held-filled, rise-filled, held-released, rise-released, at-same, at-turned}
+use Rattle.client_watches.proofs.Values.{held-advanced, rise-advanced, held-filled, rise-filled, held-released, rise-released, at-turned}
 use Rattle.client_watches.proofs.Moving.{stands-value, stands-without_value, stands-feed}
-use Rattle.client_watches.proofs.Telling.{shown-told, all-up-to, up-to-more, IsReady, Going, IsFree, JobTells, ThenTells, IsReading, PhaseTells, drops-on}
+use Rattle.client_watches.proofs.Telling.{shown-told, all-up-to, up-to-more, IsReady, Going, IsFree, JobTells, ThenTells, PhaseTells, drops-on}
 use Rattle.client_watches.proofs.Telling.{ending-tells, first-tells, reruns-tell}
 
 -- ---- what is subscribed to
@@ -57,7 +51,7 @@ subscribes-feed k l w feed event is = record {
     was a v (Some u) e f = is.told a u e
 
 -- where nothing is subscribed to or taken
-subscribes-on : (k l : Known) (w : Watching) → ((a : Address) → l.subscribed a ≡ k.subscribed a) → l.taken ≡ k.taken → Subscribes k w → Subscribes l w
+pub subscribes-on : (k l : Known) (w : Watching) → ((a : Address) → l.subscribed a ≡ k.subscribed a) → l.taken ≡ k.taken → Subscribes k w → Subscribes l w
 subscribes-on k l w same taken is = record {
   rising = is.rising;
   told = λ a v found. same a ∙ is.told a v found;
@@ -79,7 +73,7 @@ subscribes-value k l w address value event taken is = record {
     at a v false e f = is.told a v (sym (ap (λ b. cond b (Some value) (held w.cache a)) (at-turned a address ∙ e)) ∙ f)
 
 -- with one value less
-subscribes-without : (k l : Known) (w : Watching) (address : Address) → IsAnswered k (Call.unsubscribe address) Answer.done l → Subscribes k w
+pub subscribes-without : (k l : Known) (w : Watching) (address : Address) → IsAnswered k (Call.unsubscribe address) Answer.done l → Subscribes k w
     → Subscribes l (without_value w address)
 subscribes-without k l w address event is = record {
   rising = rise-released w.cache address is.rising;
@@ -97,7 +91,7 @@ subscribes-without k l w address event is = record {
     was a v false f = is.taken a v f
 
 -- what a value that no watch observes is
-idle-unobserved : (w : Watching) (address : Address) → is_idle w address ≡ true → is_observed w.watches address ≡ false
+pub idle-unobserved : (w : Watching) (address : Address) → is_idle w address ≡ true → is_observed w.watches address ≡ false
 idle-unobserved w address e = by (is_some (held w.cache address)) (is_observed w.watches address) e
   where
     by : (a b : Bool) → (a && not b) ≡ true → b ≡ false
@@ -413,43 +407,44 @@ module _ (window low : ℕ) (goal : Goal) (story : ShownList) (upto : AreUpTo lo
 -- ---- the whole line
 
 -- where a way leads, of a journal that is told
-pub record Led (window low : ℕ) (goal : Goal) (story : ShownList) (k l : Known) (old : Journal) (q : Phase) : Type 0 where
+pub record Led (T : Known → Journal → Phase → Type 0) (k l : Known) (old : Journal) (q : Phase) : Type 0 where
   pub journal : Journal
   pub told : l.journal ≡ Some journal
   pub grows : IsPrefix old journal
   pub can : CanRead journal
   pub trusted : l.trusted ≡ k.trusted
-  pub tells : PhaseTells window low goal story l journal q
+  pub tells : T l journal q
 
--- one step more
-led-more : (window low : ℕ) (goal : Goal) (story : ShownList) (upto : AreUpTo low story) (k m l : Known) (old : Journal) (q r : Phase) (call : Call)
-    (answer : Answer) → CanReadOn k.trusted old → Led window low goal story k m old q → asks q ≡ Some call → IsAnswered m call answer l → after q answer ≡ r
-    → Led window low goal story k l old r
-led-more window low goal story upto k m l old q r call answer on is asked event same = by m.journal l.journal refl refl event.told
-  where
-    by : (o p : Option Journal) → m.journal ≡ o → l.journal ≡ p → WhereTold (SaysOfJournal m l call answer) o p → Led window low goal story k l old r
-    by None None e f h = absurd (let t = is.told in cc)
-    by None (Some new) e f h = absurd h
-    by (Some mid) None e f h = absurd h
-    by (Some mid) (Some new) e f h =
-        let here : mid ≡ is.journal = (let t = is.told in cc) in
-        let says : SaysOfJournal m l call answer is.journal new = subst (λ (x : Journal). SaysOfJournal m l call answer x new) here h in
-        let grows = prefix-again old is.journal new is.grows says.grows in
-        let trusts : l.trusted ≡ k.trusted = event.client.trusted ∙ is.trusted in
-        let can = on new grows (subst (λ (n : ℕ). IsLegal n new) trusts says.legal) in record {
-          journal = new;
-          told = f;
-          grows = grows;
-          can = can;
-          trusted = trusts;
-          tells = subst (PhaseTells window low goal story l new) same
-              (tells-kept window low goal story upto m l is.journal new is.can can q call answer is.tells asked event says);
-        }
+-- each answer keeps what a phase tells
+abbrev pub IsKeptBy : (Known → Journal → Phase → Type 0) → Type 0
+IsKeptBy T = (k l : Known) (old new : Journal) → CanRead old → CanRead new → (q : Phase) (call : Call) (answer : Answer) → T k old q → asks q ≡ Some call
+    → IsAnswered k call answer l → SaysOfJournal k l call answer old new → T l new (after q answer)
 
-pub led : (window low : ℕ) (goal : Goal) (story : ShownList) (upto : AreUpTo low story) (k : Known) (p : Phase) (n : ℕ) (l : Known) (q : Phase)
-    (old : Journal) → CanReadOn k.trusted old → CanRead old → k.journal ≡ Some old → PhaseTells window low goal story k old p
-    → Leads IsAnswered k p n l q → Led window low goal story k l old q
-led window low goal story upto k p n l q old on can told tells Leads.stays =
-    record { journal = old; told = told; grows = take-length old; can = can; trusted = refl; tells = tells }
-led window low goal story upto k p n l r old on can told tells (Leads.by_step {n = m} {c = mid} {q = q} call answer leads asked step same) =
-    led-more window low goal story upto k mid l old q r call answer on (led window low goal story upto k p m mid q old on can told tells leads) asked step same
+module _ (T : Known → Journal → Phase → Type 0) (kept : IsKeptBy T) (k : Known) (old : Journal) (on : CanReadOn k.trusted old) where
+  -- one step more
+  led-more : (m l : Known) (q r : Phase) (call : Call) (answer : Answer) → Led T k m old q → asks q ≡ Some call → IsAnswered m call answer l
+      → after q answer ≡ r → Led T k l old r
+  led-more m l q r call answer is asked event same = by m.journal l.journal refl refl event.told
+    where
+      by : (o p : Option Journal) → m.journal ≡ o → l.journal ≡ p → WhereTold (SaysOfJournal m l call answer) o p → Led T k l old r
+      by None None e f h = absurd (let t = is.told in cc)
+      by None (Some new) e f h = absurd h
+      by (Some mid) None e f h = absurd h
+      by (Some mid) (Some new) e f h =
+          let here : mid ≡ is.journal = (let t = is.told in cc) in
+          let says : SaysOfJournal m l call answer is.journal new = subst (λ (x : Journal). SaysOfJournal m l call answer x new) here h in
+          let grows = prefix-again old is.journal new is.grows says.grows in
+          let trusts : l.trusted ≡ k.trusted = event.client.trusted ∙ is.trusted in
+          let can = on new grows (subst (λ (n : ℕ). IsLegal n new) trusts says.legal) in record {
+            journal = new;
+            told = f;
+            grows = grows;
+            can = can;
+            trusted = trusts;
+            tells = subst (T l new) same (kept m l is.journal new is.can can q call answer is.tells asked event says);
+          }
+
+  pub led : (p : Phase) (n : ℕ) (l : Known) (q : Phase) → CanRead old → k.journal ≡ Some old → T k old p → Leads IsAnswered k p n l q → Led T k l old q
+  led p n l q can told tells Leads.stays = record { journal = old; told = told; grows = take-length old; can = can; trusted = refl; tells = tells }
+  led p n l r can told tells (Leads.by_step {n = m} {c = mid} {q = q} call answer leads asked step same) =
+      led-more mid l q r call answer (led p m mid q can told tells leads) asked step same

@@ -1,28 +1,24 @@
 -- Journals that grow: what first commits left stays, and so do their changes; and the state at a later number is that at an
 -- earlier one with what is pending between applied.
-use Rattle.std.proofs.Common.{◌≡◌, ℕ, zero, suc, ◌+◌, ◌≤◌, List, [], ◌∷◌, ◌++◌, map, filter, fold, length, take, drop, Option, Some, None, refl, sym, ap}
+use Rattle.std.proofs.Common.{◌≡◌, ℕ, zero, suc, ◌≤◌, List, [], ◌∷◌, ◌++◌, map, fold, length, take, drop, refl, sym, ap}
 use Rattle.std.proofs.Common.{◌∙◌, subst, arith}
 use Rattle.std.specs.Prelude.{nat_lt, nat_le}
 use Rattle.std.specs.List.{AllByRecursion, list_any}
-use Rattle.std.specs.BTreeMap.{is_at}
 use Rattle.std.proofs.lemmas.List.{take-append-drop, take-append-le, length-take, take-take}
 use Rattle.std.proofs.lemmas.List.Sums.{fold-append}
 use Rattle.rdt_types.specs.declared.address.Address.{Address}
 use Rattle.rdt_types.specs.declared.value.Value.{Value}
-use Rattle.rdt_types.specs.declared.delta.Delta.{Delta}
 use Rattle.rdt_types.specs.Values.{default_of}
-use Rattle.rdt_types.specs.Addresses.{address_cmp}
 use Rattle.rdt_types.specs.Deltas.{kind_changed, apply}
 use Rattle.rdt_types.specs.DeltaMaps.{Deltas}
 use Rattle.change_feed.specs.declared.change.Change.{Change}
-use Rattle.change_feed.specs.Pending.{deltas_at, pending}
+use Rattle.change_feed.specs.Pending.{pending}
 use Rattle.change_feed.specs.Feeds.{AreOfTheirKinds}
 use Rattle.client_cache.specs.Histories.{apply_maybe, applied}
 use Rattle.client_cache.proofs.Following.{pending_applies_in_turn}
 use Rattle.txn_lang.specs.declared.run.Seen.{Seen}
 use Rattle.txn_lang.specs.States.{Journal, left_by, state, after}
-use Rattle.txn_lang.specs.declared.commit.Commit.{Commit}
-use Rattle.journal_core.specs.Changes.{changes, changes_of, changes_by, between, of_address, up_to, past}
+use Rattle.journal_core.specs.Changes.{changes, changes_of, changes_by, between, of_address, up_to}
 use Rattle.journal_core.specs.Pairs.{AreNumbered}
 use Rattle.journal_core.proofs.ByShard.{changes-between}
 use Rattle.journal_core.proofs.Each.{each-filter, each-append}

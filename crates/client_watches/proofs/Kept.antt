@@ -1,5 +1,5 @@
 -- What is kept to stays: after a feed, a value more, a report, a new watch, and once a watch or a value is gone.
-use Rattle.std.proofs.Common.{◌≡◌, ℕ, ◌≤◌, Bool, true, false, cond, List, [], ◌∷◌, ◌++◌, map, Option, Some, None, refl, sym, ap, ◌∙◌, subst, arith}
+use Rattle.std.proofs.Common.{◌≡◌, ℕ, ◌≤◌, Bool, true, false, cond, List, [], ◌∷◌, ◌++◌, Option, Some, None, sym, subst, arith}
 use Rattle.std.specs.List.{AllByRecursion}
 use Rattle.std.specs.Map.{set_value, remove_entry}
 use Rattle.std.specs.Str.{bytes_eq}
@@ -13,20 +13,20 @@ use Rattle.txn_lang.specs.declared.run.Run.{Run}
 use Rattle.txn_lang.specs.declared.run.Seen.{Seen}
 use Rattle.txn_lang.specs.Short.{IsShortAddress, IsShortObservation}
 use Rattle.txn_lang.specs.States.{PartialState}
-use Rattle.txn_lang.specs.Execution.{need, done, exec}
+use Rattle.txn_lang.specs.Execution.{done, exec}
 use Rattle.txn_lang.proofs.Observed.{runs_ask_short}
 use Rattle.client_cache.specs.Cached.{held}
 use Rattle.rerun_driver.specs.declared.watch.Watch.{Watch}
 use Rattle.rerun_driver.specs.declared.rerun.Rerun.TheVariants as rerun
-use Rattle.rerun_driver.specs.Watches.{Watches, watch_of, with_watch, told, all_told, settled, reported, with_report, next_rerun}
+use Rattle.rerun_driver.specs.Watches.{Watches, watch_of, all_told, settled, reported, with_report, next_rerun}
 use Rattle.docc_prepare.specs.Calls.{Known}
 use Rattle.client_watches.specs.declared.watching.Watching.{Watching}
-use Rattle.client_watches.specs.Watching.{addresses_of, observed_by, after_feed, with_value, with_rerun, with_first, without, without_value}
-use Rattle.client_watches.specs.Watching.{IsButForValues, KeepsFree}
+use Rattle.client_watches.specs.Watching.{addresses_of, observed_by, after_feed, with_value, with_rerun, with_first, without}
+use Rattle.client_watches.specs.Watching.{IsButForValues}
 use Rattle.client_watches.specs.Phases.{settled as none_loose}
 use Rattle.client_watches.specs.Keeping.{AreDistinct, AreShort, Keeps}
-use Rattle.client_watches.proofs.Names.{reported_in, distinct-told, distinct-report, distinct-append, distinct-remove, none-report}
-use Rattle.client_watches.proofs.Stale.{has-run, it-needs}
+use Rattle.client_watches.proofs.Names.{reported_in, distinct-told, distinct-report, distinct-append, distinct-remove}
+use Rattle.client_watches.proofs.Stale.{has-run}
 
 -- the watches' observations are short
 abbrev pub AllShort : Watches → Type 0

@@ -10,3 +10,8 @@ pub mod Moving
 pub mod Telling
 pub mod Answering
 pub mod Lined
+pub mod Ready
+pub mod Unbroken
+pub mod Forgetting
+pub mod Bounds
+pub mod Saying

@@ -1,32 +1,24 @@
 -- The laws of lines of watches.
-use Rattle.std.proofs.Common.{◌≡◌, ◌⊎◌, inl, inr, ℕ, ◌≤◌, Bool, true, false, cond, List, [], ◌∷◌, length, Option, Some, None, is_some, IsSome, refl, sym}
-use Rattle.std.proofs.Common.{ap, ◌∙◌, subst, arith}
-use Rattle.std.specs.List.{AllByRecursion}
+use Rattle.std.proofs.Common.{◌≡◌, inl, ℕ, Bool, true, false, cond, [], ◌∷◌, Option, Some, None, is_some, refl, sym}
+use Rattle.std.proofs.Common.{◌∙◌}
 use Rattle.std.specs.List.Sorted.{IsStrictlySortedBy}
-use Rattle.std.specs.Map.{lookup, keys_of}
+use Rattle.std.specs.Map.{lookup}
 use Rattle.std.specs.Str.{bytes_eq}
 use Rattle.plain_data.specs.Texts.{Bytes}
-use Rattle.rdt_types.specs.Addresses.{address_cmp}
-use Rattle.session_text.specs.declared.reply.Reply.{Reply}
 use Rattle.session_text.specs.declared.reply.Reply.TheVariants as reply
 use Rattle.session_text.specs.declared.reply.Why.TheVariants as why
-use Rattle.txn_lang.specs.declared.checked.Checked.{Checked}
 use Rattle.txn_lang.specs.States.{Journal}
 use Rattle.version_shard.proofs.Legal.{legal-is-readable}
 use Rattle.docc_prepare.proofs.Growing.{legal_is_orderly}
 use Rattle.docc_prepare.specs.Calls.{Known}
-use Rattle.docc_prepare.specs.Backends.{IsPrefix, IsAnswered}
 use Rattle.rerun_driver.specs.declared.watch.Watch.{Watch}
 use Rattle.rerun_driver.specs.Watches.{Watches, watch_of}
 use Rattle.client_watches.specs.declared.watching.Watching.{Watching}
-use Rattle.client_watches.specs.Watching.{none_yet}
-use Rattle.client_watches.specs.Phases.{Phase, Goal, start_sync, start_watch}
-use Rattle.client_watches.specs.Leading.{Leads}
-use Rattle.client_watches.specs.Standing.{CanReadOn}
-use Rattle.client_watches.specs.Explained.{Shown, ShownList, shown_of, IsNamed, GoalPasses}
-use Rattle.client_watches.specs.Laws.{Attends, MayBeShown, GoesOn, Passes, starts_for, LinesAreExplained, PassingStays, BeginningsAttend}
+use Rattle.client_watches.specs.Phases.{Phase, Goal}
+use Rattle.client_watches.specs.Explained.{shown_of}
+use Rattle.client_watches.specs.Laws.{Attends, MayBeShown, starts_for, LinesAreExplained, PassingStays, BeginningsAttend}
 use Rattle.client_watches.proofs.Telling.{IsReady, PhaseTells}
-use Rattle.client_watches.proofs.Answering.{Led, led, passes-stay}
+use Rattle.client_watches.proofs.Answering.{Led, led, passes-stay, tells-kept}
 
 -- a watch that has a name is shown by it
 pub shown-named : (ws : Watches) (name : Bytes) → is_some (watch_of ws name) ≡ is_some (lookup (bytes_eq name) (shown_of ws))
@@ -62,9 +54,10 @@ begins k w low (Goal.watch name body) old is may = by (is_some (watch_of w.watch
 
 pub lines_are_explained : LinesAreExplained
 lines_are_explained k l w v low calls goal said old is on may leads =
-    let there : Led k.window low goal (shown_of w.watches) k l old (Phase.over v said) =
-    led k.window low goal (shown_of w.watches) may.reported k (starts_for goal w) calls l (Phase.over v said) old on is.can is.told
-    (begins k w low goal old is may) leads in record {
+    let tells = PhaseTells k.window low goal (shown_of w.watches) in
+    let there : Led tells k l old (Phase.over v said) =
+    led tells (λ m n here new could can. tells-kept k.window low goal (shown_of w.watches) may.reported m n here new could can) k old on (starts_for goal w)
+    calls l (Phase.over v said) is.can is.told (begins k w low goal old is may) leads in record {
       new = there.journal;
       goes_on = record {
         grows = there.grows;

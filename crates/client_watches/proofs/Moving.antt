@@ -1,8 +1,8 @@
 -- What stands for the journal stands for it still: after a feed, a value more, a report, a new watch, and once a watch or a value
 -- is gone.
-use Rattle.std.proofs.Common.{◌≡◌, ℕ, ◌≤◌, Bool, true, false, cond, not, ◌&&◌, ◌||◌, List, [], ◌∷◌, ◌++◌, map, length, Option, Some, None, option_map}
+use Rattle.std.proofs.Common.{◌≡◌, ℕ, ◌≤◌, Bool, true, false, cond, ◌||◌, List, [], ◌∷◌, ◌++◌, Option, Some, None, option_map}
 use Rattle.std.proofs.Common.{is_some, IsSome, refl, sym, ap, ◌∙◌, subst, arith}
-use Rattle.std.specs.List.{AllByRecursion, list_any}
+use Rattle.std.specs.List.{AllByRecursion}
 use Rattle.std.specs.Map.{set_value, remove_entry}
 use Rattle.std.specs.BTreeMap.{is_at}
 use Rattle.std.specs.Ordering.{is_eq}
@@ -10,7 +10,6 @@ use Rattle.std.specs.Str.{bytes_eq}
 use Rattle.plain_data.specs.Texts.{Bytes}
 use Rattle.rdt_types.specs.declared.address.Address.{Address}
 use Rattle.rdt_types.specs.declared.value.Value.{Value}
-use Rattle.rdt_types.specs.declared.delta.Delta.{Delta}
 use Rattle.rdt_types.specs.Addresses.{address_cmp}
 use Rattle.rdt_types.specs.DeltaMaps.{delta_at}
 use Rattle.change_feed.specs.Pending.{pending}
@@ -21,26 +20,26 @@ use Rattle.txn_lang.specs.declared.checked.Checked.{Checked}
 use Rattle.txn_lang.specs.declared.run.Run.{Run}
 use Rattle.txn_lang.specs.declared.run.Seen.{Seen}
 use Rattle.txn_lang.specs.Observed.{Extends, IsThere}
-use Rattle.txn_lang.specs.States.{Journal, PartialState, State, known, state}
+use Rattle.txn_lang.specs.States.{Journal, State, known, state}
 use Rattle.txn_lang.specs.Execution.{done, exec}
 use Rattle.txn_lang.proofs.Observed.{observed_is_there, runs_stay_done}
 use Rattle.journal_core.specs.Changes.{changes, between}
 use Rattle.rerun_driver.specs.declared.watch.Watch.{Watch}
 use Rattle.rerun_driver.specs.declared.rerun.Rerun.TheVariants as rerun
 use Rattle.rerun_driver.specs.Touched.{is_touched}
-use Rattle.rerun_driver.specs.Watches.{Watches, watch_of, told, all_told, touches, settled, reported, next_rerun, is_observed, is_observed_by}
+use Rattle.rerun_driver.specs.Watches.{Watches, all_told, touches, settled, reported, next_rerun, is_observed, is_observed_by}
 use Rattle.rerun_driver.proofs.Stale.{touches-pending, touched-joined, untouched}
 use Rattle.docc_prepare.specs.Calls.{Known, Call, Answer}
-use Rattle.docc_prepare.specs.Backends.{IsAnswered, SaysOfJournal, IsPrefix}
+use Rattle.docc_prepare.specs.Backends.{IsAnswered, SaysOfJournal}
 use Rattle.client_watches.specs.declared.watching.Watching.{Watching}
-use Rattle.client_watches.specs.Watching.{after_feed, with_value, with_rerun, with_first, without, is_idle, without_value}
+use Rattle.client_watches.specs.Watching.{after_feed, with_value, with_rerun, with_first, without, without_value}
 use Rattle.client_watches.specs.Keeping.{AreDistinct, Keeps}
 use Rattle.client_watches.specs.Standing.{Subscribes, AreHeld, WatchStands, Stands, CanRead}
 use Rattle.client_watches.proofs.Names.{reported_in}
 use Rattle.client_watches.proofs.Stale.{has-run, first-among}
 use Rattle.client_watches.proofs.Journals.{prefix-state, prefix-touched, journal-kinds, state-between}
 use Rattle.client_watches.proofs.Stays.{run-stays}
-use Rattle.client_watches.proofs.Values.{Rise, held-advanced, held-filled, held-released, at-same, at-turned}
+use Rattle.client_watches.proofs.Values.{Rise, held-advanced, held-filled, held-released, at-same}
 
 -- all watches stand
 abbrev pub AllStand : Journal → Cached → Watches → Type 0

@@ -1,15 +1,14 @@
 -- Watches by their names: what stays once one is made, settled or forgotten.
-use Rattle.std.proofs.Common.{◌≡◌, ℕ, Bool, true, false, cond, List, [], ◌∷◌, ◌++◌, map, Option, Some, None, option_map, refl, sym, ap, ◌∙◌, subst}
+use Rattle.std.proofs.Common.{◌≡◌, ℕ, Bool, true, false, cond, [], ◌∷◌, ◌++◌, Option, Some, None, refl, ap, ◌∙◌}
 use Rattle.std.proofs.lemmas.Slice.Eq.{bytes_eq-Decides}
-use Rattle.std.specs.List.{AllByRecursion}
-use Rattle.std.specs.Map.{lookup, set_value, remove_entry}
+use Rattle.std.specs.Map.{set_value, remove_entry}
 use Rattle.std.specs.Option.{option_map_or}
 use Rattle.std.specs.Str.{bytes_eq}
 use Rattle.plain_data.specs.Texts.{Bytes}
 use Rattle.rdt_types.specs.DeltaMaps.{Deltas}
 use Rattle.txn_lang.specs.declared.run.Run.{Run}
 use Rattle.rerun_driver.specs.declared.watch.Watch.{Watch}
-use Rattle.rerun_driver.specs.Watches.{Watches, watch_of, with_watch, without_watch, told, all_told, settled, with_report}
+use Rattle.rerun_driver.specs.Watches.{Watches, watch_of, told, all_told, settled, with_report}
 use Rattle.client_watches.specs.Keeping.{AreDistinct}
 
 -- ---- names

@@ -1,5 +1,5 @@
 -- Reports one by one: each is of the first watch that is stale, and once none is stale all hold.
-use Rattle.std.proofs.Common.{◌≡◌, ℕ, ◌≤◌, Bool, true, false, cond, List, [], ◌∷◌, ◌++◌, map, Option, Some, None, refl, sym, ap, ◌∙◌, subst}
+use Rattle.std.proofs.Common.{◌≡◌, ℕ, Bool, true, false, cond, List, [], ◌∷◌, ◌++◌, Some, None, refl, sym, ap, ◌∙◌, subst}
 use Rattle.std.specs.List.{AllByRecursion}
 use Rattle.std.specs.Map.{set_value}
 use Rattle.std.specs.Str.{bytes_eq}
@@ -7,8 +7,8 @@ use Rattle.plain_data.specs.Texts.{Bytes}
 use Rattle.session_text.specs.declared.reply.Reply.{Reply}
 use Rattle.session_text.specs.declared.reply.Reply.TheVariants as reply
 use Rattle.txn_lang.specs.declared.run.Run.{Run}
-use Rattle.txn_lang.specs.States.{Journal, known, state}
-use Rattle.txn_lang.specs.Execution.{done, exec}
+use Rattle.txn_lang.specs.States.{Journal}
+use Rattle.txn_lang.specs.Execution.{done}
 use Rattle.journal_core.specs.Changes.{changes}
 use Rattle.rerun_driver.specs.declared.watch.Watch.{Watch}
 use Rattle.rerun_driver.specs.Touched.{is_touched}
@@ -19,7 +19,7 @@ use Rattle.client_watches.specs.Keeping.{AreDistinct}
 use Rattle.client_watches.specs.Standing.{WatchStands}
 use Rattle.client_watches.specs.Explained.{Shown, ShownList, shown_of, observed_in, run_at, IsOutcomeAt, touched, reported_at, Reports, AllHold}
 use Rattle.client_watches.proofs.Names.{same_name, name_itself}
-use Rattle.client_watches.proofs.Stale.{IsFirst, first-among}
+use Rattle.client_watches.proofs.Stale.{first-among}
 
 -- ---- the first stale watch, in whose place another stands
 

@@ -1,13 +1,12 @@
 -- What a journal explains, every longer one explains.
-use Rattle.std.proofs.Common.{◌≡◌, ◌⊎◌, inl, inr, ℕ, ◌≤◌, Bool, true, false, List, [], ◌∷◌, ◌++◌, map, length, Option, Some, None, refl, sym, ap, ◌∙◌}
-use Rattle.std.proofs.Common.{subst, arith}
+use Rattle.std.proofs.Common.{◌≡◌, ℕ, ◌≤◌, List, [], ◌∷◌, length, sym, ap, ◌∙◌}
+use Rattle.std.proofs.Common.{arith}
 use Rattle.std.specs.List.{AllByRecursion}
 use Rattle.plain_data.specs.Texts.{Bytes}
 use Rattle.rdt_types.specs.declared.outcome.Outcome.{Outcome}
 use Rattle.session_text.specs.declared.reply.Reply.{Reply}
 use Rattle.txn_lang.specs.declared.checked.Checked.{Checked}
-use Rattle.txn_lang.specs.declared.run.Seen.{Seen}
-use Rattle.txn_lang.specs.States.{Journal, State, known, state}
+use Rattle.txn_lang.specs.States.{Journal, State, known}
 use Rattle.txn_lang.specs.Execution.{exec}
 use Rattle.journal_core.specs.Changes.{changes}
 use Rattle.journal_core.specs.Pairs.{AreNumbered}
@@ -17,8 +16,8 @@ use Rattle.rerun_driver.specs.Watches.{Watches}
 use Rattle.client_cache.specs.Cached.{Cached}
 use Rattle.docc_prepare.specs.Backends.{IsPrefix}
 use Rattle.client_watches.specs.declared.watching.Watching.{Watching}
-use Rattle.client_watches.specs.Standing.{WatchStands, Stands, CanRead}
-use Rattle.client_watches.specs.Explained.{Shown, ShownList, observed_in, run_at, IsOutcomeAt, touched, Reports, AllHold, IsCurrent, IsCutShort, IsMade}
+use Rattle.client_watches.specs.Standing.{WatchStands, Stands}
+use Rattle.client_watches.specs.Explained.{Shown, ShownList, observed_in, run_at, IsOutcomeAt, touched, Reports, AllHold}
 use Rattle.client_watches.proofs.Journals.{prefix-shorter, prefix-state, prefix-touched}
 
 -- no watch was reported past a number

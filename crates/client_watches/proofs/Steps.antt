@@ -1,5 +1,5 @@
 -- Steps put together.
-use Rattle.std.proofs.Common.{◌≡◌, ℕ, zero, suc, ◌+◌, ◌≤◌, ◌<◌, Bool, true, false, cond, List, [], ◌∷◌, ◌++◌, length, drop, get_or, Option, Some, None}
+use Rattle.std.proofs.Common.{◌≡◌, ℕ, zero, suc, ◌+◌, ◌<◌, Bool, true, false, cond, List, [], ◌∷◌, ◌++◌, length, drop, get_or, Option, Some, None}
 use Rattle.std.proofs.Common.{Result, Ok, Err, refl, sym, ap, ◌∙◌, subst, arith, add-one}
 use Rattle.std.proofs.Math.Seq.{drop-cons}
 use Rattle.plain_data.specs.Texts.{Bytes}
@@ -12,12 +12,11 @@ use Rattle.txn_lang.specs.declared.checked.Checked.{Checked}
 use Rattle.txn_lang.specs.declared.run.Run.{Run}
 use Rattle.txn_lang.specs.Execution.{need, done, exec}
 use Rattle.client_cache.specs.Cached.{held}
-use Rattle.rerun_driver.specs.declared.rerun.Rerun.{Rerun}
 use Rattle.rerun_driver.specs.declared.rerun.Rerun.TheVariants as rerun
 use Rattle.rerun_driver.specs.Watches.{next_rerun}
 use Rattle.docc_prepare.specs.declared.backend.StoreError.{StoreError}
 use Rattle.docc_prepare.specs.declared.backend.StoreError.TheVariants as store
-use Rattle.docc_prepare.specs.Calls.{Known, Call, Answer, is_fault, store_failed}
+use Rattle.docc_prepare.specs.Calls.{Known, Call, Answer, store_failed}
 use Rattle.docc_prepare.specs.Backends.{Goes}
 use Rattle.client_watches.specs.declared.error.WatchError.{WatchError}
 use Rattle.client_watches.specs.declared.error.WatchError.TheVariants as error
@@ -254,6 +253,20 @@ module _ {B : Type 0} (known : B → Known) (goes : B → Call → Answer → B 
   pub reruns-err : (b : B) (w : Watching) (said : List Reply) (result : Result (Option Bool) WatchError) (e : WatchError) (c : B) (v : Watching)
       (told : List Reply) (goal : Goal) → result ≡ Err e → Stops known goes b (rerun_all goal w said) e c → Reruns known goes goal b w said result c v told
   reruns-err b w said result e c v told goal is stops = subst (λ r. Reruns known goes goal b w said r c v told) (sym is) stops
+
+  -- some values were read, and then so
+  pub reruns-then : (b : B) (w : Watching) (said : List Reply) (c : B) (v : Watching) (told : List Reply) (goal : Goal)
+      (result : Result (Option Bool) WatchError) (d : B) (u : Watching) (more : List Reply)
+      → Reaches known goes b (rerun_all goal w said) c (rerun_all goal v told) → Reruns known goes goal c v told result d u more
+      → Reruns known goes goal b w said result d u more
+  reruns-then b w said c v told goal (Ok None) d u more first last =
+      and-then known goes b (rerun_all goal w said) c (rerun_all goal v told) d (rerun_all goal u more) first last
+  reruns-then b w said c v told goal (Ok (Some true)) d u more first last =
+      and-then known goes b (rerun_all goal w said) c (rerun_all goal v told) d (caught_up goal u more) first last
+  reruns-then b w said c v told goal (Ok (Some false)) d u more first last =
+      and-then known goes b (rerun_all goal w said) c (rerun_all goal v told) d (ending u more) first last
+  reruns-then b w said c v told goal (Err e) d u more first last =
+      stops-behind known goes b (rerun_all goal w said) c (rerun_all goal v told) e d first last
 
   -- memory was wanting
   pub rerun-wants : (b : B) (w : Watching) (said : List Reply) (result : Result (Option Bool) WatchError) (e : WatchError) (v : Watching)

@@ -1,47 +1,37 @@
 -- What the phases of a line tell of the journal, and that each step keeps to it.
-use Rattle.std.proofs.Common.{◌≡◌, ◌⊎◌, inl, inr, ℕ, zero, suc, ◌+◌, ◌≤◌, Bool, true, false, cond, not, ◌&&◌, ◌||◌, List, [], ◌∷◌, ◌++◌, map, length}
-use Rattle.std.proofs.Common.{Option, Some, None, option_map, is_some, IsSome, refl, sym, ap, ◌∙◌, subst, arith}
-use Rattle.std.specs.List.{AllByRecursion}
-use Rattle.std.specs.BTreeMap.{is_at}
-use Rattle.std.specs.Ordering.{is_eq}
+use Rattle.std.proofs.Common.{◌≡◌, inl, inr, ℕ, zero, suc, ◌≤◌, Bool, true, false, cond, List, [], ◌∷◌, ◌++◌}
+use Rattle.std.proofs.Common.{None, refl, sym, ap, ◌∙◌, subst, arith}
 use Rattle.plain_data.specs.Texts.{Bytes}
 use Rattle.rdt_types.specs.declared.address.Address.{Address}
-use Rattle.rdt_types.specs.declared.value.Value.{Value}
-use Rattle.rdt_types.specs.Addresses.{address_cmp}
-use Rattle.rdt_types.specs.DeltaMaps.{Deltas, delta_at}
-use Rattle.change_feed.specs.Feeds.{Fed}
-use Rattle.client_cache.specs.Histories.{apply_maybe}
-use Rattle.client_cache.specs.Cached.{Cached, held, filled, released, advanced}
+use Rattle.rdt_types.specs.DeltaMaps.{Deltas}
+use Rattle.client_cache.specs.Cached.{Cached, held}
 use Rattle.session_text.specs.declared.reply.Reply.{Reply}
 use Rattle.session_text.specs.declared.reply.Reply.TheVariants as reply
 use Rattle.txn_lang.specs.declared.checked.Checked.{Checked}
 use Rattle.txn_lang.specs.declared.run.Run.{Run}
 use Rattle.txn_lang.specs.Short.{IsShortAddress}
-use Rattle.txn_lang.specs.States.{Journal, State, known, state}
+use Rattle.txn_lang.specs.States.{Journal, state}
 use Rattle.txn_lang.specs.Execution.{Ran, need, done, exec}
 use Rattle.txn_lang.proofs.Observed.{runs_ask_short}
 use Rattle.rerun_driver.specs.declared.watch.Watch.{Watch}
 use Rattle.rerun_driver.specs.declared.rerun.Rerun.{Rerun}
 use Rattle.rerun_driver.specs.declared.rerun.Rerun.TheVariants as rerun
-use Rattle.rerun_driver.specs.Watches.{Watches, watch_of, all_told, settled, reported, first_stale, next_rerun, is_observed}
-use Rattle.docc_prepare.specs.Calls.{Known, Call, Answer, is_fault}
-use Rattle.docc_prepare.specs.Backends.{IsAnswered, SaysOfJournal, IsPrefix}
+use Rattle.rerun_driver.specs.Watches.{Watches, watch_of, all_told, settled, reported, first_stale, next_rerun}
+use Rattle.docc_prepare.specs.Calls.{Known}
 use Rattle.client_watches.specs.declared.watching.Watching.{Watching}
-use Rattle.client_watches.specs.Watching.{after_feed, with_value, with_rerun, with_first, is_idle, without_value, stale_count}
-use Rattle.client_watches.specs.Phases.{Phase, Goal, Job, Then, asks, after, settled as none_loose, drop_idle, then_on, ending, first_by, first_run}
-use Rattle.client_watches.specs.Phases.{caught_up, rerun_by, rerun_up_to, rerun_all, go_on}
+use Rattle.client_watches.specs.Watching.{with_rerun, with_first, is_idle, stale_count}
+use Rattle.client_watches.specs.Phases.{Phase, Goal, Job, Then, settled as none_loose, drop_idle, then_on, ending, first_by, first_run}
+use Rattle.client_watches.specs.Phases.{caught_up, rerun_by, rerun_up_to}
 use Rattle.client_watches.specs.Keeping.{AreDistinct, Keeps}
-use Rattle.client_watches.specs.Standing.{Subscribes, WatchStands, Stands, CanRead}
-use Rattle.client_watches.specs.Explained.{Shown, ShownList, shown_of, IsOutcomeAt, Reports, AllHold, IsShownAt, IsCurrent, IsCutShort, IsMade, SyncPasses}
-use Rattle.client_watches.specs.Explained.{WatchPasses, GoalPasses}
+use Rattle.client_watches.specs.Standing.{Subscribes, Stands}
+use Rattle.client_watches.specs.Explained.{ShownList, shown_of, Reports, AllHold, IsMade}
+use Rattle.client_watches.specs.Explained.{GoalPasses}
 use Rattle.client_watches.proofs.Names.{reported_in, none-report}
 use Rattle.client_watches.proofs.Stale.{has-run, it-needs, first-among, one-fewer, none-if-zero, none-if-left}
-use Rattle.client_watches.proofs.Kept.{keeps-on, keeps-value, keeps-feed, keeps-rerun, keeps-first, keeps-none_loose}
-use Rattle.client_watches.proofs.Journals.{prefix-shorter, prefix-state}
-use Rattle.client_watches.proofs.Stays.{AreUpTo, outcome-stays, reports-stay, hold-stay, stands-stay, reports-up-to}
+use Rattle.client_watches.proofs.Kept.{keeps-rerun, keeps-first, keeps-none_loose}
+use Rattle.client_watches.proofs.Stays.{AreUpTo}
 use Rattle.client_watches.proofs.Reporting.{all-tell, none-touched, one-report, replaced}
-use Rattle.client_watches.proofs.Values.{held-advanced, rise-advanced, held-filled, rise-filled, held-released, rise-released, at-same, at-turned}
-use Rattle.client_watches.proofs.Moving.{AllStand, run-is, stands-value, stands-rerun, stands-first, stands-without_value, stands-feed}
+use Rattle.client_watches.proofs.Moving.{AllStand, run-is, stands-rerun, stands-first}
 
 -- ---- what is shown of watches
 

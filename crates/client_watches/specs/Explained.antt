@@ -1,8 +1,10 @@
 -- Replies to lines of watches that a journal explains, when the replies before have shown so much. No program stands in it, and
 -- no store but its journal.
-use Rattle.std.specs.Prelude.{◌≡◌, ◌⊎◌, ◌≤◌, ◌<◌, ◌+◌, ℕ, Bool, true, false, List, [], ◌∷◌, ◌++◌, map, length, Option, Some, None, IsSome, refl, codes}
+use Rattle.std.specs.Prelude.{◌≡◌, ◌⊎◌, ◌≤◌, ◌<◌, ◌+◌, ℕ, Bool, true, false, List, [], ◌∷◌, ◌++◌, map, length, IsSome, is_some}
+use Rattle.std.specs.Prelude.{refl, codes}
 use Rattle.std.specs.List.{AllByRecursion}
-use Rattle.std.specs.Map.{lookup}
+use Rattle.std.proofs.Common.{inl, inr}
+use Rattle.std.specs.Map.{lookup, remove_entry}
 use Rattle.std.specs.Str.{bytes_eq}
 use Rattle.plain_data.specs.Texts.{Bytes}
 use Rattle.rdt_types.specs.declared.outcome.Outcome.{Outcome}
@@ -137,3 +139,29 @@ WatchPasses window journal low name body before replies later =
 abbrev pub GoalPasses : ℕ → Journal → ℕ → Goal → ShownList → List Reply → ShownList → Type 0
 GoalPasses window journal low Goal.current before replies later = SyncPasses window journal low before replies later
 GoalPasses window journal low (Goal.watch name body) before replies later = WatchPasses window journal low name body before replies later
+
+-- no watch has the name
+abbrev pub IsUnknown : Bytes → ShownList → Type 0
+IsUnknown name watches = is_some (lookup (bytes_eq name) watches) ≡ false
+
+-- the watch of the name is gone, and every other stands as it was
+pub record IsForgotten (name : Bytes) (before : ShownList) (replies : List Reply) (later : ShownList) : Type 0 where
+  pub was : IsNamed name before
+  pub replies_are : replies ≡ reply.Dropped ∷ []
+  pub gone : IsUnknown name later
+  pub others : later ≡ remove_entry (bytes_eq name) before
+
+-- which pass for `unwatch`, whatever the journal
+abbrev pub UnwatchPasses : Bytes → ShownList → List Reply → ShownList → Type 0
+UnwatchPasses name before replies later =
+    (IsUnknown name before × IsRefused (reply.Refused why.NoAttempt ∷ []) before replies later) ⊎ IsForgotten name before replies later
+
+-- ---- worked lines
+
+-- of two watches the first is forgotten, and the other stands as it was
+forgotten-example : (v w : Shown) → UnwatchPasses (codes "v") ((codes "v", v) ∷ (codes "w", w) ∷ []) (reply.Dropped ∷ []) ((codes "w", w) ∷ [])
+forgotten-example v w = inr (record { was = refl; replies_are = refl; gone = refl; others = refl })
+
+-- a name that none has is refused
+unknown-example : (v : Shown) → UnwatchPasses (codes "w") ((codes "v", v) ∷ []) (reply.Refused why.NoAttempt ∷ []) ((codes "v", v) ∷ [])
+unknown-example v = inl (refl, record { replies_are = refl; same = refl })

@@ -1,5 +1,5 @@
 -- What is kept to between lines and on their way, so that each call that is made is one that the backend takes.
-use Rattle.std.specs.Prelude.{◌≡◌, ℕ, ◌≤◌, List, [], ◌∷◌, None}
+use Rattle.std.specs.Prelude.{◌≡◌, ◌≤◌, List, [], ◌∷◌, None}
 use Rattle.std.specs.List.{AllByRecursion}
 use Rattle.plain_data.specs.Texts.{Bytes}
 use Rattle.txn_lang.specs.declared.run.Seen.{Seen}

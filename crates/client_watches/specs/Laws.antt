@@ -3,17 +3,16 @@ use Rattle.std.specs.Prelude.{◌≡◌, ℕ, ◌≤◌, List, length, Some}
 use Rattle.plain_data.specs.Texts.{Bytes}
 use Rattle.std.specs.List.{AllByRecursion}
 use Rattle.session_text.specs.declared.reply.Reply.{Reply}
-use Rattle.txn_lang.specs.declared.checked.Checked.{Checked}
 use Rattle.txn_lang.specs.States.{Journal}
 use Rattle.docc_prepare.specs.Calls.{Known}
-use Rattle.docc_prepare.specs.Backends.{IsPrefix, IsAnswered}
+use Rattle.docc_prepare.specs.Backends.{IsPrefix, IsAnswered, IsLater}
 use Rattle.client_watches.specs.declared.watching.Watching.{Watching}
 use Rattle.client_watches.specs.Watching.{none_yet}
-use Rattle.client_watches.specs.Phases.{Phase, Goal, start_sync, start_watch}
+use Rattle.client_watches.specs.Phases.{Phase, Goal, start_sync, start_watch, start_unwatch}
 use Rattle.client_watches.specs.Keeping.{Keeps}
 use Rattle.client_watches.specs.Leading.{Leads}
 use Rattle.client_watches.specs.Standing.{Subscribes, Stands, CanRead, CanReadOn}
-use Rattle.client_watches.specs.Explained.{Shown, ShownList, shown_of, GoalPasses}
+use Rattle.client_watches.specs.Explained.{Shown, ShownList, shown_of, GoalPasses, UnwatchPasses}
 
 -- what is kept stands for the journal that the backend tells
 pub record Attends (k : Known) (w : Watching) (journal : Journal) : Type 0 where
@@ -63,3 +62,22 @@ pub record BeginningsAttend : Type 0 where
   pub none : (k : Known) (journal : Journal) (at : ℕ) → k.journal ≡ Some journal → at ≤ k.seen → at ≤ length journal → CanRead journal
       → Attends k (none_yet at) journal
   pub readable : (journal : Journal) → CanReadOn 0 journal
+
+-- the replies of `unwatch` pass
+pub record Forgets (k l : Known) (w v : Watching) (name : Bytes) (said : List Reply) (old : Journal) : Type 0 where
+  pub new : Journal
+  pub goes_on : GoesOn k l v old new
+  pub passes : UnwatchPasses name (shown_of w.watches) said (shown_of v.watches)
+
+-- `unwatch`: whatever the store answers by the clause of every call, `dropped` is said exactly where a watch has the name. It is
+-- gone then, every other stands as it was, and what is kept stands for the journal again.
+abbrev pub UnwatchesAreExplained : Type 0
+UnwatchesAreExplained =
+    (k l : Known) (w v : Watching) (name : Bytes) (calls : ℕ) (said : List Reply) (old : Journal) → Attends k w old → CanReadOn k.trusted old
+    → Leads IsAnswered k (start_unwatch w name) calls l (Phase.over v said) → Forgets k l w v name said old
+
+-- What others do between lines leaves what is kept standing for the journal.
+abbrev pub OthersLeaveStanding : Type 0
+OthersLeaveStanding =
+    (k l : Known) (w : Watching) (old new : Journal) → Attends k w old → CanReadOn k.trusted old → IsLater k l → l.journal ≡ Some new
+    → GoesOn k l w old new

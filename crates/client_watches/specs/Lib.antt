@@ -6,3 +6,6 @@ pub mod Leading
 pub mod Standing
 pub mod Explained
 pub mod Laws
+pub mod GoingOn
+pub mod Bounds
+pub mod Saying

@@ -1,6 +1,6 @@
 -- What is kept of watches stands for the journal, where the backend tells that: the values are those that some prefix leaves, and
 -- each watch has the report of its body's run on a prefix, and is stale where it was touched since.
-use Rattle.std.specs.Prelude.{◌≡◌, ◌≤◌, ℕ, true, false, Bool, List, length, Option, Some, IsSome}
+use Rattle.std.specs.Prelude.{◌≡◌, ◌≤◌, ℕ, true, List, length, Some, IsSome}
 use Rattle.std.specs.List.{AllByRecursion}
 use Rattle.std.specs.List.Sorted.{IsStrictlySortedBy}
 use Rattle.std.specs.Map.{keys_of}

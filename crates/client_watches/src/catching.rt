@@ -1,6 +1,6 @@
 //! Watches are brought up to date: the stale ones run anew, in the order of their making.
 
-ghost use Rattle.std.specs.Prelude.{◌≡◌, ◌∷◌, [], ◌++◌, None, IfOk, OnOk, IsSome};
+ghost use Rattle.std.specs.Prelude.{◌≡◌, suc, ◌∷◌, [], ◌++◌, IfOk, OnOk, IfNone, IsSome};
 ghost use Rattle.session_text.specs.declared.reply.Reply.TheVariants as reply;
 ghost use Rattle.rerun_driver.specs.Watches.{watch_of};
 ghost use Rattle.client_watches.specs.Watching as spec;
@@ -17,7 +17,7 @@ use plain_data::Text;
 use rerun_driver::{Driver, Rerun};
 use session_text::Reply;
 use std::alloc::AllocError;
-use txn_lang::{Run, Seen};
+use txn_lang::{Run, Seen, TICK_LIMIT};
 
 /// Adds the addresses at which something was observed.
 fn add_addresses(loose: &mut AddressList, observations: &[Seen]) -> Result<(), AllocError>
@@ -57,13 +57,14 @@ fn report(
     let number = watching.cache.at();
     let outcome = copied(&run.outcome)?;
     loosen(&watching.watches, &mut watching.loose, &name)?;
+    watching.watches.reserve(&run)?;
     watching.watches.settle(&name, number, run);
     said.push(Reply::Ran(name, number, outcome))?;
     Ok(())
 }
 
-/// Runs the first stale watch, or asks for a value that its run needs. Where that is all, it answers whether none is stale; else
-/// a value was late, and that was said.
+/// Runs the first stale watch, and reads each value that its run needs. Where none was stale, or a value was late and that was
+/// said, it answers whether none was.
 fn rerun_one<B: Backend>(
     backend: &mut B,
     watching: &mut Watching,
@@ -73,22 +74,26 @@ fn rerun_one<B: Backend>(
     ensures reruns { (goal : Goal) → Reruns B.known B.goes goal backend.old watching.old said.old result backend.new watching.new said.new }
     ensures keeps { IfOk result (λ all. Keeps (B.known backend.new) watching.new) }
     ensures free { IfOk result (λ all. spec.KeepsFree watching.old watching.new) }
+    ensures fewer { IfOk result (λ all. IfNone all (spec.stale_count watching.old.watches ≡ suc (spec.stale_count watching.new.watches))) }
     ensures home { B.home backend.new ≡ B.home backend.old }
 {
-    match watching.watches.run_next(&watching.cache)? {
-        Rerun::NoneLeft => Ok(Some(true)),
-        Rerun::Ran(name, run) => {
-            report(watching, said, name, run)?;
-            Ok(None)
-        }
-        Rerun::Need(address) => match fetch(backend, watching, address)? {
-            Some(late) => {
-                said.push(late)?;
-                Ok(Some(false))
+    for _ in 0..TICK_LIMIT + 1 {
+        match watching.watches.run_next(&watching.cache)? {
+            Rerun::NoneLeft => return Ok(Some(true)),
+            Rerun::Ran(name, run) => {
+                report(watching, said, name, run)?;
+                return Ok(None);
             }
-            None => Ok(None),
-        },
+            Rerun::Need(address) => {
+                if let Some(late) = fetch(backend, watching, address)? {
+                    said.push(late)?;
+                    return Ok(Some(false));
+                }
+            }
+        }
     }
+    // A run needs no more values than it has ticks.
+    unreachable!()
 }
 
 /// Runs the stale watches one after another. It answers whether none is stale then; else a value was late, and that was said.
@@ -103,10 +108,9 @@ pub(crate) fn catch_up<B: Backend>(
     ensures free { IfOk result (λ all. spec.KeepsFree watching.old watching.new) }
     ensures home { B.home backend.new ≡ B.home backend.old }
 {
-    for _ in 0..u64::MAX {
+    loop {
         if let Some(all) = rerun_one(backend, watching, said)? {
             return Ok(all);
         }
     }
-    Err(WatchError::NoMemory)
 }

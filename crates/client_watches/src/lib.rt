@@ -18,5 +18,8 @@ mod running;
 mod watching;
 
 pub use error::WatchError;
-pub use laws::{beginnings_attend, lines_are_explained, passing_stays};
+pub use laws::{
+    beginnings_attend, failures_alone_break, lines_are_bounded, lines_are_explained,
+    lines_are_ready, lines_go_on, others_leave_standing, passing_stays, unwatches_are_explained,
+};
 pub use watching::{AddressList, ReplyList, Watching};

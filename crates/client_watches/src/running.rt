@@ -21,7 +21,7 @@ use rerun_driver::run_on;
 use session_text::Reply;
 use std::alloc::{AllocError, Global};
 use txn_eval::Step;
-use txn_lang::{Checked, Run};
+use txn_lang::{Checked, Run, TICK_LIMIT};
 
 /// Runs a body on the values that are held, and on those that it asks for. Where one of them was late, that was said.
 fn run_body<B: Backend>(
@@ -38,7 +38,7 @@ fn run_body<B: Backend>(
     ensures done { IfOk result (λ run. IfSome run (λ run. exec body.now.body (held watching.new.cache) ≡ done run)) }
     ensures home { B.home backend.new ≡ B.home backend.old }
 {
-    for _ in 0..u64::MAX {
+    for _ in 0..TICK_LIMIT + 1 {
         match run_on(alloc, body, &watching.cache)? {
             Step::Done(run) => return Ok(Some(run)),
             Step::Need(address) => {
@@ -49,7 +49,8 @@ fn run_body<B: Backend>(
             }
         }
     }
-    Err(WatchError::NoMemory)
+    // A run needs no more values than it has ticks.
+    unreachable!()
 }
 
 /// Keeps a new watch, of which the first run is reported.

@@ -1,22 +1,22 @@
 -- What the commands promise.
-use Rattle.std.specs.Prelude.{◌≡◌, ℕ, [], ◌∷◌, refl}
+use Rattle.std.specs.Prelude.{◌≡◌, ℕ, List, [], ◌∷◌, refl}
+use denote.Bor.{Bor}
 use Rattle.rdt_types.specs.declared.limits.TheConstants.{STANDARD_SHARDS, STANDARD_WINDOW, STANDARD_COMMITS}
 use Rattle.rdt_types.specs.declared.settings.Settings.{Settings}
+use Rattle.cli_words.specs.Forms.{Word}
 use Rattle.script_runner.specs.Script.{Reading, Writing, KeepsPromises}
 use Rattle.diamond_cli.specs.declared.top.TheConstants.{BAD_WORDS}
+use Rattle.diamond_cli.specs.Words.{AsksRunWith}
 
 BAD_WORDS-is : BAD_WORDS ≡ 1
 BAD_WORDS-is = refl
 
 -- the settings of a store that is told none
-abbrev pub IsStandard : Settings → Type 0
-IsStandard settings = (settings.shards ≡ STANDARD_SHARDS) × (settings.window ≡ STANDARD_WINDOW) × (settings.limit ≡ STANDARD_COMMITS)
-
 standard-are : STANDARD_SHARDS ∷ STANDARD_WINDOW ∷ STANDARD_COMMITS ∷ [] ≡ 4 ∷ 4096 ∷ 100000 ∷ []
 standard-are = refl
 
--- `run` without options keeps the promises of a run of a script, with those settings.
-pub record RunsScript (status : ℕ) (r : Reading) (w : Writing) : Type 0 where
+-- `run` keeps the promises of a run of a script, with the settings that the words ask for.
+pub record RunsScript (words : List (Bor Word)) (status : ℕ) (r : Reading) (w : Writing) : Type 0 where
   pub settings : Settings
-  pub standard : IsStandard settings
+  pub asked : AsksRunWith words settings
   pub promises : KeepsPromises settings status r w

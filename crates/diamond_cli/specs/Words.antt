@@ -1,23 +1,24 @@
--- The words of commands.
-use Rattle.std.specs.Prelude.{◌≡◌, ℕ, Bool, true, false, List, [], ◌∷◌, map, codes, refl}
-use Rattle.std.specs.Str.{bytes_eq}
+-- What the words of a command ask for. Their forms are those of cli_words.
+use Rattle.std.specs.Prelude.{◌≡◌, List, [], ◌∷◌, codes, refl}
 use denote.Bor.{Bor}
+use Rattle.rdt_types.specs.declared.settings.Settings.{Settings}
+use Rattle.cli_words.specs.declared.name.CommandName.TheVariants as command
+use Rattle.cli_words.specs.declared.plan.Plan.TheVariants as plan
+use Rattle.cli_words.specs.Forms.{Word, texts, HasSettings, nothing_given, Spells}
 
--- `run` alone runs a script
-abbrev pub is_run : List (List ℕ) → Bool
-is_run (word ∷ []) = bytes_eq word (codes "run")
-is_run words = false
+-- they ask to run a script over a store with these settings
+abbrev pub AsksRunWith : List (Bor Word) → Settings → Type 0
+AsksRunWith words settings = Spells (texts words) (plan.Run settings)
 
-is_run-example : is_run (codes "run" ∷ []) ≡ true
-is_run-example = refl
+-- they ask to run a script
+abbrev pub AsksRun : List (Bor Word) → Type 0
+AsksRun words = (settings : Settings) × AsksRunWith words settings
 
-is_run-twice : is_run (codes "run" ∷ codes "run" ∷ []) ≡ false
-is_run-twice = refl
-
--- the texts of words
-abbrev pub texts : List (Bor (List ℕ)) → List (List ℕ)
-texts words = map (λ (word : Bor (List ℕ)). word.now) words
-
--- the words are of the form that runs a script
-abbrev pub AsksRun : List (Bor (List ℕ)) → Type 0
-AsksRun words = is_run (texts words) ≡ true
+-- `run` alone does, over a store with the standard settings
+run-spells : (settings : Settings) → HasSettings nothing_given settings → Spells (codes "run" ∷ []) (plan.Run settings)
+run-spells settings standard = record {
+  name = command.Run;
+  given = nothing_given;
+  form = record { rest = []; count = 0; begins = refl; options = (refl, refl); whole = tt };
+  plan = standard;
+}

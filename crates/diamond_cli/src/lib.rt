@@ -2,19 +2,19 @@
 //! listener, and answers the status with which the program ends.
 //!
 //! It stands above all other libraries; the program `diamond` makes the real objects and calls it. Read first the
-//! contract of [`diamond`], and then the definitions that it cites: `Play` and `Script` of `script_runner`, and
-//! `Journals` of `txn_lang`.
+//! contract of [`diamond`], and then the definitions that it cites: `Forms` of `cli_words`, `Play` and `Script` of
+//! `script_runner`, and `Journals` of `txn_lang`.
 #![tactic(auto)]
 
 mod top;
-mod words;
 
-pub use script_runner::NO_MEMORY;
+pub use script_runner::{NO_MEMORY, WRITE_FAULT};
 pub use top::{BAD_WORDS, diamond};
-pub use words::USAGE;
 
 #[cfg(test)]
 mod attempts;
+#[cfg(test)]
+mod crowd;
 #[cfg(test)]
 mod language;
 #[cfg(test)]
@@ -31,6 +31,8 @@ mod sizes;
 mod tests;
 #[cfg(test)]
 mod verbs;
+#[cfg(test)]
+mod watches;
 #[cfg(test)]
 mod windows;
 #[cfg(test)]

@@ -212,7 +212,15 @@ fn a_flush_that_fails_leaves_status_3(rt: HostRuntime) -> Result<(), Fail> {
 
 #[test]
 fn other_words_are_refused(rt: HostRuntime) -> Result<(), Fail> {
-    let words: [&[&str]; 4] = [&[], &["fly"], &["run", "run"], &["run", "--shards", "4"]];
+    let words: [&[&str]; 7] = [
+        &[],
+        &["fly"],
+        &["run", "run"],
+        &["run", "--shards", "0"],
+        &["run", "--shards", "4", "--shards", "4"],
+        &["run", "--address", "a"],
+        &["serve", "--address", "a"],
+    ];
     for words in words {
         let mut source = MemSource::new(rt.alloc(), ROW_1, 1, &[])?;
         let mut sink = MemSink::new(rt.alloc(), 1, &[])?;
@@ -227,6 +235,42 @@ fn other_words_are_refused(rt: HostRuntime) -> Result<(), Fail> {
         );
         assert_eq!(rt; status, 1);
         assert_eq!(rt; sink.taken(), b"".as_slice());
+    }
+    Ok(())
+}
+
+/// A script, in which each client's commit is one more than the limit takes.
+const ONE_TOO_MANY: &[u8] = b"0 do emit 1;\n0 do emit 1;\n";
+
+#[test]
+fn words_give_the_settings(rt: HostRuntime) -> Result<(), Fail> {
+    let runs: [(&[&str], &[u8], &[u8]); 3] = [
+        (&["run", "--shards=4"], ROW_1, b"0 commit 1 ok 5\n"),
+        (
+            &["run", "--limit", "1", "--window=1"],
+            ONE_TOO_MANY,
+            b"0 commit 1 ok 1\n0 full 1\n",
+        ),
+        (
+            &["run", "--shards", "1"],
+            b"0 follow 0\n0 follow 1\n",
+            b"0 follow 0 front 0\n0 refused verb\n",
+        ),
+    ];
+    for (words, script, output) in runs {
+        let mut source = MemSource::new(rt.alloc(), script, 4096, &[])?;
+        let mut sink = MemSink::new(rt.alloc(), 4096, &[])?;
+        let status = diamond(
+            &rt,
+            rt.alloc(),
+            words,
+            &mut source,
+            &mut sink,
+            &mut NoDisk::new(),
+            &mut NoListener::new(),
+        );
+        assert_eq!(rt; status, 0);
+        assert_eq!(rt; sink.taken(), output);
     }
     Ok(())
 }

@@ -9,3 +9,4 @@ pub mod Added
 pub mod Appended
 pub mod Followed
 pub mod Validated
+pub mod Waited

@@ -133,7 +133,8 @@ impl<K: Keep> Book<K> {
     /// Adds the commit of what is ready, or says why not. A denial is counted. For want of memory the commits are as before.
     pub(crate) fn append(&mut self, ready: &Ready) -> Result<Decision, AllocError>
         requires can { CanSettle ready.now self.old.journal.commits }
-        ensures settles { IfOk result (λ decision. Settles self.old.journal.shards self.old.journal.limit ready.now self.old.journal.commits decision self.new.journal.commits) }
+        ensures settles { IfOk result (λ decision.
+            Settles self.old.journal.shards self.old.journal.limit ready.now self.old.journal.commits decision self.new.journal.commits) }
         ensures denials { IfOk result (λ decision. self.new.denials ≡ denials_after self.old.denials decision) }
         ensures err { OnErr result (self.new.journal.commits ≡ self.old.journal.commits) }
         ensures err_denials { OnErr result (self.new.denials ≡ self.old.denials) }
@@ -158,7 +159,8 @@ impl<K: Keep> Book<K> {
     /// All changes of commits past a number and up to the journal's end.
     pub(crate) fn tail_past(&self, from: u64) -> Result<Tail, AllocError>
         requires { from ≤ length self.now.journal.commits }
-        ensures { IfOk result (HasAll from (length self.now.journal.commits) (between from (length self.now.journal.commits) (changes self.now.journal.commits))) }
+        ensures { IfOk result (HasAll from (length self.now.journal.commits)
+            (between from (length self.now.journal.commits) (changes self.now.journal.commits))) }
     {
         self.journal.tail_all(from, self.entries)
     }

@@ -16,6 +16,7 @@ mod replica;
 mod served;
 mod store;
 mod telling;
+mod waiting;
 
 pub use answer::StoreAppendError;
 pub use book::Book;

@@ -10,7 +10,7 @@ use crate::pass::Pass;
 use crate::store::Store;
 use abort_witness::BasedList;
 use change_feed::Feed;
-use docc_prepare::{AppendError, Backend, PrepareError, ReadAtError, StoreError};
+use docc_prepare::{AppendError, Backend, PrepareError, ReadAtError, StoreError, Waiter};
 use history_lock::Naming;
 use journal_core::{Keep, MemKeep, Ready};
 use rdt_types::{Address, Value};
@@ -97,5 +97,11 @@ impl<'a, G: Gate + Drop, N: Naming, R: Wait> Backend for Served<'a, MemKeep, G, 
 
     fn take(&mut self) -> Result<Feed, StoreError> {
         self.store.take(self.rt, &mut self.pass)
+    }
+}
+
+impl<'a, G: Gate + Drop, N: Naming, R: Wait> Waiter for Served<'a, MemKeep, G, N, R> {
+    fn wait(&mut self) -> Result<(), StoreError> {
+        self.store.wait(self.rt, &mut self.pass)
     }
 }

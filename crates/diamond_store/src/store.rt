@@ -18,6 +18,7 @@ use crate::gate::Gate;
 use crate::pass::Pass;
 use crate::replica::Replica;
 use crate::telling::{changes_past, feed_of, hush, tell};
+use crate::waiting::Bell;
 use abort_witness::BasedList;
 use change_feed::Feed;
 use docc_prepare::{PrepareError, ReadAtError, StoreError};
@@ -38,6 +39,7 @@ pub struct Store<K: Keep, G: Gate + Drop, N: Naming> {
     pub(crate) settings: Settings,
     pub(crate) journal: HistoryLock<Book<K>, N>,
     pub(crate) gate: Box<G>,
+    pub(crate) bell: Bell,
     shards: Vec<Mutex<Replica<K, N>>>,
 }
 
@@ -104,6 +106,7 @@ impl<K: Keep, G: Gate + Drop, N: Naming> Store<K, G, N> {
             settings: *settings,
             journal,
             gate,
+            bell: Bell::new(),
             shards,
         };
         let pass = Pass {
@@ -191,6 +194,7 @@ impl<K: Keep, G: Gate + Drop, N: Naming> Store<K, G, N> {
         };
         pass.seen = pass.front.entries();
         pass.denied = counted(&decision, pass.denied);
+        self.bell.ring(rt, &decision);
         answer(decision, known, pass.front.count())
     }
 

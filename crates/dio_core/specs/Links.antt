@@ -28,3 +28,8 @@ incoming left faults = record { left = left; faults = faults }
 -- an object that is no source
 abbrev pub no_source : Incoming
 no_source = incoming None 0
+
+-- An object that is both.
+pub record Both : Type 0 where
+  pub inwards : Incoming
+  pub outwards : Outgoing

@@ -44,6 +44,17 @@ impl FaultPlan {
         })
     }
 
+    /// No call is to fail.
+    pub fn never(alloc: Global) -> FaultPlan
+        ensures { result ≡ plan_of [] }
+    {
+        FaultPlan {
+            fails: Vec::new(alloc),
+            next: Count::new(),
+            faults: Count::new(),
+        }
+    }
+
     /// Begins the next call. Whether it fails, which is counted.
     pub fn begin_call(&mut self) -> bool
         ensures fails { result ≡ fails_next self.old }

@@ -13,6 +13,7 @@ mod observed;
 mod order;
 mod stepping;
 mod store_laws;
+mod waiter;
 
 pub use attempt::{Attempt, Next};
 pub use backend::{AppendError, Backend, PrepareError, ReadAtError, StoreError};
@@ -25,6 +26,7 @@ pub use store_laws::{
     first_stores_are_sound, others_count_as_within, shards_follow, steps_are_answered,
     steps_leave_others, steps_may_be_done, witness_is_named,
 };
+pub use waiter::Waiter;
 
 #[cfg(test)]
 mod tests;

@@ -46,6 +46,14 @@ impl Attempt {
         }
     }
 
+    /// The next event where the run is known, as it is after a shard was prepared. The body isn't run.
+    pub fn next_on(&self, run: Run) -> Next
+        requires { spec.ran self.now ≡ done run }
+        ensures { result ≡ spec.next_event self.now }
+    {
+        self.after_run(run)
+    }
+
     /// The next event. The body is run from its start.
     pub fn next(&self, alloc: Global) -> Result<Next, AllocError>
         ensures { IfOk result (λ next. next ≡ spec.next_event self.now) }

@@ -3,11 +3,13 @@ use Rattle.std.proofs.Common.{◌≡◌, ◌≢◌, ℕ, zero, suc, ◌+◌, ◌
 use Rattle.docc_prepare.specs.Calls.{Known, Call, Answer}
 use Rattle.docc_prepare.specs.Backends.{Goes}
 use Rattle.docc_prepare.specs.Stores.{Store, seen_by, step, Does}
-use Rattle.session_core.specs.declared.limits.TheConstants.{MOST_CALLS}
+use Rattle.session_core.specs.Bounds.{most_calls}
+use Rattle.client_watches.specs.Phases.{Phase as WatchPhase}
+use Rattle.client_watches.specs.Phases as watches
 use Rattle.session_core.specs.declared.line.Line.{Line}
 use Rattle.session_core.specs.declared.session.Session.{Session}
 use Rattle.session_core.specs.declared.turn.Turn.{Turn}
-use Rattle.session_core.specs.Phases.{Phase, stepped, gone, asks, after, start}
+use Rattle.session_core.specs.Phases.{Phase, stepped, gone, of_watches, asks, after, start}
 use Rattle.session_core.specs.Leading.{Leads}
 use Rattle.session_core.proofs.Steps.{moved-failed}
 use Rattle.script_runner.proofs.Places.{same-or-not}
@@ -19,6 +21,16 @@ use Rattle.script_runner.specs.Driving.{Place, answered, asked_by, advance, driv
 abbrev pub IsBroken : Phase → Type 0
 IsBroken p = (by_fault : Bool) × (p ≡ Phase.broken by_fault)
 
+-- a failed call breaks a line of watches
+broken-watch : (p : WatchPhase) (call : Call) (by_fault : Bool) → watches.asks p ≡ Some call
+    → watches.after p (Answer.failed by_fault) ≡ WatchPhase.broken by_fault
+broken-watch (WatchPhase.taking goal w) call f e = refl
+broken-watch (WatchPhase.reading job w replies address) call f e = refl
+broken-watch (WatchPhase.keeping job w replies address item) call f e = refl
+broken-watch (WatchPhase.dropping next w replies address rest) call f e = refl
+broken-watch (WatchPhase.over w replies) call f e = absurd (cc)
+broken-watch (WatchPhase.broken g) call f e = absurd (cc)
+
 -- a failed call breaks the line, whatever phase made it
 pub broken-by : (p : Phase) (call : Call) (by_fault : Bool) → asks p ≡ Some call → after p (Answer.failed by_fault) ≡ Phase.broken by_fault
 broken-by (Phase.beginning s a) call f e = refl
@@ -27,6 +39,8 @@ broken-by (Phase.trying s left a) call f e = refl
 broken-by (Phase.going s left a) call f e = ap (gone s left f) (moved-failed a f)
 broken-by (Phase.looking s upto body) call f e = refl
 broken-by (Phase.looked s n body snaps address) call f e = refl
+broken-by (Phase.awaiting s seen) call f e = refl
+broken-by (Phase.watching s p) call f e = ap (of_watches s) (broken-watch p call f e)
 broken-by (Phase.over s t) call f e = absurd (cc)
 broken-by (Phase.broken g) call f e = absurd (cc)
 
@@ -102,15 +116,16 @@ over-within client x n (suc most) s t turn few e = by (over-within client x n mo
     by rest (inl same) = subst (λ (m : ℕ). drive m client x ≡ (s, Phase.over t turn)) same e
     by rest (inr apart) = ap (advance client) (rest (let fewer : n ≤ most = omega arith in fewer) e)
 
--- it is the bound of all lines
-pub all-calls : all_calls ≡ MOST_CALLS
+-- it is the bound of the line
+pub all-calls : (session : Session) (line : Line) → all_calls session line ≡ most_calls session line
 unfolding all_calls
-all-calls = refl
+all-calls session line = refl
 
--- the driven line is over where one is that was led there by no more calls than a line may make
-pub line-is-done : (client : ℕ) (s : Store) (session : Session) (line : Line) (n : ℕ) (t : Store) (next : Session) (turn : Turn) → n ≤ MOST_CALLS
-    → Drives client (s, start s.shards (seen_by s client) session line) n t (Phase.over next turn)
+-- the driven line is over where one is that was led there by no more calls than it may make
+pub line-is-done : (client : ℕ) (s : Store) (session : Session) (line : Line) (n : ℕ) (t : Store) (next : Session) (turn : Turn)
+    → n ≤ most_calls session line → Drives client (s, start s.shards (seen_by s client) session line) n t (Phase.over next turn)
     → line_done client s session line ≡ (t, Phase.over next turn)
 line-is-done client s session line n t next turn few (inl e) =
-    over-within client (s, start s.shards (seen_by s client) session line) n all_calls t next turn (subst (λ (m : ℕ). n ≤ m) (sym all-calls) few) e
+    over-within client (s, start s.shards (seen_by s client) session line) n (all_calls session line) t next turn
+    (subst (λ (m : ℕ). n ≤ m) (sym (all-calls session line)) few) e
 line-is-done client s session line n t next turn few (inr broken) = absurd (let no : Phase.over next turn ≡ Phase.broken broken.0 = broken.1 in cc)

@@ -1,5 +1,6 @@
 pub mod Spoken
 pub mod Places
+pub mod Ways
 pub mod Driven
 pub mod Viewed
 pub mod Stood

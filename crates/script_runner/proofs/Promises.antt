@@ -1,6 +1,7 @@
 -- What a run of a script promises at each of its ends.
 use Rattle.std.proofs.Common.{◌≡◌, ℕ, ◌≤◌, ◌⊎◌, Bool, true, false, [], ◌∷◌, length, Option, Some, None, Result, Ok, Err, refl, ap, sym, ◌∙◌, subst}
 use Rattle.std.proofs.Common.{inl, inr, arith, length-append}
+use Rattle.std.proofs.lemmas.Bool.{false≢true}
 use Rattle.std.specs.Prelude.{◌==◌, IsTrue}
 use Rattle.std.specs.List.{list_any}
 use Rattle.plain_data.specs.declared.or_no_memory.OrNoMemory.{OrNoMemory}
@@ -18,7 +19,7 @@ use Rattle.script_runner.specs.declared.stop.Cause.{Cause}
 use Rattle.script_runner.specs.declared.stop.Cause.TheVariants as cause
 use Rattle.script_runner.specs.Script.{Reading, Writing, IsPlayed, IsBrokenOff, HasTooManyLines, IsCutOff, IsCutOffBehindLine, TriesFlush, KeepsPromises}
 use Rattle.script_runner.specs.code.Turns.{read_stopped, write_stopped, Ends, Closes}
-use Rattle.script_runner.proofs.Plays.{cut_whole}
+use Rattle.script_runner.proofs.Plays.{cut_whole, cut_unread}
 use Rattle.script_runner.proofs.Standing.{played_is_legal}
 use Rattle.script_runner.proofs.Telling.{scripts_are_explained}
 
@@ -118,3 +119,17 @@ module _ (settings : Settings) (r : Reading) (w : Writing) where
       subst (λ s. KeepsPromises settings s r w) (sym closed.0)
       (promises TOO_MANY_LINES refl (ends, tried) reads
       (λ all is few well written. absurd (told_too_many settings w.taken w.taken_then r.left r.left_then ends all is few)))
+
+-- a run for which there was no memory before it read or wrote
+pub unstarted : (settings : Settings) (left taken passed : Option Text) (reads writes : ℕ) → KeepsPromises settings NO_MEMORY
+    (record { left = left; left_then = left; faults = reads; faults_then = reads })
+    (record { taken = taken; taken_then = taken; passed_then = passed; faults = writes; faults_then = writes })
+unstarted settings left taken passed reads writes = keeps_promises settings
+    (record { left = left; left_then = left; faults = reads; faults_then = reads })
+    (record { taken = taken; taken_then = taken; passed_then = passed; faults = writes; faults_then = writes })
+    (Err stop.NoMemory) NO_MEMORY taken writes (cut_unread settings left taken) refl refl (refl, refl)
+
+-- the status of the words is none of a run's
+pub no-words-status : (settings : Settings) (status : ℕ) (r : Reading) (w : Writing) → KeepsPromises settings status r w → status ≡ 1 → ⊥
+no-words-status settings status r w keeps e =
+    false≢true (subst (λ (s : ℕ). IsTrue (list_any (λ t. t == s) (WHOLE ∷ READ_FAULT ∷ WRITE_FAULT ∷ NO_MEMORY ∷ TOO_MANY_LINES ∷ []))) e keeps.statuses)

@@ -13,6 +13,11 @@ use Rattle.dio_core.specs.Lines.{lines, line_of as cut_of, IsShort}
 use Rattle.rdt_types.specs.declared.settings.Settings.{Settings}
 use Rattle.txn_grammar.specs.Characters.{Text, is_blank}
 use Rattle.txn_lang.specs.Journals.{IsLegal}
+use Rattle.txn_lang.specs.States.{Journal}
+use Rattle.client_watches.specs.Standing.{CanRead}
+use Rattle.client_watches.proofs.Lined.{beginnings_attend}
+use Rattle.session_core.proofs.Grown.{prefix-whole}
+use Rattle.session_core.proofs.Minding.{none-keeps, none-minds}
 use Rattle.docc_prepare.specs.Stores.{Store, CLIENTS, IsSound, known_by, first_store, followed}
 use Rattle.docc_prepare.proofs.Stored.{first_store_is_sound}
 use Rattle.docc_prepare.proofs.Elsewhere.{shards_follow}
@@ -57,11 +62,16 @@ each-first (suc n) client = by (each-first n client) (at-end (first_sessions n) 
     by before (inl same) = subst goal (sym same) before
     by before (inr last) = subst goal (sym last.1) (ap first_session (sym (last.0 ∙ many-first n)))
 
+-- a journal of which nothing is taken on trust can be read
+pub legal-reads : (journal : Journal) → IsLegal 0 journal → CanRead journal
+legal-reads journal legal = beginnings_attend.readable journal journal (prefix-whole journal) legal
+
 -- a first session attends the first store
 first-attends : (settings : Settings) (client : ℕ)
     → Attends (known_by (first_store settings.shards settings.window settings.limit) client) (first_session client)
 first-attends settings client =
     let some = settings.shards_in_range.0 in
+    let store = first_store settings.shards settings.window settings.limit in
     let sound = first_store_is_sound settings.shards settings.window settings.limit (omega arith) in record {
       on = refl;
       shards = settings.shards_in_range;
@@ -69,6 +79,11 @@ first-attends settings client =
       begun = omega arith;
       counts = record { seq_is = refl; within = sound.seen client };
       attempt = tt;
+      watches = record {
+        keeps = none-keeps (known_by store client) 0 (omega arith);
+        told = none-minds (known_by store client) 0 store.journal (omega arith) (legal-reads store.journal sound.legal)
+            (beginnings_attend.readable store.journal);
+      };
     }
 
 -- The first world stands.
@@ -129,11 +144,11 @@ module _ (s : Store) (client : ℕ) (sound : IsSound s) (below : client < CLIENT
     left-attends : (k : Store) (t : Session) (x : Turn) → Attends (known_by k client) t → IfSome (left t x) (Attends (known_by k client))
     left-attends k t turn.Quiet h = h
     left-attends k t (turn.Replies replies) h = h
-    left-attends k t turn.Unbuilt h = h
+    left-attends k t turn.WaitWanted h = h
     left-attends k t (turn.Ended replies) h = tt
 
     -- what a line is driven to, wherever that is
-    ended-leaves : (text : Text) (asked : Asked) (x : Place) → IsDriven s client session text all_calls x → Leaves s client (ended_line client s session asked x)
+    ended-leaves : (text : Text) (asked : Asked) (x : Place) → IsDriven s client session text (all_calls session asked) x → Leaves s client (ended_line client s session asked x)
     ended-leaves text asked (after, Phase.over t x) h = record {
       sound = h.sound;
       mine = left-attends after t x (sessions_go_on.behind (known_by s client) session text (known_by after client) t x h.way);
@@ -145,6 +160,8 @@ module _ (s : Store) (client : ℕ) (sound : IsSound s) (below : client < CLIENT
     ended-leaves text asked (after, Phase.going t more a) h = stays (Some session) Told.nothing is
     ended-leaves text asked (after, Phase.looking t upto body) h = stays (Some session) Told.nothing is
     ended-leaves text asked (after, Phase.looked t n body snaps address) h = stays (Some session) Told.nothing is
+    ended-leaves text asked (after, Phase.awaiting t seen) h = stays (Some session) Told.nothing is
+    ended-leaves text asked (after, Phase.watching t p) h = stays (Some session) Told.nothing is
     ended-leaves text asked (after, Phase.broken by_fault) h = stays (Some session) Told.nothing is
 
     -- a line of the session, or one that lets a shard follow
@@ -237,7 +254,7 @@ answered-stands (Err e) world left l h short done = tt
 -- ---- many lines
 
 -- lines in order keep it standing
-played-stands : (raws : List Text) (p : Played) → Stands p.world → Stands (fold one_more p raws).world
+pub played-stands : (raws : List Text) (p : Played) → Stands p.world → Stands (fold one_more p raws).world
 played-stands [] p h = h
 played-stands (raw ∷ raws) p h = played-stands raws (one_more p raw) (answer-stands p.world (cut_of raw) h (cut-short raw))
 

@@ -20,10 +20,14 @@ use Rattle.session_core.specs.Lines.{line_of}
 use Rattle.session_core.specs.Phases.{Phase, with_attempt, event_call, asks, after, start}
 use Rattle.session_core.specs.Holding.{Attends}
 use Rattle.session_core.specs.Leading.{Leads}
-use Rattle.session_core.specs.GoingOn.{IsOnItsWay, has_failed, is_broken}
-use Rattle.session_core.specs.Bounds.{Comes}
-use Rattle.session_core.proofs.Bounds.{calls_suffice}
-use Rattle.session_core.proofs.Unbroken.{failures_alone_break}
+use Rattle.session_core.specs.GoingOn.{IsOnItsWay, is_nothing, is_broken}
+use Rattle.client_watches.specs.GoingOn.{WatchLine, has_failed}
+use Rattle.client_watches.specs.Phases.{Phase as WatchPhase, start_watch, start_unwatch}
+use Rattle.client_watches.specs.Phases as watches
+use Rattle.client_watches.proofs.Unbroken.{line-unbroken}
+use Rattle.session_core.proofs.Bounds.{lines_are_bounded}
+use Rattle.session_core.proofs.Unbroken.{of-unbroken, failures_alone_break}
+use Rattle.script_runner.proofs.Ways.{way-comes}
 use Rattle.script_runner.proofs.Driven.{all-calls}
 use Rattle.session_core.proofs.GoingOn.{lines_are_ready, sessions_go_on}
 use Rattle.script_runner.specs.Driving.{Place, asked_by, drive, all_calls, line_done, IsOverBy, LinesAreOver}
@@ -51,6 +55,15 @@ never-waits (Phase.going s left a) e = by (next_event a) e
     by (next.Read address) e = cc
     by (next.Prepare shard run) e = cc
     by (next.Append run) e = cc
+never-waits (Phase.watching s p) e = by p e
+  where
+    by : (p : WatchPhase) → watches.asks p ≡ Some Call.wait → ⊥
+    by (WatchPhase.taking goal w) e = cc
+    by (WatchPhase.reading job w replies address) e = cc
+    by (WatchPhase.keeping job w replies address item) e = cc
+    by (WatchPhase.dropping next w replies address rest) e = cc
+    by (WatchPhase.over w replies) e = cc
+    by (WatchPhase.broken by_fault) e = cc
 never-waits p e = cc
 
 -- so no step of a line fails
@@ -65,7 +78,6 @@ start-unbroken shards seen s l = by s.attempt l
   where
     by : (o : Option Attempt) (l : Line) → is_broken (start shards seen (with_attempt s o) l) ≡ false
     by o asked.Quiet = refl
-    by o asked.Unbuilt = refl
     by o (asked.Refused reason) = refl
     by None (asked.Begin body) = refl
     by (Some a) (asked.Begin body) = refl
@@ -79,6 +91,11 @@ start-unbroken shards seen s l = by s.attempt l
     by (Some a) asked.Drop = refl
     by o (asked.Look body) = refl
     by o (asked.At n body) = refl
+    by o (asked.Watch name body) =
+        of-unbroken (with_attempt s o) (start_watch s.watching name body) (line-unbroken (WatchLine.watch name body) s.watching)
+    by o (asked.Unwatch name) = of-unbroken (with_attempt s o) (start_unwatch s.watching name) (line-unbroken (WatchLine.unwatch name) s.watching)
+    by o asked.Sync = refl
+    by o asked.Wait = refl
     by o asked.Seen = refl
     by o asked.Quit = refl
 
@@ -119,8 +136,8 @@ module _ (s : Store) (client : ℕ) (session : Session) (text : Text) (mine : cl
 
   -- a line of a session that attends is driven so
   pub line-driven : IsSound s → Attends (known_by s client) session → length text ≤ LONGEST_LINE
-      → IsDriven s client session text all_calls (line_done client s session (line_of text))
-  line-driven sound is short = all-driven all_calls (s, start s.shards (seen_by s client) session (line_of text)) (record {
+      → IsDriven s client session text (all_calls session (line_of text)) (line_done client s session (line_of text))
+  line-driven sound is short = all-driven (all_calls session (line_of text)) (s, start s.shards (seen_by s client) session (line_of text)) (record {
     way = record { goes_on = is; short = short; calls = 0; leads = Leads.stays };
     sound = sound;
     others = λ other apart theirs h. h;
@@ -131,16 +148,11 @@ module _ (s : Store) (client : ℕ) (session : Session) (text : Text) (mine : cl
 
 -- ---- every line is over
 
--- a way, as answers to what is asked for
-way-comes : (k : Known) (p : Phase) (n : ℕ) (l : Known) (q : Phase) → Leads IsAnswered k p n l q → Comes p n q
-way-comes k p n l q Leads.stays = Comes.stays
-way-comes k p m l r (Leads.by_step {n = n} {c = c} {q = q} call answer led asked event is) =
-    subst (Comes p (n + 1)) is (Comes.by_answer call answer (way-comes k p n c q led) asked)
-
 -- a phase that asks for nothing and isn't broken is the end
 ends-over : (x : Place) → asks x.1 ≡ None → is_broken x.1 ≡ false → IsOverBy x
 ends-over (s, Phase.over t turn) e unbroken = record { session = t; turn = turn; over = refl }
 ends-over (s, Phase.broken f) e unbroken = absurd (cc)
+ends-over (s, Phase.watching t p) e unbroken = absurd (let no : is_nothing None ≡ false = ap is_nothing (sym e) ∙ unbroken in cc)
 ends-over (s, p) e unbroken = absurd (cc)
 
 -- Where as many calls were made as a line may make, none is asked for.
@@ -150,14 +162,14 @@ lines_are_over s client session text sound mine is short = ends-over x (none (as
     x : Place
     x = line_done client s session (line_of text)
 
-    h : IsDriven s client session text all_calls x
+    h : IsDriven s client session text (all_calls session (line_of text)) x
     h = line-driven s client session text mine sound is short
 
-    none : (o : Option Call) → asks x.1 ≡ o → (h.way.calls ≡ all_calls) ⊎ (asks x.1 ≡ None) → asks x.1 ≡ None
+    none : (o : Option Call) → asks x.1 ≡ o → (h.way.calls ≡ all_calls session (line_of text)) ⊎ (asks x.1 ≡ None) → asks x.1 ≡ None
     none o e (inr ended) = ended
     none None e (inl all) = e
     none (Some call) e (inl all) =
-        let fewer = (calls_suffice s.shards (seen_by s client) session text h.way.calls x.1
-        (way-comes (known_by s client) (start s.shards (seen_by s client) session (line_of text)) h.way.calls (known_by x.0 client) x.1 h.way.leads)).more
-        call e in
-        absurd (let no : ⊥ = omega (arith, all, all-calls) in no)
+        let first = start s.shards (seen_by s client) session (line_of text) in
+        let fewer = (lines_are_bounded s.shards (seen_by s client) session (line_of text) h.way.calls x.1 is.watches.keeps.names
+        (way-comes IsAnswered (known_by s client) first h.way.calls (known_by x.0 client) x.1 h.way.leads)).more call e in
+        absurd (let no : ⊥ = omega (arith, all, all-calls session (line_of text)) in no)

@@ -12,6 +12,7 @@ use Rattle.dio_core.specs.Lines.{lines, line_of as cut_of, IsShort}
 use Rattle.rdt_types.specs.declared.settings.Settings.{Settings}
 use Rattle.session_text.specs.declared.reply.Why.TheVariants as why
 use Rattle.txn_grammar.specs.Characters.{Text}
+use Rattle.txn_lang.specs.Journals.{IsLegal}
 use Rattle.txn_lang.specs.States.{Journal}
 use Rattle.rdt_types.specs.declared.address.Address.{Address}
 use Rattle.txn_lang.specs.declared.snaps.Snap.{Snap}
@@ -30,7 +31,10 @@ use Rattle.session_core.specs.Phases.{Phase, start}
 use Rattle.session_core.specs.Holding.{Attends}
 use Rattle.session_core.specs.Leading.{Leads}
 use Rattle.session_core.specs.Words.{trimmed_start, trimmed_end, is_quiet}
-use Rattle.session_core.specs.Explained.{Setting, Story, Passes, story_after, LinePasses, AreFrom, MayBeTold}
+use Rattle.client_watches.specs.Explained.{shown_of}
+use Rattle.client_watches.proofs.Telling.{up-to-more}
+use Rattle.session_core.specs.Explained.{Setting, Attempting, Story, story_of, Passes, attempting_after, story_after, LinePasses, AreFrom, MayBeTold}
+use Rattle.session_core.proofs.Minding.{reported-seen}
 use Rattle.session_core.proofs.Explained.{line-explained}
 use Rattle.session_core.proofs.Grown.{prefix-whole, prefix-again, prefix-shorter}
 use Rattle.session_core.proofs.Phases.{phase-begins}
@@ -45,7 +49,7 @@ use Rattle.script_runner.specs.Play.{Done, done, placed, named_line, text_line, 
 use Rattle.script_runner.specs.Explained.{setting_of, first_story, is_to, told_to, ExplainsTold, ExplainsScript}
 use Rattle.script_runner.specs.Worlds.{Stands}
 use Rattle.script_runner.proofs.Places.{set-here, set-elsewhere, same-or-not}
-use Rattle.script_runner.proofs.Standing.{each-first, first-stands, answer-stands, trimmed-shorter, after-shorter, cut-short}
+use Rattle.script_runner.proofs.Standing.{each-first, first-stands, answer-stands, legal-reads, played-stands, trimmed-shorter, after-shorter, cut-short}
 use Rattle.script_runner.proofs.Stood.{IsDriven, line-driven}
 
 -- the settings of a store, as far as answers go by them
@@ -54,12 +58,16 @@ setting_in s = record { shards = s.shards; window = s.window; limit = s.limit }
 
 -- ---- what a client's line tells it
 
+-- a story of a session, whatever numbers it has shown
+abbrev IsOf : Story → Session → Type 0
+IsOf y session = story_of y.low y.begun session ≡ y
+
 -- its session answers: the answer passes, whatever was shown before, and the session goes on unless that ended it
 record IsAnswer (s : Store) (client : ℕ) (session : Session) (d : Did) (who : ℕ) (asked : Asked) (t : Turn) : Type 0 where
   is_mine : who ≡ client
   after : Session
   goes : d.session ≡ left after t
-  passes : (y : Story) → y.session ≡ session → MayBeTold (known_by s client) y
+  passes : (y : Story) → IsOf y session → MayBeTold (known_by s client) y
       → LinePasses (known_by s client) (known_by d.store client) y asked t after s.journal d.store.journal
 
 -- it let a shard follow: it has seen the front, which is the journal's end
@@ -79,6 +87,7 @@ TellsMine s client session d (Told.follow who shard front) = IsFront s client se
 -- what a client's line leaves of the journal, and tells
 record Tells (s : Store) (client : ℕ) (session : Session) (d : Did) : Type 0 where
   grows : IsPrefix s.journal d.store.journal
+  legal : IsLegal 0 d.store.journal
   setting : setting_in d.store ≡ setting_in s
   others : (other : ℕ) → other ≢ client → seen_by s other ≤ seen_by d.store other
   mine : TellsMine s client session d d.told
@@ -91,19 +100,25 @@ same-setting-in s t a b c = ap (λ (n : ℕ). record { shards = n; window = t.wi
 module _ (s : Store) (client : ℕ) (session : Session) (sound : IsSound s) (below : client < CLIENTS) (is : Attends (known_by s client) session) where
   -- where nothing is done, nothing is told
   tells-nothing : Tells s client session (did s (Some session) Told.nothing)
-  tells-nothing = record { grows = prefix-whole s.journal; setting = refl; others = λ other apart. omega arith; mine = (refl, omega arith) }
+  tells-nothing = record { grows = prefix-whole s.journal; legal = sound.legal; setting = refl; others = λ other apart. omega arith; mine = (refl, omega arith) }
 
   -- a line that names no shard is refused, and a refusal passes
   tells-refusal : Tells s client session (follow_line client s session None)
   tells-refusal = record {
     grows = prefix-whole s.journal;
+    legal = sound.legal;
     setting = refl;
     others = λ other apart. omega arith;
     mine = record {
       is_mine = refl;
       after = session;
       goes = refl;
-      passes = λ y same may. record { grows = prefix-whole s.journal; passes = refl; session = sym same; shown = may.seen };
+      passes = λ y same may. record {
+        grows = prefix-whole s.journal;
+        passes = (refl, ap (λ (z : Story). z.watches) same);
+        attempting = ap (λ (z : Story). z.attempting) same;
+        shown = may.seen;
+      };
     };
   }
 
@@ -112,6 +127,7 @@ module _ (s : Store) (client : ℕ) (session : Session) (sound : IsSound s) (bel
   tells-front shard there =
       let after = shards_follow s client shard sound below there in record {
         grows = prefix-whole s.journal;
+        legal = sound.legal;
         setting = refl;
         others = λ other apart. let same = (after.others other apart).seen in omega arith;
         mine = record {
@@ -132,28 +148,35 @@ module _ (s : Store) (client : ℕ) (session : Session) (sound : IsSound s) (bel
       by true e = tells-front shard (let there : shard < s.shards = grind (arith, nat_tests) in there)
 
   -- a line that is driven is explained
-  tells-over : (text : Text) → length text ≤ LONGEST_LINE → (x : Place) → IsDriven s client session text all_calls x
+  tells-over : (text : Text) → length text ≤ LONGEST_LINE → (x : Place) → IsDriven s client session text (all_calls session (line_of text)) x
       → Tells s client session (ended_line client s session (line_of text) x)
   tells-over text short (after, Phase.over t turn) h =
       let k = known_by s client in
       let l = known_by after client in
-      let explained : (y : Story) → y.session ≡ session → MayBeTold k y → LinePasses k l y (line_of text) turn t s.journal after.journal =
-      λ y same may. line-explained k y.session (line_of text) h.way.calls l t turn y.low y.begun (subst (Attends k) (sym same) is) (line-ready text short) may
-      (subst (λ (z : Session). Leads IsAnswered k (start k.shards k.seen z (line_of text)) h.way.calls l (Phase.over t turn)) (sym same) h.way.leads) in
+      let explained : (y : Story) → IsOf y session → MayBeTold k y → LinePasses k l y (line_of text) turn t s.journal after.journal =
+      λ y same may. subst (λ (z : Story). LinePasses k l z (line_of text) turn t s.journal after.journal) same
+      (line-explained k session (line_of text) h.way.calls l t turn y.low y.begun is (line-ready text short) (subst (MayBeTold k) (sym same) may)
+      h.way.leads) in
       let client_same = same-along k (start k.shards k.seen session (line_of text)) (phase-begins k session (line_of text) is (line-ready text short))
       h.way.calls l (Phase.over t turn) h.way.leads in record {
         grows = (explained first refl first-may).grows;
+        legal = h.sound.legal;
         setting = same-setting-in s after client_same.shards client_same.window client_same.limit;
         others = λ other apart. let same = h.seen_others other apart in omega arith;
         mine = record { is_mine = refl; after = t; goes = refl; passes = explained };
       }
     where
-      -- a story in which nothing was shown may always be told
+      -- a story in which all that is seen was shown may always be told
       first : Story
-      first = record { low = 0; begun = 0; session = session }
+      first = story_of (known_by s client).seen 0 session
 
       first-may : MayBeTold (known_by s client) first
-      first-may = record { seen = omega arith; before = omega arith; bases = all session.attempt }
+      first-may = record {
+        seen = omega arith;
+        before = omega arith;
+        bases = all session.attempt;
+        reported = (reported-seen (known_by s client) session.watching s.journal is.watches.keeps is.watches.told).reported;
+      }
         where
           all : (o : Option Attempt) → IfSome o (AreFrom 0)
           all None = tt
@@ -168,6 +191,8 @@ module _ (s : Store) (client : ℕ) (session : Session) (sound : IsSound s) (bel
   tells-over text short (after, Phase.going t more a) h = tells-nothing
   tells-over text short (after, Phase.looking t upto body) h = tells-nothing
   tells-over text short (after, Phase.looked t n body snaps address) h = tells-nothing
+  tells-over text short (after, Phase.awaiting t seen) h = tells-nothing
+  tells-over text short (after, Phase.watching t p) h = tells-nothing
   tells-over text short (after, Phase.broken by_fault) h = tells-nothing
 
   -- either of two lines
@@ -185,13 +210,14 @@ module _ (s : Store) (client : ℕ) (session : Session) (sound : IsSound s) (bel
 -- A client's story so far may be told: its numbers were seen, and its session is the client's.
 pub record Listens (w : ScriptWorld) (c : ℕ) (y : Story) : Type 0 where
   may : MayBeTold (known_by w.store c) y
-  session : IfSome (session_of w c) (λ s. y.session ≡ s)
+  session : IfSome (session_of w c) (IsOf y)
 
 -- Its story goes on behind what is told, and what is told is explained where that story is.
 pub record Hears (these : Setting) (d : Done) (c : ℕ) (y : Story) : Type 0 where
   next : Story
   listens : Listens d.world c next
-  explains : (journal : Journal) (rest : List Told) → IsPrefix d.world.store.journal journal → ExplainsTold these journal next (told_to c rest)
+  explains : (journal : Journal) (rest : List Told) → IsLegal 0 journal → IsPrefix d.world.store.journal journal
+      → ExplainsTold these journal next (told_to c rest)
       → ExplainsTold these journal y (told_to c (d.told ∷ rest))
 
 -- what is told to others is passed over
@@ -217,7 +243,7 @@ apart-tests a b differ = by (a == b) refl
 
 -- a story may be told on where no less is seen
 may-on : (k l : Known) (y : Story) → k.seen ≤ l.seen → MayBeTold k y → MayBeTold l y
-may-on k l y up may = record { seen = let b = may.seen in omega arith; before = may.before; bases = may.bases }
+may-on k l y up may = record { seen = let b = may.seen in omega arith; before = may.before; bases = may.bases; reported = may.reported }
 
 module _ (these : Setting) (w : ScriptWorld) (client : ℕ) (session : Session) (d : Did) (e : setting_in w.store ≡ these)
     (there : session_of w client ≡ Some session) (h : Tells w.store client session d) where
@@ -226,41 +252,50 @@ module _ (these : Setting) (w : ScriptWorld) (client : ℕ) (session : Session) 
   own-place P is = set-here (λ o. IfSome o P) w.sessions client d.session None is tt
 
   -- what the client itself hears
-  own-hears : (y : Story) → y.session ≡ session → MayBeTold (known_by w.store client) y → (told : Told) → d.told ≡ told
+  own-hears : (y : Story) → IsOf y session → MayBeTold (known_by w.store client) y → (told : Told) → d.told ≡ told
       → TellsMine w.store client session d told → Hears these (placed w client d) client y
   own-hears y same may Told.nothing is mine = record {
     next = y;
     listens = record {
       may = may-on (known_by w.store client) (known_by d.store client) y mine.1 may;
-      session = own-place (λ s. y.session ≡ s) (subst (λ o. IfSome o (λ s. y.session ≡ s)) (sym mine.0) same);
+      session = own-place (IsOf y) (subst (λ o. IfSome o (IsOf y)) (sym mine.0) same);
     };
-    explains = λ journal rest grows h. passed-over these journal client y d.told rest (ap (is_to client) is) h;
+    explains = λ journal rest legal grows h. passed-over these journal client y d.told rest (ap (is_to client) is) h;
   }
   own-hears y same may (Told.nobody reason) is mine = absurd mine
   own-hears y same may (Told.answered who asked t) is mine =
       let passing = mine.passes y same may in
-      let passes = subst (λ (x : Setting). Passes x d.store.journal y asked t) e passing.passes in
-      let after : mine.after ≡ (story_after these d.store.journal y asked t).session =
-      passing.session ∙ ap (λ (x : Setting). (story_after x d.store.journal y asked t).session) e in record {
-        next = story_after these d.store.journal y asked t;
+      let later = shown_of mine.after.watching.watches in
+      let passes = subst (λ (x : Setting). Passes x d.store.journal y asked t later) e passing.passes in
+      let next = story_after these d.store.journal y asked t later in
+      let after : IsOf next mine.after =
+      ap (λ (x : Attempting). record { low = next.low; begun = next.begun; attempting = x; watches = later })
+      (passing.attempting ∙ ap (λ (x : Setting). attempting_after x d.store.journal y.attempting asked t) e) in record {
+        next = next;
         listens = record {
-          may = subst (λ (x : Setting). MayBeTold (known_by d.store client) (story_after x d.store.journal y asked t)) e
+          may = subst (λ (x : Setting). MayBeTold (known_by d.store client) (story_after x d.store.journal y asked t later)) e
               (story-told (known_by w.store client) (known_by d.store client) y asked t mine.after w.store.journal d.store.journal may passing);
-          session = own-place (λ s. (story_after these d.store.journal y asked t).session ≡ s)
-              (subst (λ o. IfSome o (λ s. (story_after these d.store.journal y asked t).session ≡ s)) (sym mine.goes) (goes t (sym after)));
+          session = own-place (IsOf next) (subst (λ o. IfSome o (IsOf next)) (sym mine.goes) (goes t next mine.after after));
         };
-        explains = λ journal rest grows h.
-            let stays = story-stays these d.store.journal journal y asked t grows passes in
+        explains = λ journal rest legal grows h.
+            let stays = story-stays these d.store.journal journal y asked t later (legal-reads d.store.journal legal_here)
+            (legal-reads journal legal) may.reported grows passes in
             heard these journal client y d.told rest (ap (is_to client) is ∙ same-tests who client mine.is_mine)
-            (subst (λ (x : Told). ExplainsTold these journal y (x ∷ told_to client rest)) (sym is)
-            (stays.passes, subst (λ (z : Story). ExplainsTold these journal z (told_to client rest)) (sym stays.same) h));
+            (subst (λ (x : Told). ExplainsTold these journal y (x ∷ told_to client rest)) (sym is) (record {
+              later = later;
+              passes = stays.passes;
+              rest = subst (λ (z : Story). ExplainsTold these journal z (told_to client rest)) (sym stays.same) h;
+            }));
       }
     where
-      goes : (t : Turn) → {s z : Session} → z ≡ s → IfSome (left s t) (λ s. z ≡ s)
-      goes turn.Quiet e = e
-      goes (turn.Replies rs) e = e
-      goes turn.Unbuilt e = e
-      goes (turn.Ended rs) e = tt
+      legal_here : IsLegal 0 d.store.journal
+      legal_here = h.legal
+
+      goes : (t : Turn) (y : Story) (s : Session) → IsOf y s → IfSome (left s t) (IsOf y)
+      goes turn.Quiet y s e = e
+      goes (turn.Replies rs) y s e = e
+      goes turn.WaitWanted y s e = e
+      goes (turn.Ended rs) y s e = tt
   own-hears y same may (Told.follow who shard front) is mine = record {
     next = record y { low = max y.low front };
     listens = record {
@@ -268,10 +303,12 @@ module _ (these : Setting) (w : ScriptWorld) (client : ℕ) (session : Session) 
         seen = let b = may.seen in let up = mine.not_back in let s = mine.seen in omega arith;
         before = let b = may.before in omega arith;
         bases = may.bases;
+        reported = up-to-more y.low (max y.low front) y.watches (omega arith) may.reported;
       };
-      session = own-place (λ s. y.session ≡ s) (subst (λ o. IfSome o (λ s. y.session ≡ s)) (sym mine.goes) same);
+      session = own-place (IsOf (record y { low = max y.low front })) (subst (λ o. IfSome o (IsOf (record y { low = max y.low front }))) (sym mine.goes)
+          (ap (λ (z : Story). record z { low = max y.low front }) same));
     };
-    explains = λ journal rest grows h.
+    explains = λ journal rest legal grows h.
         heard these journal client y d.told rest (ap (is_to client) is ∙ same-tests who client mine.is_mine)
         (subst (λ (x : Told). ExplainsTold these journal y (x ∷ told_to client rest)) (sym is) (
           record {
@@ -294,9 +331,9 @@ module _ (these : Setting) (w : ScriptWorld) (client : ℕ) (session : Session) 
     next = y;
     listens = record {
       may = may-on (known_by w.store c) (known_by d.store c) y (h.others c apart) l.may;
-      session = subst (λ o. IfSome o (λ s. y.session ≡ s)) (sym (set-elsewhere w.sessions client c d.session None apart)) l.session;
+      session = subst (λ o. IfSome o (IsOf y)) (sym (set-elsewhere w.sessions client c d.session None apart)) l.session;
     };
-    explains = λ journal rest grows there. passed-over these journal c y d.told rest (to-nobody-else c apart d.told h.mine) there;
+    explains = λ journal rest legal grows there. passed-over these journal c y d.told rest (to-nobody-else c apart d.told h.mine) there;
   }
 
   -- either way
@@ -307,7 +344,7 @@ module _ (these : Setting) (w : ScriptWorld) (client : ℕ) (session : Session) 
       by (inl same) =
           let mine : Listens w client y = subst (λ (n : ℕ). Listens w n y) same l in
           subst (λ (n : ℕ). Hears these (placed w client d) n y) (sym same)
-          (own-hears y (subst (λ o. IfSome o (λ s. y.session ≡ s)) there mine.session) mine.may d.told refl h.mine)
+          (own-hears y (subst (λ o. IfSome o (IsOf y)) there mine.session) mine.may d.told refl h.mine)
       by (inr apart) = others-hear c y apart l
 
 -- ---- one line
@@ -324,7 +361,7 @@ module _ (these : Setting) (w : ScriptWorld) (e : setting_in w.store ≡ these) 
   told-nobody told none = record {
     grows = prefix-whole w.store.journal;
     setting = e;
-    hears = λ c y l. record { next = y; listens = l; explains = λ journal rest grows h. passed-over these journal c y told rest (none c) h };
+    hears = λ c y l. record { next = y; listens = l; explains = λ journal rest legal grows h. passed-over these journal c y told rest (none c) h };
   }
 
   -- a client who has quit stays so
@@ -335,14 +372,14 @@ module _ (these : Setting) (w : ScriptWorld) (e : setting_in w.store ≡ these) 
     hears = λ c y l. record {
       next = y;
       listens = record { may = l.may; session = by c y l (same-or-not c client) };
-      explains = λ journal rest grows h. passed-over these journal c y (Told.nobody why.Client) rest refl h;
+      explains = λ journal rest legal grows h. passed-over these journal c y (Told.nobody why.Client) rest refl h;
     };
   }
     where
-      by : (c : ℕ) (y : Story) → Listens w c y → (c ≡ client) ⊎ (c ≢ client) → IfSome (get_or (set w.sessions client None) c None) (λ s. y.session ≡ s)
-      by c y l (inl same) = subst (λ (n : ℕ). IfSome (get_or (set w.sessions client None) n None) (λ s. y.session ≡ s)) (sym same)
-          (set-here (λ o. IfSome o (λ s. y.session ≡ s)) w.sessions client None None tt tt)
-      by c y l (inr apart) = subst (λ o. IfSome o (λ s. y.session ≡ s)) (sym (set-elsewhere w.sessions client c None None apart)) l.session
+      by : (c : ℕ) (y : Story) → Listens w c y → (c ≡ client) ⊎ (c ≢ client) → IfSome (get_or (set w.sessions client None) c None) (IsOf y)
+      by c y l (inl same) = subst (λ (n : ℕ). IfSome (get_or (set w.sessions client None) n None) (IsOf y)) (sym same)
+          (set-here (λ o. IfSome o (IsOf y)) w.sessions client None None tt tt)
+      by c y l (inr apart) = subst (λ o. IfSome o (IsOf y)) (sym (set-elsewhere w.sessions client c None None apart)) l.session
 
   -- the line of a client
   client-told : (client : ℕ) (text : Text) → client < CLIENTS → length text ≤ LONGEST_LINE → (o : Option Session) → session_of w client ≡ o
@@ -410,19 +447,19 @@ module _ (these : Setting) where
       let stands = answer-stands p.world (cut_of raw) h (cut-short raw) in
       let hears = one.hears c y l in
       hears.explains (fold one_more (one_more p raw) raws).world.store.journal (tolds_from (world_after p.world raw) raws)
-      (lines-grow raws (one_more p raw) one.setting stands)
+      (played-stands raws (one_more p raw) stands).sound.legal (lines-grow raws (one_more p raw) one.setting stands)
       (lines-explained raws (one_more p raw) c hears.next one.setting stands hears.listens)
 
 -- a client listens from the first world on
 first-listens : (settings : Settings) (c : ℕ) → Listens (first_world settings) c (first_story c)
 first-listens settings c = record {
-  may = record { seen = omega arith; before = omega arith; bases = tt };
+  may = record { seen = omega arith; before = omega arith; bases = tt; reported = tt };
   session = flip (get_or (first_sessions CLIENTS) c None) (each-first CLIENTS c);
 }
   where
-    flip : (o : Option Session) → IfSome o (λ s. s ≡ first_session c) → IfSome o (λ s. first_session c ≡ s)
+    flip : (o : Option Session) → IfSome o (λ s. s ≡ first_session c) → IfSome o (IsOf (first_story c))
     flip None e = tt
-    flip (Some s) e = sym e
+    flip (Some s) e = ap (story_of 0 0) e
 
 -- Each client's answers are explained by the journal that the script leaves.
 pub scripts-explained : (settings : Settings) (bytes : Text) → ExplainsScript settings bytes

@@ -5,14 +5,16 @@ use Rattle.docc_prepare.specs.Backends.{Goes}
 use Rattle.docc_prepare.specs.Stores.{Does, IsSound, known_by}
 use Rattle.local_world.specs.Stored.{store_of}
 use Rattle.local_world.specs.declared.view.View.{View}
-use Rattle.session_core.specs.declared.limits.TheConstants.{MOST_CALLS}
+use Rattle.client_watches.specs.Keeping.{AreDistinct}
+use Rattle.session_core.proofs.Bounds.{lines_are_bounded}
 use Rattle.session_core.specs.declared.line.Line.{Line}
 use Rattle.session_core.specs.declared.session.Session.{Session}
 use Rattle.session_core.specs.declared.turn.Turn.{Turn}
 use Rattle.session_core.specs.Phases.{Phase, start}
-use Rattle.session_core.specs.Leading.{Reaches}
+use Rattle.session_core.specs.Leading.{Arrives}
 use Rattle.script_runner.specs.Driving.{line_done}
 use Rattle.script_runner.proofs.Driven.{led-driven, line-is-done}
+use Rattle.script_runner.proofs.Ways.{way-comes}
 
 -- what a view stands for
 abbrev pub known : View → Known
@@ -29,10 +31,13 @@ steps client b c call a mine step =
     (subst (λ (n : ℕ). Does (store_of b.world.now) n call a (store_of c.world.now)) mine step.step.1, step.step.0 ∙ mine)
 
 -- where the line of a session is over, so is the driven one
-pub view-done : (b c : View) (session next : Session) (line : Line) (turn : Turn)
-    → Reaches known goes b (start (known b).shards (known b).seen session line) MOST_CALLS c (Phase.over next turn)
+pub view-done : (b c : View) (session next : Session) (line : Line) (turn : Turn) → AreDistinct session.watching.watches
+    → Arrives known goes b (start (known b).shards (known b).seen session line) c (Phase.over next turn)
     → line_done b.client (store_of b.world.now) session line ≡ (store_of c.world.now, Phase.over next turn)
-view-done b c session next line turn reached =
-    line-is-done b.client (store_of b.world.now) session line reached.count (store_of c.world.now) next turn reached.few
-    (led-driven known goes (λ v. store_of v.world.now) b.client (λ v. v.client ≡ b.client) (steps b.client) b
-    (start (known b).shards (known b).seen session line) refl reached.count c (Phase.over next turn) reached.leads).drives
+view-done b c session next line turn distinct reached =
+    let first = start (known b).shards (known b).seen session line in
+    line-is-done b.client (store_of b.world.now) session line reached.count (store_of c.world.now) next turn
+    (lines_are_bounded (known b).shards (known b).seen session line reached.count (Phase.over next turn) distinct
+    (way-comes (Goes known goes) b first reached.count c (Phase.over next turn) reached.leads)).within
+    (led-driven known goes (λ v. store_of v.world.now) b.client (λ v. v.client ≡ b.client) (steps b.client) b first refl reached.count c
+    (Phase.over next turn) reached.leads).drives

@@ -4,7 +4,7 @@ use Rattle.dio_core.specs.declared.line.TheConstants.{LONGEST_LINE}
 use Rattle.txn_grammar.specs.Characters.{Text}
 use Rattle.docc_prepare.specs.Calls.{Call, Answer}
 use Rattle.docc_prepare.specs.Stores.{Store, CLIENTS, IsSound, known_by, seen_by, step}
-use Rattle.session_core.specs.declared.limits.TheConstants.{MOST_CALLS}
+use Rattle.session_core.specs.Bounds.{most_calls}
 use Rattle.session_core.specs.declared.line.Line.{Line}
 use Rattle.session_core.specs.declared.session.Session.{Session}
 use Rattle.session_core.specs.declared.turn.Turn.{Turn}
@@ -34,14 +34,14 @@ abbrev pub drive : ℕ → ℕ → Place → Place
 drive zero client x = x
 drive (suc n) client x = advance client (drive n client x)
 
--- as many calls as a line may make
-unfoldable pub all_calls : ℕ
-all_calls = MOST_CALLS
+-- as many calls as a line of the session may make
+unfoldable pub all_calls : Session → Line → ℕ
+all_calls session line = most_calls session line
 
--- A LINE IS DONE by as many calls as a line may make. Where it is over it asks for no more, so more would change nothing; and by the
--- law that the calls of a line suffice, none needs more.
+-- A LINE IS DONE by as many calls as it may make. Where it is over it asks for no more, so more would change nothing; and by the law
+-- that lines are bounded, none needs more.
 abbrev pub line_done : ℕ → Store → Session → Line → Place
-line_done client s session line = drive all_calls client (s, start s.shards (seen_by s client) session line)
+line_done client s session line = drive (all_calls session line) client (s, start s.shards (seen_by s client) session line)
 
 -- ---- a law
 

@@ -7,7 +7,7 @@ use Rattle.txn_grammar.specs.Characters.{Text}
 use Rattle.txn_lang.specs.States.{Journal}
 use Rattle.session_core.specs.declared.line.Line.TheVariants as asks
 use Rattle.session_core.specs.declared.turn.Turn.TheVariants as turn
-use Rattle.session_core.specs.Explained.{Setting, Story, IsShown, Passes, story_after}
+use Rattle.session_core.specs.Explained.{Setting, Story, story_of, IsShown, IsPassed, story_after}
 use Rattle.script_runner.specs.Play.{Told, first_session, play}
 
 -- the settings of a script, as far as answers go by them
@@ -16,7 +16,7 @@ setting_of settings = record { shards = settings.shards; window = settings.windo
 
 -- a client's story before its first line: nothing was shown
 abbrev pub first_story : ℕ → Story
-first_story client = record { low = 0; begun = 0; session = first_session client }
+first_story client = story_of 0 0 (first_session client)
 
 -- whether something is told to a client
 abbrev pub is_to : ℕ → Told → Bool
@@ -33,7 +33,7 @@ told_to client tolds = filter (is_to client) tolds
 abbrev pub ExplainsTold : Setting → Journal → Story → List Told → Type 0
 ExplainsTold set journal y [] = Unit {0}
 ExplainsTold set journal y (Told.answered client asked t ∷ rest) =
-    Passes set journal y asked t × ExplainsTold set journal (story_after set journal y asked t) rest
+    IsPassed set journal y asked t (λ later. ExplainsTold set journal (story_after set journal y asked t later) rest)
 ExplainsTold set journal y (Told.follow client shard front ∷ rest) =
     IsShown y.low journal front × ExplainsTold set journal (record y { low = max y.low front }) rest
 ExplainsTold set journal y (told ∷ rest) = ExplainsTold set journal y rest

@@ -17,6 +17,7 @@ use Rattle.session_text.specs.declared.reply.Why.TheVariants as why
 use Rattle.session_text.specs.Printing.{printed_reply}
 use Rattle.txn_grammar.specs.Characters.{Text}
 use Rattle.docc_prepare.specs.Stores.{Store, CLIENTS, first_store, followed}
+use Rattle.client_watches.specs.Watching.{none_yet}
 use Rattle.session_core.specs.declared.session.Session.{Session}
 use Rattle.session_core.specs.declared.turn.Turn.{Turn}
 use Rattle.session_core.specs.declared.turn.Turn.TheVariants as turn
@@ -37,7 +38,7 @@ pub record ScriptWorld : Type 0 where
 
 -- a client's session, before its first line
 abbrev pub first_session : ℕ → Session
-first_session client = record { client = client; seq = 1; at = 0; attempt = None; over = None }
+first_session client = record { client = client; seq = 1; at = 0; attempt = None; watching = none_yet 0; over = None }
 
 -- those of the first so many clients
 abbrev pub first_sessions : ℕ → List (Option Session)
@@ -72,11 +73,11 @@ reply_lines client (r ∷ rest) = reply_line client (printed_reply r) ++ reply_l
 abbrev pub refused_line : Option ℕ → Why → Text
 refused_line client reason = reply_line client (printed_reply (reply.Refused reason))
 
--- the lines of a turn
+-- The lines of a turn. In a script nobody commits while a client waits, so a client that would wait is told that it would.
 abbrev pub turn_lines : ℕ → Turn → Text
 turn_lines client turn.Quiet = []
 turn_lines client (turn.Replies replies) = reply_lines (Some client) replies
-turn_lines client turn.Unbuilt = reply_line (Some client) (codes "refused unbuilt")
+turn_lines client turn.WaitWanted = reply_line (Some client) (printed_reply reply.Idle)
 turn_lines client (turn.Ended replies) = reply_lines (Some client) replies
 
 -- WHAT IS TOLD OF A LINE.

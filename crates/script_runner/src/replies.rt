@@ -66,7 +66,7 @@ pub fn turn_lines(alloc: Global, client: u32, turn: &Turn) -> Result<Text, Alloc
     match turn {
         Turn::Quiet => Ok(Text::new(alloc)),
         Turn::Replies(replies) => reply_lines(alloc, client, replies.as_slice()),
-        Turn::Unbuilt => line_of(alloc, Some(client), b"refused unbuilt"),
+        Turn::WaitWanted => reply_line(alloc, Some(client), &Reply::Idle),
         Turn::Ended(replies) => reply_lines(alloc, client, replies.as_slice()),
     }
 }

@@ -37,7 +37,7 @@ fn first_sessions(alloc: Global) -> Result<Vec<Option<Session>>, AllocError>
 {
     let mut sessions = Vec::new(alloc);
     for client in 0..LAST_CLIENT + 1 {
-        sessions.push(Some(Session::new(client, 0)))?;
+        sessions.push(Some(Session::new(alloc, client, 0)))?;
     }
     Ok(sessions)
 }

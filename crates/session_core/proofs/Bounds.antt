@@ -37,8 +37,16 @@ use Rattle.session_core.specs.declared.moved.Moved.{Moved}
 use Rattle.session_core.specs.declared.moved.Moved.TheVariants as moved
 use Rattle.session_core.specs.declared.session.Session.{Session}
 use Rattle.session_core.specs.Lines.{line_of}
-use Rattle.session_core.specs.Phases.{Phase, with_attempt, moved_at, moved_by, said, stepped, after_end, gone, look_by, look_on, look_from, asks, after, start}
-use Rattle.session_core.specs.Bounds.{Comes, attempt_calls, calls_of_attempts, most_calls, IsBounded, LinesAreBounded, CallsSuffice}
+use Rattle.client_watches.specs.declared.watching.Watching.{Watching}
+use Rattle.client_watches.specs.Bounds.{Comes as WatchComes, most_calls as watch_calls}
+use Rattle.client_watches.specs.GoingOn.{WatchLine, start_of}
+use Rattle.client_watches.specs.Keeping.{AreDistinct}
+use Rattle.client_watches.specs.Phases.{Phase as WatchPhase, start_sync, start_watch, start_unwatch}
+use Rattle.client_watches.specs.Phases as watches
+use Rattle.client_watches.proofs.Bounds.{lines_are_bounded as watches_are_bounded}
+use Rattle.session_core.specs.declared.turn.Turn.TheVariants as turn
+use Rattle.session_core.specs.Phases.{Phase, with_attempt, of_watches, moved_at, moved_by, said, stepped, after_end, gone, look_by, look_on, look_from, asks, after, start}
+use Rattle.session_core.specs.Bounds.{Comes, attempt_calls, calls_of_attempts, most_calls, IsBounded, IsPlain, LinesAreBounded, CallsSuffice}
 use Rattle.session_core.proofs.Attempts.{least-below}
 use Rattle.session_core.proofs.Tries.{tries_are_few}
 
@@ -222,6 +230,20 @@ pub record HasLooked (most n : ℕ) (body : Body) (snaps : SnapList) (address : 
   pub needed : exec body (values_of snaps) ≡ need address
   pub fewer : n + TICK_LIMIT ≤ most + reads
 
+-- a line of watches has made so many calls of those that it may make
+pub record HasWatched (most n : ℕ) (p : WatchPhase) : Type 0 where
+  pub watching : Watching
+  pub line : WatchLine
+  pub distinct : AreDistinct watching.watches
+  pub calls : ℕ
+  pub comes : WatchComes (start_of line watching) calls p
+  pub fewer : n + watch_calls line watching ≤ most + calls
+
+-- it is to begin behind one call more
+pub record HasToWait (most n : ℕ) (w : Watching) : Type 0 where
+  pub distinct : AreDistinct w.watches
+  pub fewer : n + 1 + watch_calls WatchLine.sync w ≤ most
+
 abbrev pub Within : ℕ → ℕ → Phase → Type 0
 Within most n (Phase.beginning s a) = n < most
 Within most n (Phase.stepping s a) = n < most
@@ -229,6 +251,8 @@ Within most n (Phase.trying s left a) = n + calls_of_attempts (left + 1) ≤ mos
 Within most n (Phase.going s left a) = HasDriven most n left a
 Within most n (Phase.looking s upto body) = n + TICK_LIMIT + 1 ≤ most
 Within most n (Phase.looked s m body snaps address) = HasLooked most n body.body snaps address
+Within most n (Phase.awaiting s seen) = HasToWait most n s.watching
+Within most n (Phase.watching s p) = HasWatched most n p
 Within most n (Phase.over s t) = n ≤ most
 Within most n (Phase.broken by_fault) = n ≤ most
 
@@ -286,26 +310,68 @@ module _ (most n : ℕ) where
       by true = omega arith
       by false = look-within s m body [] 0 (exec body.body (values_of [])) refl (none-read body.body []) (omega arith)
 
+  -- ---- watches
+
+  -- by their own law
+  of-within : (s : Session) (p : WatchPhase) → HasWatched most n p → Within most n (of_watches s p)
+  of-within s (WatchPhase.over w replies) h =
+      let few = (watches_are_bounded h.watching h.line h.calls (WatchPhase.over w replies) h.distinct h.comes).within in let f = h.fewer in omega arith
+  of-within s (WatchPhase.broken by_fault) h =
+      let few = (watches_are_bounded h.watching h.line h.calls (WatchPhase.broken by_fault) h.distinct h.comes).within in let f = h.fewer in omega arith
+  of-within s (WatchPhase.taking goal w) h = h
+  of-within s (WatchPhase.reading job w replies address) h = h
+  of-within s (WatchPhase.keeping job w replies address item) h = h
+  of-within s (WatchPhase.dropping next w replies address rest) h = h
+
+  -- one call more
+  watched-more : (p : WatchPhase) (call : Call) (answer : Answer) → watches.asks p ≡ Some call → HasWatched most n p → HasWatched most (n + 1) (watches.after p answer)
+  watched-more p call answer e h = record {
+    watching = h.watching;
+    line = h.line;
+    distinct = h.distinct;
+    calls = h.calls + 1;
+    comes = WatchComes.by_answer call answer h.comes e;
+    fewer = let f = h.fewer in omega arith;
+  }
+
+  -- where one is asked for, there is room for it
+  watched-room : (p : WatchPhase) (call : Call) → watches.asks p ≡ Some call → HasWatched most n p → n < most
+  watched-room p call e h =
+      let more = (watches_are_bounded h.watching h.line h.calls p h.distinct h.comes).more call e in let f = h.fewer in omega arith
+
+-- a line of watches begins so
+watched-first : (most n : ℕ) (w : Watching) (line : WatchLine) → AreDistinct w.watches → n + watch_calls line w ≤ most → HasWatched most n (start_of line w)
+watched-first most n w line distinct few =
+    record { watching = w; line = line; distinct = distinct; calls = 0; comes = WatchComes.stays; fewer = omega arith }
+
+module _ (most n : ℕ) where
   -- ---- each answer
 
   -- one call more, by cases on the phase and the answer
   within-on : (q : Phase) (call : Call) (answer : Answer) → Within most n q → asks q ≡ Some call → Within most (n + 1) (after q answer)
-  within-on (Phase.stepping s a) call answer h e = stepped-within s (is_fault answer) (moved_by a answer) h
-  within-on (Phase.going s left a) call answer h e = gone-within s left a h (next_event a) answer refl
+  within-on (Phase.stepping s a) call answer h e = stepped-within most n s (is_fault answer) (moved_by a answer) h
+  within-on (Phase.going s left a) call answer h e = gone-within most n s left a h (next_event a) answer refl
   within-on (Phase.beginning s a) call (number m) h e = omega arith
   within-on (Phase.beginning s a) call answer h e = omega arith
   within-on (Phase.trying s left a) call (number m) h e = record { calls = 0; spent = none-spent a; fewer = omega arith }
   within-on (Phase.trying s left a) call answer h e = omega arith
-  within-on (Phase.looking s upto body) call (number m) h e = from-within s m upto body h
+  within-on (Phase.looking s upto body) call (number m) h e = from-within most n s m upto body h
   within-on (Phase.looking s upto body) call answer h e = omega arith
   within-on (Phase.looked s m body snaps address) call (value v) h e =
       let more = insert_entry address_cmp snaps address (record { base = m; value = v }) in
-      look-within s m body more (suc h.reads) (exec body.body (values_of more)) refl
+      look-within most n s m body more (suc h.reads) (exec body.body (values_of more)) refl
       (read-more body.body snaps h.reads address (record { base = m; value = v }) h.needed h.read) (let f = h.fewer in omega arith)
   within-on (Phase.looked s m body snaps address) call (late k horizon) h e =
       let few = read-fewer body.body snaps h.reads address h.needed h.read in let f = h.fewer in omega arith
   within-on (Phase.looked s m body snaps address) call answer h e =
       let few = read-fewer body.body snaps h.reads address h.needed h.read in let f = h.fewer in omega arith
+  within-on (Phase.awaiting s seen) call (number m) h e = by (nat_lt seen m)
+    where
+      by : (x : Bool) → Within most (n + 1) (cond x (of_watches s (start_sync s.watching)) (Phase.over s turn.WaitWanted))
+      by true = of-within most (n + 1) s (start_sync s.watching) (watched-first most (n + 1) s.watching WatchLine.sync h.distinct h.fewer)
+      by false = let f = h.fewer in omega arith
+  within-on (Phase.awaiting s seen) call answer h e = let f = h.fewer in omega arith
+  within-on (Phase.watching s p) call answer h e = of-within most (n + 1) s (watches.after p answer) (watched-more most n p call answer e h)
   within-on (Phase.over s t) call answer h e = absurd (cc)
   within-on (Phase.broken f) call answer h e = absurd (cc)
 
@@ -320,6 +386,11 @@ module _ (most n : ℕ) where
   bounded (Phase.looked s m body snaps address) h =
       let few = read-fewer body.body snaps h.reads address h.needed h.read in
       let f = h.fewer in record { within = omega arith; more = λ call e. omega arith }
+  bounded (Phase.awaiting s seen) h = let f = h.fewer in record { within = omega arith; more = λ call e. omega arith }
+  bounded (Phase.watching s p) h = record { within = watched-within p h; more = λ call e. watched-room most n p call e h }
+    where
+      watched-within : (p : WatchPhase) → HasWatched most n p → n ≤ most
+      watched-within p h = let few = (watches_are_bounded h.watching h.line h.calls p h.distinct h.comes).within in let f = h.fewer in omega arith
   bounded (Phase.over s t) h = record { within = h; more = λ call e. absurd (cc) }
   bounded (Phase.broken f) h = record { within = h; more = λ call e. absurd (cc) }
 
@@ -331,48 +402,60 @@ comes-within most p n q h Comes.stays = h
 comes-within most p k r h (Comes.by_answer {n = m} {q = q} call answer before e) = within-on most m q call answer (comes-within most p m q h before) e
 
 -- each form of line begins within its bound, whether an attempt is open or not
-begins-within : (shards seen : ℕ) (s : Session) (o : Option Attempt) (l : Line) → Within (most_calls l) 0 (start shards seen (with_attempt s o) l)
-begins-within shards seen s o asked.Quiet = omega arith
-begins-within shards seen s o asked.Unbuilt = omega arith
-begins-within shards seen s o (asked.Refused reason) = omega arith
-begins-within shards seen s None (asked.Begin body) = omega arith
-begins-within shards seen s (Some a) (asked.Begin body) = omega arith
-begins-within shards seen s None (asked.Try tries body) = omega arith
-begins-within shards seen s (Some a) (asked.Try tries body) = omega arith
-begins-within shards seen s None asked.Step = omega arith
-begins-within shards seen s (Some a) asked.Step = omega arith
-begins-within shards seen s None asked.Go = omega arith
-begins-within shards seen s (Some a) asked.Go = record { calls = 0; spent = none-spent a; fewer = omega arith }
-begins-within shards seen s None asked.Drop = omega arith
-begins-within shards seen s (Some a) asked.Drop = omega arith
-begins-within shards seen s o (asked.Look body) = omega arith
-begins-within shards seen s o (asked.At n body) = omega arith
-begins-within shards seen s o asked.Seen = omega arith
-begins-within shards seen s o asked.Quit = omega arith
+begins-within : (shards seen : ℕ) (s : Session) (o : Option Attempt) (l : Line) → AreDistinct s.watching.watches
+    → Within (most_calls s l) 0 (start shards seen (with_attempt s o) l)
+begins-within shards seen s o asked.Quiet distinct = omega arith
+begins-within shards seen s o (asked.Refused reason) distinct = omega arith
+begins-within shards seen s None (asked.Begin body) distinct = omega arith
+begins-within shards seen s (Some a) (asked.Begin body) distinct = omega arith
+begins-within shards seen s None (asked.Try tries body) distinct = omega arith
+begins-within shards seen s (Some a) (asked.Try tries body) distinct = omega arith
+begins-within shards seen s None asked.Step distinct = omega arith
+begins-within shards seen s (Some a) asked.Step distinct = omega arith
+begins-within shards seen s None asked.Go distinct = omega arith
+begins-within shards seen s (Some a) asked.Go distinct = record { calls = 0; spent = none-spent a; fewer = omega arith }
+begins-within shards seen s None asked.Drop distinct = omega arith
+begins-within shards seen s (Some a) asked.Drop distinct = omega arith
+begins-within shards seen s o (asked.Look body) distinct = omega arith
+begins-within shards seen s o (asked.At n body) distinct = omega arith
+begins-within shards seen s o (asked.Watch name body) distinct = of-within (watch_calls (WatchLine.watch name body) s.watching) 0 (with_attempt s o)
+    (start_watch s.watching name body) (watched-first (watch_calls (WatchLine.watch name body) s.watching) 0 s.watching (WatchLine.watch name body)
+    distinct (omega arith))
+begins-within shards seen s o (asked.Unwatch name) distinct = of-within (watch_calls (WatchLine.unwatch name) s.watching) 0 (with_attempt s o)
+    (start_unwatch s.watching name) (watched-first (watch_calls (WatchLine.unwatch name) s.watching) 0 s.watching (WatchLine.unwatch name)
+    distinct (omega arith))
+begins-within shards seen s o asked.Sync distinct =
+    watched-first (watch_calls WatchLine.sync s.watching) 0 s.watching WatchLine.sync distinct (omega arith)
+begins-within shards seen s o asked.Wait distinct = record { distinct = distinct; fewer = omega arith }
+begins-within shards seen s o asked.Seen distinct = omega arith
+begins-within shards seen s o asked.Quit distinct = omega arith
 
 -- from the first phase on, answer by answer
 pub lines_are_bounded : LinesAreBounded
-lines_are_bounded shards seen s l n q comes =
-    bounded (most_calls l) n q (comes-within (most_calls l) (start shards seen s l) n q (begins-within shards seen s s.attempt l) comes)
+lines_are_bounded shards seen s l n q distinct comes =
+    bounded (most_calls s l) n q (comes-within (most_calls s l) (start shards seen s l) n q (begins-within shards seen s s.attempt l distinct) comes)
 
 -- a line that was read makes few calls
-few-calls : (l : Line) → ((tries : ℕ) (body : Checked) → l ≡ asked.Try tries body → tries ≤ MOST_ATTEMPTS) → most_calls l ≤ MOST_CALLS
-few-calls (asked.Try tries body) few = let h = few tries body refl in omega arith
-few-calls (asked.Begin body) few = omega arith
-few-calls asked.Step few = omega arith
-few-calls asked.Go few = omega arith
-few-calls (asked.Look body) few = omega arith
-few-calls (asked.At n body) few = omega arith
-few-calls asked.Quiet few = omega arith
-few-calls asked.Unbuilt few = omega arith
-few-calls (asked.Refused reason) few = omega arith
-few-calls asked.Drop few = omega arith
-few-calls asked.Seen few = omega arith
-few-calls asked.Quit few = omega arith
+few-calls : (s : Session) (l : Line) → IsPlain l → ((tries : ℕ) (body : Checked) → l ≡ asked.Try tries body → tries ≤ MOST_ATTEMPTS) → most_calls s l ≤ MOST_CALLS
+few-calls s (asked.Try tries body) plain few = let h = few tries body refl in omega arith
+few-calls s (asked.Begin body) plain few = omega arith
+few-calls s asked.Step plain few = omega arith
+few-calls s asked.Go plain few = omega arith
+few-calls s (asked.Look body) plain few = omega arith
+few-calls s (asked.At n body) plain few = omega arith
+few-calls s asked.Quiet plain few = omega arith
+few-calls s (asked.Watch name body) plain few = absurd plain
+few-calls s (asked.Unwatch name) plain few = absurd plain
+few-calls s asked.Sync plain few = absurd plain
+few-calls s asked.Wait plain few = absurd plain
+few-calls s (asked.Refused reason) plain few = omega arith
+few-calls s asked.Drop plain few = omega arith
+few-calls s asked.Seen plain few = omega arith
+few-calls s asked.Quit plain few = omega arith
 
 -- the bound of each form is below that of all lines, since tries are few
 pub calls_suffice : CallsSuffice
-calls_suffice shards seen s text n q comes =
-    let few = few-calls (line_of text) (λ tries body e. (tries_are_few text tries body e).1) in
-    let h = lines_are_bounded shards seen s (line_of text) n q comes in
+calls_suffice shards seen s text n q plain distinct comes =
+    let few = few-calls s (line_of text) plain (λ tries body e. (tries_are_few text tries body e).1) in
+    let h = lines_are_bounded shards seen s (line_of text) n q distinct comes in
     record { within = (let w = h.within in omega arith); more = λ call e. let m = h.more call e in omega arith }

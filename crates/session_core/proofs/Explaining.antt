@@ -43,7 +43,9 @@ use Rattle.session_core.specs.declared.moved.Moved.TheVariants as moved
 use Rattle.session_core.specs.declared.session.Session.{Session}
 use Rattle.session_core.specs.declared.turn.Turn.{Turn}
 use Rattle.session_core.specs.Phases.{Phase, with_attempt, closed, ended, opened, afresh, event_call, call_of, moved_at, said, stepped, after_end, gone, look_by, look_on, look_from, asks, after}
-use Rattle.session_core.specs.Explained.{Setting, Story, based_all, commit_by, EndPasses, IsAborted, Hides, IsOutcomeAt, Passes, low_by, low_after, session_after, setting_of, AreFrom}
+use Rattle.session_core.specs.Explained.{Setting, Story, attempting_of, story_of, based_all, commit_by, EndPasses, IsAborted, Hides, IsOutcomeAt, PlainPasses, low_by, low_after}
+use Rattle.session_core.specs.Explained.{setting_of, AreFrom}
+use Rattle.session_core.proofs.After.{session_after}
 use Rattle.session_core.proofs.Same.{attempt_same}
 use Rattle.session_core.proofs.Kept.{fits-on, prepare-holds}
 use Rattle.session_core.proofs.Phases.{PhaseHolds}
@@ -60,12 +62,12 @@ pub record Asking : Type 0 where
   pub attempt : Option Attempt
   pub line : Line
 
-abbrev pub story_of : Asking → Story
-story_of w = record { low = w.low; begun = w.begun; session = with_attempt w.session w.attempt }
+abbrev pub told_before : Asking → Story
+told_before w = story_of w.low w.begun (with_attempt w.session w.attempt)
 
 -- it is over, and its turn passes
 pub record IsOver (w : Asking) (journal : Journal) (seen : ℕ) (t : Session) (turn : Turn) : Type 0 where
-  pub passes : Passes w.set journal (story_of w) w.line turn
+  pub passes : PlainPasses w.set journal (told_before w) w.line turn
   pub session : t ≡ session_after w.set journal (with_attempt w.session w.attempt) w.line turn
   pub shown : low_after w.low w.line turn ≤ seen
 
@@ -131,6 +133,8 @@ Explaining w journal seen (Phase.trying t left a) = IsTried w t a
 Explaining w journal seen (Phase.going t left a) = IsDriven w t left a
 Explaining w journal seen (Phase.looking t upto body) = (t ≡ with_attempt w.session w.attempt) × LooksUpTo w upto body
 Explaining w journal seen (Phase.looked t n body snaps address) = IsLooked w journal seen t n body snaps
+Explaining w journal seen (Phase.awaiting t seen_before) = ⊥
+Explaining w journal seen (Phase.watching t p) = ⊥
 Explaining w journal seen (Phase.over t turn) = IsOver w journal seen t turn
 Explaining w journal seen (Phase.broken by_fault) = Unit {0}
 
@@ -301,7 +305,7 @@ module _ (w : Asking) (k l : Known) (old new : Journal) (is : setting_of k ≡ w
 
   -- an end passes, and shows no number above what is seen then
   abbrev Ends : Option Attempt → Attempt → Reply → Type 0
-  Ends o a r = EndPasses w.set new w.low (with_attempt w.session o) a r × (low_by w.low r ≤ l.seen)
+  Ends o a r = EndPasses w.set new w.low (attempting_of (with_attempt w.session o)) a r × (low_by w.low r ≤ l.seen)
 
   -- each end by its row of the clause of every call
   end-passes : (o : Option Attempt) (a : Attempt) (e : Next) (answer : Answer) (r : Reply) → next_event a ≡ e
@@ -329,8 +333,8 @@ module _ (w : Asking) (k l : Known) (old new : Journal) (is : setting_of k ≡ w
           run = run;
           next = e;
           before = says.row.1.before;
-          there = prefix-of new (says.row.1.before ++ commit_by (with_attempt w.session o) a run n ∷ [])
-              (says.row.1.added ∙ ap (λ (m : ℕ). says.row.1.before ++ commit_by (with_attempt w.session o) a run m ∷ []) (sym says.row.1.numbered));
+          there = prefix-of new (says.row.1.before ++ commit_by (attempting_of (with_attempt w.session o)) a run n ∷ [])
+              (says.row.1.added ∙ ap (λ (m : ℕ). says.row.1.before ++ commit_by (attempting_of (with_attempt w.session o)) a run m ∷ []) (sym says.row.1.numbered));
           number = says.row.1.numbered;
           above = let m = says.row.1.numbered in let more = prefix-shorter old says.row.1.before says.row.1.grown in omega arith;
           clear = says.row.1.clear;
@@ -587,5 +591,7 @@ module _ (w : Asking) (k l : Known) (old new : Journal) (is : setting_of k ≡ w
       late-over t n body snaps m horizon x ev.shows.1 (let b = me.row.below in let same = ev.shows.1 in omega arith)
       me.row.behind me.grows ev.goes_on.seen
   explained-on (Phase.looked t n body snaps address) call answer holds x asks_it event says from to = tt
+  explained-on (Phase.awaiting t seen_before) call answer holds x asks_it event says from to = absurd x
+  explained-on (Phase.watching t p) call answer holds x asks_it event says from to = absurd x
   explained-on (Phase.over t turn) call answer holds x asks_it event says from to = absurd (cc)
   explained-on (Phase.broken f) call answer holds x asks_it event says from to = tt

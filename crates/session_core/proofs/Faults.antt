@@ -1,5 +1,5 @@
 -- The backend's count of faults along a line: it rises where a line breaks by a fault, and nowhere else.
-use Rattle.std.proofs.Common.{◌≡◌, ℕ, zero, suc, Bool, true, false, cond, [], Option, Some, None, Result, Ok, Err, refl, sym, ◌∙◌, subst}
+use Rattle.std.proofs.Common.{◌≡◌, ℕ, zero, suc, Bool, true, false, cond, [], Option, Some, None, Result, Ok, Err, ◌⊎◌, inl, inr, refl, sym, ◌∙◌, subst}
 use Rattle.std.specs.Prelude.{nat_lt}
 use Rattle.dio_core.specs.Counts.{Rose, IsCounted}
 use Rattle.session_text.specs.declared.reply.Reply.{Reply}
@@ -20,7 +20,12 @@ use Rattle.session_core.specs.declared.moved.Moved.{Moved}
 use Rattle.session_core.specs.declared.moved.Moved.TheVariants as moved
 use Rattle.session_core.specs.declared.session.Session.{Session}
 use Rattle.session_core.specs.declared.turn.Turn.{Turn}
-use Rattle.session_core.specs.Phases.{Phase, with_attempt, said, stepped, after_end, gone, look_by, look_on, look_from, moved_by, asks, after, start}
+use Rattle.session_core.specs.Phases.{Phase, with_attempt, of_watches, said, stepped, after_end, gone, look_by, look_on, look_from, moved_by, asks, after, start}
+use Rattle.client_watches.specs.GoingOn.{WatchLine, is_broken}
+use Rattle.client_watches.specs.Phases.{Phase as WatchPhase, start_sync, start_watch, start_unwatch}
+use Rattle.client_watches.specs.Phases as watches
+use Rattle.client_watches.proofs.Unbroken.{BrokenOrNot, broken_or_not, line-unbroken}
+use Rattle.session_core.specs.declared.turn.Turn.TheVariants as turn
 use Rattle.session_core.specs.Leading.{Leads, Went}
 use Rattle.session_core.proofs.Steps.{moved-failed}
 
@@ -74,6 +79,21 @@ module _ (old new : ℕ) where
   gone-counted s left f (Some (moved.More a r)) whole h = subst (λ x. IsCounted x old new) (whole (moved.More a r) refl) h
   gone-counted s left f (Some (moved.End a r)) whole h = end-same s left a r (subst (λ x. IsCounted x old new) (whole (moved.End a r) refl) h)
 
+  -- where a line of watches isn't broken
+  watching-same : (s : Session) (p : WatchPhase) → is_broken p ≡ false → new ≡ old → FaultsBy (of_watches s p) old new
+  watching-same s (WatchPhase.over w replies) e same = same
+  watching-same s (WatchPhase.broken f) e same = absurd (cc)
+  watching-same s (WatchPhase.taking goal w) e same = same
+  watching-same s (WatchPhase.reading job w replies address) e same = same
+  watching-same s (WatchPhase.keeping job w replies address item) e same = same
+  watching-same s (WatchPhase.dropping next w replies address rest) e same = same
+
+  -- a line of watches breaks as was counted, or goes on by an answer that is no fault
+  watching-counted : (s : Session) (p : WatchPhase) (answer : Answer) → BrokenOrNot p answer → IsCounted (is_fault answer) old new
+      → FaultsBy (of_watches s p) old new
+  watching-counted s p answer (inl broken) h = subst (λ x. FaultsBy (of_watches s x) old new) (sym broken) (breaks (is_fault answer) h)
+  watching-counted s p answer (inr whole) h = watching-same s p whole.0 (subst (λ x. IsCounted x old new) whole.1 h)
+
   -- phase by phase: an answer that breaks the line is counted as it came, and any other is no fault
   after-counted : (q : Phase) (call : Call) (answer : Answer) → asks q ≡ Some call → IsCounted (is_fault answer) old new → FaultsBy (after q answer) old new
   after-counted (Phase.stepping s a) call answer e h = stepped-counted s (is_fault answer) (moved_by a answer) (no-fault a answer) h
@@ -87,6 +107,13 @@ module _ (old new : ℕ) where
   after-counted (Phase.looked s n body snaps address) call (value v) e h = look-same s n body _ (exec body.body (values_of _)) h
   after-counted (Phase.looked s n body snaps address) call (late m horizon) e h = h
   after-counted (Phase.looked s n body snaps address) call answer e h = breaks (is_fault answer) h
+  after-counted (Phase.awaiting s seen) call (number n) e h = by (nat_lt seen n)
+    where
+      by : (x : Bool) → FaultsBy (cond x (of_watches s (start_sync s.watching)) (Phase.over s turn.WaitWanted)) old new
+      by true = h
+      by false = h
+  after-counted (Phase.awaiting s seen) call answer e h = breaks (is_fault answer) h
+  after-counted (Phase.watching s p) call answer e h = watching-counted s (watches.after p answer) answer (broken_or_not p call answer e) h
   after-counted (Phase.over s t) call answer e h = absurd (cc)
   after-counted (Phase.broken f) call answer e h = absurd (cc)
 
@@ -99,7 +126,6 @@ asked-same old new q call e h = h
 -- line by line, and by whether an attempt is open: no line begins broken
 start-same : (n shards seen : ℕ) (s : Session) (o : Option Attempt) (l : Line) → FaultsBy (start shards seen (with_attempt s o) l) n n
 start-same n shards seen s o asked.Quiet = refl
-start-same n shards seen s o asked.Unbuilt = refl
 start-same n shards seen s o (asked.Refused reason) = refl
 start-same n shards seen s None (asked.Begin body) = refl
 start-same n shards seen s (Some a) (asked.Begin body) = refl
@@ -113,6 +139,12 @@ start-same n shards seen s None asked.Drop = refl
 start-same n shards seen s (Some a) asked.Drop = refl
 start-same n shards seen s o (asked.Look body) = refl
 start-same n shards seen s o (asked.At upto body) = refl
+start-same n shards seen s o (asked.Watch name body) =
+    watching-same n n (with_attempt s o) (start_watch s.watching name body) (line-unbroken (WatchLine.watch name body) s.watching) refl
+start-same n shards seen s o (asked.Unwatch name) =
+    watching-same n n (with_attempt s o) (start_unwatch s.watching name) (line-unbroken (WatchLine.unwatch name) s.watching) refl
+start-same n shards seen s o asked.Sync = refl
+start-same n shards seen s o asked.Wait = refl
 start-same n shards seen s o asked.Seen = refl
 start-same n shards seen s o asked.Quit = refl
 
@@ -136,3 +168,9 @@ module _ {B : Type 0} (known : B → Known) (goes : B → Call → Answer → B 
       subst (λ q. FaultsBy q (known b).faults (known c).faults) (went.cause fault)
       (led-counted b (start (known b).shards (known b).seen s l) went.count c went.phase
       (start-same (known b).faults (known b).shards (known b).seen s s.attempt l) went.leads)
+
+  -- where a line is answered, no fault came on its way
+  pub led-unfaulted : (b : B) (s : Session) (l : Line) (n : ℕ) (c : B) (t : Session) (said_turn : Turn)
+      → Leads (Goes known goes) b (start (known b).shards (known b).seen s l) n c (Phase.over t said_turn) → (known c).faults ≡ (known b).faults
+  led-unfaulted b s l n c t said_turn led = led-counted b (start (known b).shards (known b).seen s l) n c (Phase.over t said_turn)
+      (start-same (known b).faults (known b).shards (known b).seen s s.attempt l) led

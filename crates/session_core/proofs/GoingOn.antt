@@ -22,7 +22,9 @@ use Rattle.session_core.specs.Lines.{line_of}
 use Rattle.session_core.specs.Phases.{Phase, closed, event_call, call_of, asks, start}
 use Rattle.session_core.specs.Holding.{Holds, Counts, Attends}
 use Rattle.session_core.specs.GoingOn.{IsOnItsWay, LinesAreReady, SessionsGoOn}
+use Rattle.client_watches.proofs.Ready.{lines_are_ready as watches_are_ready}
 use Rattle.session_core.proofs.Attempts.{short-need}
+use Rattle.session_core.proofs.Minding.{watches-followed}
 use Rattle.session_core.proofs.Kept.{some-shards, can-prepare, can-append, reads-on, fronts-on}
 use Rattle.session_core.proofs.Phases.{PhaseHolds, phase-begins}
 use Rattle.session_core.proofs.Ready.{line-ready}
@@ -52,6 +54,8 @@ phase-owed k (Phase.going s left a) call h e =
 phase-owed k (Phase.looking s upto body) call h e = subst (CanCall k) (let same : Call.refresh ≡ call = cc in same) tt
 phase-owed k (Phase.looked s n body snaps address) call h e =
     subst (CanCall k) (let same : Call.read_at address n ≡ call = cc in same) (h.2, h.1)
+phase-owed k (Phase.awaiting s seen) call h e = subst (CanCall k) (let same : Call.refresh ≡ call = cc in same) tt
+phase-owed k (Phase.watching s p) call h e = watches_are_ready h.start s.watching h.line k p call h.way e
 phase-owed k (Phase.over s t) call h e = absurd (cc)
 phase-owed k (Phase.broken by_fault) call h e = absurd (cc)
 
@@ -101,6 +105,7 @@ module _ (k here : Known) (followed : HasFollowed k here) where
     counts = subst (λ (o : Option Journal). IfSome o (Counts here s.seq)) (sym followed.journal)
         (counts-followed s.seq k.journal followed.all_seen h.counts);
     attempt = maybe-followed s.attempt h.attempt;
+    watches = watches-followed k here s.watching followed h.watches;
   }
 
 -- Behind a line the session is that of its last phase; others and a shard that follows take nothing of what it rests on.

@@ -29,9 +29,12 @@ use Rattle.docc_prepare.specs.Backends.{IsPrefix, IsGiven, CanValidate, CanPrepa
 use Rattle.docc_prepare.proofs.Each.{each-more, each-push}
 use Rattle.docc_prepare.proofs.Growing.{fits_stays}
 use Rattle.session_core.specs.declared.session.Session.{Session}
-use Rattle.session_core.specs.Phases.{with_attempt, closed, within_shards, opened, afresh}
-use Rattle.session_core.specs.Holding.{IsRead, FrontsGiven, Holds, IsReady, Counts, Attends}
+use Rattle.session_core.specs.Phases.{with_attempt, closed, with_watching, within_shards, opened, afresh}
+use Rattle.client_watches.specs.Watching.{none_yet}
+use Rattle.client_watches.specs.declared.watching.Watching.{Watching}
+use Rattle.session_core.specs.Holding.{IsRead, FrontsGiven, Holds, IsReady, Counts, WatchesAttend, Attends}
 use Rattle.session_core.proofs.Same.{attempt_same}
+use Rattle.session_core.proofs.Minding.{watches-on, none-attend, none-on}
 use Rattle.docc_prepare.proofs.Nexts.{needs, appends, prepares}
 use Rattle.docc_prepare.proofs.EachRead.{each-inserted}
 use Rattle.session_core.proofs.Attempts.{least-below, may-validate, validate-here, few-here}
@@ -140,32 +143,73 @@ maybe-holds : (k l : Known) (o : Option Attempt) (c : Call) (answer : Answer) �
 maybe-holds k l None c answer event keeps h = tt
 maybe-holds k l (Some a) c answer event keeps h = holds-on k l a c answer event keeps h
 
--- a session goes on after a call that adds none of its commits
+-- a session goes on after a call that adds none of its commits, where its watches do
 pub attends-on : (k l : Known) (s : Session) (c : Call) (answer : Answer) → IsAnswered k c answer l → SameOwn k c answer → KeepsGiven k l
-    → Attends k s → Attends l s
-attends-on k l s c answer event same keeps h = record {
+    → WatchesAttend l s.watching → Attends k s → Attends l s
+attends-on k l s c answer event same keeps watches h = record {
   on = h.on;
   shards = subst (λ (n : ℕ). (LEAST_SHARDS ≤ n) × (n ≤ MOST_SHARDS)) (sym event.client.shards) h.shards;
   client = h.client ∙ sym event.client.client;
   begun = let b = h.begun in let up = event.goes_on.seen in omega arith;
   counts = counts-on k l s.seq c answer event same h.counts;
   attempt = maybe-holds k l s.attempt c answer event keeps h.attempt;
+  watches = watches;
 }
 
 -- so does one without an attempt, also where the call keeps nothing that was given
-pub closed-on : (k l : Known) (s : Session) (c : Call) (answer : Answer) → IsAnswered k c answer l → SameOwn k c answer → Attends k s → Attends l (closed s)
-closed-on k l s c answer event same h = record {
+pub closed-on : (k l : Known) (s : Session) (c : Call) (answer : Answer) → IsAnswered k c answer l → SameOwn k c answer
+    → ((a : Address) → l.subscribed a ≡ k.subscribed a) → l.taken ≡ k.taken → Attends k s → Attends l (closed s)
+closed-on k l s c answer event same subscribed taken h = record {
   on = h.on;
   shards = subst (λ (n : ℕ). (LEAST_SHARDS ≤ n) × (n ≤ MOST_SHARDS)) (sym event.client.shards) h.shards;
   client = h.client ∙ sym event.client.client;
   begun = let b = h.begun in let up = event.goes_on.seen in omega arith;
   counts = counts-on k l s.seq c answer event same h.counts;
   attempt = tt;
+  watches = watches-on k l s.watching c answer event subscribed taken h.watches;
 }
 
 -- and with an attempt that holds
 pub opened-on : (l : Known) (s : Session) (a : Attempt) → Attends l s → Holds l a → Attends l (with_attempt s (Some a))
-opened-on l s a is h = record { on = is.on; shards = is.shards; client = is.client; begun = is.begun; counts = is.counts; attempt = h }
+opened-on l s a is h =
+    record { on = is.on; shards = is.shards; client = is.client; begun = is.begun; counts = is.counts; attempt = h; watches = is.watches }
+
+-- ---- without watches
+
+-- the session, of which the watches are left out
+abbrev pub unwatched : Session → Session
+unwatched s = with_watching s (none_yet s.at)
+
+-- what was seen is there
+pub seen-within : (k : Known) (s : Session) → Attends k s → IfSome k.journal (λ journal. k.seen ≤ length journal)
+seen-within k s is = by k.journal is.counts
+  where
+    by : (o : Option Journal) → IfSome o (Counts k s.seq) → IfSome o (λ journal. k.seen ≤ length journal)
+    by None c = tt
+    by (Some journal) c = c.within
+
+-- it goes on without its watches
+pub unwatched-attends : (k : Known) (s : Session) → Attends k s → Attends k (unwatched s)
+unwatched-attends k s is = record {
+  on = is.on;
+  shards = is.shards;
+  client = is.client;
+  begun = is.begun;
+  counts = is.counts;
+  attempt = is.attempt;
+  watches = none-attend k s.watching s.at is.begun (seen-within k s is) is.watches;
+}
+
+-- and with any that attend
+pub watched-attends : (l : Known) (s : Session) (w : Watching) → Attends l (unwatched s) → WatchesAttend l w → Attends l (with_watching s w)
+watched-attends l s w is watches =
+    record { on = is.on; shards = is.shards; client = is.client; begun = is.begun; counts = is.counts; attempt = is.attempt; watches = watches }
+
+-- without them it goes on after any call that adds none of its commits
+pub unwatched-on : (k l : Known) (s : Session) (c : Call) (answer : Answer) → IsAnswered k c answer l → SameOwn k c answer → KeepsGiven k l
+    → Attends k (unwatched s) → Attends l (unwatched s)
+unwatched-on k l s c answer event same keeps is =
+    attends-on k l (unwatched s) c answer event same keeps (none-on k l s.at c answer event is.begun is.watches) is
 
 -- a commit adds one
 own-more : (client : ℕ) (before : Journal) (c : Commit) → c.client ≡ client → length (own client (before ++ c ∷ [])) ≡ length (own client before) + 1
@@ -191,6 +235,7 @@ committed-on k l s ready n mine event h = record {
         within = says.within;
       }) h.counts event.told;
   attempt = tt;
+  watches = watches-on k l s.watching (Call.append ready) (Answer.number n) event event.goes_on.subscribed event.goes_on.taken h.watches;
 }
 
 -- ---- what an event makes of an attempt

@@ -1,6 +1,7 @@
 -- What follows from the replies of a line alone: what they say of the client's commits, and of what the disk denied.
 use Rattle.std.proofs.Common.{◌≡◌, ℕ, zero, suc, ◌+◌, ◌-◌, ◌≤◌, ◌<◌, Bool, true, false, cond, inl, inr, ◌⊎◌, List, [], ◌∷◌, ◌++◌, append_assoc, length, Option, Some, None, refl, sym, ap, ◌∙◌, subst, arith}
 use Rattle.std.specs.Prelude.{nat_lt, ◌==◌, slice_get}
+use Rattle.std.specs.List.{AllByRecursion}
 use Rattle.std.proofs.lemmas.Bool.Decides.{nat_tests}
 use Rattle.std.proofs.lemmas.List.{append-nil}
 use Rattle.std.proofs.lemmas.List.Elements.{filter-append}
@@ -31,11 +32,20 @@ use Rattle.docc_prepare.specs.Calls.Answer.{number, snap, prepared, value, late,
 use Rattle.session_core.specs.declared.line.Line.{Line}
 use Rattle.session_core.specs.declared.line.Line.TheVariants as asked
 use Rattle.session_core.specs.declared.session.Session.{Session}
-use Rattle.session_core.specs.Phases.{Phase, with_attempt, said, stepped, after_end, gone, look_by, look_on, look_from, event_call, call_of, moved_at, asks, after, start}
+use Rattle.client_watches.specs.declared.watching.Watching.{Watching}
+use Rattle.client_watches.specs.Phases.{Phase as WatchPhase, start_sync, start_watch, start_unwatch}
+use Rattle.client_watches.specs.Phases as watches
+use Rattle.client_watches.specs.Leading.{Leads as WatchLeads}
+use Rattle.client_watches.specs.GoingOn.{WatchLine, IsOnItsWay}
+use Rattle.client_watches.specs.Saying.{IsOfWatches}
+use Rattle.client_watches.proofs.Saying.{replies_are_seen}
+use Rattle.session_core.specs.declared.turn.Turn.TheVariants as turn
+use Rattle.session_core.specs.Phases.{Phase, with_attempt, of_watches, said, stepped, after_end, gone, look_by, look_on, look_from, event_call, call_of, moved_at, asks, after, start}
 use Rattle.session_core.specs.Leading.{Leads}
 use Rattle.session_core.specs.Explained.{replies_in}
 use Rattle.session_core.specs.Sessions.{as_list, committed_by, OwnsAnswered, OwnsOneAtMost, denied_by, denied_by_all}
-use Rattle.session_core.proofs.Phases.{PhaseHolds, phase-kept}
+use Rattle.session_core.specs.Holding.{BodyIsReady, Attends}
+use Rattle.session_core.proofs.Phases.{PhaseHolds, watching-on, phase-begins, phase-kept}
 use Rattle.session_core.proofs.Grown.{prefix-whole, prefix-again, commit-stays}
 
 -- ---- what holds of the replies that are said so far
@@ -45,6 +55,24 @@ abbrev pub is_plain : Reply → Bool
 is_plain (reply.Commit n outcome) = false
 is_plain reply.Disk = false
 is_plain r = true
+
+abbrev pub ArePlain : List Reply → Type 0
+ArePlain replies = AllByRecursion (λ r. is_plain r ≡ true) replies
+
+-- where a line of watches is over, its replies are plain
+abbrev pub SaysPlain : WatchPhase → Type 0
+SaysPlain p = (w : Watching) (replies : List Reply) → p ≡ WatchPhase.over w replies → ArePlain replies
+
+-- what an answer makes of it
+abbrev pub AnswersPlain : Phase → Answer → Type 0
+AnswersPlain (Phase.watching s p) answer = SaysPlain (watches.after p answer)
+AnswersPlain q answer = Unit {0}
+
+-- how it begins
+abbrev pub BeginsPlain : Session → Line → Type 0
+BeginsPlain s (asked.Watch name body) = SaysPlain (start_watch s.watching name body)
+BeginsPlain s (asked.Unwatch name) = SaysPlain (start_unwatch s.watching name)
+BeginsPlain s l = Unit {0}
 
 module _ (P : List Reply → Type 0) where
   abbrev pub PhaseSays : Phase → Type 0
@@ -57,7 +85,19 @@ module _ (P : List Reply → Type 0) where
   Says (append ready) disk = P (reply.Disk ∷ [])
   Says c answer = P []
 
-  module _ (plain : (r : Reply) → is_plain r ≡ true → P [] → P (r ∷ [])) where
+  module _ (plains : (replies : List Reply) → ArePlain replies → P [] → P replies) where
+    plain : (r : Reply) → is_plain r ≡ true → P [] → P (r ∷ [])
+    plain r is h = plains (r ∷ []) (is, tt) h
+
+    -- a line of watches, whatever phase it has come to
+    of-says : (s : Session) (p : WatchPhase) → SaysPlain p → P [] → PhaseSays (of_watches s p)
+    of-says s (WatchPhase.over w replies) says h = plains replies (says w replies refl) h
+    of-says s (WatchPhase.broken by_fault) says h = h
+    of-says s (WatchPhase.taking goal w) says h = h
+    of-says s (WatchPhase.reading job w replies address) says h = h
+    of-says s (WatchPhase.keeping job w replies address item) says h = h
+    of-says s (WatchPhase.dropping next w replies address rest) says h = h
+
     stepped-says : (s : Session) (a : Attempt) (e : Next) (answer : Answer) → Says (event_call s a e) answer
         → PhaseSays (stepped s (is_fault answer) (moved_at a e answer))
     stepped-says s a (next.Read address) (snap v) h = plain (reply.Read address v.base) refl h
@@ -106,57 +146,83 @@ module _ (P : List Reply → Type 0) where
         by true = plain (reply.Ahead n seen) refl h
         by false = look-says s n body [] (exec body.body (values_of [])) h
 
+    -- no call of watches says anything
+    watch-says : (p : WatchPhase) (call : Call) (answer : Answer) → watches.asks p ≡ Some call → Says call answer → P []
+    watch-says (WatchPhase.taking goal w) call answer e h = let is : Call.take ≡ call = cc in subst (λ (c : Call). Says c answer) (sym is) h
+    watch-says (WatchPhase.reading job w replies address) call answer e h =
+        let is : read_at address w.cache.at ≡ call = cc in subst (λ (c : Call). Says c answer) (sym is) h
+    watch-says (WatchPhase.keeping job w replies address item) call answer e h =
+        let is : Call.subscribe address ≡ call = cc in subst (λ (c : Call). Says c answer) (sym is) h
+    watch-says (WatchPhase.dropping next w replies address rest) call answer e h =
+        let is : Call.unsubscribe address ≡ call = cc in subst (λ (c : Call). Says c answer) (sym is) h
+    watch-says (WatchPhase.over w replies) call answer e h = absurd (cc)
+    watch-says (WatchPhase.broken by_fault) call answer e h = absurd (cc)
+
     -- each step
-    pub says-on : (q : Phase) (call : Call) (answer : Answer) → asks q ≡ Some call → Says call answer → PhaseSays (after q answer)
-    says-on (Phase.stepping s a) call answer e h = let is : call_of s a ≡ call = cc in stepped-says s a (next_event a) answer
+    pub says-on : (q : Phase) (call : Call) (answer : Answer) → asks q ≡ Some call → AnswersPlain q answer → Says call answer → PhaseSays (after q answer)
+    says-on (Phase.stepping s a) call answer e quiet h = let is : call_of s a ≡ call = cc in stepped-says s a (next_event a) answer
         (subst (λ (c : Call). Says c answer) (sym is) h)
-    says-on (Phase.going s left a) call answer e h = let is : call_of s a ≡ call = cc in gone-says s left a (next_event a) answer
+    says-on (Phase.going s left a) call answer e quiet h = let is : call_of s a ≡ call = cc in gone-says s left a (next_event a) answer
         (subst (λ (c : Call). Says c answer) (sym is) h)
-    says-on (Phase.beginning s a) call answer e h = let is : refresh ≡ call = cc in begun answer (subst (λ (c : Call). Says c answer) (sym is) h)
+    says-on (Phase.beginning s a) call answer e quiet h = let is : refresh ≡ call = cc in begun answer (subst (λ (c : Call). Says c answer) (sym is) h)
       where
         begun : (answer : Answer) → Says refresh answer → PhaseSays (after (Phase.beginning s a) answer)
         begun (number n) h = plain (reply.Seen n) refl h
         begun answer h = h
-    says-on (Phase.trying s left a) call answer e h = let is : refresh ≡ call = cc in tried answer (subst (λ (c : Call). Says c answer) (sym is) h)
+    says-on (Phase.trying s left a) call answer e quiet h = let is : refresh ≡ call = cc in tried answer (subst (λ (c : Call). Says c answer) (sym is) h)
       where
         tried : (answer : Answer) → Says refresh answer → PhaseSays (after (Phase.trying s left a) answer)
         tried (number n) h = h
         tried answer h = h
-    says-on (Phase.looking s upto body) call answer e h = let is : refresh ≡ call = cc in looked answer
+    says-on (Phase.looking s upto body) call answer e quiet h = let is : refresh ≡ call = cc in looked answer
         (subst (λ (c : Call). Says c answer) (sym is) h)
       where
         looked : (answer : Answer) → Says refresh answer → PhaseSays (after (Phase.looking s upto body) answer)
         looked (number n) h = from-says s n upto body h
         looked answer h = h
-    says-on (Phase.looked s n body snaps address) call answer e h = let is : read_at address n ≡ call = cc in looked answer
+    says-on (Phase.looked s n body snaps address) call answer e quiet h = let is : read_at address n ≡ call = cc in looked answer
         (subst (λ (c : Call). Says c answer) (sym is) h)
       where
         looked : (answer : Answer) → Says (read_at address n) answer → PhaseSays (after (Phase.looked s n body snaps address) answer)
         looked (value v) h = look-says s n body _ (exec body.body (values_of _)) h
         looked (late m horizon) h = plain (reply.Late m horizon) refl h
         looked answer h = h
-    says-on (Phase.over s t) call answer e h = absurd (cc)
-    says-on (Phase.broken f) call answer e h = absurd (cc)
+    says-on (Phase.awaiting s seen) call answer e quiet h = let is : refresh ≡ call = cc in awaited answer
+        (subst (λ (c : Call). Says c answer) (sym is) h)
+      where
+        awaited : (answer : Answer) → Says refresh answer → PhaseSays (after (Phase.awaiting s seen) answer)
+        awaited (number n) h = by (nat_lt seen n)
+          where
+            by : (x : Bool) → PhaseSays (cond x (of_watches s (start_sync s.watching)) (Phase.over s turn.WaitWanted))
+            by true = h
+            by false = h
+        awaited answer h = h
+    says-on (Phase.watching s p) call answer e quiet h = of-says s (watches.after p answer) quiet (watch-says p call answer e h)
+    says-on (Phase.over s t) call answer e quiet h = absurd (cc)
+    says-on (Phase.broken f) call answer e quiet h = absurd (cc)
 
     -- the first phase of a line
-    pub start-says : (shards seen : ℕ) (s : Session) (o : Option Attempt) (l : Line) → P [] → PhaseSays (start shards seen (with_attempt s o) l)
-    start-says shards seen s o asked.Quiet h = h
-    start-says shards seen s o asked.Unbuilt h = h
-    start-says shards seen s o (asked.Refused reason) h = plain (reply.Refused reason) refl h
-    start-says shards seen s None (asked.Begin body) h = h
-    start-says shards seen s (Some a) (asked.Begin body) h = plain (reply.Refused why.Busy) refl h
-    start-says shards seen s None (asked.Try tries body) h = h
-    start-says shards seen s (Some a) (asked.Try tries body) h = plain (reply.Refused why.Busy) refl h
-    start-says shards seen s None asked.Step h = plain (reply.Refused why.NoAttempt) refl h
-    start-says shards seen s (Some a) asked.Step h = h
-    start-says shards seen s None asked.Go h = plain (reply.Refused why.NoAttempt) refl h
-    start-says shards seen s (Some a) asked.Go h = h
-    start-says shards seen s None asked.Drop h = plain (reply.Refused why.NoAttempt) refl h
-    start-says shards seen s (Some a) asked.Drop h = plain reply.Dropped refl h
-    start-says shards seen s o (asked.Look body) h = h
-    start-says shards seen s o (asked.At n body) h = h
-    start-says shards seen s o asked.Seen h = plain (reply.Seen seen) refl h
-    start-says shards seen s o asked.Quit h = plain reply.Dropped refl h
+    pub start-says : (shards seen : ℕ) (s : Session) (o : Option Attempt) (l : Line) → BeginsPlain s l → P [] → PhaseSays (start shards seen (with_attempt s o) l)
+    start-says shards seen s o asked.Quiet quiet h = h
+    start-says shards seen s o (asked.Refused reason) quiet h = plain (reply.Refused reason) refl h
+    start-says shards seen s None (asked.Begin body) quiet h = h
+    start-says shards seen s (Some a) (asked.Begin body) quiet h = plain (reply.Refused why.Busy) refl h
+    start-says shards seen s None (asked.Try tries body) quiet h = h
+    start-says shards seen s (Some a) (asked.Try tries body) quiet h = plain (reply.Refused why.Busy) refl h
+    start-says shards seen s None asked.Step quiet h = plain (reply.Refused why.NoAttempt) refl h
+    start-says shards seen s (Some a) asked.Step quiet h = h
+    start-says shards seen s None asked.Go quiet h = plain (reply.Refused why.NoAttempt) refl h
+    start-says shards seen s (Some a) asked.Go quiet h = h
+    start-says shards seen s None asked.Drop quiet h = plain (reply.Refused why.NoAttempt) refl h
+    start-says shards seen s (Some a) asked.Drop quiet h = plain reply.Dropped refl h
+    start-says shards seen s o (asked.Look body) quiet h = h
+    start-says shards seen s o (asked.At n body) quiet h = h
+    start-says shards seen s o (asked.Watch name body) quiet h = of-says (with_attempt s o) (start_watch s.watching name body) quiet h
+    start-says shards seen s o (asked.Unwatch name) quiet h = of-says (with_attempt s o) (start_unwatch s.watching name) quiet h
+    start-says shards seen s o asked.Sync quiet h = h
+    start-says shards seen s o asked.Wait quiet h = h
+    start-says shards seen s o asked.Seen quiet h = plain (reply.Seen seen) refl h
+    start-says shards seen s o asked.Quit quiet h = plain reply.Dropped refl h
 
   -- a phase that asks has said nothing
   pub asked-says : (q : Phase) (call : Call) → asks q ≡ Some call → PhaseSays q → P []
@@ -190,34 +256,41 @@ AreThere journal [] = Unit {0}
 AreThere journal (reply.Commit n outcome ∷ rest) = ((c : Commit) × (commit_at journal n ≡ Some c)) × AreThere journal rest
 AreThere journal (r ∷ rest) = AreThere journal rest
 
--- the client's commits are those before and the ones that were said, which are there, and one reply at most was said
+-- the client's commits are those before and the ones that were said, which are there, and one at most
 pub record HasOwn (client : ℕ) (old new : Journal) (replies : List Reply) : Type 0 where
   pub grows : IsPrefix old new
   pub own_is : OwnsAnswered client replies old new
   pub there : AreThere new replies
-  pub few : length replies ≤ 1
+  pub few : length (committed_by new replies) ≤ 1
 
 -- nothing was done yet
 pub own-nothing : (client : ℕ) (journal : Journal) → HasOwn client journal journal []
 own-nothing client journal = record { grows = prefix-whole journal; own_is = sym (append-nil (own client journal)); there = tt; few = omega arith }
 
--- a plain reply names no commit
-own-plain : (client : ℕ) (old new : Journal) (r : Reply) → is_plain r ≡ true → HasOwn client old new [] → HasOwn client old new (r ∷ [])
-own-plain client old new r is h = record {
-  grows = h.grows;
-  own_is = h.own_is ∙ ap (λ all. own client old ++ all)
-      (named r is);
-  there = there r is;
-  few = omega arith;
-}
+-- plain replies name no commit
+none-named : (journal : Journal) (replies : List Reply) → ArePlain replies → committed_by journal replies ≡ []
+none-named journal [] all = refl
+none-named journal (r ∷ replies) all = one r all.0 ∙ none-named journal replies all.1
   where
-    named : (r : Reply) → is_plain r ≡ true → [] ≡ committed_by new (r ∷ [])
-    named (reply.Commit n outcome) is = absurd (cc)
-    named r is = refl
+    one : (r : Reply) → is_plain r ≡ true → committed_by journal (r ∷ replies) ≡ committed_by journal replies
+    one (reply.Commit n outcome) is = absurd (cc)
+    one r is = refl
 
-    there : (r : Reply) → is_plain r ≡ true → AreThere new (r ∷ [])
-    there (reply.Commit n outcome) is = absurd (cc)
-    there r is = tt
+none-there : (journal : Journal) (replies : List Reply) → ArePlain replies → AreThere journal replies
+none-there journal [] all = tt
+none-there journal (r ∷ replies) all = one r all.0 (none-there journal replies all.1)
+  where
+    one : (r : Reply) → is_plain r ≡ true → AreThere journal replies → AreThere journal (r ∷ replies)
+    one (reply.Commit n outcome) is rest = absurd (cc)
+    one r is rest = rest
+
+own-plains : (client : ℕ) (old new : Journal) (replies : List Reply) → ArePlain replies → HasOwn client old new [] → HasOwn client old new replies
+own-plains client old new replies all h = let none = none-named new replies all in record {
+  grows = h.grows;
+  own_is = h.own_is ∙ ap (λ named. own client old ++ named) (sym none);
+  there = none-there new replies all;
+  few = let same = ap length none in omega arith;
+}
 
 -- the commit that was made is the last, at the number that is answered
 own-committed : (client n : ℕ) (first old before new : Journal) (c : Commit) (outcome : Outcome) → HasOwn client first old [] → IsPrefix first new
@@ -231,7 +304,7 @@ own-committed client n first old before new c outcome h grows same is added mine
       own_is = ap (own client) added ∙ (own-last client before c mine ∙
           (ap (λ (j : Journal). j ++ c ∷ []) so_far ∙ ap (λ o. own client first ++ (as_list o ++ [])) (sym named)));
       there = ((c, named), tt);
-      few = omega arith;
+      few = let one = ap (λ o. length (as_list o ++ [])) named in omega arith;
     }
 
 module _ (k l : Known) (first old new : Journal) (h : HasOwn k.client first old []) where
@@ -257,6 +330,15 @@ event-own k s a (next.Prepare shard run) ready is mine = absurd (cc)
 event-own k s a (next.Append run) ready is mine =
     let same : ready_of a run s.client s.seq ≡ ready = cc in ap (λ (r : Ready). r.client) (sym same) ∙ mine
 
+-- watches append nothing
+no-append : (p : WatchPhase) (ready : Ready) → watches.asks p ≡ Some (append ready) → ⊥
+no-append (WatchPhase.taking goal w) ready e = absurd (cc)
+no-append (WatchPhase.reading job w replies address) ready e = absurd (cc)
+no-append (WatchPhase.keeping job w replies address item) ready e = absurd (cc)
+no-append (WatchPhase.dropping next w replies address rest) ready e = absurd (cc)
+no-append (WatchPhase.over w replies) ready e = absurd (cc)
+no-append (WatchPhase.broken by_fault) ready e = absurd (cc)
+
 -- what is appended is the client's
 asks-own : (k : Known) (q : Phase) (call : Call) → PhaseHolds k q → asks q ≡ Some call → (ready : Ready) → call ≡ append ready
     → ready.client ≡ k.client
@@ -268,6 +350,8 @@ asks-own k (Phase.trying s left a) call h e ready is = absurd (let no : refresh 
 asks-own k (Phase.looking s upto body) call h e ready is = absurd (let no : refresh ≡ call = cc in let n : refresh ≡ append ready = no ∙ is in cc)
 asks-own k (Phase.looked s m body snaps address) call h e ready is = absurd
     (let no : read_at address m ≡ call = cc in let n : read_at address m ≡ append ready = no ∙ is in cc)
+asks-own k (Phase.awaiting s seen) call h e ready is = absurd (let no : refresh ≡ call = cc in let n : refresh ≡ append ready = no ∙ is in cc)
+asks-own k (Phase.watching s p) call h e ready is = absurd (no-append p ready (e ∙ ap (λ c. Some c) is))
 asks-own k (Phase.over s t) call h e ready is = absurd (cc)
 asks-own k (Phase.broken f) call h e ready is = absurd (cc)
 
@@ -275,28 +359,34 @@ asks-own k (Phase.broken f) call h e ready is = absurd (cc)
 
 pub record HasDenied (old new : ℕ) (replies : List Reply) : Type 0 where
   pub denied : new ≡ denied_by_all old replies
-  pub few : length replies ≤ 1
+  pub one : (new ≡ old) ⊎ (new ≡ one_more old)
 
--- a plain reply is no denial
-denied-plain : (old new : ℕ) (r : Reply) → is_plain r ≡ true → HasDenied old new [] → HasDenied old new (r ∷ [])
-denied-plain old new r is h = record { denied = h.denied ∙ by r is; few = omega arith }
+-- plain replies are no denials
+none-denied : (count : ℕ) (replies : List Reply) → ArePlain replies → denied_by_all count replies ≡ count
+none-denied count [] all = refl
+none-denied count (r ∷ replies) all = ap (λ (n : ℕ). denied_by_all n replies) (by r all.0) ∙ none-denied count replies all.1
   where
-    by : (r : Reply) → is_plain r ≡ true → old ≡ denied_by old r
+    by : (r : Reply) → is_plain r ≡ true → denied_by count r ≡ count
     by reply.Disk is = absurd (cc)
     by r is = refl
+
+denied-plains : (old new : ℕ) (replies : List Reply) → ArePlain replies → HasDenied old new [] → HasDenied old new replies
+denied-plains old new replies all h = record { denied = h.denied ∙ sym (none-denied old replies all); one = h.one }
 
 -- only an append that the disk denied is counted
 denied-says : (k l : Known) (first : ℕ) (call : Call) (answer : Answer) → k.denied ≡ first → IsAnswered k call answer l
     → Says (HasDenied first l.denied) call answer
-denied-says k l first (append ready) disk h event = record { denied = event.goes_on.denied ∙ ap one_more h; few = omega arith }
-denied-says k l first (append ready) (number n) h event = λ outcome. record { denied = event.goes_on.denied ∙ h; few = omega arith }
-denied-says k l first call answer h event = record { denied = event.goes_on.denied ∙ h; few = omega arith }
+denied-says k l first (append ready) disk h event =
+    let is = event.goes_on.denied ∙ ap one_more h in record { denied = is; one = inr is }
+denied-says k l first (append ready) (number n) h event = λ outcome.
+    let is = event.goes_on.denied ∙ h in record { denied = is; one = inl is }
+denied-says k l first call answer h event = let is = event.goes_on.denied ∙ h in record { denied = is; one = inl is }
 
 -- ---- the denials that are known of
 
 pub record HasKnown (old new : ℕ) (replies : List Reply) : Type 0 where
   pub known : denied_by_all old replies ≤ new
-  pub few : length replies ≤ 1
+  pub up : old ≤ new
 
 -- one more is one more at most
 one-more-few : (n : ℕ) → one_more n ≤ n + 1
@@ -319,21 +409,79 @@ rose-more : (first old new : ℕ) → first ≤ old → Rose old new → one_mor
 rose-more first old new up (inl more) = let few = one-more-few first in omega arith
 rose-more first old new up (inr last) = let was = last.0 in let is = last.1 in let few = one-more-last first (omega arith) in omega arith
 
--- a plain reply is no denial
-known-plain : (old new : ℕ) (r : Reply) → is_plain r ≡ true → HasKnown old new [] → HasKnown old new (r ∷ [])
-known-plain old new r is h = record { known = subst (λ (n : ℕ). n ≤ new) (by r is) h.known; few = omega arith }
+-- plain replies are no denials
+known-plains : (old new : ℕ) (replies : List Reply) → ArePlain replies → HasKnown old new [] → HasKnown old new replies
+known-plains old new replies all h = record { known = subst (λ (n : ℕ). n ≤ new) (sym (none-denied old replies all)) h.known; up = h.up }
+
+-- one more is no less
+one-more-up : (n : ℕ) → n ≤ one_more n
+one-more-up n = by (n == last_count) refl
   where
-    by : (r : Reply) → is_plain r ≡ true → old ≡ denied_by old r
-    by reply.Disk is = absurd (cc)
-    by r is = refl
+    by : (x : Bool) → (n == last_count) ≡ x → n ≤ cond x last_count (n + 1)
+    by true e = let same : n ≡ last_count = grind (arith, nat_tests) in omega arith
+    by false e = omega arith
 
 -- a denied append is one of the denials that are known then, and no call takes one away
 known-says : (k l : Known) (first : ℕ) (call : Call) (answer : Answer) → first ≤ k.denials → IsAnswered k call answer l
     → Says (HasKnown first l.denials) call answer
-known-says k l first (append ready) disk h event = record { known = rose-more first k.denials l.denials h event.goes_on.denials; few = omega arith }
+known-says k l first (append ready) disk h event =
+    let rose = rose-more first k.denials l.denials h event.goes_on.denials in let up = one-more-up first in record { known = rose; up = omega arith }
 known-says k l first (append ready) (number n)
-    h event = λ outcome. record { known = let up = event.goes_on.denials in omega arith; few = omega arith }
-known-says k l first call answer h event = record { known = let up = event.goes_on.denials in omega arith; few = omega arith }
+    h event = λ outcome. let up = event.goes_on.denials in record { known = omega arith; up = omega arith }
+known-says k l first call answer h event = let up = event.goes_on.denials in record { known = omega arith; up = omega arith }
+
+-- ---- what lines of watches say
+
+-- a reply of watches is plain
+watch-plain : (most : ℕ) (replies : List Reply) → AllByRecursion (IsOfWatches most) replies → ArePlain replies
+watch-plain most [] all = tt
+watch-plain most (r ∷ replies) all = (one r all.0, watch-plain most replies all.1)
+  where
+    one : (r : Reply) → IsOfWatches most r → is_plain r ≡ true
+    one (reply.Commit n outcome) is = absurd is
+    one reply.Disk is = absurd is
+    one r is = refl
+
+-- on its way
+way-plain : (k l : Known) (w : Watching) (line : WatchLine) (p : WatchPhase) → IsOnItsWay k w line l p → SaysPlain p
+way-plain k l w line p way v said e = watch-plain l.seen said (replies_are_seen k w line l v said (subst (IsOnItsWay k w line l) e way))
+
+-- and where it answers
+answers-plain : (c m : Known) (q : Phase) (call : Call) (answer : Answer) → PhaseHolds c q → asks q ≡ Some call → IsAnswered c call answer m
+    → AnswersPlain q answer
+answers-plain c m (Phase.watching s p) call answer h asked step =
+    let on = watching-on c m s p call answer asked step h in way-plain on.start m s.watching on.line (watches.after p answer) on.way
+answers-plain c m (Phase.awaiting s seen) call answer h asked step = tt
+answers-plain c m (Phase.beginning s a) call answer h asked step = tt
+answers-plain c m (Phase.stepping s a) call answer h asked step = tt
+answers-plain c m (Phase.trying s left a) call answer h asked step = tt
+answers-plain c m (Phase.going s left a) call answer h asked step = tt
+answers-plain c m (Phase.looking s upto body) call answer h asked step = tt
+answers-plain c m (Phase.looked s n body snaps address) call answer h asked step = tt
+answers-plain c m (Phase.over s t) call answer h asked step = tt
+answers-plain c m (Phase.broken by_fault) call answer h asked step = tt
+
+-- and where it begins
+begins-plain : (k : Known) (s : Session) (l : Line) → Attends k s → BeginsPlain s l
+begins-plain k s (asked.Watch name body) is =
+    way-plain k k s.watching (WatchLine.watch name body) (start_watch s.watching name body)
+    (record { keeps = is.watches.keeps; calls = 0; leads = WatchLeads.stays })
+begins-plain k s (asked.Unwatch name) is =
+    way-plain k k s.watching (WatchLine.unwatch name) (start_unwatch s.watching name)
+    (record { keeps = is.watches.keeps; calls = 0; leads = WatchLeads.stays })
+begins-plain k s asked.Quiet is = tt
+begins-plain k s (asked.Refused reason) is = tt
+begins-plain k s (asked.Begin body) is = tt
+begins-plain k s asked.Step is = tt
+begins-plain k s asked.Go is = tt
+begins-plain k s (asked.Try tries body) is = tt
+begins-plain k s asked.Drop is = tt
+begins-plain k s (asked.Look body) is = tt
+begins-plain k s (asked.At n body) is = tt
+begins-plain k s asked.Sync is = tt
+begins-plain k s asked.Wait is = tt
+begins-plain k s asked.Seen is = tt
+begins-plain k s asked.Quit is = tt
 
 -- ---- whole ways
 
@@ -343,6 +491,11 @@ module _ (k : Known) (p : Phase) (holds : PhaseHolds k p) where
   kept-along n m q Leads.stays = holds
   kept-along i m r (Leads.by_step {n = n} {c = c} {q = q} call answer led asked step is) = subst (PhaseHolds m) is
       (phase-kept c m q call answer (kept-along n c q led) asked step)
+
+  -- what a line of watches says is plain
+  plain-along : (n : ℕ) (c : Known) (q : Phase) → Leads IsAnswered k p n c q → (call : Call) (answer : Answer) (m : Known) → asks q ≡ Some call
+      → IsAnswered c call answer m → AnswersPlain q answer
+  plain-along n c q led call answer m asked step = answers-plain c m q call answer (kept-along n c q led) asked step
 
   -- it is one client of one store
   pub same-along : (n : ℕ) (m : Known) (q : Phase) → Leads IsAnswered k p n m q → IsSameClient k m
@@ -366,7 +519,7 @@ module _ (k : Known) (p : Phase) (holds : PhaseHolds k p) where
         (HasOwn k.client old new) r} k.journal c.journal m.journal
         (λ old mid new before says. subst (PhaseSays (HasOwn k.client old new)) is
         (subst (λ (x : ℕ). PhaseSays (HasOwn x old new) (after q answer)) client
-        (says-on (HasOwn c.client old new) (own-plain c.client old new) q call answer asked
+        (says-on (HasOwn c.client old new) (own-plains c.client old new) q call answer asked (plain-along n c q led call answer m asked step)
         (own-says c m old mid new (subst (λ (x : ℕ). HasOwn x old mid []) (sym client) (asked-says (HasOwn k.client old mid) q call asked before))
         call answer
         (asks-own c q call (kept-along n c q led) asked) says))))
@@ -376,96 +529,63 @@ module _ (k : Known) (p : Phase) (holds : PhaseHolds k p) where
     pub denied-along : (n : ℕ) (m : Known) (q : Phase) → Leads IsAnswered k p n m q → PhaseSays (HasDenied k.denied m.denied) q
     denied-along n m q Leads.stays = first
     denied-along i m r (Leads.by_step {n = n} {c = c} {q = q} call answer led asked step is) =
-        subst (PhaseSays (HasDenied k.denied m.denied)) is (says-on (HasDenied k.denied m.denied) (denied-plain k.denied m.denied) q call answer asked
+        subst (PhaseSays (HasDenied k.denied m.denied)) is (says-on (HasDenied k.denied m.denied) (denied-plains k.denied m.denied) q call answer asked
+        (plain-along n c q led call answer m asked step)
         (denied-says c m k.denied call answer (asked-says (HasDenied k.denied c.denied) q call asked (denied-along n c q led)).denied step))
 
   module _ (first : PhaseSays (HasKnown k.denials k.denials) p) where
     pub known-along : (n : ℕ) (m : Known) (q : Phase) → Leads IsAnswered k p n m q → PhaseSays (HasKnown k.denials m.denials) q
     known-along n m q Leads.stays = first
     known-along i m r (Leads.by_step {n = n} {c = c} {q = q} call answer led asked step is) =
-        subst (PhaseSays (HasKnown k.denials m.denials)) is (says-on (HasKnown k.denials m.denials) (known-plain k.denials m.denials)
-        q call answer asked
+        subst (PhaseSays (HasKnown k.denials m.denials)) is (says-on (HasKnown k.denials m.denials) (known-plains k.denials m.denials)
+        q call answer asked (plain-along n c q led call answer m asked step)
         (known-says c m k.denials call answer (asked-says (HasKnown k.denials c.denials) q call asked (known-along n c q led)).known step))
 
 -- ---- a line
 
-module _ (k : Known) (s : Session) (l : Line) (holds : PhaseHolds k (start k.shards k.seen s l)) (n : ℕ) (m : Known) (q : Phase)
+module _ (k : Known) (s : Session) (l : Line) (is : Attends k s) (ready : BodyIsReady l) (n : ℕ) (m : Known) (q : Phase)
     (led : Leads IsAnswered k (start k.shards k.seen s l) n m q) where
+  holds : PhaseHolds k (start k.shards k.seen s l)
+  holds = phase-begins k s l is ready
+
   -- from nothing said, step by step
   pub line-owns : WhereTold (λ old new. PhaseSays (HasOwn k.client old new) q) k.journal m.journal
   line-owns = own-along k (start k.shards k.seen s l) holds
-      (λ journal. start-says (HasOwn k.client journal journal) (own-plain k.client journal journal) k.shards k.seen s s.attempt l
-      (own-nothing k.client journal)) n m q led
+      (λ journal. start-says (HasOwn k.client journal journal) (own-plains k.client journal journal) k.shards k.seen s s.attempt l
+      (begins-plain k s l is) (own-nothing k.client journal)) n m q led
 
   -- the same of what the disk denied
   pub line-denies : PhaseSays (HasDenied k.denied m.denied) q
   line-denies = denied-along k (start k.shards k.seen s l) holds
-      (start-says (HasDenied k.denied k.denied) (denied-plain k.denied k.denied) k.shards k.seen s s.attempt l
-      (record { denied = refl; few = omega arith })) n m q led
+      (start-says (HasDenied k.denied k.denied) (denied-plains k.denied k.denied) k.shards k.seen s s.attempt l
+      (begins-plain k s l is) (record { denied = refl; one = inl refl })) n m q led
 
   -- and of those that are known of
   pub line-knows : PhaseSays (HasKnown k.denials m.denials) q
   line-knows = known-along k (start k.shards k.seen s l) holds
-      (start-says (HasKnown k.denials k.denials) (known-plain k.denials k.denials) k.shards k.seen s s.attempt l
-      (record { known = omega arith; few = omega arith })) n m q led
+      (start-says (HasKnown k.denials k.denials) (known-plains k.denials k.denials) k.shards k.seen s s.attempt l
+      (begins-plain k s l is) (record { known = omega arith; up = omega arith })) n m q led
 
 -- ---- where a line has failed
 
--- each reply names one commit at most
-few-named : (journal : Journal) (replies : List Reply) → length (committed_by journal replies) ≤ length replies
-few-named journal [] = omega arith
-few-named journal (reply.Commit n outcome ∷ rest) = by (commit_at journal n) (few-named journal rest)
-  where
-    by : (o : Option Commit) → length (committed_by journal rest) ≤ length rest
-        → length (as_list o ++ committed_by journal rest) ≤ length (reply.Commit n outcome ∷ rest)
-    by None h = omega arith
-    by (Some c) h = omega arith
-few-named journal (r ∷ rest) = let h = few-named journal rest in omega arith
-
--- one reply names one commit at most
+-- one commit at most was named
 one-own : (client : ℕ) (old new : Journal) (replies : List Reply) → HasOwn client old new replies → OwnsOneAtMost client old new
-one-own client old new replies h = record {
-  more = committed_by new replies;
-  few = let named = few-named new replies in let few = h.few in omega arith;
-  own_is = h.own_is;
-}
+one-own client old new replies h = record { more = committed_by new replies; few = h.few; own_is = h.own_is }
 
--- an asking phase has said nothing, and one that is over one reply at most
+-- an asking phase has said nothing
 pub phase-owns-one : (client : ℕ) (old new : Journal) (q : Phase) → PhaseSays (HasOwn client old new) q → OwnsOneAtMost client old new
 phase-owns-one client old new (Phase.over t turn) h = one-own client old new (replies_in turn) h
 phase-owns-one client old new q h = one-own client old new [] h
 
--- one reply is one denial at most
-one-denied : (old new : ℕ) (replies : List Reply) → HasDenied old new replies → (new ≡ old) ⊎ (new ≡ one_more old)
-one-denied old new [] h = inl h.denied
-one-denied old new (reply.Disk ∷ []) h = inr h.denied
-one-denied old new (r ∷ []) h = inl h.denied
-one-denied old new (r ∷ q ∷ rest) h = absurd (let few = h.few in omega arith)
-
--- the same by phases
+-- one denial at most was counted
 pub phase-denies-one : (old new : ℕ) (q : Phase) → PhaseSays (HasDenied old new) q → (new ≡ old) ⊎ (new ≡ one_more old)
-phase-denies-one old new (Phase.over t turn) h = one-denied old new (replies_in turn) h
-phase-denies-one old new q h = one-denied old new [] h
+phase-denies-one old new (Phase.over t turn) h = h.one
+phase-denies-one old new q h = h.one
 
--- one more is no less
-one-more-up : (n : ℕ) → n ≤ one_more n
-one-more-up n = by (n == last_count) refl
-  where
-    by : (x : Bool) → (n == last_count) ≡ x → n ≤ cond x last_count (n + 1)
-    by true e = let same : n ≡ last_count = grind (arith, nat_tests) in omega arith
-    by false e = omega arith
-
--- one reply is one denial at most, and takes none away
-one-known : (old new : ℕ) (replies : List Reply) → HasKnown old new replies → old ≤ new
-one-known old new [] h = h.known
-one-known old new (reply.Disk ∷ []) h = let up = one-more-up old in let k = h.known in omega arith
-one-known old new (r ∷ []) h = h.known
-one-known old new (r ∷ q ∷ rest) h = absurd (let few = h.few in omega arith)
-
--- no phase has fewer
+-- no phase knows of fewer
 pub phase-knows : (old new : ℕ) (q : Phase) → PhaseSays (HasKnown old new) q → old ≤ new
-phase-knows old new (Phase.over t turn) h = one-known old new (replies_in turn) h
-phase-knows old new q h = one-known old new [] h
+phase-knows old new (Phase.over t turn) h = h.up
+phase-knows old new q h = h.up
 
 -- of more, one more is no less
 one-more-rises : (m n : ℕ) → m ≤ n → one_more m ≤ one_more n

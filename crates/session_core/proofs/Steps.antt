@@ -30,10 +30,9 @@ use Rattle.session_core.specs.declared.turn.Turn.{Turn}
 use Rattle.session_core.specs.Errors.{error_of}
 use Rattle.session_core.specs.Phases.{Phase, with_attempt, closed, ended, afresh, event_call, call_of, moved_at, moved_by, said, stepped, is_abort}
 use Rattle.session_core.specs.Phases.{after_end, gone, look_by, look_on, look_from, asks, after}
-use Rattle.session_core.specs.Leading.{Leads, Reaches, Stops, Went, Turned, Moves, Tries, Makes, Drives, Closes, Replies, LooksAt, Valued, turn_of}
+use Rattle.session_core.specs.Leading.{Leads, Reaches, Arrives, Stops, Went, Turned, Moves, Tries, Makes, Drives, Closes, Replies, LooksAt, Valued, turn_of}
 use Rattle.session_core.specs.Holding.{Holds, Attends}
-use Rattle.session_core.proofs.Kept.{attends-on}
-use Rattle.session_core.proofs.Phases.{PhaseHolds, phase-kept}
+use Rattle.session_core.proofs.Phases.{PhaseHolds, plain-on, phase-kept}
 
 -- one step
 pub one-led : {B : Type 0} (goes : B → Call → Answer → B → Type 0) (b c : B) (p q : Phase) (call : Call) (answer : Answer) → asks p ≡ Some call
@@ -162,8 +161,12 @@ module _ {B : Type 0} (known : B → Known) (goes : B → Call → Answer → B 
   went-by b p r x c s is replies = subst (λ y. Went known goes b p y c s) (sym is) (by r replies)
     where
       by : (r : Result Reply SessionError) → Replies known goes b p r c s → Went known goes b p (turn_of r) c s
-      by (Ok reply) h = h
+      by (Ok reply) h = record { count = h.count; leads = h.leads }
       by (Err e) h = h
+
+  -- a turn without a call
+  pub turns-at-once : (b : B) (p : Phase) (t : Turn) (s : Session) → p ≡ Phase.over s t → Arrives known goes b p b (Phase.over s t)
+  turns-at-once b p t s is = record { count = 0; leads = subst (λ q. Leads (Goes known goes) b p 0 b q) is Leads.stays }
 
   -- a reply without a call
   pub at-once : (b : B) (p : Phase) (t : Turn) (s : Session) → p ≡ Phase.over s t → Reaches known goes b p MOST_CALLS b (Phase.over s t)
@@ -383,7 +386,8 @@ module _ {B : Type 0} (known : B → Known) (goes : B → Call → Answer → B 
 
   -- a refresh adds no commit of the client's, and keeps what was given
   pub look-attends : (b c : B) (s : Session) (n : ℕ) → Attends (known b) s → Goes known goes b refresh (Answer.number n) c → Attends (known c) s
-  look-attends b c s n is step = attends-on (known b) (known c) s refresh (Answer.number n) step.answered (λ old new own. own) step.answered.keeps is
+  look-attends b c s n is step = plain-on (known b) (known c) s refresh (Answer.number n) step.answered (λ old new own. own) step.answered.keeps
+      step.answered.goes_on.subscribed step.answered.goes_on.taken is
 
   -- a look, by the prefix on which it runs
   pub looked-from : (b : B) (s : Session) (upto : Option ℕ) (body : Checked) (seen m : ℕ) (c d : B) (result : Result Reply SessionError)

@@ -16,8 +16,13 @@ use Rattle.docc_prepare.specs.Backends.{IsAnswered, Shows}
 use Rattle.session_core.specs.declared.session.Session.{Session}
 use Rattle.session_core.specs.declared.moved.Moved.{Moved}
 use Rattle.session_core.specs.declared.moved.Moved.TheVariants as moved
-use Rattle.session_core.specs.Phases.{Phase, event_call, call_of, moved_at, moved_by, said, stepped, after_end, gone, look_by, look_on, look_from, asks, after}
-use Rattle.session_core.specs.GoingOn.{has_failed, is_broken, FailuresAloneBreak}
+use Rattle.session_core.specs.Phases.{Phase, of_watches, event_call, call_of, moved_at, moved_by, said, stepped, after_end, gone, look_by, look_on, look_from, asks, after}
+use Rattle.client_watches.specs.GoingOn.{has_failed, is_broken as broken_watch}
+use Rattle.client_watches.specs.Phases.{Phase as WatchPhase, start_sync}
+use Rattle.client_watches.specs.Phases as watches
+use Rattle.client_watches.proofs.Unbroken.{shown-unbroken as watch-unbroken}
+use Rattle.session_core.specs.declared.turn.Turn.TheVariants as turn
+use Rattle.session_core.specs.GoingOn.{is_broken, FailuresAloneBreak}
 
 -- An answer to an attempt's event makes something of the attempt, unless the call has failed.
 event-moves : (k l : Known) (s : Session) (a : Attempt) (n : Next) (answer : Answer) → Shows k l (event_call s a n) answer → has_failed answer ≡ false
@@ -66,6 +71,15 @@ look-unbroken s seen (Some n) body = by (nat_lt seen n)
     by true = refl
     by false = run-unbroken s n body [] (exec body.body (values_of []))
 
+-- a line of watches is broken in the session where it is
+pub of-unbroken : (s : Session) (p : WatchPhase) → broken_watch p ≡ false → is_broken (of_watches s p) ≡ false
+of-unbroken s (WatchPhase.over w replies) e = refl
+of-unbroken s (WatchPhase.broken f) e = absurd (cc)
+of-unbroken s (WatchPhase.taking goal w) e = refl
+of-unbroken s (WatchPhase.reading job w replies address) e = refl
+of-unbroken s (WatchPhase.keeping job w replies address item) e = refl
+of-unbroken s (WatchPhase.dropping next w replies address rest) e = refl
+
 -- by phase and answer: what the clause of every call allows is what the phase goes on with
 shown-unbroken : (k l : Known) (q : Phase) (call : Call) (answer : Answer) → asks q ≡ Some call → Shows k l call answer → has_failed answer ≡ false
     → is_broken (after q answer) ≡ false
@@ -92,6 +106,15 @@ shown-unbroken k l (Phase.looked s n body snaps address) call (late m horizon) e
 shown-unbroken k l (Phase.looked s n body snaps address) call (Answer.failed f) e h ok = absurd (cc)
 shown-unbroken k l (Phase.looked s n body snaps address) call answer e h ok =
     absurd (subst (λ c. Shows k l c answer) (let same : call ≡ Call.read_at address n = cc in same) h)
+shown-unbroken k l (Phase.awaiting s seen) call (number n) e h ok = by (nat_lt seen n)
+  where
+    by : (b : Bool) → is_broken (cond b (of_watches s (start_sync s.watching)) (Phase.over s turn.WaitWanted)) ≡ false
+    by true = refl
+    by false = refl
+shown-unbroken k l (Phase.awaiting s seen) call (Answer.failed f) e h ok = absurd (cc)
+shown-unbroken k l (Phase.awaiting s seen) call answer e h ok =
+    absurd (subst (λ c. Shows k l c answer) (let same : call ≡ Call.refresh = cc in same) h)
+shown-unbroken k l (Phase.watching s p) call answer e h ok = of-unbroken s (watches.after p answer) (watch-unbroken k l p call answer e h ok)
 shown-unbroken k l (Phase.over s t) call answer e h ok = absurd (cc)
 shown-unbroken k l (Phase.broken f) call answer e h ok = absurd (cc)
 

@@ -12,7 +12,6 @@ use Rattle.session_core.specs.Holding.{BodyIsReady, Attends}
 use Rattle.session_core.specs.Leading.{Leads, Went}
 use Rattle.session_core.specs.Explained.{IsExplained}
 use Rattle.session_core.specs.Sessions.{OwnGrows, CountsDenied, CountsKnown, IsAccounted}
-use Rattle.session_core.proofs.Phases.{phase-begins}
 use Rattle.session_core.proofs.Said.{line-owns, line-denies, line-knows, phase-owns-one, phase-denies-one, phase-knows}
 use Rattle.session_core.proofs.Explained.{line-explained}
 
@@ -37,28 +36,28 @@ module _ {B : Type 0} (known : B → Known) (goes : B → Call → Answer → B 
     -- the client's commits, by the phase that it has come to
     pub went-owns : (r : Result Turn SessionError) → Went known goes b p r c t → OwnGrows (known b) (known c) r
     went-owns (Ok turn) went = WhereTold-map (known b).journal (known c).journal (λ old new h. h.own_is)
-        (line-owns (known b) s l (phase-begins (known b) s l is ready) went.count (known c) (Phase.over t turn)
+        (line-owns (known b) s l is ready went.count (known c) (Phase.over t turn)
         (known-led b p went.count c (Phase.over t turn) went.leads))
     went-owns (Err e) went = WhereTold-map (known b).journal (known c).journal (λ old new h. phase-owns-one (known b).client old new went.phase h)
-        (line-owns (known b) s l (phase-begins (known b) s l is ready) went.count (known c) went.phase
+        (line-owns (known b) s l is ready went.count (known c) went.phase
         (known-led b p went.count c went.phase went.leads))
 
     -- the same of what the disk denied
     pub went-denied : (r : Result Turn SessionError) → Went known goes b p r c t → CountsDenied (known b) (known c) r
     went-denied (Ok turn) went =
-        (line-denies (known b) s l (phase-begins (known b) s l is ready) went.count (known c) (Phase.over t turn)
+        (line-denies (known b) s l is ready went.count (known c) (Phase.over t turn)
         (known-led b p went.count c (Phase.over t turn) went.leads)).denied
     went-denied (Err e) went = phase-denies-one (known b).denied (known c).denied went.phase
-        (line-denies (known b) s l (phase-begins (known b) s l is ready) went.count (known c) went.phase
+        (line-denies (known b) s l is ready went.count (known c) went.phase
         (known-led b p went.count c went.phase went.leads))
 
     -- and of the denials that are known of
     pub went-known : (r : Result Turn SessionError) → Went known goes b p r c t → CountsKnown (known b) (known c) r
     went-known (Ok turn) went =
-        (line-knows (known b) s l (phase-begins (known b) s l is ready) went.count (known c) (Phase.over t turn)
+        (line-knows (known b) s l is ready went.count (known c) (Phase.over t turn)
         (known-led b p went.count c (Phase.over t turn) went.leads)).known
     went-known (Err e) went = phase-knows (known b).denials (known c).denials went.phase
-        (line-knows (known b) s l (phase-begins (known b) s l is ready) went.count (known c) went.phase
+        (line-knows (known b) s l is ready went.count (known c) went.phase
         (known-led b p went.count c went.phase went.leads))
 
     -- all of that

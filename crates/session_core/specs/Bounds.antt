@@ -10,8 +10,12 @@ use Rattle.session_core.specs.declared.limits.TheConstants.{MOST_CALLS}
 use Rattle.session_core.specs.declared.line.Line.{Line}
 use Rattle.session_core.specs.declared.line.Line.TheVariants as asked
 use Rattle.session_core.specs.declared.session.Session.{Session}
+use Rattle.client_watches.specs.Bounds.{most_calls as watch_calls}
+use Rattle.client_watches.specs.GoingOn.{WatchLine}
+use Rattle.client_watches.specs.Keeping.{AreDistinct}
+use Rattle.client_watches.specs.Watching.{none_yet}
 use Rattle.session_core.specs.Lines.{line_of}
-use Rattle.session_core.specs.Phases.{Phase, asks, after, start}
+use Rattle.session_core.specs.Phases.{Phase, with_watching, asks, after, start}
 
 -- From one phase to another by so many answers, each to the call that is asked for. They may be any answers.
 pub data Comes (p : Phase) : ℕ → Phase → Type 0 where
@@ -29,15 +33,20 @@ attempt_calls = TICK_LIMIT + MOST_SHARDS + 1
 abbrev pub calls_of_attempts : ℕ → ℕ
 calls_of_attempts attempts = attempts * (attempt_calls + 1)
 
--- THE CALLS OF A LINE, AT MOST, a row a form of line: a look makes a refresh and then reads alone.
-abbrev pub most_calls : Line → ℕ
-most_calls (asked.Begin body) = 1
-most_calls (asked.Try tries body) = calls_of_attempts (max 1 tries)
-most_calls asked.Step = 1
-most_calls asked.Go = attempt_calls
-most_calls (asked.Look body) = TICK_LIMIT + 1
-most_calls (asked.At n body) = TICK_LIMIT + 1
-most_calls l = 0
+-- THE CALLS OF A LINE, AT MOST, a row a form of line: a look makes a refresh and then reads alone; the rows of watches are theirs, and
+-- `wait` makes a refresh besides.
+abbrev pub most_calls : Session → Line → ℕ
+most_calls s (asked.Begin body) = 1
+most_calls s (asked.Try tries body) = calls_of_attempts (max 1 tries)
+most_calls s asked.Step = 1
+most_calls s asked.Go = attempt_calls
+most_calls s (asked.Look body) = TICK_LIMIT + 1
+most_calls s (asked.At n body) = TICK_LIMIT + 1
+most_calls s (asked.Watch name body) = watch_calls (WatchLine.watch name body) s.watching
+most_calls s (asked.Unwatch name) = watch_calls (WatchLine.unwatch name) s.watching
+most_calls s asked.Sync = watch_calls WatchLine.sync s.watching
+most_calls s asked.Wait = 1 + watch_calls WatchLine.sync s.watching
+most_calls s l = 0
 
 -- so many calls were made, and where one more is asked for, fewer than the most
 pub record IsBounded (most n : ℕ) (q : Phase) : Type 0 where
@@ -46,21 +55,29 @@ pub record IsBounded (most n : ℕ) (q : Phase) : Type 0 where
 
 -- ---- laws
 
--- Whatever a line is answered, it makes no more calls.
+-- Whatever a line is answered, it makes no more calls, where no two watches have one name.
 abbrev pub LinesAreBounded : Type 0
 LinesAreBounded =
     (shards seen : ℕ) (s : Session) (line : Line) (n : ℕ) (q : Phase)
-    → Comes (start shards seen s line) n q → IsBounded (most_calls line) n q
+    → AreDistinct s.watching.watches → Comes (start shards seen s line) n q → IsBounded (most_calls s line) n q
 
 -- A line that was read makes one try or more, and no more than the form of its verb allows.
 abbrev pub TriesAreFew : Type 0
 TriesAreFew = (text : Text) (tries : ℕ) (body : Checked) → line_of text ≡ asked.Try tries body → (0 < tries) × (tries ≤ MOST_ATTEMPTS)
 
--- So the calls that a line may make suffice: where so many were made the line is over, or a call of it has failed.
+-- lines that aren't of watches
+abbrev pub IsPlain : Line → Type 0
+IsPlain (asked.Watch name body) = ⊥
+IsPlain (asked.Unwatch name) = ⊥
+IsPlain asked.Sync = ⊥
+IsPlain asked.Wait = ⊥
+IsPlain l = Unit {0}
+
+-- So the calls that a line without watches may make suffice: where so many were made the line is over, or a call of it has failed.
 abbrev pub CallsSuffice : Type 0
 CallsSuffice =
     (shards seen : ℕ) (s : Session) (text : Text) (n : ℕ) (q : Phase)
-    → Comes (start shards seen s (line_of text)) n q → IsBounded MOST_CALLS n q
+    → IsPlain (line_of text) → AreDistinct s.watching.watches → Comes (start shards seen s (line_of text)) n q → IsBounded MOST_CALLS n q
 
 -- ---- worked lines
 
@@ -73,8 +90,12 @@ sixteen-attempts : calls_of_attempts MOST_ATTEMPTS ≡ 160288
 sixteen-attempts = refl
 
 -- `begin` makes one call, and `seen` none
-begin-refreshes : (body : Checked) → most_calls (asked.Begin body) ≡ 1
-begin-refreshes body = refl
+begin-refreshes : (s : Session) (body : Checked) → most_calls s (asked.Begin body) ≡ 1
+begin-refreshes s body = refl
 
-seen-asks-nothing : most_calls asked.Seen ≡ 0
-seen-asks-nothing = refl
+seen-asks-nothing : (s : Session) → most_calls s asked.Seen ≡ 0
+seen-asks-nothing s = refl
+
+-- without watches `wait` asks whether there is a commit, and for what changed
+wait-of-none : (s : Session) → most_calls (with_watching s (none_yet 0)) asked.Wait ≡ 2
+wait-of-none s = refl

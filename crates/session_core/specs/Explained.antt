@@ -26,13 +26,15 @@ use Rattle.docc_prepare.specs.Attempts.{based, in_shard, next_event, Prepares, w
 use Rattle.docc_prepare.specs.Witnesses.{least_witness}
 use Rattle.docc_prepare.specs.Calls.{Known}
 use Rattle.docc_prepare.specs.Backends.{IsPrefix, IsLeastBase}
+use Rattle.client_watches.specs.Explained.{Shown, ShownList, shown_of, SyncPasses, WatchPasses, UnwatchPasses}
+use Rattle.plain_data.specs.Texts.{Bytes}
 use Rattle.session_core.specs.declared.line.Line.{Line}
 use Rattle.session_core.specs.declared.line.Line.TheVariants as asked
 use Rattle.session_core.specs.declared.session.Session.{Session}
 use Rattle.session_core.specs.declared.error.SessionError.{SessionError}
 use Rattle.session_core.specs.declared.turn.Turn.{Turn}
 use Rattle.session_core.specs.declared.turn.Turn.TheVariants as turn
-use Rattle.session_core.specs.Phases.{with_attempt, closed, ended, opened, said}
+use Rattle.session_core.specs.Phases.{seq_after, opened, said}
 
 -- the store's settings, as far as replies tell of them
 pub record Setting : Type 0 where
@@ -40,12 +42,26 @@ pub record Setting : Type 0 where
   pub window : ℕ
   pub limit : ℕ
 
--- What the replies have shown so far: the greatest number; what that was when the open attempt began; and the next seq and the
--- open attempt, with its bases and fronts.
+-- How far a client has come with its attempts: its next seq, and the open attempt, with its bases and fronts.
+pub record Attempting : Type 0 where
+  pub client : ℕ
+  pub seq : ℕ
+  pub attempt : Option Attempt
+
+-- What the replies have shown so far: the greatest number; what that was when the open attempt began; how far the client has come
+-- with its attempts; and its watches, each with the number of its last report.
 pub record Story : Type 0 where
   pub low : ℕ
   pub begun : ℕ
-  pub session : Session
+  pub attempting : Attempting
+  pub watches : ShownList
+
+-- a session's, where so much was shown
+abbrev pub attempting_of : Session → Attempting
+attempting_of s = record { client = s.client; seq = s.seq; attempt = s.attempt }
+
+abbrev pub story_of : ℕ → ℕ → Session → Story
+story_of low begun s = record { low = low; begun = begun; attempting = attempting_of s; watches = shown_of s.watching.watches }
 
 -- ---- numbers
 
@@ -69,12 +85,12 @@ abbrev pub based_all : Attempt → Run → List Based
 based_all a run = based a.snaps run.observations
 
 -- the commit of a run
-abbrev pub commit_by : Session → Attempt → Run → ℕ → Commit
+abbrev pub commit_by : Attempting → Attempt → Run → ℕ → Commit
 commit_by s a run n = record { number = n; client = s.client; seq = s.seq; body = a.body.source; outcome = run.outcome; deltas = run.deltas }
 
 -- The commit that is named stands at its number, by the client, with its next seq and the body's text, outcome and writes,
 -- behind commits with which nothing that was observed clashes, past all that was shown.
-pub record IsCommitted (low : ℕ) (journal : Journal) (s : Session) (a : Attempt) (n : ℕ) (outcome : Outcome) : Type 0 where
+pub record IsCommitted (low : ℕ) (journal : Journal) (s : Attempting) (a : Attempt) (n : ℕ) (outcome : Outcome) : Type 0 where
   pub run : Run
   pub next : next_event a ≡ next.Append run
   pub before : Journal
@@ -112,7 +128,7 @@ pub record IsAppended (a : Attempt) : Type 0 where
   pub next : next_event a ≡ next.Append run
 
 -- an end, a row a reply
-abbrev pub EndPasses : Setting → Journal → ℕ → Session → Attempt → Reply → Type 0
+abbrev pub EndPasses : Setting → Journal → ℕ → Attempting → Attempt → Reply → Type 0
 EndPasses set journal low s a (reply.Commit n outcome) = IsCommitted low journal s a n outcome
 EndPasses set journal low s a (reply.Abort w) = IsAborted journal a w
 EndPasses set journal low s a (reply.Late base horizon) = IsLateAttempt set journal a base horizon
@@ -133,14 +149,14 @@ pub record HiddenEnd (set : Setting) (journal : Journal) (y : Story) (first : At
   pub attempt : Attempt
   pub hidden : Hides y.begun first attempt
   pub fits : Fits journal attempt
-  pub passes : EndPasses set journal y.low y.session attempt r
+  pub passes : EndPasses set journal y.low y.attempting attempt r
 
 -- ---- one event that is shown, a row a reply
 
 abbrev pub StepPasses : Setting → Journal → Story → Attempt → Reply → Type 0
 StepPasses set journal y a (reply.Read address base) = (next_event a ≡ next.Read address) × IsShown y.low journal base
 StepPasses set journal y a (reply.Prepared shard front) = Prepares a shard × Fits journal (with_front a shard front)
-StepPasses set journal y a r = EndPasses set journal y.low y.session a r
+StepPasses set journal y a r = EndPasses set journal y.low y.attempting a r
 
 -- ---- looks
 
@@ -189,21 +205,39 @@ none_open = said (reply.Refused why.NoAttempt)
 abbrev pub begun_now : Story → Story
 begun_now y = record y { begun = y.low }
 
--- WHICH ANSWER PASSES FOR A LINE, a row a form of line.
-abbrev pub Passes : Setting → Journal → Story → Line → Turn → Type 0
-Passes set journal y asked.Quiet t = t ≡ turn.Quiet
-Passes set journal y asked.Unbuilt t = t ≡ turn.Unbuilt
-Passes set journal y (asked.Refused reason) t = t ≡ said (reply.Refused reason)
-Passes set journal y (asked.Begin body) t = IfOpen y.session.attempt (By (SeenPasses journal y.low) t) (λ a. t ≡ is_busy)
-Passes set journal y (asked.Try tries body) t =
-    IfOpen y.session.attempt (By (HiddenEnd set journal (begun_now y) (opened set.shards body)) t) (λ a. t ≡ is_busy)
-Passes set journal y asked.Step t = IfOpen y.session.attempt (t ≡ none_open) (λ a. By (StepPasses set journal y a) t)
-Passes set journal y asked.Go t = IfOpen y.session.attempt (t ≡ none_open) (λ a. By (HiddenEnd set journal y a) t)
-Passes set journal y asked.Drop t = IfOpen y.session.attempt (t ≡ none_open) (λ a. t ≡ said reply.Dropped)
-Passes set journal y (asked.Look body) t = By (LookPasses set journal y.low body) t
-Passes set journal y (asked.At n body) t = By (AtPasses set journal y.low n body) t
-Passes set journal y asked.Seen t = By (SeenPasses journal y.low) t
-Passes set journal y asked.Quit t = t ≡ turn.Ended (reply.Dropped ∷ [])
+-- which answer passes for a line that isn't of watches, a row a form of line
+abbrev pub PlainPasses : Setting → Journal → Story → Line → Turn → Type 0
+PlainPasses set journal y asked.Quiet t = t ≡ turn.Quiet
+PlainPasses set journal y (asked.Refused reason) t = t ≡ said (reply.Refused reason)
+PlainPasses set journal y (asked.Begin body) t = IfOpen y.attempting.attempt (By (SeenPasses journal y.low) t) (λ a. t ≡ is_busy)
+PlainPasses set journal y (asked.Try tries body) t =
+    IfOpen y.attempting.attempt (By (HiddenEnd set journal (begun_now y) (opened set.shards body)) t) (λ a. t ≡ is_busy)
+PlainPasses set journal y asked.Step t = IfOpen y.attempting.attempt (t ≡ none_open) (λ a. By (StepPasses set journal y a) t)
+PlainPasses set journal y asked.Go t = IfOpen y.attempting.attempt (t ≡ none_open) (λ a. By (HiddenEnd set journal y a) t)
+PlainPasses set journal y asked.Drop t = IfOpen y.attempting.attempt (t ≡ none_open) (λ a. t ≡ said reply.Dropped)
+PlainPasses set journal y (asked.Look body) t = By (LookPasses set journal y.low body) t
+PlainPasses set journal y (asked.At n body) t = By (AtPasses set journal y.low n body) t
+PlainPasses set journal y asked.Seen t = By (SeenPasses journal y.low) t
+PlainPasses set journal y asked.Quit t = t ≡ turn.Ended (reply.Dropped ∷ [])
+PlainPasses set journal y l t = ⊥
+
+-- replies, which pass
+abbrev pub ByAll : (List Reply → Type 0) → Turn → Type 0
+ByAll P (turn.Replies replies) = P replies
+ByAll P t = ⊥
+
+-- `wait`: there is no commit yet past those that were seen; or there was one, and the rest is as for `sync`
+abbrev pub WaitPasses : Setting → Journal → Story → Turn → ShownList → Type 0
+WaitPasses set journal y turn.WaitWanted later = later ≡ y.watches
+WaitPasses set journal y t later = ByAll (λ replies. SyncPasses set.window journal (y.low + 1) y.watches replies later) t
+
+-- WHICH ANSWER PASSES FOR A LINE, a row a form of line, and which watches there are then, each with the number of its last report.
+abbrev pub Passes : Setting → Journal → Story → Line → Turn → ShownList → Type 0
+Passes set journal y (asked.Watch name body) t later = ByAll (λ replies. WatchPasses set.window journal y.low name body y.watches replies later) t
+Passes set journal y (asked.Unwatch name) t later = ByAll (λ replies. UnwatchPasses name y.watches replies later) t
+Passes set journal y asked.Sync t later = ByAll (λ replies. SyncPasses set.window journal y.low y.watches replies later) t
+Passes set journal y asked.Wait t later = WaitPasses set journal y t later
+Passes set journal y l t later = PlainPasses set journal y l t × (later ≡ y.watches)
 
 -- ---- what the replies have shown then
 
@@ -235,51 +269,66 @@ abbrev pub low_after : ℕ → Line → Turn → ℕ
 low_after low (asked.Look body) t = fold looked_at low (replies_in t)
 low_after low l t = fold low_by low (replies_in t)
 
--- the session after an event that is shown
-abbrev pub stepped_on : Journal → Session → Attempt → Reply → Session
-stepped_on journal s a (reply.Read address base) = with_attempt s
-    (Some (with_snap a address (record { base = base; value = state journal base address })))
-stepped_on journal s a (reply.Prepared shard front) = with_attempt s (Some (with_front a shard front))
-stepped_on journal s a r = ended s r
+-- with another open attempt, or none
+abbrev pub holding : Attempting → Option Attempt → Attempting
+holding s o = record s { attempt = o }
 
-abbrev pub by_reply : (Reply → Session) → Session → Turn → Session
+-- after an attempt's end
+abbrev pub ended_by : Attempting → Reply → Attempting
+ended_by s r = record s { seq = seq_after s.seq r; attempt = None }
+
+-- after an event that is shown
+abbrev pub stepped_on : Journal → Attempting → Attempt → Reply → Attempting
+stepped_on journal s a (reply.Read address base) = holding s
+    (Some (with_snap a address (record { base = base; value = state journal base address })))
+stepped_on journal s a (reply.Prepared shard front) = holding s (Some (with_front a shard front))
+stepped_on journal s a r = ended_by s r
+
+abbrev pub by_reply : (Reply → Attempting) → Attempting → Turn → Attempting
 by_reply f s (turn.Replies (r ∷ rs)) = f r
 by_reply f s t = s
 
-abbrev pub if_attempt : Option Attempt → Session → (Attempt → Session) → Session
+abbrev pub if_attempt : Option Attempt → Attempting → (Attempt → Attempting) → Attempting
 if_attempt None s f = s
 if_attempt (Some a) s f = f a
 
--- The session after a line, as its answer shows it: `begin` opens an attempt; `go` and a try close one; `step` shows how it
--- goes on.
-abbrev pub session_after : Setting → Journal → Session → Line → Turn → Session
-session_after set journal s (asked.Begin body) t = if_attempt s.attempt (with_attempt s (Some (opened set.shards body))) (λ a. s)
-session_after set journal s (asked.Try tries body) t = if_attempt s.attempt (by_reply (ended s) s t) (λ a. s)
-session_after set journal s asked.Step t = if_attempt s.attempt s (λ a. by_reply (stepped_on journal s a) s t)
-session_after set journal s asked.Go t = if_attempt s.attempt s (λ a. by_reply (ended s) s t)
-session_after set journal s asked.Drop t = closed s
-session_after set journal s asked.Quit t = closed s
-session_after set journal s l t = s
+-- How far the client has come after a line, as its answer shows it: `begin` opens an attempt; `go` and a try close one; `step` shows
+-- how it goes on.
+abbrev pub attempting_after : Setting → Journal → Attempting → Line → Turn → Attempting
+attempting_after set journal s (asked.Begin body) t = if_attempt s.attempt (holding s (Some (opened set.shards body))) (λ a. s)
+attempting_after set journal s (asked.Try tries body) t = if_attempt s.attempt (by_reply (ended_by s) s t) (λ a. s)
+attempting_after set journal s asked.Step t = if_attempt s.attempt s (λ a. by_reply (stepped_on journal s a) s t)
+attempting_after set journal s asked.Go t = if_attempt s.attempt s (λ a. by_reply (ended_by s) s t)
+attempting_after set journal s asked.Drop t = holding s None
+attempting_after set journal s asked.Quit t = holding s None
+attempting_after set journal s l t = s
 
 abbrev pub begun_if : Option Attempt → ℕ → ℕ → ℕ
 begun_if None now before = now
 begun_if (Some a) now before = before
 
 abbrev pub begun_after : Story → Line → Turn → ℕ
-begun_after y (asked.Begin body) t = begun_if y.session.attempt (low_after y.low (asked.Begin body) t) y.begun
+begun_after y (asked.Begin body) t = begun_if y.attempting.attempt (low_after y.low (asked.Begin body) t) y.begun
 begun_after y l t = y.begun
 
-abbrev pub story_after : Setting → Journal → Story → Line → Turn → Story
-story_after set journal y l t = record {
+abbrev pub story_after : Setting → Journal → Story → Line → Turn → ShownList → Story
+story_after set journal y l t later = record {
   low = low_after y.low l t;
   begun = begun_after y l t;
-  session = session_after set journal y.session l t;
+  attempting = attempting_after set journal y.attempting l t;
+  watches = later;
 }
+
+-- an answer that passes, and what holds of the watches that there are then
+pub record IsPassed (set : Setting) (journal : Journal) (y : Story) (l : Line) (t : Turn) (Rest : ShownList → Type 0) : Type 0 where
+  pub later : ShownList
+  pub passes : Passes set journal y l t later
+  pub rest : Rest later
 
 -- THE ANSWERS TO THE LINES ARE EXPLAINED BY THE JOURNAL: each passes after those before it.
 abbrev pub Explains : Setting → Journal → Story → List Line → List Turn → Type 0
 Explains set journal y [] [] = Unit {0}
-Explains set journal y (l ∷ ls) (t ∷ ts) = Passes set journal y l t × Explains set journal (story_after set journal y l t) ls ts
+Explains set journal y (l ∷ ls) (t ∷ ts) = IsPassed set journal y l t (λ later. Explains set journal (story_after set journal y l t later) ls ts)
 Explains set journal y [] (t ∷ ts) = ⊥
 Explains set journal y (l ∷ ls) [] = ⊥
 
@@ -291,26 +340,30 @@ setting_of k = record { shards = k.shards; window = k.window; limit = k.limit }
 -- of a journal that is told, which may have grown
 pub record LinePasses (k l : Known) (y : Story) (line : Line) (t : Turn) (after : Session) (old new : Journal) : Type 0 where
   pub grows : IsPrefix old new
-  pub passes : Passes (setting_of k) new y line t
-  pub session : after ≡ session_after (setting_of k) new y.session line t
+  pub passes : Passes (setting_of k) new y line t (shown_of after.watching.watches)
+  pub attempting : attempting_of after ≡ attempting_after (setting_of k) new y.attempting line t
   pub shown : low_after y.low line t ≤ l.seen
 
 -- the bases of an attempt are not below a number
 abbrev pub AreFrom : ℕ → Attempt → Type 0
 AreFrom begun a = AllByRecursion (λ (read : Address × Snap). begun ≤ read.1.base) a.snaps
 
--- a story that the backend's client may have been told: no number above what it has seen, and an attempt whose bases are not
--- below what was shown when it began
+-- no watch was reported past what was shown
+abbrev pub AreReported : Story → Type 0
+AreReported y = AllByRecursion (λ (entry : Bytes × Shown). entry.1.number ≤ y.low) y.watches
+
+-- a story that the backend's client may have been told: no number above what it has seen, an attempt whose bases are not below
+-- what was shown when it began, and watches that were reported at numbers which were shown
 pub record MayBeTold (k : Known) (y : Story) : Type 0 where
   pub seen : y.low ≤ k.seen
   pub before : y.begun ≤ y.low
-  pub bases : IfSome y.session.attempt (AreFrom y.begun)
+  pub bases : IfSome y.attempting.attempt (AreFrom y.begun)
+  pub reported : AreReported y
 
 -- Whatever was shown before, if no number was above what is seen, the answer passes, where the backend tells its journal.
 abbrev pub IsExplained : Known → Known → Session → Line → Result Turn SessionError → Session → Type 0
 IsExplained k l s line (Ok t) after =
-    (low begun : ℕ) → MayBeTold k (record { low = low; begun = begun; session = s })
-    → WhereTold (LinePasses k l (record { low = low; begun = begun; session = s }) line t after) k.journal l.journal
+    (low begun : ℕ) → MayBeTold k (story_of low begun s) → WhereTold (LinePasses k l (story_of low begun s) line t after) k.journal l.journal
 IsExplained k l s line (Err e) after = Unit {0}
 
 -- ---- worked lines
@@ -325,22 +378,26 @@ first-is-late = record { below = lit≤ tt; behind = lit≤ tt }
 
 -- while an attempt is open `begin` is refused, and changes nothing
 begin-is-busy : (set : Setting) (journal : Journal) (y : Story) (a : Attempt) (body : Checked)
-    → Passes set journal (record y { session = with_attempt y.session (Some a) }) (asked.Begin body) (said (reply.Refused why.Busy))
-begin-is-busy set journal y a body = refl
+    → Passes set journal (record y { attempting = holding y.attempting (Some a) }) (asked.Begin body) (said (reply.Refused why.Busy)) y.watches
+begin-is-busy set journal y a body = (refl, refl)
 
-busy-changes-nothing : (set : Setting) (journal : Journal) (s : Session) (a : Attempt) (body : Checked)
-    → session_after set journal (with_attempt s (Some a)) (asked.Begin body) (said (reply.Refused why.Busy)) ≡ with_attempt s (Some a)
+busy-changes-nothing : (set : Setting) (journal : Journal) (s : Attempting) (a : Attempt) (body : Checked)
+    → attempting_after set journal (holding s (Some a)) (asked.Begin body) (said (reply.Refused why.Busy)) ≡ holding s (Some a)
 busy-changes-nothing set journal s a body = refl
 
 -- what `go` shows is an end, and no attempt is open behind it
-go-closes : (set : Setting) (journal : Journal) (s : Session) (a : Attempt) (w : Witness)
-    → (session_after set journal (with_attempt s (Some a)) asked.Go (said (reply.Abort w))).attempt ≡ None
+go-closes : (set : Setting) (journal : Journal) (s : Attempting) (a : Attempt) (w : Witness)
+    → (attempting_after set journal (holding s (Some a)) asked.Go (said (reply.Abort w))).attempt ≡ None
 go-closes set journal s a w = refl
 
 -- the bases of an attempt are to be no less than what `begin` showed
 begin-sets-the-least-base : (y : Story) (body : Checked)
-    → begun_after (record y { low = 3; session = closed y.session }) (asked.Begin body) (said (reply.Seen 7)) ≡ 7
+    → begun_after (record y { low = 3; attempting = holding y.attempting None }) (asked.Begin body) (said (reply.Seen 7)) ≡ 7
 begin-sets-the-least-base y body = refl
+
+-- where there is nothing to wait for yet, the watches stay as they are
+waiting-changes-nothing : (set : Setting) (journal : Journal) (y : Story) → Passes set journal y asked.Wait turn.WaitWanted y.watches
+waiting-changes-nothing set journal y = refl
 
 -- a number that is named by `at` shows nothing, and the number at which `look` ran does
 at-shows-nothing : (outcome : Outcome) → low_by 3 (reply.At 5 outcome) ≡ 3
@@ -354,5 +411,5 @@ late-shows-nothing : low_by 3 (reply.Late 4 9) ≡ 3
 late-shows-nothing = refl
 
 -- a commit takes a seq
-commit-takes-a-seq : (s : Session) (outcome : Outcome) → (ended s (reply.Commit 7 outcome)).seq ≡ s.seq + 1
+commit-takes-a-seq : (s : Attempting) (outcome : Outcome) → (ended_by s (reply.Commit 7 outcome)).seq ≡ s.seq + 1
 commit-takes-a-seq s outcome = refl

@@ -1,10 +1,12 @@
 -- What a line owes its backend, and what goes on behind it.
-use Rattle.std.specs.Prelude.{◌≡◌, ℕ, ◌≤◌, Bool, true, false, length, Some}
+use Rattle.std.specs.Prelude.{◌≡◌, ℕ, ◌≤◌, Bool, true, false, length, Option, Some, None}
 use Rattle.dio_core.specs.declared.line.TheConstants.{LONGEST_LINE}
 use Rattle.txn_grammar.specs.Characters.{Text}
 use Rattle.docc_prepare.specs.Calls.{Known, Call, Answer}
 use Rattle.docc_prepare.specs.Backends.{CanCall, IsAnswered, IsLater}
 use Rattle.docc_prepare.specs.Stores.{HasFollowed}
+use Rattle.client_watches.specs.GoingOn.{has_failed}
+use Rattle.client_watches.specs.Phases as watches
 use Rattle.session_core.specs.declared.session.Session.{Session}
 use Rattle.session_core.specs.declared.turn.Turn.{Turn}
 use Rattle.session_core.specs.Lines.{line_of}
@@ -19,14 +21,15 @@ pub record IsOnItsWay (k : Known) (s : Session) (text : Text) (l : Known) (q : P
   pub calls : ℕ
   pub leads : Leads IsAnswered k (start k.shards k.seen s (line_of text)) calls l q
 
--- whether a call has failed
-abbrev pub has_failed : Answer → Bool
-has_failed (Answer.failed by_fault) = true
-has_failed answer = false
+-- whether there is none
+abbrev pub is_nothing : Option Call → Bool
+is_nothing None = true
+is_nothing (Some call) = false
 
--- whether a line is broken
+-- whether a line is broken: a call has failed, or a phase of its watches, which is to ask for something, asks for nothing
 abbrev pub is_broken : Phase → Bool
 is_broken (Phase.broken by_fault) = true
+is_broken (Phase.watching s p) = is_nothing (watches.asks p)
 is_broken p = false
 
 -- ---- laws

@@ -15,6 +15,9 @@ use Rattle.docc_prepare.specs.declared.attempt.Attempt.{Attempt}
 use Rattle.docc_prepare.specs.Attempts.{ran, based, in_shard, Fits}
 use Rattle.docc_prepare.specs.Calls.{Known}
 use Rattle.docc_prepare.specs.Backends.{IsGiven}
+use Rattle.client_watches.specs.declared.watching.Watching.{Watching}
+use Rattle.client_watches.specs.Keeping.{Keeps}
+use Rattle.client_watches.specs.Standing.{Subscribes, Stands, CanRead, CanReadOn}
 use Rattle.session_core.specs.declared.line.Line.{Line}
 use Rattle.session_core.specs.declared.line.Line.TheVariants as asked
 use Rattle.session_core.specs.declared.session.Session.{Session}
@@ -57,6 +60,18 @@ pub record Counts (k : Known) (seq : ℕ) (journal : Journal) : Type 0 where
   pub seq_is : seq ≡ length (own k.client journal) + 1
   pub within : k.seen ≤ length journal
 
+-- of a journal that is told: the watches stand for it, and it can be read, however it grows
+pub record Minds (k : Known) (w : Watching) (journal : Journal) : Type 0 where
+  pub subscribes : Subscribes k w
+  pub stands : Stands journal w
+  pub can : CanRead journal
+  pub can_on : CanReadOn k.trusted journal
+
+-- The watches are those of the backend's client.
+pub record WatchesAttend (k : Known) (w : Watching) : Type 0 where
+  pub keeps : Keeps k w
+  pub told : IfSome k.journal (Minds k w)
+
 -- The session is the client's, and goes on; and the store has as many shards as a store may have.
 pub record Attends (k : Known) (s : Session) : Type 0 where
   pub on : s.over ≡ None
@@ -65,6 +80,7 @@ pub record Attends (k : Known) (s : Session) : Type 0 where
   pub begun : s.at ≤ k.seen
   pub counts : IfSome k.journal (Counts k s.seq)
   pub attempt : IfSome s.attempt (Holds k)
+  pub watches : WatchesAttend k s.watching
 
 abbrev pub UnlessOver : Option SessionError → Type 0 → Type 0
 UnlessOver None P = P

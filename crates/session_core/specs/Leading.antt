@@ -1,5 +1,5 @@
 -- The steps that a line takes.
-use Rattle.std.specs.Prelude.{◌≡◌, ℕ, ◌+◌, ◌-◌, ◌≤◌, true, [], Option, Some, None, Result, Ok, Err}
+use Rattle.std.specs.Prelude.{◌≡◌, ℕ, ◌+◌, ◌-◌, ◌≤◌, true, List, [], Option, Some, None, Result, Ok, Err}
 use Rattle.std.specs.BTreeMap.{insert_entry}
 use Rattle.rdt_types.specs.declared.address.Address.{Address}
 use Rattle.rdt_types.specs.Addresses.{address_cmp}
@@ -20,6 +20,9 @@ use Rattle.session_core.specs.declared.session.Session.{Session}
 use Rattle.session_core.specs.declared.error.SessionError.{SessionError}
 use Rattle.session_core.specs.declared.error.SessionError.TheVariants as error
 use Rattle.session_core.specs.declared.turn.Turn.{Turn}
+use Rattle.session_core.specs.declared.turn.Turn.TheVariants as turn
+use Rattle.client_watches.specs.declared.error.WatchError.{WatchError}
+use Rattle.session_core.specs.Errors.{of_watch_error}
 use Rattle.session_core.specs.Phases.{Phase, asks, after, call_of, moved_by, ended, after_end, said, look_on, start}
 
 -- From one state and phase to another by so many steps of a relation, each of them the call that the phase asks for.
@@ -36,6 +39,11 @@ pub record Reaches {B : Type 0} (known : B → Known) (goes : B → Call → Ans
   pub few : count ≤ most
   pub leads : Leads (Goes known goes) old p count new q
 
+-- it leads to the phase
+pub record Arrives {B : Type 0} (known : B → Known) (goes : B → Call → Answer → B → Type 0) (old : B) (p : Phase) (new : B) (q : Phase) : Type 0 where
+  pub count : ℕ
+  pub leads : Leads (Goes known goes) old p count new q
+
 -- it has come somewhere, and if the error is a fault of the store, to where a call has failed by one
 pub record Stops {B : Type 0} (known : B → Known) (goes : B → Call → Answer → B → Type 0) (old : B) (p : Phase) (e : SessionError) (new : B) : Type 0 where
   pub count : ℕ
@@ -46,7 +54,7 @@ pub record Stops {B : Type 0} (known : B → Known) (goes : B → Call → Answe
 -- WHAT A LINE DOES: it leads from its first phase to the turn that it is answered and to the session after it; or, after an
 -- error, it has come somewhere on the way.
 abbrev pub Went : {B : Type 0} → (B → Known) → (B → Call → Answer → B → Type 0) → B → Phase → Result Turn SessionError → B → Session → Type 0
-Went known goes old p (Ok turn) new s = Reaches known goes old p MOST_CALLS new (Phase.over s turn)
+Went known goes old p (Ok turn) new s = Arrives known goes old p new (Phase.over s turn)
 Went known goes old p (Err e) new s = Stops known goes old p e new
 
 -- What a session that is over answers: the error after which it is, and nothing is done.
@@ -117,6 +125,11 @@ Valued old address n (Answer.value v) (Ok None) new = new ≡ insert_entry addre
 Valued old address n (Answer.late m horizon) (Ok (Some r)) new = r ≡ reply.Late m horizon
 Valued old address n answer (Ok o) new = ⊥
 Valued old address n answer (Err e) new = e ≡ error.StoreFault → answer ≡ Answer.failed true
+
+-- the turn of a line of watches
+abbrev pub watch_turn : Result (List Reply) WatchError → Result Turn SessionError
+watch_turn (Ok replies) = Ok (turn.Replies replies)
+watch_turn (Err e) = Err (of_watch_error e)
 
 -- the turn of a line with one reply
 abbrev pub turn_of : Result Reply SessionError → Result Turn SessionError

@@ -10,3 +10,4 @@ pub mod Explained
 pub mod Bounds
 pub mod GoingOn
 pub mod Sessions
+pub mod Remembering

@@ -51,8 +51,8 @@ of_look text = with_body asks.Look (body_of true text)
 abbrev pub of_at : ℕ → Text → Line
 of_at number text = with_body (asks.At number) (body_of true text)
 
-abbrev pub of_watch : Text → Line
-of_watch text = with_body (λ checked. asks.Unbuilt) (body_of true text)
+abbrev pub of_watch : Text → Text → Line
+of_watch name text = with_body (asks.Watch name) (body_of true text)
 
 -- `do` is one try
 abbrev pub of_verb : Verb → Line
@@ -61,15 +61,15 @@ of_verb (verb.Do text) = of_try 1 text
 of_verb (verb.Try tries text) = of_try tries text
 of_verb (verb.Look text) = of_look text
 of_verb (verb.At number text) = of_at number text
-of_verb (verb.Watch name text) = of_watch text
+of_verb (verb.Watch name text) = of_watch name text
 of_verb verb.Step = asks.Step
 of_verb verb.Go = asks.Go
 of_verb verb.Drop = asks.Drop
 of_verb verb.Seen = asks.Seen
 of_verb verb.Quit = asks.Quit
-of_verb (verb.Unwatch name) = asks.Unbuilt
-of_verb verb.Sync = asks.Unbuilt
-of_verb verb.Wait = asks.Unbuilt
+of_verb (verb.Unwatch name) = asks.Unwatch name
+of_verb verb.Sync = asks.Sync
+of_verb verb.Wait = asks.Wait
 
 abbrev pub of_form : Option Verb → Line
 of_form None = asks.Refused why.Verb

@@ -21,6 +21,9 @@ use Rattle.docc_prepare.specs.Attempts.{SnapList, in_shard, based, next_event, w
 use Rattle.docc_prepare.specs.Calls.{Call, Answer, is_fault}
 use Rattle.docc_prepare.specs.Calls.Call.{refresh, read, prepare, append, read_at}
 use Rattle.docc_prepare.specs.Calls.Answer.{number, snap, prepared, value, late, clash, full, disk}
+use Rattle.client_watches.specs.declared.watching.Watching.{Watching}
+use Rattle.client_watches.specs.Phases.{Phase as WatchPhase, start_sync, start_watch, start_unwatch}
+use Rattle.client_watches.specs.Phases as watches
 use Rattle.session_core.specs.declared.line.Line.{Line}
 use Rattle.session_core.specs.declared.line.Line.TheVariants as asked
 use Rattle.session_core.specs.declared.session.Session.{Session}
@@ -43,6 +46,10 @@ pub data Phase : Type 0 where
   looking : Session → Option ℕ → Checked → Phase
   -- its run on so many commits has these values, and needs the one at an address
   looked : Session → ℕ → Checked → SnapList → Address → Phase
+  -- a commit past so many that are seen is waited for
+  awaiting : Session → ℕ → Phase
+  -- a line of watches has come to a phase of its own
+  watching : Session → WatchPhase → Phase
   -- the line is over: the session after it, and what it is answered
   over : Session → Turn → Phase
   -- a call failed: by a fault of the store, or not
@@ -61,6 +68,10 @@ closed s = with_attempt s None
 abbrev pub seq_after : ℕ → Reply → ℕ
 seq_after seq (reply.Commit n outcome) = seq + 1
 seq_after seq r = seq
+
+-- with other watches
+abbrev pub with_watching : Session → Watching → Session
+with_watching s w = record s { watching = w }
 
 -- after an attempt's end
 abbrev pub ended : Session → Reply → Session
@@ -159,6 +170,22 @@ abbrev pub look_from : Session → ℕ → Option ℕ → Checked → Phase
 look_from s seen None body = look_on s seen body []
 look_from s seen (Some n) body = if nat_lt seen n then Phase.over s (said (reply.Ahead n seen)) else look_on s n body []
 
+-- ---- watches
+
+-- What a phase of a line of watches is in the session: where that line is over, the session has the watches that it left.
+abbrev pub of_watches : Session → WatchPhase → Phase
+of_watches s (WatchPhase.over w replies) = Phase.over (with_watching s w) (turn.Replies replies)
+of_watches s (WatchPhase.broken by_fault) = Phase.broken by_fault
+of_watches s p = Phase.watching s p
+
+-- all watches are brought up to date
+abbrev pub synced : Session → Phase
+synced s = of_watches s (start_sync s.watching)
+
+-- where there is a commit past those that were seen, and else that is to be waited for
+abbrev pub wait_for : Session → ℕ → ℕ → Phase
+wait_for s seen n = if nat_lt seen n then synced s else Phase.over s turn.WaitWanted
+
 -- ---- the machine
 
 -- the call that a phase asks for
@@ -169,6 +196,8 @@ asks (Phase.trying s left a) = Some refresh
 asks (Phase.going s left a) = Some (call_of s a)
 asks (Phase.looking s upto body) = Some refresh
 asks (Phase.looked s n body snaps address) = Some (read_at address n)
+asks (Phase.awaiting s seen) = Some refresh
+asks (Phase.watching s p) = watches.asks p
 asks (Phase.over s t) = None
 asks (Phase.broken by_fault) = None
 
@@ -181,6 +210,8 @@ after (Phase.going s left a) answer = gone s left (is_fault answer) (moved_by a 
 after (Phase.looking s upto body) (number n) = look_from s n upto body
 after (Phase.looked s n body snaps address) (value v) = look_on s n body (insert_entry address_cmp snaps address (record { base = n; value = v }))
 after (Phase.looked s n body snaps address) (late m horizon) = Phase.over s (said (reply.Late m horizon))
+after (Phase.awaiting s seen) (number n) = wait_for s seen n
+after (Phase.watching s p) answer = of_watches s (watches.after p answer)
 after p answer = Phase.broken (is_fault answer)
 
 -- ---- lines
@@ -195,7 +226,6 @@ if_open s f = elim s.attempt [ None ↦ refused s why.NoAttempt | Some a ↦ f a
 -- The first phase of a line, over so many shards, where so many commits are seen. `do` is one try.
 abbrev pub start : ℕ → ℕ → Session → Line → Phase
 start shards seen s asked.Quiet = Phase.over s turn.Quiet
-start shards seen s asked.Unbuilt = Phase.over s turn.Unbuilt
 start shards seen s (asked.Refused reason) = refused s reason
 start shards seen s (asked.Begin body) = unless_open s (Phase.beginning (closed s) (opened shards body))
 start shards seen s (asked.Try tries body) = unless_open s (Phase.trying (closed s) (tries - 1) (opened shards body))
@@ -204,5 +234,9 @@ start shards seen s asked.Go = if_open s (Phase.going (closed s) 0)
 start shards seen s asked.Drop = if_open s (λ a. Phase.over (closed s) (said reply.Dropped))
 start shards seen s (asked.Look body) = Phase.looking s None body
 start shards seen s (asked.At n body) = Phase.looking s (Some n) body
+start shards seen s (asked.Watch name body) = of_watches s (start_watch s.watching name body)
+start shards seen s (asked.Unwatch name) = of_watches s (start_unwatch s.watching name)
+start shards seen s asked.Sync = synced s
+start shards seen s asked.Wait = Phase.awaiting s seen
 start shards seen s asked.Seen = Phase.over s (said (reply.Seen seen))
 start shards seen s asked.Quit = Phase.over (closed s) (turn.Ended (reply.Dropped ∷ []))

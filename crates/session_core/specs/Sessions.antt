@@ -13,17 +13,19 @@ use Rattle.txn_lang.specs.States.{Journal}
 use Rattle.txn_lang.specs.Journals.{own}
 use Rattle.journal_core.specs.Changes.{adding}
 use Rattle.journal_core.specs.Journals.{commit_at}
-use Rattle.docc_prepare.specs.Calls.{Known}
+use Rattle.docc_prepare.specs.Calls.{Known, Call, Answer}
 use Rattle.docc_prepare.specs.Backends.{IsPrefix, IsAnswered, IsLater}
+use Rattle.client_watches.specs.Standing.{CanRead}
 use Rattle.session_core.specs.declared.line.Line.{Line}
 use Rattle.session_core.specs.declared.session.Session.{Session}
 use Rattle.session_core.specs.declared.error.SessionError.{SessionError}
 use Rattle.session_core.specs.declared.turn.Turn.{Turn}
+use Rattle.session_core.specs.declared.turn.Turn.TheVariants as turn
 use Rattle.session_core.specs.Lines.{line_of}
-use Rattle.session_core.specs.Phases.{Phase, start}
+use Rattle.session_core.specs.Phases.{Phase, synced, start}
 use Rattle.session_core.specs.Holding.{Attends}
 use Rattle.session_core.specs.Leading.{Leads}
-use Rattle.session_core.specs.Explained.{Setting, Story, replies_in, Explains, MayBeTold, setting_of, IsExplained}
+use Rattle.session_core.specs.Explained.{Setting, Story, AreReported, story_of, replies_in, Explains, MayBeTold, setting_of, IsExplained}
 
 -- ---- the client's own commits
 
@@ -85,13 +87,21 @@ pub record IsAccounted (k l : Known) (s : Session) (line : Line) (result : Resul
 abbrev pub Finds : Known → Known → Type 0
 Finds k here = (here ≡ k) ⊎ IsLater k here
 
--- LINES AND THEIR ANSWERS, one after another: each goes the way of the machine of phases, by calls that keep the clause of
--- every call.
+-- A LINE AND ITS ANSWER: it goes the way of the machine of phases, by calls that keep the clause of every call. Where it is to
+-- wait, the client waits until its backend answers that there is a commit to tell of, and then the line goes on as `sync` does.
+pub data Says (k : Known) (s : Session) (text : Text) (said : Turn) (l : Known) (t : Session) : Type 0 where
+  at_once : (calls : ℕ) → Leads IsAnswered k (start k.shards k.seen s (line_of text)) calls l (Phase.over t said) → Says k s text said l t
+  woken : (there woke : Known) (u : Session) (calls again : ℕ)
+      → Leads IsAnswered k (start k.shards k.seen s (line_of text)) calls there (Phase.over u turn.WaitWanted)
+      → IsAnswered there Call.wait Answer.done woke
+      → Leads IsAnswered woke (synced u) again l (Phase.over t said) → Says k s text said l t
+
+-- LINES AND THEIR ANSWERS, one after another.
 pub data Talks : Known → Session → List Text → List Turn → Known → Session → Type 0 where
   silent : {k : Known} {s : Session} → Talks k s [] [] k s
-  says : {k here l m : Known} {s t u : Session} {text : Text} {turn : Turn} {texts : List Text} {turns : List Turn} (calls : ℕ)
-      → Finds k here → length text ≤ LONGEST_LINE → Leads IsAnswered here (start here.shards here.seen s (line_of text)) calls l (Phase.over t turn)
-      → Talks l t texts turns m u → Talks k s (text ∷ texts) (turn ∷ turns) m u
+  says : {k here l m : Known} {s t u : Session} {text : Text} {said : Turn} {texts : List Text} {turns : List Turn}
+      → Finds k here → length text ≤ LONGEST_LINE → Says here s text said l t
+      → Talks l t texts turns m u → Talks k s (text ∷ texts) (said ∷ turns) m u
 
 abbrev pub all_replies : List Turn → List Reply
 all_replies [] = []
@@ -105,18 +115,18 @@ pub record ExplainsAll (set : Setting) (y : Story) (texts : List Text) (turns : 
 -- what a session comes to
 pub record HasTalked (k l : Known) (s t : Session) (texts : List Text) (turns : List Turn) : Type 0 where
   pub attends : Attends l t
-  pub explained : (low begun : ℕ) → MayBeTold k (record { low = low; begun = begun; session = s })
-      → WhereTold (ExplainsAll (setting_of k) (record { low = low; begun = begun; session = s }) texts turns) k.journal l.journal
+  pub explained : (low begun : ℕ) → MayBeTold k (story_of low begun s)
+      → WhereTold (ExplainsAll (setting_of k) (story_of low begun s) texts turns) k.journal l.journal
   pub own_commits : WhereTold (OwnsAnswered k.client (all_replies turns)) k.journal l.journal
   pub denied : l.denied ≡ denied_by_all k.denied (all_replies turns)
   pub known_denied : denied_by_all k.denials (all_replies turns) ≤ l.denials
 
 -- ---- laws
 
--- What a journal explains, every longer one explains.
+-- What a journal explains, every longer one explains, where both can be read and no watch was reported past what was shown.
 abbrev pub ExplainsStays : Type 0
-ExplainsStays = (set : Setting) (old new : Journal) (y : Story) (texts : List Text) (turns : List Turn) → IsPrefix old new
-    → Explains set old y (map line_of texts) turns → Explains set new y (map line_of texts) turns
+ExplainsStays = (set : Setting) (old new : Journal) (y : Story) (texts : List Text) (turns : List Turn) → CanRead old → CanRead new → IsPrefix old new
+    → AreReported y → Explains set old y (map line_of texts) turns → Explains set new y (map line_of texts) turns
 
 -- OVER EVERY BACKEND THAT TELLS ITS JOURNAL, ALL ANSWERS OF A SESSION ARE EXPLAINED BY THE JOURNAL AT ITS END, whatever others
 -- did between its lines; and the client's commits and denials are the answered ones.

@@ -2,7 +2,7 @@
 
 ghost use Rattle.std.specs.Prelude.{◌≡◌, ◌≤◌, ◌<◌, ◌-◌, ◌^◌, length, ◌∷◌, [], IfOk};
 ghost use Rattle.session_core.specs.Lines.{line_of};
-ghost use Rattle.session_core.specs.Phases.{start};
+ghost use Rattle.session_core.specs.Phases.{start, synced};
 ghost use Rattle.session_core.specs.Holding.{Attends, BodyIsReady};
 ghost use Rattle.session_core.specs.Leading.{Went, turn_of};
 ghost use Rattle.session_core.specs.Sessions.{IsAccounted};
@@ -14,6 +14,7 @@ use crate::reading::read_line;
 use crate::session::Session;
 use crate::turn::{ReplyList, Turn};
 use crate::verbs::{begin, commit, give_up, go, step};
+use crate::watches::{sync, unwatch, wait, watch};
 use dio_core::LONGEST_LINE;
 use docc_prepare::Backend;
 use session_text::Reply;
@@ -67,7 +68,6 @@ fn act<B: Backend>(
     let place = place(alloc)?;
     match line {
         Line::Quiet => Ok(Turn::Quiet),
-        Line::Unbuilt => Ok(Turn::Unbuilt),
         Line::Refused(reason) => said(place, Ok(Reply::Refused(reason))),
         Line::Begin(body) => said(place, begin(alloc, backend, session, body)),
         Line::Try(tries, body) => said(place, commit(alloc, backend, session, tries, body)),
@@ -76,6 +76,10 @@ fn act<B: Backend>(
         Line::Drop => said(place, Ok(give_up(session))),
         Line::Look(body) => said(place, look(alloc, backend, session, None, &body)),
         Line::At(number, body) => said(place, look(alloc, backend, session, Some(number), &body)),
+        Line::Watch(name, body) => watch(alloc, backend, session, name, body),
+        Line::Unwatch(name) => unwatch(alloc, backend, session, &name),
+        Line::Sync => sync(alloc, backend, session),
+        Line::Wait => wait(alloc, backend, session),
         Line::Seen => said(place, Ok(Reply::Seen(backend.seen()))),
         Line::Quit => {
             session.attempt = None;
@@ -105,4 +109,19 @@ pub fn turn<B: Backend>(
     }
     let line = read_line(alloc, bytes)?;
     act(alloc, backend, session, line)
+}
+
+/// Brings the watches of a session that isn't over up to date.
+pub fn sync_turn<B: Backend>(
+    alloc: Global,
+    backend: &mut B,
+    session: &mut Session,
+) -> Result<Turn, SessionError>
+    requires attends { Attends (B.known backend.old) session.old }
+    ensures went { Went B.known B.goes backend.old (synced session.old) result backend.new session.new }
+    ensures accounted { IsAccounted (B.known backend.old) (B.known backend.new) session.old Line.Sync result session.new }
+    ensures attends { IfOk result (λ turn. Attends (B.known backend.new) session.new) }
+    ensures home { B.home backend.new ≡ B.home backend.old }
+{
+    sync(alloc, backend, session)
 }

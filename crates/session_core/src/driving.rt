@@ -8,7 +8,7 @@ ghost use Rattle.session_core.specs.Holding.{Attends, Holds};
 ghost use Rattle.session_core.specs.Leading.{Drives, Closes, followed_by};
 
 use crate::error::SessionError;
-use crate::event::event;
+use crate::event::event_on;
 use crate::limits::MOST_EVENTS;
 use crate::moved::{Ended, Followed, Moved};
 use crate::session::Session;
@@ -29,8 +29,9 @@ pub fn drive<B: Backend>(
     ensures home { B.home backend.new ≡ B.home backend.old }
 {
     let mut attempt = attempt;
+    let mut known = None;
     for _ in 0..MOST_EVENTS {
-        match event(alloc, backend, session, attempt)? {
+        match event_on(alloc, backend, session, attempt, &mut known)? {
             Moved::More(next, _) => attempt = next,
             Moved::End(last, reply) => {
                 return Ok(Ended {

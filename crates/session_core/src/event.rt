@@ -6,6 +6,7 @@ ghost use Rattle.docc_prepare.specs.Calls.{snap_answered, front_answered, commit
 ghost use Rattle.session_core.specs.Phases.{closed};
 ghost use Rattle.session_core.specs.Holding.{Attends, Holds};
 ghost use Rattle.session_core.specs.Leading.{Turned, Makes};
+ghost use Rattle.session_core.specs.Remembering.{IsRunOf, Remembers};
 
 use crate::error::SessionError;
 use crate::limits::MOST_OBSERVATIONS;
@@ -201,14 +202,45 @@ fn append_event<B: Backend>(
     after_append(attempt, run, answer)
 }
 
-/// The next event of an attempt.
-fn next_of(alloc: Global, attempt: &Attempt) -> Result<Next, SessionError>
+/// The next event of an attempt, of which the run may be known.
+fn next_of(alloc: Global, attempt: &Attempt, known: Option<Run>) -> Result<Next, SessionError>
+    requires { IsRunOf attempt.now known }
     ensures ok { IfOk result (λ next. next ≡ next_event attempt.now) }
     ensures err { (e : SessionError) → result ≡ Err e → e ≡ SessionError.NoMemory }
 {
+    if let Some(run) = known {
+        return Ok(attempt.next_on(run));
+    }
     match attempt.next(alloc) {
         Ok(next) => Ok(next),
         Err(AllocError) => Err(SessionError::NoMemory),
+    }
+}
+
+/// Makes the next event of an attempt of a session, of which the run may be known. What is known of the run then stands in that
+/// place: a preparing changes nothing of it.
+pub fn event_on<B: Backend>(
+    alloc: Global,
+    backend: &mut B,
+    session: &Session,
+    attempt: Attempt,
+    known: &mut Option<Run>,
+) -> Result<Moved, SessionError>
+    requires attends { Attends (B.known backend.old) (closed session.now) }
+    requires holds { Holds (B.known backend.old) attempt }
+    requires known { IsRunOf attempt known.old }
+    ensures makes { Makes B.known B.goes session.now attempt backend.old result backend.new }
+    ensures known { IfOk result (λ moved. Remembers moved known.new) }
+    ensures home { B.home backend.new ≡ B.home backend.old }
+{
+    match next_of(alloc, &attempt, known.take())? {
+        Next::Read(address) => read_event(backend, session, attempt, address),
+        Next::Prepare(shard, run) => {
+            let moved = prepare_event(alloc, backend, session, attempt, shard, &run)?;
+            *known = Some(run);
+            Ok(moved)
+        }
+        Next::Append(run) => append_event(alloc, backend, session, attempt, run),
     }
 }
 
@@ -224,11 +256,6 @@ pub fn event<B: Backend>(
     ensures makes { Makes B.known B.goes session.now attempt backend.old result backend.new }
     ensures home { B.home backend.new ≡ B.home backend.old }
 {
-    match next_of(alloc, &attempt)? {
-        Next::Read(address) => read_event(backend, session, attempt, address),
-        Next::Prepare(shard, run) => {
-            prepare_event(alloc, backend, session, attempt, shard, &run)
-        }
-        Next::Append(run) => append_event(alloc, backend, session, attempt, run),
-    }
+    let mut known = None;
+    event_on(alloc, backend, session, attempt, &mut known)
 }

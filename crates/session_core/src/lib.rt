@@ -1,7 +1,7 @@
 //! Sessions over any backend: a session does the lines of one client. It reads what a line asks for, drives the client's attempt
-//! by calls of a backend, and answers replies. It stands on `session_text` (the texts of lines and replies), on the language
-//! (`txn_parse`, `txn_lang`) and on `docc_prepare` (attempts, and what every backend promises); a script and a server cut input
-//! into lines, hand each to a session, and print what it answers.
+//! and its watches by calls of a backend, and answers replies. It stands on `session_text` (the texts of lines and replies), on the
+//! language (`txn_parse`, `txn_lang`), on `docc_prepare` (attempts, and what every backend promises) and on `client_watches`; a
+//! script and a server cut input into lines, hand each to a session, and print what it answers.
 //!
 //! Read first `specs/Phases` (what a line does, as a machine of phases) and `specs/Leading` (the steps of a line over a backend).
 //! `specs/Explained` says which answers a journal explains, and `specs/Sessions` what that makes of whole sessions.
@@ -22,6 +22,8 @@ mod reading;
 mod session;
 mod turn;
 mod verbs;
+mod waiting;
+mod watches;
 mod words;
 
 pub use body::body_of;

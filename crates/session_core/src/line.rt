@@ -1,5 +1,6 @@
 //! What a line asks for.
 
+use plain_data::Text;
 use session_text::Why;
 use txn_lang::Checked;
 
@@ -26,8 +27,14 @@ pub enum Line {
     At(u64, Checked),
     /// How many commits were seen.
     Seen,
+    /// Watches a body by a name.
+    Watch(Text, Checked),
+    /// Forgets the watch of a name.
+    Unwatch(Text),
+    /// Brings all watches up to date.
+    Sync,
+    /// The same, once there is a commit past those that are seen.
+    Wait,
     /// The session's end.
     Quit,
-    /// What watches do, which isn't built yet.
-    Unbuilt,
 }

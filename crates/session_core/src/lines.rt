@@ -2,6 +2,7 @@
 
 ghost use Rattle.std.specs.Prelude.{◌⊎◌, ◌≡◌, ◌≤◌, ◌+◌, length, None, Some, Err};
 ghost use Rattle.dio_core.specs.Counts.{Rose};
+ghost use Rattle.client_watches.specs.Watching.{none_yet};
 ghost use Rattle.session_core.specs.Lines.{line_of};
 ghost use Rattle.session_core.specs.Phases.{start};
 ghost use Rattle.session_core.specs.Holding.{Follows};
@@ -13,20 +14,22 @@ use crate::acting::turn;
 use crate::error::SessionError;
 use crate::session::Session;
 use crate::turn::Turn;
+use client_watches::Watching;
 use dio_core::LONGEST_LINE;
 use docc_prepare::Backend;
 use std::alloc::Global;
 
 impl Session {
     /// The session of a client that has no commit, where so many commits are seen.
-    pub fn new(client: u32, at: u64) -> Session
-        ensures { result ≡ record { client = client; seq = 1; at = at; attempt = None; over = None } }
+    pub fn new(alloc: Global, client: u32, at: u64) -> Session
+        ensures { result ≡ record { client = client; seq = 1; at = at; attempt = None; watching = none_yet at; over = None } }
     {
         Session {
             client,
             seq: 1,
             at,
             attempt: None,
+            watching: Watching::new(alloc, at),
             over: None,
         }
     }

@@ -10,7 +10,7 @@ use crate::body::body_of;
 use crate::line::Line;
 use crate::words::{is_quiet, trimmed_start};
 use dio_core::LONGEST_LINE;
-use plain_data::OrNoMemory;
+use plain_data::{OrNoMemory, Text};
 use session_text::{Verb, VerbError, Why, read_verb};
 use std::alloc::{AllocError, Global};
 
@@ -63,37 +63,37 @@ fn look_at(alloc: Global, number: u64, text: &[u8]) -> Result<Line, AllocError>
 }
 
 /// `watch`.
-fn watch(alloc: Global, text: &[u8]) -> Result<Line, AllocError>
+fn watch(alloc: Global, name: Text, text: &[u8]) -> Result<Line, AllocError>
     requires { length text.now ≤ LONGEST_LINE }
-    ensures { ReadsLine result (spec.of_watch text.now) }
+    ensures { ReadsLine result (spec.of_watch name text.now) }
 {
     match body_of(alloc, text, true) {
-        Ok(_) => Ok(Line::Unbuilt),
+        Ok(body) => Ok(Line::Watch(name, body)),
         Err(OrNoMemory::Cause(reason)) => Ok(Line::Refused(reason)),
         Err(OrNoMemory::NoMemory) => Err(AllocError),
     }
 }
 
 /// What a verb asks for.
-fn of_verb(alloc: Global, verb: &Verb) -> Result<Line, AllocError>
-    requires { IsWithin LONGEST_LINE verb.now }
-    ensures { ReadsLine result (spec.of_verb verb.now) }
+fn of_verb(alloc: Global, verb: Verb) -> Result<Line, AllocError>
+    requires { IsWithin LONGEST_LINE verb }
+    ensures { ReadsLine result (spec.of_verb verb) }
 {
     match verb {
         Verb::Begin(text) => begin(alloc, text.as_slice()),
         Verb::Do(text) => try_times(alloc, 1, text.as_slice()),
-        Verb::Try(tries, text) => try_times(alloc, *tries, text.as_slice()),
+        Verb::Try(tries, text) => try_times(alloc, tries, text.as_slice()),
         Verb::Look(text) => look(alloc, text.as_slice()),
-        Verb::At(number, text) => look_at(alloc, *number, text.as_slice()),
-        Verb::Watch(_, text) => watch(alloc, text.as_slice()),
+        Verb::At(number, text) => look_at(alloc, number, text.as_slice()),
+        Verb::Watch(name, text) => watch(alloc, name, text.as_slice()),
         Verb::Step => Ok(Line::Step),
         Verb::Go => Ok(Line::Go),
         Verb::Drop => Ok(Line::Drop),
         Verb::Seen => Ok(Line::Seen),
         Verb::Quit => Ok(Line::Quit),
-        Verb::Unwatch(_) => Ok(Line::Unbuilt),
-        Verb::Sync => Ok(Line::Unbuilt),
-        Verb::Wait => Ok(Line::Unbuilt),
+        Verb::Unwatch(name) => Ok(Line::Unwatch(name)),
+        Verb::Sync => Ok(Line::Sync),
+        Verb::Wait => Ok(Line::Wait),
     }
 }
 
@@ -106,7 +106,7 @@ pub fn read_line(alloc: Global, bytes: &[u8]) -> Result<Line, AllocError>
         return Ok(Line::Quiet);
     }
     match read_verb(alloc, bytes) {
-        Ok(verb) => of_verb(alloc, &verb),
+        Ok(verb) => of_verb(alloc, verb),
         Err(VerbError::BadVerb) => Ok(Line::Refused(Why::Verb)),
         Err(VerbError::NoMemory) => Err(AllocError),
     }

@@ -13,8 +13,8 @@ pub enum Turn {
     Quiet,
     /// These replies.
     Replies(ReplyList),
-    /// The line is of a verb of watches, which aren't built yet. Nothing is done.
-    Unbuilt,
+    /// The line is to wait, and there is no commit past those that were seen. Once there is one, `Session::waited` does the rest.
+    WaitWanted,
     /// These replies, and the session has ended: it is to have no further line.
     Ended(ReplyList),
 }

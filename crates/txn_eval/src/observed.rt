@@ -1,6 +1,7 @@
 //! What a run has observed.
 
-ghost use Rattle.std.specs.Prelude.{◌≡◌, true, if◌then◌else◌, [], OnOk, OnErr};
+ghost use Rattle.std.specs.Prelude.{◌≡◌, true, not, if◌then◌else◌, [], IfOk, OnOk, OnErr};
+ghost use Rattle.std.specs.Bool.{OnFalse};
 ghost use Rattle.std.specs.BTreeMap.{is_at};
 ghost use Rattle.txn_lang.specs.Own.{with_seen};
 ghost use Rattle.txn_eval.specs.declared.seen_key.SeenKey.{SeenKey};
@@ -33,13 +34,15 @@ impl Model for Observed {
     ghost invariant = { λ o. AreFound o.keys o.list };
 }
 
-/// Keeps one key more.
-fn keep(keys: &mut BTreeSet<SeenKey>, key: SeenKey) -> Result<(), AllocError>
+/// Keeps one key more, and answers whether it is new.
+fn keep(keys: &mut BTreeSet<SeenKey>, key: SeenKey) -> Result<bool, AllocError>
+    ensures answer { IfOk result (λ added. has_key keys.old key ≡ not added) }
     ensures ok { OnOk result ((q : SeenKey) → has_key keys.new q ≡ (if is_at (order.ghosts.cmp key) q then true else has_key keys.old q)) }
+    ensures same { IfOk result (λ added. OnFalse added (keys.new.keys ≡ keys.old.keys)) }
     ensures err { OnErr result (keys.new.keys ≡ keys.old.keys) }
 {
-    keys.insert(key)?;
-    Ok(())
+    let added = keys.insert(key)?;
+    Ok(added)
 }
 
 impl Observed {
@@ -53,19 +56,20 @@ impl Observed {
         }
     }
 
-    /// Lists an observation, unless it is listed.
+    /// Lists an observation, unless it is listed. Its key is looked for once.
     pub fn note(&mut self, seen: Seen) -> Result<(), AllocError>
         ensures ok { OnOk result (self.new ≡ with_seen self.old seen) }
         ensures err { OnErr result (self.new ≡ self.old) }
     {
         let key = key_of(&seen)?;
-        if self.keys.contains(&key) {
-            return Ok(());
-        }
         let count = self.list.len();
         self.list.push(seen)?;
         match keep(&mut self.keys, key) {
-            Ok(()) => Ok(()),
+            Ok(true) => Ok(()),
+            Ok(false) => {
+                self.list.truncate(count);
+                Ok(())
+            }
             Err(error) => {
                 self.list.truncate(count);
                 Err(error)

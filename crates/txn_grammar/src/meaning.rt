@@ -118,15 +118,26 @@ fn operation_in<W: Copy>(
     None
 }
 
+/// The kind's operation in these rows that the token names.
+fn named_in<W: Copy>(
+    rows: &[(Kind, &[u8], W, usize)],
+    kind: Kind,
+    token: &Token,
+) -> Option<Operation<W>>
+    ensures { result ≡ spec.of_name (spec.operation_in (map (λ row. (row.0, row.1.now, row.2, row.3)) rows.now) kind) token.now }
+{
+    match token {
+        Token::Name(name) => operation_in(rows, kind, name.as_slice()),
+        _ => None,
+    }
+}
+
 /// The kind's write that the token names.
 #[tactic(auto, unfolding(crate::specs::Tokens::write_named))]
 pub fn write_at(kind: Kind, token: &Token) -> Option<Operation<WriteWord>>
     ensures { result ≡ spec.write_of kind token.now }
 {
-    match token {
-        Token::Name(name) => operation_in(&WRITES, kind, name.as_slice()),
-        _ => None,
-    }
+    named_in(&WRITES, kind, token)
 }
 
 /// The kind's read that the token names.
@@ -134,10 +145,7 @@ pub fn write_at(kind: Kind, token: &Token) -> Option<Operation<WriteWord>>
 pub fn read_at(kind: Kind, token: &Token) -> Option<Operation<ReadWord>>
     ensures { result ≡ spec.read_of kind token.now }
 {
-    match token {
-        Token::Name(name) => operation_in(&READS, kind, name.as_slice()),
-        _ => None,
-    }
+    named_in(&READS, kind, token)
 }
 
 /// The leaf that the token is.

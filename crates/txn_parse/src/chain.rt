@@ -6,6 +6,7 @@ ghost use Rattle.txn_grammar.specs.code.Reader as spec;
 ghost use Rattle.txn_parse.specs.code.Closures.{ReadsOver};
 
 use crate::Stop;
+use crate::kept::both;
 use crate::token::{operator, relation, sees_operator, sees_relation};
 use crate::tree::{chained, compared};
 use plain_data::Sequence;
@@ -60,7 +61,8 @@ pub(crate) fn chain<R: Fn(&mut Cursor<'_, Spot>) -> Result<Expr, Stop>>(
     ensures { ReadsOver R.Fn operand (spec.chain rank) cursor.old result cursor.new }
 {
     let first = operand(cursor)?;
-    let others = others(alloc, cursor, rank, &operand)?;
+    let others = others(alloc, cursor, rank, &operand);
+    let (first, others) = both(first, others)?;
     let expr = chained(alloc, first, others)?;
     Ok(expr)
 }
@@ -104,7 +106,8 @@ pub(crate) fn comparison<R: Fn(&mut Cursor<'_, Spot>) -> Result<Expr, Stop>>(
     ensures { ReadsOver R.Fn side spec.comparison cursor.old result cursor.new }
 {
     let left = side(cursor)?;
-    let other = any_other_side(cursor, &side)?;
+    let other = any_other_side(cursor, &side);
+    let (left, other) = both(left, other)?;
     let expr = compared(alloc, left, other)?;
     Ok(expr)
 }

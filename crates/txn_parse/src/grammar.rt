@@ -11,6 +11,7 @@ ghost use Rattle.txn_parse.specs.code.Nests.{Nests, placed};
 
 use crate::Stop;
 use crate::chain::{chain, comparison};
+use crate::kept::{both, in_front};
 use crate::leaf::leaf;
 use crate::place::Place;
 use crate::token::{ahead, kind, read, sees, word};
@@ -22,7 +23,7 @@ use txn_grammar::{Opener, Rank, Spot, Symbol, Target, opener_of};
 use txn_trees::{Expr, ExprList, ExprNode};
 
 /// The rules of expressions with so many levels left, over the reader of what stands inside one.
-#[derive(Clone, Copy)]
+#[derive(Drop)]
 pub(crate) struct Grammar<F> {
     pub(crate) alloc: Global,
     pub(crate) levels: u8,
@@ -80,7 +81,7 @@ impl<F: Fn(Global, &mut Cursor<'_, Spot>, u8, Place) -> Result<Expr, Stop>> Gram
     {
         let column = word(cursor, Symbol::OpenParen)?;
         let inner = self.inside(cursor, Place::Whole)?;
-        word(cursor, Symbol::CloseParen)?;
+        let (inner, _) = both(inner, word(cursor, Symbol::CloseParen))?;
         Ok((column, inner))
     }
 
@@ -163,9 +164,10 @@ impl<F: Fn(Global, &mut Cursor<'_, Spot>, u8, Place) -> Result<Expr, Stop>> Gram
         ensures { Reads (spec.elements (spec.expression (self.now.levels - 1)) cursor.old) result cursor.new }
     {
         let first = self.inside(cursor, Place::Whole)?;
-        let mut found = self.others(cursor)?;
-        found.insert(0, first)?;
-        Ok(found)
+        let others = self.others(cursor);
+        let (first, others) = both(first, others)?;
+        let all = in_front(first, others)?;
+        Ok(all)
     }
 
     /// The elements, up to the closing bracket.
@@ -191,7 +193,7 @@ impl<F: Fn(Global, &mut Cursor<'_, Spot>, u8, Place) -> Result<Expr, Stop>> Gram
     {
         let column = word(cursor, Symbol::OpenBracket)?;
         let found = self.any_elements(cursor)?;
-        word(cursor, Symbol::CloseBracket)?;
+        let (found, _) = both(found, word(cursor, Symbol::CloseBracket))?;
         Ok(Expr {
             column,
             node: ExprNode::Texts(found),
@@ -223,9 +225,10 @@ impl<F: Fn(Global, &mut Cursor<'_, Spot>, u8, Place) -> Result<Expr, Stop>> Gram
             return Ok(Sequence::new(self.alloc));
         }
         let first = self.inside(cursor, Place::Whole)?;
-        let mut found = self.so_many(cursor, count - 1)?;
-        found.insert(0, first)?;
-        Ok(found)
+        let others = self.so_many(cursor, count - 1);
+        let (first, others) = both(first, others)?;
+        let all = in_front(first, others)?;
+        Ok(all)
     }
 
     /// The same in parentheses, with the column of the opening one.
@@ -241,7 +244,7 @@ impl<F: Fn(Global, &mut Cursor<'_, Spot>, u8, Place) -> Result<Expr, Stop>> Gram
     {
         let column = word(cursor, Symbol::OpenParen)?;
         let found = self.arguments(cursor, count)?;
-        word(cursor, Symbol::CloseParen)?;
+        let (found, _) = both(found, word(cursor, Symbol::CloseParen))?;
         Ok((column, found))
     }
 
@@ -254,7 +257,7 @@ impl<F: Fn(Global, &mut Cursor<'_, Spot>, u8, Place) -> Result<Expr, Stop>> Gram
     {
         let (column, kind) = kind(cursor)?;
         let (_, key) = self.in_parens(cursor)?;
-        word(cursor, Symbol::Dot)?;
+        let (key, _) = both(key, word(cursor, Symbol::Dot))?;
         Ok(Target { column, kind, key })
     }
 
@@ -266,8 +269,10 @@ impl<F: Fn(Global, &mut Cursor<'_, Spot>, u8, Place) -> Result<Expr, Stop>> Gram
         ensures { Reads (spec.read (spec.expression (self.now.levels - 1)) cursor.old) result cursor.new }
     {
         let target = self.targeted(cursor)?;
-        let (_, operation) = read(cursor, target.kind)?;
-        let (_, arguments) = self.arguments_in_parens(cursor, operation.arguments)?;
+        let operation = read(cursor, target.kind);
+        let (target, (_, operation)) = both(target, operation)?;
+        let arguments = self.arguments_in_parens(cursor, operation.arguments);
+        let (target, (_, arguments)) = both(target, arguments)?;
         let expr = read_expr(self.alloc, target, operation.word, arguments)?;
         Ok(expr)
     }

@@ -10,6 +10,7 @@
 
 mod chain;
 mod grammar;
+mod kept;
 mod leaf;
 mod place;
 mod simple;

@@ -1,7 +1,7 @@
 //! Where an expression stands.
 
 /// The places of an expression inside a level.
-#[derive(Clone, Copy, Debug, PartialEq, Eq)]
+#[derive(Clone, Copy)]
 pub enum Place {
     /// In parentheses or brackets: any expression.
     Whole,

@@ -5,6 +5,7 @@ ghost use Rattle.txn_grammar.specs.code.Reader as spec;
 
 use crate::Stop;
 use crate::grammar::placed_read;
+use crate::kept::both;
 use crate::place::Place;
 use crate::token::{ahead, name, word};
 use predictive_parsing::Cursor;
@@ -26,9 +27,10 @@ fn let_stmt(alloc: Global, cursor: &mut Cursor<Spot>, levels: u8) -> Result<Stmt
 {
     let column = word(cursor, Symbol::Let)?;
     let (_, found) = name(cursor)?;
-    word(cursor, Symbol::Assign)?;
-    let value = expression(alloc, cursor, levels)?;
-    word(cursor, Symbol::Semicolon)?;
+    let (found, _) = both(found, word(cursor, Symbol::Assign))?;
+    let value = expression(alloc, cursor, levels);
+    let read = both(found, value)?;
+    let ((found, value), _) = both(read, word(cursor, Symbol::Semicolon))?;
     Ok(Stmt {
         column,
         node: StmtNode::Let(found, value),
@@ -42,7 +44,7 @@ fn emit_stmt(alloc: Global, cursor: &mut Cursor<Spot>, levels: u8) -> Result<Stm
 {
     let column = word(cursor, Symbol::Emit)?;
     let value = expression(alloc, cursor, levels)?;
-    word(cursor, Symbol::Semicolon)?;
+    let (value, _) = both(value, word(cursor, Symbol::Semicolon))?;
     Ok(Stmt {
         column,
         node: StmtNode::Emit(value),
@@ -56,7 +58,7 @@ fn fail_stmt(alloc: Global, cursor: &mut Cursor<Spot>, levels: u8) -> Result<Stm
 {
     let column = word(cursor, Symbol::Fail)?;
     let value = expression(alloc, cursor, levels)?;
-    word(cursor, Symbol::Semicolon)?;
+    let (value, _) = both(value, word(cursor, Symbol::Semicolon))?;
     Ok(Stmt {
         column,
         node: StmtNode::Fail(value),

@@ -9,6 +9,7 @@ ghost use Rattle.txn_parse.specs.code.Leveled as leveled;
 
 use crate::Stop;
 use crate::grammar::{Grammar, placed_read};
+use crate::kept::{both, in_front};
 use crate::simple::{expression, simple_stmt};
 use crate::token::{ahead, begins, name, sees, word, write};
 use crate::tree::write_stmt;
@@ -45,7 +46,7 @@ fn begins_statement(cursor: &Cursor<Spot>, levels: u8) -> bool
 }
 
 /// The rules of statements with so many levels left, over the reader of the statements inside one.
-#[derive(Clone, Copy)]
+#[derive(Drop)]
 struct Statements<F> {
     alloc: Global,
     levels: u8,
@@ -88,7 +89,7 @@ impl<F: Fn(Global, &mut Cursor<'_, Spot>, u8) -> Result<Stmt, Stop>> Statements<
     {
         word(cursor, Symbol::OpenBrace)?;
         let found = self.statements(cursor)?;
-        word(cursor, Symbol::CloseBrace)?;
+        let (found, _) = both(found, word(cursor, Symbol::CloseBrace))?;
         Ok(found)
     }
 
@@ -127,8 +128,10 @@ impl<F: Fn(Global, &mut Cursor<'_, Spot>, u8) -> Result<Stmt, Stop>> Statements<
     {
         let column = word(cursor, Symbol::If)?;
         let condition = expression(self.alloc, cursor, self.levels)?;
-        let holds = self.block(cursor)?;
-        let otherwise = self.any_otherwise(cursor)?;
+        let holds = self.block(cursor);
+        let read = both(condition, holds)?;
+        let otherwise = self.any_otherwise(cursor);
+        let ((condition, holds), otherwise) = both(read, otherwise)?;
         Ok(Stmt {
             column,
             node: StmtNode::If(condition, holds, otherwise),
@@ -144,9 +147,11 @@ impl<F: Fn(Global, &mut Cursor<'_, Spot>, u8) -> Result<Stmt, Stop>> Statements<
     {
         let column = word(cursor, Symbol::For)?;
         let (_, found) = name(cursor)?;
-        word(cursor, Symbol::In)?;
-        let texts = expression(self.alloc, cursor, self.levels)?;
-        let each = self.block(cursor)?;
+        let (found, _) = both(found, word(cursor, Symbol::In))?;
+        let texts = expression(self.alloc, cursor, self.levels);
+        let read = both(found, texts)?;
+        let each = self.block(cursor);
+        let ((found, texts), each) = both(read, each)?;
         Ok(Stmt {
             column,
             node: StmtNode::For(found, texts, each),
@@ -190,9 +195,11 @@ fn write_stmt_read(alloc: Global, cursor: &mut Cursor<Spot>, levels: u8) -> Resu
         inside: placed_read,
     };
     let target = grammar.targeted(cursor)?;
-    let (_, operation) = write(cursor, target.kind)?;
-    let (_, arguments) = grammar.arguments_in_parens(cursor, operation.arguments)?;
-    word(cursor, Symbol::Semicolon)?;
+    let operation = write(cursor, target.kind);
+    let (target, (_, operation)) = both(target, operation)?;
+    let arguments = grammar.arguments_in_parens(cursor, operation.arguments);
+    let read = both(target, arguments)?;
+    let ((target, (_, arguments)), _) = both(read, word(cursor, Symbol::Semicolon))?;
     Ok(write_stmt(target, operation.word, arguments))
 }
 
@@ -223,7 +230,8 @@ pub(crate) fn body(alloc: Global, cursor: &mut Cursor<Spot>) -> Result<Body, Sto
         levels: DEEPEST + 1,
         inside: statement,
     };
-    let mut stmts = outside.statements(cursor)?;
-    stmts.insert(0, first)?;
+    let others = outside.statements(cursor);
+    let (first, others) = both(first, others)?;
+    let stmts = in_front(first, others)?;
     Ok(Body { stmts })
 }

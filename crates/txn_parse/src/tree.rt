@@ -3,7 +3,7 @@
 ghost use Rattle.std.specs.Prelude.{◌≡◌, IfOk};
 ghost use Rattle.txn_grammar.specs.Trees as tree;
 
-use plain_data::Boxed;
+use crate::kept::boxed_beside;
 use std::alloc::{AllocError, Global};
 use txn_grammar::Target;
 use txn_trees::{
@@ -28,7 +28,7 @@ pub(crate) fn chained(alloc: Global, first: Expr, others: OperandList) -> Result
         return Ok(first);
     }
     let column = first.column;
-    let first = Boxed::new(alloc, first)?;
+    let (first, others) = boxed_beside(alloc, first, others)?;
     Ok(Expr {
         column,
         node: ExprNode::Chain(first, others),
@@ -47,8 +47,8 @@ pub(crate) fn compared(
         return Ok(left);
     };
     let column = left.column;
-    let left = Boxed::new(alloc, left)?;
-    let right = Boxed::new(alloc, right)?;
+    let (left, right) = boxed_beside(alloc, left, right)?;
+    let (right, left) = boxed_beside(alloc, right, left)?;
     Ok(Expr {
         column,
         node: ExprNode::Compare(left, relation, right),
@@ -65,7 +65,7 @@ pub(crate) fn read_expr(
     ensures { IfOk result (λ expr. expr ≡ tree.read_expr target word arguments) }
 {
     let Target { column, kind, key } = target;
-    let key = Boxed::new(alloc, key)?;
+    let (key, arguments) = boxed_beside(alloc, key, arguments)?;
     Ok(Expr {
         column,
         node: ExprNode::Read(kind, key, word, arguments),

@@ -1,13 +1,13 @@
-use Rattle.std.proofs.Common.{◌≡◌, Bool, Option, Some, None, Ok, Err, refl, subst, sym, ◌∙◌}
+use Rattle.std.proofs.Common.{Bool, Option, Ok, Err, refl, subst, sym, ◌∙◌}
 use Rattle.std.proofs.lemmas.Result.{err_from_is_err_and}
 use Rattle.client_watches.specs.declared.error.WatchError.{WatchError}
 use Rattle.client_watches.specs.Phases.{rerun_all}
 use Rattle.client_watches.specs.Leading.{Reruns}
-use Rattle.client_watches.proofs.Steps.{here, and-then, stopped-here, stops-behind, catches-err, catches-then, none-else}
+use Rattle.client_watches.proofs.Steps.{here, and-then, stops-behind, catches-err, catches-then, none-else}
 use Rattle.client_watches.proofs.catching.catch_up.Goals as goal
 
-pub loop-init : goal.loop-init
-loop-init g c = record {
+pub loop-all-init : goal.loop-all-init
+loop-all-init g c = record {
   led = λ x. here g.B.Backend.known g.B.Backend.goes c.args.backend.now (rerun_all x c.args.watching.now c.args.said.now)
       (rerun_all x c.args.watching.now c.args.said.now) refl;
   keeps = c.requires;
@@ -20,26 +20,26 @@ returns-in_err-all-clause-catches g c = λ x.
     let p = err_from_is_err_and c.from_residual.result c.from_residual.ensures.1 in
     catches-err g.B.Backend.known g.B.Backend.goes c.args.backend.now c.args.watching.now c.args.said.now c.from_residual.result p.0
     c.rerun_one.new.backend c.rerun_one.new.watching c.rerun_one.new.said x p.1
-    (stops-behind g.B.Backend.known g.B.Backend.goes c.args.backend.now (rerun_all x c.args.watching.now c.args.said.now) c.loop.backend
-    (rerun_all x c.loop.watching c.loop.said) p.0 c.rerun_one.new.backend (c.loop.invariant.led x)
-    (subst (λ (e : WatchError). Reruns g.B.Backend.known g.B.Backend.goes x c.loop.backend c.loop.watching c.loop.said (Err e)
+    (stops-behind g.B.Backend.known g.B.Backend.goes c.args.backend.now (rerun_all x c.args.watching.now c.args.said.now) c.loop-all.backend
+    (rerun_all x c.loop-all.watching c.loop-all.said) p.0 c.rerun_one.new.backend (c.loop-all.invariant.led x)
+    (subst (λ (e : WatchError). Reruns g.B.Backend.known g.B.Backend.goes x c.loop-all.backend c.loop-all.watching c.loop-all.said (Err e)
     c.rerun_one.new.backend c.rerun_one.new.watching c.rerun_one.new.said) (sym p.2) (c.in_err-all.ensures.reruns x)))
 
 pub returns-in-Some-clause-catches : goal.returns-in-Some-clause-catches
 returns-in-Some-clause-catches g c = λ x.
-    catches-then g.B.Backend.known g.B.Backend.goes c.args.backend.now c.args.watching.now c.args.said.now c.loop.backend c.loop.watching c.loop.said x
-    c.in-Some.all c.rerun_one.new.backend c.rerun_one.new.watching c.rerun_one.new.said (c.loop.invariant.led x)
-    (subst (λ (o : Option Bool). Reruns g.B.Backend.known g.B.Backend.goes x c.loop.backend c.loop.watching c.loop.said (Ok o)
+    catches-then g.B.Backend.known g.B.Backend.goes c.args.backend.now c.args.watching.now c.args.said.now c.loop-all.backend c.loop-all.watching c.loop-all.said x
+    c.in-Some.all c.rerun_one.new.backend c.rerun_one.new.watching c.rerun_one.new.said (c.loop-all.invariant.led x)
+    (subst (λ (o : Option Bool). Reruns g.B.Backend.known g.B.Backend.goes x c.loop-all.backend c.loop-all.watching c.loop-all.said (Ok o)
     c.rerun_one.new.backend c.rerun_one.new.watching c.rerun_one.new.said) c.in-Some.is (c.in_ok-all.ensures.reruns x))
 
-pub loop-preserved : goal.loop-preserved
-loop-preserved g c = record {
-  led = λ x. and-then g.B.Backend.known g.B.Backend.goes c.args.backend.now (rerun_all x c.args.watching.now c.args.said.now) c.loop.backend
-      (rerun_all x c.loop.watching c.loop.said) c.rerun_one.new.backend (rerun_all x c.rerun_one.new.watching c.rerun_one.new.said)
-      (c.loop.invariant.led x)
-      (subst (λ (o : Option Bool). Reruns g.B.Backend.known g.B.Backend.goes x c.loop.backend c.loop.watching c.loop.said (Ok o)
+pub loop-all-preserved : goal.loop-all-preserved
+loop-all-preserved g c = record {
+  led = λ x. and-then g.B.Backend.known g.B.Backend.goes c.args.backend.now (rerun_all x c.args.watching.now c.args.said.now) c.loop-all.backend
+      (rerun_all x c.loop-all.watching c.loop-all.said) c.rerun_one.new.backend (rerun_all x c.rerun_one.new.watching c.rerun_one.new.said)
+      (c.loop-all.invariant.led x)
+      (subst (λ (o : Option Bool). Reruns g.B.Backend.known g.B.Backend.goes x c.loop-all.backend c.loop-all.watching c.loop-all.said (Ok o)
       c.rerun_one.new.backend c.rerun_one.new.watching c.rerun_one.new.said) (none-else _ c.in_default.not-Some) (c.in_ok-all.ensures.reruns x));
   keeps = c.in_ok-all.ensures.keeps;
-  free = λ name none. c.in_ok-all.ensures.free name (c.loop.invariant.free name none);
-  home = c.rerun_one.ensures.home ∙ c.loop.invariant.home;
+  free = λ name none. c.in_ok-all.ensures.free name (c.loop-all.invariant.free name none);
+  home = c.rerun_one.ensures.home ∙ c.loop-all.invariant.home;
 }

@@ -1,15 +1,19 @@
 use Rattle.std.proofs.Common.{◌≡◌}
 use Rattle.client_watches.specs.Phases.{Goal, rerun_all}
 use Rattle.client_watches.specs.Keeping.{Keeps}
-use Rattle.client_watches.specs.Watching.{KeepsFree}
+use Rattle.client_watches.specs.Watching.{KeepsFree, stale_count}
 use Rattle.client_watches.specs.Leading.{Reaches}
 use Rattle.client_watches.proofs.catching.catch_up.Given as goal
 
-abbrev pub invariant-loop : goal.invariant-loop
-invariant-loop g l = record {
+abbrev pub invariant-loop-all : goal.invariant-loop-all
+invariant-loop-all g l = record {
   led : (goal : Goal) → Reaches g.B.Backend.known g.B.Backend.goes l.fn.backend (rerun_all goal l.fn.watching l.fn.said) l.backend
       (rerun_all goal l.watching l.said);
   keeps : Keeps (g.B.Backend.known l.backend) l.watching;
   free : KeepsFree l.fn.watching l.watching;
   home : g.B.Backend.home l.backend ≡ g.B.Backend.home l.fn.backend;
 }
+
+-- each round leaves one stale watch less
+abbrev pub decreases-loop-all : goal.decreases-loop-all
+decreases-loop-all g l = stale_count l.watching.watches

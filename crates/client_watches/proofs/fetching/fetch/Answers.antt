@@ -1,6 +1,5 @@
-use Rattle.std.proofs.Common.{◌≡◌, ℕ, ◌++◌, ◌∷◌, [], Ok, Err, Result, refl, subst, sym, ap, ◌∙◌}
+use Rattle.std.proofs.Common.{ℕ, ◌++◌, ◌∷◌, [], Ok, Err, subst, sym, ap, ◌∙◌}
 use Rattle.std.proofs.lemmas.Result.{err_from_is_err_and}
-use Rattle.session_text.specs.declared.reply.Reply.{Reply}
 use Rattle.docc_prepare.specs.Calls.{Call, value_answered}
 use Rattle.docc_prepare.specs.Backends.{Goes}
 use Rattle.client_watches.specs.declared.error.WatchError.{WatchError}

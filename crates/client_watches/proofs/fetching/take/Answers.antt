@@ -1,7 +1,6 @@
-use Rattle.std.proofs.Common.{◌≡◌, refl, subst, sym, ap, ◌∙◌}
+use Rattle.std.proofs.Common.{subst, sym, ap, ◌∙◌}
 use Rattle.std.proofs.lemmas.Result.{err_from_is_err_and}
 use Rattle.client_watches.specs.Keeping.{Keeps}
-use Rattle.client_watches.specs.Watching.{after_feed}
 use Rattle.rerun_driver.specs.Watches.{Watches, watch_of}
 use Rattle.client_watches.proofs.Names.{none-told}
 use Rattle.client_watches.proofs.Kept.{keeps-feed}

@@ -1,8 +1,8 @@
-use Rattle.std.proofs.Common.{◌≡◌, Bool, Result, Ok, Err, None, refl, subst, sym, ap, ◌∙◌}
+use Rattle.std.proofs.Common.{Bool, Ok, Err, subst, sym, ap, ◌∙◌}
 use Rattle.std.proofs.lemmas.Result.{err_from_is_err_and}
 use Rattle.rerun_driver.specs.Watches.{Watches, watch_of}
 use Rattle.client_watches.specs.declared.error.WatchError.{WatchError}
-use Rattle.client_watches.specs.Phases.{Goal, settled, rerun_all, ending, caught_up, first_run}
+use Rattle.client_watches.specs.Phases.{Goal, settled, rerun_all, ending, first_run}
 use Rattle.client_watches.specs.Leading.{Catches, Drops, Continues}
 use Rattle.client_watches.proofs.Steps.{and-then, stops-behind, continues-err, line-begins, line-halts}
 use Rattle.client_watches.proofs.lines.make.Goals as goal

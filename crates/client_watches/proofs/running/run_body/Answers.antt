@@ -1,15 +1,18 @@
-use Rattle.std.proofs.Common.{◌≡◌, ◌++◌, ◌∷◌, [], List, Option, Some, None, Ok, Err, refl, subst, sym, ap, ◌∙◌}
+use Rattle.std.proofs.Common.{◌≡◌, ℕ, suc, ◌+◌, ◌++◌, ◌∷◌, [], List, Option, Ok, Err, refl, arith, subst, sym, ap, ◌∙◌}
 use Rattle.std.proofs.lemmas.Result.{err_from_is_err_and}
 use Rattle.session_text.specs.declared.reply.Reply.{Reply}
 use Rattle.txn_lang.proofs.Observed.{runs_ask_short}
+use Rattle.txn_lang.proofs.Few.{reads_are_few}
 use Rattle.txn_eval.specs.Running.{ran_of}
-use Rattle.client_cache.specs.Cached.{held}
+use Rattle.client_cache.specs.Cached.{held, filled}
 use Rattle.client_watches.specs.declared.error.WatchError.{WatchError}
 use Rattle.client_watches.specs.declared.watching.Watching.{Watching}
 use Rattle.client_watches.specs.Phases.{first_run}
 use Rattle.client_watches.specs.Keeping.{Keeps}
 use Rattle.client_watches.specs.Leading.{Fetches, HasFetched}
 use Rattle.client_watches.proofs.Kept.{keeps-value}
+use Rattle.client_watches.proofs.Bounds.{filled-next}
+use Rattle.txn_lang.specs.Few.{AreReadInTurn}
 use Rattle.client_watches.proofs.Steps.{here, run-unfetched, run-fetched, run-late, run-late-wants, none-else}
 use Rattle.client_watches.proofs.running.run_body.Goals as goal
 
@@ -18,6 +21,7 @@ loop-init g c = record {
   led = λ name. here g.B.Backend.known g.B.Backend.goes c.args.backend.now (first_run name c.args.body.now c.args.watching.now c.args.said.now)
       (first_run name c.args.body.now c.args.watching.now c.args.said.now) refl;
   said = refl;
+  turn = tt;
   watches = refl;
   keeps = c.requires;
   home = refl;
@@ -60,11 +64,18 @@ loop-preserved g c =
     c.fetch.new.watching =
     subst (λ (o : Option Reply). Fetches g.B.Backend.known g.B.Backend.goes c.loop.backend c.loop.watching c.in-Need.address
     (Ok o) c.fetch.new.backend c.fetch.new.watching) (none-else _ c.in_default.not-Some) c.in_ok-late-in-Need.ensures.fetches in
+    let up : suc c.loop.counter ≡ c.loop.counter + 1 = omega arith in
     record {
       led = run-fetched g.B.Backend.known g.B.Backend.goes c.args.body.now c.args.backend.now c.args.watching.now c.args.said.now c.loop.backend
           c.loop.watching c.loop.invariant.led c.in-Need.address (sym c.in_ok-run.ensures ∙ ap ran_of c.in-Need.is) c.fetch.new.backend
           c.fetch.new.watching fetched;
       said = c.loop.invariant.said;
+      turn = subst (λ (w : Watching). AreReadInTurn c.args.body.now.body (c.loop.counter + 1) (held w.cache)) (sym fetched.kept)
+          (subst (λ (n : ℕ). AreReadInTurn c.args.body.now.body n (held (filled c.loop.watching.cache c.in-Need.address fetched.value))) up (
+            held c.loop.watching.cache,
+            c.loop.invariant.turn,
+            filled-next c.args.body.now.body c.loop.watching.cache c.in-Need.address fetched.value (sym c.in_ok-run.ensures ∙ ap ran_of c.in-Need.is),
+          ));
       watches = ap (λ (w : Watching). w.watches) fetched.kept ∙ c.loop.invariant.watches;
       keeps = subst (Keeps (g.B.Backend.known c.fetch.new.backend)) (sym fetched.kept)
           (keeps-value (g.B.Backend.known c.loop.backend) (g.B.Backend.known c.fetch.new.backend) c.loop.watching c.fetch.ensures.seen
@@ -72,3 +83,7 @@ loop-preserved g c =
           (runs_ask_short.needed c.args.body.now.body (held c.loop.watching.cache) c.in-Need.address (sym c.in_ok-run.ensures ∙ ap ran_of c.in-Need.is)));
       home = c.fetch.ensures.home ∙ c.loop.invariant.home;
     }
+
+pub unreachable-requires : goal.unreachable-requires
+unreachable-requires g c =
+    let few = reads_are_few c.args.body.now.body c.loop.counter (held c.loop.watching.cache) c.loop.invariant.turn in omega arith

@@ -1,5 +1,7 @@
 use Rattle.std.proofs.Common.{◌≡◌}
 use Rattle.plain_data.specs.Texts.{Bytes}
+use Rattle.txn_lang.specs.Few.{AreReadInTurn}
+use Rattle.client_cache.specs.Cached.{held}
 use Rattle.client_watches.specs.Phases.{first_run}
 use Rattle.client_watches.specs.Keeping.{Keeps}
 use Rattle.client_watches.specs.Leading.{Reaches}
@@ -10,6 +12,7 @@ invariant-loop g l = record {
   led : (name : Bytes) → Reaches g.B.Backend.known g.B.Backend.goes l.fn.backend (first_run name l.body l.fn.watching l.fn.said) l.backend
       (first_run name l.body l.watching l.fn.said);
   said : l.said ≡ l.fn.said;
+  turn : AreReadInTurn l.body.body l.counter (held l.watching.cache);
   watches : l.watching.watches ≡ l.fn.watching.watches;
   keeps : Keeps (g.B.Backend.known l.backend) l.watching;
   home : g.B.Backend.home l.backend ≡ g.B.Backend.home l.fn.backend;

@@ -6,4 +6,4 @@ use Rattle.script_runner.proofs.lines.over_view.Goals as goal
 pub returns-in-Ok-clause-over : goal.returns-in-Ok-clause-over
 returns-in-Ok-clause-over c =
     view-done c.args.view.now c.line.new.backend c.args.session.now c.line.new.self (line_of c.args.text.now) c.in-Ok.turn
-    (c.in-Ok.ensures.went c.requires.attends.on)
+    c.requires.attends.watches.keeps.names (c.in-Ok.ensures.went c.requires.attends.on)

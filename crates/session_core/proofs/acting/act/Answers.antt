@@ -3,7 +3,7 @@ use Rattle.std.proofs.lemmas.Result.{err_from_is_err_and}
 use Rattle.session_text.specs.declared.reply.Reply.TheVariants as reply
 use Rattle.session_core.specs.declared.turn.Turn.TheVariants as turn
 use Rattle.session_core.specs.Phases.{Phase, closed, said, start}
-use Rattle.session_core.proofs.Steps.{at-once, none-done, went-err, went-by}
+use Rattle.session_core.proofs.Steps.{at-once, turns-at-once, none-done, went-err, went-by}
 use Rattle.session_core.proofs.acting.act.Goals as goal
 
 pub returns-in_err-place-clause-went : goal.returns-in_err-place-clause-went
@@ -15,17 +15,10 @@ returns-in_err-place-clause-went g c =
 
 pub returns-in-Quiet-clause-went : goal.returns-in-Quiet-clause-went
 returns-in-Quiet-clause-went g c =
-    at-once g.B.Backend.known g.B.Backend.goes c.args.backend.now (start (g.B.Backend.known c.args.backend.now).shards
+    turns-at-once g.B.Backend.known g.B.Backend.goes c.args.backend.now (start (g.B.Backend.known c.args.backend.now).shards
     (g.B.Backend.known c.args.backend.now).seen c.args.session.now c.args.line)
     turn.Quiet c.args.session.now (ap (start (g.B.Backend.known c.args.backend.now).shards
     (g.B.Backend.known c.args.backend.now).seen c.args.session.now) c.in-Quiet.is)
-
-pub returns-in-Unbuilt-clause-went : goal.returns-in-Unbuilt-clause-went
-returns-in-Unbuilt-clause-went g c =
-    at-once g.B.Backend.known g.B.Backend.goes c.args.backend.now (start (g.B.Backend.known c.args.backend.now).shards
-    (g.B.Backend.known c.args.backend.now).seen c.args.session.now c.args.line)
-    turn.Unbuilt c.args.session.now (ap (start (g.B.Backend.known c.args.backend.now).shards
-    (g.B.Backend.known c.args.backend.now).seen c.args.session.now) c.in-Unbuilt.is)
 
 pub returns-in-Refused-clause-went : goal.returns-in-Refused-clause-went
 returns-in-Refused-clause-went g c =
@@ -55,7 +48,7 @@ returns-in-Seen-clause-went g c =
 
 pub returns-in-Quit-clause-went : goal.returns-in-Quit-clause-went
 returns-in-Quit-clause-went g c =
-    at-once g.B.Backend.known g.B.Backend.goes c.args.backend.now (start (g.B.Backend.known c.args.backend.now).shards
+    turns-at-once g.B.Backend.known g.B.Backend.goes c.args.backend.now (start (g.B.Backend.known c.args.backend.now).shards
     (g.B.Backend.known c.args.backend.now).seen c.args.session.now c.args.line)
     (turn.Ended c.placed.result) (closed c.args.session.now)
     (ap (start (g.B.Backend.known c.args.backend.now).shards (g.B.Backend.known c.args.backend.now).seen c.args.session.now) c.in-Quit.is

@@ -11,16 +11,16 @@ returns-in_err-first g c = λ reader reads.
     let h = reads c.args.cursor.now c.operand.new.arg2 c.operand.result (left_at g.R.Fn c.operand.ensures) in
     first_of (search (rules, h), grind (arith, common_steps, h))
 
-pub returns-in_err-others : goal.returns-in_err-others
+pub returns-in_err-first-2 : goal.returns-in_err-first-2
 unfolding chain list
-returns-in_err-others g c = λ reader reads.
+returns-in_err-first-2 g c = λ reader reads.
     let h = reads c.args.cursor.now c.operand.new.arg2 c.operand.result (left_at g.R.Fn c.operand.ensures) in
-    let k = c.others.ensures reader reads in
+    let k = c.others-others.ensures reader reads in
     first_of (search (rules, h, k), grind (arith, common_steps, h, k))
 
 pub returns : goal.returns
 unfolding chain list
 returns g c = λ reader reads.
     let h = reads c.args.cursor.now c.operand.new.arg2 c.operand.result (left_at g.R.Fn c.operand.ensures) in
-    let k = c.others.ensures reader reads in
+    let k = c.others-others.ensures reader reads in
     first_of (search (rules, h, k), grind (arith, common_steps, h, k))

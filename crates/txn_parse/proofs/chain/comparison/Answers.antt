@@ -10,16 +10,16 @@ returns-in_err-left g c = λ reader reads.
     let h = reads c.args.cursor.now c.side.new.arg2 c.side.result (left_at g.R.Fn c.side.ensures) in
     first_of (search (rules, h), grind (arith, common_steps, h))
 
-pub returns-in_err-other : goal.returns-in_err-other
+pub returns-in_err-left-2 : goal.returns-in_err-left-2
 unfolding comparison
-returns-in_err-other g c = λ reader reads.
+returns-in_err-left-2 g c = λ reader reads.
     let h = reads c.args.cursor.now c.side.new.arg2 c.side.result (left_at g.R.Fn c.side.ensures) in
-    let k = c.any_other_side.ensures reader reads in
+    let k = c.any_other_side-other.ensures reader reads in
     first_of (search (rules, h, k), grind (arith, common_steps, h, k))
 
 pub returns : goal.returns
 unfolding comparison
 returns g c = λ reader reads.
     let h = reads c.args.cursor.now c.side.new.arg2 c.side.result (left_at g.R.Fn c.side.ensures) in
-    let k = c.any_other_side.ensures reader reads in
+    let k = c.any_other_side-other.ensures reader reads in
     first_of (search (rules, h, k), grind (arith, common_steps, h, k))

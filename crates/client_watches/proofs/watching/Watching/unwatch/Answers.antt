@@ -1,4 +1,4 @@
-use Rattle.std.proofs.Common.{◌≡◌, Bool, cond, List, [], ◌∷◌, Ok, Err, refl, subst, sym, ap, ◌∙◌}
+use Rattle.std.proofs.Common.{Bool, cond, [], ◌∷◌, Err, refl, subst, sym, ap, ◌∙◌}
 use Rattle.std.proofs.lemmas.Result.{err_from_is_err_and}
 use Rattle.session_text.specs.declared.reply.Reply.TheVariants as reply
 use Rattle.session_text.specs.declared.reply.Why.TheVariants as why

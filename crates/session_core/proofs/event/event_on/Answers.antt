@@ -1,7 +1,7 @@
 use Rattle.std.proofs.Common.{refl, ◌∙◌}
 use Rattle.std.proofs.lemmas.Result.{err_from_is_err_and}
 use Rattle.session_core.proofs.Steps.{unmade}
-use Rattle.session_core.proofs.event.event.Goals as goal
+use Rattle.session_core.proofs.event.event_on.Goals as goal
 
 pub returns-in_err-address-clause-makes : goal.returns-in_err-address-clause-makes
 returns-in_err-address-clause-makes g c =

@@ -1,0 +1,6 @@
+pub mod Numbers
+pub mod Names
+pub mod Values
+pub mod Sound
+pub mod Complete
+pub mod Refused

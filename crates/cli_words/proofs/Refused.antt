@@ -1,0 +1,189 @@
+-- Where words are refused: up to there they go on to a form, and no further.
+use Rattle.std.proofs.Common.{◌≡◌, ℕ, ◌+◌, ◌<◌, ◌≤◌, Bool, true, false, cond, List, [], ◌∷◌, ◌++◌, inl, refl, ap, sym, ◌∙◌, subst, arith}
+use Rattle.std.specs.Prelude.{codes, Option, Some, None, is_some, Result, Ok, Err, take, drop, length, get_or}
+use denote.Bor.{Bor}
+use Rattle.std.proofs.lemmas.List.{take_more, take_all, take-append-drop, length-map, get_or-map}
+use Rattle.std.proofs.lemmas.Option.{slice_get-get_or}
+use Rattle.cli_words.specs.declared.name.CommandName.{CommandName}
+use Rattle.cli_words.specs.declared.name.CommandName.TheVariants as command
+use Rattle.cli_words.specs.declared.name.OptionName.{OptionName}
+use Rattle.cli_words.specs.declared.name.OptionName.TheVariants as option
+use Rattle.cli_words.specs.declared.plan.Plan.{Plan}
+use Rattle.cli_words.specs.declared.plan.Plan.TheVariants as plan
+use Rattle.plain_data.specs.declared.or_no_memory.OrNoMemory.{OrNoMemory}
+use Rattle.plain_data.specs.declared.or_no_memory.OrNoMemory.TheVariants as or_no_memory
+use Rattle.cli_words.specs.declared.refusal.Why.{Why}
+use Rattle.cli_words.specs.declared.refusal.Missing.{Missing}
+use Rattle.cli_words.specs.declared.refusal.Missing.TheVariants as missing
+use Rattle.cli_words.specs.declared.reading.Reading.{Reading}
+use Rattle.cli_words.specs.declared.reading.Reading.TheVariants as reading
+use Rattle.cli_words.specs.Forms.{Word, texts, Given, IsWhole, IsNoForm, IsPlan, Spells}
+use Rattle.cli_words.specs.Refusals.{GoesOn, IsCutShort, Refuses}
+use Rattle.cli_words.specs.code.Reading.{with_value, ready, step, on, after, missing_of}
+use Rattle.cli_words.specs.code.Answers.{Makes, Finishes, Explains, error_of}
+use Rattle.cli_words.proofs.Sound.{form-sound}
+use Rattle.cli_words.proofs.Complete.{options_read, form_read}
+
+-- what words make, and then others
+on_by : (words more : List Word) (made : Result Reading Why) → ((r : Reading) → after (words ++ more) r ≡ on (after more) (after words r))
+    → on (after (words ++ more)) made ≡ on (after more) (on (after words) made)
+on_by words more (Ok r) again = again r
+on_by words more (Err w) again = refl
+
+pub after-append : (words more : List Word) (r : Reading) → after (words ++ more) r ≡ on (after more) (after words r)
+after-append [] more r = refl
+after-append (word ∷ words) more r = on_by words more (step r word) (after-append words more)
+
+-- ---- no further
+
+pub no_further : (words : List Word) (w : Why) → after words reading.Start ≡ Err w → (more : List Word) → IsNoForm (words ++ more)
+no_further words w e more c given form =
+    let read = form_read (words ++ more) c given form in
+    let stuck = after-append words more reading.Start ∙ ap (on (after more)) e in
+    let bad : ◌≡◌ {A = Result Reading Why} (Err w) (Ok (reading.Ready c given)) = sym stuck ∙ read in
+    absurd (cc)
+
+-- ---- on to a form
+
+-- words that go on to a whole command line
+record Completes (r : Reading) : Type 0 where
+  more : List Word
+  name : CommandName
+  given : Given
+  made : after more r ≡ Ok (reading.Ready name given)
+  whole : IsWhole name given
+
+-- with no address yet, one can follow
+address_for : (given : Given) → given.address ≡ None → Completes (reading.Ready command.Serve given)
+address_for given e = record {
+  more = codes "--address" ∷ codes "a" ∷ [];
+  name = command.Serve;
+  given = record given { address = Some (codes "a") };
+  made = options_read 1 command.Serve (codes "--address" ∷ codes "a" ∷ []) given (record given { address = Some (codes "a") }) (
+    [],
+    record given { address = Some (codes "a") },
+    record { option = option.Address; value = codes "a"; taken = tt; spelled = inl refl; gives = (e, (λ h. absurd (omega (arith, h))), refl) },
+    (refl, refl),
+  );
+  whole = refl;
+}
+
+serve_completes : (given : Given) (found : Option Word) → given.address ≡ found → Completes (reading.Ready command.Serve given)
+serve_completes given None e = address_for given e
+serve_completes given (Some a) e = record { more = []; name = command.Serve; given = given; made = refl; whole = ap is_some e }
+
+ready_completes : (c : CommandName) (given : Given) → Completes (reading.Ready c given)
+ready_completes command.Run given = record { more = []; name = command.Run; given = given; made = refl; whole = tt }
+ready_completes command.Serve given = serve_completes given given.address refl
+
+-- a value that any option takes can follow its name
+value_completes : (c : CommandName) (given next : Given) (o : OptionName) (value : Word) → with_value o value given ≡ Ok next → Completes (reading.Waiting c given o)
+unfolding step
+value_completes c given next o value e =
+    let k = ready_completes c next in
+    record { more = value ∷ k.more; name = k.name; given = k.given; made = ap (λ made. on (after k.more) (ready c made)) e ∙ k.made; whole = k.whole }
+
+completes : (r : Reading) → Completes r
+unfolding step
+completes reading.Start = record { more = codes "run" ∷ []; name = command.Run; given = _; made = refl; whole = tt }
+completes (reading.Ready c given) = ready_completes c given
+completes (reading.Waiting c given option.Shards) = value_completes c given (record given { shards = Some 1 }) option.Shards (codes "1") refl
+completes (reading.Waiting c given option.Window) = value_completes c given (record given { window = Some 1 }) option.Window (codes "1") refl
+completes (reading.Waiting c given option.Limit) = value_completes c given (record given { limit = Some 1 }) option.Limit (codes "1") refl
+completes (reading.Waiting c given option.Sessions) = value_completes c given (record given { sessions = Some 1 }) option.Sessions (codes "1") refl
+completes (reading.Waiting c given option.Address) = value_completes c given (record given { address = Some (codes "a") }) option.Address (codes "a") refl
+
+pub goes_on : (words : List Word) (r : Reading) → after words reading.Start ≡ Ok r → GoesOn words
+goes_on words r e =
+    let k = completes r in
+    record {
+      more = k.more;
+      name = k.name;
+      given = k.given;
+      form = form-sound (words ++ k.more) k.name k.given k.whole (after-append words k.more reading.Start ∙ ap (on (after k.more)) e ∙ k.made);
+    }
+
+-- ---- at the end
+
+-- nothing is missing of a whole command line
+whole-not_missing : (c : CommandName) (given : Given) (m : Missing) → IsWhole c given → missing_of (reading.Ready c given) ≡ Some m → ⊥
+whole-not_missing command.Run given m whole e = absurd (cc)
+whole-not_missing command.Serve given m whole e = by (is_some given.address) whole e
+  where
+    by : (there : Bool) → there ≡ true → cond there None (Some (missing.Option option.Address)) ≡ Some m → ⊥
+    by true h e = absurd (cc)
+    by false h e = absurd (cc)
+
+pub cut_short : (words : List Word) (r : Reading) (m : Missing) → after words reading.Start ≡ Ok r → missing_of r ≡ Some m → IsCutShort words
+cut_short words r m e missing = record {
+  goes_on = goes_on words r e;
+  no_form = λ c given form.
+      let same : ◌≡◌ {A = Result Reading Why} (Ok r) (Ok (reading.Ready c given)) = sym e ∙ form_read words c given form in
+      let there : r ≡ reading.Ready c given = cc in
+      whole-not_missing c given m form.whole (ap missing_of (sym there) ∙ missing);
+}
+
+-- what is asked for is whole
+plan-whole : (c : CommandName) (given : Given) (p : Plan) → IsPlan c given p → IsWhole c given
+plan-whole command.Run given p h = tt
+plan-whole command.Serve given (plan.Run settings) h = absurd h
+plan-whole command.Serve given (plan.Serve settings address sessions) h = ap is_some h.1
+
+pub spelled : (words : List Word) (r : Reading) (p : Plan) → after words reading.Start ≡ Ok r → Finishes r (Ok p) → Spells words p
+spelled words reading.Start p e h = absurd h
+spelled words (reading.Waiting c given o) p e h = absurd h
+spelled words (reading.Ready c given) p e h = record { name = c; given = given; form = form-sound words c given (plan-whole c given p h) e; plan = h }
+
+-- ---- word by word
+
+-- the first words, and the next one
+texts_more : (words : List (Bor Word)) (i : ℕ) (d : Bor Word) → i < length words → take (i + 1) (texts words) ≡ take i (texts words) ++ (get_or words i d).now ∷ []
+texts_more words i d l =
+    take_more (texts words) i [] (omega (arith, length-map words (λ (word : Bor Word). word.now), l))
+    ∙ ap (λ w. take i (texts words) ++ w ∷ []) (get_or-map (λ (word : Bor Word). word.now) words i d [] l)
+
+-- what the next word makes of what stood before it
+pub after_next : (words : List (Bor Word)) (i : ℕ) (d : Bor Word) (r : Reading) (made : Result Reading Why) → i < length words
+    → after (take i (texts words)) reading.Start ≡ Ok r → step r (get_or words i d).now ≡ made → after (take (i + 1) (texts words)) reading.Start ≡ made
+after_next words i d r made l e h =
+    ap (λ ws. after ws reading.Start) (texts_more words i d l)
+    ∙ after-append (take i (texts words)) ((get_or words i d).now ∷ []) reading.Start
+    ∙ ap (on (after ((get_or words i d).now ∷ []))) e
+    ∙ on_nothing (step r (get_or words i d).now)
+    ∙ h
+  where
+    on_nothing : (made : Result Reading Why) → on (after []) made ≡ made
+    on_nothing (Ok r) = refl
+    on_nothing (Err w) = refl
+
+-- a word is refused where reading stops
+pub stops : (words : List (Bor Word)) (i : ℕ) (d : Bor Word) (r : Reading) (stop : OrNoMemory Why) → i < length words
+    → after (take i (texts words)) reading.Start ≡ Ok r → Makes {A = Reading} (Err stop) (step r (get_or words i d).now)
+    → Refuses (texts words) (error_of i (get_or words i d) stop) × Explains (texts words) (error_of i (get_or words i d) stop)
+stops words i d r or_no_memory.NoMemory l e h = (tt, tt)
+stops words i d r (or_no_memory.Cause w) l e h =
+    let stuck = after_next words i d r (Err w) l e h in (
+      record {
+        there = slice_get-get_or (texts words) i [] (omega (arith, length-map words (λ (word : Bor Word). word.now), l))
+            ∙ ap Some (get_or-map (λ (word : Bor Word). word.now) words i d [] l);
+        goes_on = goes_on (take i (texts words)) r e;
+        no_further = no_further (take (i + 1) (texts words)) w stuck;
+        no_form = subst IsNoForm (take-append-drop (i + 1) (texts words)) (no_further (take (i + 1) (texts words)) w stuck (drop (i + 1) (texts words)));
+      },
+      stuck,
+    )
+
+-- at the end all words have been read
+pub all_read : (words : List (Bor Word)) (i : ℕ) (r : Reading) → length words ≤ i → after (take i (texts words)) reading.Start ≡ Ok r → after (texts words) reading.Start ≡ Ok r
+all_read words i r l e =
+    ap (λ ws. after ws reading.Start) (sym (take_all i (texts words) (omega (arith, length-map words (λ (word : Bor Word). word.now), l)))) ∙ e
+
+-- what is missing at the end
+missing-is : (r : Reading) (m : Missing) → Finishes r (Err m) → missing_of r ≡ Some m
+missing-is reading.Start m h = h
+missing-is (reading.Ready c given) m h = h
+missing-is (reading.Waiting c given o) m h = h
+
+pub unfinished : (words : List (Bor Word)) (i : ℕ) (r : Reading) (m : Missing) → length words ≤ i → after (take i (texts words)) reading.Start ≡ Ok r → Finishes r (Err m)
+    → IsCutShort (texts words)
+unfinished words i r m l e h = cut_short (texts words) r m (all_read words i r l e) (missing-is r m h)

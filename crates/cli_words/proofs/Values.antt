@@ -1,0 +1,82 @@
+-- What a value gives, as it is read, is what the forms say.
+use Rattle.std.proofs.Common.{◌≡◌, ◌<◌, ◌^◌, ℕ, Bool, true, false, not, cond, nat_eq, [], ◌∷◌, refl, ap, sym, ◌∙◌, arith}
+use Rattle.std.specs.Prelude.{Option, Some, None, is_some, Ok, Err}
+use Rattle.std.proofs.lemmas.Bool.{eqb-false, ne_eqb, not-true}
+use Rattle.rdt_types.specs.declared.limits.TheConstants.{LEAST_SHARDS, MOST_SHARDS, LEAST_WINDOW, MOST_WINDOW, LEAST_COMMITS, MOST_COMMITS}
+use Rattle.cli_words.specs.declared.limits.TheConstants.{LEAST_SESSIONS, MOST_SESSIONS}
+use Rattle.cli_words.specs.declared.name.OptionName.{OptionName}
+use Rattle.cli_words.specs.declared.name.OptionName.TheVariants as option
+use Rattle.cli_words.specs.declared.refusal.Why.TheVariants as why
+use Rattle.cli_words.specs.Forms.{Word, HYPHEN, IsNumber, IsAddress, Given, Gives}
+use Rattle.cli_words.specs.code.Reading.{number_within, is_given, put_number, is_address, with_value}
+use Rattle.cli_words.proofs.Numbers.{number-sound, number-complete}
+
+-- nothing is there
+pub not_there : {A : Type 0} (o : Option A) → is_some o ≡ false → o ≡ None
+not_there None h = refl
+not_there (Some x) h = absurd (cc)
+
+-- a number that was put is one within the limits
+record Put (least most : ℕ) (word : Word) (put : ℕ → Given) (next : Given) : Type 0 where
+  number : ℕ
+  is : IsNumber least most word number
+  puts : next ≡ put number
+
+put_by : (least most : ℕ) (word : Word) (put : ℕ → Given) (next : Given) (found : Option ℕ)
+    → number_within least most word ≡ found → put_number least most put found ≡ Ok next → Put least most word put next
+put_by least most word put next None e h = absurd (cc)
+put_by least most word put next (Some n) e h = record { number = n; is = number-sound least most word n e; puts = cc }
+
+put-sound : (least most : ℕ) (word : Word) (put : ℕ → Given) (next : Given)
+    → put_number least most put (number_within least most word) ≡ Ok next → Put least most word put next
+put-sound least most word put next h = put_by least most word put next (number_within least most word) refl h
+
+put-complete : (least most : ℕ) (word : Word) (put : ℕ → Given) (next : Given) (n : ℕ) → most < 2 ^ 32 → IsNumber least most word n → next ≡ put n
+    → put_number least most put (number_within least most word) ≡ Ok next
+put-complete least most word put next n small is e =
+    ap (put_number least most put) (number-complete least most word n small is) ∙ ap Ok (sym e)
+
+address-sound : (word : Word) → is_address word ≡ true → IsAddress word
+address-sound [] h = absurd (cc)
+address-sound (b ∷ word) h = eqb-false b HYPHEN (not-true (nat_eq b HYPHEN) h)
+
+address-complete : (word : Word) → IsAddress word → is_address word ≡ true
+address-complete [] h = absurd h
+address-complete (b ∷ word) h = ap not (ne_eqb b HYPHEN h)
+
+address_by : (t : Bool) (x next : Given) → cond t (Ok x) (Err why.NotAnAddress) ≡ Ok next → (t ≡ true) × (next ≡ x)
+address_by true x next h = (refl, cc)
+address_by false x next h = absurd (cc)
+
+pub value-sound : (o : OptionName) (word : Word) (given next : Given) → is_given o given ≡ false → with_value o word given ≡ Ok next → Gives o word given next
+value-sound option.Shards word given next free h =
+    let k = put-sound LEAST_SHARDS MOST_SHARDS word (λ n. record given { shards = Some n }) next h in
+    (not_there given.shards free, k.number, k.is, k.puts)
+value-sound option.Window word given next free h =
+    let k = put-sound LEAST_WINDOW MOST_WINDOW word (λ n. record given { window = Some n }) next h in
+    (not_there given.window free, k.number, k.is, k.puts)
+value-sound option.Limit word given next free h =
+    let k = put-sound LEAST_COMMITS MOST_COMMITS word (λ n. record given { limit = Some n }) next h in
+    (not_there given.limit free, k.number, k.is, k.puts)
+value-sound option.Sessions word given next free h =
+    let k = put-sound LEAST_SESSIONS MOST_SESSIONS word (λ n. record given { sessions = Some n }) next h in
+    (not_there given.sessions free, k.number, k.is, k.puts)
+value-sound option.Address word given next free h =
+    let k = address_by (is_address word) (record given { address = Some word }) next h in
+    (not_there given.address free, address-sound word k.0, k.1)
+
+-- an option that is given had not been, and its value is read
+pub free-complete : (o : OptionName) (word : Word) (given next : Given) → Gives o word given next → is_given o given ≡ false
+free-complete option.Shards word given next h = ap is_some h.0
+free-complete option.Window word given next h = ap is_some h.0
+free-complete option.Limit word given next h = ap is_some h.0
+free-complete option.Sessions word given next h = ap is_some h.0
+free-complete option.Address word given next h = ap is_some h.0
+
+pub value-complete : (o : OptionName) (word : Word) (given next : Given) → Gives o word given next → with_value o word given ≡ Ok next
+value-complete option.Shards word given next h = put-complete LEAST_SHARDS MOST_SHARDS word (λ n. record given { shards = Some n }) next h.1 (omega arith) h.2 h.3
+value-complete option.Window word given next h = put-complete LEAST_WINDOW MOST_WINDOW word (λ n. record given { window = Some n }) next h.1 (omega arith) h.2 h.3
+value-complete option.Limit word given next h = put-complete LEAST_COMMITS MOST_COMMITS word (λ n. record given { limit = Some n }) next h.1 (omega arith) h.2 h.3
+value-complete option.Sessions word given next h = put-complete LEAST_SESSIONS MOST_SESSIONS word (λ n. record given { sessions = Some n }) next h.1 (omega arith) h.2 h.3
+value-complete option.Address word given next h =
+    ap (λ t. cond t (Ok (record given { address = Some word })) (Err why.NotAnAddress)) (address-complete word h.1) ∙ ap Ok (sym h.2)

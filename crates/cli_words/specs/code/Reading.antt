@@ -1,0 +1,174 @@
+-- How the words are read, one after another: what each makes of what stood before it. Judge by specs/Forms: the clauses of
+-- `read_words` tie what is read here to the forms there.
+use Rattle.std.specs.Prelude.{◌≡◌, ℕ, ◌==◌, ◌^◌, Bool, true, false, not, ◌&&◌, ◌||◌, nat_lt, nat_le, nat_eq, if◌then◌else◌, List, [], ◌∷◌, length, codes}
+use Rattle.std.specs.Prelude.{Option, Some, None, is_some, Result, Ok, Err, refl}
+use Rattle.std.specs.List.{position_or_len, before_first, after_first}
+use Rattle.std.specs.Str.{bytes_eq, all_ascii_digits}
+use Rattle.std.specs.Str.Parse.{digits_value}
+use Rattle.rdt_types.specs.declared.limits.TheConstants.{LEAST_SHARDS, MOST_SHARDS, LEAST_WINDOW, MOST_WINDOW, LEAST_COMMITS, MOST_COMMITS}
+use Rattle.cli_words.specs.declared.limits.TheConstants.{LEAST_SESSIONS, MOST_SESSIONS}
+use Rattle.cli_words.specs.declared.name.CommandName.{CommandName}
+use Rattle.cli_words.specs.declared.name.CommandName.TheVariants as command
+use Rattle.cli_words.specs.declared.name.OptionName.{OptionName}
+use Rattle.cli_words.specs.declared.name.OptionName.TheVariants as option
+use Rattle.cli_words.specs.declared.refusal.Why.{Why}
+use Rattle.cli_words.specs.declared.refusal.Why.TheVariants as why
+use Rattle.cli_words.specs.declared.refusal.Missing.{Missing}
+use Rattle.cli_words.specs.declared.refusal.Missing.TheVariants as missing
+use Rattle.cli_words.specs.declared.reading.Reading.{Reading}
+use Rattle.cli_words.specs.declared.reading.Reading.TheVariants as reading
+use Rattle.cli_words.specs.Forms.{Word, HYPHEN, EQUALS, Given, nothing_given}
+
+-- ---- names
+
+abbrev pub command_named : Word → Option CommandName
+command_named word =
+    if bytes_eq word (codes "run") then Some command.Run
+    else if bytes_eq word (codes "serve") then Some command.Serve
+    else None
+
+abbrev pub option_named : Word → Option OptionName
+option_named word =
+    if bytes_eq word (codes "--shards") then Some option.Shards
+    else if bytes_eq word (codes "--window") then Some option.Window
+    else if bytes_eq word (codes "--limit") then Some option.Limit
+    else if bytes_eq word (codes "--sessions") then Some option.Sessions
+    else if bytes_eq word (codes "--address") then Some option.Address
+    else None
+
+abbrev pub takes : CommandName → OptionName → Bool
+takes command.Run option.Sessions = false
+takes command.Run option.Address = false
+takes c o = true
+
+-- ---- numbers
+
+-- a plus stands in front, or a zero in front of something else
+abbrev pub is_led : Word → Bool
+is_led [] = false
+is_led (b ∷ []) = nat_eq b 43
+is_led (b ∷ c ∷ word) = nat_eq b 43 || nat_eq b 48
+
+-- digits, and nothing in front of them
+abbrev pub is_plain : Word → Bool
+is_plain word = not (is_led word) && nat_lt 0 (length word) && all_ascii_digits word
+
+abbrev pub small_number : Word → Option ℕ
+small_number word = if is_plain word && nat_lt (digits_value 10 word) (2 ^ 32) then Some (digits_value 10 word) else None
+
+abbrev pub if_within : ℕ → ℕ → Option ℕ → Option ℕ
+if_within least most None = None
+if_within least most (Some n) = if nat_le least n && nat_le n most then Some n else None
+
+abbrev pub number_within : ℕ → ℕ → Word → Option ℕ
+number_within least most word = if_within least most (small_number word)
+
+-- ---- values
+
+abbrev pub is_given : OptionName → Given → Bool
+is_given option.Shards given = is_some given.shards
+is_given option.Window given = is_some given.window
+is_given option.Limit given = is_some given.limit
+is_given option.Sessions given = is_some given.sessions
+is_given option.Address given = is_some given.address
+
+-- a number is put in its place, or is none within the limits
+abbrev pub put_number : ℕ → ℕ → (ℕ → Given) → Option ℕ → Result Given Why
+put_number least most put None = Err (why.NotANumber least most)
+put_number least most put (Some n) = Ok (put n)
+
+abbrev pub is_address : Word → Bool
+is_address [] = false
+is_address (b ∷ word) = not (nat_eq b HYPHEN)
+
+-- what is given with a value
+abbrev pub with_value : OptionName → Word → Given → Result Given Why
+with_value option.Shards word given =
+    put_number LEAST_SHARDS MOST_SHARDS (λ n. record given { shards = Some n }) (number_within LEAST_SHARDS MOST_SHARDS word)
+with_value option.Window word given =
+    put_number LEAST_WINDOW MOST_WINDOW (λ n. record given { window = Some n }) (number_within LEAST_WINDOW MOST_WINDOW word)
+with_value option.Limit word given =
+    put_number LEAST_COMMITS MOST_COMMITS (λ n. record given { limit = Some n }) (number_within LEAST_COMMITS MOST_COMMITS word)
+with_value option.Sessions word given =
+    put_number LEAST_SESSIONS MOST_SESSIONS (λ n. record given { sessions = Some n }) (number_within LEAST_SESSIONS MOST_SESSIONS word)
+with_value option.Address word given =
+    if is_address word then Ok (record given { address = Some word }) else Err why.NotAnAddress
+
+-- ---- words
+
+-- a command's options go on, or a value is refused
+abbrev pub ready : CommandName → Result Given Why → Result Reading Why
+ready c (Ok given) = Ok (reading.Ready c given)
+ready c (Err w) = Err w
+
+-- the name that a word begins with, and the value behind it where the word has one
+abbrev pub name_part : Word → Word
+name_part word = before_first (λ b. b == EQUALS) word
+
+abbrev pub has_value : Word → Bool
+has_value word = nat_lt (position_or_len (λ b. b == EQUALS) word) (length word)
+
+abbrev pub value_part : Word → Word
+value_part word = after_first (λ b. b == EQUALS) word
+
+-- the option that a word names, if the command takes it and it is not given yet
+abbrev pub free_option : CommandName → Given → Option OptionName → Result OptionName Why
+free_option c given None = Err why.NoOption
+free_option c given (Some o) =
+    if not (takes c o) then Err why.NoOption
+    else if is_given o given then Err why.GivenTwice
+    else Ok o
+
+-- it is given with the value behind its name, or waits for one
+abbrev pub with_free : CommandName → Given → Word → Result OptionName Why → Result Reading Why
+with_free c given word (Err w) = Err w
+with_free c given word (Ok o) = if has_value word then ready c (with_value o (value_part word) given) else Ok (reading.Waiting c given o)
+
+abbrev pub with_option : CommandName → Given → Word → Result Reading Why
+with_option c given word = with_free c given word (free_option c given (option_named (name_part word)))
+
+abbrev pub begun : Option CommandName → Result Reading Why
+begun None = Err why.NoCommand
+begun (Some c) = Ok (reading.Ready c nothing_given)
+
+-- What a word makes of what stood before it.
+unfoldable pub step : Reading → Word → Result Reading Why
+step reading.Start word = begun (command_named word)
+step (reading.Ready c given) word = with_option c given word
+step (reading.Waiting c given o) word = ready c (with_value o word given)
+
+abbrev pub on : (Reading → Result Reading Why) → Result Reading Why → Result Reading Why
+on go (Ok r) = go r
+on go (Err w) = Err w
+
+-- what words make, one after another
+abbrev pub after : List Word → Reading → Result Reading Why
+after [] r = Ok r
+after (word ∷ words) r = on (after words) (step r word)
+
+-- what is missing where no more words come
+abbrev pub missing_of : Reading → Option Missing
+missing_of reading.Start = Some missing.Command
+missing_of (reading.Waiting c given o) = Some (missing.Value o)
+missing_of (reading.Ready command.Run given) = None
+missing_of (reading.Ready command.Serve given) = if is_some given.address then None else Some (missing.Option option.Address)
+
+-- ---- worked lines
+
+-- the settings of `run --shards=4`
+reads-row : after (codes "run" ∷ codes "--shards=4" ∷ []) reading.Start ≡ Ok (reading.Ready command.Run (record nothing_given { shards = Some 4 }))
+unfolding step
+reads-row = refl
+
+-- no store has 0 shards, an option is given once, and `fly` is no command
+refuses-zero : after (codes "run" ∷ codes "--shards" ∷ codes "0" ∷ []) reading.Start ≡ Err (why.NotANumber 1 16)
+unfolding step
+refuses-zero = refl
+
+refuses-twice : after (codes "run" ∷ codes "--shards" ∷ codes "4" ∷ codes "--shards" ∷ codes "4" ∷ []) reading.Start ≡ Err why.GivenTwice
+unfolding step
+refuses-twice = refl
+
+refuses-unknown : after (codes "fly" ∷ []) reading.Start ≡ Err why.NoCommand
+unfolding step
+refuses-unknown = refl

@@ -1,0 +1,122 @@
+//! What the program says of itself.
+
+ghost use Rattle.std.specs.Prelude.{◌≡◌};
+ghost use Rattle.cli_words.specs.Forms.{texts};
+ghost use Rattle.cli_words.specs.Questions.{question_in};
+
+use clap::{Arg, ArgAction, Command};
+use std::alloc::{AllocError, Global};
+
+/// What the program is asked of itself, in place of a command.
+#[derive(Clone, Copy, Debug, PartialEq, Eq)]
+pub enum Question {
+    Help,
+    Version,
+}
+
+/// The program's name and version.
+pub const VERSION: &str = "diamond 0.1.0";
+
+/// What words ask of the program itself: one word alone does.
+pub fn asked(words: &[&str]) -> Option<Question>
+    ensures { result ≡ question_in (texts words.now) }
+{
+    match words {
+        [word] if *word == "--help" => Some(Question::Help),
+        [word] if *word == "--version" => Some(Question::Version),
+        _ => None,
+    }
+}
+
+/// How the program is used: its commands, and the options of each.
+pub fn help_text(alloc: Global) -> Result<String, AllocError> {
+    let mut text = program(alloc)?.render_help()?;
+    text.push_str("\n")?;
+    text.push_str(run(alloc)?.render_help()?.as_str())?;
+    text.push_str("\n")?;
+    text.push_str(serve(alloc)?.render_help()?.as_str())?;
+    Ok(text)
+}
+
+/// A command without the flags that `clap` gives one by itself.
+fn bare<'a>(alloc: Global, name: &'a str, about: &'a str) -> Command<'a> {
+    Command::new(alloc, name)
+        .about(about)
+        .disable_help_flag(true)
+        .disable_version_flag(true)
+        .disable_help_subcommand(true)
+}
+
+fn flag<'a>(alloc: Global, name: &'a str, text: &'a str) -> Arg<'a> {
+    Arg::new(alloc, name)
+        .long(name)
+        .action(ArgAction::SetTrue)
+        .help(text)
+}
+
+fn option<'a>(alloc: Global, name: &'a str, value: &'a str, text: &'a str) -> Arg<'a> {
+    Arg::new(alloc, name)
+        .long(name)
+        .value_name(value)
+        .action(ArgAction::Set)
+        .help(text)
+}
+
+fn program<'a>(alloc: Global) -> Result<Command<'a>, AllocError> {
+    bare(
+        alloc,
+        "diamond",
+        "A transactional store whose watchers see what changed",
+    )
+    .subcommand(bare(alloc, "run", "Run a script, read from the input"))?
+    .subcommand(bare(alloc, "serve", "Serve sessions at an address"))?
+    .arg(flag(alloc, "help", "Print this"))?
+    .arg(flag(alloc, "version", "Print the version"))
+}
+
+/// The options of a store, which every command takes.
+fn with_settings<'a>(alloc: Global, command: Command<'a>) -> Result<Command<'a>, AllocError> {
+    command
+        .arg(option(
+            alloc,
+            "shards",
+            "N",
+            "How many shards hold the data, from 1 to 16 [default: 4]",
+        ))?
+        .arg(option(
+            alloc,
+            "window",
+            "W",
+            "How many commits back can be read, from 1 to 4096 [default: 4096]",
+        ))?
+        .arg(option(
+            alloc,
+            "limit",
+            "L",
+            "How many commits the journal takes, from 1 to 100000 [default: 100000]",
+        ))
+}
+
+fn run<'a>(alloc: Global) -> Result<Command<'a>, AllocError> {
+    with_settings(
+        alloc,
+        bare(alloc, "diamond run", "Run a script, read from the input"),
+    )
+}
+
+fn serve<'a>(alloc: Global) -> Result<Command<'a>, AllocError> {
+    let command = bare(alloc, "diamond serve", "Serve sessions at an address")
+        .arg(option(
+            alloc,
+            "address",
+            "A",
+            "Where to listen, as 127.0.0.1:4000; it must be given",
+        ))?
+        .arg(option(
+            alloc,
+            "sessions",
+            "S",
+            "How many sessions to serve, from 1 to 1000 [default: 1]",
+        ))?;
+    with_settings(alloc, command)
+}

@@ -1,0 +1,91 @@
+//! The names of commands and options.
+
+ghost use Rattle.std.specs.Prelude.{◌≡◌};
+ghost use Rattle.cli_words.specs.Forms.{command_word, option_word};
+ghost use Rattle.cli_words.specs.code.Reading as spec;
+
+/// What the program can be asked to do.
+#[derive(Clone, Copy, Debug, PartialEq, Eq)]
+pub enum CommandName {
+    Run,
+    Serve,
+}
+
+/// What can be told of a command.
+#[derive(Clone, Copy, Debug, PartialEq, Eq)]
+pub enum OptionName {
+    Shards,
+    Window,
+    Limit,
+    Sessions,
+    Address,
+}
+
+impl CommandName {
+    /// The word that names the command.
+    pub fn word(self) -> &'static str
+        ensures { result.now ≡ command_word self }
+    {
+        match self {
+            CommandName::Run => "run",
+            CommandName::Serve => "serve",
+        }
+    }
+
+    /// The command that a word names.
+    pub(crate) fn named(word: &str) -> Option<CommandName>
+        ensures { result ≡ spec.command_named word.now }
+    {
+        if word == "run" {
+            Some(CommandName::Run)
+        } else if word == "serve" {
+            Some(CommandName::Serve)
+        } else {
+            None
+        }
+    }
+
+    /// Whether the command takes the option.
+    pub(crate) fn takes(self, option: OptionName) -> bool
+        ensures { result ≡ spec.takes self option }
+    {
+        match option {
+            OptionName::Sessions | OptionName::Address => self == CommandName::Serve,
+            _ => true,
+        }
+    }
+}
+
+impl OptionName {
+    /// The word that names the option.
+    pub fn word(self) -> &'static str
+        ensures { result.now ≡ option_word self }
+    {
+        match self {
+            OptionName::Shards => "--shards",
+            OptionName::Window => "--window",
+            OptionName::Limit => "--limit",
+            OptionName::Sessions => "--sessions",
+            OptionName::Address => "--address",
+        }
+    }
+
+    /// The option that a word names.
+    pub(crate) fn named(word: &str) -> Option<OptionName>
+        ensures { result ≡ spec.option_named word.now }
+    {
+        if word == "--shards" {
+            Some(OptionName::Shards)
+        } else if word == "--window" {
+            Some(OptionName::Window)
+        } else if word == "--limit" {
+            Some(OptionName::Limit)
+        } else if word == "--sessions" {
+            Some(OptionName::Sessions)
+        } else if word == "--address" {
+            Some(OptionName::Address)
+        } else {
+            None
+        }
+    }
+}

@@ -1,0 +1,17 @@
+//! What words ask for.
+
+use plain_data::Text;
+use rdt_types::Settings;
+
+/// What the program is to do.
+#[derive(Debug, Drop)]
+pub enum Plan {
+    /// Run a script, over a store with these settings.
+    Run(Settings),
+    /// Serve so many sessions at an address, over a store with these settings.
+    Serve {
+        settings: Settings,
+        address: Text,
+        sessions: u32,
+    },
+}

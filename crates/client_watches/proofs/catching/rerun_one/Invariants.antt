@@ -1,0 +1,19 @@
+use Rattle.std.proofs.Common.{◌≡◌}
+use Rattle.client_cache.specs.Cached.{held}
+use Rattle.rerun_driver.specs.Watches.{first_stale}
+use Rattle.client_watches.specs.Phases.{Goal, rerun_all}
+use Rattle.client_watches.specs.Keeping.{Keeps}
+use Rattle.client_watches.specs.Leading.{Reaches}
+use Rattle.client_watches.proofs.Bounds.{HasRead}
+use Rattle.client_watches.proofs.catching.rerun_one.Given as goal
+
+-- each round reads one value more for the run of the first stale watch
+abbrev pub invariant-loop : goal.invariant-loop
+invariant-loop g l = record {
+  led : (goal : Goal) → Reaches g.B.Backend.known g.B.Backend.goes l.fn.backend (rerun_all goal l.fn.watching l.fn.said) l.backend
+      (rerun_all goal l.watching l.said);
+  read : HasRead (first_stale l.watching.watches) l.counter (held l.watching.cache);
+  watches : l.watching.watches ≡ l.fn.watching.watches;
+  keeps : Keeps (g.B.Backend.known l.backend) l.watching;
+  home : g.B.Backend.home l.backend ≡ g.B.Backend.home l.fn.backend;
+}

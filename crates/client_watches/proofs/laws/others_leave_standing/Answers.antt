@@ -1,0 +1,5 @@
+use Rattle.client_watches.proofs.Forgetting.{others_leave_standing as lemma}
+use Rattle.client_watches.proofs.laws.others_leave_standing.Goals as goal
+
+pub returns : goal.returns
+returns c = lemma

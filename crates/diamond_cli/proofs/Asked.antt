@@ -1,0 +1,40 @@
+-- Words that ask to run a script are of one form, and ask for nothing else.
+use Rattle.std.proofs.Common.{◌≡◌, ℕ, List, subst}
+use Rattle.rdt_types.specs.declared.settings.Settings.{Settings}
+use Rattle.cli_words.specs.declared.name.CommandName.{CommandName}
+use Rattle.cli_words.specs.declared.name.CommandName.TheVariants as command
+use Rattle.cli_words.specs.declared.plan.Plan.{Plan}
+use Rattle.cli_words.specs.declared.plan.Plan.TheVariants as plan
+use Rattle.cli_words.specs.declared.refusal.BadWords.{BadWords}
+use Rattle.cli_words.specs.declared.refusal.BadWords.TheVariants as bad_words
+use Rattle.cli_words.specs.declared.refusal.WordsError.{WordsError}
+use Rattle.cli_words.specs.declared.refusal.WordsError.TheVariants as words_error
+use Rattle.cli_words.specs.Forms.{Word, Given, IsNoForm, IsPlan, Spells}
+use Rattle.cli_words.specs.Refusals.{Refuses}
+use Rattle.cli_words.proofs.Complete.{one_form}
+
+-- words whose plan is to run a script ask for that
+pub plan-asks : (words : List Word) (p : Plan) (settings : Settings) → Spells words p → p ≡ plan.Run settings → Spells words (plan.Run settings)
+plan-asks words p settings spells is = subst (Spells words) is spells
+
+-- words that were refused are of no form
+no-form : (words : List Word) (bad : BadWords) → Refuses words (words_error.BadWords bad) → IsNoForm words
+no-form words (bad_words.Refused place word w) is = is.no_form
+no-form words (bad_words.CutShort missing) is = is.no_form
+
+-- so they don't ask to run a script
+pub refused-no-run : (words : List Word) (error : WordsError) (bad : BadWords) (settings : Settings)
+    → Refuses words error → error ≡ words_error.BadWords bad → Spells words (plan.Run settings) → ⊥
+refused-no-run words error bad settings refuses is runs = no-form words bad (subst (Refuses words) is refuses) runs.name runs.given runs.form
+
+-- words that ask to serve don't ask to run a script
+pub serve-no-run : (words : List Word) (settings own : Settings) (address : Word) (sessions : ℕ)
+    → Spells words (plan.Serve settings address sessions) → Spells words (plan.Run own) → ⊥
+serve-no-run words settings own address sessions serves runs =
+    by serves.name runs.name serves.given runs.given serves.plan runs.plan
+    (one_form words serves.name runs.name serves.given runs.given serves.form runs.form).0
+  where
+    by : (c d : CommandName) (g h : Given) → IsPlan c g (plan.Serve settings address sessions) → IsPlan d h (plan.Run own) → c ≡ d → ⊥
+    by command.Run d g h serve run e = serve
+    by command.Serve command.Serve g h serve run e = run
+    by command.Serve command.Run g h serve run e = cc

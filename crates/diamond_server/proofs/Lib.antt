@@ -1,0 +1,4 @@
+pub mod Talked
+pub mod Lines
+pub mod Promises
+pub mod Beginning

@@ -1,0 +1,17 @@
+use Rattle.std.proofs.Common.{◌≡◌}
+use Rattle.session_core.specs.Holding.{Attends}
+use Rattle.diamond_server.specs.Talking.{first_session}
+use Rattle.diamond_server.specs.Promises.{sides}
+use Rattle.diamond_server.specs.code.Serving.{HasServed}
+use Rattle.diamond_server.proofs.serving.serve_lines.Given as goal
+
+-- so many lines were done and answered, the session goes on, and the backend stands where it stood
+abbrev pub invariant-loop : goal.invariant-loop
+invariant-loop g l = record {
+  served : HasServed g.B.Backend.known g.B.Backend.goes l.counter l.fn.backend
+      (sides g.K.Source.left g.K.Source.read_faults g.K.Sink.taken g.K.Sink.passed g.K.Sink.write_faults l.fn.link) l.backend l.session
+      (sides g.K.Source.left g.K.Source.read_faults g.K.Sink.taken g.K.Sink.passed g.K.Sink.write_faults l.link);
+  attends : Attends (g.B.Backend.known l.backend) l.session;
+  first : Attends (g.B.Backend.known l.fn.backend) (first_session (g.B.Backend.known l.fn.backend));
+  home : g.B.Backend.home l.backend ≡ g.B.Backend.home l.fn.backend;
+}

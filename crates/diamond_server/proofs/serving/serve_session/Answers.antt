@@ -1,0 +1,16 @@
+use Rattle.std.proofs.Common.{ℕ, sym, subst}
+use Rattle.diamond_server.specs.Promises.{sides, KeepsPromises}
+use Rattle.diamond_server.proofs.Promises.{keeps_promises}
+use Rattle.diamond_server.proofs.serving.serve_session.Goals as goal
+
+-- the status is that of how the lines ended
+pub returns : goal.returns
+returns g c =
+    let x = sides g.K.Source.left g.K.Source.read_faults g.K.Sink.taken g.K.Sink.passed g.K.Sink.write_faults c.args.link.now in
+    let y = sides g.K.Source.left g.K.Source.read_faults g.K.Sink.taken g.K.Sink.passed g.K.Sink.write_faults c.serve_lines-ended.new.link in
+    let old = c.args.backend.now in
+    let new = c.serve_lines-ended.new.backend in record {
+      promises = subst (λ (status : ℕ). KeepsPromises g.B.Backend.known g.B.Backend.goes status old new x y) (sym c.status_of.ensures)
+          (keeps_promises g.B.Backend.known g.B.Backend.goes old new x y c.serve_lines-ended.result c.serve_lines-ended.ensures.ends);
+      home = c.serve_lines-ended.ensures.home;
+    }

@@ -1,0 +1,3 @@
+pub mod Talking
+pub mod Promises
+pub mod code

@@ -1,0 +1,118 @@
+-- What a session over a link promises, by the status that it answers.
+use Rattle.std.specs.Prelude.{◌≡◌, ℕ, ◌≤◌, ◌⊎◌, ◌==◌, List, [], ◌∷◌, ◌++◌, map, length, Option, Some, None, IfSome, IsTrue, refl}
+use Rattle.std.specs.List.{list_any}
+use Rattle.dio_core.specs.Told.{WhereTold}
+use Rattle.dio_core.specs.Counts.{Rose, IsCounted}
+use Rattle.dio_core.specs.Lines.{lines, line_of as cut_of, BreaksOff}
+use Rattle.dio_core.specs.Links.{Both, incoming, outgoing}
+use Rattle.dio_core.specs.Sinks.{with_more, IsPassedOn}
+use Rattle.txn_grammar.specs.Characters.{Text}
+use Rattle.txn_lang.specs.Journals.{own}
+use Rattle.txn_lang.specs.States.{Journal}
+use Rattle.docc_prepare.specs.Calls.{Known, Call, Answer}
+use Rattle.client_watches.specs.Standing.{CanRead, CanReadOn}
+use Rattle.session_core.specs.declared.session.Session.{Session}
+use Rattle.session_core.specs.Explained.{story_of, setting_of}
+use Rattle.session_core.specs.Sessions.{OwnsAnswered, denied_by_all, all_replies, ExplainsAll}
+use Rattle.script_runner.specs.declared.status.TheConstants.{WHOLE, READ_FAULT, WRITE_FAULT, NO_MEMORY, TOO_MANY_LINES}
+use Rattle.script_runner.specs.declared.stop.TheConstants.{MOST_LINES}
+use Rattle.diamond_server.specs.declared.status.TheConstants.{STORE_FAULT}
+use Rattle.diamond_server.specs.Talking.{Told, Talks, first_session, output, line_told, texts_of, turns_of}
+
+-- ---- the statuses
+
+statuses-are : WHOLE ∷ READ_FAULT ∷ WRITE_FAULT ∷ NO_MEMORY ∷ STORE_FAULT ∷ TOO_MANY_LINES ∷ [] ≡ 0 ∷ 3 ∷ 4 ∷ 5 ∷ 6 ∷ 9 ∷ []
+statuses-are = refl
+
+-- ---- the two ends of a session
+
+-- both sides of a link, by what links tell
+abbrev pub sides : {K : Type 0} → (K → Option Text) → (K → ℕ) → (K → Option Text) → (K → Option Text) → (K → ℕ) → K → Both
+sides left reads taken passed writes link =
+    record { inwards = incoming (left link) (reads link); outwards = outgoing (taken link) (passed link) (writes link) }
+
+-- of a journal that is told: the client has no commit in it, what it has seen is there, and it can be read however it grows
+pub record IsNewTo (k : Known) (journal : Journal) : Type 0 where
+  pub none : own k.client journal ≡ []
+  pub within : k.seen ≤ length journal
+  pub can : CanRead journal
+  pub can_on : CanReadOn k.trusted journal
+
+-- THE CONDITION OF A SESSION: its client is new.
+abbrev pub IsNew : Known → Type 0
+IsNew k = IfSome k.journal (IsNewTo k)
+
+-- ---- what a talk comes to
+
+-- All answers are explained by the journal at its end, whatever number the client had been shown before, up to what it had
+-- seen; its commits are those before and the answered ones; the disk denied as many as were answered so; and the store never
+-- failed.
+pub record IsAccounted (k l : Known) (tolds : List Told) : Type 0 where
+  pub explained : (low : ℕ) → low ≤ k.seen
+      → WhereTold (ExplainsAll (setting_of k) (story_of low low (first_session k)) (texts_of tolds) (turns_of tolds)) k.journal l.journal
+  pub own_commits : WhereTold (OwnsAnswered k.client (all_replies (turns_of tolds))) k.journal l.journal
+  pub denied : l.denied ≡ denied_by_all k.denied (all_replies (turns_of tolds))
+  pub known_denied : denied_by_all k.denials (all_replies (turns_of tolds)) ≤ l.denials
+  pub faults : l.faults ≡ k.faults
+
+-- ---- how much of the input was talked of
+
+-- it was told of the first lines of the input, and of no others
+pub record HasRead (tolds : List Told) (all rest : Text) : Type 0 where
+  pub raws : List Text
+  pub read : lines all ≡ raws ++ lines rest
+  pub cut : map cut_of raws ≡ map line_told tolds
+
+-- to its end, or up to a line that ended the session
+pub record ReadsToTheEnd (tolds : List Told) (o : Option Session) (all rest : Text) : Type 0 where
+  pub read : HasRead tolds all rest
+  pub end : (rest ≡ []) ⊎ (o ≡ None)
+
+-- a read failed in a line, behind those that were read whole
+pub record ReadsUpToAFault (tolds : List Told) (o : Option Session) (all rest : Text) : Type 0 where
+  pub broken : Text
+  pub read : HasRead tolds all broken
+  pub breaks : BreaksOff (Some broken) (Some rest)
+
+-- one line more was read
+pub record ReadsOneMore (tolds : List Told) (o : Option Session) (all rest : Text) : Type 0 where
+  pub behind : Text
+  pub next : Text
+  pub read : HasRead tolds all behind
+  pub more : lines behind ≡ next ∷ lines rest
+
+-- The backend and the link were left by a talk: what the link took is its whole output, behind what it had taken before, and
+-- where all of that had been passed on, all of this has been.
+pub record IsServed {B : Type 0} (known : B → Known) (goes : B → Call → Answer → B → Type 0) (old new : B) (x y : Both)
+    (Reads : List Told → Option Session → Text → Text → Type 0) : Type 0 where
+  pub tolds : List Told
+  pub session : Option Session
+  pub talks : Talks known goes old (first_session (known old)) tolds new session
+  pub accounted : IsAccounted (known old) (known new) tolds
+  pub few : length tolds ≤ MOST_LINES
+  pub reads : WhereTold (Reads tolds session) x.inwards.left y.inwards.left
+  pub taken : y.outwards.taken ≡ with_more x.outwards.taken (output tolds)
+  pub flushed : IsPassedOn x.outwards.taken x.outwards.passed → IsPassedOn y.outwards.taken y.outwards.passed
+
+-- ---- what a session promises
+
+pub record KeepsPromises {B : Type 0} (known : B → Known) (goes : B → Call → Answer → B → Type 0) (status : ℕ) (old new : B) (x y : Both) : Type 0 where
+  -- there are six statuses
+  pub statuses : IsTrue (list_any (λ s. s == status) (WHOLE ∷ READ_FAULT ∷ WRITE_FAULT ∷ NO_MEMORY ∷ STORE_FAULT ∷ TOO_MANY_LINES ∷ []))
+  -- at 0 the input was talked of to its end, or to a line that ended the session
+  pub whole : status ≡ WHOLE → IsServed known goes old new x y ReadsToTheEnd
+  -- at 3 the lines that were read whole
+  pub broken_off : status ≡ READ_FAULT → IsServed known goes old new x y ReadsUpToAFault
+  -- at 9 the most lines that may be read
+  pub too_many : status ≡ TOO_MANY_LINES
+      → (served : IsServed known goes old new x y ReadsOneMore) × (length served.tolds ≡ MOST_LINES)
+  -- the link's count of reads rose at 3, and at no other status
+  pub reads : IsCounted (status == READ_FAULT) x.inwards.faults y.inwards.faults
+  -- its count of writes at 4, and at no other status
+  pub writes : IsCounted (status == WRITE_FAULT) x.outwards.faults y.outwards.faults
+  -- at 6 the store's count of faults rose
+  pub store_failed : status ≡ STORE_FAULT → Rose (known old).faults (known new).faults
+  -- an input of no more lines than may be read, and over which no count rose, is talked of to its end, memory aside
+  pub completes : (all : Text) → x.inwards.left ≡ Some all → length (lines all) ≤ MOST_LINES
+      → ¬ (Rose x.inwards.faults y.inwards.faults) → ¬ (Rose x.outwards.faults y.outwards.faults) → ¬ (Rose (known old).faults (known new).faults)
+      → (status ≡ WHOLE) ⊎ (status ≡ NO_MEMORY)

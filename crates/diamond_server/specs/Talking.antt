@@ -1,0 +1,128 @@
+-- What a session over a link does with the lines that it reads, and what it answers them.
+use Rattle.std.specs.Prelude.{◌≡◌, ℕ, ◌≤◌, List, [], ◌∷◌, ◌++◌, length, Option, Some, None, codes, refl}
+use Rattle.dio_core.specs.declared.line.TheConstants.{NEWLINE, LONGEST_LINE}
+use Rattle.dio_core.specs.declared.line.Line.{Line}
+use Rattle.dio_core.specs.declared.line.Line.TheVariants as line
+use Rattle.session_text.specs.declared.reply.Reply.{Reply}
+use Rattle.session_text.specs.declared.reply.Reply.TheVariants as reply
+use Rattle.session_text.specs.declared.reply.Why.TheVariants as why
+use Rattle.session_text.specs.Printing.{printed_reply}
+use Rattle.txn_grammar.specs.Characters.{Text}
+use Rattle.docc_prepare.specs.Calls.{Known, Call, Answer}
+use Rattle.docc_prepare.specs.Backends.{Goes}
+use Rattle.client_watches.specs.Watching.{none_yet}
+use Rattle.session_core.specs.declared.session.Session.{Session}
+use Rattle.session_core.specs.declared.turn.Turn.{Turn}
+use Rattle.session_core.specs.declared.turn.Turn.TheVariants as turn
+use Rattle.session_core.specs.Leading.{Arrives}
+use Rattle.session_core.specs.Lines.{line_of}
+use Rattle.session_core.specs.Phases.{Phase, synced, start}
+use Rattle.script_runner.specs.Play.{left}
+
+-- ---- texts
+
+-- a reply line: the reply's one printed form, and a newline
+abbrev pub reply_line : Reply → Text
+reply_line r = printed_reply r ++ NEWLINE ∷ []
+
+-- replies in their order
+abbrev pub reply_lines : List Reply → Text
+reply_lines [] = []
+reply_lines (r ∷ rest) = reply_line r ++ reply_lines rest
+
+-- The text of a turn. (One that is to wait has none yet: its client is woken first.)
+abbrev pub turn_text : Turn → Text
+turn_text turn.Quiet = []
+turn_text (turn.Replies replies) = reply_lines replies
+turn_text turn.WaitWanted = []
+turn_text (turn.Ended replies) = reply_lines replies
+
+-- ---- what is told
+
+-- WHAT IS TOLD OF A LINE.
+pub data Told : Type 0 where
+  -- it is too long, and is refused
+  long : Told
+  -- the session was asked for this, and answered this
+  answered : Text → Turn → Told
+
+-- the bytes that answer it
+abbrev pub printed : Told → Text
+printed Told.long = reply_line (reply.Refused why.Long)
+printed (Told.answered text said) = turn_text said
+
+-- those of all, in their order
+abbrev pub output : List Told → Text
+output [] = []
+output (told ∷ rest) = printed told ++ output rest
+
+-- the line of which it is told
+abbrev pub line_told : Told → Line
+line_told Told.long = line.TooLong
+line_told (Told.answered text said) = line.Bytes text
+
+-- the lines that a session was asked for, and their answers
+abbrev pub texts_of : List Told → List Text
+texts_of [] = []
+texts_of (Told.long ∷ rest) = texts_of rest
+texts_of (Told.answered text said ∷ rest) = text ∷ texts_of rest
+
+abbrev pub turns_of : List Told → List Turn
+turns_of [] = []
+turns_of (Told.long ∷ rest) = turns_of rest
+turns_of (Told.answered text said ∷ rest) = said ∷ turns_of rest
+
+-- ---- one line
+
+-- A LINE OF THE SESSION IS ANSWERED: its calls of the backend are those of the machine of phases, each by a step of the
+-- backend's relation, and the turn is what stands at the end. Where that is to wait, the client waits until the backend
+-- answers, and then the line goes on as `sync` does.
+pub data Answers {B : Type 0} (known : B → Known) (goes : B → Call → Answer → B → Type 0) (old : B) (s : Session) (text : Text) (said : Turn) (new : B)
+    (t : Session) : Type 0 where
+  at_once : (said ≡ turn.WaitWanted → ⊥)
+      → Arrives known goes old (start (known old).shards (known old).seen s (line_of text)) new (Phase.over t said)
+      → Answers known goes old s text said new t
+  woken : (there woke : B) (u : Session)
+      → Arrives known goes old (start (known old).shards (known old).seen s (line_of text)) there (Phase.over u turn.WaitWanted)
+      → Goes known goes there Call.wait Answer.done woke → Arrives known goes woke (synced u) new (Phase.over t said)
+      → Answers known goes old s text said new t
+
+-- a line that was short enough for the session, which goes on unless its turn ended it
+pub record LineIsAnswered {B : Type 0} (known : B → Known) (goes : B → Call → Answer → B → Type 0) (old : B) (s : Session) (text : Text) (said : Turn) (new : B)
+    (o : Option Session) : Type 0 where
+  pub short : length text ≤ LONGEST_LINE
+  pub after : Session
+  pub answers : Answers known goes old s text said new after
+  pub goes_on : o ≡ left after said
+
+-- what a line does: too long a line does nothing
+abbrev pub Does : {B : Type 0} → (B → Known) → (B → Call → Answer → B → Type 0) → B → Session → Told → B → Option Session → Type 0
+Does known goes old s Told.long new o = (new ≡ old) × (o ≡ Some s)
+Does known goes old s (Told.answered text said) new o = LineIsAnswered known goes old s text said new o
+
+-- ---- line after line
+
+-- the session of the backend's client, which has no commit
+abbrev pub first_session : Known → Session
+first_session k = record { client = k.client; seq = 1; at = k.seen; attempt = None; watching = none_yet k.seen; over = None }
+
+-- A TALK: lines are done one after another, each on what the one before it left. No line is behind one that ended the session.
+pub data Talks {B : Type 0} (known : B → Known) (goes : B → Call → Answer → B → Type 0) (old : B) (s : Session)
+    : List Told → B → Option Session → Type 0 where
+  silent : Talks known goes old s [] old (Some s)
+  says : {before tolds : List Told} {mid new : B} {t : Session} {o : Option Session} (told : Told)
+      → Talks known goes old s before mid (Some t) → Does known goes mid t told new o → tolds ≡ before ++ told ∷ []
+      → Talks known goes old s tolds new o
+
+-- ---- worked lines
+
+-- a reply has no client's number before it
+reply-example : turn_text (turn.Replies (reply.Disk ∷ reply.Dropped ∷ [])) ≡ codes "disk" ++ NEWLINE ∷ codes "dropped" ++ NEWLINE ∷ []
+reply-example = refl
+
+long-example : printed Told.long ≡ codes "refused long" ++ NEWLINE ∷ []
+long-example = refl
+
+-- too long a line is none of the session's
+texts-example : texts_of (Told.long ∷ Told.answered (codes "quit") (turn.Ended (reply.Dropped ∷ [])) ∷ []) ≡ codes "quit" ∷ []
+texts-example = refl

@@ -1,0 +1,36 @@
+//! Sessions of many clients in threads, over one shared store. A session (`session_core`) of one client is served over a link
+//! (`dio_core`): its lines are read, done over the client's backend and answered, one after another, and a line that is to wait
+//! waits. The tests run sessions over passes on a store (`diamond_store`) in threads, and hold what was answered against a run in
+//! one thread.
+//!
+//! Read `specs/Talking.antt` first, which says what a talk over a link is, and then `KeepsPromises` of `specs/Promises.antt`,
+//! which says what a session promises at each status.
+#![tactic(auto)]
+
+mod answering;
+mod link;
+mod replies;
+mod serving;
+mod status;
+
+pub use serving::serve_session;
+pub use status::STORE_FAULT;
+
+#[cfg(test)]
+mod meeting;
+#[cfg(test)]
+mod mixed;
+#[cfg(test)]
+mod replay;
+#[cfg(test)]
+mod rival;
+#[cfg(test)]
+mod served_links;
+#[cfg(test)]
+mod talker;
+#[cfg(test)]
+mod tries;
+#[cfg(test)]
+mod two_threads;
+#[cfg(test)]
+mod watched;

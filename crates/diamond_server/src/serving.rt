@@ -1,0 +1,79 @@
+//! A session of one client over a link: its lines are read, done and answered, one after another.
+
+ghost use Rattle.std.specs.Prelude.{◌≡◌, ◌⊎◌, true, Ok};
+ghost use Rattle.session_core.specs.Holding.{Attends};
+ghost use Rattle.diamond_server.specs.Promises.{sides, IsNew, KeepsPromises};
+ghost use Rattle.diamond_server.specs.code.Serving.{Turns, Ends};
+
+use crate::answering::answer;
+use crate::link::{read_line, say};
+use crate::status::{Cause, Stop, status_of};
+use dio_core::{End, Line};
+use docc_prepare::Waiter;
+use plain_data::OrNoMemory;
+use script_runner::MOST_LINES;
+use session_core::Session;
+use std::alloc::Global;
+
+/// Reads, does and answers one line. `true` says that another may follow.
+fn serve_line<B: Waiter, K: End>(
+    alloc: Global,
+    backend: &mut B,
+    link: &mut K,
+    session: &mut Session,
+) -> Result<bool, Stop>
+    requires attends { Attends (B.known backend.old) session.old }
+    ensures turns { Turns B.known B.goes result
+        backend.old session.old (sides K.left K.read_faults K.taken K.passed K.write_faults link.old)
+        backend.new session.new (sides K.left K.read_faults K.taken K.passed K.write_faults link.new) }
+    ensures attends { result ≡ Ok true → Attends (B.known backend.new) session.new }
+    ensures home { B.home backend.new ≡ B.home backend.old }
+{
+    let line = match read_line(alloc, link)? {
+        Line::End => return Ok(false),
+        line => line,
+    };
+    let answer = answer(alloc, backend, session, &line)?;
+    if say(link, answer.text.as_slice()) {
+        Ok(answer.goes_on)
+    } else {
+        Err(OrNoMemory::Cause(Cause::WriteFault))
+    }
+}
+
+/// Serves the lines of a link to its end, or to a line that ends the session.
+fn serve_lines<B: Waiter, K: End>(alloc: Global, backend: &mut B, link: &mut K) -> Result<(), Stop>
+    requires new { IsNew (B.known backend.old) }
+    ensures ends { Ends B.known B.goes result
+        backend.old (sides K.left K.read_faults K.taken K.passed K.write_faults link.old)
+        backend.new (sides K.left K.read_faults K.taken K.passed K.write_faults link.new) }
+    ensures home { B.home backend.new ≡ B.home backend.old }
+{
+    let _shards = backend.shards();
+    let mut session = Session::new(alloc, backend.client(), backend.seen());
+    for _ in 0..MOST_LINES {
+        if !serve_line(alloc, backend, link, &mut session)? {
+            return Ok(());
+        }
+    }
+    match read_line(alloc, link)? {
+        Line::End => Ok(()),
+        _ => Err(OrNoMemory::Cause(Cause::TooManyLines)),
+    }
+}
+
+/// Serves a session of the backend's client over a link: each line is read, done and answered before the next one is read,
+/// and the replies of a line leave at once. It answers a status.
+///
+/// 0: the input was read to its end, or to a line that ended the session. 3: a read failed. 4: a write or a flush failed. 5:
+/// there was no memory. 6: the store failed. 9: there is a line behind the last one that may be read.
+pub fn serve_session<B: Waiter, K: End>(alloc: Global, backend: &mut B, link: &mut K) -> u8
+    requires new { IsNew (B.known backend.old) }
+    ensures promises { KeepsPromises B.known B.goes result backend.old backend.new
+        (sides K.left K.read_faults K.taken K.passed K.write_faults link.old)
+        (sides K.left K.read_faults K.taken K.passed K.write_faults link.new) }
+    ensures home { B.home backend.new ≡ B.home backend.old }
+{
+    let ended = serve_lines(alloc, backend, link);
+    status_of(ended)
+}

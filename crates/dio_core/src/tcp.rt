@@ -1,0 +1,197 @@
+//! Links over TCP, or over any connection. They tell what the connection tells, and count each error.
+
+ghost use Rattle.std.specs.Prelude.{◌≡◌};
+ghost use Rattle.dio_core.specs.Links.{incoming, outgoing};
+
+use crate::connection::Connection;
+use crate::count::Count;
+use crate::listener::{Accepted, End, Listener};
+use crate::sink::{Sink, Took};
+use crate::source::{Got, Source};
+use std::alloc::AllocError;
+use std::marker::Model;
+use std::net::{Net, OpenListener, SocketAddr, TcpListener};
+use std::snapshot::Snapshot;
+
+/// A link over a connection, until it is ended. It holds nothing back.
+#[derive(Drop)]
+pub struct TcpLink<C: Connection> {
+    connection: Result<C, Snapshot<C>>,
+    read_faults: Count,
+    write_faults: Count,
+}
+
+impl<C: Connection> Model for TcpLink<C> {
+    ghost use Rattle.std.specs.Prelude.{None};
+    ghost use Rattle.dio_core.specs.Links.{Both, incoming, outgoing};
+    ghost use Rattle.dio_core.specs.Connections.{last_of};
+
+    ghost Value = { Both };
+
+    ghost view = { λ l. record {
+      inwards = incoming (C.coming (last_of (λ s. s.value) l.connection)) l.read_faults;
+      outwards = outgoing (C.sent (last_of (λ s. s.value) l.connection)) None l.write_faults;
+    } };
+}
+
+impl<C: Connection> TcpLink<C> {
+    ghost use Rattle.std.specs.Prelude.{◌≡◌, None};
+
+    /// A link over this connection.
+    pub fn new(connection: C) -> TcpLink<C>
+        ensures inwards { result.inwards ≡ incoming (C.coming connection) 0 }
+        ensures outwards { result.outwards ≡ outgoing (C.sent connection) None 0 }
+    {
+        TcpLink {
+            connection: Ok(connection),
+            read_faults: Count::new(),
+            write_faults: Count::new(),
+        }
+    }
+}
+
+impl<C: Connection> Source for TcpLink<C> {
+    ghost left = { λ l. l.inwards.left };
+
+    ghost read_faults = { λ l. l.inwards.faults };
+
+    ghost written = { λ l. l.outwards };
+
+    fn read(&mut self, buf: &mut [u8]) -> Got {
+        let received = match &mut self.connection {
+            Ok(connection) => connection.receive(buf).ok(),
+            Err(_) => None,
+        };
+        match received {
+            Some(0) => Got::End,
+            Some(count) => Got::Bytes(count),
+            None => {
+                self.read_faults.add_one();
+                Got::Failed
+            }
+        }
+    }
+
+    fn read_faults(&self) -> u64 {
+        self.read_faults.get()
+    }
+}
+
+impl<C: Connection> Sink for TcpLink<C> {
+    ghost taken = { λ l. l.outwards.taken };
+
+    ghost passed = { λ l. l.outwards.passed };
+
+    ghost write_faults = { λ l. l.outwards.faults };
+
+    ghost unread = { λ l. l.inwards };
+
+    fn write(&mut self, bytes: &[u8]) -> Took {
+        let sent = match &mut self.connection {
+            Ok(connection) => connection.send(bytes).ok(),
+            Err(_) => None,
+        };
+        match sent {
+            Some(count) if count > 0 => Took::Bytes(count),
+            _ => {
+                self.write_faults.add_one();
+                Took::Failed
+            }
+        }
+    }
+
+    fn flush(&mut self) -> bool {
+        if self.connection.is_err() {
+            self.write_faults.add_one();
+            return false;
+        }
+        true
+    }
+
+    fn write_faults(&self) -> u64 {
+        self.write_faults.get()
+    }
+}
+
+impl<C: Connection + Drop> End for TcpLink<C> {
+    ghost use Rattle.std.proofs.Common.{refl};
+
+    ghost written_is = { λ x. refl };
+
+    ghost unread_is = { λ x. refl };
+
+    /// Closes the connection. Each read, write and flush after it is a fault.
+    fn end(&mut self)
+        ensures { self.new ≡ self.old }
+    {
+        if let Ok(connection) = &self.connection {
+            self.connection = Err(Snapshot::of(connection));
+        }
+    }
+}
+
+/// Listens at an address, and makes links of the connections that come in.
+#[derive(Drop)]
+pub struct TcpListening<L: OpenListener> {
+    listener: Option<L>,
+    faults: Count,
+}
+
+impl<L: OpenListener> Model for TcpListening<L> {
+    ghost use Rattle.std.specs.Prelude.{ℕ};
+
+    ghost Value = { ℕ };
+
+    ghost view = { λ l. l.faults };
+}
+
+impl<L: OpenListener + Drop> TcpListening<L> {
+    /// Listens at this address. Where it can't be bound, each accept fails.
+    pub fn bind<R: Net<Listener = L>>(net: &R, address: &str) -> TcpListening<L>
+        ensures { result ≡ 0 }
+    {
+        TcpListening {
+            listener: TcpListener::bind(net, address).ok(),
+            faults: Count::new(),
+        }
+    }
+
+    /// The address that is listened at, where there is one.
+    pub fn address(&self) -> Option<SocketAddr> {
+        self.listener.as_ref()?.local_addr().ok()
+    }
+}
+
+impl<C: Connection + Send + Drop, L: OpenListener<Stream = C>> Listener for TcpListening<L> {
+    ghost use Rattle.std.specs.Prelude.{None};
+
+    type Link = TcpLink<C>;
+
+    ghost links = { λ _. None };
+
+    ghost given_back = { λ _. None };
+
+    ghost accept_faults = { λ l. l };
+
+    fn accept(&mut self) -> Accepted<TcpLink<C>> {
+        let accepted = match &self.listener {
+            Some(listener) => listener.accept().ok(),
+            None => None,
+        };
+        match accepted {
+            Some((connection, _)) => Accepted::Link(TcpLink::new(connection)),
+            None => {
+                self.faults.add_one();
+                Accepted::Failed
+            }
+        }
+    }
+
+    fn give_back(&mut self, _link: TcpLink<C>, _status: u8) -> Result<(), AllocError> {
+        Ok(())
+    }
+
+    fn accept_faults(&self) -> u64 {
+        self.faults.get()
+    }
+}

@@ -1,0 +1,55 @@
+//! The rest of a line that was to wait.
+
+ghost use Rattle.std.specs.Prelude.{◌⊎◌, ◌≡◌, None, Some, Err};
+ghost use Rattle.dio_core.specs.Counts.{Rose};
+ghost use Rattle.session_core.specs.Phases.{synced};
+ghost use Rattle.session_core.specs.Holding.{Follows};
+ghost use Rattle.session_core.specs.Leading.{Went, AnswersAgain};
+ghost use Rattle.session_core.specs.Sessions.{IsAccounted};
+
+use crate::acting::sync_turn;
+use crate::error::SessionError;
+use crate::line::Line;
+use crate::session::Session;
+use crate::turn::Turn;
+use docc_prepare::Backend;
+use std::alloc::Global;
+
+impl Session {
+    /// Brings all watches up to date, as `sync` does: the rest of a line that was answered [`Turn::WaitWanted`], once there is a
+    /// commit to tell of. After an error the session is over.
+    pub fn waited<B: Backend>(
+        &mut self,
+        alloc: Global,
+        backend: &mut B,
+    ) -> Result<Turn, SessionError>
+        requires follows { Follows (B.known backend.old) self.old }
+        ensures went { self.old.over ≡ None → Went B.known B.goes backend.old (synced self.old) result backend.new self.new }
+
+        // Its answer is explained by the journal, adds no commit of the client's, and no denial.
+        ensures accounted { IsAccounted (B.known backend.old) (B.known backend.new) self.old Line.Sync result self.new }
+
+        // The next line may follow.
+        ensures follows { Follows (B.known backend.new) self.new }
+
+        // After an error it is over, and then it answers that error again.
+        ensures over { (e : SessionError) → result ≡ Err e → self.new.over ≡ Some e }
+        ensures again { (e : SessionError) → self.old.over ≡ Some e → AnswersAgain e result backend.old backend.new self.old self.new }
+
+        // A fault of the store is counted by the store.
+        ensures fault { result ≡ Err SessionError.StoreFault
+            → (self.old.over ≡ Some SessionError.StoreFault) ⊎ Rose (B.known backend.old).faults (B.known backend.new).faults }
+
+        // The backend stays where it stands.
+        ensures home { B.home backend.new ≡ B.home backend.old }
+    {
+        if let Some(error) = self.over {
+            return Err(error);
+        }
+        let turn = sync_turn(alloc, backend, self);
+        if let Err(error) = &turn {
+            self.over = Some(*error);
+        }
+        turn
+    }
+}

@@ -1,0 +1,93 @@
+//! The lines of watches: what a session asks of its watches, and what that is as a turn of the session.
+
+ghost use Rattle.std.specs.Prelude.{◌≡◌};
+ghost use Rattle.session_core.specs.Phases.{start, synced};
+ghost use Rattle.session_core.specs.Holding.{Attends};
+ghost use Rattle.session_core.specs.Leading.{Went, watch_turn};
+
+use crate::error::SessionError;
+use crate::line::Line;
+use crate::session::Session;
+use crate::turn::Turn;
+use client_watches::{ReplyList, WatchError};
+use docc_prepare::Backend;
+use plain_data::Text;
+use std::alloc::Global;
+use txn_lang::Checked;
+
+/// The turn of a line of watches.
+fn turned(answer: Result<ReplyList, WatchError>) -> Result<Turn, SessionError>
+    ensures { result ≡ watch_turn answer }
+{
+    match answer {
+        Ok(replies) => Ok(Turn::Replies(replies)),
+        Err(WatchError::StoreFault) => Err(SessionError::StoreFault),
+        Err(WatchError::NoMemory) => Err(SessionError::NoMemory),
+    }
+}
+
+/// `watch`.
+pub fn watch<B: Backend>(
+    alloc: Global,
+    backend: &mut B,
+    session: &mut Session,
+    name: Text,
+    body: Checked,
+) -> Result<Turn, SessionError>
+    requires { Attends (B.known backend.old) session.old }
+    ensures went { Went B.known B.goes backend.old
+        (start (B.known backend.old).shards (B.known backend.old).seen session.old (Line.Watch name body))
+        result backend.new session.new }
+    ensures home { B.home backend.new ≡ B.home backend.old }
+{
+    turned(session.watching.watch(alloc, backend, name, body))
+}
+
+/// `unwatch`.
+pub fn unwatch<B: Backend>(
+    alloc: Global,
+    backend: &mut B,
+    session: &mut Session,
+    name: &Text,
+) -> Result<Turn, SessionError>
+    requires { Attends (B.known backend.old) session.old }
+    ensures went { Went B.known B.goes backend.old
+        (start (B.known backend.old).shards (B.known backend.old).seen session.old (Line.Unwatch name.now))
+        result backend.new session.new }
+    ensures home { B.home backend.new ≡ B.home backend.old }
+{
+    turned(session.watching.unwatch(alloc, backend, name))
+}
+
+/// `sync`.
+pub fn sync<B: Backend>(
+    alloc: Global,
+    backend: &mut B,
+    session: &mut Session,
+) -> Result<Turn, SessionError>
+    requires { Attends (B.known backend.old) session.old }
+    ensures went { Went B.known B.goes backend.old (synced session.old) result backend.new session.new }
+    ensures home { B.home backend.new ≡ B.home backend.old }
+{
+    turned(session.watching.sync(alloc, backend))
+}
+
+/// `wait`: as `sync`, once there is a commit past those that were seen.
+pub fn wait<B: Backend>(
+    alloc: Global,
+    backend: &mut B,
+    session: &mut Session,
+) -> Result<Turn, SessionError>
+    requires { Attends (B.known backend.old) session.old }
+    ensures went { Went B.known B.goes backend.old
+        (start (B.known backend.old).shards (B.known backend.old).seen session.old Line.Wait)
+        result backend.new session.new }
+    ensures home { B.home backend.new ≡ B.home backend.old }
+{
+    let seen = backend.seen();
+    if seen < backend.refresh()? {
+        sync(alloc, backend, session)
+    } else {
+        Ok(Turn::WaitWanted)
+    }
+}
