@@ -10,3 +10,4 @@ pub mod Appended
 pub mod Followed
 pub mod Validated
 pub mod Waited
+pub mod Told

@@ -1,7 +1,7 @@
 //! What lies under the journal's lock: the journal, and how many appends its keeper denied.
 
 ghost use Rattle.std.specs.Prelude.{◌≡◌, ◌≤◌, true, length, IfOk, OnErr, IfSome};
-ghost use Rattle.journal_core.specs.Changes.{changes, between, of_shard};
+ghost use Rattle.journal_core.specs.Changes.{changes, between, of_address, of_shard};
 ghost use Rattle.journal_core.specs.Kinds.{HasKinds};
 ghost use Rattle.journal_core.specs.Pairs.{AreNumbered};
 ghost use Rattle.journal_core.specs.Tails.{HasAll};
@@ -14,7 +14,7 @@ use change_feed::Tail;
 use conflict_table::Steps;
 use history_lock::Stands;
 use journal_core::{Appended, Journal, Keep, Ready};
-use rdt_types::Settings;
+use rdt_types::{Address, Settings};
 use std::alloc::{AllocError, Global};
 use std::marker::{Brand, Model};
 use std::sync::ledger::{Blank, Ledger};
@@ -156,13 +156,22 @@ impl<K: Keep> Book<K> {
         self.journal.tail(shard, from, to)
     }
 
-    /// All changes of commits past a number and up to the journal's end.
-    pub(crate) fn tail_past(&self, from: u64) -> Result<Tail, AllocError>
-        requires { from ≤ length self.now.journal.commits }
-        ensures { IfOk result (HasAll from (length self.now.journal.commits)
-            (between from (length self.now.journal.commits) (changes self.now.journal.commits))) }
+    /// The changes at an address, of commits past one number and up to another.
+    pub(crate) fn tail_at(&self, address: &Address, from: u64, to: u64) -> Result<Tail, AllocError>
+        requires order { from ≤ to }
+        requires within { to ≤ length self.now.journal.commits }
+        ensures { IfOk result (HasAll from to (of_address address.now (between from to (changes self.now.journal.commits)))) }
     {
-        self.journal.tail_all(from, self.entries)
+        self.journal.tail_of(address, from, to)
+    }
+
+    /// All changes of commits past one number and up to another.
+    pub(crate) fn tail_all(&self, from: u64, to: u64) -> Result<Tail, AllocError>
+        requires order { from ≤ to }
+        requires within { to ≤ length self.now.journal.commits }
+        ensures { IfOk result (HasAll from to (between from to (changes self.now.journal.commits))) }
+    {
+        self.journal.tail_all(from, to)
     }
 
     /// The keeper, and the commits. It takes no memory.

@@ -14,10 +14,11 @@ use crate::answer::{StoreAppendError, answer};
 use crate::appending::add;
 use crate::book::Book;
 use crate::decision::counted;
+use crate::feeder::Feeder;
 use crate::gate::Gate;
 use crate::pass::Pass;
 use crate::replica::Replica;
-use crate::telling::{changes_past, feed_of, hush, tell};
+use crate::telling::{hush, tell};
 use crate::waiting::Bell;
 use abort_witness::BasedList;
 use change_feed::Feed;
@@ -32,7 +33,7 @@ use std::sync::{Mutex, Wait};
 use txn_lang::{CommitList, Snap};
 use version_shard::Prepared;
 
-/// The store of the name N: the one journal under its lock, and each shard under a lock of its own.
+/// The store of the name N: the one journal under its lock, and each shard and the registry under a lock of its own.
 #[derive(Drop)]
 pub struct Store<K: Keep, G: Gate + Drop, N: Naming> {
     pub(crate) alloc: Global,
@@ -41,6 +42,7 @@ pub struct Store<K: Keep, G: Gate + Drop, N: Naming> {
     pub(crate) gate: Box<G>,
     pub(crate) bell: Bell,
     shards: Vec<Mutex<Replica<K, N>>>,
+    pub(crate) feeder: Mutex<Feeder<K, N>>,
 }
 
 impl<K: Keep, G: Gate + Drop, N: Naming> Model for Store<K, G, N> {
@@ -95,6 +97,7 @@ impl<K: Keep, G: Gate + Drop, N: Naming> Store<K, G, N> {
     {
         let (journal, mut front) = opened.named::<N>();
         let shards = replicas(alloc, settings, &journal, &mut front)?;
+        let feeder = Mutex::new(Feeder::new(alloc, journal.split(&mut front)));
         let gate = Box::new(alloc, gate)?;
         let Drawn::Author(author) = journal.draw_author(front) else {
             return Err(AllocError);
@@ -108,6 +111,7 @@ impl<K: Keep, G: Gate + Drop, N: Naming> Store<K, G, N> {
             gate,
             bell: Bell::new(),
             shards,
+            feeder,
         };
         let pass = Pass {
             client: number,
@@ -248,14 +252,20 @@ impl<K: Keep, G: Gate + Drop, N: Naming> Store<K, G, N> {
         ensures whole { IfOk result (λ feed. feed.to ≡ length pass.new.journal) }
     {
         let taken = pass.taken;
-        let Ok(tail) = changes_past(rt, &self.journal, &mut pass.front, taken) else {
+        let told = self.feeder.lock(rt).take(
+            rt,
+            self,
+            &mut pass.front,
+            pass.client,
+            taken,
+            &pass.subscribed,
+        );
+        let Ok(feed) = told else {
             return Err(StoreError::NoMemory);
         };
-        let Ok(feed) = feed_of(self.alloc, &tail, &pass.subscribed) else {
-            return Err(StoreError::NoMemory);
-        };
-        pass.seen = tail.to;
-        pass.taken = tail.to;
+        let end = feed.to();
+        pass.seen = end;
+        pass.taken = end;
         Ok(feed)
     }
 }

@@ -1,46 +1,18 @@
 //! What a client is told of: the changes at its addresses since it took last.
 
-ghost use Rattle.std.specs.Prelude.{◌≡◌, ◌≤◌, ◌<◌, length, [], filter, true, false, if◌then◌else◌, IfOk, OnOk, OnErr};
+ghost use Rattle.std.specs.Prelude.{◌≡◌, [], filter, true, false, if◌then◌else◌, IfOk, OnOk, OnErr};
+ghost use Rattle.std.specs.List.{list_all};
 ghost use Rattle.std.specs.BTreeMap.{is_at};
 ghost use Rattle.rdt_types.specs.declared.address.Address.{Address};
-ghost use Rattle.history_lock.specs.Tokens.{IsLater};
-ghost use Rattle.plain_data.specs.Histories.{IsLawful};
 ghost use Rattle.rdt_types.specs.Addresses.{address_cmp};
 ghost use Rattle.change_feed.specs.Feeds.{with_changes};
-ghost use Rattle.journal_core.specs.Changes.{changes, between};
-ghost use Rattle.journal_core.specs.Tails.{HasAll};
-ghost use Rattle.diamond_store.specs.Appending.{client_of};
-ghost use Rattle.diamond_store.specs.Following.{Follows};
 ghost use Rattle.diamond_store.specs.Passes.{is_in};
 
-use crate::book::Book;
 use change_feed::{Feed, Tail};
-use history_lock::{Front, HistoryLock, Naming};
-use journal_core::Keep;
 use plain_data::ExactClone;
 use rdt_types::Address;
 use std::alloc::{AllocError, Global};
 use std::collections::BTreeSet;
-use std::sync::Wait;
-
-/// All changes of commits past a number and up to the journal's end, which the token then knows.
-pub(crate) fn changes_past<K: Keep, N: Naming, R: Wait>(
-    rt: &R,
-    journal: &HistoryLock<Book<K>, N>,
-    token: &mut Front<Book<K>, N>,
-    from: u64,
-) -> Result<Tail, AllocError>
-    requires { from ≤ length token.old.seen }
-    ensures later { IsLater client_of token.old token.new }
-    ensures looks { token.old.looks < token.new.looks }
-    ensures lawful { IsLawful Follows N.lock.base token.new.seen }
-    ensures tail { IfOk result (HasAll from (length token.new.seen) (between from (length token.new.seen) (changes token.new.seen))) }
-{
-    let guard = journal.enter(rt, token);
-    let tail = guard.value.tail_past(from);
-    journal.leave(rt, token, guard);
-    tail
-}
 
 /// A feed of those changes that are at some addresses.
 pub(crate) fn feed_of(
@@ -58,6 +30,18 @@ pub(crate) fn feed_of(
         }
     }
     Ok(feed)
+}
+
+/// Whether a feed has changes at some addresses alone.
+pub(crate) fn is_within(feed: &Feed, addresses: &BTreeSet<Address>) -> bool
+    ensures { result ≡ list_all (λ pair. is_in addresses.now.keys pair.0) feed.now.changes }
+{
+    for (address, _) in feed.changes().as_slice() {
+        if !addresses.contains(address) {
+            return false;
+        }
+    }
+    true
 }
 
 /// A copy, which equals its original.
