@@ -160,14 +160,6 @@ tells-empty journal front within = record {
 
 -- ---- one client
 
--- a number is at itself
-same-client : (client : ℕ) → is_at (nat_cmp client) client ≡ true
-same-client client = (eq_by_cmp_equiv nat_cmp_total).refl client
-
--- of a client that is put in its place that is kept
-kept-here : (old new : Registered) (client : ℕ) (kept : Option Kept) → ((s : ℕ) → kept_of new s ≡ with_kept old client kept s) → kept_of new client ≡ kept
-kept-here old new client kept is = is client ∙ ap (λ b. cond b kept (kept_of old client)) (same-client client)
-
 -- one that has taken up to a number is kept, with that number
 kept-taken : (o : Option Kept) (taken : ℕ) → option_map (λ (k : Kept). k.taken) o ≡ Some taken → (k : Kept) × (o ≡ Some k) × (k.taken ≡ taken)
 kept-taken None taken took = absurd (cc)
@@ -179,17 +171,6 @@ of-kept P f None each k e = absurd (cc)
 of-kept P f (Some x) each k e = let same : f x ≡ k = cc in subst P same (each x refl)
 
 -- ---- an address is registered
-
--- to subscribe never alters up to where one has taken
-taken-subscribed : (address : Address) (missed : List Change) (k : Kept) → (subscribed address missed k).taken ≡ k.taken
-taken-subscribed address missed k = by (is_address k address)
-  where
-    by : (b : Bool) → (cond b k (record k {
-      addresses = insert_key address_cmp k.addresses address;
-      changes = k.changes ++ changes_at address missed;
-    })).taken ≡ k.taken
-    by true = refl
-    by false = refl
 
 -- what was missed at an address are all changes there past the number taken last
 missed-is : (journal : Journal) (front from : ℕ) (address : Address) (missed : Tail) (k : Kept) → k.taken ≡ from

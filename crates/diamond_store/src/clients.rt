@@ -74,6 +74,12 @@ impl<K: Keep, G: Gate + Drop, N: Naming> Store<K, G, N> {
         pass.seen = pass.seen.max(length);
     }
 
+    /// Ends a client's subscriptions: the registry keeps nothing of it any longer. It takes no memory. A client that only stops
+    /// taking is let go in time.
+    pub fn leave<R: Wait>(&self, rt: &R, pass: Pass<K, N>) {
+        self.feeder.lock(rt).leave(pass.client);
+    }
+
     /// Ends the store. Its commits begin with the pass's prefix.
     pub fn close<R: Wait>(self, rt: &R, pass: Pass<K, N>) -> Closed<K>
         ensures begins { IsPrefix pass.journal result.commits }

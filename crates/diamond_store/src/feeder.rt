@@ -20,6 +20,7 @@ ghost use Rattle.diamond_store.specs.Passes.{is_in};
 
 use crate::book::Book;
 use crate::gate::Gate;
+use crate::hand::Hand;
 use crate::store::Store;
 use crate::telling::{feed_of, is_within};
 use change_feed::{Feed, Tail};
@@ -37,6 +38,7 @@ use std::sync::Wait;
 pub(crate) struct Feeder<K: Keep, N: Naming> {
     registry: Registry,
     token: Front<Book<K>, N>,
+    hand: Hand,
 }
 
 impl<K: Keep, N: Naming> Model for Feeder<K, N> {
@@ -258,6 +260,20 @@ fn enter_anew(registry: &mut Registry, client: u32) -> Result<(), AllocError>
     Ok(())
 }
 
+/// Lets a client go that took last further back than a window of commits: what is kept of one that comes no more has an end.
+/// One that does come is given by the journal what it missed.
+fn let_go(registry: &mut Registry, client: u32, window: u16)
+    ensures front { registry.new.front ≡ registry.old.front }
+    ensures tells { (journal : Journal) → Tells journal registry.old → Tells journal registry.new }
+{
+    let Some(taken) = registry.taken(client) else {
+        return;
+    };
+    if registry.front().saturating_sub(taken) > window as u64 {
+        registry.leave(client);
+    }
+}
+
 /// What the journal has for one with some addresses past one number and up to another.
 fn from_journal<K: Keep, N: Naming, R: Wait>(
     rt: &R,
@@ -308,7 +324,12 @@ impl<K: Keep, N: Naming> Feeder<K, N> {
     /// Nobody is told of anything, from what a token knows on. It takes no memory yet.
     pub(crate) fn new(alloc: Global, token: Front<Book<K>, N>) -> Feeder<K, N> {
         let registry = Registry::new(alloc, token.entries());
-        Feeder { registry, token }
+        let hand = Hand::new();
+        Feeder {
+            registry,
+            token,
+            hand,
+        }
     }
 
     /// What changed at a client's addresses since it took last, up to the journal's end, which its token then knows.
@@ -331,7 +352,13 @@ impl<K: Keep, N: Naming> Feeder<K, N> {
         let to = learn(journal, own, token);
         follow(rt, journal, own, registry, to)?;
         let feed = take_followed(rt, store, own, registry, client, taken, addresses)?;
+        let_go(registry, self.hand.turn(client), store.settings.window);
         let _known = own.count();
         Ok(feed)
+    }
+
+    /// Keeps nothing of a client any longer. It takes no memory.
+    pub(crate) fn leave(&mut self, client: u32) {
+        self.registry.leave(client);
     }
 }

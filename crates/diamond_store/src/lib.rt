@@ -10,6 +10,7 @@ mod clients;
 mod decision;
 mod feeder;
 mod gate;
+mod hand;
 mod join_error;
 mod opening;
 mod pass;

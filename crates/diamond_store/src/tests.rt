@@ -60,7 +60,12 @@ fn new_store<N: Naming, R: Wait + Abort>(
     assert!(rt; served.read(&address).is_ok_and(|snap| snap.base == 0));
     assert!(rt; served.read_at(&address, 0).is_ok());
     assert!(rt; served.subscribe(&address).is_ok());
+    // The journal has the first feed. With the second the address is registered.
+    assert!(rt; served.take().is_ok_and(|feed| feed.to() == 0));
+    assert!(rt; served.take().is_ok_and(|feed| feed.to() == 0));
     assert!(rt; served.unsubscribe(&address).is_ok());
     assert!(rt; served.take().is_ok_and(|feed| feed.to() == 0));
+    let Served { pass, .. } = served;
+    store.leave(rt, pass);
     Ok(())
 }
