@@ -37,6 +37,7 @@ use Rattle.docc_prepare.proofs.Each.{each-take, each-filter}
 use Rattle.docc_prepare.proofs.Feeding.{fed-is-pending, kinds-of-changes, kinds-fed}
 use Rattle.docc_prepare.proofs.OfOneKind.{kind-left}
 use Rattle.diamond_store.specs.Appending.{client_of}
+use Rattle.diamond_store.specs.Feeders.{feed_between}
 use Rattle.diamond_store.specs.Following.{Follows, IsSound}
 use Rattle.diamond_store.specs.Passes.{Passed, passed, known_of, is_in, IsPass}
 use Rattle.diamond_store.specs.Reading.{ReadsFrom, ReadsBack, Finds, IsValidation}
@@ -138,7 +139,7 @@ module _ (numbers : List ℕ) (m client : ℕ) (old new : tokens.Known Commit) (
           answered before (saw n) (grows n up within) (Call.prepare shard based) (Answer.failed false) refl p.0 p.1 p.2 p.3 p.4 p.5 p.6 p.7
 
   -- a take gives what is pending at the subscribed addresses since the last one, and the pass has then seen and taken all
-  pub was-taken : (feed : Fed) (n : ℕ) → feed.to ≡ n → n ≡ length new.seen
+  was-taken : (feed : Fed) (n : ℕ) → feed.to ≡ n → n ≡ length new.seen
       → feed.changes ≡ with_changes [] (filter (λ change. is_in subscribed change.address) (between taken (length new.seen) (changes new.seen)))
       → IsAnswered (known_of before) Call.take (Answer.feed feed) (known_of (passed m client new n subscribed n denied settings))
   was-taken feed n ends to is =
@@ -161,6 +162,11 @@ module _ (numbers : List ℕ) (m client : ℕ) (old new : tokens.Known Commit) (
           (each-filter same (λ change. is_in subscribed change.address) (between taken (length new.seen) (changes new.seen))
           (each-filter same (λ change. nat_lt taken change.number) (up_to (length new.seen) (changes new.seen))
           (each-filter same (λ change. nat_le change.number (length new.seen)) (changes new.seen) (kinds-of-changes new.seen sound.orderly.kinds)))) tt
+
+  -- so it does where it gives what changed there up to the end of what the pass then knows
+  pub was-fed : (feed : Fed) (n : ℕ) → n ≡ feed.to → feed ≡ feed_between new.seen subscribed taken (length new.seen)
+      → IsAnswered (known_of before) Call.take (Answer.feed feed) (known_of (passed m client new n subscribed n denied settings))
+  was-fed feed n ends is = was-taken feed n (sym ends) (ends ∙ ap (λ (f : Fed). f.to) is) (ap (λ (f : Fed). f.changes) is)
 
 -- a test that makes true, else another, is either
 either-true : (b c : Bool) → cond b true c ≡ (b || c)

@@ -8,11 +8,8 @@ use Rattle.std.specs.List.{AllByRecursion, list_all}
 use Rattle.std.specs.List.Sorted.{IsStrictlySortedBy}
 use Rattle.std.specs.Map.{keys_of}
 use Rattle.std.specs.Cmp.{eq_by_cmp_equiv}
-use Rattle.std.specs.Ordering.{nat_cmp}
 use Rattle.std.specs.BTreeMap.{is_at}
-use Rattle.std.specs.BTreeSet.{insert_key}
 use Rattle.std.proofs.Math.Seq.{take-length}
-use Rattle.std.proofs.lemmas.Cmp.{nat_cmp_total}
 use Rattle.std.proofs.lemmas.List.{append_assoc, take-append-drop, take-take}
 use mathlib.Core.List.{IsPrefix}
 use Rattle.plain_data.proofs.Entries.{sorted-insert_entry}
@@ -32,7 +29,7 @@ use Rattle.journal_core.specs.Pairs.{AreNumbered}
 use Rattle.journal_core.specs.Tails.{HasAll}
 use Rattle.journal_core.proofs.ByShard.{changes-up_to, changes-between, numbered-take}
 use Rattle.reactive_registry.specs.Registered.{Kept, Registered, kept_of, with_kept, is_address, is_subscribed, told, emptied, subscribed}
-use Rattle.reactive_registry.specs.Registered.{changes_at, pending_for, pending_of, empty}
+use Rattle.reactive_registry.specs.Registered.{pending_for, pending_of, empty}
 use Rattle.reactive_registry.specs.Standing.{since, KeptFor, StandsFor}
 use Rattle.reactive_registry.proofs.Pairs.{same_address}
 use Rattle.reactive_registry.proofs.Standing.{deltas-chosen, pending_is_since, takes_stand}

@@ -1,7 +1,7 @@
 //! What stands behind the registry's lock: the registry of subscriptions, and a token that has seen at least the commits that
 //! it has followed.
 
-ghost use Rattle.std.specs.Prelude.{◌≡◌, ◌≤◌, ◌<◌, true, length, Some, None, if◌then◌else◌, IfOk, IfSome, OnOk};
+ghost use Rattle.std.specs.Prelude.{◌≡◌, ℕ, ◌≤◌, ◌<◌, true, length, Some, None, if◌then◌else◌, IfOk, IfSome, OnOk};
 ghost use Rattle.std.specs.Bool.{MatchBool};
 ghost use Rattle.std.specs.BTreeMap.{is_at};
 ghost use mathlib.Core.List.{IsPrefix};
@@ -42,15 +42,16 @@ pub(crate) struct Feeder<K: Keep, N: Naming> {
 }
 
 impl<K: Keep, N: Naming> Model for Feeder<K, N> {
-    ghost use Rattle.std.specs.Prelude.{ℕ};
-    ghost use Rattle.std.specs.Coded.{coded_ℕ};
+    ghost use Rattle.rdt_types.specs.contracts.address.Address as address;
+    ghost use Rattle.change_feed.specs.contracts.change.Change as change;
+    ghost use Rattle.reactive_registry.specs.Registered.{Registered, kept_code, registered_code};
     ghost use Rattle.diamond_store.specs.Feeders.{Tells};
 
-    ghost Value = { ℕ };
+    ghost Value = { Registered };
 
-    ghost coded = { coded_ℕ };
+    ghost coded = { registered_code (kept_code address.the_row.coded change.the_row.coded) };
 
-    ghost view = { λ f. f.registry.front };
+    ghost view = { λ f. f.registry };
 
     ghost invariant = { λ f. Tells f.token.seen f.registry };
 }
@@ -217,6 +218,7 @@ fn take_pending(
     ensures tells { (journal : Journal) → Tells journal registry.old → Tells journal registry.new }
     ensures feed { IfOk result (λ found. IfSome found (λ feed. (journal : Journal) → Tells journal registry.old
         → feed ≡ feed_between journal addresses.now.keys taken registry.old.front)) }
+    ensures took { OnOk result (taken_of registry.new client ≡ Some registry.old.front) }
 {
     let feed = registry.take(client)?;
     let _rising = feed.changes().as_slice();
@@ -242,6 +244,7 @@ fn from_registry<K: Keep, N: Naming, R: Wait>(
     ensures tells { Tells token.new.seen registry.new }
     ensures front { registry.new.front ≡ registry.old.front }
     ensures feed { IfOk result (λ found. IfSome found (λ feed. feed ≡ feed_between token.new.seen addresses.now.keys taken registry.old.front)) }
+    ensures took { IfOk result (λ found. IfSome found (λ feed. taken_of registry.new client ≡ Some registry.old.front)) }
 {
     if !has_taken(registry, client, taken) {
         return Ok(None);
@@ -253,6 +256,7 @@ fn from_registry<K: Keep, N: Naming, R: Wait>(
 /// Enters a client anew at the front, without addresses.
 fn enter_anew(registry: &mut Registry, client: u32) -> Result<(), AllocError>
     ensures front { registry.new.front ≡ registry.old.front }
+    ensures entered { OnOk result (taken_of registry.new client ≡ Some registry.old.front) }
     ensures tells { (journal : Journal) → Tells journal registry.old → Tells journal registry.new }
 {
     registry.leave(client);
@@ -264,6 +268,7 @@ fn enter_anew(registry: &mut Registry, client: u32) -> Result<(), AllocError>
 /// One that does come is given by the journal what it missed.
 fn let_go(registry: &mut Registry, client: u32, window: u16)
     ensures front { registry.new.front ≡ registry.old.front }
+    ensures newest { (c : ℕ) → taken_of registry.old c ≡ Some registry.old.front → taken_of registry.new c ≡ Some registry.old.front }
     ensures tells { (journal : Journal) → Tells journal registry.old → Tells journal registry.new }
 {
     let Some(taken) = registry.taken(client) else {
@@ -310,6 +315,8 @@ fn take_followed<K: Keep, G: Gate + Drop, N: Naming, R: Wait>(
     ensures begins { IsPrefix token.old.seen token.new.seen }
     ensures tells { Tells token.new.seen registry.new }
     ensures feed { IfOk result (λ feed. feed ≡ feed_between token.new.seen addresses.now.keys taken registry.old.front) }
+    ensures front { registry.new.front ≡ registry.old.front }
+    ensures took { OnOk result (taken_of registry.new client ≡ Some registry.old.front) }
 {
     let journal = &store.journal;
     if let Some(feed) = from_registry(rt, journal, token, registry, client, taken, addresses)? {
@@ -347,6 +354,7 @@ impl<K: Keep, N: Naming> Feeder<K, N> {
         ensures looks { token.old.looks < token.new.looks }
         ensures lawful { IsLawful Follows N.lock.base token.new.seen }
         ensures feed { IfOk result (λ feed. feed ≡ feed_between token.new.seen addresses.now.keys taken (length token.new.seen)) }
+        ensures took { OnOk result (taken_of self.new client ≡ Some (length token.new.seen)) }
     {
         let (journal, registry, own) = (&store.journal, &mut self.registry, &mut self.token);
         let to = learn(journal, own, token);
@@ -358,7 +366,9 @@ impl<K: Keep, N: Naming> Feeder<K, N> {
     }
 
     /// Keeps nothing of a client any longer. It takes no memory.
-    pub(crate) fn leave(&mut self, client: u32) {
+    pub(crate) fn leave(&mut self, client: u32)
+        ensures { taken_of self.new client ≡ None }
+    {
         self.registry.leave(client);
     }
 }
