@@ -2,3 +2,5 @@ pub mod Talked
 pub mod Lines
 pub mod Promises
 pub mod Beginning
+pub mod Settled
+pub mod Listing

@@ -118,10 +118,12 @@ module _ {B : Type 0} (known : B → Known) (goes : B → Call → Answer → B 
         session = None;
         talks = talks-on new None z turn;
         accounted = talk-accounted known goes old new (past.tolds ++ turn.told ∷ []) None is (talks-on new None z turn);
-        few = (let many = many-on new None z turn in omega arith);
-        reads = WhereTold-map x.inwards.left z.inwards.left (λ all rest read. record { read = read; end = inr refl }) (read-on new None z turn);
-        taken = taken-on new None z turn;
-        flushed = λ passed. turn.passed;
+        heard = record {
+          few = (let many = many-on new None z turn in omega arith);
+          reads = WhereTold-map x.inwards.left z.inwards.left (λ all rest read. record { read = read; end = inr refl }) (read-on new None z turn);
+          taken = taken-on new None z turn;
+          flushed = λ passed. turn.passed;
+        };
       }
 
       -- nothing more was done, and nothing more was written
@@ -133,10 +135,12 @@ module _ {B : Type 0} (known : B → Known) (goes : B → Call → Answer → B 
             session = Some s;
             talks = talks;
             accounted = talk-accounted known goes old new past.tolds (Some s) is talks;
-            few = (let many = past.many in omega arith);
-            reads = reads;
-            taken = ap (λ (o : Outgoing). o.taken) outwards ∙ past.taken;
-            flushed = λ passed. subst (λ (o : Outgoing). IsPassedOn o.taken o.passed) (sym outwards) (past.flushed passed);
+            heard = record {
+              few = (let many = past.many in omega arith);
+              reads = reads;
+              taken = ap (λ (o : Outgoing). o.taken) outwards ∙ past.taken;
+              flushed = λ passed. subst (λ (o : Outgoing). IsPassedOn o.taken o.passed) (sym outwards) (past.flushed passed);
+            };
           }
 
       -- the input ended
@@ -158,11 +162,11 @@ module _ {B : Type 0} (known : B → Known) (goes : B → Call → Answer → B 
       served-broken new z few same outwards off = served-so-far new z ReadsUpToAFault few same outwards (reads-broken z.inwards.left off)
 
       -- one line more was read
-      reads-over : (left : Option Text) (l : Line) → (l ≡ line.End → ⊥) → TakesLine l y.inwards.left left
+      reads-over : (left : Option Text) (l : Line) → n ≡ MOST_LINES → (l ≡ line.End → ⊥) → TakesLine l y.inwards.left left
           → WhereTold (ReadsOneMore past.tolds (Some s)) x.inwards.left left
-      reads-over left l some takes = WhereTold-then x.inwards.left y.inwards.left left (λ all mid rest read takes.
+      reads-over left l most some takes = WhereTold-then x.inwards.left y.inwards.left left (λ all mid rest read takes.
           let first = some-first l mid rest some takes in
-          record { behind = mid; next = first.raw; read = read; more = first.first.0 }) past.read takes
+          record { most = past.many ∙ most; behind = mid; next = first.raw; read = read; more = first.first.0 }) past.read takes
 
       -- ---- how the lines end
 
@@ -198,9 +202,8 @@ module _ {B : Type 0} (known : B → Known) (goes : B → Call → Answer → B 
       -- there is one line more
       pub ends-over : (z : Both) (l : Line) → n ≡ MOST_LINES → z.outwards ≡ y.outwards → z.inwards.faults ≡ y.inwards.faults → (l ≡ line.End → ⊥)
           → TakesLine l y.inwards.left z.inwards.left → Ends known goes (Err (stop.Cause cause.TooManyLines)) old x now z
-      unfolding served-so-far
       ends-over z l most outwards reads some takes = (
-        (served-so-far now z ReadsOneMore (omega arith) refl outwards (reads-over z.inwards.left l some takes), past.many ∙ most),
+        served-so-far now z ReadsOneMore (omega arith) refl outwards (reads-over z.inwards.left l most some takes),
         (reads ∙ past.counts.0, ap (λ (o : Outgoing). o.faults) outwards ∙ past.counts.1),
       )
 

@@ -26,9 +26,8 @@ Choice true A B = A
 Choice false A B = B
 
 -- an input of which one line more was read has more lines than may be read
-over-most : (tolds : List Told) (o : Option Session) (all rest : Text) → length tolds ≡ MOST_LINES → ReadsOneMore tolds o all rest
-    → length (lines all) ≤ MOST_LINES → ⊥
-over-most tolds o all rest most over few =
+over-most : (tolds : List Told) (o : Option Session) (all rest : Text) → ReadsOneMore tolds o all rest → length (lines all) ≤ MOST_LINES → ⊥
+over-most tolds o all rest over few =
     omega (
       arith,
       ap length over.read.read,
@@ -37,18 +36,17 @@ over-most tolds o all rest most over few =
       length-map over.read.raws cut_of,
       ap length over.read.cut,
       length-map tolds line_told,
-      most,
+      over.most,
     )
 
 -- the same of a link that may not tell
-told-over-most : (tolds : List Told) (o : Option Session) (left left_then : Option Text) → length tolds ≡ MOST_LINES
-    → WhereTold (ReadsOneMore tolds o) left left_then
+told-over-most : (tolds : List Told) (o : Option Session) (left left_then : Option Text) → WhereTold (ReadsOneMore tolds o) left left_then
     → (all : Text) → left ≡ Some all → length (lines all) ≤ MOST_LINES → ⊥
-told-over-most tolds o None left_then most over all is few = absurd (let no : ⊥ = cc in no)
-told-over-most tolds o (Some bytes) None most over all is few = absurd over
-told-over-most tolds o (Some bytes) (Some rest) most over all is few =
+told-over-most tolds o None left_then over all is few = absurd (let no : ⊥ = cc in no)
+told-over-most tolds o (Some bytes) None over all is few = absurd over
+told-over-most tolds o (Some bytes) (Some rest) over all is few =
     let same : bytes ≡ all = cc in
-    over-most tolds o bytes rest most over (subst (λ (b : Text). length (lines b) ≤ MOST_LINES) (sym same) few)
+    over-most tolds o bytes rest over (subst (λ (b : Text). length (lines b) ≤ MOST_LINES) (sym same) few)
 
 module _ {B : Type 0} (known : B → Known) (goes : B → Call → Answer → B → Type 0) (old new : B) (x y : Both) where
   -- what a status says, counts of the link aside
@@ -57,9 +55,7 @@ module _ {B : Type 0} (known : B → Known) (goes : B → Call → Answer → B 
       Choice (status == WHOLE) (IsServed known goes old new x y ReadsToTheEnd)
       (Choice (status == READ_FAULT) (IsServed known goes old new x y ReadsUpToAFault)
       (Choice (status == STORE_FAULT) (Rose (known old).faults (known new).faults)
-      (Choice (status == TOO_MANY_LINES)
-      ((served : IsServed known goes old new x y ReadsOneMore) × (length served.tolds ≡ MOST_LINES))
-      (Unit {0}))))
+      (Choice (status == TOO_MANY_LINES) (IsServed known goes old new x y ReadsOneMore) (Unit {0}))))
 
   -- with at most the most lines and no count that rose, the status is 0 or 5
   abbrev Completes : ℕ → Type 0
@@ -98,4 +94,4 @@ module _ {B : Type 0} (known : B → Known) (goes : B → Call → Answer → B 
       promises STORE_FAULT refl ends.1 ends.0.0 ends.0.1 (λ all is few well written kept. absurd (kept ends.1))
   keeps_promises (Err (stop.Cause cause.TooManyLines)) ends =
       promises TOO_MANY_LINES refl ends.0 ends.1.0 ends.1.1 (λ all is few well written kept.
-      absurd (told-over-most ends.0.0.tolds ends.0.0.session x.inwards.left y.inwards.left ends.0.1 ends.0.0.reads all is few))
+      absurd (told-over-most ends.0.tolds ends.0.session x.inwards.left y.inwards.left ends.0.heard.reads all is few))

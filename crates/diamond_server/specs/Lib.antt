@@ -1,3 +1,5 @@
 pub mod Talking
 pub mod Promises
+pub mod Accounts
+pub mod Settling
 pub mod code

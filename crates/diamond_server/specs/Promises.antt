@@ -74,45 +74,56 @@ pub record ReadsUpToAFault (tolds : List Told) (o : Option Session) (all rest : 
   pub read : HasRead tolds all broken
   pub breaks : BreaksOff (Some broken) (Some rest)
 
--- one line more was read
+-- the most lines that may be read, and one line more
 pub record ReadsOneMore (tolds : List Told) (o : Option Session) (all rest : Text) : Type 0 where
+  pub most : length tolds ≡ MOST_LINES
   pub behind : Text
   pub next : Text
   pub read : HasRead tolds all behind
   pub more : lines behind ≡ next ∷ lines rest
 
--- The backend and the link were left by a talk: what the link took is its whole output, behind what it had taken before, and
--- where all of that had been passed on, all of this has been.
+-- The link was left by a talk: what it took is the talk's whole output, behind what it had taken before, and where all of that had
+-- been passed on, all of this has been.
+pub record IsHeard (tolds : List Told) (session : Option Session) (x y : Both) (Reads : List Told → Option Session → Text → Text → Type 0)
+    : Type 0 where
+  pub few : length tolds ≤ MOST_LINES
+  pub reads : WhereTold (Reads tolds session) x.inwards.left y.inwards.left
+  pub taken : y.outwards.taken ≡ with_more x.outwards.taken (output tolds)
+  pub flushed : IsPassedOn x.outwards.taken x.outwards.passed → IsPassedOn y.outwards.taken y.outwards.passed
+
+-- The backend and the link were left by a talk, which goes by steps of the backend's relation.
 pub record IsServed {B : Type 0} (known : B → Known) (goes : B → Call → Answer → B → Type 0) (old new : B) (x y : Both)
     (Reads : List Told → Option Session → Text → Text → Type 0) : Type 0 where
   pub tolds : List Told
   pub session : Option Session
   pub talks : Talks known goes old (first_session (known old)) tolds new session
   pub accounted : IsAccounted (known old) (known new) tolds
-  pub few : length tolds ≤ MOST_LINES
-  pub reads : WhereTold (Reads tolds session) x.inwards.left y.inwards.left
-  pub taken : y.outwards.taken ≡ with_more x.outwards.taken (output tolds)
-  pub flushed : IsPassedOn x.outwards.taken x.outwards.passed → IsPassedOn y.outwards.taken y.outwards.passed
+  pub heard : IsHeard tolds session x y Reads
 
 -- ---- what a session promises
 
-pub record KeepsPromises {B : Type 0} (known : B → Known) (goes : B → Call → Answer → B → Type 0) (status : ℕ) (old new : B) (x y : Both) : Type 0 where
+-- At each status: what was talked of, and which counts rose. `Held` says what is told of a talk of so much of the input, `k` and `l`
+-- what the client knew before it and knows after it.
+pub record Promises (Held : (List Told → Option Session → Text → Text → Type 0) → Type 0) (k l : Known) (status : ℕ) (x y : Both) : Type 0 where
   -- there are six statuses
   pub statuses : IsTrue (list_any (λ s. s == status) (WHOLE ∷ READ_FAULT ∷ WRITE_FAULT ∷ NO_MEMORY ∷ STORE_FAULT ∷ TOO_MANY_LINES ∷ []))
   -- at 0 the input was talked of to its end, or to a line that ended the session
-  pub whole : status ≡ WHOLE → IsServed known goes old new x y ReadsToTheEnd
+  pub whole : status ≡ WHOLE → Held ReadsToTheEnd
   -- at 3 the lines that were read whole
-  pub broken_off : status ≡ READ_FAULT → IsServed known goes old new x y ReadsUpToAFault
+  pub broken_off : status ≡ READ_FAULT → Held ReadsUpToAFault
   -- at 9 the most lines that may be read
-  pub too_many : status ≡ TOO_MANY_LINES
-      → (served : IsServed known goes old new x y ReadsOneMore) × (length served.tolds ≡ MOST_LINES)
+  pub too_many : status ≡ TOO_MANY_LINES → Held ReadsOneMore
   -- the link's count of reads rose at 3, and at no other status
   pub reads : IsCounted (status == READ_FAULT) x.inwards.faults y.inwards.faults
   -- its count of writes at 4, and at no other status
   pub writes : IsCounted (status == WRITE_FAULT) x.outwards.faults y.outwards.faults
   -- at 6 the store's count of faults rose
-  pub store_failed : status ≡ STORE_FAULT → Rose (known old).faults (known new).faults
+  pub store_failed : status ≡ STORE_FAULT → Rose k.faults l.faults
   -- an input of no more lines than may be read, and over which no count rose, is talked of to its end, memory aside
   pub completes : (all : Text) → x.inwards.left ≡ Some all → length (lines all) ≤ MOST_LINES
-      → ¬ (Rose x.inwards.faults y.inwards.faults) → ¬ (Rose x.outwards.faults y.outwards.faults) → ¬ (Rose (known old).faults (known new).faults)
+      → ¬ (Rose x.inwards.faults y.inwards.faults) → ¬ (Rose x.outwards.faults y.outwards.faults) → ¬ (Rose k.faults l.faults)
       → (status ≡ WHOLE) ⊎ (status ≡ NO_MEMORY)
+
+-- WHAT A SESSION PROMISES, from its backend before it to the backend after it.
+abbrev pub KeepsPromises : {B : Type 0} → (B → Known) → (B → Call → Answer → B → Type 0) → ℕ → B → B → Both → Both → Type 0
+KeepsPromises known goes status old new x y = Promises (IsServed known goes old new x y) (known old) (known new) status x y

@@ -8,14 +8,20 @@
 #![tactic(auto)]
 
 mod answering;
+mod begun;
+mod ended;
 mod link;
 mod replies;
 mod serving;
+mod serving_all;
 mod status;
 
 pub use serving::serve_session;
-pub use status::STORE_FAULT;
+pub use serving_all::{Tally, serve_all};
+pub use status::{NO_CLIENT, STORE_FAULT};
 
+#[cfg(test)]
+mod all_served;
 #[cfg(test)]
 mod meeting;
 #[cfg(test)]

@@ -151,7 +151,7 @@ Ends known goes (Ok done) old x new y = IsServed known goes old new x y ReadsToT
 Ends known goes (Err (stop.Cause cause.ReadFault)) old x new y =
     IsServed known goes old new x y ReadsUpToAFault × Rose x.inwards.faults y.inwards.faults × (y.outwards.faults ≡ x.outwards.faults)
 Ends known goes (Err (stop.Cause cause.TooManyLines)) old x new y =
-    ((served : IsServed known goes old new x y ReadsOneMore) × (length served.tolds ≡ MOST_LINES)) × SameCounts x y
+    IsServed known goes old new x y ReadsOneMore × SameCounts x y
 Ends known goes (Err (stop.Cause cause.WriteFault)) old x new y = (y.inwards.faults ≡ x.inwards.faults) × Rose x.outwards.faults y.outwards.faults
 Ends known goes (Err (stop.Cause cause.StoreFault)) old x new y = SameCounts x y × Rose (known old).faults (known new).faults
 Ends known goes (Err stop.NoMemory) old x new y = SameCounts x y

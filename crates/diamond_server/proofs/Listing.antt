@@ -1,0 +1,236 @@
+-- Lists of links: accepted one after another, joined, and given back.
+use Rattle.std.proofs.Common.{◌≡◌, ℕ, ◌+◌, ◌==◌, ◌<◌, ◌≤◌, List, [], ◌∷◌, ◌++◌, length, map, Bool, true, false, Option, Some, None, Result, Ok, Err, refl, ap, sym, ◌∙◌, arith, subst, append_assoc, append-nil, length-append}
+use Rattle.std.specs.Prelude.{All, IfSome, if◌then◌else◌, slice_index_or}
+use mathlib.Core.List.{IsPrefix, map-append}
+use Rattle.std.proofs.lemmas.List.Elements.{All-nil, All-cons, All-append, All-rest}
+use Rattle.std.proofs.lemmas.List.{length-map, nil_from_length}
+use Rattle.history_lock.specs.declared.limits.TheConstants.{MOST_DRAWS}
+use Rattle.history_lock.proofs.Prefixes.{IsPrefix-trans}
+use Rattle.dio_core.specs.Counts.{IsCounted, Rose}
+use Rattle.dio_core.specs.Links.{Both}
+use Rattle.dio_core.specs.Listeners.{with_first, with_last}
+use Rattle.diamond_store.specs.Answers.{Learns}
+use Rattle.diamond_store.specs.Passes.{Passed, known_of}
+use Rattle.diamond_store.specs.declared.join_error.JoinError.{JoinError}
+use Rattle.diamond_store.specs.declared.join_error.JoinError.TheVariants as join_error
+use Rattle.session_core.specs.Explained.{setting_of}
+use Rattle.script_runner.specs.declared.status.TheConstants.{WHOLE}
+use Rattle.diamond_server.specs.Accounts.{Account, Seat, seat_of, given_of, status_in, joined_in, link_in, IsServed, Rises, faults_of, with_these, and_these, Gatherings, Accepting, ServedAll}
+use Rattle.diamond_server.specs.Settling.{IsNear, IsNearTalk, JoinsNext, Turns, Settling}
+
+-- ---- statuses
+
+faults-append : (xs : List ℕ) (s : ℕ) → faults_of (xs ++ s ∷ []) ≡ faults_of xs + (if s == WHOLE then 0 else 1)
+faults-append [] s = omega arith
+faults-append (x ∷ xs) s = let h = faults-append xs s in omega (arith, h)
+
+faults-few : (xs : List ℕ) → faults_of xs ≤ length xs
+faults-few [] = omega arith
+faults-few (x ∷ xs) = by (x == WHOLE) (faults-few xs)
+  where
+    by : (t : Bool) → faults_of xs ≤ length xs → (if t then 0 else 1) + faults_of xs ≤ length (x ∷ xs)
+    by true h = omega (arith, h)
+    by false h = omega (arith, h)
+
+-- ---- clients
+
+-- what a pass has learnt leaves it one of the same store
+same-store : (j k : Passed) → Learns j k → setting_of (known_of k) ≡ setting_of (known_of j)
+same-store j k learns = ap (λ (p : Passed). setting_of (known_of p)) learns.rest
+
+-- more may have been drawn since
+rises-more : (j k : Passed) (low mid high : ℕ) (rs : List (Result Passed JoinError)) → Rises j low rs mid → Learns j k → mid ≤ high → Rises k low rs high
+rises-more j k low mid high [] p learns le = omega arith
+rises-more j k low mid high (Ok q ∷ rs) p learns le =
+    (p.0 ∙ sym (same-store j k learns), p.1, rises-more j k (q.client + 1) mid high rs p.2 learns le)
+rises-more j k low mid high (Err (join_error.Clients drawn) ∷ rs) p learns le =
+    (p.0, (let d = p.1 in let more = learns.draws in omega arith), rises-more j k low mid high rs p.2 learns le)
+rises-more j k low mid high (Err join_error.NoMemory ∷ rs) p learns le = rises-more j k low mid high rs p learns le
+
+-- one more joined, or none
+rises-next : (j k : Passed) (low mid high : ℕ) (rs : List (Result Passed JoinError)) (r : Result Passed JoinError) → Rises j low rs mid → Learns j k → mid ≤ high
+    → JoinsNext k mid high r → Rises k low (rs ++ r ∷ []) high
+rises-next j k low mid high [] (Ok q) p learns le next = (next.0, (let a = next.1 in omega arith), (let b = next.2 in omega arith))
+rises-next j k low mid high [] (Err (join_error.Clients drawn)) p learns le next = (next.0, next.1, omega arith)
+rises-next j k low mid high [] (Err join_error.NoMemory) p learns le next = omega arith
+rises-next j k low mid high (Ok q ∷ rs) r p learns le next =
+    (p.0 ∙ sym (same-store j k learns), p.1, rises-next j k (q.client + 1) mid high rs r p.2 learns le next)
+rises-next j k low mid high (Err (join_error.Clients drawn) ∷ rs) r p learns le next =
+    (p.0, (let d = p.1 in let more = learns.draws in omega arith), rises-next j k low mid high rs r p.2 learns le next)
+rises-next j k low mid high (Err join_error.NoMemory ∷ rs) r p learns le next = rises-next j k low mid high rs r p learns le next
+
+-- ---- what is near stays near
+
+module _ {L : Type 0} where
+  near-more : (j k : Passed) → IsPrefix j.journal k.journal → j.denials ≤ k.denials → (a : Account L) → IsNear j a → IsNear k a
+  near-more j k p few a near = by a.talk near
+    where
+      by : (t : Result (Passed × Passed) JoinError) → IsNearTalk j t → IsNearTalk k t
+      by (Err e) n = n
+      by (Ok t) n = (IsPrefix-trans t.1.journal j.journal k.journal n.0 p, (let m = n.1 in omega arith))
+
+  -- one more was joined, of which the pass knows all
+  pub near-next : (j k : Passed) (all more : List (Account L)) (a : Account L) → Learns j k → All (IsNear j) all → more ≡ all ++ a ∷ [] → IsNear k a
+      → All (IsNear k) more
+  near-next j k all more a learns near grown last =
+      subst (All (IsNear k)) (sym grown) (All-append (IsNear k) all (a ∷ [])
+      (λ i d lt. near-more j k learns.begins learns.denials (slice_index_or all i d) (near i d lt)) (All-cons (IsNear k) a [] last (All-nil (IsNear k))))
+
+  pub seats-next : (all more : List (Account L)) (a : Account L) (x : Seat L) (rest left begun : List (Seat L)) → more ≡ all ++ a ∷ [] → rest ≡ x ∷ left → seat_of a ≡ x
+      → map seat_of all ++ rest ≡ begun → map seat_of more ++ left ≡ begun
+  seats-next all more a x rest left begun grown first same whole =
+      ap (λ w. map seat_of w ++ left) grown
+      ∙ (ap (λ w. w ++ left) (map-append seat_of all (a ∷ []))
+      ∙ (append_assoc (map seat_of all) (seat_of a ∷ []) left
+      ∙ (ap (λ s. map seat_of all ++ s ∷ left) same ∙ (ap (λ w. map seat_of all ++ w) (sym first) ∙ whole))))
+
+  pub seats-end : (all : List (Account L)) (rest begun : List (Seat L)) (n : ℕ) → n ≡ 0 → n ≡ length rest → map seat_of all ++ rest ≡ begun → map seat_of all ≡ begun
+  seats-end all rest begun n none len whole =
+      let nil : rest ≡ [] = nil_from_length rest (omega arith) in
+      sym (append-nil (map seat_of all)) ∙ (ap (λ w. map seat_of all ++ w) (sym nil) ∙ whole)
+
+  -- ---- links accepted
+
+  links-next : (links rest left : Option (List L)) (xs : List L) (x : L) → links ≡ with_these xs rest → rest ≡ with_first x left → links ≡ with_these (xs ++ x ∷ []) left
+  links-next links rest left xs x p first = p ∙ (ap (with_these xs) first ∙ by left)
+    where
+      by : (o : Option (List L)) → with_these xs (with_first x o) ≡ with_these (xs ++ x ∷ []) o
+      by None = refl
+      by (Some ys) = ap Some (sym (append_assoc xs (x ∷ []) ys))
+
+  pub turns-start : (pass : Passed) (low : ℕ) (links : Option (List L)) (n : ℕ) → Turns pass low low 0 links links n n []
+  turns-start pass low links n = record { taken = by links; clients = omega arith; many = refl; count = refl }
+    where
+      by : (o : Option (List L)) → o ≡ with_these [] o
+      by None = refl
+      by (Some xs) = refl
+
+  pub turns-next : (j k : Passed) (low high more turns : ℕ) (links rest left : Option (List L)) (before now after : ℕ) (seats grown : List (Seat L)) (s : Seat L) (x : L)
+      → Turns j low high turns links rest before now seats → rest ≡ with_first x left → link_in s ≡ x → Learns j k → high ≤ more
+      → JoinsNext k high more (joined_in s) → after ≡ now → grown ≡ seats ++ s ∷ []
+      → Turns k low more (turns + 1) links left before after grown
+  turns-next j k low high more turns links rest left before now after seats grown s x p first link learns le next same is =
+      subst (Turns k low more (turns + 1) links left before after) (sym is) (record {
+        taken = links-next links rest left (map link_in seats) x p.taken first ∙ ap (λ w. with_these w left)
+            (ap (λ y. map link_in seats ++ y ∷ []) (sym link) ∙ sym (map-append link_in seats (s ∷ [])));
+        clients = subst (λ w. Rises k low w more) (sym (map-append joined_in seats (s ∷ [])))
+            (rises-next j k low high more (map joined_in seats) (joined_in s) p.clients learns le next);
+        many = (let l = length-append seats (s ∷ []) in let m = p.many in omega (arith, l, m));
+        count = same ∙ p.count;
+      })
+
+  pub turns-failed : (pass : Passed) (low high most turns : ℕ) (links rest left : Option (List L)) (given given_then : Option (List (L × ℕ))) (before now after : ℕ) (seats same : List (Seat L))
+      → Turns pass low high turns links rest before now seats → turns ≤ most → left ≡ rest → same ≡ seats → Rose now after
+      → Accepting pass low high most (record { links = links; links_then = left; given = given; given_then = given_then; faults = before; faults_then = after }) same true
+  turns-failed pass low high most turns links rest left given given_then before now after seats same p le unchanged is rose =
+      subst (λ w. Accepting pass low high most (record { links = links; links_then = left; given = given; given_then = given_then; faults = before; faults_then = after }) w true) (sym is) (record {
+        taken = p.taken ∙ ap (with_these (map link_in seats)) (sym unchanged);
+        clients = p.clients;
+        few = (let m = p.many in omega (arith, m));
+        counted = subst (λ (n : ℕ). Rose n after) p.count rose;
+        less = λ no. absurd (cc no);
+      })
+
+  -- none is left
+  pub turns-none : (pass : Passed) (low high most turns : ℕ) (links rest left : Option (List L)) (given given_then : Option (List (L × ℕ))) (before now after : ℕ) (seats same : List (Seat L))
+      → Turns pass low high turns links rest before now seats → turns ≤ most → IfSome rest (λ xs. xs ≡ []) → left ≡ rest → same ≡ seats → after ≡ now
+      → Accepting pass low high most (record { links = links; links_then = left; given = given; given_then = given_then; faults = before; faults_then = after }) same false
+  turns-none pass low high most turns links rest left given given_then before now after seats same p le none unchanged is counted =
+      subst (λ w. Accepting pass low high most (record { links = links; links_then = left; given = given; given_then = given_then; faults = before; faults_then = after }) w false) (sym is) (record {
+        taken = p.taken ∙ ap (with_these (map link_in seats)) (sym unchanged);
+        clients = p.clients;
+        few = (let m = p.many in omega (arith, m));
+        counted = counted ∙ p.count;
+        less = λ _ _. subst (λ o. IfSome o (λ xs. xs ≡ [])) (sym unchanged) none;
+      })
+
+  pub turns-end : (pass : Passed) (low high most turns : ℕ) (links rest : Option (List L)) (given given_then : Option (List (L × ℕ))) (before now : ℕ) (seats : List (Seat L))
+      → Turns pass low high turns links rest before now seats → turns ≤ most → most ≤ turns → Accepting pass low high most (record { links = links; links_then = rest; given = given; given_then = given_then; faults = before; faults_then = now }) seats false
+  turns-end pass low high most turns links rest given given_then before now seats p le whole = record {
+    taken = p.taken;
+    clients = p.clients;
+    few = (let m = p.many in omega (arith, m));
+    counted = p.count;
+    less = λ _ fewer. absurd (let m = p.many in omega (arith, m));
+  }
+
+  pub accepting-more : (j k : Passed) (low mid high most : ℕ) (g : Gatherings L) (seats same : List (Seat L)) (failed : Bool)
+      → Accepting j low mid most g seats failed → Learns j k → mid ≤ high → same ≡ seats
+      → Accepting k low high most g same failed
+  accepting-more j k low mid high most g seats same failed p learns le is =
+      subst (λ w. Accepting k low high most g w failed) (sym is) (record {
+        taken = p.taken;
+        clients = rises-more j k low mid high (map joined_in seats) p.clients learns le;
+        few = p.few;
+        counted = p.counted;
+        less = p.less;
+      })
+
+  -- ---- links given back
+
+  pub settling-start : (told : L → Both) (pass : Passed) (all rest : List (Account L)) (old : Option (List (L × ℕ))) → rest ≡ all → All (IsNear pass) all
+      → Settling told pass all rest old old 0
+  settling-start told pass all rest old is near =
+      record { done = []; parts = is; given = none old; faulted_is = refl; served = All-nil _; near = subst (All (IsNear pass)) (sym is) near }
+    where
+      none : (o : Option (List (L × ℕ))) → o ≡ and_these o []
+      none None = refl
+      none (Some xs) = ap Some (sym (append-nil xs))
+
+  pub settling-next : (told : L → Both) (pass : Passed) (all rest left : List (Account L)) (a : Account L) (old new more : Option (List (L × ℕ))) (n m : ℕ)
+      → Settling told pass all rest old new n → rest ≡ a ∷ left → more ≡ with_last new (given_of a) → IsServed told pass a
+      → m ≡ n + (if a.status == WHOLE then 0 else 1) → Settling told pass all left old more m
+  settling-next told pass all rest left a old new more n m p first back served counted = record {
+    done = p.done ++ a ∷ [];
+    parts = append_assoc p.done (a ∷ []) left ∙ (ap (λ w. p.done ++ w) (sym first) ∙ p.parts);
+    given = back ∙ (ap (λ o. with_last o (given_of a)) p.given ∙ (both old (map given_of p.done) (given_of a)
+        ∙ ap (and_these old) (sym (map-append given_of p.done (a ∷ [])))));
+    faulted_is = counted ∙ (ap (λ (k : ℕ). k + (if a.status == WHOLE then 0 else 1)) p.faulted_is ∙ (sym (faults-append (map status_in p.done) a.status)
+        ∙ ap faults_of (sym (map-append status_in p.done (a ∷ [])))));
+    served = All-append (IsServed told pass) p.done (a ∷ []) p.served (All-cons (IsServed told pass) a [] served (All-nil _));
+    near = All-rest (IsNear pass) a left rest first p.near;
+  }
+    where
+      both : (o : Option (List (L × ℕ))) (xs : List (L × ℕ)) (x : L × ℕ) → with_last (and_these o xs) x ≡ and_these o (xs ++ x ∷ [])
+      both None xs x = refl
+      both (Some ys) xs x = ap Some (append_assoc ys xs (x ∷ []))
+
+  -- the next to be settled is near, and the count has room
+  pub settling-near : (told : L → Both) (pass : Passed) (all rest left : List (Account L)) (a : Account L) (old new : Option (List (L × ℕ))) (n : ℕ)
+      → Settling told pass all rest old new n → rest ≡ a ∷ left → IsNear pass a
+  settling-near told pass all rest left a old new n p first = subst (All (IsNear pass)) first p.near 0 a (omega arith)
+
+  pub settling-few : (told : L → Both) (pass : Passed) (all rest left : List (Account L)) (a : Account L) (old new : Option (List (L × ℕ))) (n : ℕ)
+      → Settling told pass all rest old new n → rest ≡ a ∷ left → n + 1 ≤ length all
+  settling-few told pass all rest left a old new n p first =
+      let few = faults-few (map status_in p.done) in
+      let l = length-map p.done status_in in
+      let whole : length all ≡ length p.done + length rest = ap length (sym p.parts) ∙ length-append p.done rest in
+      omega (arith, p.faulted_is, few, l, whole, ap length first)
+
+  pub settling-end : (told : L → Both) (pass : Passed) (all rest : List (Account L)) (old new : Option (List (L × ℕ))) (n k : ℕ) → k ≡ 0 → k ≡ length rest
+      → Settling told pass all rest old new n → Settling told pass all [] old new n
+  settling-end told pass all rest old new n k none len p =
+      let nil : rest ≡ [] = nil_from_length rest (omega arith) in subst (λ w. Settling told pass all w old new n) nil p
+
+  -- ---- all of it
+
+  pub few-ended : (pass : Passed) (low high most : ℕ) (g : Gatherings L) (all : List (Account L)) (failed : Bool)
+      → Accepting pass low high most g (map seat_of all) failed → length all ≤ most
+  few-ended pass low high most g all failed p = let few = p.few in omega (arith, few, length-map all seat_of)
+
+  pub served-all : (told : L → Both) (pass : Passed) (low high most : ℕ) (g : Gatherings L) (mid : Option (List (L × ℕ))) (all : List (Account L)) (n k : ℕ)
+      (failed : Bool) → Accepting pass low high most g (map seat_of all) failed → mid ≡ g.given → Settling told pass all [] mid g.given_then n
+      → k ≡ length all → ServedAll told pass low high most g (record { accepted = k; faulted = n; failed = failed })
+  served-all told pass low high most g mid all n k failed p same q number =
+      let whole : q.done ≡ all = sym (append-nil q.done) ∙ q.parts in record {
+        accounts = all;
+        accepted = p;
+        number = number;
+        served = subst (All (IsServed told pass)) whole q.served;
+        given_back = q.given ∙ (ap (λ o. and_these o (map given_of q.done)) same ∙ ap (λ w. and_these g.given (map given_of w)) whole);
+        faulted = q.faulted_is ∙ ap (λ w. faults_of (map status_in w)) whole;
+      }
+
+  pub served-at : (told : L → Both) (u v : Passed) (a : Account L) → u ≡ v → IsServed told u a → IsServed told v a
+  served-at told u v a is p = subst (λ (w : Passed). IsServed told w a) is p

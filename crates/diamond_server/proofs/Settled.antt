@@ -1,0 +1,149 @@
+-- What a session's client knew at the end explains it; so does what the client knows once it has met others.
+use Rattle.std.proofs.Common.{◌≡◌, ℕ, ◌≤◌, Bool, true, false, List, [], ◌++◌, length, map, Option, Some, None, Result, Ok, Err, refl, ap, sym, ◌∙◌, subst, arith}
+use Rattle.std.specs.Prelude.{max, ltb}
+use Rattle.std.proofs.lemmas.Bool.Decides.{nat_tests}
+use mathlib.Core.List.{IsPrefix}
+use Rattle.history_lock.specs.Tokens.{longer}
+use Rattle.history_lock.proofs.Prefixes.{prefix_whole}
+use Rattle.dio_core.specs.Links.{Both}
+use Rattle.rdt_types.specs.declared.limits.TheConstants.{LEAST_SHARDS, MOST_SHARDS}
+use Rattle.txn_grammar.specs.Characters.{Text}
+use Rattle.txn_lang.specs.Journals.{IsLegal, own}
+use Rattle.txn_lang.specs.States.{Journal}
+use Rattle.docc_prepare.specs.Calls.{Known, Call, Answer}
+use Rattle.diamond_store.specs.Answers.{Learns, Meets}
+use Rattle.diamond_store.specs.Passes.{Passed, known_of}
+use Rattle.diamond_store.proofs.Known.{front-of}
+use Rattle.session_core.specs.declared.session.Session.{Session}
+use Rattle.session_core.specs.declared.turn.Turn.{Turn}
+use Rattle.session_core.specs.Explained.{setting_of, story_of}
+use Rattle.session_core.specs.Holding.{Attends}
+use Rattle.session_core.specs.Sessions.{Talks as SessionTalks, committed_by, all_replies}
+use Rattle.session_core.proofs.Grown.{prefix-again}
+use Rattle.session_core.proofs.Said.{named-stays}
+use Rattle.session_core.proofs.Stays.{explains_stays}
+use Rattle.session_core.proofs.Talked.{finds, talks-attends, talks-owned}
+use Rattle.session_core.proofs.Woken.{says-attends, says-client}
+use Rattle.diamond_server.specs.Accounts.{IsExplained, IsTold, having_met}
+use Rattle.diamond_server.specs.Promises.{sides, IsAccounted, IsServed, Promises}
+use Rattle.diamond_server.specs.Settling.{IsNearTalk}
+use Rattle.diamond_server.specs.Talking.{Told, first_session, texts_of, turns_of}
+use Rattle.diamond_server.proofs.Talked.{talk-is}
+
+-- ---- promises
+
+-- whatever is told of a talk, so is what follows from it
+pub promises-map : (Held Other : (List Told → Option Session → Text → Text → Type 0) → Type 0) (k l : Known) (status : ℕ) (x y : Both)
+    → ((Reads : List Told → Option Session → Text → Text → Type 0) → Held Reads → Other Reads) → Promises Held k l status x y
+    → Promises Other k l status x y
+promises-map Held Other k l status x y f p = record {
+  statuses = p.statuses;
+  whole = λ is. f _ (p.whole is);
+  broken_off = λ is. f _ (p.broken_off is);
+  too_many = λ is. f _ (p.too_many is);
+  reads = p.reads;
+  writes = p.writes;
+  store_failed = p.store_failed;
+  completes = p.completes;
+}
+
+-- a session that was served is explained by what its client knows at its end
+pub served-explained : {B : Type 0} (known : B → Known) (goes : B → Call → Answer → B → Type 0) (old new : B) (x y : Both)
+    (Reads : List Told → Option Session → Text → Text → Type 0) → Attends (known old) (first_session (known old))
+    → IsServed known goes old new x y Reads → IsExplained (known old) (known new) (known new) x y Reads
+served-explained known goes old new x y Reads begins p =
+    let h = talk-is known goes old (first_session (known old)) p.tolds new p.session p.talks in record {
+      tolds = p.tolds;
+      session = p.session;
+      last = h.session;
+      begins = begins;
+      talks = h.talks;
+      accounted = p.accounted;
+      heard = p.heard;
+    }
+
+-- a link that tells what another tells
+pub sides-same : {K : Type 0} (left : K → Option Text) (reads : K → ℕ) (taken passed : K → Option Text) (writes : K → ℕ) (a b : K) → left a ≡ left b
+    → taken a ≡ taken b → passed a ≡ passed b → reads a ≡ reads b → writes a ≡ writes b
+    → sides left reads taken passed writes a ≡ sides left reads taken passed writes b
+sides-same left reads taken passed writes a b same_left same_taken same_passed same_reads same_writes =
+    rw (same_left, same_taken, same_passed, same_reads, same_writes) refl
+
+-- ---- a longer journal
+
+-- no line changes the client
+talks-client : (k : Known) (s : Session) (texts : List Text) (turns : List Turn) (l : Known) (u : Session) → Attends k s
+    → SessionTalks k s texts turns l u → l.client ≡ k.client
+talks-client k s texts turns l u is SessionTalks.silent = refl
+talks-client k s texts turns l u is
+    (SessionTalks.says {here = here} {l = m} {t = t} {text = text} {said = x} {texts = rest} {turns = more} found_it short said talks) =
+    let it = finds k here s is found_it in
+    talks-client m t rest more l u (says-attends here m s t text x it.attends short said) talks
+    ∙ ((says-client here m s t text x it.attends short said).client ∙ it.client.client)
+
+-- What a journal explains, a longer one explains that has no more commits of the client.
+module _ (p has : Passed) (journal : Journal) (denials : ℕ) (tolds : List Told) (last : Session)
+    (begins : Attends (known_of p) (first_session (known_of p)))
+    (talks : SessionTalks (known_of p) (first_session (known_of p)) (texts_of tolds) (turns_of tolds) (known_of has) last)
+    (grows : IsPrefix has.journal journal) (legal : IsLegal has.trusted journal) (same : own has.client journal ≡ own has.client has.journal)
+    (more : has.denials ≤ denials) where
+  accounted-met : IsAccounted (known_of p) (known_of has) tolds → IsAccounted (known_of p) (known_of (record has { journal = journal; denials = denials })) tolds
+  accounted-met a =
+      let first = first_session (known_of p) in
+      let texts = texts_of tolds in
+      let turns = turns_of tolds in
+      let on = talks-attends (known_of p) first texts turns (known_of has) last begins talks in
+      let minds = on.watches.told in
+      let begun = front-of has.journal journal grows in
+      let owned = talks-owned (known_of p) first texts turns (known_of has) last begins talks in
+      let client : has.client ≡ p.client = talks-client (known_of p) first texts turns (known_of has) last begins talks in
+      let kept : own p.client journal ≡ own p.client has.journal =
+      subst (λ (c : ℕ). own c journal ≡ own c has.journal) client same in record {
+        explained = λ low few.
+            let e = a.explained low few in record {
+              grows = prefix-again p.journal has.journal journal e.grows begun;
+              explains = explains_stays (setting_of (known_of p)) has.journal journal (story_of low low first) texts turns minds.can
+                  (minds.can_on journal begun legal) begun tt e.explains;
+            };
+        own_commits = kept ∙ (owned.own_is ∙ ap (λ (xs : Journal). own p.client p.journal ++ xs)
+            (sym (named-stays has.journal journal (all_replies turns) begun owned.there)));
+        denied = a.denied;
+        known_denied = (let known = a.known_denied in omega arith);
+        faults = a.faults;
+      }
+
+-- ---- the meeting
+
+-- the longer of a list and a prefix of it is the list
+longer-prefix : {A : Type 0} (xs ys : List A) → IsPrefix xs ys → longer xs ys ≡ ys
+longer-prefix xs ys p = by (ltb (length xs) (length ys)) refl
+  where
+    by : (t : Bool) → ltb (length xs) (length ys) ≡ t → longer xs ys ≡ ys
+    by true is = rw is refl
+    by false is = rw is (prefix_whole xs ys p (grind (arith, nat_tests)))
+
+-- A client that has met what another knows, who knew all that it knew: what was told of its session is so of what the other knows.
+pub told-met : (x y : Both) (status : ℕ) (t : Passed × Passed) (other new : Passed) → IsTold (λ p. p) x y status (Ok t)
+    → IsNearTalk other (Ok t) → Learns t.1 new → new.journal ≡ longer t.1.journal other.journal → IsTold (having_met other) x y status (Ok t)
+told-met x y status t other new told near learns met = (told.0, promises-map _ _ (known_of t.0) (known_of t.1) status x y later told.1)
+  where
+    whole : new.journal ≡ other.journal
+    whole = met ∙ longer-prefix t.1.journal other.journal near.0
+
+    legal : IsLegal t.1.trusted other.journal
+    legal = subst (λ (w : Journal). IsLegal t.1.trusted w) whole (subst (λ (n : ℕ). IsLegal n new.journal) (ap (λ (p : Passed). p.trusted) learns.rest) learns.legal)
+
+    same : own t.1.client other.journal ≡ own t.1.client t.1.journal
+    same = ap (own t.1.client) (sym whole) ∙ learns.own_commits
+
+    later : (Reads : List Told → Option Session → Text → Text → Type 0) → IsExplained (known_of t.0) (known_of t.1) (known_of t.1) x y Reads
+        → IsExplained (known_of t.0) (known_of t.1) (known_of (having_met other t.1)) x y Reads
+    later Reads h = record {
+      tolds = h.tolds;
+      session = h.session;
+      last = h.last;
+      begins = h.begins;
+      talks = h.talks;
+      accounted = accounted-met t.0 t.1 other.journal other.denials h.tolds h.last h.begins h.talks near.0 legal same near.1 h.accounted;
+      heard = h.heard;
+    }

@@ -1,0 +1,172 @@
+-- What is told of the links of a listener: each as it was accepted and as it is given back, and of its session that it is explained
+-- by one prefix of the journal, the same for all links.
+use Rattle.std.specs.Prelude.{◌≡◌, ℕ, ◌+◌, ◌<◌, ◌≤◌, ◌==◌, List, [], ◌∷◌, ◌++◌, length, map, All, Bool, true, false, Option, Some, None, IfSome, Result, Ok, Err, if◌then◌else◌, refl}
+use mathlib.Core.List.{IsPrefix}
+use Rattle.history_lock.specs.declared.limits.TheConstants.{MOST_DRAWS}
+use Rattle.dio_core.specs.Counts.{IsCounted}
+use Rattle.dio_core.specs.Links.{Both}
+use Rattle.txn_grammar.specs.Characters.{Text}
+use Rattle.txn_lang.specs.Journals.{own}
+use Rattle.docc_prepare.specs.Calls.{Known}
+use Rattle.diamond_store.specs.Passes.{Passed, known_of}
+use Rattle.diamond_store.specs.declared.join_error.JoinError.{JoinError}
+use Rattle.diamond_store.specs.declared.join_error.JoinError.TheVariants as join_error
+use Rattle.session_core.specs.declared.session.Session.{Session}
+use Rattle.session_core.specs.Explained.{setting_of}
+use Rattle.session_core.specs.Holding.{Attends}
+use Rattle.session_core.specs.Sessions.{Talks as SessionTalks}
+use Rattle.script_runner.specs.declared.status.TheConstants.{WHOLE, NO_MEMORY}
+use Rattle.diamond_server.specs.declared.status.TheConstants.{NO_CLIENT}
+use Rattle.diamond_server.specs.declared.serving_all.Tally.{Tally}
+use Rattle.diamond_server.specs.Talking.{Told, first_session, texts_of, turns_of}
+use Rattle.diamond_server.specs.Promises.{IsAccounted, IsHeard, Promises}
+
+-- ---- one link
+
+-- A LINK THAT IS DONE WITH: as it was accepted, as it is given back, and its status; and the pass of its client as it joined and as
+-- its session left it, or why no client joined.
+pub record Account (L : Type 0) : Type 0 where
+  pub was : L
+  pub link : L
+  pub status : ℕ
+  pub talk : Result (Passed × Passed) JoinError
+
+-- a link that was accepted, and the pass of its client as it joined, or why none did
+pub record Seat (L : Type 0) : Type 0 where
+  pub was : L
+  pub joined : Result Passed JoinError
+
+-- a new client: it has no commit, and the store took none on trust
+pub record IsNewcomer (pass : Passed) : Type 0 where
+  pub none : own pass.client pass.journal ≡ []
+  pub trusted : pass.trusted ≡ 0
+
+-- the status of a link that isn't read
+abbrev pub unread : JoinError → ℕ
+unread (join_error.Clients drawn) = NO_CLIENT
+unread join_error.NoMemory = NO_MEMORY
+
+unread-example : unread (join_error.Clients 1000000) ≡ 13
+unread-example = refl
+
+-- A session over a link: its lines and their answers, from what its client knew as it joined (k) to what it knew at the session's
+-- end (l), each line by calls that keep the clause of every backend; explained by the journal that it knows later (m).
+pub record IsExplained (k l m : Known) (x y : Both) (Reads : List Told → Option Session → Text → Text → Type 0) : Type 0 where
+  pub tolds : List Told
+  pub session : Option Session
+  pub last : Session
+  pub begins : Attends k (first_session k)
+  pub talks : SessionTalks k (first_session k) (texts_of tolds) (turns_of tolds) l last
+  pub accounted : IsAccounted k m tolds
+  pub heard : IsHeard tolds session x y Reads
+
+-- WHAT IS TOLD OF A LINK, from both its sides as they were to both as they are. `knows` is what a client knows later, by what it
+-- knew at its session's end. A link that isn't read is as it was.
+abbrev pub IsTold : (Passed → Passed) → Both → Both → ℕ → Result (Passed × Passed) JoinError → Type 0
+IsTold knows x y status (Ok t) =
+    IsNewcomer t.0 × Promises (IsExplained (known_of t.0) (known_of t.1) (known_of (knows t.1)) x y) (known_of t.0) (known_of t.1) status x y
+IsTold knows x y status (Err e) = (y ≡ x) × (status ≡ unread e)
+
+-- of a link in whole, its client knowing what it knew at its session's end
+abbrev pub IsEnded : {L : Type 0} → (L → Both) → Account L → Type 0
+IsEnded told a = IsTold (λ p. p) (told a.was) (told a.link) a.status a.talk
+
+-- a client that has met what another knows
+abbrev pub having_met : Passed → Passed → Passed
+having_met other p = record p { journal = other.journal; denials = other.denials }
+
+-- of a link in whole, its client knowing what this pass knows
+abbrev pub IsServed : {L : Type 0} → (L → Both) → Passed → Account L → Type 0
+IsServed told other a = IsTold (having_met other) (told a.was) (told a.link) a.status a.talk
+
+-- ---- parts of accounts
+
+abbrev pub joined_of : Result (Passed × Passed) JoinError → Result Passed JoinError
+joined_of (Ok t) = Ok t.0
+joined_of (Err e) = Err e
+
+abbrev pub seat : {L : Type 0} → L → Result Passed JoinError → Seat L
+seat was joined = record { was = was; joined = joined }
+
+abbrev pub seat_of : {L : Type 0} → Account L → Seat L
+seat_of a = seat a.was (joined_of a.talk)
+
+abbrev pub link_in : {L : Type 0} → Seat L → L
+link_in s = s.was
+
+abbrev pub joined_in : {L : Type 0} → Seat L → Result Passed JoinError
+joined_in s = s.joined
+
+abbrev pub given_of : {L : Type 0} → Account L → L × ℕ
+given_of a = (a.link, a.status)
+
+abbrev pub status_in : {L : Type 0} → Account L → ℕ
+status_in a = a.status
+
+-- how many statuses aren't 0
+abbrev pub faults_of : List ℕ → ℕ
+faults_of [] = 0
+faults_of (s ∷ rest) = (if s == WHOLE then 0 else 1) + faults_of rest
+
+faults_of-example : faults_of (0 ∷ 13 ∷ 0 ∷ 3 ∷ []) ≡ 2
+faults_of-example = refl
+
+-- ---- all links
+
+-- A listener, when the serving begins and when it ends.
+pub record Gatherings (L : Type 0) : Type 0 where
+  pub links : Option (List L)  -- the links left, or None where it doesn't tell
+  pub links_then : Option (List L)
+  pub given : Option (List (L × ℕ))  -- those given back, each with its status, or None
+  pub given_then : Option (List (L × ℕ))
+  pub faults : ℕ  -- how many accepts have failed
+  pub faults_then : ℕ
+
+-- the listener of a serving, by what listeners tell
+abbrev pub gatherings : {N L : Type 0} → (N → Option (List L)) → (N → Option (List (L × ℕ))) → (N → ℕ) → N → N → Gatherings L
+gatherings links given faults old new = record {
+  links = links old;
+  links_then = links new;
+  given = given old;
+  given_then = given new;
+  faults = faults old;
+  faults_then = faults new;
+}
+
+-- Clients' numbers rise, from at least `low` to below `high`, so no two are the same; and each is a client of the store of this
+-- pass, by the store's settings. No client joined only for want of memory, or where all numbers were drawn, as the pass knows.
+abbrev pub Rises : Passed → ℕ → List (Result Passed JoinError) → ℕ → Type 0
+Rises pass low [] high = low ≤ high
+Rises pass low (Ok p ∷ rest) high =
+    (setting_of (known_of p) ≡ setting_of (known_of pass)) × (low ≤ p.client) × Rises pass (p.client + 1) rest high
+Rises pass low (Err (join_error.Clients drawn) ∷ rest) high = (MOST_DRAWS ≤ drawn) × (drawn ≤ pass.draws) × Rises pass low rest high
+Rises pass low (Err join_error.NoMemory ∷ rest) high = Rises pass low rest high
+
+-- these, and then those that are left
+abbrev pub with_these : {A : Type 0} → List A → Option (List A) → Option (List A)
+with_these xs None = None
+with_these xs (Some rest) = Some (xs ++ rest)
+
+-- those before, and then these
+abbrev pub and_these : {A : Type 0} → Option (List A) → List A → Option (List A)
+and_these None xs = None
+and_these (Some before) xs = Some (before ++ xs)
+
+-- What was accepted, of at most so many links: the first that were left. It was fewer only where none was left, or where an accept
+-- failed, which raised the count. Clients drew numbers from `low` to below `high`.
+pub record Accepting {L : Type 0} (pass : Passed) (low high most : ℕ) (g : Gatherings L) (seats : List (Seat L)) (failed : Bool) : Type 0 where
+  pub taken : g.links ≡ with_these (map link_in seats) g.links_then
+  pub clients : Rises pass low (map joined_in seats) high
+  pub few : length seats ≤ most
+  pub counted : IsCounted failed g.faults g.faults_then
+  pub less : failed ≡ false → length seats < most → IfSome g.links_then (λ left. left ≡ [])
+
+-- WHAT CAME OF THE LINKS OF A LISTENER: there is an account of each, in the order of accepting; all are explained by the one prefix
+-- that `pass` knows; and each was given back, in that order, with its status.
+pub record ServedAll {L : Type 0} (told : L → Both) (pass : Passed) (low high most : ℕ) (g : Gatherings L) (tally : Tally) : Type 0 where
+  pub accounts : List (Account L)
+  pub accepted : Accepting pass low high most g (map seat_of accounts) tally.failed
+  pub number : tally.accepted ≡ length accounts
+  pub served : All (IsServed told pass) accounts
+  pub given_back : g.given_then ≡ and_these g.given (map given_of accounts)
+  pub faulted : tally.faulted ≡ faults_of (map status_in accounts)

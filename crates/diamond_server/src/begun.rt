@@ -1,0 +1,152 @@
+//! A session that was begun: it runs in a thread, or has ended.
+
+ghost use Rattle.std.specs.Prelude.{◌≡◌, Ok, Err};
+ghost use Rattle.diamond_server.specs.Accounts.{seat, seat_of, IsNewcomer};
+
+use crate::ended::{Ended, serve};
+use diamond_store::{Gate, JoinError, Pass, Store};
+use dio_core::{End, Sink, Source};
+use history_lock::Naming;
+use journal_core::MemKeep;
+use std::alloc::Global;
+use std::marker::Model;
+use std::snapshot::Snapshot;
+use std::sync::Wait;
+use std::thread::{Promise, PromisedHandle, Scope, Threads};
+
+/// What a thread promises: to serve the session of this pass over this link.
+#[derive(Drop)]
+struct Serving<L, N: Naming> {
+    link: Snapshot<L>,
+    pass: Snapshot<Pass<MemKeep, N>>,
+}
+
+impl<L: Source + Sink, N: Naming> Promise<(L, Pass<MemKeep, N>, u8)> for Serving<L, N> {
+    ghost use Rattle.std.specs.Prelude.{Ok};
+    ghost use Rattle.diamond_server.specs.Accounts.{IsTold};
+    ghost use Rattle.diamond_server.specs.Promises.{sides};
+
+    ghost kept_by = { λ p r. IsTold (λ q. q) (sides L.left L.read_faults L.taken L.passed L.write_faults p.link.value)
+        (sides L.left L.read_faults L.taken L.passed L.write_faults r.0) r.2 (Ok (p.pass.value, r.1)) };
+}
+
+/// A session in a thread.
+#[derive(Drop)]
+struct Running<L: Source + Sink, N: Naming> {
+    was: Snapshot<L>,
+    had: Snapshot<Pass<MemKeep, N>>,
+    handle: PromisedHandle<(L, Pass<MemKeep, N>, u8), Serving<L, N>>,
+    ghost link: { handle.promise.link.value ≡ was.value },
+    ghost pass: { handle.promise.pass.value ≡ had.value },
+}
+
+/// The pass of a client as it joined.
+#[derive(Drop)]
+struct Joined<N: Naming> {
+    pass: Snapshot<Pass<MemKeep, N>>,
+}
+
+impl<N: Naming> Model for Joined<N> {
+    ghost use Rattle.std.specs.Coded.{codes};
+    ghost use Rattle.txn_lang.specs.contracts.commit.Commit as commit;
+    ghost use Rattle.rdt_types.specs.contracts.address.Address as address;
+    ghost use Rattle.diamond_store.specs.Passes.{Passed, passed_code};
+
+    ghost Value = { Passed };
+
+    ghost coded = { Prim.hlevel (codes, passed_code commit.the_row.coded address.the_row.coded) };
+
+    ghost view = { λ j. j.pass.value };
+
+    ghost invariant = { λ j. Unit {0} };
+}
+
+/// A session that was begun. Contracts see the link as it was accepted, and the pass of its client, or why none joined.
+#[derive(Drop)]
+pub(crate) struct Begun<L: Source + Sink, N: Naming> {
+    was: Snapshot<L>,
+    joined: Result<Joined<N>, JoinError>,
+    run: Result<Running<L, N>, Ended<L, N>>,
+}
+
+impl<L: Source + Sink, N: Naming> Model for Begun<L, N> {
+    ghost use Rattle.std.specs.Prelude.{◌≡◌, Ok, MatchResult};
+    ghost use Rattle.std.specs.Coded.{codes};
+    ghost use Rattle.txn_lang.specs.contracts.commit.Commit as commit;
+    ghost use Rattle.rdt_types.specs.contracts.address.Address as address;
+    ghost use Rattle.diamond_store.specs.Passes.{passed_code};
+    ghost use Rattle.diamond_server.specs.Accounts.{Seat, seat, seat_of};
+
+    ghost Value = { Seat L };
+
+    ghost coded = { Prim.hlevel (codes, passed_code commit.the_row.coded address.the_row.coded) };
+
+    ghost view = { λ s. seat s.was.value s.joined };
+
+    ghost invariant = { λ s. MatchResult s.run (λ running. seat running.was.value (Ok running.had.value) ≡ seat s.was.value s.joined)
+        (λ ended. seat_of ended ≡ seat s.was.value s.joined) };
+}
+
+/// Begins the session of a pass over a link in a thread of the scope. Where no thread can be started, the session is served here,
+/// and has ended when this returns.
+pub(crate) fn begin<
+    's,
+    'e: 's,
+    L: End + Send + Drop + 'e,
+    G: Gate + Drop + Send + Sync,
+    N: Naming + Send + Sync + 'e,
+    R: Threads + Wait + Sync,
+>(
+    scope: &'s Scope<'s, &'e ()>,
+    rt: &'e R,
+    alloc: Global,
+    store: &'e Store<MemKeep, G, N>,
+    link: L,
+    pass: Pass<MemKeep, N>,
+) -> Begun<L, N>
+    requires newcomer { IsNewcomer pass }
+    ensures { result ≡ seat link (Ok pass) }
+{
+    let (link_was, pass_was) = (Snapshot::of(&link), Snapshot::of(&pass));
+    let (was, had) = (Snapshot::of(&link), Snapshot::of(&pass));
+    let promise = Serving {
+        link: Snapshot::of(&link),
+        pass: Snapshot::of(&pass),
+    };
+    let run = match scope.spawn_with(promise, move || serve(rt, alloc, store, link, pass)) {
+        Ok(handle) => Ok(Running { was, had, handle }),
+        Err(refused) => Err(Ended::served(was, had, (refused.value)())),
+    };
+    Begun {
+        was: link_was,
+        joined: Ok(Joined { pass: pass_was }),
+        run,
+    }
+}
+
+impl<L: End + Drop, N: Naming> Begun<L, N> {
+    /// The session of a link that isn't read, since no client joined for it.
+    pub(crate) fn unread(link: L, error: JoinError) -> Begun<L, N>
+        ensures { result ≡ seat link (Err error) }
+    {
+        Begun {
+            was: Snapshot::of(&link),
+            joined: Err(error),
+            run: Err(Ended::unread(link, error)),
+        }
+    }
+
+    /// The session once it has ended.
+    pub(crate) fn join<R: Threads>(self, rt: &R) -> Ended<L, N>
+        ensures { seat_of result ≡ self }
+    {
+        let Begun { run, .. } = self;
+        match run {
+            Ok(running) => {
+                let Running { was, had, handle } = running;
+                Ended::served(was, had, handle.join(rt))
+            }
+            Err(ended) => ended,
+        }
+    }
+}

@@ -1,0 +1,202 @@
+//! A link that is done with, and what is known of its session.
+
+ghost use Rattle.std.specs.Prelude.{◌≡◌, ℕ, Ok, Err};
+ghost use Rattle.diamond_store.specs.Answers.{Learns};
+ghost use Rattle.diamond_server.specs.Accounts.{seat, seat_of, given_of, unread, having_met, IsNewcomer, IsTold, IsServed};
+ghost use Rattle.diamond_server.specs.Promises.{sides};
+ghost use Rattle.diamond_server.specs.Settling.{IsNear, IsNearTalk};
+ghost use Rattle.dio_core.specs.Links.{Both};
+
+use crate::serving::serve_session;
+use crate::status::unread_status;
+use diamond_store::{Gate, JoinError, Pass, Served, Store};
+use dio_core::{End, Sink, Source};
+use history_lock::Naming;
+use journal_core::MemKeep;
+use std::alloc::Global;
+use std::marker::Model;
+use std::snapshot::Snapshot;
+use std::sync::Wait;
+
+/// A client's pass as it joined, and as its session left it.
+#[derive(Drop)]
+pub(crate) struct Talk<N: Naming> {
+    had: Snapshot<Pass<MemKeep, N>>,
+    pass: Pass<MemKeep, N>,
+}
+
+impl<N: Naming> Model for Talk<N> {
+    ghost use Rattle.std.specs.Coded.{codes};
+    ghost use Rattle.txn_lang.specs.contracts.commit.Commit as commit;
+    ghost use Rattle.rdt_types.specs.contracts.address.Address as address;
+    ghost use Rattle.diamond_store.specs.Passes.{Passed, passed_code};
+
+    ghost Value = { Passed × Passed };
+
+    ghost coded = { Prim.hlevel (codes, passed_code commit.the_row.coded address.the_row.coded) };
+
+    ghost view = { λ t. (t.had.value, t.pass) };
+
+    ghost invariant = { λ t. Unit {0} };
+}
+
+/// A link that is done with, its status, and the pass of its client, or why none joined. Contracts see it as an `Account`, and its
+/// invariant is what is told of the link.
+#[derive(Drop)]
+pub(crate) struct Ended<L: Source + Sink, N: Naming> {
+    was: Snapshot<L>,
+    link: L,
+    status: u8,
+    talk: Result<Talk<N>, JoinError>,
+}
+
+impl<L: Source + Sink, N: Naming> Model for Ended<L, N> {
+    ghost use Rattle.std.specs.Coded.{codes};
+    ghost use Rattle.txn_lang.specs.contracts.commit.Commit as commit;
+    ghost use Rattle.rdt_types.specs.contracts.address.Address as address;
+    ghost use Rattle.diamond_store.specs.Passes.{passed_code};
+    ghost use Rattle.diamond_server.specs.Accounts.{Account, IsEnded};
+    ghost use Rattle.diamond_server.specs.Promises.{sides};
+
+    ghost Value = { Account L };
+
+    ghost coded = { Prim.hlevel (codes, passed_code commit.the_row.coded address.the_row.coded) };
+
+    ghost view = { λ e. record { was = e.was.value; link = e.link; status = e.status; talk = e.talk } };
+
+    ghost invariant = { λ e. IsEnded (sides L.left L.read_faults L.taken L.passed L.write_faults)
+        (record { was = e.was.value; link = e.link; status = e.status; talk = e.talk }) };
+}
+
+/// Serves the session of a new client over a link, and ends the link.
+pub(crate) fn serve<L: End, G: Gate + Drop, N: Naming, R: Wait>(
+    rt: &R,
+    alloc: Global,
+    store: &Store<MemKeep, G, N>,
+    mut link: L,
+    pass: Pass<MemKeep, N>,
+) -> (L, Pass<MemKeep, N>, u8)
+    requires newcomer { IsNewcomer pass }
+    ensures told { IsTold (λ p. p) (sides L.left L.read_faults L.taken L.passed L.write_faults link)
+        (sides L.left L.read_faults L.taken L.passed L.write_faults result.0) result.2 (Ok (pass, result.1)) }
+{
+    let _seen = pass.seen();
+    let _shards = pass.shards();
+    let mut served = Served { store, pass, rt };
+    let status = serve_session(alloc, &mut served, &mut link);
+    let Served { pass, .. } = served;
+    link.end();
+    (link, pass, status)
+}
+
+impl<L: End, N: Naming> Ended<L, N> {
+    /// A link that was served so.
+    pub(crate) fn served(
+        was: Snapshot<L>,
+        had: Snapshot<Pass<MemKeep, N>>,
+        done: (L, Pass<MemKeep, N>, u8),
+    ) -> Ended<L, N>
+        requires told { IsTold (λ p. p) (sides L.left L.read_faults L.taken L.passed L.write_faults was.value)
+            (sides L.left L.read_faults L.taken L.passed L.write_faults done.0) done.2 (Ok (had.value, done.1)) }
+        ensures seat { seat_of result ≡ seat was.value (Ok had.value) }
+    {
+        let (link, pass, status) = done;
+        Ended {
+            was,
+            link,
+            status,
+            talk: Ok(Talk { had, pass }),
+        }
+    }
+
+    /// A link that isn't read, since no client joined for it. It is ended.
+    pub(crate) fn unread(mut link: L, error: JoinError) -> Ended<L, N>
+        ensures seat { seat_of result ≡ seat link (Err error) }
+    {
+        let was = Snapshot::of(&link);
+        link.end();
+        Ended {
+            was,
+            link,
+            status: unread_status(error),
+            talk: Err(error),
+        }
+    }
+
+    /// The pass learns what the client knows.
+    pub(crate) fn lend<G: Gate + Drop>(
+        &mut self,
+        store: &Store<MemKeep, G, N>,
+        pass: &mut Pass<MemKeep, N>,
+    )
+        ensures same { self.new ≡ self.old }
+        ensures learns { Learns pass.old pass.new }
+        ensures near { IsNear pass.new self.new }
+    {
+        let _seen = pass.seen();
+        if let Ok(talk) = &mut self.talk {
+            let token = store.split(&mut talk.pass);
+            store.meet(pass, token);
+        }
+    }
+
+    /// The link and its status. The client has met what the pass knows, so that explains its session, and has left.
+    pub(crate) fn settled<G: Gate + Drop, R: Wait>(
+        self,
+        rt: &R,
+        store: &Store<MemKeep, G, N>,
+        pass: &mut Pass<MemKeep, N>,
+    ) -> (L, u8)
+        requires near { IsNear pass.old self }
+        ensures same { pass.new ≡ pass.old }
+        ensures given { result ≡ given_of self }
+        ensures served { IsServed (sides L.left L.read_faults L.taken L.passed L.write_faults) pass.old self }
+    {
+        let Ended {
+            was: _,
+            link,
+            status,
+            talk,
+        } = self;
+        settle(rt, talk, store, pass);
+        (link, status)
+    }
+}
+
+/// The client, if one joined, meets what the pass knows, and leaves.
+fn settle<G: Gate + Drop, N: Naming, R: Wait>(
+    rt: &R,
+    talk: Result<Talk<N>, JoinError>,
+    store: &Store<MemKeep, G, N>,
+    pass: &mut Pass<MemKeep, N>,
+)
+    requires near { IsNearTalk pass.old talk }
+    ensures same { pass.new ≡ pass.old }
+    ensures told { (x y : Both) (status : ℕ) → IsTold (λ p. p) x y status talk → IsTold (having_met pass.old) x y status talk }
+{
+    if let Ok(talk) = talk {
+        talk.settle(rt, store, pass);
+    }
+}
+
+impl<N: Naming> Talk<N> {
+    /// The client meets what the pass knows, and leaves.
+    fn settle<G: Gate + Drop, R: Wait>(
+        self,
+        rt: &R,
+        store: &Store<MemKeep, G, N>,
+        pass: &mut Pass<MemKeep, N>,
+    )
+        requires near { IsNearTalk pass.old (Ok self) }
+        ensures same { pass.new ≡ pass.old }
+        ensures told { (x y : Both) (status : ℕ) → IsTold (λ p. p) x y status (Ok self) → IsTold (having_met pass.old) x y status (Ok self) }
+    {
+        let Talk {
+            had: _,
+            pass: mut own,
+        } = self;
+        let token = store.split(pass);
+        store.meet(&mut own, token);
+        store.leave(rt, own);
+    }
+}

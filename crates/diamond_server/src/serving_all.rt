@@ -1,0 +1,263 @@
+//! The sessions of all links of a listener, each in a thread of its own.
+
+ghost use Rattle.std.specs.Prelude.{◌≡◌, ◌<◌, ◌+◌, ◌-◌, ◌^◌, ◌==◌, [], length, map, All, IfOk, if◌then◌else◌};
+ghost use Rattle.diamond_store.specs.Answers.{Learns};
+ghost use Rattle.script_runner.specs.declared.status.TheConstants.{WHOLE};
+ghost use Rattle.diamond_server.specs.Accounts.{seat_of, joined_in, link_in, gatherings, Accepting, ServedAll};
+ghost use Rattle.diamond_server.specs.Promises.{sides};
+ghost use Rattle.diamond_server.specs.Settling.{IsNear, JoinsNext, Settling};
+
+use crate::begun::{Begun, begin};
+use crate::ended::Ended;
+use diamond_store::{Gate, Pass, Store};
+use dio_core::{Accepted, End, Listener};
+use history_lock::Naming;
+use journal_core::MemKeep;
+use script_runner::WHOLE;
+use std::alloc::{AllocError, Global};
+use std::sync::Wait;
+use std::thread;
+use std::thread::{Scope, Threads};
+
+/// What came of the links of a listener.
+#[derive(Clone, Copy, Debug, PartialEq, Eq)]
+pub struct Tally {
+    /// How many links were accepted.
+    pub accepted: u32,
+    /// How many of them were given back with another status than 0.
+    pub faulted: u32,
+    /// Whether an accept failed, so that no more links were taken.
+    pub failed: bool,
+}
+
+/// Accepts up to so many links, and serves the session of a new client over each, in a thread of its own; one whose thread can't
+/// be started is served by this thread. Once all sessions have ended, the links are given back in the order of their accepting,
+/// each with its status: that of its session, or, where it wasn't read, 13 where no client's number was left and 5 where there
+/// was no memory for one.
+///
+/// An error says that there was no memory for the list of sessions, or to give a link back. The sessions have ended then, too.
+pub fn serve_all<
+    Li: Listener,
+    G: Gate + Drop + Send + Sync,
+    N: Naming + Send + Sync,
+    R: Threads + Wait + Sync,
+>(
+    rt: &R,
+    alloc: Global,
+    listener: &mut Li,
+    store: &Store<MemKeep, G, N>,
+    pass: &mut Pass<MemKeep, N>,
+    sessions: u32,
+) -> Result<Tally, AllocError>
+    requires trusted { pass.old.trusted ≡ 0 }
+    ensures learns { Learns pass.old pass.new }
+    ensures served { IfOk result (λ tally. ServedAll
+        (sides Li.Link.left Li.Link.read_faults Li.Link.taken Li.Link.passed Li.Link.write_faults) pass.new
+        (N.lock.first + pass.old.draws) (N.lock.first + pass.new.draws) sessions
+        (gatherings Li.links Li.given_back Li.accept_faults listener.old listener.new) tally) }
+{
+    let (ended, failed) = run_scoped(rt, alloc, listener, store, pass, sessions)?;
+    let accepted = ended.len() as u32;
+    let faulted = give_all(rt, listener, store, pass, ended)?;
+    Ok(Tally {
+        accepted,
+        faulted,
+        failed,
+    })
+}
+
+/// Accepts and runs the sessions in a scope. The scope's closure gives back the `&mut`s that it was given, since what it writes
+/// through those that it only borrows isn't known.
+fn run_scoped<
+    Li: Listener,
+    G: Gate + Drop + Send + Sync,
+    N: Naming + Send + Sync,
+    R: Threads + Wait + Sync,
+>(
+    rt: &R,
+    alloc: Global,
+    listener: &mut Li,
+    store: &Store<MemKeep, G, N>,
+    pass: &mut Pass<MemKeep, N>,
+    sessions: u32,
+) -> Result<(Vec<Ended<Li::Link, N>>, bool), AllocError>
+    requires trusted { pass.old.trusted ≡ 0 }
+    ensures learns { Learns pass.old pass.new }
+    ensures given { Li.given_back listener.new ≡ Li.given_back listener.old }
+    ensures accepted { IfOk result (λ r. Accepting pass.new (N.lock.first + pass.old.draws) (N.lock.first + pass.new.draws) sessions
+        (gatherings Li.links Li.given_back Li.accept_faults listener.old listener.new) (map seat_of r.0.items) r.1) }
+    ensures near { IfOk result (λ r. All (IsNear pass.new) r.0.items) }
+{
+    let (ran, listener, _pass) = thread::scope(
+        thread::scope_env(),
+        rt,
+        move |scope|
+            requires trusted { pass.now.trusted ≡ 0 }
+        {
+            let ran = run_all(scope, rt, alloc, listener, store, pass, sessions);
+            (ran, listener, pass)
+        },
+    );
+    leave(listener);
+    ran
+}
+
+/// Changes nothing. A `&mut` that comes out of a scope is passed on once, so that its last value is known.
+fn leave<T>(value: &mut T)
+    ensures { value.new ≡ value.old }
+{
+    let _ = value;
+}
+
+/// Accepts and runs the sessions, and joins them.
+fn run_all<
+    's,
+    'e: 's,
+    Li: Listener + 'e,
+    G: Gate + Drop + Send + Sync,
+    N: Naming + Send + Sync + 'e,
+    R: Threads + Wait + Sync,
+>(
+    scope: &'s Scope<'s, &'e ()>,
+    rt: &'e R,
+    alloc: Global,
+    listener: &mut Li,
+    store: &'e Store<MemKeep, G, N>,
+    pass: &mut Pass<MemKeep, N>,
+    sessions: u32,
+) -> Result<(Vec<Ended<Li::Link, N>>, bool), AllocError>
+    requires trusted { pass.old.trusted ≡ 0 }
+    ensures learns { Learns pass.old pass.new }
+    ensures given { Li.given_back listener.new ≡ Li.given_back listener.old }
+    ensures accepted { IfOk result (λ r. Accepting pass.new (N.lock.first + pass.old.draws) (N.lock.first + pass.new.draws) sessions
+        (gatherings Li.links Li.given_back Li.accept_faults listener.old listener.new) (map seat_of r.0.items) r.1) }
+    ensures near { IfOk result (λ r. All (IsNear pass.new) r.0.items) }
+{
+    let (begun, failed) = accept_all(scope, rt, alloc, listener, store, pass, sessions)?;
+    Ok((join_all(rt, alloc, store, pass, begun)?, failed))
+}
+
+/// Accepts up to so many links, and begins a session of each. There is room for a link before it is accepted, so none is lost.
+fn accept_all<
+    's,
+    'e: 's,
+    Li: Listener + 'e,
+    G: Gate + Drop + Send + Sync,
+    N: Naming + Send + Sync + 'e,
+    R: Threads + Wait + Sync,
+>(
+    scope: &'s Scope<'s, &'e ()>,
+    rt: &'e R,
+    alloc: Global,
+    listener: &mut Li,
+    store: &'e Store<MemKeep, G, N>,
+    pass: &mut Pass<MemKeep, N>,
+    sessions: u32,
+) -> Result<(Vec<Begun<Li::Link, N>>, bool), AllocError>
+    requires trusted { pass.old.trusted ≡ 0 }
+    ensures learns { Learns pass.old pass.new }
+    ensures given { Li.given_back listener.new ≡ Li.given_back listener.old }
+    ensures accepted { IfOk result (λ r. Accepting pass.new (N.lock.first + pass.old.draws) (N.lock.first + pass.new.draws) sessions
+        (gatherings Li.links Li.given_back Li.accept_faults listener.old listener.new) r.0.items r.1) }
+{
+    let _seen = pass.seen();
+    let mut begun = Vec::new(alloc);
+    for _turn in 0..sessions {
+        begun.reserve(1)?;
+        match listener.accept() {
+            Accepted::Link(link) => {
+                begun.push_reserved(begin_next(scope, rt, alloc, store, pass, link));
+            }
+            Accepted::NoMore => return Ok((begun, false)),
+            Accepted::Failed => return Ok((begun, true)),
+        }
+    }
+    Ok((begun, false))
+}
+
+/// Begins the session of a link, with a client of its own.
+fn begin_next<
+    's,
+    'e: 's,
+    L: End + Send + Drop + 'e,
+    G: Gate + Drop + Send + Sync,
+    N: Naming + Send + Sync + 'e,
+    R: Threads + Wait + Sync,
+>(
+    scope: &'s Scope<'s, &'e ()>,
+    rt: &'e R,
+    alloc: Global,
+    store: &'e Store<MemKeep, G, N>,
+    pass: &mut Pass<MemKeep, N>,
+    link: L,
+) -> Begun<L, N>
+    requires trusted { pass.old.trusted ≡ 0 }
+    ensures learns { Learns pass.old pass.new }
+    ensures link { link_in result ≡ link }
+    ensures joined { JoinsNext pass.new (N.lock.first + pass.old.draws) (N.lock.first + pass.new.draws) (joined_in result) }
+{
+    match store.join(pass) {
+        Ok(joined) => begin(scope, rt, alloc, store, link, joined),
+        Err(error) => Begun::unread(link, error),
+    }
+}
+
+/// Joins each session, and the pass learns what its client knows.
+fn join_all<L: End + Drop, G: Gate + Drop, N: Naming, R: Threads>(
+    rt: &R,
+    alloc: Global,
+    store: &Store<MemKeep, G, N>,
+    pass: &mut Pass<MemKeep, N>,
+    begun: Vec<Begun<L, N>>,
+) -> Result<Vec<Ended<L, N>>, AllocError>
+    ensures learns { Learns pass.old pass.new }
+    ensures seats { IfOk result (λ ended. map seat_of ended.items ≡ begun.items) }
+    ensures near { IfOk result (λ ended. All (IsNear pass.new) ended.items) }
+{
+    let _seen = pass.seen();
+    let mut all = Vec::new(alloc);
+    for session in begun {
+        let mut ended = session.join(rt);
+        ended.lend(store, pass);
+        all.push(ended)?;
+    }
+    Ok(all)
+}
+
+/// Each client meets what the pass knows and leaves, and its link is given back. It answers how many statuses aren't 0.
+fn give_all<Li: Listener, G: Gate + Drop, N: Naming, R: Wait>(
+    rt: &R,
+    listener: &mut Li,
+    store: &Store<MemKeep, G, N>,
+    pass: &mut Pass<MemKeep, N>,
+    all: Vec<Ended<Li::Link, N>>,
+) -> Result<u32, AllocError>
+    requires few { length all.items < 2 ^ 32 }
+    requires near { All (IsNear pass.old) all.items }
+    ensures same { pass.new ≡ pass.old }
+    ensures links { Li.links listener.new ≡ Li.links listener.old }
+    ensures count { Li.accept_faults listener.new ≡ Li.accept_faults listener.old }
+    ensures settled { IfOk result (λ faulted. Settling
+        (sides Li.Link.left Li.Link.read_faults Li.Link.taken Li.Link.passed Li.Link.write_faults) pass.old all.items []
+        (Li.given_back listener.old) (Li.given_back listener.new) faulted) }
+{
+    let mut faulted = 0;
+    for ended in all {
+        let (link, status) = ended.settled(rt, store, pass);
+        listener.give_back(link, status)?;
+        faulted = with_status(faulted, status);
+    }
+    Ok(faulted)
+}
+
+/// One more, where the status isn't 0.
+fn with_status(faulted: u32, status: u8) -> u32
+    requires { faulted < 2 ^ 32 - 1 }
+    ensures { result ≡ faulted + (if status == WHOLE then 0 else 1) }
+{
+    if status == WHOLE {
+        faulted
+    } else {
+        faulted + 1
+    }
+}
