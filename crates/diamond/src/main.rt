@@ -3,15 +3,15 @@
 //! The program makes the real objects of the outside and calls `diamond_cli::diamond`, whose contract says what it does.
 #![tactic(auto)]
 
-use cli_words::{Question, VERSION, asked, help_text, read_words};
+use cli_words::{Plan, Question, VERSION, WordsError, asked, help_text, read_words};
 use diamond_cli::{BAD_WORDS, NO_MEMORY, WRITE_FAULT, diamond};
-use dio_core::{NoDisk, NoListener, StdSink, StdSource};
+use dio_core::{Listener, NoDisk, NoListener, StdSink, StdSource, TcpListening};
 use std::alloc::AllocError;
 use std::io::ErrorKind;
 use std::process::ExitCode;
 use std::sync::Wait;
 use std::thread::Threads;
-use std::{env, io};
+use std::{env, io, str};
 
 /// The words behind the program's name.
 fn words(rt: &HostRuntime) -> io::Result<Vec<String>> {
@@ -31,20 +31,13 @@ fn answer(rt: &HostRuntime, question: Question) -> Result<u8, AllocError> {
     Ok(if written.is_ok() { 0 } else { WRITE_FAULT })
 }
 
-/// Says which word is refused, or what is missing.
-fn complain(rt: &HostRuntime, words: &[&str]) {
-    let _ = match read_words(rt.alloc(), words) {
-        Err(error) => eprintln!(rt; "diamond: {error}; diamond --help shows what may be said"),
-        Ok(_) => eprintln!(rt; "diamond: `serve` isn't built yet"),
-    };
-}
-
-/// Runs the command over the process's streams, and answers its status. `threads` is the runtime too, as what starts
-/// threads and waits.
-fn command<R: Threads + Wait + Sync>(
+/// Runs the command over the process's streams and a listener, and answers its status. `threads` is the runtime too, as
+/// what starts threads and waits.
+fn command<R: Threads + Wait + Sync, N: Listener>(
     rt: &HostRuntime,
     threads: &R,
     words: &[&str],
+    listener: &mut N,
 ) -> Result<u8, AllocError> {
     let mut source = StdSource::new(rt.alloc(), rt.reader())?;
     let mut sink = StdSink::new(io::writer(rt));
@@ -55,8 +48,24 @@ fn command<R: Threads + Wait + Sync>(
         &mut source,
         &mut sink,
         &mut NoDisk::new(),
-        &mut NoListener::new(),
+        listener,
     ))
+}
+
+/// Runs the command over what listens at this address. Where it listens is told on the standard error, since a port of 0
+/// stands for one that is free.
+fn command_at<R: Threads + Wait + Sync>(
+    rt: &HostRuntime,
+    threads: &R,
+    words: &[&str],
+    address: &str,
+) -> Result<u8, AllocError> {
+    let mut listener = TcpListening::bind(rt, address);
+    let _ = match listener.address() {
+        Some(bound) => eprintln!(rt; "diamond: listening at {bound}"),
+        None => eprintln!(rt; "diamond: can't listen at `{address}`"),
+    };
+    command(rt, threads, words, &mut listener)
 }
 
 /// Does what the words ask for, and answers the status.
@@ -69,14 +78,22 @@ fn run<R: Threads + Wait + Sync>(
     for word in words {
         texts.push(word.as_str())?;
     }
-    if let Some(question) = asked(texts.as_slice()) {
+    let texts = texts.as_slice();
+    if let Some(question) = asked(texts) {
         return answer(rt, question);
     }
-    let status = command(rt, threads, texts.as_slice())?;
-    if status == BAD_WORDS {
-        complain(rt, texts.as_slice());
+    match read_words(rt.alloc(), texts) {
+        Ok(Plan::Run(_)) => command(rt, threads, texts, &mut NoListener::new()),
+        Ok(Plan::Serve { address, .. }) => match str::from_utf8(address.as_slice()) {
+            Ok(address) => command_at(rt, threads, texts, address),
+            Err(_) => Ok(BAD_WORDS),
+        },
+        Err(WordsError::NoMemory) => Ok(NO_MEMORY),
+        Err(WordsError::BadWords(bad)) => {
+            let _ = eprintln!(rt; "diamond: {bad}; diamond --help shows what may be said");
+            Ok(BAD_WORDS)
+        }
     }
-    Ok(status)
 }
 
 /// The status of the whole: arguments that can't be read as texts are words that are not of the form.

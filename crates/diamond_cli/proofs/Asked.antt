@@ -13,19 +13,20 @@ use Rattle.cli_words.specs.Forms.{Word, Given, IsNoForm, IsPlan, Spells}
 use Rattle.cli_words.specs.Refusals.{Refuses}
 use Rattle.cli_words.proofs.Complete.{one_form}
 
--- words whose plan is to run a script ask for that
-pub plan-asks : (words : List Word) (p : Plan) (settings : Settings) → Spells words p → p ≡ plan.Run settings → Spells words (plan.Run settings)
-plan-asks words p settings spells is = subst (Spells words) is spells
+-- words whose plan is another's by name spell that
+pub plan-asks : (words : List Word) (p q : Plan) → Spells words p → p ≡ q → Spells words q
+plan-asks words p q spells is = subst (Spells words) is spells
 
 -- words that were refused are of no form
 no-form : (words : List Word) (bad : BadWords) → Refuses words (words_error.BadWords bad) → IsNoForm words
 no-form words (bad_words.Refused place word w) is = is.no_form
 no-form words (bad_words.CutShort missing) is = is.no_form
 
--- so they don't ask to run a script
-pub refused-no-run : (words : List Word) (error : WordsError) (bad : BadWords) (settings : Settings)
-    → Refuses words error → error ≡ words_error.BadWords bad → Spells words (plan.Run settings) → ⊥
-refused-no-run words error bad settings refuses is runs = no-form words bad (subst (Refuses words) is refuses) runs.name runs.given runs.form
+-- so they spell no plan
+pub refused-no-plan : (words : List Word) (error : WordsError) (bad : BadWords) (p : Plan) → Refuses words error → error ≡ words_error.BadWords bad
+    → Spells words p → ⊥
+refused-no-plan words error bad p refuses is spells =
+    no-form words bad (subst (Refuses words) is refuses) spells.name spells.given spells.form
 
 -- words that ask to serve don't ask to run a script
 pub serve-no-run : (words : List Word) (settings own : Settings) (address : Word) (sessions : ℕ)

@@ -6,7 +6,10 @@ use Rattle.rdt_types.specs.declared.settings.Settings.{Settings}
 use Rattle.cli_words.specs.Forms.{Word}
 use Rattle.script_runner.specs.Script.{Reading, Writing, KeepsPromises}
 use Rattle.diamond_cli.specs.declared.top.TheConstants.{BAD_WORDS}
-use Rattle.diamond_cli.specs.Words.{AsksRunWith}
+use Rattle.dio_core.specs.Links.{Both}
+use Rattle.diamond_cli.specs.Words.{AsksRunWith, AsksServeWith}
+use Rattle.diamond_server.specs.Accounts.{Gatherings}
+use Rattle.diamond_cli.specs.Serving.{ServesLinks}
 
 BAD_WORDS-is : BAD_WORDS ≡ 1
 BAD_WORDS-is = refl
@@ -20,3 +23,11 @@ pub record RunsScript (words : List (Bor Word)) (status : ℕ) (r : Reading) (w 
   pub settings : Settings
   pub asked : AsksRunWith words settings
   pub promises : KeepsPromises settings status r w
+
+-- `serve` keeps its promises, with the settings and for as many sessions as the words ask for.
+pub record ServesAsAsked {L : Type 0} (words : List (Bor Word)) (told : L → Both) (g : Gatherings L) (status : ℕ) (w : Writing) : Type 0 where
+  pub settings : Settings
+  pub address : Word
+  pub sessions : ℕ
+  pub asked : AsksServeWith words settings address sessions
+  pub promises : ServesLinks told settings sessions g status w

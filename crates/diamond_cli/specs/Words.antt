@@ -1,5 +1,5 @@
 -- What the words of a command ask for. Their forms are those of cli_words.
-use Rattle.std.specs.Prelude.{◌≡◌, List, [], ◌∷◌, codes, refl}
+use Rattle.std.specs.Prelude.{◌≡◌, ℕ, List, [], ◌∷◌, codes, refl}
 use denote.Bor.{Bor}
 use Rattle.rdt_types.specs.declared.settings.Settings.{Settings}
 use Rattle.cli_words.specs.declared.name.CommandName.TheVariants as command
@@ -14,7 +14,19 @@ AsksRunWith words settings = Spells (texts words) (plan.Run settings)
 abbrev pub AsksRun : List (Bor Word) → Type 0
 AsksRun words = (settings : Settings) × AsksRunWith words settings
 
--- `run` alone does, over a store with the standard settings
+-- they ask to serve over a store with these settings, at an address, at most so many sessions
+abbrev pub AsksServeWith : List (Bor Word) → Settings → Word → ℕ → Type 0
+AsksServeWith words settings address sessions = Spells (texts words) (plan.Serve settings address sessions)
+
+-- they ask to serve
+abbrev pub AsksServe : List (Bor Word) → Type 0
+AsksServe words = (settings : Settings) × (address : Word) × (sessions : ℕ) × AsksServeWith words settings address sessions
+
+-- they ask for nothing
+abbrev pub AsksNothing : List (Bor Word) → Type 0
+AsksNothing words = (AsksRun words → ⊥) × (AsksServe words → ⊥)
+
+-- `run` alone asks for a run, over a store with the standard settings
 run-spells : (settings : Settings) → HasSettings nothing_given settings → Spells (codes "run" ∷ []) (plan.Run settings)
 run-spells settings standard = record {
   name = command.Run;

@@ -6,9 +6,11 @@
 //! `script_runner`, and `Journals` of `txn_lang`.
 #![tactic(auto)]
 
+mod serve;
 mod top;
 
 pub use script_runner::{NO_MEMORY, WRITE_FAULT};
+pub use serve::LISTENER_FAULT;
 pub use top::{BAD_WORDS, diamond};
 
 #[cfg(test)]
@@ -25,6 +27,8 @@ mod order;
 mod rows;
 #[cfg(test)]
 mod schedules;
+#[cfg(test)]
+mod serving;
 #[cfg(test)]
 mod sizes;
 #[cfg(test)]

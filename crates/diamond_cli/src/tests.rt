@@ -212,14 +212,16 @@ fn a_flush_that_fails_leaves_status_3(rt: HostRuntime) -> Result<(), Fail> {
 
 #[test]
 fn other_words_are_refused(rt: HostRuntime) -> Result<(), Fail> {
-    let words: [&[&str]; 7] = [
+    let words: [&[&str]; 9] = [
         &[],
         &["fly"],
         &["run", "run"],
         &["run", "--shards", "0"],
         &["run", "--shards", "4", "--shards", "4"],
         &["run", "--address", "a"],
-        &["serve", "--address", "a"],
+        &["serve"],
+        &["serve", "--address", "a", "--sessions=0"],
+        &["serve", "--address", "a", "--address", "a"],
     ];
     for words in words {
         let mut source = MemSource::new(rt.alloc(), ROW_1, 1, &[])?;

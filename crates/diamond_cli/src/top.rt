@@ -3,9 +3,12 @@
 ghost use Rattle.std.specs.Prelude.{◌≡◌, ◌⊎◌};
 ghost use Rattle.script_runner.specs.Script.{reading, writing};
 ghost use Rattle.script_runner.specs.declared.status.TheConstants.{NO_MEMORY};
-ghost use Rattle.diamond_cli.specs.Words.{AsksRun};
-ghost use Rattle.diamond_cli.specs.Commands.{RunsScript};
+ghost use Rattle.diamond_server.specs.Promises.{sides};
+ghost use Rattle.diamond_server.specs.Accounts.{gatherings};
+ghost use Rattle.diamond_cli.specs.Words.{AsksRun, AsksServe, AsksNothing};
+ghost use Rattle.diamond_cli.specs.Commands.{RunsScript, ServesAsAsked};
 
+use crate::serve::serve;
 use cli_words::{Plan, WordsError, read_words};
 use dio_core::{Disk, Listener, Sink, Source};
 use script_runner::{NO_MEMORY, run_script};
@@ -17,12 +20,17 @@ use std::thread::Threads;
 pub const BAD_WORDS: u8 = 1;
 
 /// Runs a command, and answers its status. The words don't include the program's name. What starts threads and waits
-/// comes first; no command so far does either.
+/// comes first; `run` does neither.
 ///
 /// `run` reads a script from the source, and writes the replies to each line before it reads the next one. It uses
-/// neither disk nor listener. The statuses are 0 where the input was read to its end, 1 where the words don't ask for
-/// it, 3 where a read failed, 4 where a write or the flush at the end failed, 5 for want of memory, and 9 where there is
-/// a line behind the last one that may be read. `serve` isn't built yet, so its words are answered 1.
+/// neither disk nor listener. The statuses are 0 where the input was read to its end, 1 where the words ask for nothing,
+/// 3 where a read failed, 4 where a write or the flush at the end failed, 5 for want of memory, and 9 where there is
+/// a line behind the last one that may be read.
+///
+/// `serve` serves the sessions of the listener's links over one store in memory, each in a thread of its own, and writes
+/// what came of them to the sink. The address is the listener's affair. It uses neither source nor disk. The statuses
+/// are 0 where all sessions ended and the line was written, 4 where that failed, 5 for want of memory, and 8 where an
+/// accept failed.
 pub fn diamond<R: Threads + Wait + Sync, S: Source, W: Sink, D: Disk, N: Listener>(
     rt: &R,
     alloc: Global,
@@ -32,21 +40,33 @@ pub fn diamond<R: Threads + Wait + Sync, S: Source, W: Sink, D: Disk, N: Listene
     disk: &mut D,
     listener: &mut N,
 ) -> u8
-    // 1 comes where the words ask for no run, memory aside, and only there; and there all is as before.
-    ensures form { result ≡ BAD_WORDS → AsksRun words.now → ⊥ }
-    ensures other { (AsksRun words.now → ⊥) → (result ≡ BAD_WORDS) ⊎ (result ≡ NO_MEMORY) }
-    ensures unread { (AsksRun words.now → ⊥) → (source.new ≡ source.old) × (listener.new ≡ listener.old) }
-    ensures unwritten { (AsksRun words.now → ⊥) → (sink.new ≡ sink.old) × (disk.new ≡ disk.old) }
+    // 1 comes where the words ask for nothing, memory aside, and only there; and there all is as before.
+    ensures form { result ≡ BAD_WORDS → AsksNothing words.now }
+    ensures other { AsksNothing words.now → (result ≡ BAD_WORDS) ⊎ (result ≡ NO_MEMORY) }
+    ensures unread { AsksNothing words.now → (source.new ≡ source.old) × (listener.new ≡ listener.old) }
+    ensures unwritten { AsksNothing words.now → (sink.new ≡ sink.old) × (disk.new ≡ disk.old) }
 
     // `run` keeps what a run of a script promises, and doesn't use the disk or the listener.
     ensures run { AsksRun words.now → RunsScript words.now result (reading S.left S.read_faults source.old source.new)
         (writing W.taken W.passed W.write_faults sink.old sink.new) }
-    ensures unused { AsksRun words.now → (disk.new ≡ disk.old) × (listener.new ≡ listener.old) }
+    ensures unused_by_run { AsksRun words.now → (disk.new ≡ disk.old) × (listener.new ≡ listener.old) }
+
+    // `serve` keeps what it promises of its sessions, and doesn't use the source or the disk.
+    ensures serve { AsksServe words.now → ServesAsAsked words.now
+        (sides N.Link.left N.Link.read_faults N.Link.taken N.Link.passed N.Link.write_faults)
+        (gatherings N.links N.given_back N.accept_faults listener.old listener.new) result
+        (writing W.taken W.passed W.write_faults sink.old sink.new) }
+    ensures unused_by_serve { AsksServe words.now → (source.new ≡ source.old) × (disk.new ≡ disk.old) }
 {
-    let _ = rt;
     match read_words(alloc, words) {
         Ok(Plan::Run(settings)) => run_script(alloc, &settings, source, sink),
-        Ok(Plan::Serve { .. }) => BAD_WORDS,
+        Ok(
+            Plan::Serve {
+                settings,
+                sessions,
+                ..
+            },
+        ) => serve(rt, alloc, &settings, sessions, sink, listener),
         Err(WordsError::BadWords(_)) => BAD_WORDS,
         Err(WordsError::NoMemory) => NO_MEMORY,
     }

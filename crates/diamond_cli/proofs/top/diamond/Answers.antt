@@ -1,31 +1,96 @@
+use Rattle.std.proofs.Common.{refl}
 use Rattle.cli_words.specs.Forms.{texts}
-use Rattle.diamond_cli.proofs.Asked.{plan-asks, refused-no-run}
 use Rattle.script_runner.proofs.Promises.{unstarted}
+use Rattle.diamond_cli.proofs.Asked.{plan-asks, refused-no-plan, serve-no-run}
+use Rattle.diamond_cli.proofs.Served.{unended-serves}
 use Rattle.diamond_cli.proofs.top.diamond.Goals as goal
 
+-- ---- a run
+
 pub returns-in-Ok-Run-clause-other : goal.returns-in-Ok-Run-clause-other
-returns-in-Ok-Run-clause-other g c = λ no. absurd (no (c.in-Ok-Run.settings, plan-asks (texts c.args.words.now) _ c.in-Ok-Run.settings c.in-Ok-Run.ensures.plan c.in-Ok-Run.field-0-is))
+returns-in-Ok-Run-clause-other g c = λ no. absurd (no.0 (c.in-Ok-Run.settings, plan-asks (texts c.args.words.now) _ _ c.in-Ok-Run.ensures.plan c.in-Ok-Run.field-0-is))
 
 pub returns-in-Ok-Run-clause-unread : goal.returns-in-Ok-Run-clause-unread
-returns-in-Ok-Run-clause-unread g c = λ no. absurd (no (c.in-Ok-Run.settings, plan-asks (texts c.args.words.now) _ c.in-Ok-Run.settings c.in-Ok-Run.ensures.plan c.in-Ok-Run.field-0-is))
+returns-in-Ok-Run-clause-unread g c = λ no. absurd (no.0 (c.in-Ok-Run.settings, plan-asks (texts c.args.words.now) _ _ c.in-Ok-Run.ensures.plan c.in-Ok-Run.field-0-is))
 
 pub returns-in-Ok-Run-clause-unwritten : goal.returns-in-Ok-Run-clause-unwritten
-returns-in-Ok-Run-clause-unwritten g c = λ no. absurd (no (c.in-Ok-Run.settings, plan-asks (texts c.args.words.now) _ c.in-Ok-Run.settings c.in-Ok-Run.ensures.plan c.in-Ok-Run.field-0-is))
+returns-in-Ok-Run-clause-unwritten g c = λ no. absurd (no.0 (c.in-Ok-Run.settings, plan-asks (texts c.args.words.now) _ _ c.in-Ok-Run.ensures.plan c.in-Ok-Run.field-0-is))
 
 pub returns-in-Ok-Run-clause-run : goal.returns-in-Ok-Run-clause-run
 returns-in-Ok-Run-clause-run g c = λ asks. record {
   settings = c.in-Ok-Run.settings;
-  asked = plan-asks (texts c.args.words.now) _ c.in-Ok-Run.settings c.in-Ok-Run.ensures.plan c.in-Ok-Run.field-0-is;
+  asked = plan-asks (texts c.args.words.now) _ _ c.in-Ok-Run.ensures.plan c.in-Ok-Run.field-0-is;
   promises = c.run_script.ensures;
 }
 
+pub returns-in-Ok-Run-clause-serve : goal.returns-in-Ok-Run-clause-serve
+returns-in-Ok-Run-clause-serve g c = λ asks. absurd (serve-no-run (texts c.args.words.now) asks.0 c.in-Ok-Run.settings asks.1 asks.2 asks.3
+    (plan-asks (texts c.args.words.now) _ _ c.in-Ok-Run.ensures.plan c.in-Ok-Run.field-0-is))
+
+pub returns-in-Ok-Run-clause-unused_by_serve : goal.returns-in-Ok-Run-clause-unused_by_serve
+returns-in-Ok-Run-clause-unused_by_serve g c = λ asks. absurd (serve-no-run (texts c.args.words.now) asks.0 c.in-Ok-Run.settings asks.1 asks.2 asks.3
+    (plan-asks (texts c.args.words.now) _ _ c.in-Ok-Run.ensures.plan c.in-Ok-Run.field-0-is))
+
+-- ---- serving
+
+pub returns-in-Ok-Serve-clause-other : goal.returns-in-Ok-Serve-clause-other
+returns-in-Ok-Serve-clause-other g c = λ no. absurd (no.1 (
+  c.in-Ok-Serve.settings,
+  c.in-Ok-Serve.field-0-1,
+  c.in-Ok-Serve.sessions,
+  plan-asks (texts c.args.words.now) _ _ c.in-Ok-Serve.ensures.plan c.in-Ok-Serve.field-0-is,
+))
+
+pub returns-in-Ok-Serve-clause-unread : goal.returns-in-Ok-Serve-clause-unread
+returns-in-Ok-Serve-clause-unread g c = λ no. absurd (no.1 (
+  c.in-Ok-Serve.settings,
+  c.in-Ok-Serve.field-0-1,
+  c.in-Ok-Serve.sessions,
+  plan-asks (texts c.args.words.now) _ _ c.in-Ok-Serve.ensures.plan c.in-Ok-Serve.field-0-is,
+))
+
+pub returns-in-Ok-Serve-clause-unwritten : goal.returns-in-Ok-Serve-clause-unwritten
+returns-in-Ok-Serve-clause-unwritten g c = λ no. absurd (no.1 (
+  c.in-Ok-Serve.settings,
+  c.in-Ok-Serve.field-0-1,
+  c.in-Ok-Serve.sessions,
+  plan-asks (texts c.args.words.now) _ _ c.in-Ok-Serve.ensures.plan c.in-Ok-Serve.field-0-is,
+))
+
+pub returns-in-Ok-Serve-clause-run : goal.returns-in-Ok-Serve-clause-run
+returns-in-Ok-Serve-clause-run g c = λ asks. absurd (serve-no-run (texts c.args.words.now) c.in-Ok-Serve.settings asks.0 c.in-Ok-Serve.field-0-1 c.in-Ok-Serve.sessions
+    (plan-asks (texts c.args.words.now) _ _ c.in-Ok-Serve.ensures.plan c.in-Ok-Serve.field-0-is) asks.1)
+
+pub returns-in-Ok-Serve-clause-unused_by_run : goal.returns-in-Ok-Serve-clause-unused_by_run
+returns-in-Ok-Serve-clause-unused_by_run g c = λ asks. absurd (serve-no-run (texts c.args.words.now) c.in-Ok-Serve.settings asks.0 c.in-Ok-Serve.field-0-1 c.in-Ok-Serve.sessions
+    (plan-asks (texts c.args.words.now) _ _ c.in-Ok-Serve.ensures.plan c.in-Ok-Serve.field-0-is) asks.1)
+
+pub returns-in-Ok-Serve-clause-serve : goal.returns-in-Ok-Serve-clause-serve
+returns-in-Ok-Serve-clause-serve g c = λ asks. record {
+  settings = c.in-Ok-Serve.settings;
+  address = c.in-Ok-Serve.field-0-1;
+  sessions = c.in-Ok-Serve.sessions;
+  asked = plan-asks (texts c.args.words.now) _ _ c.in-Ok-Serve.ensures.plan c.in-Ok-Serve.field-0-is;
+  promises = c.serve.ensures;
+}
+
+-- ---- words of no form
+
 pub returns-in-Err-BadWords-clause-form : goal.returns-in-Err-BadWords-clause-form
-returns-in-Err-BadWords-clause-form g c = λ one asks.
-    refused-no-run (texts c.args.words.now) _ c.in-Err-BadWords.field-0-0 asks.0 c.in-Err-BadWords.ensures.refused c.in-Err-BadWords.field-0-is asks.1
+returns-in-Err-BadWords-clause-form g c = λ one. (
+  λ asks. refused-no-plan (texts c.args.words.now) _ c.in-Err-BadWords.field-0-0 _ c.in-Err-BadWords.ensures.refused c.in-Err-BadWords.field-0-is asks.1,
+  λ asks. refused-no-plan (texts c.args.words.now) _ c.in-Err-BadWords.field-0-0 _ c.in-Err-BadWords.ensures.refused c.in-Err-BadWords.field-0-is asks.3,
+)
 
 pub returns-in-Err-BadWords-clause-run : goal.returns-in-Err-BadWords-clause-run
 returns-in-Err-BadWords-clause-run g c = λ asks. absurd
-    (refused-no-run (texts c.args.words.now) _ c.in-Err-BadWords.field-0-0 asks.0 c.in-Err-BadWords.ensures.refused c.in-Err-BadWords.field-0-is asks.1)
+    (refused-no-plan (texts c.args.words.now) _ c.in-Err-BadWords.field-0-0 _ c.in-Err-BadWords.ensures.refused c.in-Err-BadWords.field-0-is asks.1)
+
+pub returns-in-Err-BadWords-clause-serve : goal.returns-in-Err-BadWords-clause-serve
+returns-in-Err-BadWords-clause-serve g c = λ asks. absurd
+    (refused-no-plan (texts c.args.words.now) _ c.in-Err-BadWords.field-0-0 _ c.in-Err-BadWords.ensures.refused c.in-Err-BadWords.field-0-is asks.3)
+
+-- ---- no memory for the words
 
 pub returns-clause-run : goal.returns-clause-run
 returns-clause-run g c = λ asks. record {
@@ -33,4 +98,13 @@ returns-clause-run g c = λ asks. record {
   asked = asks.1;
   promises = unstarted asks.0 (g.S.Source.left c.args.source.now) (g.W.Sink.taken c.args.sink.now) (g.W.Sink.passed c.args.sink.now)
       (g.S.Source.read_faults c.args.source.now) (g.W.Sink.write_faults c.args.sink.now);
+}
+
+pub returns-clause-serve : goal.returns-clause-serve
+returns-clause-serve g c = λ asks. record {
+  settings = asks.0;
+  address = asks.1;
+  sessions = asks.2;
+  asked = asks.3;
+  promises = unended-serves _ asks.0 asks.2 _ _ refl refl;
 }

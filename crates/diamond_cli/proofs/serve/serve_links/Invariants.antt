@@ -1,0 +1,5 @@
+use Rattle.diamond_cli.proofs.serve.serve_links.Given as goal
+
+-- the lock that was just made
+abbrev pub ghosts-serve_over : goal.ghosts-serve_over
+ghosts-serve_over g a = record { lock = a.opened.lock }
