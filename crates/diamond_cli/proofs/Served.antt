@@ -1,6 +1,5 @@
 -- What `serve` promises, from what its parts do.
-use Rattle.std.proofs.Common.{◌≡◌, ℕ, Bool, true, false, List, Option, inl, inr, refl, sym, ap, ◌∙◌, subst}
-use Rattle.std.specs.Prelude.{◌⊎◌}
+use Rattle.std.proofs.Common.{◌≡◌, ℕ, Bool, true, false, inl, inr, refl, sym, ap, ◌∙◌, subst}
 use mathlib.Core.List.{IsPrefix}
 use Rattle.history_lock.specs.declared.known.Known as tokens
 use Rattle.dio_core.specs.Counts.{Rose, IsCounted}
@@ -11,13 +10,12 @@ use Rattle.txn_lang.specs.Journals.{IsLegal}
 use Rattle.txn_lang.specs.States.{Journal}
 use Rattle.diamond_store.specs.Answers.{Learns, IsFirst}
 use Rattle.diamond_store.specs.Passes.{Passed, known_of}
-use Rattle.session_core.specs.Explained.{Setting, setting_of}
+use Rattle.session_core.specs.Explained.{setting_of}
 use Rattle.script_runner.specs.Script.{Writing}
-use Rattle.script_runner.specs.declared.status.TheConstants.{WHOLE, WRITE_FAULT, NO_MEMORY}
+use Rattle.script_runner.specs.declared.status.TheConstants.{NO_MEMORY}
 use Rattle.diamond_server.specs.Accounts.{Gatherings, ServedAll}
 use Rattle.diamond_server.specs.declared.serving_all.Tally.{Tally}
-use Rattle.diamond_cli.specs.declared.serve.TheConstants.{LISTENER_FAULT}
-use Rattle.diamond_cli.specs.Serving.{HasServed, IsTried, ending, IsEnded, ServesLinks}
+use Rattle.diamond_cli.specs.Serving.{HasServed, ending, IsEnded, ServesLinks}
 
 -- the settings of a first pass are those of its store
 first-set : (base : ℕ) (front : tokens.Known Commit) (settings : Settings) (first : Passed) → IsFirst base front settings first

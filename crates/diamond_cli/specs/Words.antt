@@ -1,5 +1,5 @@
 -- What the words of a command ask for. Their forms are those of cli_words.
-use Rattle.std.specs.Prelude.{◌≡◌, ℕ, List, [], ◌∷◌, codes, refl}
+use Rattle.std.specs.Prelude.{ℕ, List, [], ◌∷◌, codes, refl}
 use denote.Bor.{Bor}
 use Rattle.rdt_types.specs.declared.settings.Settings.{Settings}
 use Rattle.cli_words.specs.declared.name.CommandName.TheVariants as command

@@ -1,5 +1,5 @@
 -- Lines of a session over a link, one after another, and how they end.
-use Rattle.std.proofs.Common.{◌≡◌, ℕ, ◌+◌, ◌≤◌, ◌<◌, true, false, List, [], ◌∷◌, ◌++◌, map, length, Option, Some, None, Result, Ok, Err, ◌⊎◌, inl, inr, refl, sym, ap, ◌∙◌, subst, arith}
+use Rattle.std.proofs.Common.{◌≡◌, ℕ, ◌+◌, ◌≤◌, ◌<◌, false, List, [], ◌∷◌, ◌++◌, map, length, Option, Some, None, Result, Ok, Err, inl, inr, refl, sym, ap, ◌∙◌, subst, arith}
 use Rattle.std.proofs.Common.{append_assoc, length-append}
 use Rattle.std.proofs.lemmas.List.{append-nil, map-append}
 use Rattle.plain_data.specs.declared.or_no_memory.OrNoMemory.TheVariants as stop
@@ -21,7 +21,7 @@ use Rattle.script_runner.specs.declared.stop.TheConstants.{MOST_LINES}
 use Rattle.diamond_server.specs.declared.status.Cause.TheVariants as cause
 use Rattle.diamond_server.specs.Talking.{Told, Talks, first_session, reply_line, reply_lines, printed, output, line_told}
 use Rattle.diamond_server.specs.Promises.{HasRead, ReadsToTheEnd, ReadsUpToAFault, ReadsOneMore, IsServed}
-use Rattle.diamond_server.specs.code.Serving.{Stop, read_stopped, StopsReading, SameCounts, DoesLine, FindsNone, BreaksLine, Turns, HasServed, Ends}
+use Rattle.diamond_server.specs.code.Serving.{Stop, read_stopped, StopsReading, SameCounts, DoesLine, FindsNone, Turns, HasServed, Ends}
 use Rattle.diamond_server.proofs.Talked.{output-more, talk-accounted}
 
 -- ---- texts

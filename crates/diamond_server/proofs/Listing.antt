@@ -1,12 +1,11 @@
 -- Lists of links: accepted one after another, joined, and given back.
-use Rattle.std.proofs.Common.{◌≡◌, ℕ, ◌+◌, ◌==◌, ◌<◌, ◌≤◌, List, [], ◌∷◌, ◌++◌, length, map, Bool, true, false, Option, Some, None, Result, Ok, Err, refl, ap, sym, ◌∙◌, arith, subst, append_assoc, append-nil, length-append}
+use Rattle.std.proofs.Common.{◌≡◌, ℕ, ◌+◌, ◌==◌, ◌≤◌, List, [], ◌∷◌, ◌++◌, length, map, Bool, true, false, Option, Some, None, Result, Ok, Err, refl, ap, sym, ◌∙◌, arith, subst, append_assoc, append-nil, length-append}
 use Rattle.std.specs.Prelude.{All, IfSome, if◌then◌else◌, slice_index_or}
 use mathlib.Core.List.{IsPrefix, map-append}
 use Rattle.std.proofs.lemmas.List.Elements.{All-nil, All-cons, All-append, All-rest}
 use Rattle.std.proofs.lemmas.List.{length-map, nil_from_length}
-use Rattle.history_lock.specs.declared.limits.TheConstants.{MOST_DRAWS}
 use Rattle.history_lock.proofs.Prefixes.{IsPrefix-trans}
-use Rattle.dio_core.specs.Counts.{IsCounted, Rose}
+use Rattle.dio_core.specs.Counts.{Rose}
 use Rattle.dio_core.specs.Links.{Both}
 use Rattle.dio_core.specs.Listeners.{with_first, with_last}
 use Rattle.diamond_store.specs.Answers.{Learns}

@@ -1,5 +1,5 @@
 -- What a session over a link promises at each of its ends.
-use Rattle.std.proofs.Common.{◌≡◌, ℕ, ◌+◌, ◌≤◌, ◌⊎◌, Bool, true, false, List, [], ◌∷◌, ◌++◌, map, length, Option, Some, None, Result, Ok, Err, refl, ap, sym, ◌∙◌, subst}
+use Rattle.std.proofs.Common.{◌≡◌, ℕ, ◌≤◌, ◌⊎◌, Bool, true, false, List, [], ◌∷◌, length, Option, Some, None, Result, Ok, Err, refl, ap, sym, subst}
 use Rattle.std.proofs.Common.{inl, inr, arith, length-append}
 use Rattle.std.specs.Prelude.{◌==◌, IsTrue}
 use Rattle.std.specs.List.{list_any}

@@ -1,24 +1,23 @@
 -- What a session's client knew at the end explains it; so does what the client knows once it has met others.
-use Rattle.std.proofs.Common.{◌≡◌, ℕ, ◌≤◌, Bool, true, false, List, [], ◌++◌, length, map, Option, Some, None, Result, Ok, Err, refl, ap, sym, ◌∙◌, subst, arith}
-use Rattle.std.specs.Prelude.{max, ltb}
+use Rattle.std.proofs.Common.{◌≡◌, ℕ, ◌≤◌, Bool, true, false, List, ◌++◌, length, Option, Ok, refl, ap, sym, ◌∙◌, subst, arith}
+use Rattle.std.specs.Prelude.{ltb}
 use Rattle.std.proofs.lemmas.Bool.Decides.{nat_tests}
 use mathlib.Core.List.{IsPrefix}
 use Rattle.history_lock.specs.Tokens.{longer}
 use Rattle.history_lock.proofs.Prefixes.{prefix_whole}
 use Rattle.dio_core.specs.Links.{Both}
-use Rattle.rdt_types.specs.declared.limits.TheConstants.{LEAST_SHARDS, MOST_SHARDS}
 use Rattle.txn_grammar.specs.Characters.{Text}
 use Rattle.txn_lang.specs.Journals.{IsLegal, own}
 use Rattle.txn_lang.specs.States.{Journal}
 use Rattle.docc_prepare.specs.Calls.{Known, Call, Answer}
-use Rattle.diamond_store.specs.Answers.{Learns, Meets}
+use Rattle.diamond_store.specs.Answers.{Learns}
 use Rattle.diamond_store.specs.Passes.{Passed, known_of}
 use Rattle.diamond_store.proofs.Known.{front-of}
 use Rattle.session_core.specs.declared.session.Session.{Session}
 use Rattle.session_core.specs.declared.turn.Turn.{Turn}
 use Rattle.session_core.specs.Explained.{setting_of, story_of}
 use Rattle.session_core.specs.Holding.{Attends}
-use Rattle.session_core.specs.Sessions.{Talks as SessionTalks, committed_by, all_replies}
+use Rattle.session_core.specs.Sessions.{Talks as SessionTalks, all_replies}
 use Rattle.session_core.proofs.Grown.{prefix-again}
 use Rattle.session_core.proofs.Said.{named-stays}
 use Rattle.session_core.proofs.Stays.{explains_stays}

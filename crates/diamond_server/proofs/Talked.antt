@@ -6,7 +6,6 @@ use Rattle.dio_core.specs.declared.line.TheConstants.{LONGEST_LINE}
 use Rattle.rdt_types.specs.declared.limits.TheConstants.{LEAST_SHARDS, MOST_SHARDS}
 use Rattle.dio_core.specs.Counts.{Rose}
 use Rattle.txn_grammar.specs.Characters.{Text}
-use Rattle.txn_lang.specs.Journals.{own}
 use Rattle.txn_lang.specs.States.{Journal}
 use Rattle.docc_prepare.specs.Calls.{Known, Call, Answer}
 use Rattle.docc_prepare.specs.Backends.{Goes}
@@ -30,7 +29,7 @@ use Rattle.session_core.proofs.Talked.{talks-more, sessions_are_explained}
 use Rattle.session_core.proofs.Went.{known-led}
 use Rattle.session_core.proofs.Woken.{says-attends}
 use Rattle.script_runner.specs.Play.{left}
-use Rattle.diamond_server.specs.Talking.{Told, Answers, LineIsAnswered, Does, Talks, first_session, printed, output, texts_of, turns_of}
+use Rattle.diamond_server.specs.Talking.{Told, Answers, Does, Talks, first_session, printed, output, texts_of, turns_of}
 use Rattle.diamond_server.specs.code.Serving.{Wakes}
 use Rattle.diamond_server.specs.Promises.{IsNewTo, IsNew, IsAccounted}
 

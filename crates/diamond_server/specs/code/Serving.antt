@@ -1,5 +1,5 @@
 -- What the loop of a session over a link knows of one line, of those so far, and of the end. Nobody has to judge by it.
-use Rattle.std.specs.Prelude.{◌≡◌, ℕ, ◌⊎◌, Bool, true, false, List, [], ◌∷◌, length, Option, Some, None, Result, Ok, Err}
+use Rattle.std.specs.Prelude.{◌≡◌, ℕ, ◌⊎◌, Bool, true, false, List, [], length, Option, Some, None, Result, Ok, Err}
 use Rattle.plain_data.specs.declared.or_no_memory.OrNoMemory.{OrNoMemory}
 use Rattle.plain_data.specs.declared.or_no_memory.OrNoMemory.TheVariants as stop
 use Rattle.dio_core.specs.Told.{WhereTold}
@@ -18,7 +18,6 @@ use Rattle.session_core.specs.declared.turn.Turn.{Turn}
 use Rattle.session_core.specs.Leading.{Arrives}
 use Rattle.session_core.specs.Phases.{Phase, synced}
 use Rattle.script_runner.specs.declared.status.TheConstants.{WHOLE, READ_FAULT, WRITE_FAULT, NO_MEMORY, TOO_MANY_LINES}
-use Rattle.script_runner.specs.declared.stop.TheConstants.{MOST_LINES}
 use Rattle.diamond_server.specs.declared.status.TheConstants.{STORE_FAULT}
 use Rattle.diamond_server.specs.declared.status.Cause.{Cause}
 use Rattle.diamond_server.specs.declared.status.Cause.TheVariants as cause

@@ -1,6 +1,5 @@
 use Rattle.std.proofs.Common.{ℕ, subst}
 use Rattle.dio_core.specs.Counts.{Rose}
-use Rattle.session_core.specs.declared.turn.Turn.TheVariants as turn
 use Rattle.diamond_server.specs.Talking.{Answers}
 use Rattle.diamond_server.proofs.Talked.{came-attends, came-unfaulted, to-wait, answers-woken}
 use Rattle.diamond_server.proofs.answering.said.Goals as goal

@@ -1,4 +1,4 @@
-use Rattle.std.proofs.Common.{refl, sym, ap, ◌∙◌, subst}
+use Rattle.std.proofs.Common.{refl, sym, subst}
 use Rattle.txn_grammar.specs.Characters.{Text}
 use Rattle.diamond_server.specs.Talking.{Told, Answers}
 use Rattle.diamond_server.proofs.answering.text_answer.Goals as goal

@@ -1,4 +1,4 @@
-use Rattle.std.proofs.Common.{arith, ◌≡◌, ◌∷◌, [], ◌++◌, ap, sym, ◌∙◌}
+use Rattle.std.proofs.Common.{arith, ◌∷◌, [], ◌++◌, ap, ◌∙◌}
 use Rattle.diamond_store.proofs.Waited.{learns-trans}
 use Rattle.diamond_server.proofs.Listing.{turns-next, turns-failed, turns-none, turns-end}
 use Rattle.diamond_server.proofs.serving_all.accept_all.Goals as goal

@@ -1,4 +1,4 @@
-use Rattle.std.proofs.Common.{◌≡◌, ◌∙◌, ap, sym, subst, Ok}
+use Rattle.std.proofs.Common.{◌∙◌, ap, sym, subst, Ok}
 use Rattle.history_lock.specs.Tokens.{longer}
 use Rattle.diamond_store.specs.Passes.{Passed}
 use Rattle.diamond_server.specs.Accounts.{IsTold}
