@@ -6,6 +6,7 @@
 use cli_words::{Plan, Question, VERSION, WordsError, asked, help_text, read_words};
 use diamond_cli::{BAD_WORDS, NO_MEMORY, WRITE_FAULT, diamond};
 use dio_core::{Listener, NoDisk, NoListener, StdSink, StdSource, TcpListening};
+use link_buffer::BufferedListening;
 use std::alloc::AllocError;
 use std::io::ErrorKind;
 use std::process::ExitCode;
@@ -52,20 +53,20 @@ fn command<R: Threads + Wait + Sync, N: Listener>(
     ))
 }
 
-/// Runs the command over what listens at this address. Where it listens is told on the standard error, since a port of 0
-/// stands for one that is free.
+/// Runs the command over what listens at this address, and reads ahead of each connection. Where it listens is told on the
+/// standard error, since a port of 0 stands for one that is free.
 fn command_at<R: Threads + Wait + Sync>(
     rt: &HostRuntime,
     threads: &R,
     words: &[&str],
     address: &str,
 ) -> Result<u8, AllocError> {
-    let mut listener = TcpListening::bind(rt, address);
-    let _ = match listener.address() {
+    let tcp = TcpListening::bind(rt, address);
+    let _ = match tcp.address() {
         Some(bound) => eprintln!(rt; "diamond: listening at {bound}"),
         None => eprintln!(rt; "diamond: can't listen at `{address}`"),
     };
-    command(rt, threads, words, &mut listener)
+    command(rt, threads, words, &mut BufferedListening::new(tcp))
 }
 
 /// Does what the words ask for, and answers the status.
