@@ -12,10 +12,9 @@ use Rattle.std.specs.BTreeMap.{is_at}
 use Rattle.std.proofs.Math.Seq.{take-length}
 use Rattle.std.proofs.lemmas.List.{append_assoc, take-append-drop, take-take}
 use mathlib.Core.List.{IsPrefix}
-use Rattle.plain_data.proofs.Entries.{sorted-insert_entry}
 use Rattle.rdt_types.specs.declared.address.Address.{Address}
 use Rattle.rdt_types.specs.Addresses.{address_cmp}
-use Rattle.rdt_types.specs.DeltaMaps.{Deltas, delta_at, after_maybe, with_delta}
+use Rattle.rdt_types.specs.DeltaMaps.{Deltas, delta_at}
 use Rattle.rdt_types.specs.contracts.address.AddressOrd.TheImpl.Laws as address_laws
 use Rattle.rdt_types.proofs.Addresses.{address_cmp-equal}
 use Rattle.change_feed.specs.declared.change.Change.{Change}
@@ -37,6 +36,7 @@ use Rattle.reactive_registry.proofs.GoingOn.{subscribes_stand}
 use Rattle.reactive_registry.proofs.Clients.{one_stands, all_stand}
 use Rattle.docc_prepare.proofs.Feeding.{fed-is-pending}
 use Rattle.local_world.proofs.SamePairs.{same_pairs}
+use Rattle.local_world.proofs.Registries.{none-rising, rising-with_changes}
 use Rattle.diamond_store.specs.Feeders.{Tells, taken_of, feed_between}
 use Rattle.diamond_store.specs.Passes.{is_in}
 use Rattle.diamond_store.proofs.Prefixes.{length-prefix, take-prefix}
@@ -217,19 +217,6 @@ tells-taken (Ok a) journal old new client tells front is same =
     (of-kept (KeptFor (followed journal old new tells) old.front) (emptied old.front) (kept_of old client)
     (λ x e. takes_stand (followed journal old new tells) old.front x tells.stands.followed))
 tells-taken (Err e) journal old new client tells front is same = tells-same journal old new tells front same
-
--- an empty list of deltas has its addresses in order
-none-rising : IsStrictlySortedBy address_cmp (keys_of (let ds : Deltas = [] in ds))
-unfolding IsStrictlySortedBy
-none-rising = tt
-
--- addresses stay in order as changes are added
-rising-with_changes : (changes : List Change) (deltas : Deltas) → IsStrictlySortedBy address_cmp (keys_of deltas)
-    → IsStrictlySortedBy address_cmp (keys_of (with_changes deltas changes))
-rising-with_changes [] deltas rising = rising
-rising-with_changes (c ∷ changes) deltas rising =
-    rising-with_changes changes (with_delta deltas c.address c.delta) (sorted-insert_entry address_cmp address_laws.total-law c.address
-    (after_maybe (delta_at deltas c.address) c.delta) deltas rising)
 
 -- where all deltas are at some addresses, there is none elsewhere
 nothing-elsewhere : (addresses : List Address) (deltas : Deltas) → list_all (λ pair. is_in addresses pair.0) deltas ≡ true → (a : Address) → is_in addresses a ≡ false

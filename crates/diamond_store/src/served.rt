@@ -12,7 +12,7 @@ use abort_witness::BasedList;
 use change_feed::Feed;
 use docc_prepare::{AppendError, Backend, PrepareError, ReadAtError, StoreError, Waiter};
 use history_lock::Naming;
-use journal_core::{Keep, MemKeep, Ready};
+use journal_core::{Keep, Ready};
 use rdt_types::{Address, Value};
 use std::sync::Wait;
 use txn_lang::Snap;
@@ -40,7 +40,7 @@ fn plain(answer: Result<u64, StoreAppendError>) -> Result<u64, AppendError>
     }
 }
 
-impl<'a, G: Gate + Drop, N: Naming, R: Wait> Backend for Served<'a, MemKeep, G, N, R> {
+impl<'a, K: Keep, G: Gate + Drop, N: Naming, R: Wait> Backend for Served<'a, K, G, N, R> {
     ghost use Rattle.diamond_store.specs.Passes.{known_of};
     ghost use Rattle.diamond_store.specs.Answers.{Looks};
 
@@ -100,7 +100,7 @@ impl<'a, G: Gate + Drop, N: Naming, R: Wait> Backend for Served<'a, MemKeep, G, 
     }
 }
 
-impl<'a, G: Gate + Drop, N: Naming, R: Wait> Waiter for Served<'a, MemKeep, G, N, R> {
+impl<'a, K: Keep, G: Gate + Drop, N: Naming, R: Wait> Waiter for Served<'a, K, G, N, R> {
     fn wait(&mut self) -> Result<(), StoreError> {
         self.store.wait(self.rt, &mut self.pass)
     }

@@ -15,7 +15,7 @@ use txn_lang::Commit;
 pub struct KeepFault;
 
 /// Where commits are kept.
-pub trait Keep: Send + Drop {
+pub trait Keep: Drop {
     /// The commits that are kept, or None where the keeper doesn't tell.
     ghost kept: { Self → Option Journal };
 

@@ -235,12 +235,12 @@ module _ (old new : Registered) where
 -- ---- what a client takes
 
 -- an empty list of deltas has its addresses in order
-none-rising : IsStrictlySortedBy address_cmp (keys_of (let ds : Deltas = [] in ds))
+pub none-rising : IsStrictlySortedBy address_cmp (keys_of (let ds : Deltas = [] in ds))
 unfolding IsStrictlySortedBy
 none-rising = tt
 
--- keys stay in order
-rising-with_changes : (changes : List Change) (deltas : Deltas) → IsStrictlySortedBy address_cmp (keys_of deltas)
+-- addresses stay in order as changes are added
+pub rising-with_changes : (changes : List Change) (deltas : Deltas) → IsStrictlySortedBy address_cmp (keys_of deltas)
     → IsStrictlySortedBy address_cmp (keys_of (with_changes deltas changes))
 rising-with_changes [] deltas rising = rising
 rising-with_changes (c ∷ changes) deltas rising =

@@ -10,13 +10,16 @@ use Rattle.diamond_store.proofs.Added.{settle-now, settles-here, lawful-book, ad
 use Rattle.diamond_store.proofs.Sound.{lawful-sound}
 use Rattle.diamond_store.proofs.appending.add.Goals as goal
 
-pub append-decision-requires-clause-can : goal.append-decision-requires-clause-can
-append-decision-requires-clause-can g c ks h =
+pub append-decision-requires : goal.append-decision-requires
+append-decision-requires g c =
     let t = c.enter-guard.new.front in
     let list : t.seen ≡ c.deref_mut.result.now.journal.commits =
     c.enter-guard.ensures.value.seen ∙ ap (λ (b : Booked). b.journal.commits) (sym c.deref_mut.ensures.value) in
-    subst (CanSettle c.args.ready.now) list (settle-now g.N.Naming.lock.base (shards_in g.N.Naming.lock.origin) c.args.token.now t c.args.ready.now
-    c.requires.author c.requires.owed c.enter-guard.ensures.later c.enter-guard.ensures.lawful)
+    record {
+      can =
+          subst (CanSettle c.args.ready.now) list (settle-now g.N.Naming.lock.base (shards_in g.N.Naming.lock.origin) c.args.token.now t c.args.ready.now
+          c.requires.author c.requires.owed c.enter-guard.ensures.later c.enter-guard.ensures.lawful);
+    }
 
 pub leave-requires-clause-lawful : goal.leave-requires-clause-lawful
 leave-requires-clause-lawful g c =

@@ -5,7 +5,7 @@ use Rattle.diamond_store.proofs.Decided.{on_err, as-before, by-number, by-clash,
 use Rattle.diamond_store.proofs.book.decide.Goals as goal
 
 pub append-requires-clause-can_append : goal.append-requires-clause-can_append
-append-requires-clause-can_append g c ks h = record {
+append-requires-clause-can_append g c = record {
   slot_is = c.in_ok-slot.ensures.slot;
   run = c.requires.can.run;
   short = c.requires.can.short;
@@ -13,7 +13,7 @@ append-requires-clause-can_append g c ks h = record {
 }
 
 pub witness-requires-clause-found : goal.witness-requires-clause-found
-witness-requires-clause-found g c ks h =
+witness-requires-clause-found g c =
     subst (λ (s : Standing). found_past c.args.ready.now s ≡ Some c.in-Clash.found) (sym c.in-Clash.ensures.decides.1) c.in-Clash.ensures.decides.0
 
 pub returns-in_err-witness-in-Clash-clause-err : goal.returns-in_err-witness-in-Clash-clause-err

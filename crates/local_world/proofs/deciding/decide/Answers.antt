@@ -6,7 +6,7 @@ use Rattle.local_world.proofs.Decided.{by-number, by-clash, by-full}
 use Rattle.local_world.proofs.deciding.decide.Goals as goal
 
 pub append-requires-clause-can_append : goal.append-requires-clause-can_append
-append-requires-clause-can_append g c ks h = record {
+append-requires-clause-can_append g c = record {
   slot_is = c.in_ok-slot.ensures.slot;
   run = c.requires.may.run;
   short = c.requires.may.short;
@@ -14,7 +14,7 @@ append-requires-clause-can_append g c ks h = record {
 }
 
 pub witness-requires-clause-found : goal.witness-requires-clause-found
-witness-requires-clause-found g c ks =
+witness-requires-clause-found g c =
     subst (λ (s : Standing). found_past c.args.ready.now s ≡ Some c.in-Clash.found) (sym c.in-Clash.ensures.decides.1) c.in-Clash.ensures.decides.0
 
 pub returns-in_err-witness-in-Clash-clause-shards : goal.returns-in_err-witness-in-Clash-clause-shards

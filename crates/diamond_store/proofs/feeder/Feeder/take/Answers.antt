@@ -4,7 +4,7 @@ use Rattle.diamond_store.proofs.Told.{tells-later, fed-whole}
 use Rattle.diamond_store.proofs.feeder.Feeder.take.Goals as goal
 
 pub follow-requires-clause-tells : goal.follow-requires-clause-tells
-follow-requires-clause-tells g c = λ lifetimes within.
+follow-requires-clause-tells g c =
     let t = c.learn-to in
     tells-later c.self.inside.token.seen t.new.token.seen t.ensures.begins
     (lawful-sound g.N.Naming.lock.base t.new.token.seen t.ensures.token_lawful).orderly.numbered c.self.inside.registry c.self.invariant

@@ -8,7 +8,7 @@ use Rattle.diamond_store.proofs.Known.{failed}
 use Rattle.diamond_store.proofs.store.Store.append.Goals as goal
 
 pub add-requires-clause-owed : goal.add-requires-clause-owed
-add-requires-clause-owed g c ks h =
+add-requires-clause-owed g c =
     let p = c.pass.inside in
     subst (λ (n : ℕ). IsOwed n p.front.seen c.args.ready.now) c.pass.invariant.settings.shards
     (owed-by (passed g.N.Naming.lock.base p.client p.front p.seen p.subscribed.keys p.taken p.denied p.settings) c.args.ready.now

@@ -23,7 +23,7 @@ index-requires g c =
     omega arith
 
 pub prepare-found-requires-clause-within : goal.prepare-found-requires-clause-within
-prepare-found-requires-clause-within g c ks h =
+prepare-found-requires-clause-within g c =
     let can = subst (λ (q : Passed). CanPrepare (known_of q) c.args.shard c.args.based.now) (sym c.pass.view_is) c.requires in
     let p = c.pass.inside in
     let seen = seen-bases (known_of (passed g.N.Naming.lock.base p.client p.front p.seen p.subscribed.keys p.taken p.denied p.settings)) c.args.shard
@@ -32,7 +32,7 @@ prepare-found-requires-clause-within g c ks h =
     subst (λ (bs : List Based). greatest_base bs ≤ length p.front.seen) (sym c.as_slice.ensures) (omega arith)
 
 pub prepare-found-requires-clause-here : goal.prepare-found-requires-clause-here
-prepare-found-requires-clause-here g c ks h =
+prepare-found-requires-clause-here g c =
     let can = subst (λ (q : Passed). CanPrepare (known_of q) c.args.shard c.args.based.now) (sym c.pass.view_is) c.requires in
     let p = c.pass.inside in
     subst (AllByRecursion (λ (b : Based). shard_of b.address (shards_in g.N.Naming.lock.origin) ≡ c.args.shard)) (sym c.as_slice.ensures)
@@ -40,7 +40,7 @@ prepare-found-requires-clause-here g c ks h =
     c.args.based.now can.each (shards_in g.N.Naming.lock.origin) c.pass.invariant.settings.shards)
 
 pub prepare-found-requires-clause-kinds : goal.prepare-found-requires-clause-kinds
-prepare-found-requires-clause-kinds g c ks h =
+prepare-found-requires-clause-kinds g c =
     subst (AllByRecursion IsBasedOfOneKind) (sym c.as_slice.ensures) (all-kinds (known_of c.args.pass.now) c.args.shard c.args.based.now c.requires.each)
 
 pub returns-in_default : goal.returns-in_default
