@@ -7,3 +7,4 @@ pub mod Parses
 pub mod Values
 pub mod Cuts
 pub mod Blanks
+pub mod Marks

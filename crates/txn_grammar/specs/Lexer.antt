@@ -54,9 +54,13 @@ abbrev pub mark_lexeme : Option Symbol → Option Symbol → Lexeme
 mark_lexeme (Some symbol) short = lexeme (t.Symbol symbol) 2
 mark_lexeme None short = short_lexeme short
 
+-- the mark of two bytes at the front, if there is one
+abbrev pub long_mark : Text → Option Symbol
+long_mark z = if nat_lt (length z) 2 then None else mark (take 2 z)
+
 -- a mark of two bytes, or else of one
 unfoldable pub mark_at : Text → Lexeme
-mark_at z = mark_lexeme (if nat_lt (length z) 2 then None else mark (take 2 z)) (mark (take 1 z))
+mark_at z = mark_lexeme (long_mark z) (mark (take 1 z))
 
 -- the token at the front, where no blank stands; 34 is `"`
 unfoldable pub token_at : Text → Lexeme

@@ -6,6 +6,7 @@ ghost use Rattle.txn_grammar.specs.Lexer as spec;
 use crate::limit::LONGEST_NAME;
 use crate::number::number_value;
 use crate::spelling::{mark, reserved_word};
+use crate::symbol::Symbol;
 use crate::token::{Lexeme, Spot, Token};
 use dtext::{is_blank, is_digit, is_letter, is_word, next_text};
 use plain_data::{OrNoMemory, Text};
@@ -69,19 +70,27 @@ fn text_at(alloc: Global, text: &[u8]) -> Result<Lexeme, AllocError>
     }
 }
 
+/// The mark of two bytes at the front. The second byte of each is `=`.
+fn long_mark(text: &[u8]) -> Option<Symbol>
+    ensures { result ≡ spec.long_mark text.now }
+{
+    if text.len() < 2 || text[1] != b'=' {
+        return None;
+    }
+    mark(&text[..2])
+}
+
 /// The mark at the front, the longer one where two fit.
 #[tactic(auto, unfolding(crate::specs::Lexer::mark_at))]
 fn mark_at(text: &[u8]) -> Lexeme
     requires { 0 < length text.now }
     ensures { result ≡ spec.mark_at text.now }
 {
-    if text.len() >= 2 {
-        if let Some(symbol) = mark(&text[..2]) {
-            return Lexeme {
-                token: Token::Symbol(symbol),
-                len: 2,
-            };
-        }
+    if let Some(symbol) = long_mark(text) {
+        return Lexeme {
+            token: Token::Symbol(symbol),
+            len: 2,
+        };
     }
     let token = match mark(&text[..1]) {
         Some(symbol) => Token::Symbol(symbol),
@@ -121,7 +130,7 @@ pub fn tokens(alloc: Global, source: &[u8]) -> Result<Vec<Spot>, AllocError>
     requires { length source.now < 2 ^ 32 - 1 }
     ensures { IfOk result (λ spots. spots.items ≡ spec.lex source.now) }
 {
-    let mut spots = Vec::new(alloc);
+    let mut spots = Vec::with_capacity(alloc, source.len() / 2)?;
     let mut at = 0;
     while at < source.len() {
         if is_blank(source[at]) {
