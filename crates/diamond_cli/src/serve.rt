@@ -60,11 +60,11 @@ fn line_of(alloc: Global, served: &Served) -> Result<Text, AllocError>
 {
     let mut line = Text::new(alloc);
     line.extend_from_slice(b"served ")?;
-    push_natural(alloc, &mut line, u64::from(served.tally.accepted))?;
+    push_natural(&mut line, u64::from(served.tally.accepted))?;
     line.extend_from_slice(b" sessions ")?;
-    push_natural(alloc, &mut line, u64::from(served.tally.faulted))?;
+    push_natural(&mut line, u64::from(served.tally.faulted))?;
     line.extend_from_slice(b" faulted commits ")?;
-    push_natural(alloc, &mut line, served.commits.len() as u64)?;
+    push_natural(&mut line, served.commits.len() as u64)?;
     line.push(NEWLINE)?;
     Ok(line)
 }

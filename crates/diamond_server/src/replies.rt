@@ -1,20 +1,28 @@
 //! The text of a turn: each reply in its printed form, with a newline.
 
-ghost use Rattle.std.specs.Prelude.{◌≡◌, ◌∷◌, ◌++◌, [], IfOk};
+ghost use Rattle.std.specs.Prelude.{◌≡◌, ◌∷◌, ◌++◌, [], IfOk, OnOk};
 ghost use Rattle.dio_core.specs.declared.line.TheConstants.{NEWLINE};
 ghost use Rattle.diamond_server.specs.Talking as spec;
 
 use plain_data::Text;
 use session_core::Turn;
-use session_text::{Reply, print_reply};
+use session_text::{Reply, push_reply};
 use std::alloc::{AllocError, Global};
+
+/// Adds the line of one reply.
+fn push_line(lines: &mut Text, reply: &Reply) -> Result<(), AllocError>
+    ensures { OnOk result (lines.new ≡ lines.old ++ spec.reply_line reply.now) }
+{
+    push_reply(lines, reply)?;
+    lines.push(b'\n')
+}
 
 /// The line of one reply.
 pub fn reply_line(alloc: Global, reply: &Reply) -> Result<Text, AllocError>
     ensures { IfOk result (λ line. line ≡ spec.reply_line reply.now) }
 {
-    let mut line = print_reply(alloc, reply)?;
-    line.push(b'\n')?;
+    let mut line = Text::new(alloc);
+    push_line(&mut line, reply)?;
     Ok(line)
 }
 
@@ -24,8 +32,7 @@ fn reply_lines(alloc: Global, replies: &[Reply]) -> Result<Text, AllocError>
 {
     let mut lines = Text::new(alloc);
     for reply in replies {
-        let line = reply_line(alloc, reply)?;
-        lines.extend_from_slice(line.as_slice())?;
+        push_line(&mut lines, reply)?;
     }
     Ok(lines)
 }

@@ -8,6 +8,7 @@ ghost use Rattle.rdt_types.specs.Printed as printed;
 ghost use Rattle.rdt_types.specs.declared.operation.WriteOp.TheVariants as op;
 
 use crate::value::bool_word;
+use itoa::Buffer;
 use plain_data::Text;
 use rdt_types::{Address, Item, Outcome, Spelling, TextList, WriteOp, spelling_of};
 use std::alloc::{AllocError, Global};
@@ -42,19 +43,19 @@ pub fn push_text(out: &mut Text, text: &Text) -> Result<(), AllocError>
     out.push(b'"')
 }
 
-fn push_number(alloc: Global, out: &mut Text, number: i64) -> Result<(), AllocError>
+fn push_number(out: &mut Text, number: i64) -> Result<(), AllocError>
     ensures { OnOk result (out.new ≡ out.old ++ signed_decimal number) }
 {
-    let digits = number.to_string(alloc)?;
-    out.extend_from_slice(digits.as_bytes())
+    let mut digits = Buffer::new();
+    out.extend_from_slice(digits.format(number).as_bytes())
 }
 
 /// Adds a number without a sign.
-pub fn push_natural(alloc: Global, out: &mut Text, number: u64) -> Result<(), AllocError>
+pub fn push_natural(out: &mut Text, number: u64) -> Result<(), AllocError>
     ensures { OnOk result (out.new ≡ out.old ++ decimal number) }
 {
-    let digits = number.to_string(alloc)?;
-    out.extend_from_slice(digits.as_bytes())
+    let mut digits = Buffer::new();
+    out.extend_from_slice(digits.format(number).as_bytes())
 }
 
 /// Adds an address: the word of its kind, and its key in parentheses.
@@ -97,11 +98,11 @@ fn push_texts(out: &mut Text, texts: &TextList) -> Result<(), AllocError>
     out.push(b']')
 }
 
-fn push_item(alloc: Global, out: &mut Text, item: &Item) -> Result<(), AllocError>
+fn push_item(out: &mut Text, item: &Item) -> Result<(), AllocError>
     ensures { OnOk result (out.new ≡ out.old ++ spec.printed_item item.now) }
 {
     match item {
-        Item::Int(number) => push_number(alloc, out, *number),
+        Item::Int(number) => push_number(out, *number),
         Item::Bool(value) => out.extend_from_slice(bool_word(*value)),
         Item::Text(text) => push_text(out, text),
         Item::Texts(texts) => push_texts(out, texts),
@@ -109,12 +110,12 @@ fn push_item(alloc: Global, out: &mut Text, item: &Item) -> Result<(), AllocErro
 }
 
 /// Adds values, each behind a space.
-fn push_items(alloc: Global, out: &mut Text, items: &[Item]) -> Result<(), AllocError>
+fn push_items(out: &mut Text, items: &[Item]) -> Result<(), AllocError>
     ensures { OnOk result (out.new ≡ out.old ++ flat_map spec.after_space items.now) }
 {
     for item in items {
         out.push(b' ')?;
-        push_item(alloc, out, item)?;
+        push_item(out, item)?;
     }
     Ok(())
 }
@@ -128,11 +129,11 @@ fn push_named(out: &mut Text, word: &[u8], text: &Text) -> Result<(), AllocError
 }
 
 /// Adds a word, and a number behind it.
-fn push_counted(alloc: Global, out: &mut Text, word: &[u8], number: i64) -> Result<(), AllocError>
+fn push_counted(out: &mut Text, word: &[u8], number: i64) -> Result<(), AllocError>
     ensures { OnOk result (out.new ≡ out.old ++ (word.now ++ signed_decimal number)) }
 {
     out.extend_from_slice(word)?;
-    push_number(alloc, out, number)
+    push_number(out, number)
 }
 
 fn push_put_bool(out: &mut Text, value: bool) -> Result<(), AllocError>
@@ -151,13 +152,13 @@ fn push_field(out: &mut Text, field: &Text, text: &Text) -> Result<(), AllocErro
 }
 
 /// Adds one write, without its kind.
-pub fn push_part(alloc: Global, out: &mut Text, part: &WriteOp) -> Result<(), AllocError>
+pub fn push_part(out: &mut Text, part: &WriteOp) -> Result<(), AllocError>
     ensures { OnOk result (out.new ≡ out.old ++ spec.printed_part part.now) }
 {
     match part {
         WriteOp::PutBool(value) => push_put_bool(out, *value),
-        WriteOp::PutCounter(number) => push_counted(alloc, out, b"put ", *number),
-        WriteOp::AddCounter(number) => push_counted(alloc, out, b"add ", *number),
+        WriteOp::PutCounter(number) => push_counted(out, b"put ", *number),
+        WriteOp::AddCounter(number) => push_counted(out, b"add ", *number),
         WriteOp::PutText(text) => push_named(out, b"put ", text),
         WriteOp::HashPut(field, text) => push_field(out, field, text),
         WriteOp::SetAdd(element) => push_named(out, b"add ", element),
@@ -172,13 +173,13 @@ pub fn push_part(alloc: Global, out: &mut Text, part: &WriteOp) -> Result<(), Al
 }
 
 /// Adds how a body ended.
-pub fn push_outcome(alloc: Global, out: &mut Text, outcome: &Outcome) -> Result<(), AllocError>
+pub fn push_outcome(out: &mut Text, outcome: &Outcome) -> Result<(), AllocError>
     ensures { OnOk result (out.new ≡ out.old ++ spec.printed_outcome outcome.now) }
 {
     match outcome {
         Outcome::Ok(items) => {
             out.extend_from_slice(b"ok")?;
-            push_items(alloc, out, items.as_slice())
+            push_items(out, items.as_slice())
         }
         Outcome::Fail(reason) => push_named(out, b"fail ", reason),
         Outcome::Spent => out.extend_from_slice(b"spent"),
@@ -209,7 +210,7 @@ pub fn print_item(alloc: Global, item: &Item) -> Result<Text, AllocError>
     ensures { IfOk result (λ out. out ≡ spec.printed_item item.now) }
 {
     let mut out = Text::new(alloc);
-    push_item(alloc, &mut out, item)?;
+    push_item(&mut out, item)?;
     Ok(out)
 }
 
@@ -218,7 +219,7 @@ pub fn print_outcome(alloc: Global, outcome: &Outcome) -> Result<Text, AllocErro
     ensures { IfOk result (λ out. out ≡ spec.printed_outcome outcome.now) }
 {
     let mut out = Text::new(alloc);
-    push_outcome(alloc, &mut out, outcome)?;
+    push_outcome(&mut out, outcome)?;
     Ok(out)
 }
 
@@ -227,6 +228,6 @@ pub fn print_part(alloc: Global, part: &WriteOp) -> Result<Text, AllocError>
     ensures { IfOk result (λ out. out ≡ spec.printed_part part.now) }
 {
     let mut out = Text::new(alloc);
-    push_part(alloc, &mut out, part)?;
+    push_part(&mut out, part)?;
     Ok(out)
 }

@@ -7,37 +7,36 @@ ghost use Rattle.script_runner.specs.Play as spec;
 use dtext::push_natural;
 use plain_data::Text;
 use session_core::Turn;
-use session_text::{Reply, Why, print_reply};
+use session_text::{Reply, Why, push_reply};
 use std::alloc::{AllocError, Global};
 
 /// Adds the client's number, or a hyphen.
-fn push_named(alloc: Global, text: &mut Text, client: Option<u32>) -> Result<(), AllocError>
+fn push_named(text: &mut Text, client: Option<u32>) -> Result<(), AllocError>
     ensures { OnOk result (text.new ≡ text.old ++ spec.named client) }
 {
     match client {
-        Some(client) => push_natural(alloc, text, u64::from(client)),
+        Some(client) => push_natural(text, u64::from(client)),
         None => text.extend_from_slice(b"-"),
     }
 }
 
-/// A reply line of these words.
-fn line_of(alloc: Global, client: Option<u32>, words: &[u8]) -> Result<Text, AllocError>
-    ensures { IfOk result (λ line. line ≡ spec.reply_line client words.now) }
+/// Adds the line of one reply.
+fn push_line(lines: &mut Text, client: Option<u32>, reply: &Reply) -> Result<(), AllocError>
+    ensures { OnOk result (lines.new ≡ lines.old ++ spec.reply_line client (printed_reply reply.now)) }
 {
-    let mut line = Text::new(alloc);
-    push_named(alloc, &mut line, client)?;
-    line.push(b' ')?;
-    line.extend_from_slice(words)?;
-    line.push(b'\n')?;
-    Ok(line)
+    push_named(lines, client)?;
+    lines.push(b' ')?;
+    push_reply(lines, reply)?;
+    lines.push(b'\n')
 }
 
 /// The line of one reply.
 pub fn reply_line(alloc: Global, client: Option<u32>, reply: &Reply) -> Result<Text, AllocError>
     ensures { IfOk result (λ line. line ≡ spec.reply_line client (printed_reply reply.now)) }
 {
-    let words = print_reply(alloc, reply)?;
-    line_of(alloc, client, words.as_slice())
+    let mut line = Text::new(alloc);
+    push_line(&mut line, client, reply)?;
+    Ok(line)
 }
 
 /// The line of a refusal.
@@ -53,8 +52,7 @@ fn reply_lines(alloc: Global, client: u32, replies: &[Reply]) -> Result<Text, Al
 {
     let mut lines = Text::new(alloc);
     for reply in replies {
-        let line = reply_line(alloc, Some(client), reply)?;
-        lines.extend_from_slice(line.as_slice())?;
+        push_line(&mut lines, Some(client), reply)?;
     }
     Ok(lines)
 }

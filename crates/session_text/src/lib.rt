@@ -25,7 +25,7 @@ pub use laws::{
     columns_pin_answers, printed_replies_read_back, readers_are_rules, texts_have_one_value,
 };
 pub use limits::{LARGEST, LARGEST_COLUMN, LARGEST_SHARD, MOST_ATTEMPTS, NAME_REST};
-pub use print::print_reply;
+pub use print::{print_reply, push_reply};
 pub use read::{read_reply, read_verb};
 pub use reply::{Reply, Why};
 pub use verb::{Verb, VerbError};

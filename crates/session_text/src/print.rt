@@ -18,11 +18,11 @@ use rdt_types::{Address, Outcome};
 use std::alloc::{AllocError, Global};
 
 /// Adds a word, and a number behind it.
-fn push_counted(alloc: Global, out: &mut Text, word: &[u8], number: u64) -> Result<(), AllocError>
+fn push_counted(out: &mut Text, word: &[u8], number: u64) -> Result<(), AllocError>
     ensures { OnOk result (out.new ≡ out.old ++ (word.now ++ decimal number)) }
 {
     out.extend_from_slice(word)?;
-    push_natural(alloc, out, number)
+    push_natural(out, number)
 }
 
 /// Adds a word, and a text in quotes behind it.
@@ -33,36 +33,36 @@ fn push_named(out: &mut Text, word: &[u8], text: &Text) -> Result<(), AllocError
     push_text(out, text)
 }
 
-fn push_obs(alloc: Global, out: &mut Text, obs: &Obs) -> Result<(), AllocError>
+fn push_obs(out: &mut Text, obs: &Obs) -> Result<(), AllocError>
     ensures { OnOk result (out.new ≡ out.old ++ spec.printed_obs obs.now) }
 {
     match obs {
         Obs::BoolIs | Obs::CounterIs | Obs::TextIs => out.extend_from_slice(b"whole"),
         Obs::SetHas(element) => push_named(out, b"has ", element),
         Obs::HashAt(field) => push_named(out, b"at ", field),
-        Obs::ListAt(place) => push_counted(alloc, out, b"at ", *place),
+        Obs::ListAt(place) => push_counted(out, b"at ", *place),
         Obs::SetAll | Obs::HashAll | Obs::ListAll => out.extend_from_slice(b"all"),
     }
 }
 
 /// Adds the word for why a line is refused, and a column behind it.
-fn push_placed(alloc: Global, out: &mut Text, word: WhyWord, column: u32) -> Result<(), AllocError>
+fn push_placed(out: &mut Text, word: WhyWord, column: u32) -> Result<(), AllocError>
     ensures { OnOk result (out.new ≡ out.old ++ (spec.why_of word ++ spec.counted (codes " ") column)) }
 {
     out.extend_from_slice(word.bytes())?;
-    push_counted(alloc, out, b" ", u64::from(column))
+    push_counted(out, b" ", u64::from(column))
 }
 
-fn push_why(alloc: Global, out: &mut Text, why: Why) -> Result<(), AllocError>
+fn push_why(out: &mut Text, why: Why) -> Result<(), AllocError>
     ensures { OnOk result (out.new ≡ out.old ++ spec.printed_why why) }
 {
     match why {
         Why::Long => out.extend_from_slice(WhyWord::Long.bytes()),
         Why::Client => out.extend_from_slice(WhyWord::Client.bytes()),
         Why::Verb => out.extend_from_slice(WhyWord::Verb.bytes()),
-        Why::Syntax(column) => push_placed(alloc, out, WhyWord::Syntax, column),
-        Why::BadType(column) => push_placed(alloc, out, WhyWord::BadType, column),
-        Why::Writes(column) => push_placed(alloc, out, WhyWord::Writes, column),
+        Why::Syntax(column) => push_placed(out, WhyWord::Syntax, column),
+        Why::BadType(column) => push_placed(out, WhyWord::BadType, column),
+        Why::Writes(column) => push_placed(out, WhyWord::Writes, column),
         Why::Name => out.extend_from_slice(WhyWord::Name.bytes()),
         Why::Busy => out.extend_from_slice(WhyWord::Busy.bytes()),
         Why::NoAttempt => out.extend_from_slice(WhyWord::NoAttempt.bytes()),
@@ -70,54 +70,43 @@ fn push_why(alloc: Global, out: &mut Text, why: Why) -> Result<(), AllocError>
 }
 
 /// Adds what was observed.
-fn push_observed(alloc: Global, out: &mut Text, witness: &Witness) -> Result<(), AllocError>
+fn push_observed(out: &mut Text, witness: &Witness) -> Result<(), AllocError>
     ensures { OnOk result (out.new ≡ out.old ++ spec.printed_observed witness.now) }
 {
     push_address(out, &witness.address)?;
     out.extend_from_slice(b" ")?;
-    push_obs(alloc, out, &witness.obs)?;
-    push_counted(alloc, out, b" base ", witness.base)
+    push_obs(out, &witness.obs)?;
+    push_counted(out, b" base ", witness.base)
 }
 
-fn push_witness(alloc: Global, out: &mut Text, witness: &Witness) -> Result<(), AllocError>
+fn push_witness(out: &mut Text, witness: &Witness) -> Result<(), AllocError>
     ensures { OnOk result (out.new ≡ out.old ++ spec.printed_witness witness.now) }
 {
-    push_observed(alloc, out, witness)?;
+    push_observed(out, witness)?;
     out.extend_from_slice(b" clash ")?;
-    push_part(alloc, out, &witness.part)?;
-    push_counted(alloc, out, b" commit ", witness.number)
+    push_part(out, &witness.part)?;
+    push_counted(out, b" commit ", witness.number)
 }
 
 /// Adds a number behind a space, and an outcome behind another.
-fn push_ended(
-    alloc: Global,
-    out: &mut Text,
-    number: u64,
-    outcome: &Outcome,
-) -> Result<(), AllocError>
+fn push_ended(out: &mut Text, number: u64, outcome: &Outcome) -> Result<(), AllocError>
     ensures { OnOk result (out.new ≡ out.old ++ (codes " " ++ (decimal number ++ (codes " " ++ printed_outcome outcome.now)))) }
 {
-    push_counted(alloc, out, b" ", number)?;
+    push_counted(out, b" ", number)?;
     out.extend_from_slice(b" ")?;
-    push_outcome(alloc, out, outcome)
+    push_outcome(out, outcome)
 }
 
 /// Adds a first word, and a number behind it.
-fn push_numbered(
-    alloc: Global,
-    out: &mut Text,
-    word: ReplyWord,
-    number: u64,
-) -> Result<(), AllocError>
+fn push_numbered(out: &mut Text, word: ReplyWord, number: u64) -> Result<(), AllocError>
     ensures { OnOk result (out.new ≡ out.old ++ spec.worded word (decimal number)) }
 {
     out.extend_from_slice(word.bytes())?;
-    push_counted(alloc, out, b" ", number)
+    push_counted(out, b" ", number)
 }
 
 /// Adds a first word and a number, and what stands between them and another number.
 fn push_both(
-    alloc: Global,
     out: &mut Text,
     word: ReplyWord,
     number: u64,
@@ -126,13 +115,12 @@ fn push_both(
 ) -> Result<(), AllocError>
     ensures { OnOk result (out.new ≡ out.old ++ spec.worded word (decimal number ++ (between.now ++ decimal other))) }
 {
-    push_numbered(alloc, out, word, number)?;
-    push_counted(alloc, out, between, other)
+    push_numbered(out, word, number)?;
+    push_counted(out, between, other)
 }
 
 /// Adds a first word and a number, and an outcome behind them.
 fn push_result(
-    alloc: Global,
     out: &mut Text,
     word: ReplyWord,
     number: u64,
@@ -141,76 +129,71 @@ fn push_result(
     ensures { OnOk result (out.new ≡ out.old ++ spec.worded word (decimal number ++ (codes " " ++ printed_outcome outcome.now))) }
 {
     out.extend_from_slice(word.bytes())?;
-    push_ended(alloc, out, number, outcome)
+    push_ended(out, number, outcome)
 }
 
-fn push_read(alloc: Global, out: &mut Text, address: &Address, base: u64) -> Result<(), AllocError>
+fn push_read(out: &mut Text, address: &Address, base: u64) -> Result<(), AllocError>
     ensures { OnOk result (out.new ≡ out.old ++ spec.worded ReplyWord.Read (printed_address address.now ++ (codes " base " ++ decimal base))) }
 {
     out.extend_from_slice(ReplyWord::Read.bytes())?;
     out.extend_from_slice(b" ")?;
     push_address(out, address)?;
-    push_counted(alloc, out, b" base ", base)
+    push_counted(out, b" base ", base)
 }
 
-fn push_ran(
-    alloc: Global,
-    out: &mut Text,
-    name: &Text,
-    number: u64,
-    outcome: &Outcome,
-) -> Result<(), AllocError>
+fn push_ran(out: &mut Text, name: &Text, number: u64, outcome: &Outcome) -> Result<(), AllocError>
     ensures { OnOk result (out.new ≡ out.old
         ++ spec.worded ReplyWord.Run (name.now ++ (codes " " ++ (decimal number ++ (codes " " ++ printed_outcome outcome.now))))) }
 {
     out.extend_from_slice(ReplyWord::Run.bytes())?;
     out.extend_from_slice(b" ")?;
     out.extend_from_slice(name.as_slice())?;
-    push_ended(alloc, out, number, outcome)
+    push_ended(out, number, outcome)
 }
 
-fn push_abort(alloc: Global, out: &mut Text, witness: &Witness) -> Result<(), AllocError>
+fn push_abort(out: &mut Text, witness: &Witness) -> Result<(), AllocError>
     ensures { OnOk result (out.new ≡ out.old ++ spec.worded ReplyWord.Abort (spec.printed_witness witness.now)) }
 {
     out.extend_from_slice(ReplyWord::Abort.bytes())?;
     out.extend_from_slice(b" ")?;
-    push_witness(alloc, out, witness)
+    push_witness(out, witness)
 }
 
-fn push_refused(alloc: Global, out: &mut Text, why: Why) -> Result<(), AllocError>
+fn push_refused(out: &mut Text, why: Why) -> Result<(), AllocError>
     ensures { OnOk result (out.new ≡ out.old ++ spec.worded ReplyWord.Refused (spec.printed_why why)) }
 {
     out.extend_from_slice(ReplyWord::Refused.bytes())?;
     out.extend_from_slice(b" ")?;
-    push_why(alloc, out, why)
+    push_why(out, why)
 }
 
-fn push_reply(alloc: Global, out: &mut Text, reply: &Reply) -> Result<(), AllocError>
+/// Adds a reply.
+pub fn push_reply(out: &mut Text, reply: &Reply) -> Result<(), AllocError>
     ensures { OnOk result (out.new ≡ out.old ++ spec.printed_reply reply.now) }
 {
     match reply {
-        Reply::Commit(n, outcome) => push_result(alloc, out, ReplyWord::Commit, *n, outcome),
-        Reply::Abort(witness) => push_abort(alloc, out, witness),
-        Reply::Read(address, base) => push_read(alloc, out, address, *base),
+        Reply::Commit(n, outcome) => push_result(out, ReplyWord::Commit, *n, outcome),
+        Reply::Abort(witness) => push_abort(out, witness),
+        Reply::Read(address, base) => push_read(out, address, *base),
         Reply::Prepared(shard, front) => {
             let shard = u64::from(*shard);
-            push_both(alloc, out, ReplyWord::Prepare, shard, b" front ", *front)
+            push_both(out, ReplyWord::Prepare, shard, b" front ", *front)
         }
         Reply::Followed(shard, front) => {
             let shard = u64::from(*shard);
-            push_both(alloc, out, ReplyWord::Follow, shard, b" front ", *front)
+            push_both(out, ReplyWord::Follow, shard, b" front ", *front)
         }
-        Reply::At(n, outcome) => push_result(alloc, out, ReplyWord::At, *n, outcome),
-        Reply::Ran(name, n, outcome) => push_ran(alloc, out, name, *n, outcome),
-        Reply::Current(n) => push_numbered(alloc, out, ReplyWord::Current, *n),
+        Reply::At(n, outcome) => push_result(out, ReplyWord::At, *n, outcome),
+        Reply::Ran(name, n, outcome) => push_ran(out, name, *n, outcome),
+        Reply::Current(n) => push_numbered(out, ReplyWord::Current, *n),
         Reply::Idle => out.extend_from_slice(ReplyWord::Idle.bytes()),
-        Reply::Seen(n) => push_numbered(alloc, out, ReplyWord::Seen, *n),
-        Reply::Late(n, horizon) => push_both(alloc, out, ReplyWord::Late, *n, b" ", *horizon),
-        Reply::Ahead(n, seen) => push_both(alloc, out, ReplyWord::Ahead, *n, b" ", *seen),
-        Reply::Full(limit) => push_numbered(alloc, out, ReplyWord::Full, u64::from(*limit)),
+        Reply::Seen(n) => push_numbered(out, ReplyWord::Seen, *n),
+        Reply::Late(n, horizon) => push_both(out, ReplyWord::Late, *n, b" ", *horizon),
+        Reply::Ahead(n, seen) => push_both(out, ReplyWord::Ahead, *n, b" ", *seen),
+        Reply::Full(limit) => push_numbered(out, ReplyWord::Full, u64::from(*limit)),
         Reply::Disk => out.extend_from_slice(ReplyWord::Disk.bytes()),
         Reply::Dropped => out.extend_from_slice(ReplyWord::Dropped.bytes()),
-        Reply::Refused(why) => push_refused(alloc, out, *why),
+        Reply::Refused(why) => push_refused(out, *why),
     }
 }
 
@@ -219,6 +202,6 @@ pub fn print_reply(alloc: Global, reply: &Reply) -> Result<Text, AllocError>
     ensures { IfOk result (λ out. out ≡ spec.printed_reply reply.now) }
 {
     let mut out = Text::new(alloc);
-    push_reply(alloc, &mut out, reply)?;
+    push_reply(&mut out, reply)?;
     Ok(out)
 }

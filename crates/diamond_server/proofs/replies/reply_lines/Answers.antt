@@ -1,6 +1,6 @@
 use Rattle.std.proofs.Common.{◌++◌, [], ◌∷◌, take, sym, ap, ◌∙◌, arith}
 use Rattle.std.proofs.lemmas.List.{take_more}
-use Rattle.diamond_server.specs.Talking.{reply_lines}
+use Rattle.diamond_server.specs.Talking.{reply_line, reply_lines}
 use Rattle.diamond_server.proofs.Lines.{lines-push}
 use Rattle.diamond_server.proofs.replies.reply_lines.Goals as goal
 
@@ -11,7 +11,6 @@ loop-reply-preserved c =
     let i = c.loop-reply.reply-index in
     let item = c.reply-item.result in
     let longer = take_more items i item (omega arith) ∙ ap (λ r. take i items ++ r ∷ []) (sym c.reply-item.is) in
-    c.in_ok-extend_from_slice.ensures.ok
-    ∙ (ap (λ lines. lines ++ c.as_slice.result.now) c.loop-reply.invariant
-    ∙ (ap (λ line. reply_lines (take i items) ++ line) (c.as_slice.ensures ∙ c.in_ok-line.ensures)
-    ∙ (sym (lines-push (take i items) item) ∙ ap reply_lines (sym longer))))
+    c.in_ok-push_line.ensures
+    ∙ (ap (λ lines. lines ++ reply_line item) c.loop-reply.invariant
+    ∙ (sym (lines-push (take i items) item) ∙ ap reply_lines (sym longer)))
