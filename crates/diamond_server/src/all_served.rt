@@ -6,9 +6,10 @@ ghost use Rattle.diamond_store.specs.Numbers.{HasSettings};
 use crate::serving_all::{Tally, serve_all};
 use crate::status::NO_CLIENT;
 use diamond_store::{Book, Gate, Open, Store, open};
-use dio_core::{FaultPlan, Listener, MemLink, MemLinks, MemListener, MemSink, MemSource};
+use dio_core::{Count, FaultPlan, Listener, MemLink, MemLinks, MemListener, MemSink, MemSource};
 use history_lock::{Naming, Opened};
-use journal_core::MemKeep;
+use journal_core::{Keep, KeepFault, MemKeep};
+use plain_data::Text;
 use rdt_types::Settings;
 use script_runner::{READ_FAULT, WHOLE, WRITE_FAULT};
 use std::alloc::{AllocError, Global};
@@ -17,7 +18,7 @@ use std::sync::Wait;
 use std::sync::atomic::{AtomicBool, Ordering};
 use std::test::*;
 use std::thread::Threads;
-use txn_lang::CommitList;
+use txn_lang::{Commit, CommitList};
 
 /// What came of a listener's links, and how many commits there are then.
 #[derive(Clone, Copy, Debug, PartialEq, Eq)]
@@ -41,13 +42,14 @@ fn whole(accepted: u32, faulted: u32, commits: usize) -> Outcome {
 /// Serves the links of a listener over a store that was just opened.
 fn serve_over<
     Li: Listener,
+    K: Keep + Send,
     G: Gate + Drop + Send + Sync,
     N: Naming + Send + Sync,
     R: Threads + Wait + Sync,
 >(
     rt: &R,
     alloc: Global,
-    opened: Opened<Book<MemKeep>>,
+    opened: Opened<Book<K>>,
     settings: &Settings,
     gate: G,
     listener: &mut Li,
@@ -58,7 +60,7 @@ fn serve_over<
     requires author { opened.front.author ≡ None }
     requires whole { opened.lock.base ≡ 0 }
 {
-    let (store, mut pass) = Store::<MemKeep, G, N>::new(alloc, settings, opened, gate)?;
+    let (store, mut pass) = Store::<K, G, N>::new(alloc, settings, opened, gate)?;
     let tally = serve_all(rt, alloc, listener, &store, &mut pass, sessions)?;
     let closed = store.close(rt, pass);
     Ok(Outcome {
@@ -67,7 +69,23 @@ fn serve_over<
     })
 }
 
-/// The same over a store of its own.
+/// The same over a store of its own, whose commits this keeps.
+fn serve_kept<Li: Listener, K: Keep + Send, G: Gate + Drop + Send + Sync, R: Threads + Wait + Sync>(
+    rt: &R,
+    alloc: Global,
+    keep: K,
+    gate: G,
+    listener: &mut Li,
+    sessions: u32,
+) -> Result<Outcome, AllocError>
+    requires { K.kept keep ≡ None }
+{
+    let settings = Settings::standard();
+    let opened = open(alloc, &settings, keep, CommitList::new(alloc))?;
+    serve_over::<_, _, _, Brand, _>(rt, alloc, opened, &settings, gate, listener, sessions)
+}
+
+/// The same over a store in memory.
 fn serve_listener<Li: Listener, G: Gate + Drop + Send + Sync, R: Threads + Wait + Sync>(
     rt: &R,
     alloc: Global,
@@ -75,9 +93,7 @@ fn serve_listener<Li: Listener, G: Gate + Drop + Send + Sync, R: Threads + Wait 
     listener: &mut Li,
     sessions: u32,
 ) -> Result<Outcome, AllocError> {
-    let settings = Settings::standard();
-    let opened = open(alloc, &settings, MemKeep, CommitList::new(alloc))?;
-    serve_over::<_, _, Brand, _>(rt, alloc, opened, &settings, gate, listener, sessions)
+    serve_kept(rt, alloc, MemKeep, gate, listener, sessions)
 }
 
 /// A link that gives these bytes, and whose calls with these numbers fail.
@@ -281,4 +297,51 @@ fn two_shards(rt: HostRuntime) -> Result<(), Fail> {
 #[test]
 fn the_status_without_a_client_is_thirteen(rt: HostRuntime) {
     assert_eq!(rt; NO_CLIENT, 13);
+}
+
+/// A keeper whose disk denies each commit.
+#[derive(Drop)]
+struct Denying {
+    faults: Count,
+}
+
+impl Keep for Denying {
+    ghost use Rattle.std.specs.Prelude.{None, true, []};
+
+    ghost kept = { λ _. None };
+
+    ghost keep_faults = { λ keeper. keeper.faults };
+
+    ghost may_fail = { true };
+
+    ghost bytes_of = { λ _. [] };
+
+    fn make(&self, alloc: Global, _commit: &Commit) -> Result<Text, AllocError> {
+        Ok(Text::new(alloc))
+    }
+
+    fn keep(&mut self, _bytes: &Text) -> Result<(), KeepFault> {
+        self.faults.add_one();
+        Err(KeepFault)
+    }
+
+    fn keep_faults(&self) -> u64 {
+        self.faults.get()
+    }
+}
+
+/// A commit that the disk denies is answered as such, and the session goes on.
+#[test]
+fn sessions_go_on_where_the_disk_denies_a_commit(rt: HostRuntime) -> Result<(), Fail> {
+    let alloc = rt.alloc();
+    let text = b"do counter(\"x\").add(1);\nlook emit counter(\"x\").get();\nquit\n";
+    let mut listener = MemListener::new(alloc, links(alloc, &[text])?);
+    let keep = Denying {
+        faults: Count::new(),
+    };
+    let outcome = serve_kept(&rt, alloc, keep, Open, &mut listener, 1)?;
+    assert_eq!(rt; outcome, whole(1, 0, 0));
+    assert!(rt; gave_back(&listener, &[WHOLE]));
+    assert!(rt; took(&listener, 0, b"disk\nat 0 ok 0\ndropped\n"));
+    Ok(())
 }

@@ -7,7 +7,7 @@ use crate::ended::{Ended, serve};
 use diamond_store::{Gate, JoinError, Pass, Store};
 use dio_core::{End, Sink, Source};
 use history_lock::Naming;
-use journal_core::MemKeep;
+use journal_core::Keep;
 use std::alloc::Global;
 use std::marker::Model;
 use std::snapshot::Snapshot;
@@ -16,12 +16,12 @@ use std::thread::{Promise, PromisedHandle, Scope, Threads};
 
 /// What a thread promises: to serve the session of this pass over this link.
 #[derive(Drop)]
-struct Serving<L, N: Naming> {
+struct Serving<L, K: Keep, N: Naming> {
     link: Snapshot<L>,
-    pass: Snapshot<Pass<MemKeep, N>>,
+    pass: Snapshot<Pass<K, N>>,
 }
 
-impl<L: Source + Sink, N: Naming> Promise<(L, Pass<MemKeep, N>, u8)> for Serving<L, N> {
+impl<L: Source + Sink, K: Keep, N: Naming> Promise<(L, Pass<K, N>, u8)> for Serving<L, K, N> {
     ghost use Rattle.std.specs.Prelude.{Ok};
     ghost use Rattle.diamond_server.specs.Accounts.{IsTold};
     ghost use Rattle.diamond_server.specs.Promises.{sides};
@@ -32,21 +32,21 @@ impl<L: Source + Sink, N: Naming> Promise<(L, Pass<MemKeep, N>, u8)> for Serving
 
 /// A session in a thread.
 #[derive(Drop)]
-struct Running<L: Source + Sink, N: Naming> {
+struct Running<L: Source + Sink, K: Keep, N: Naming> {
     was: Snapshot<L>,
-    had: Snapshot<Pass<MemKeep, N>>,
-    handle: PromisedHandle<(L, Pass<MemKeep, N>, u8), Serving<L, N>>,
+    had: Snapshot<Pass<K, N>>,
+    handle: PromisedHandle<(L, Pass<K, N>, u8), Serving<L, K, N>>,
     ghost link: { handle.promise.link.value ≡ was.value },
     ghost pass: { handle.promise.pass.value ≡ had.value },
 }
 
 /// The pass of a client as it joined.
 #[derive(Drop)]
-struct Joined<N: Naming> {
-    pass: Snapshot<Pass<MemKeep, N>>,
+struct Joined<K: Keep, N: Naming> {
+    pass: Snapshot<Pass<K, N>>,
 }
 
-impl<N: Naming> Model for Joined<N> {
+impl<K: Keep, N: Naming> Model for Joined<K, N> {
     ghost use Rattle.std.specs.Coded.{codes};
     ghost use Rattle.txn_lang.specs.contracts.commit.Commit as commit;
     ghost use Rattle.rdt_types.specs.contracts.address.Address as address;
@@ -63,13 +63,13 @@ impl<N: Naming> Model for Joined<N> {
 
 /// A session that was begun. Contracts see the link as it was accepted, and the pass of its client, or why none joined.
 #[derive(Drop)]
-pub(crate) struct Begun<L: Source + Sink, N: Naming> {
+pub(crate) struct Begun<L: Source + Sink, K: Keep, N: Naming> {
     was: Snapshot<L>,
-    joined: Result<Joined<N>, JoinError>,
-    run: Result<Running<L, N>, Ended<L, N>>,
+    joined: Result<Joined<K, N>, JoinError>,
+    run: Result<Running<L, K, N>, Ended<L, K, N>>,
 }
 
-impl<L: Source + Sink, N: Naming> Model for Begun<L, N> {
+impl<L: Source + Sink, K: Keep, N: Naming> Model for Begun<L, K, N> {
     ghost use Rattle.std.specs.Prelude.{◌≡◌, Ok, MatchResult};
     ghost use Rattle.std.specs.Coded.{codes};
     ghost use Rattle.txn_lang.specs.contracts.commit.Commit as commit;
@@ -93,6 +93,7 @@ pub(crate) fn begin<
     's,
     'e: 's,
     L: End + Send + Drop + 'e,
+    K: Keep + Send + 'e,
     G: Gate + Drop + Send + Sync,
     N: Naming + Send + Sync + 'e,
     R: Threads + Wait + Sync,
@@ -100,10 +101,10 @@ pub(crate) fn begin<
     scope: &'s Scope<'s, &'e ()>,
     rt: &'e R,
     alloc: Global,
-    store: &'e Store<MemKeep, G, N>,
+    store: &'e Store<K, G, N>,
     link: L,
-    pass: Pass<MemKeep, N>,
-) -> Begun<L, N>
+    pass: Pass<K, N>,
+) -> Begun<L, K, N>
     requires newcomer { IsNewcomer pass }
     ensures { result ≡ seat link (Ok pass) }
 {
@@ -124,9 +125,9 @@ pub(crate) fn begin<
     }
 }
 
-impl<L: End + Drop, N: Naming> Begun<L, N> {
+impl<L: End + Drop, K: Keep, N: Naming> Begun<L, K, N> {
     /// The session of a link that isn't read, since no client joined for it.
-    pub(crate) fn unread(link: L, error: JoinError) -> Begun<L, N>
+    pub(crate) fn unread(link: L, error: JoinError) -> Begun<L, K, N>
         ensures { result ≡ seat link (Err error) }
     {
         Begun {
@@ -137,7 +138,7 @@ impl<L: End + Drop, N: Naming> Begun<L, N> {
     }
 
     /// The session once it has ended.
-    pub(crate) fn join<R: Threads>(self, rt: &R) -> Ended<L, N>
+    pub(crate) fn join<R: Threads>(self, rt: &R) -> Ended<L, K, N>
         ensures { seat_of result ≡ self }
     {
         let Begun { run, .. } = self;

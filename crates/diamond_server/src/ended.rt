@@ -12,7 +12,7 @@ use crate::status::unread_status;
 use diamond_store::{Gate, JoinError, Pass, Served, Store};
 use dio_core::{End, Sink, Source};
 use history_lock::Naming;
-use journal_core::MemKeep;
+use journal_core::Keep;
 use std::alloc::Global;
 use std::marker::Model;
 use std::snapshot::Snapshot;
@@ -20,12 +20,12 @@ use std::sync::Wait;
 
 /// A client's pass as it joined, and as its session left it.
 #[derive(Drop)]
-pub(crate) struct Talk<N: Naming> {
-    had: Snapshot<Pass<MemKeep, N>>,
-    pass: Pass<MemKeep, N>,
+pub(crate) struct Talk<K: Keep, N: Naming> {
+    had: Snapshot<Pass<K, N>>,
+    pass: Pass<K, N>,
 }
 
-impl<N: Naming> Model for Talk<N> {
+impl<K: Keep, N: Naming> Model for Talk<K, N> {
     ghost use Rattle.std.specs.Coded.{codes};
     ghost use Rattle.txn_lang.specs.contracts.commit.Commit as commit;
     ghost use Rattle.rdt_types.specs.contracts.address.Address as address;
@@ -43,14 +43,14 @@ impl<N: Naming> Model for Talk<N> {
 /// A link that is done with, its status, and the pass of its client, or why none joined. Contracts see it as an `Account`, and its
 /// invariant is what is told of the link.
 #[derive(Drop)]
-pub(crate) struct Ended<L: Source + Sink, N: Naming> {
+pub(crate) struct Ended<L: Source + Sink, K: Keep, N: Naming> {
     was: Snapshot<L>,
     link: L,
     status: u8,
-    talk: Result<Talk<N>, JoinError>,
+    talk: Result<Talk<K, N>, JoinError>,
 }
 
-impl<L: Source + Sink, N: Naming> Model for Ended<L, N> {
+impl<L: Source + Sink, K: Keep, N: Naming> Model for Ended<L, K, N> {
     ghost use Rattle.std.specs.Coded.{codes};
     ghost use Rattle.txn_lang.specs.contracts.commit.Commit as commit;
     ghost use Rattle.rdt_types.specs.contracts.address.Address as address;
@@ -69,13 +69,13 @@ impl<L: Source + Sink, N: Naming> Model for Ended<L, N> {
 }
 
 /// Serves the session of a new client over a link, and ends the link.
-pub(crate) fn serve<L: End, G: Gate + Drop, N: Naming, R: Wait>(
+pub(crate) fn serve<L: End, K: Keep, G: Gate + Drop, N: Naming, R: Wait>(
     rt: &R,
     alloc: Global,
-    store: &Store<MemKeep, G, N>,
+    store: &Store<K, G, N>,
     mut link: L,
-    pass: Pass<MemKeep, N>,
-) -> (L, Pass<MemKeep, N>, u8)
+    pass: Pass<K, N>,
+) -> (L, Pass<K, N>, u8)
     requires newcomer { IsNewcomer pass }
     ensures told { IsTold (λ p. p) (sides L.left L.read_faults L.taken L.passed L.write_faults link)
         (sides L.left L.read_faults L.taken L.passed L.write_faults result.0) result.2 (Ok (pass, result.1)) }
@@ -89,13 +89,13 @@ pub(crate) fn serve<L: End, G: Gate + Drop, N: Naming, R: Wait>(
     (link, pass, status)
 }
 
-impl<L: End, N: Naming> Ended<L, N> {
+impl<L: End, K: Keep, N: Naming> Ended<L, K, N> {
     /// A link that was served so.
     pub(crate) fn served(
         was: Snapshot<L>,
-        had: Snapshot<Pass<MemKeep, N>>,
-        done: (L, Pass<MemKeep, N>, u8),
-    ) -> Ended<L, N>
+        had: Snapshot<Pass<K, N>>,
+        done: (L, Pass<K, N>, u8),
+    ) -> Ended<L, K, N>
         requires told { IsTold (λ p. p) (sides L.left L.read_faults L.taken L.passed L.write_faults was.value)
             (sides L.left L.read_faults L.taken L.passed L.write_faults done.0) done.2 (Ok (had.value, done.1)) }
         ensures seat { seat_of result ≡ seat was.value (Ok had.value) }
@@ -110,7 +110,7 @@ impl<L: End, N: Naming> Ended<L, N> {
     }
 
     /// A link that isn't read, since no client joined for it. It is ended.
-    pub(crate) fn unread(mut link: L, error: JoinError) -> Ended<L, N>
+    pub(crate) fn unread(mut link: L, error: JoinError) -> Ended<L, K, N>
         ensures seat { seat_of result ≡ seat link (Err error) }
     {
         let was = Snapshot::of(&link);
@@ -124,11 +124,7 @@ impl<L: End, N: Naming> Ended<L, N> {
     }
 
     /// The pass learns what the client knows.
-    pub(crate) fn lend<G: Gate + Drop>(
-        &mut self,
-        store: &Store<MemKeep, G, N>,
-        pass: &mut Pass<MemKeep, N>,
-    )
+    pub(crate) fn lend<G: Gate + Drop>(&mut self, store: &Store<K, G, N>, pass: &mut Pass<K, N>)
         ensures same { self.new ≡ self.old }
         ensures learns { Learns pass.old pass.new }
         ensures near { IsNear pass.new self.new }
@@ -144,8 +140,8 @@ impl<L: End, N: Naming> Ended<L, N> {
     pub(crate) fn settled<G: Gate + Drop, R: Wait>(
         self,
         rt: &R,
-        store: &Store<MemKeep, G, N>,
-        pass: &mut Pass<MemKeep, N>,
+        store: &Store<K, G, N>,
+        pass: &mut Pass<K, N>,
     ) -> (L, u8)
         requires near { IsNear pass.old self }
         ensures same { pass.new ≡ pass.old }
@@ -164,11 +160,11 @@ impl<L: End, N: Naming> Ended<L, N> {
 }
 
 /// The client, if one joined, meets what the pass knows, and leaves.
-fn settle<G: Gate + Drop, N: Naming, R: Wait>(
+fn settle<K: Keep, G: Gate + Drop, N: Naming, R: Wait>(
     rt: &R,
-    talk: Result<Talk<N>, JoinError>,
-    store: &Store<MemKeep, G, N>,
-    pass: &mut Pass<MemKeep, N>,
+    talk: Result<Talk<K, N>, JoinError>,
+    store: &Store<K, G, N>,
+    pass: &mut Pass<K, N>,
 )
     requires near { IsNearTalk pass.old talk }
     ensures same { pass.new ≡ pass.old }
@@ -179,14 +175,9 @@ fn settle<G: Gate + Drop, N: Naming, R: Wait>(
     }
 }
 
-impl<N: Naming> Talk<N> {
+impl<K: Keep, N: Naming> Talk<K, N> {
     /// The client meets what the pass knows, and leaves.
-    fn settle<G: Gate + Drop, R: Wait>(
-        self,
-        rt: &R,
-        store: &Store<MemKeep, G, N>,
-        pass: &mut Pass<MemKeep, N>,
-    )
+    fn settle<G: Gate + Drop, R: Wait>(self, rt: &R, store: &Store<K, G, N>, pass: &mut Pass<K, N>)
         requires near { IsNearTalk pass.old (Ok self) }
         ensures same { pass.new ≡ pass.old }
         ensures told { (x y : Both) (status : ℕ) → IsTold (λ p. p) x y status (Ok self) → IsTold (having_met pass.old) x y status (Ok self) }

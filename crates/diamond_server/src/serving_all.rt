@@ -12,7 +12,7 @@ use crate::ended::Ended;
 use diamond_store::{Gate, Pass, Store};
 use dio_core::{Accepted, End, Listener};
 use history_lock::Naming;
-use journal_core::MemKeep;
+use journal_core::Keep;
 use script_runner::WHOLE;
 use std::alloc::{AllocError, Global};
 use std::sync::Wait;
@@ -38,6 +38,7 @@ pub struct Tally {
 /// An error says that there was no memory for the list of sessions, or to give a link back. The sessions have ended then, too.
 pub fn serve_all<
     Li: Listener,
+    K: Keep + Send,
     G: Gate + Drop + Send + Sync,
     N: Naming + Send + Sync,
     R: Threads + Wait + Sync,
@@ -45,8 +46,8 @@ pub fn serve_all<
     rt: &R,
     alloc: Global,
     listener: &mut Li,
-    store: &Store<MemKeep, G, N>,
-    pass: &mut Pass<MemKeep, N>,
+    store: &Store<K, G, N>,
+    pass: &mut Pass<K, N>,
     sessions: u32,
 ) -> Result<Tally, AllocError>
     requires trusted { pass.old.trusted ≡ 0 }
@@ -70,6 +71,7 @@ pub fn serve_all<
 /// through those that it only borrows isn't known.
 fn run_scoped<
     Li: Listener,
+    K: Keep + Send,
     G: Gate + Drop + Send + Sync,
     N: Naming + Send + Sync,
     R: Threads + Wait + Sync,
@@ -77,10 +79,10 @@ fn run_scoped<
     rt: &R,
     alloc: Global,
     listener: &mut Li,
-    store: &Store<MemKeep, G, N>,
-    pass: &mut Pass<MemKeep, N>,
+    store: &Store<K, G, N>,
+    pass: &mut Pass<K, N>,
     sessions: u32,
-) -> Result<(Vec<Ended<Li::Link, N>>, bool), AllocError>
+) -> Result<(Vec<Ended<Li::Link, K, N>>, bool), AllocError>
     requires trusted { pass.old.trusted ≡ 0 }
     ensures learns { Learns pass.old pass.new }
     ensures given { Li.given_back listener.new ≡ Li.given_back listener.old }
@@ -114,6 +116,7 @@ fn run_all<
     's,
     'e: 's,
     Li: Listener + 'e,
+    K: Keep + Send + 'e,
     G: Gate + Drop + Send + Sync,
     N: Naming + Send + Sync + 'e,
     R: Threads + Wait + Sync,
@@ -122,10 +125,10 @@ fn run_all<
     rt: &'e R,
     alloc: Global,
     listener: &mut Li,
-    store: &'e Store<MemKeep, G, N>,
-    pass: &mut Pass<MemKeep, N>,
+    store: &'e Store<K, G, N>,
+    pass: &mut Pass<K, N>,
     sessions: u32,
-) -> Result<(Vec<Ended<Li::Link, N>>, bool), AllocError>
+) -> Result<(Vec<Ended<Li::Link, K, N>>, bool), AllocError>
     requires trusted { pass.old.trusted ≡ 0 }
     ensures learns { Learns pass.old pass.new }
     ensures given { Li.given_back listener.new ≡ Li.given_back listener.old }
@@ -142,6 +145,7 @@ fn accept_all<
     's,
     'e: 's,
     Li: Listener + 'e,
+    K: Keep + Send + 'e,
     G: Gate + Drop + Send + Sync,
     N: Naming + Send + Sync + 'e,
     R: Threads + Wait + Sync,
@@ -150,10 +154,10 @@ fn accept_all<
     rt: &'e R,
     alloc: Global,
     listener: &mut Li,
-    store: &'e Store<MemKeep, G, N>,
-    pass: &mut Pass<MemKeep, N>,
+    store: &'e Store<K, G, N>,
+    pass: &mut Pass<K, N>,
     sessions: u32,
-) -> Result<(Vec<Begun<Li::Link, N>>, bool), AllocError>
+) -> Result<(Vec<Begun<Li::Link, K, N>>, bool), AllocError>
     requires trusted { pass.old.trusted ≡ 0 }
     ensures learns { Learns pass.old pass.new }
     ensures given { Li.given_back listener.new ≡ Li.given_back listener.old }
@@ -180,6 +184,7 @@ fn begin_next<
     's,
     'e: 's,
     L: End + Send + Drop + 'e,
+    K: Keep + Send + 'e,
     G: Gate + Drop + Send + Sync,
     N: Naming + Send + Sync + 'e,
     R: Threads + Wait + Sync,
@@ -187,10 +192,10 @@ fn begin_next<
     scope: &'s Scope<'s, &'e ()>,
     rt: &'e R,
     alloc: Global,
-    store: &'e Store<MemKeep, G, N>,
-    pass: &mut Pass<MemKeep, N>,
+    store: &'e Store<K, G, N>,
+    pass: &mut Pass<K, N>,
     link: L,
-) -> Begun<L, N>
+) -> Begun<L, K, N>
     requires trusted { pass.old.trusted ≡ 0 }
     ensures learns { Learns pass.old pass.new }
     ensures link { link_in result ≡ link }
@@ -203,13 +208,13 @@ fn begin_next<
 }
 
 /// Joins each session, and the pass learns what its client knows.
-fn join_all<L: End + Drop, G: Gate + Drop, N: Naming, R: Threads>(
+fn join_all<L: End + Drop, K: Keep, G: Gate + Drop, N: Naming, R: Threads>(
     rt: &R,
     alloc: Global,
-    store: &Store<MemKeep, G, N>,
-    pass: &mut Pass<MemKeep, N>,
-    begun: Vec<Begun<L, N>>,
-) -> Result<Vec<Ended<L, N>>, AllocError>
+    store: &Store<K, G, N>,
+    pass: &mut Pass<K, N>,
+    begun: Vec<Begun<L, K, N>>,
+) -> Result<Vec<Ended<L, K, N>>, AllocError>
     ensures learns { Learns pass.old pass.new }
     ensures seats { IfOk result (λ ended. map seat_of ended.items ≡ begun.items) }
     ensures near { IfOk result (λ ended. All (IsNear pass.new) ended.items) }
@@ -225,12 +230,12 @@ fn join_all<L: End + Drop, G: Gate + Drop, N: Naming, R: Threads>(
 }
 
 /// Each client meets what the pass knows and leaves, and its link is given back. It answers how many statuses aren't 0.
-fn give_all<Li: Listener, G: Gate + Drop, N: Naming, R: Wait>(
+fn give_all<Li: Listener, K: Keep, G: Gate + Drop, N: Naming, R: Wait>(
     rt: &R,
     listener: &mut Li,
-    store: &Store<MemKeep, G, N>,
-    pass: &mut Pass<MemKeep, N>,
-    all: Vec<Ended<Li::Link, N>>,
+    store: &Store<K, G, N>,
+    pass: &mut Pass<K, N>,
+    all: Vec<Ended<Li::Link, K, N>>,
 ) -> Result<u32, AllocError>
     requires few { length all.items < 2 ^ 32 }
     requires near { All (IsNear pass.old) all.items }

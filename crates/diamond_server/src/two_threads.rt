@@ -6,6 +6,7 @@ ghost use Rattle.diamond_store.specs.Numbers.{HasSettings};
 use crate::meeting::Founder;
 use crate::talker::{Newcomer, Talker, TestPass, TestStore};
 use diamond_store::{Book, Open, open};
+use docc_prepare::StoreError;
 use history_lock::{Naming, Opened};
 use journal_core::MemKeep;
 use plain_data::Text;
@@ -163,5 +164,62 @@ fn what_two_threads_raise_counts_their_commits(rt: HostRuntime) -> Result<(), Fa
     assert!(rt; commits >= 100);
     let expected = raised(rt.alloc(), commits)?;
     assert!(rt; done.seen.as_slice() == expected.as_bytes());
+    Ok(())
+}
+
+/// A client that has seen nothing waits for a commit. It answers how many there are then.
+fn awaited<N: Naming, R: Wait>(
+    rt: &R,
+    store: &TestStore<N>,
+    newcomer: Newcomer<N>,
+) -> Result<u64, StoreError> {
+    let mut pass = newcomer.into_pass();
+    store.wait(rt, &mut pass)?;
+    Ok(store.length(&mut pass))
+}
+
+/// One client waits, while another says a line once.
+fn wait_and_work<N: Naming + Send + Sync, R: Threads + Wait + Abort + Sync>(
+    rt: &R,
+    alloc: Global,
+    store: &TestStore<N>,
+    mut first: Founder<N>,
+    line: &[u8],
+) {
+    let waiter = first.joined(rt, store);
+    let writer = first.joined(rt, store);
+    let (waited, (_pass, tally)) = join(
+        rt,
+        || awaited(rt, store, waiter),
+        || work(rt, alloc, store, writer, line, 1),
+    );
+    assert!(rt; tally.is_ok_and(|tally| tally.commits == 1));
+    assert!(rt; waited.is_ok_and(|length| length == 1));
+}
+
+/// The same on a store of its own.
+fn wait_on_its_own<N: Naming + Send + Sync, R: Threads + Wait + Abort + Sync>(
+    rt: &R,
+    alloc: Global,
+    opened: Opened<Book<MemKeep>>,
+    settings: &Settings,
+    line: &[u8],
+) -> Result<(), AllocError>
+    requires lock { opened.lock ≡ N.lock }
+    requires settings { HasSettings opened.lock.origin settings.now }
+    requires author { opened.front.author ≡ None }
+    requires empty { opened.lock.base ≡ 0 }
+{
+    let (store, first) = TestStore::<N>::new(alloc, settings, opened, Open)?;
+    wait_and_work(rt, alloc, &store, Founder::new(first), line);
+    Ok(())
+}
+
+#[test]
+fn who_waits_returns_once_another_has_committed(rt: HostRuntime) -> Result<(), Fail> {
+    let settings = Settings::standard();
+    let opened = open(rt.alloc(), &settings, MemKeep, CommitList::new(rt.alloc()))?;
+    let line = b"do counter(\"x\").add(1);";
+    wait_on_its_own::<Brand, _>(&rt, rt.alloc(), opened, &settings, line)?;
     Ok(())
 }

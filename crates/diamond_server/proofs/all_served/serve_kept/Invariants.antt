@@ -1,4 +1,4 @@
-use Rattle.diamond_server.proofs.all_served.serve_listener.Given as goal
+use Rattle.diamond_server.proofs.all_served.serve_kept.Given as goal
 
 -- the lock that was just opened
 abbrev pub ghosts-serve_over : goal.ghosts-serve_over
