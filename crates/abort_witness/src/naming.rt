@@ -9,16 +9,9 @@ ghost use Rattle.abort_witness.specs.Naming.{Names};
 use crate::witness::{Based, Witness};
 use change_feed::Change;
 use conflict_table::{copy_part, part};
-use plain_data::ExactClone;
+use plain_data::copied;
 use rdt_types::Delta;
 use std::alloc::AllocError;
-
-/// A copy, which equals its original.
-pub(crate) fn copied<T: ExactClone>(original: &T) -> Result<T, AllocError>
-    ensures { IfOk result (λ copy. copy ≡ original.now) }
-{
-    original.clone()
-}
 
 /// Why a commit is refused: the observation with its base, and the part of the change that it clashes with.
 pub fn name(based: &Based, change: &Change) -> Result<Witness, AllocError>

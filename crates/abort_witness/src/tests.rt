@@ -3,11 +3,10 @@
 
 ghost use Rattle.std.specs.Prelude.{◌≡◌};
 
-use crate::naming::copied;
 use crate::{Based, BasedList, Found, Witness, name};
 use change_feed::Change;
 use conflict_table::{Obs, Steps, clash};
-use plain_data::Text;
+use plain_data::{Text, copied};
 use rdt_types::{Address, Kind, WriteOp, delta_of};
 use std::alloc::{AllocError, Global};
 use std::marker::Brand;

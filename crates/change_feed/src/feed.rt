@@ -3,7 +3,7 @@
 ghost use Rattle.std.specs.Prelude.{◌≡◌, OnOk, OnErr, IfOk};
 ghost use Rattle.change_feed.specs.Feeds as spec;
 
-use plain_data::{ExactClone, OrderedMap};
+use plain_data::{OrderedMap, copied};
 use rdt_types::{Address, Delta, DeltaMap, add_delta};
 use std::alloc::{AllocError, Global};
 use std::marker::Model;
@@ -26,13 +26,6 @@ impl Model for Feed {
     ghost coded = { fed_code address.the_row.coded delta.the_row.coded };
 
     ghost view = { λ f. record { to = f.to; changes = f.changes } };
-}
-
-/// A copy, which equals its original.
-fn copied<T: ExactClone>(original: &T) -> Result<T, AllocError>
-    ensures { IfOk result (λ copy. copy ≡ original.now) }
-{
-    original.clone()
 }
 
 /// Deltas and then others, each after what stands at its address.

@@ -8,12 +8,11 @@ ghost use Rattle.client_watches.specs.Phases.{Goal};
 ghost use Rattle.client_watches.specs.Keeping.{Keeps};
 ghost use Rattle.client_watches.specs.Leading.{Reruns, Catches};
 
-use crate::copies::copied;
 use crate::error::WatchError;
 use crate::fetching::fetch;
 use crate::watching::{AddressList, ReplyList, Watching};
 use docc_prepare::Backend;
-use plain_data::Text;
+use plain_data::{Text, copied};
 use rerun_driver::{Driver, Rerun};
 use session_text::Reply;
 use std::alloc::AllocError;

@@ -7,10 +7,10 @@ ghost use Rattle.client_watches.specs.Watching.{KeepsFree};
 ghost use Rattle.client_watches.specs.Keeping.{Keeps};
 ghost use Rattle.client_watches.specs.Leading.{Takes, Fetches, IsLateBy};
 
-use crate::copies::copied;
 use crate::error::WatchError;
 use crate::watching::Watching;
 use docc_prepare::{Backend, ReadAtError};
+use plain_data::copied;
 use rdt_types::Address;
 use session_text::Reply;
 

@@ -8,7 +8,6 @@
 #![tactic(auto)]
 
 mod catching;
-mod copies;
 mod dropping;
 mod error;
 mod fetching;

@@ -11,12 +11,11 @@ ghost use Rattle.client_watches.specs.Phases.{ending};
 ghost use Rattle.client_watches.specs.Keeping.{Keeps};
 ghost use Rattle.client_watches.specs.Leading.{Continues, Runs};
 
-use crate::copies::copied;
 use crate::error::WatchError;
 use crate::fetching::fetch;
 use crate::watching::{ReplyList, Watching};
 use docc_prepare::Backend;
-use plain_data::Text;
+use plain_data::{Text, copied};
 use rerun_driver::run_on;
 use session_text::Reply;
 use std::alloc::{AllocError, Global};

@@ -9,7 +9,7 @@ ghost use Rattle.change_feed.specs.Feeds.{with_changes};
 ghost use Rattle.diamond_store.specs.Passes.{is_in};
 
 use change_feed::{Feed, Tail};
-use plain_data::ExactClone;
+use plain_data::copied;
 use rdt_types::Address;
 use std::alloc::{AllocError, Global};
 use std::collections::BTreeSet;
@@ -42,13 +42,6 @@ pub(crate) fn is_within(feed: &Feed, addresses: &BTreeSet<Address>) -> bool
         }
     }
     true
-}
-
-/// A copy, which equals its original.
-fn copied<T: ExactClone>(original: &T) -> Result<T, AllocError>
-    ensures { IfOk result (λ copy. copy ≡ original.now) }
-{
-    original.clone()
 }
 
 /// An address is told.

@@ -5,17 +5,10 @@ ghost use Rattle.rdt_types.specs.declared.limits.TheConstants.{LEAST_SHARDS, MOS
 ghost use Rattle.docc_prepare.specs.Attempts as spec;
 
 use abort_witness::{Based, BasedList};
-use plain_data::ExactClone;
+use plain_data::copied;
 use rdt_types::{Address, shard_of};
 use std::alloc::{AllocError, Global};
 use txn_lang::{Seen, Snaps};
-
-/// A copy, which equals its original.
-fn copied<T: ExactClone>(original: &T) -> Result<T, AllocError>
-    ensures { IfOk result (λ copy. copy ≡ original.now) }
-{
-    original.clone()
-}
 
 /// The front at which an address was read.
 fn base_at(snaps: &Snaps, address: &Address) -> u64

@@ -5,17 +5,10 @@ ghost use Rattle.rdt_types.specs.DeltaMaps.{Deltas};
 ghost use Rattle.journal_core.specs.Changes as spec;
 
 use change_feed::{Change, ChangeList};
-use plain_data::ExactClone;
+use plain_data::copied;
 use rdt_types::{Address, Delta};
 use std::alloc::{AllocError, Global};
 use txn_lang::Commit;
-
-/// A copy, which equals its original.
-pub(crate) fn copied<T: ExactClone>(original: &T) -> Result<T, AllocError>
-    ensures { IfOk result (λ copy. copy ≡ original.now) }
-{
-    original.clone()
-}
 
 /// Copies of the changes at an address.
 pub(crate) fn copies_of_address(

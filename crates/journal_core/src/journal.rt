@@ -14,7 +14,7 @@ ghost use Rattle.journal_core.specs.Journals as journals;
 ghost use Rattle.journal_core.specs.Journals.{CanAppend, Decides, IsSlot, IfDiskFault};
 
 use crate::appended::Appended;
-use crate::copying::{changes_by, copied};
+use crate::copying::changes_by;
 use crate::keep::Keep;
 use crate::log::Log;
 use crate::naming::witness_of;
@@ -24,6 +24,7 @@ use crate::tails::{tail_of_address, tail_of_all, tail_of_shard};
 use abort_witness::{Found, Witness};
 use change_feed::Tail;
 use conflict_table::Steps;
+use plain_data::copied;
 use rdt_types::{Address, Settings};
 use std::alloc::{AllocError, Global};
 use std::marker::Model;

@@ -14,7 +14,7 @@ mod sequence;
 mod text_map;
 
 pub use boxed::Boxed;
-pub use copies::ExactClone;
+pub use copies::{ExactClone, copied};
 pub use or_no_memory::OrNoMemory;
 pub use ordered_map::OrderedMap;
 pub use overlay::Marking;

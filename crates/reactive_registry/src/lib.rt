@@ -6,7 +6,6 @@
 //! stands for the journal's changes).
 #![tactic(auto)]
 
-mod copies;
 mod laws;
 mod maps;
 mod places;

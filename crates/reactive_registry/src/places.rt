@@ -8,7 +8,7 @@ ghost use Rattle.rdt_types.specs.declared.address.Address.{Address};
 ghost use Rattle.rdt_types.specs.Addresses.{address_cmp};
 ghost use Rattle.reactive_registry.specs.Places.{links};
 
-use crate::copies::copied;
+use plain_data::copied;
 use rdt_types::Address;
 use std::alloc::{AllocError, Global};
 use std::collections::{BTreeMap, BTreeSet};

@@ -9,8 +9,8 @@ ghost use Rattle.rdt_types.specs.DeltaMaps.{delta_at};
 ghost use Rattle.change_feed.specs.Pending.{pending};
 ghost use Rattle.reactive_registry.specs.Registered.{is_address, pending_for, entered, emptied, unsubscribed, changes_at, changes_elsewhere};
 
-use crate::copies::copied;
 use change_feed::{Change, Feed};
+use plain_data::copied;
 use rdt_types::Address;
 use std::alloc::{AllocError, Global};
 use std::collections::BTreeSet;

@@ -9,7 +9,7 @@ ghost use Rattle.rerun_driver.specs.code.Numbers.{with_number, without_number};
 ghost use Rattle.rerun_driver.specs.code.Places.{numbers_at};
 
 use crate::numbers::Numbers;
-use crate::rerun::copied;
+use plain_data::copied;
 use rdt_types::Address;
 use std::alloc::{AllocError, Global};
 use std::collections::BTreeMap;

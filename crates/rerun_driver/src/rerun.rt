@@ -9,7 +9,7 @@ ghost use Rattle.txn_eval.specs.Running.{ran_of};
 ghost use Rattle.rerun_driver.specs.Watches.{rerun_of};
 
 use client_cache::Cache;
-use plain_data::{ExactClone, Text};
+use plain_data::{Text, copied};
 use rdt_types::{Address, Value};
 use std::alloc::{AllocError, Global};
 use txn_eval::{Step, run};
@@ -27,13 +27,6 @@ pub enum Rerun {
     Ran(Text, Run),
     /// No watch is stale.
     NoneLeft,
-}
-
-/// A copy, which equals its original.
-pub(crate) fn copied<T: ExactClone>(original: &T) -> Result<T, AllocError>
-    ensures { IfOk result (λ copy. copy ≡ original.now) }
-{
-    original.clone()
 }
 
 /// Takes a copy of a value among those that a run rests on.

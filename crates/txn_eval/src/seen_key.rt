@@ -4,7 +4,7 @@ ghost use Rattle.std.specs.Prelude.{◌≡◌, IfOk};
 ghost use Rattle.txn_eval.specs.code.Found as spec;
 
 use conflict_table::Obs;
-use plain_data::{ExactClone, Text};
+use plain_data::{Text, copied};
 use rdt_types::{Address, Kind};
 use std::alloc::AllocError;
 use txn_lang::Seen;
@@ -26,13 +26,6 @@ pub(crate) struct SeenKey {
     pub address: Address,
     pub kind: Kind,
     pub part: Part,
-}
-
-/// A copy, which equals its original.
-fn copied<T: ExactClone>(original: &T) -> Result<T, AllocError>
-    ensures { IfOk result (λ copy. copy ≡ original.now) }
-{
-    original.clone()
 }
 
 /// Of what in a value an observation is.

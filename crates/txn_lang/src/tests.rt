@@ -45,5 +45,7 @@ fn bound_and_forgotten(rt: HostRuntime) -> Result<(), Fail> {
     assert!(&rt; matches!(type_of(&names, &used), Err(6)));
     names.bind(&name, Type::Text)?;
     assert!(&rt; matches!(type_of(&names, &used), Ok(Type::Text)));
+    names.forget_last()?;
+    assert!(&rt; matches!(type_of(&names, &used), Err(6)));
     Ok(())
 }

@@ -9,9 +9,9 @@ ghost use Rattle.version_shard.specs.Shards.{versions_of, AreKept, horizon_at};
 ghost use Rattle.version_shard.specs.code.Following.{followed, followed_along, cut_along, StopsAt, Reaches};
 ghost use Rattle.version_shard.specs.Versions.{up_to};
 
-use crate::copies::copied;
 use crate::versions::Versions;
 use change_feed::{Change, Tail};
+use plain_data::copied;
 use rdt_types::{Address, default_value};
 use std::alloc::{AllocError, Global};
 use std::collections::BTreeMap;

@@ -7,7 +7,6 @@
 #![tactic(auto)]
 
 mod at_error;
-mod copies;
 mod following;
 mod laws;
 mod prepared;

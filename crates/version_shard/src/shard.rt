@@ -13,13 +13,13 @@ ghost use Rattle.journal_core.specs.Changes.{changes};
 ghost use Rattle.journal_core.specs.Pairs.{most_steps};
 
 use crate::at_error::AtError;
-use crate::copies::copied;
 use crate::following::{Kept, horizon_of, reach};
 use crate::prepared::{Prepared, Refusal};
 use crate::validating::{late_base, least_hit, witness_of};
 use abort_witness::Based;
 use change_feed::Tail;
 use conflict_table::Steps;
+use plain_data::copied;
 use rdt_types::{Address, Settings, Value, default_value};
 use std::alloc::{AllocError, Global};
 use std::collections::BTreeMap;

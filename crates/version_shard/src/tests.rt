@@ -8,12 +8,11 @@ ghost use Rattle.rdt_types.specs.Deltas.{kind_changed};
 ghost use Rattle.change_feed.specs.Feeds.{AreOfTheirKinds};
 ghost use Rattle.version_shard.specs.Shards.{IsIn};
 
-use crate::copies::copied;
 use crate::{AtError, Prepared, Refusal, Shard};
 use abort_witness::Based;
 use change_feed::{Change, ChangeList, Tail};
 use conflict_table::{Obs, Steps};
-use plain_data::Text;
+use plain_data::{Text, copied};
 use rdt_types::{Address, Delta, Kind, Settings, Value, WriteOp, shard_of};
 use std::alloc::{AllocError, Global};
 use std::marker::Brand;

@@ -6,10 +6,10 @@ ghost use Rattle.std.specs.Option.{option_copied};
 ghost use Rattle.version_shard.specs.Versions as spec;
 ghost use Rattle.version_shard.specs.code.Clashing.{first_clashing};
 
-use crate::copies::copied;
 use crate::version::Version;
 use abort_witness::Based;
 use conflict_table::{Steps, clash};
+use plain_data::copied;
 use rdt_types::{Delta, Value, apply};
 use std::alloc::{AllocError, Global};
 use std::collections::VecDeque;
