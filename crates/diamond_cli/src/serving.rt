@@ -38,10 +38,7 @@ fn sound(bytes: &'static [u8]) -> Given {
 fn links(alloc: Global, given: &[Given]) -> Result<MemLinks, AllocError> {
     let mut all = MemLinks::new(alloc);
     for link in given {
-        all.push(MemLink {
-            source: MemSource::new(alloc, link.bytes, 7, link.read_fails)?,
-            sink: MemSink::new(alloc, 7, link.write_fails)?,
-        })?;
+        all.push(MemLink::new(alloc, link.bytes, 7, link.read_fails, link.write_fails)?)?;
     }
     Ok(all)
 }

@@ -1,12 +1,12 @@
 //! Tests of all sessions of a listener.
 
-ghost use Rattle.std.specs.Prelude.{◌≡◌, ◌<◌, None};
+ghost use Rattle.std.specs.Prelude.{◌≡◌, None};
 ghost use Rattle.diamond_store.specs.Numbers.{HasSettings};
 
 use crate::serving_all::{Tally, serve_all};
 use crate::status::NO_CLIENT;
 use diamond_store::{Book, Gate, Open, Store, open};
-use dio_core::{Count, FaultPlan, Listener, MemLink, MemLinks, MemListener, MemSink, MemSource};
+use dio_core::{Count, FaultPlan, Listener, MemLink, MemLinks, MemListener};
 use history_lock::{Naming, Opened};
 use journal_core::{Keep, KeepFault, MemKeep};
 use plain_data::Text;
@@ -96,24 +96,11 @@ fn serve_listener<Li: Listener, G: Gate + Drop + Send + Sync, R: Threads + Wait 
     serve_kept(rt, alloc, MemKeep, gate, listener, sessions)
 }
 
-/// A link that gives these bytes, and whose calls with these numbers fail.
-fn link(
-    alloc: Global,
-    bytes: &[u8],
-    read_fails: &[u64],
-    write_fails: &[u64],
-) -> Result<MemLink, AllocError> {
-    Ok(MemLink {
-        source: MemSource::new(alloc, bytes, 16, read_fails)?,
-        sink: MemSink::new(alloc, 16, write_fails)?,
-    })
-}
-
 /// Links that give these bytes, one after another.
 fn links(alloc: Global, texts: &[&[u8]]) -> Result<MemLinks, AllocError> {
     let mut all = MemLinks::new(alloc);
     for text in texts {
-        all.push(link(alloc, text, &[], &[])?)?;
+        all.push(MemLink::new(alloc, text, 16, &[], &[])?)?;
     }
     Ok(all)
 }
@@ -155,9 +142,9 @@ fn one_link_is_served_and_given_back(rt: HostRuntime) -> Result<(), Fail> {
 fn links_come_back_in_order_each_with_its_status(rt: HostRuntime) -> Result<(), Fail> {
     let alloc = rt.alloc();
     let mut all = links(alloc, &[b"seen\n"])?;
-    all.push(link(alloc, b"seen\n", &[0], &[])?)?;
-    all.push(link(alloc, b"do emit 1;\n", &[], &[0])?)?;
-    all.push(link(alloc, b"do emit 2;\nwai", &[], &[])?)?;
+    all.push(MemLink::new(alloc, b"seen\n", 16, &[0], &[])?)?;
+    all.push(MemLink::new(alloc, b"do emit 1;\n", 16, &[], &[0])?)?;
+    all.push(MemLink::new(alloc, b"do emit 2;\nwai", 16, &[], &[])?)?;
     let mut listener = MemListener::new(alloc, all);
     let outcome = serve_listener(&rt, alloc, Open, &mut listener, 4)?;
     assert_eq!(rt; outcome, whole(4, 2, 2));
@@ -223,7 +210,7 @@ fn sixty_four_sessions_are_served_at_once(rt: HostRuntime) -> Result<(), Fail> {
     }
     let mut all = MemLinks::new(alloc);
     for _ in 0..64 {
-        all.push(link(alloc, text.as_slice(), &[], &[])?)?;
+        all.push(MemLink::new(alloc, text.as_slice(), 16, &[], &[])?)?;
     }
     let mut listener = MemListener::new(alloc, all);
     let outcome = serve_listener(&rt, alloc, Open, &mut listener, 64)?;

@@ -1,6 +1,6 @@
 //! Tests of sessions over links in memory.
 
-ghost use Rattle.std.specs.Prelude.{◌≡◌, ◌<◌, None, []};
+ghost use Rattle.std.specs.Prelude.{◌≡◌, None, []};
 ghost use Rattle.txn_lang.specs.Journals.{own};
 ghost use Rattle.diamond_store.specs.Numbers.{HasSettings};
 
@@ -8,7 +8,7 @@ use crate::serving::serve_session;
 use crate::status::STORE_FAULT;
 use crate::talker::{TestPass, TestStore};
 use diamond_store::{Book, JoinError, Open, Served, open};
-use dio_core::{End, MemLink, MemSink, MemSource};
+use dio_core::{End, MemLink};
 use history_lock::{Naming, Opened};
 use journal_core::MemKeep;
 use rdt_types::Settings;
@@ -20,22 +20,6 @@ use std::sync::Wait;
 use std::test::*;
 use std::thread::{Threads, join};
 use txn_lang::CommitList;
-
-/// A link that gives these bytes in pieces, and whose calls with these numbers fail.
-fn link(
-    alloc: Global,
-    bytes: &[u8],
-    piece: usize,
-    read_fails: &[u64],
-    write_fails: &[u64],
-) -> Result<MemLink, AllocError>
-    requires { 0 < piece }
-{
-    Ok(MemLink {
-        source: MemSource::new(alloc, bytes, piece, read_fails)?,
-        sink: MemSink::new(alloc, piece, write_fails)?,
-    })
-}
 
 /// Serves a session of a new client.
 fn serve_new<K: End, N: Naming, R: Wait>(
@@ -83,7 +67,7 @@ const REPLIES: &[u8] = b"commit 1 ok 2\nseen 1\ndropped\n";
 
 #[test]
 fn a_session_is_answered_until_it_quits(rt: HostRuntime) -> Result<(), Fail> {
-    let mut link = link(rt.alloc(), LINES, 1000, &[], &[])?;
+    let mut link = MemLink::new(rt.alloc(), LINES, 1000, &[], &[])?;
     assert_eq!(rt; serve_alone(&rt, rt.alloc(), &mut link)?, WHOLE);
     assert!(rt; link.sink.taken() == REPLIES);
     assert!(rt; link.sink.passed() == REPLIES);
@@ -92,7 +76,7 @@ fn a_session_is_answered_until_it_quits(rt: HostRuntime) -> Result<(), Fail> {
 
 #[test]
 fn lines_may_come_in_pieces_of_one_byte(rt: HostRuntime) -> Result<(), Fail> {
-    let mut link = link(rt.alloc(), LINES, 1, &[], &[])?;
+    let mut link = MemLink::new(rt.alloc(), LINES, 1, &[], &[])?;
     assert_eq!(rt; serve_alone(&rt, rt.alloc(), &mut link)?, WHOLE);
     assert!(rt; link.sink.taken() == REPLIES);
     Ok(())
@@ -100,7 +84,7 @@ fn lines_may_come_in_pieces_of_one_byte(rt: HostRuntime) -> Result<(), Fail> {
 
 #[test]
 fn a_link_may_end_without_a_quit(rt: HostRuntime) -> Result<(), Fail> {
-    let mut link = link(rt.alloc(), b"# a remark\n\ndo emit 7;\nseen", 3, &[], &[])?;
+    let mut link = MemLink::new(rt.alloc(), b"# a remark\n\ndo emit 7;\nseen", 3, &[], &[])?;
     assert_eq!(rt; serve_alone(&rt, rt.alloc(), &mut link)?, WHOLE);
     assert!(rt; link.sink.taken() == b"commit 1 ok 7\nseen 1\n".as_slice());
     Ok(())
@@ -108,7 +92,7 @@ fn a_link_may_end_without_a_quit(rt: HostRuntime) -> Result<(), Fail> {
 
 #[test]
 fn nothing_is_read_behind_a_quit(rt: HostRuntime) -> Result<(), Fail> {
-    let mut link = link(rt.alloc(), b"quit\nseen\n", 1, &[], &[])?;
+    let mut link = MemLink::new(rt.alloc(), b"quit\nseen\n", 1, &[], &[])?;
     assert_eq!(rt; serve_alone(&rt, rt.alloc(), &mut link)?, WHOLE);
     assert!(rt; link.sink.taken() == b"dropped\n".as_slice());
     Ok(())
@@ -117,7 +101,7 @@ fn nothing_is_read_behind_a_quit(rt: HostRuntime) -> Result<(), Fail> {
 #[test]
 fn a_read_that_fails_in_a_line_ends_a_session(rt: HostRuntime) -> Result<(), Fail> {
     // The fifth byte of the second line isn't read.
-    let mut link = link(rt.alloc(), b"seen\ndo emit 1;\n", 1, &[9], &[])?;
+    let mut link = MemLink::new(rt.alloc(), b"seen\ndo emit 1;\n", 1, &[9], &[])?;
     assert_eq!(rt; serve_alone(&rt, rt.alloc(), &mut link)?, READ_FAULT);
     assert!(rt; link.sink.taken() == b"seen 0\n".as_slice());
     Ok(())
@@ -125,7 +109,7 @@ fn a_read_that_fails_in_a_line_ends_a_session(rt: HostRuntime) -> Result<(), Fai
 
 #[test]
 fn a_write_that_fails_ends_a_session(rt: HostRuntime) -> Result<(), Fail> {
-    let mut link = link(rt.alloc(), b"do emit 1;\n", 1000, &[], &[0])?;
+    let mut link = MemLink::new(rt.alloc(), b"do emit 1;\n", 1000, &[], &[0])?;
     assert_eq!(rt; serve_alone(&rt, rt.alloc(), &mut link)?, WRITE_FAULT);
     assert!(rt; link.sink.taken().is_empty());
     Ok(())
@@ -134,7 +118,7 @@ fn a_write_that_fails_ends_a_session(rt: HostRuntime) -> Result<(), Fail> {
 #[test]
 fn a_flush_that_fails_ends_a_session(rt: HostRuntime) -> Result<(), Fail> {
     // The calls of the sink are a write and a flush for each line.
-    let mut link = link(rt.alloc(), b"seen\nseen\nseen\n", 1000, &[], &[3])?;
+    let mut link = MemLink::new(rt.alloc(), b"seen\nseen\nseen\n", 1000, &[], &[3])?;
     assert_eq!(rt; serve_alone(&rt, rt.alloc(), &mut link)?, WRITE_FAULT);
     assert!(rt; link.sink.taken() == b"seen 0\nseen 0\n".as_slice());
     Ok(())
@@ -154,7 +138,7 @@ fn long_lines(alloc: Global, length: usize) -> Result<Vec<u8>, AllocError> {
 #[test]
 fn a_line_that_is_too_long_is_refused(rt: HostRuntime) -> Result<(), Fail> {
     let bytes = long_lines(rt.alloc(), 4097)?;
-    let mut link = link(rt.alloc(), bytes.as_slice(), 1000, &[], &[])?;
+    let mut link = MemLink::new(rt.alloc(), bytes.as_slice(), 1000, &[], &[])?;
     assert_eq!(rt; serve_alone(&rt, rt.alloc(), &mut link)?, WHOLE);
     assert!(rt; link.sink.taken() == b"refused long\nseen 0\n".as_slice());
     Ok(())
@@ -163,7 +147,7 @@ fn a_line_that_is_too_long_is_refused(rt: HostRuntime) -> Result<(), Fail> {
 #[test]
 fn the_longest_line_is_none_too_long(rt: HostRuntime) -> Result<(), Fail> {
     let bytes = long_lines(rt.alloc(), 4096)?;
-    let mut link = link(rt.alloc(), bytes.as_slice(), 1000, &[], &[])?;
+    let mut link = MemLink::new(rt.alloc(), bytes.as_slice(), 1000, &[], &[])?;
     assert_eq!(rt; serve_alone(&rt, rt.alloc(), &mut link)?, WHOLE);
     assert!(rt; link.sink.taken() == b"seen 0\n".as_slice());
     Ok(())
@@ -181,7 +165,7 @@ fn empty_lines(alloc: Global, count: usize) -> Result<Vec<u8>, AllocError> {
 #[test]
 fn a_session_has_a_million_lines_at_most(rt: HostRuntime) -> Result<(), Fail> {
     let bytes = empty_lines(rt.alloc(), 1_000_001)?;
-    let mut link = link(rt.alloc(), bytes.as_slice(), 4096, &[], &[])?;
+    let mut link = MemLink::new(rt.alloc(), bytes.as_slice(), 4096, &[], &[])?;
     assert_eq!(rt; serve_alone(&rt, rt.alloc(), &mut link)?, TOO_MANY_LINES);
     assert!(rt; link.sink.taken().is_empty());
     Ok(())
@@ -241,14 +225,14 @@ fn sessions_wait_for_each_other(rt: HostRuntime) -> Result<(), Fail> {
     let alloc = rt.alloc();
     let settings = Settings::standard();
     let opened = open(alloc, &settings, MemKeep, CommitList::new(alloc))?;
-    let one = link(
+    let one = MemLink::new(
         alloc,
         b"watch w emit counter(\"x\").get();\ndo counter(\"y\").add(1);\nwait\nquit\n",
         16,
         &[],
         &[],
     )?;
-    let two = link(
+    let two = MemLink::new(
         alloc,
         b"wait\ndo counter(\"x\").add(1);\nquit\n",
         16,

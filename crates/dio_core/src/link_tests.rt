@@ -1,33 +1,16 @@
 //! Tests of listeners, and of links over connections.
 
-ghost use Rattle.std.specs.Prelude.{Some, ◌<◌};
+ghost use Rattle.std.specs.Prelude.{Some};
 
 use crate::{
     Accepted, Connection, End, FaultPlan, Got, Line, LineFault, Listener, MemLink, MemLinks,
-    MemListener, MemSink, MemSource, Sink, Source, TcpLink, TcpListening, Took, next_line,
-    write_all,
+    MemListener, Sink, Source, TcpLink, TcpListening, Took, next_line, write_all,
 };
 use std::alloc::{AllocError, Global};
 use std::io;
 use std::io::{ErrorKind, Read, Write};
 use std::net::{OpenListener, TcpStream};
 use std::test::Fail;
-
-/// A link that gives these bytes in pieces, and whose reads and writes fail at the named calls.
-fn link(
-    alloc: Global,
-    bytes: &[u8],
-    piece: usize,
-    read_fails: &[u64],
-    write_fails: &[u64],
-) -> Result<MemLink, AllocError>
-    requires { 0 < piece }
-{
-    Ok(MemLink {
-        source: MemSource::new(alloc, bytes, piece, read_fails)?,
-        sink: MemSink::new(alloc, piece, write_fails)?,
-    })
-}
 
 /// Whether the next link that is accepted begins with this byte.
 fn accepts<N: Listener>(listener: &mut N, byte: u8) -> bool {
@@ -53,8 +36,8 @@ fn fails<N: Listener>(listener: &mut N) -> bool {
 
 fn two_links(alloc: Global) -> Result<MemLinks, AllocError> {
     let mut links = MemLinks::new(alloc);
-    links.push(link(alloc, b"a", 1, &[], &[])?)?;
-    links.push(link(alloc, b"b", 1, &[], &[])?)?;
+    links.push(MemLink::new(alloc, b"a", 1, &[], &[])?)?;
+    links.push(MemLink::new(alloc, b"b", 1, &[], &[])?)?;
     Ok(links)
 }
 
@@ -131,7 +114,7 @@ fn a_link_over_a_connection_gives_its_bytes_and_counts_its_errors(
     rt: HostRuntime,
 ) -> Result<(), Fail> {
     let alloc = rt.alloc();
-    let mut link = TcpLink::new(link(alloc, b"ab\ncd", 1, &[1], &[])?);
+    let mut link = TcpLink::new(MemLink::new(alloc, b"ab\ncd", 1, &[1], &[])?);
     assert!(rt; breaks(alloc, &mut link));
     assert!(rt; reads(alloc, &mut link, b"b"));
     assert!(rt; reads(alloc, &mut link, b"cd"));
@@ -144,7 +127,7 @@ fn a_link_over_a_connection_gives_its_bytes_and_counts_its_errors(
 #[test]
 fn a_link_over_a_connection_sends_all_and_counts_its_errors(rt: HostRuntime) -> Result<(), Fail> {
     let alloc = rt.alloc();
-    let mut link = TcpLink::new(link(alloc, b"", 2, &[], &[3])?);
+    let mut link = TcpLink::new(MemLink::new(alloc, b"", 2, &[], &[3])?);
     assert!(rt; write_all(&mut link, b"abcde") && link.flush());
     assert!(rt; !write_all(&mut link, b"f"));
     assert!(rt; write_all(&mut link, b"g"));
@@ -156,7 +139,7 @@ fn a_link_over_a_connection_sends_all_and_counts_its_errors(rt: HostRuntime) -> 
 #[test]
 fn a_link_that_is_ended_fails_and_counts(rt: HostRuntime) -> Result<(), Fail> {
     let alloc = rt.alloc();
-    let mut link = TcpLink::new(link(alloc, b"ab", 1, &[], &[])?);
+    let mut link = TcpLink::new(MemLink::new(alloc, b"ab", 1, &[], &[])?);
     link.end();
     link.end();
     assert!(rt; breaks(alloc, &mut link));

@@ -266,6 +266,32 @@ pub struct MemLink {
     pub sink: MemSink,
 }
 
+impl MemLink {
+    /// A link that gives these bytes. It gives and takes at most `piece` bytes in a call. The reads with the numbers in
+    /// `read_fails` fail, and the writes and flushes with those in `write_fails`, the first call being 0.
+    pub fn new(
+        alloc: Global,
+        bytes: &[u8],
+        piece: usize,
+        read_fails: &[u64],
+        write_fails: &[u64],
+    ) -> Result<MemLink, AllocError>
+        requires { 0 < piece }
+        ensures left { IfOk result (λ link. link.source.left ≡ bytes.now) }
+        ensures read_piece { IfOk result (λ link. link.source.piece ≡ piece) }
+        ensures read_plan { IfOk result (λ link. link.source.plan ≡ plan_of read_fails.now) }
+        ensures taken { IfOk result (λ link. link.sink.taken ≡ []) }
+        ensures passed { IfOk result (λ link. link.sink.passed ≡ []) }
+        ensures write_piece { IfOk result (λ link. link.sink.piece ≡ piece) }
+        ensures write_plan { IfOk result (λ link. link.sink.plan ≡ plan_of write_fails.now) }
+    {
+        Ok(MemLink {
+            source: MemSource::new(alloc, bytes, piece, read_fails)?,
+            sink: MemSink::new(alloc, piece, write_fails)?,
+        })
+    }
+}
+
 impl Source for MemLink {
     ghost left = { λ l. Some l.source.left };
 

@@ -4,30 +4,14 @@ ghost use Rattle.std.specs.Prelude.{◌<◌, length};
 
 use crate::{BufferedLink, BufferedListening, READ_AHEAD};
 use dio_core::{
-    Accepted, End, FaultPlan, Got, Line, LineFault, Listener, MemLink, MemLinks, MemListener,
-    MemSink, MemSource, Sink, Source, TcpListening, next_line, write_all,
+    Accepted, End, FaultPlan, Got, Line, LineFault, Listener, MemLink, MemLinks, MemListener, Sink,
+    Source, TcpListening, next_line, write_all,
 };
 use std::alloc::{AllocError, Global};
 use std::io;
 use std::io::{ErrorKind, Write};
 use std::net::{OpenListener, TcpStream};
 use std::test::Fail;
-
-/// A link that gives these bytes in pieces, and whose reads and writes fail at the named calls.
-fn link(
-    alloc: Global,
-    bytes: &[u8],
-    piece: usize,
-    read_fails: &[u64],
-    write_fails: &[u64],
-) -> Result<MemLink, AllocError>
-    requires { 0 < piece }
-{
-    Ok(MemLink {
-        source: MemSource::new(alloc, bytes, piece, read_fails)?,
-        sink: MemSink::new(alloc, piece, write_fails)?,
-    })
-}
 
 /// Whether the next line of a source is this.
 fn reads<S: Source>(alloc: Global, source: &mut S, wanted: &[u8]) -> bool {
@@ -72,7 +56,7 @@ fn the_lines_of_a_session_are_the_same_in_pieces_of_any_size(rt: HostRuntime) ->
     let bytes = session(alloc)?;
     assert_eq!(rt; bytes.len(), 2617);
     for piece in [1, 3, READ_AHEAD, 4096] {
-        let mut ahead = BufferedLink::new(link(alloc, &bytes, piece, &[], &[])?);
+        let mut ahead = BufferedLink::new(MemLink::new(alloc, &bytes, piece, &[], &[])?);
         assert!(rt; reads_session(alloc, &mut ahead, &bytes));
     }
     Ok(())
@@ -81,7 +65,7 @@ fn the_lines_of_a_session_are_the_same_in_pieces_of_any_size(rt: HostRuntime) ->
 #[test]
 fn a_buffer_of_any_size_is_filled_from_what_is_held(rt: HostRuntime) -> Result<(), Fail> {
     let alloc = rt.alloc();
-    let mut ahead = BufferedLink::new(link(alloc, b"abcde", 4, &[], &[])?);
+    let mut ahead = BufferedLink::new(MemLink::new(alloc, b"abcde", 4, &[], &[])?);
     let mut buf = [0; 3];
     assert!(rt; ahead.held().is_empty());
     assert!(rt; ahead.read(&mut buf) == Got::Bytes(3) && buf == *b"abc");
@@ -95,7 +79,7 @@ fn a_buffer_of_any_size_is_filled_from_what_is_held(rt: HostRuntime) -> Result<(
 #[test]
 fn a_read_fault_is_answered_once_behind_what_is_held(rt: HostRuntime) -> Result<(), Fail> {
     let alloc = rt.alloc();
-    let mut ahead = BufferedLink::new(link(alloc, b"ab\ncd\n", 4, &[1], &[])?);
+    let mut ahead = BufferedLink::new(MemLink::new(alloc, b"ab\ncd\n", 4, &[1], &[])?);
     assert!(rt; reads(alloc, &mut ahead, b"ab"));
     assert!(rt; ahead.held() == b"c".as_slice());
     assert_eq!(rt; ahead.read_faults(), 0);
@@ -110,7 +94,7 @@ fn a_read_fault_is_answered_once_behind_what_is_held(rt: HostRuntime) -> Result<
 #[test]
 fn writes_and_their_faults_pass_through(rt: HostRuntime) -> Result<(), Fail> {
     let alloc = rt.alloc();
-    let mut ahead = BufferedLink::new(link(alloc, b"a\nb\n", 4, &[], &[2])?);
+    let mut ahead = BufferedLink::new(MemLink::new(alloc, b"a\nb\n", 4, &[], &[2])?);
     assert!(rt; reads(alloc, &mut ahead, b"a"));
     assert!(rt; write_all(&mut ahead, b"done") && ahead.flush());
     assert!(rt; !write_all(&mut ahead, b"lost"));
@@ -138,8 +122,8 @@ fn serves<N: Listener>(alloc: Global, listener: &mut N, line: &[u8], status: u8)
 
 fn two_links(alloc: Global) -> Result<MemLinks, AllocError> {
     let mut links = MemLinks::new(alloc);
-    links.push(link(alloc, b"one\nmore", 4096, &[], &[])?)?;
-    links.push(link(alloc, b"two\n", 1, &[], &[])?)?;
+    links.push(MemLink::new(alloc, b"one\nmore", 4096, &[], &[])?)?;
+    links.push(MemLink::new(alloc, b"two\n", 1, &[], &[])?)?;
     Ok(links)
 }
 

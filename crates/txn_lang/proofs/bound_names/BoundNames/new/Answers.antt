@@ -1,5 +1,0 @@
-use Rattle.txn_lang.proofs.NamesKept.{keeps-empty}
-use Rattle.txn_lang.proofs.bound_names.BoundNames.new.Goals as goal
-
-pub invariant_of-result : goal.invariant_of-result
-invariant_of-result c = rw (c.new.ensures, c.new-2.ensures) keeps-empty
