@@ -2,4 +2,3 @@ pub mod Bound
 pub mod Buffered
 pub mod Ending
 pub mod FoundKept
-pub mod PlacesKept

@@ -2,5 +2,4 @@ pub mod Buffering
 pub mod Answers
 pub mod Lengths
 pub mod Loops
-pub mod Places
 pub mod Found

@@ -117,7 +117,7 @@ fn length_in(
     match &expr.node {
         ExprNode::Name(name) => {
             charge(run, 1)?;
-            match names.item_of(name) {
+            match names.get(name) {
                 Some(item) => Ok(length_item(item)?),
                 None => Ok(Item::Int(0)),
             }

@@ -1,6 +1,6 @@
 //! Names.
 
-ghost use Rattle.std.specs.Prelude.{◌≡◌, IfOk, OnOk, take};
+ghost use Rattle.std.specs.Prelude.{◌≡◌, IfOk};
 ghost use Rattle.txn_lang.specs.Items as spec;
 
 use crate::environment::Environment;
@@ -12,7 +12,7 @@ use std::alloc::AllocError;
 pub(crate) fn named(names: &Environment, name: &Text) -> Result<Item, AllocError>
     ensures { IfOk result (λ item. item ≡ spec.named names.now name.now) }
 {
-    match names.item_of(name) {
+    match names.get(name) {
         Some(item) => item.clone(),
         None => Ok(Item::Int(0)),
     }
@@ -22,18 +22,8 @@ pub(crate) fn named(names: &Environment, name: &Text) -> Result<Item, AllocError
 pub(crate) fn texts_named<'a>(names: &'a Environment, name: &Text) -> &'a [Text]
     ensures { result.now ≡ spec.texts_in (spec.named names.now name.now) }
 {
-    match names.item_of(name) {
+    match names.get(name) {
         Some(Item::Texts(texts)) => texts.as_slice(),
         _ => &[],
     }
-}
-
-/// Forgets names, the newest first, until so many are left.
-pub(crate) fn forget(names: &mut Environment, count: usize) -> Result<(), AllocError>
-    ensures { OnOk result (names.new ≡ take count names.old) }
-{
-    while names.len() > count {
-        names.forget_last()?;
-    }
-    Ok(())
 }

@@ -16,7 +16,7 @@ use crate::items::{bool_in, into_text, into_texts};
 use crate::kept::Kept;
 use crate::loads::{emit_size, write_size};
 use crate::memory::write_at;
-use crate::naming::{forget, texts_named};
+use crate::naming::texts_named;
 use crate::words::write_of;
 use plain_data::Text;
 use rdt_types::{Address, Item, Kind};
@@ -94,7 +94,7 @@ fn block(
 {
     let outside = names.len();
     steps_of(alloc, snaps, names, run, stmts)?;
-    forget(names, outside)?;
+    names.truncate(outside)?;
     Ok(())
 }
 
@@ -117,7 +117,7 @@ fn turn(
     let count = names.len();
     names.bind(name, Item::Text(text))?;
     steps_of(alloc, snaps, names, run, stmts)?;
-    forget(names, count)?;
+    names.truncate(count)?;
     Ok(())
 }
 

@@ -1,7 +1,7 @@
 pub mod Replay
 pub mod Journals
 pub mod Typing
-pub mod NamesKept
+pub mod PlacesKept
 pub mod Trees
 pub mod Each
 pub mod Words

@@ -471,7 +471,7 @@ module _ {N X : Type 0} (hN : N → StmtNode) (hS : X → Stmt) (stmts : (x : X)
       (subst (λ ns. AreTyped ns ss) (sym same) more)
   step_sound (StmtNode-F.Write k key word es) s is names after ss ok more =
       let first = λ (u : ItemType). unless (same u type.Text) (column_of key) in
-      let w = written_type k word in
+      let w = written_type k in
       let z =
       then_ok (type_of key names) (λ u. and_then (all_of w (first u) (map typed es) names) (λ c. told c names)) after
       (sym (names_by names s (StmtNode-F.Write k key word es) is) ∙ ok) in
@@ -551,7 +551,7 @@ order_found _ _ (turns names s ss inner x e is h block more) =
     (order_found names ss more)
 order_found _ _ (write names s ss k key word es is h each more) =
     let first = λ (u : ItemType). unless (same u type.Text) (column_of key) in
-    let w = written_type k word in
+    let w = written_type k in
     one_more names names s ss
     (names_by names s (StmtNode-F.Write k key word es) is
     ∙ then_found (type_of key names) type.Text (λ u. and_then (all_of w (first u) (map typed es) names) (λ c. told c names)) (type_found names key type.Text h)
@@ -590,7 +590,7 @@ step_extends (StmtNode-F.For x e inner) names after ok =
     let q = then_ok turn (λ t. Ok names) after z.1.1 in
     extends_self names after (cc (q.1.1))
 step_extends (StmtNode-F.Write k key word es) names after ok =
-    let w = written_type k word in
+    let w = written_type k in
     let first = λ (u : ItemType). unless (same u type.Text) (column_of key) in
     let z = then_ok (type_of key names) (λ u. and_then (all_of w (first u) (map typed es) names) (λ c. told c names)) after ok in
     let q = then_ok (all_of w (first z.0) (map typed es) names) (λ c. told c names) after z.1.1 in

@@ -10,7 +10,6 @@ use Rattle.txn_trees.specs.declared.word.Relation.{Relation}
 use Rattle.txn_trees.specs.declared.word.Relation.TheVariants as relation
 use Rattle.txn_trees.specs.declared.word.ReadWord.{ReadWord}
 use Rattle.txn_trees.specs.declared.word.ReadWord.TheVariants as read_word
-use Rattle.txn_trees.specs.declared.word.WriteWord.{WriteWord}
 use Rattle.txn_lang.specs.declared.item_type.Type.{«Type» as ItemType}
 use Rattle.txn_lang.specs.declared.item_type.Type.TheVariants as type
 
@@ -65,11 +64,11 @@ abbrev pub may_begin : Operator → ItemType → Bool
 may_begin operator.Minus t = has_sum t
 may_begin o t = takes o t
 
--- what the arguments of a write are, by its kind and word: text, but for what a counter or a bool takes
-abbrev pub written_type : Kind → WriteWord → ItemType
-written_type kind.Bool _ = type.Bool
-written_type kind.Counter _ = type.Int
-written_type _ _ = type.Text
+-- what the arguments of a write are, by its kind: text, but for what a counter or a bool takes
+abbrev pub written_type : Kind → ItemType
+written_type kind.Bool = type.Bool
+written_type kind.Counter = type.Int
+written_type _ = type.Text
 
 -- what the arguments of a read are: text, but for the place of an item
 abbrev pub asked_type : ReadWord → ItemType

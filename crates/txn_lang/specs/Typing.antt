@@ -96,7 +96,7 @@ pub data AreTyped : Names → List Stmt → Type 0 where
   write : (names : Names) (s : Stmt) (ss : List Stmt) (k : Kind) (key : Expr) (word : WriteWord) (es : List Expr)
       → step_of s ≡ StmtNode-F.Write k key word es
       → HasType names key type.Text
-      → ((i : ℕ) (a : Expr) → slice_get es i ≡ Some a → HasType names a (written_type k word))
+      → ((i : ℕ) (a : Expr) → slice_get es i ≡ Some a → HasType names a (written_type k))
       → AreTyped names ss
       → AreTyped names (s ∷ ss)
 
@@ -225,10 +225,10 @@ in_order (s ∷ ss) names = do
   in_order ss after
 
 -- a write binds no name
-abbrev pub judge_write : Kind → Expr → WriteWord → List Expr → Names → Judged Names
-judge_write k key word es names = do
+abbrev pub judge_write : Kind → Expr → List Expr → Names → Judged Names
+judge_write k key es names = do
   t ← type_of key names
-  complaint ← all_of (written_type k word) (unless (same t type.Text) (column_of key)) (map typed es) names
+  complaint ← all_of (written_type k) (unless (same t type.Text) (column_of key)) (map typed es) names
   told complaint names
 
 -- a block binds no name for what is behind it
@@ -261,7 +261,7 @@ judge_step (StmtNode-F.If e then_do else_do) names = do
 judge_step (StmtNode-F.For x e inner) names = do
   _ ← expect type.Texts e names
   turn x inner names
-judge_step (StmtNode-F.Write k key word es) names = judge_write k key word es names
+judge_step (StmtNode-F.Write k key word es) names = judge_write k key es names
 
 abbrev pub judge_stmt : Stmt-F (Names → Judged Names) (Names → Judged Names) → Names → Judged Names
 judge_stmt s = s.node

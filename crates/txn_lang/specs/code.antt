@@ -1,2 +1,2 @@
-pub mod BoundNames
+pub mod Places
 pub mod Checking

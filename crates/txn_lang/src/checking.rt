@@ -8,8 +8,8 @@ ghost use Rattle.txn_lang.specs.Typing.{judge as judge_of, IsTyped};
 ghost use Rattle.txn_lang.specs.Writes.{first_write as first_write_of};
 ghost use Rattle.txn_lang.specs.code.Checking.{Answers, Leaves, WritesAt};
 
-use crate::bound_names::BoundNames;
 use crate::checked::Checked;
+use crate::environment::Environment;
 use crate::item_type::Type;
 use crate::judging::{expect, judge_write, type_of};
 use crate::writing::first_write;
@@ -40,20 +40,9 @@ fn judged<T>(found: Result<T, u32>) -> Result<T, Fault>
     }
 }
 
-/// Forgets names until so many are left.
-fn forget(names: &mut BoundNames, count: usize) -> Result<(), AllocError>
-    requires { count ≤ length names.old }
-    ensures { OnOk result (names.new ≡ take count names.old) }
-{
-    while names.len() > count {
-        names.forget_last()?;
-    }
-    Ok(())
-}
-
 /// Judges statements in order.
 #[cycle(judged)]
-fn in_order(names: &mut BoundNames, stmts: &[Stmt]) -> Result<(), Fault>
+fn in_order(names: &mut Environment<Type>, stmts: &[Stmt]) -> Result<(), Fault>
     ensures { Leaves result names.new (spec.in_order (map spec.names_after stmts.now) names.old) }
 {
     for stmt in stmts {
@@ -64,30 +53,30 @@ fn in_order(names: &mut BoundNames, stmts: &[Stmt]) -> Result<(), Fault>
 
 /// Judges statements in a block, which binds no name for what is behind it.
 #[cycle(judged)]
-fn block(names: &mut BoundNames, stmts: &[Stmt]) -> Result<(), Fault>
+fn block(names: &mut Environment<Type>, stmts: &[Stmt]) -> Result<(), Fault>
     ensures { Leaves result names.new (spec.block (map spec.names_after stmts.now) names.old) }
 {
     let count = names.len();
     in_order(names, stmts)?;
-    forget(names, count)?;
+    names.truncate(count)?;
     Ok(())
 }
 
 /// Judges the statements inside a loop, where its name is bound to a text.
 #[cycle(judged)]
-fn turn(names: &mut BoundNames, name: &Text, stmts: &[Stmt]) -> Result<(), Fault>
+fn turn(names: &mut Environment<Type>, name: &Text, stmts: &[Stmt]) -> Result<(), Fault>
     ensures { Leaves result names.new (spec.turn name.now (map spec.names_after stmts.now) names.old) }
 {
     let count = names.len();
     names.bind(name, Type::Text)?;
     in_order(names, stmts)?;
-    forget(names, count)?;
+    names.truncate(count)?;
     Ok(())
 }
 
 /// Judges a statement.
 #[cycle(judged)]
-fn step(names: &mut BoundNames, stmt: &Stmt) -> Result<(), Fault>
+fn step(names: &mut Environment<Type>, stmt: &Stmt) -> Result<(), Fault>
     ensures { Leaves result names.new (spec.names_after stmt.now names.old) }
 {
     match &stmt.node {
@@ -116,8 +105,8 @@ fn step(names: &mut BoundNames, stmt: &Stmt) -> Result<(), Fault>
             let _ = judged(expect(names, Type::Texts, expr))?;
             turn(names, name, inner.as_slice())
         }
-        StmtNode::Write(kind, key, word, arguments) => {
-            judged(judge_write(names, *kind, key, *word, arguments.as_slice()))
+        StmtNode::Write(kind, key, _, arguments) => {
+            judged(judge_write(names, *kind, key, arguments.as_slice()))
         }
     }
 }
@@ -126,7 +115,7 @@ fn step(names: &mut BoundNames, stmt: &Stmt) -> Result<(), Fault>
 fn judge(alloc: Global, body: &Body) -> Result<(), Fault>
     ensures { MatchResult result (λ _. IsTyped body.now) (λ fault. (column : ℕ) → fault ≡ Cause column → spec.judge body.now ≡ Err column) }
 {
-    let mut names = BoundNames::new(alloc);
+    let mut names = Environment::new(alloc);
     in_order(&mut names, body.stmts.as_slice())
 }
 

@@ -6,10 +6,11 @@ ghost use Rattle.txn_lang.specs.Types as types;
 ghost use Rattle.txn_lang.specs.Typing as spec;
 ghost use Rattle.txn_lang.specs.code.Checking.{Fits};
 
-use crate::bound_names::BoundNames;
+use crate::environment::Environment;
 use crate::item_type::Type;
+use plain_data::Text;
 use rdt_types::Kind;
-use txn_trees::{Expr, ExprNode, Operand, Operator, ReadWord, Relation, WriteWord};
+use txn_trees::{Expr, ExprNode, Operand, Operator, ReadWord, Relation};
 
 fn same(a: Type, b: Type) -> bool
     ensures { result ≡ types.same a b }
@@ -70,8 +71,8 @@ fn may_begin(operator: Operator, t: Type) -> bool
 }
 
 /// What the arguments of a write are.
-fn written_type(kind: Kind, _word: WriteWord) -> Type
-    ensures { result ≡ types.written_type kind _word }
+fn written_type(kind: Kind) -> Type
+    ensures { result ≡ types.written_type kind }
 {
     match kind {
         Kind::Bool => Type::Bool,
@@ -131,7 +132,7 @@ fn told(complaint: Option<u32>, t: Type) -> Result<Type, u32>
 /// Expressions that are each to be of one type. The first complaint is kept until all were gone through.
 #[cycle(judged)]
 fn all_of(
-    names: &BoundNames,
+    names: &Environment<Type>,
     wanted: Type,
     complaint: Option<u32>,
     exprs: &[Expr],
@@ -165,7 +166,7 @@ fn may_be_first(t: Type, operands: &[Operand]) -> bool
 /// The further operands of a chain whose first one is of this type.
 #[cycle(judged)]
 fn operands_of(
-    names: &BoundNames,
+    names: &Environment<Type>,
     first: Type,
     complaint: Option<u32>,
     operands: &[Operand],
@@ -185,23 +186,30 @@ fn operands_of(
 
 /// The type of an expression that has to be of one type.
 #[cycle(judged)]
-pub(crate) fn expect(names: &BoundNames, wanted: Type, expr: &Expr) -> Result<Type, u32>
+pub(crate) fn expect(names: &Environment<Type>, wanted: Type, expr: &Expr) -> Result<Type, u32>
     ensures { result ≡ spec.expect wanted expr.now names.now }
 {
     let t = type_of(names, expr)?;
     told(unless(same(t, wanted), expr.column), t)
 }
 
+/// The type that a name is bound to, if it is.
+fn bound_to(names: &Environment<Type>, name: &Text) -> Option<Type>
+    ensures { result ≡ types.type_bound names.now name.now }
+{
+    names.get(name).copied()
+}
+
 /// The type of an expression, or the column at which a rule fails first.
 #[cycle(judged)]
-pub(crate) fn type_of(names: &BoundNames, expr: &Expr) -> Result<Type, u32>
+pub(crate) fn type_of(names: &Environment<Type>, expr: &Expr) -> Result<Type, u32>
     ensures { result ≡ spec.type_of expr.now names.now }
 {
     match &expr.node {
         ExprNode::Number(_) => Ok(Type::Int),
         ExprNode::Text(_) => Ok(Type::Text),
         ExprNode::Bool(_) => Ok(Type::Bool),
-        ExprNode::Name(name) => names.type_of(name).ok_or(expr.column),
+        ExprNode::Name(name) => bound_to(names, name).ok_or(expr.column),
         ExprNode::Texts(elements) => {
             let complaint = all_of(names, Type::Text, None, elements.as_slice())?;
             told(complaint, Type::Texts)
@@ -240,17 +248,16 @@ pub(crate) fn type_of(names: &BoundNames, expr: &Expr) -> Result<Type, u32>
 
 /// Whether a write's key and arguments are of their types, or the column at which a rule fails first.
 pub(crate) fn judge_write(
-    names: &BoundNames,
+    names: &Environment<Type>,
     kind: Kind,
     key: &Expr,
-    word: WriteWord,
     arguments: &[Expr],
 ) -> Result<(), u32>
-    ensures { Fits result names.now (spec.judge_write kind key.now word arguments.now names.now) }
+    ensures { Fits result names.now (spec.judge_write kind key.now arguments.now names.now) }
 {
     let t = type_of(names, key)?;
     let first = unless(same(t, Type::Text), key.column);
-    match all_of(names, written_type(kind, word), first, arguments)? {
+    match all_of(names, written_type(kind), first, arguments)? {
         None => Ok(()),
         Some(column) => Err(column),
     }

@@ -5,10 +5,10 @@
 //! from `txn_grammar`; what runs, validates or keeps commits stands on this crate.
 #![tactic(auto)]
 
-mod bound_names;
 mod checked;
 mod checking;
 mod commit;
+mod environment;
 mod item_type;
 mod judging;
 mod laws;
@@ -21,6 +21,7 @@ mod writing;
 pub use checked::Checked;
 pub use checking::{CheckError, check};
 pub use commit::{Commit, CommitList};
+pub use environment::Environment;
 pub use item_type::Type;
 pub use laws::{
     bodies_are_judged, deltas_leave_what_operations_leave, legal_commits_follow, needs_are_missing,

@@ -1,6 +1,6 @@
 //! Worked bodies.
 
-use crate::bound_names::BoundNames;
+use crate::environment::Environment;
 use crate::item_type::Type;
 use crate::judging::type_of;
 use plain_data::{Boxed, Sequence, Text};
@@ -24,7 +24,7 @@ fn chain(alloc: Global, first: Expr, operator: Operator, value: Expr) -> Result<
 #[test]
 fn first_rule_that_fails(rt: HostRuntime) -> Result<(), Fail> {
     let alloc = rt.alloc();
-    let names = BoundNames::new(alloc);
+    let names = Environment::new(alloc);
     let one = expr(6, ExprNode::Number(1));
     let sum = chain(alloc, one, Operator::Plus, expr(10, ExprNode::Bool(true)))?;
     assert!(&rt; matches!(type_of(&names, &sum), Err(10)));
@@ -39,13 +39,13 @@ fn first_rule_that_fails(rt: HostRuntime) -> Result<(), Fail> {
 #[test]
 fn bound_and_forgotten(rt: HostRuntime) -> Result<(), Fail> {
     let alloc = rt.alloc();
-    let mut names = BoundNames::new(alloc);
+    let mut names = Environment::new(alloc);
     let name = Text::from_slice(alloc, b"y")?;
     let used = expr(6, ExprNode::Name(name.clone()?));
     assert!(&rt; matches!(type_of(&names, &used), Err(6)));
     names.bind(&name, Type::Text)?;
     assert!(&rt; matches!(type_of(&names, &used), Ok(Type::Text)));
-    names.forget_last()?;
+    names.truncate(0)?;
     assert!(&rt; matches!(type_of(&names, &used), Err(6)));
     Ok(())
 }

@@ -1,7 +1,7 @@
 use Rattle.std.proofs.Common.{◌≡◌, Some}
 use Rattle.std.specs.FinMap as fin
-use Rattle.txn_eval.proofs.PlacesKept.{keeps-bound}
-use Rattle.txn_eval.proofs.environment.Environment.bind.Goals as goal
+use Rattle.txn_lang.proofs.PlacesKept.{keeps-bound}
+use Rattle.txn_lang.proofs.environment.Environment.bind.Goals as goal
 
 pub invariant_of-self-in-Ok : goal.invariant_of-self-in-Ok
 invariant_of-self-in-Ok c =

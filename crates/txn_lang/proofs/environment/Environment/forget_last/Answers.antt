@@ -1,7 +1,7 @@
 use Rattle.std.proofs.Common.{◌≡◌, ◌+◌, ◌-◌, ◌<◌, length, sym, ◌∙◌, ap, arith}
-use Rattle.txn_eval.specs.code.Places.{names_of}
-use Rattle.txn_eval.proofs.PlacesKept.{keeps-forgotten, names_of-forgot, length-names_of}
-use Rattle.txn_eval.proofs.environment.Environment.forget_last.Goals as goal
+use Rattle.txn_lang.specs.code.Places.{names_of}
+use Rattle.txn_lang.proofs.PlacesKept.{keeps-forgotten, names_of-forgot, length-names_of}
+use Rattle.txn_lang.proofs.environment.Environment.forget_last.Goals as goal
 
 pub invariant_of-self-2 : goal.invariant_of-self-2
 invariant_of-self-2 c =
