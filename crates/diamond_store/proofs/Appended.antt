@@ -203,6 +203,7 @@ module _ (numbers : List ℕ) (m client : ℕ) (old new : tokens.Known Commit) (
           same_own = own_then d adds;
           clear = clear_then d adds adds.settles.0;
           numbered = adds.settles.1;
+          within = let n = adds.settles.1 in let room = adds.settles.3 in let limit = pass.settings.limit in omega arith;
           added = grown;
         },
       ) tt

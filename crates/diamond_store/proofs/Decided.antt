@@ -1,5 +1,6 @@
 -- What the journal decides is what the store says of it, and a count of denials keeps to the keeper's count.
-use Rattle.std.proofs.Common.{◌≡◌, ℕ, ◌+◌, ◌≤◌, ◌==◌, Bool, true, false, cond, [], ◌∷◌, ◌++◌, length, Result, Ok, Err, inl, inr, refl, sym, ap, ◌∙◌, subst, arith}
+use Rattle.std.proofs.Common.{◌≡◌, ℕ, ◌+◌, ◌≤◌, ◌<◌, ◌==◌, Bool, true, false, cond, [], ◌∷◌, ◌++◌, length, Result, Ok, Err}
+use Rattle.std.proofs.Common.{inl, inr, refl, sym, ap, ◌∙◌, subst, arith}
 use Rattle.std.specs.Prelude.{OnOk, OnErr}
 use Rattle.std.proofs.lemmas.Bool.Decides.{nat_tests}
 use Rattle.dio_core.specs.Counts.{one_more, last_count, Rose}
@@ -31,6 +32,10 @@ module _ (ready : Ready) (old mid : Standing) (same : mid ≡ record old { room 
   found-same : found_past ready old ≡ found_past ready mid
   found-same = sym (ap (λ (s : Standing). found_past ready s) same)
 
+  -- and so is the room for one more
+  room-same : length mid.commits < mid.limit → length old.commits < old.limit
+  room-same room = subst (λ (s : Standing). length s.commits < s.limit) same room
+
   -- a journal that stayed then is as before
   pub as-before : (new : Standing) → new ≡ mid → IsAsBefore old new
   as-before new stays = let all = stays ∙ same in record {
@@ -49,6 +54,7 @@ module _ (ready : Ready) (old mid : Standing) (same : mid ≡ record old { room 
       found-same ∙ d.0.clear,
       d.1 ∙ ap (λ (s : Standing). length s.commits + 1) same,
       ap (λ (s : Standing). s.commits) d.2 ∙ ap (λ (s : Standing). s.commits ++ made_of s.commits ready ∷ []) same,
+      room-same d.0.below,
     );
     counts = ap (λ (s : Standing). s.faults) d.2 ∙ ap (λ (s : Standing). s.faults) same;
   }
@@ -91,7 +97,7 @@ module _ (ready : Ready) (old mid : Standing) (same : mid ≡ record old { room 
   by-fault first second new d = record {
     shards = ap (λ (s : Standing). s.shards) d.3 ∙ ap (λ (s : Standing). s.shards) same;
     limit = ap (λ (s : Standing). s.limit) d.3 ∙ ap (λ (s : Standing). s.limit) same;
-    settles = (found-same ∙ d.0.clear, ap (λ (s : Standing). s.commits) d.3 ∙ ap (λ (s : Standing). s.commits) same);
+    settles = (found-same ∙ d.0.clear, ap (λ (s : Standing). s.commits) d.3 ∙ ap (λ (s : Standing). s.commits) same, room-same d.0.below);
     counts =
         subst (λ (n : ℕ). Rose old.faults n) (sym (ap (λ (s : Standing). s.faults) d.3))
         (subst (λ (n : ℕ). Rose n second) (d.1 ∙ ap (λ (s : Standing). s.faults) same) d.2);

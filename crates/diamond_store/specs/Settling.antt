@@ -30,10 +30,10 @@ pub record IsClashPast (shards : ℕ) (ready : Ready) (journal : Journal) (witne
 -- What a journal of so many shards and this limit decides, and leaves. The tests stand in the order clash, full, denied.
 abbrev pub Settles : ℕ → ℕ → Ready → Journal → Decision → Journal → Type 0
 Settles shards limit ready old (decision.Number number) new =
-    IsClear shards ready old × (number ≡ length old + 1) × (new ≡ old ++ made_of old ready ∷ [])
+    IsClear shards ready old × (number ≡ length old + 1) × (new ≡ old ++ made_of old ready ∷ []) × (length old < limit)
 Settles shards limit ready old (decision.Clash witness) new = IsClashPast shards ready old witness × (new ≡ old)
 Settles shards limit ready old (decision.Full told) new = IsClear shards ready old × (told ≡ limit) × (limit ≤ length old) × (new ≡ old)
-Settles shards limit ready old decision.Denied new = IsClear shards ready old × (new ≡ old)
+Settles shards limit ready old decision.Denied new = IsClear shards ready old × (new ≡ old) × (length old < limit)
 
 -- a denial is a fault of the keeper, which is counted, and nothing else is
 abbrev pub CountsFaults : Decision → ℕ → ℕ → Type 0

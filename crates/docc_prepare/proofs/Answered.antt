@@ -311,10 +311,10 @@ module _ (s : Store) (sound : IsSound s) (c : ℕ) (ours : c < CLIENTS) where
         let n = sound.seen c in
         answered u (Call.append ready) a (step-grows s c Call.refresh) refl (omega arith) (omega arith) (counted, told, taken, denied, denials) gives says
 
-    -- without a clash the commit goes behind the journal, which stays legal, and no pair is among those before it
-    added : witness_past s ready ≡ None
+    -- without a clash and with room the commit goes behind the journal, which stays legal, and no pair is among those before it
+    added : witness_past s ready ≡ None → length s.journal < s.limit
         → IsAnswered k (Call.append ready) (Answer.number (length s.journal + 1)) (known_by (saw (committed s ready) c (length s.journal + 1)) c)
-    added none =
+    added none room =
         let e = seen-set (length s.journal + 1) in
         let n = sound.seen c in
         let l = length-append s.journal (made_of s.journal ready ∷ []) in record {
@@ -344,6 +344,7 @@ module _ (s : Store) (sound : IsSound s) (c : ℕ) (ours : c < CLIENTS) where
                 same_own = refl;
                 clear = all-clear s sound c ready can.attempt of none;
                 numbered = refl;
+                within = omega arith;
                 added = refl;
               },
             );
@@ -365,7 +366,7 @@ module _ (s : Store) (sound : IsSound s) (c : ℕ) (ours : c < CLIENTS) where
         let e = seen-set (length s.journal) in
         refused (Answer.full s.limit) refl (λ b. refl) refl refl (omega arith) tt
         (tt, record { limit_is = refl; seen = omega arith; clear = all-clear s sound c ready can.attempt of ew }, refl)
-    decided-by None false ew ef = added ew
+    decided-by None false ew ef = let room : length s.journal < s.limit = grind (arith, nat_tests) in added ew room
 
   -- ---- what a client is told of
 

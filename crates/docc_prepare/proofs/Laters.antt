@@ -113,6 +113,7 @@ module _ (k l m : Known) (later : IsLater k l) where
       same_own = own-since old mid row.1.before grown row.1.same_own;
       clear = row.1.clear;
       numbered = row.1.numbered;
+      within = let limit = later.client.limit in let few = row.1.within in omega arith;
       added = row.1.added;
     },
   )

@@ -111,13 +111,15 @@ pub record IsLeastBase (based : List Based) (base : ℕ) : Type 0 where
   pub is : observation.base ≡ base
   pub least : AllByRecursion (λ b. base ≤ b.base) based
 
--- The commit that is made of what was handed on stands at the end, behind commits of others, of which none clashes.
+-- The commit that is made of what was handed on stands at the end, behind commits of others, of which none clashes. The journal
+-- had room for it.
 pub record IsAdded (k : Known) (ready : Ready) (number : ℕ) (old new : Journal) : Type 0 where
   pub before : Journal
   pub grown : IsPrefix old before
   pub same_own : own k.client before ≡ own k.client old
   pub clear : pairs ready.based before ≡ []
   pub numbered : number ≡ length before + 1
+  pub within : number ≤ k.limit
   pub added : new ≡ before ++ made_of before ready ∷ []
 
 -- the journal has as many commits as its limit, and the client has seen as many
