@@ -8,9 +8,9 @@ ghost use Rattle.dio_core.specs.Links.{no_sink, no_source, incoming, outgoing};
 
 use crate::count::Count;
 use crate::sink::{Sink, Took};
-use crate::source::{Got, Source};
+use crate::source::{Got, Source, copy_through};
 use std::alloc::{AllocError, Global};
-use std::io::{BufReader, Read, Write};
+use std::io::{BufRead, BufReader, Read, Write};
 use std::marker::Model;
 use std::snapshot::Snapshot;
 
@@ -71,6 +71,16 @@ impl<R: Read + Drop> Source for StdSource<R> {
                 Got::Failed
             }
         }
+    }
+
+    fn read_through(&mut self, last: u8, buf: &mut [u8]) -> Got {
+        let ahead = self.reader.buffer();
+        if ahead.is_empty() {
+            return self.read(&mut buf[..1]);
+        }
+        let count = copy_through(last, ahead, buf);
+        self.reader.consume(count);
+        Got::Bytes(count)
     }
 
     fn read_faults(&self) -> u64 {

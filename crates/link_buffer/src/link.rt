@@ -1,6 +1,6 @@
 //! A link that reads ahead.
 
-ghost use Rattle.std.specs.Prelude.{◌≡◌, ◌<◌, [], length, not};
+ghost use Rattle.std.specs.Prelude.{◌≡◌, ◌<◌, ◌≤◌, [], length, drop, not};
 ghost use Rattle.std.specs.Bool.{OnTrue};
 ghost use Rattle.dio_core.specs.Counts.{IsCounted};
 ghost use Rattle.dio_core.specs.Sources.{Gives, read_failed};
@@ -9,7 +9,7 @@ ghost use Rattle.dio_core.specs.Links.{incoming};
 ghost use Rattle.dio_core.specs.declared.source.Got.TheVariants.{Bytes};
 ghost use Rattle.link_buffer.specs.Ahead.{left_of, Fills, GivesHeld};
 
-use dio_core::{End, Got, Sink, Source, Took};
+use dio_core::{End, Got, Sink, Source, Took, copy_through};
 use std::marker::Model;
 
 /// How many bytes a [`BufferedLink`] asks of the link below at once.
@@ -87,8 +87,17 @@ impl<K: End> BufferedLink<K> {
         let held = self.held();
         let count = held.len().min(buf.len());
         buf[..count].copy_from_slice(&held[..count]);
-        self.given += count;
+        self.skip(count);
         count
+    }
+
+    /// Takes the first of what is held as given.
+    fn skip(&mut self, count: usize)
+        requires { count ≤ length self.old.held }
+        ensures held { self.new.held ≡ drop count self.old.held }
+        ensures link { self.new.link ≡ self.old.link }
+    {
+        self.given += count;
     }
 }
 
@@ -116,6 +125,16 @@ impl<K: End> Source for BufferedLink<K> {
             }
         }
         Got::Bytes(self.give(buf))
+    }
+
+    fn read_through(&mut self, last: u8, buf: &mut [u8]) -> Got {
+        let held = self.held();
+        if held.is_empty() {
+            return self.read(&mut buf[..1]);
+        }
+        let count = copy_through(last, held, buf);
+        self.skip(count);
+        Got::Bytes(count)
     }
 
     fn read_faults(&self) -> u64 {
