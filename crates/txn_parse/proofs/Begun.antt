@@ -1,5 +1,5 @@
 -- Rules whose first operand is read already go on as the whole rules do.
-use Rattle.std.proofs.Common.{◌≡◌, ℕ, suc, zero, Bool, true, false, ◌||◌, List, [], ◌∷◌, length, Option, Some, None, Ok, Err, refl, ap, sym, ◌∙◌, cond}
+use Rattle.std.proofs.Common.{◌≡◌, ℕ, suc, zero, Bool, true, false, ◌||◌, List, [], length, Option, Some, None, Ok, Err, refl, ap, ◌∙◌}
 use Rattle.txn_trees.specs.declared.expression.Expr.{Expr}
 use Rattle.predictive_parsing.specs.Reading.{Outcome, Reader, next, and_then, pure, either, many, list, optional}
 use Rattle.predictive_parsing.proofs.Loops.{no_front, turns_over}
@@ -9,7 +9,7 @@ use Rattle.txn_grammar.specs.declared.symbol.Symbol.TheVariants as symbol
 use Rattle.txn_grammar.specs.declared.token.Spot.{Spot}
 use Rattle.txn_grammar.specs.Trees.{chained, compared}
 use Rattle.txn_grammar.specs.code.Reader.{begins_operator, begins_relation, further, other_side, chain, comparison, comparison_of, sees}
-use Rattle.txn_grammar.specs.code.Reader.{a_leaf, unary, unary_of, negation, negation_of, not_read, expression, expression_of}
+use Rattle.txn_grammar.specs.code.Reader.{unary, unary_of, negation, negation_of, not_read, expression, expression_of}
 use Rattle.txn_parse.specs.code.Begun as begun
 
 -- two steps, and then one, are one step, and then two
