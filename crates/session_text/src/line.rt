@@ -62,13 +62,14 @@ fn all<'a>(cursor: &mut Cursor<'a, u8>) -> &'a [u8]
     cursor.run(|_| true)
 }
 
-/// A byte and others, as a text.
+/// A byte and others, as a text, whose memory is taken at once.
 fn text_of(alloc: Global, first: u8, others: &[u8]) -> Result<Text, AllocError>
     ensures { IfOk result (λ text. text ≡ first ∷ others.now) }
 {
-    let mut text = Text::from_slice(alloc, &[first])?;
-    text.extend_from_slice(others)?;
-    Ok(text)
+    let mut bytes = Vec::with_capacity(alloc, others.len().saturating_add(1))?;
+    bytes.push(first)?;
+    bytes.extend_from_slice(others)?;
+    Ok(Text::from_vec(bytes))
 }
 
 /// Some bytes, the first of which is no blank.

@@ -1,4 +1,5 @@
 -- Definitions that mirror code. Nobody has to judge by them.
+pub mod Begun
 pub mod Closures
 pub mod Ended
 pub mod Found

@@ -1,8 +1,9 @@
 //! Operands and what joins them. Each reader takes the reader of an operand as a parameter.
 
 ghost use Rattle.std.specs.Prelude.{◌≡◌};
-ghost use Rattle.predictive_parsing.specs.Reading.{many, optional};
+ghost use Rattle.predictive_parsing.specs.Reading.{many};
 ghost use Rattle.txn_grammar.specs.code.Reader as spec;
+ghost use Rattle.txn_parse.specs.code.Begun as begun;
 ghost use Rattle.txn_parse.specs.code.Closures.{ReadsOver};
 
 use crate::Stop;
@@ -50,17 +51,20 @@ fn others<R: Fn(&mut Cursor<'_, Spot>) -> Result<Expr, Stop>>(
     Ok(found)
 }
 
-/// Operands joined by operators of this rank.
+/// Operands joined by operators of this rank, the first of which is read already.
 pub(crate) fn chain<R: Fn(&mut Cursor<'_, Spot>) -> Result<Expr, Stop>>(
     alloc: Global,
     cursor: &mut Cursor<Spot>,
     rank: Rank,
+    first: Expr,
     operand: R,
 ) -> Result<Expr, Stop>
     requires { R.IsAlwaysCallable operand }
-    ensures { ReadsOver R.Fn operand (spec.chain rank) cursor.old result cursor.new }
+    ensures { ReadsOver R.Fn operand (λ reader. begun.chain rank reader first) cursor.old result cursor.new }
 {
-    let first = operand(cursor)?;
+    if !sees_operator(cursor, rank) {
+        return Ok(first);
+    }
     let others = others(alloc, cursor, rank, &operand);
     let (first, others) = both(first, others)?;
     let expr = chained(alloc, first, others)?;
@@ -80,34 +84,21 @@ fn other_side<R: Fn(&mut Cursor<'_, Spot>) -> Result<Expr, Stop>>(
     Ok((relation, right))
 }
 
-/// The other side, where a comparison is ahead.
-fn any_other_side<R: Fn(&mut Cursor<'_, Spot>) -> Result<Expr, Stop>>(
-    cursor: &mut Cursor<Spot>,
-    side: &R,
-) -> Result<Option<(Relation, Expr)>, Stop>
-    requires { R.IsAlwaysCallable side.now }
-    ensures { ReadsOver R.Fn side.now (λ reader. optional spec.begins_relation (spec.other_side reader)) cursor.old result cursor.new }
-{
-    if sees_relation(cursor) {
-        let found = other_side(cursor, side)?;
-        Ok(Some(found))
-    } else {
-        Ok(None)
-    }
-}
-
-/// One side, or two that are compared.
+/// One side, which is read already, or two that are compared.
 pub(crate) fn comparison<R: Fn(&mut Cursor<'_, Spot>) -> Result<Expr, Stop>>(
     alloc: Global,
     cursor: &mut Cursor<Spot>,
+    left: Expr,
     side: R,
 ) -> Result<Expr, Stop>
     requires { R.IsAlwaysCallable side }
-    ensures { ReadsOver R.Fn side spec.comparison cursor.old result cursor.new }
+    ensures { ReadsOver R.Fn side (λ reader. begun.comparison reader left) cursor.old result cursor.new }
 {
-    let left = side(cursor)?;
-    let other = any_other_side(cursor, &side);
-    let (left, other) = both(left, other)?;
-    let expr = compared(alloc, left, other)?;
+    if !sees_relation(cursor) {
+        return Ok(left);
+    }
+    let other = other_side(cursor, &side);
+    let (left, (relation, right)) = both(left, other)?;
+    let expr = compared(alloc, left, relation, right)?;
     Ok(expr)
 }

@@ -7,6 +7,7 @@ ghost use Rattle.predictive_parsing.specs.Reads.{Reads};
 ghost use Rattle.txn_grammar.specs.declared.rank.Rank.TheVariants as rank;
 ghost use Rattle.txn_grammar.specs.declared.symbol.Symbol.TheVariants as symbol;
 ghost use Rattle.txn_grammar.specs.code.Reader as spec;
+ghost use Rattle.txn_parse.specs.code.Begun as begun;
 ghost use Rattle.txn_parse.specs.code.Nests.{Nests, placed};
 
 use crate::Stop;
@@ -14,7 +15,7 @@ use crate::chain::{chain, comparison};
 use crate::kept::{both, in_front};
 use crate::leaf::leaf;
 use crate::place::Place;
-use crate::token::{ahead, kind, read, sees, word};
+use crate::token::{ahead, joins, kind, read, sees, word};
 use crate::tree::{grouped, read_expr};
 use plain_data::{Boxed, Sequence};
 use predictive_parsing::Cursor;
@@ -319,34 +320,74 @@ impl<F: Fn(Global, &mut Cursor<'_, Spot>, u8, Place) -> Result<Expr, Stop>> Gram
         }
     }
 
-    /// Operands joined by `*`.
-    fn product(&self, cursor: &mut Cursor<Spot>) -> Result<Expr, Stop>
+    /// Operands joined by `*`, the first of which is read already.
+    fn product_from(&self, cursor: &mut Cursor<Spot>, first: Expr) -> Result<Expr, Stop>
         requires { Nests self.now.levels (F.pre self.now.inside) (F.post self.now.inside) }
-        ensures { Reads (spec.chain rank.Product (spec.unary self.now.levels) cursor.old) result cursor.new }
+        ensures { Reads (begun.chain rank.Product (spec.unary self.now.levels) first cursor.old) result cursor.new }
     {
         chain(
             self.alloc,
             cursor,
             Rank::Product,
+            first,
             |cursor| self.unary(cursor),
         )
     }
 
+    /// Operands joined by `*`.
+    #[tactic(auto, using(crate::proofs::Begun::chain_begins))]
+    fn product(&self, cursor: &mut Cursor<Spot>) -> Result<Expr, Stop>
+        requires { Nests self.now.levels (F.pre self.now.inside) (F.post self.now.inside) }
+        ensures { Reads (spec.chain rank.Product (spec.unary self.now.levels) cursor.old) result cursor.new }
+    {
+        let first = self.unary(cursor)?;
+        self.product_from(cursor, first)
+    }
+
+    /// Products joined by `+` and `-`, the first operand of which is read already.
+    #[tactic(auto, unfolding(crate::specs::code::Begun::sum))]
+    fn sum_from(&self, cursor: &mut Cursor<Spot>, first: Expr) -> Result<Expr, Stop>
+        requires { Nests self.now.levels (F.pre self.now.inside) (F.post self.now.inside) }
+        ensures { Reads (begun.sum (spec.unary self.now.levels) first cursor.old) result cursor.new }
+    {
+        let product = self.product_from(cursor, first)?;
+        chain(
+            self.alloc,
+            cursor,
+            Rank::Sum,
+            product,
+            |cursor| self.product(cursor),
+        )
+    }
+
     /// Products joined by `+` and `-`.
+    #[tactic(auto, using(crate::proofs::Begun::sum_begins))]
     fn sum(&self, cursor: &mut Cursor<Spot>) -> Result<Expr, Stop>
         requires { Nests self.now.levels (F.pre self.now.inside) (F.post self.now.inside) }
         ensures { Reads (spec.chain rank.Sum (spec.chain rank.Product (spec.unary self.now.levels)) cursor.old) result cursor.new }
     {
-        chain(self.alloc, cursor, Rank::Sum, |cursor| self.product(cursor))
+        let first = self.unary(cursor)?;
+        self.sum_from(cursor, first)
+    }
+
+    /// A sum, or two that are compared; the first operand is read already.
+    #[tactic(auto, unfolding(crate::specs::code::Begun::comparison_of))]
+    fn comparison_from(&self, cursor: &mut Cursor<Spot>, first: Expr) -> Result<Expr, Stop>
+        requires { Nests self.now.levels (F.pre self.now.inside) (F.post self.now.inside) }
+        ensures { Reads (begun.comparison_of (spec.unary self.now.levels) first cursor.old) result cursor.new }
+    {
+        let left = self.sum_from(cursor, first)?;
+        comparison(self.alloc, cursor, left, |cursor| self.sum(cursor))
     }
 
     /// A sum, or two that are compared.
-    #[tactic(auto, unfolding(txn_grammar::specs::code::Reader::comparison_of))]
+    #[tactic(auto, using(crate::proofs::Begun::comparison_begins))]
     fn comparison(&self, cursor: &mut Cursor<Spot>) -> Result<Expr, Stop>
         requires { Nests self.now.levels (F.pre self.now.inside) (F.post self.now.inside) }
         ensures { Reads (spec.comparison_of (spec.unary self.now.levels) cursor.old) result cursor.new }
     {
-        comparison(self.alloc, cursor, |cursor| self.sum(cursor))
+        let first = self.unary(cursor)?;
+        self.comparison_from(cursor, first)
     }
 
     /// A negation or a comparison, where a level is left.
@@ -376,31 +417,80 @@ impl<F: Fn(Global, &mut Cursor<'_, Spot>, u8, Place) -> Result<Expr, Stop>> Gram
         }
     }
 
-    /// Negations joined by `and`.
-    fn conjunction(&self, cursor: &mut Cursor<Spot>) -> Result<Expr, Stop>
+    /// Negations joined by `and`, the first of which is read already.
+    fn conjunction_from(&self, cursor: &mut Cursor<Spot>, first: Expr) -> Result<Expr, Stop>
         requires { Nests self.now.levels (F.pre self.now.inside) (F.post self.now.inside) }
-        ensures { Reads (spec.chain rank.Conjunction (spec.negation self.now.levels) cursor.old) result cursor.new }
+        ensures { Reads (begun.chain rank.Conjunction (spec.negation self.now.levels) first cursor.old) result cursor.new }
     {
         chain(
             self.alloc,
             cursor,
             Rank::Conjunction,
+            first,
             |cursor| self.negation(cursor),
         )
     }
 
-    /// Conjunctions joined by `or`.
-    #[tactic(auto, unfolding(txn_grammar::specs::code::Reader::expression, txn_grammar::specs::code::Reader::expression_of))]
-    fn expression(&self, cursor: &mut Cursor<Spot>) -> Result<Expr, Stop>
+    /// Negations joined by `and`.
+    #[tactic(auto, using(crate::proofs::Begun::chain_begins))]
+    fn conjunction(&self, cursor: &mut Cursor<Spot>) -> Result<Expr, Stop>
         requires { Nests self.now.levels (F.pre self.now.inside) (F.post self.now.inside) }
-        ensures { Reads (spec.expression self.now.levels cursor.old) result cursor.new }
+        ensures { Reads (spec.chain rank.Conjunction (spec.negation self.now.levels) cursor.old) result cursor.new }
+    {
+        let first = self.negation(cursor)?;
+        self.conjunction_from(cursor, first)
+    }
+
+    /// Conjunctions joined by `or`, the first of which is read already.
+    fn disjunction_from(&self, cursor: &mut Cursor<Spot>, first: Expr) -> Result<Expr, Stop>
+        requires { Nests self.now.levels (F.pre self.now.inside) (F.post self.now.inside) }
+        ensures { Reads (begun.chain rank.Disjunction (spec.chain rank.Conjunction (spec.negation self.now.levels)) first cursor.old) result cursor.new }
     {
         chain(
             self.alloc,
             cursor,
             Rank::Disjunction,
+            first,
             |cursor| self.conjunction(cursor),
         )
+    }
+
+    /// Conjunctions joined by `or`.
+    #[tactic(auto, using(crate::proofs::Begun::disjunction_begins))]
+    fn disjunction(&self, cursor: &mut Cursor<Spot>) -> Result<Expr, Stop>
+        requires { Nests self.now.levels (F.pre self.now.inside) (F.post self.now.inside) }
+        ensures { Reads (spec.expression self.now.levels cursor.old) result cursor.new }
+    {
+        let first = self.conjunction(cursor)?;
+        self.disjunction_from(cursor, first)
+    }
+
+    /// An expression whose first operand is read already.
+    #[tactic(auto, unfolding(crate::specs::code::Begun::expression_of))]
+    fn expression_from(&self, cursor: &mut Cursor<Spot>, first: Expr) -> Result<Expr, Stop>
+        requires { Nests self.now.levels (F.pre self.now.inside) (F.post self.now.inside) }
+        ensures { Reads (begun.expression_of (spec.negation self.now.levels) (spec.unary self.now.levels) first cursor.old) result cursor.new }
+    {
+        let first = self.comparison_from(cursor, first)?;
+        let first = self.conjunction_from(cursor, first)?;
+        self.disjunction_from(cursor, first)
+    }
+
+    /// An expression. Most are one operand, so that is read first, and no rank is gone through where none joins it to another.
+    #[tactic(auto, using(crate::proofs::Begun::expression_begins, crate::proofs::Begun::expression_alone))]
+    fn expression(&self, cursor: &mut Cursor<Spot>) -> Result<Expr, Stop>
+        requires { Nests self.now.levels (F.pre self.now.inside) (F.post self.now.inside) }
+        ensures { Reads (spec.expression self.now.levels cursor.old) result cursor.new }
+    {
+        if sees(cursor, Symbol::Not) {
+            return self.disjunction(cursor);
+        }
+        let first = self.unary(cursor)?;
+        if joins(cursor) {
+            self.expression_from(cursor, first)
+        } else {
+            Ok(first)
+        }
     }
 }
 

@@ -9,6 +9,7 @@ ghost use Rattle.txn_grammar.specs.declared.token.Spot.{Spot};
 ghost use Rattle.txn_grammar.specs.Tokens as spec;
 ghost use Rattle.txn_grammar.specs.code.Forms.{of_next};
 ghost use Rattle.txn_grammar.specs.code.Reader as reader;
+ghost use Rattle.txn_parse.specs.code.Begun as begun;
 ghost use Rattle.txn_parse.specs.code.Found.{lent};
 
 use plain_data::{OrNoMemory, Text};
@@ -78,6 +79,18 @@ pub(crate) fn sees_relation(cursor: &Cursor<Spot>) -> bool
     ensures { result ≡ reader.begins_relation (read.next cursor.now) }
 {
     begins(cursor, |spot| at(spot, relation_at(&spot.token)))
+}
+
+/// Whether an operator or a comparison is ahead.
+#[tactic(auto, unfolding(crate::specs::code::Begun::joins))]
+pub(crate) fn joins(cursor: &Cursor<Spot>) -> bool
+    ensures { result ≡ begun.joins (read.next cursor.now) }
+{
+    sees_operator(cursor, Rank::Product)
+        || sees_operator(cursor, Rank::Sum)
+        || sees_relation(cursor)
+        || sees_operator(cursor, Rank::Conjunction)
+        || sees_operator(cursor, Rank::Disjunction)
 }
 
 // ---- one token

@@ -1,6 +1,6 @@
 //! How trees are put together.
 
-ghost use Rattle.std.specs.Prelude.{◌≡◌, IfOk};
+ghost use Rattle.std.specs.Prelude.{◌≡◌, Some, IfOk};
 ghost use Rattle.txn_grammar.specs.Trees as tree;
 
 use crate::kept::boxed_beside;
@@ -35,17 +35,15 @@ pub(crate) fn chained(alloc: Global, first: Expr, others: OperandList) -> Result
     })
 }
 
-/// A first side, and the other where there is one.
+/// Two sides that are compared.
 pub(crate) fn compared(
     alloc: Global,
     left: Expr,
-    other: Option<(Relation, Expr)>,
+    relation: Relation,
+    right: Expr,
 ) -> Result<Expr, AllocError>
-    ensures { IfOk result (λ expr. expr ≡ tree.compared left other) }
+    ensures { IfOk result (λ expr. expr ≡ tree.compared left (Some (relation, right))) }
 {
-    let Some((relation, right)) = other else {
-        return Ok(left);
-    };
     let column = left.column;
     let (left, right) = boxed_beside(alloc, left, right)?;
     let (right, left) = boxed_beside(alloc, right, left)?;
