@@ -1,6 +1,7 @@
 pub mod Buffering
 pub mod Answers
 pub mod Lengths
+pub mod Forms
 pub mod Loops
 pub mod Places
 pub mod Found
