@@ -59,11 +59,11 @@ pub(crate) fn write_at(
     alloc: Global,
     snaps: &Snaps,
     run: &mut Progress<Kept>,
-    address: &Address,
+    address: Address,
     op: &WriteOp,
 ) -> Result<(), Stop>
-    ensures { Answers result run.new (steps.write_at (kept (values_of snaps.now)) address.now op.now run.old) }
+    ensures { Answers result run.new (steps.write_at (kept (values_of snaps.now)) address op.now run.old) }
 {
-    run.memory.buffer.put(alloc, address, op)?;
+    run.memory.buffer.put_at(alloc, address, op)?;
     Ok(())
 }

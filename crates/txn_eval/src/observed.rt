@@ -1,12 +1,13 @@
 //! What a run has observed.
 
-ghost use Rattle.std.specs.Prelude.{◌≡◌, true, not, if◌then◌else◌, [], IfOk, OnOk, OnErr};
+ghost use Rattle.std.specs.Prelude.{◌≡◌, ◌≤◌, ◌++◌, true, not, if◌then◌else◌, [], take, drop, length, IfOk, OnOk, OnErr};
 ghost use Rattle.std.specs.Bool.{OnFalse};
 ghost use Rattle.std.specs.BTreeMap.{is_at};
 ghost use Rattle.txn_lang.specs.Own.{with_seen};
 ghost use Rattle.txn_eval.specs.declared.seen_key.SeenKey.{SeenKey};
 ghost use Rattle.txn_eval.specs.contracts.seen_key.SeenKeyOrd.TheImpl as order;
 ghost use Rattle.txn_eval.specs.code.Found.{has_key};
+ghost use Rattle.txn_eval.specs.declared.observed.TheConstants.{LOOKED_THROUGH};
 
 use crate::seen_key::{SeenKey, key_of};
 use plain_data::Sequence;
@@ -15,23 +16,40 @@ use std::collections::BTreeSet;
 use std::marker::Model;
 use txn_lang::{Seen, SeenList};
 
-/// Observations in the order of their first making, each once. One is found by halving.
+/// So many observations are looked through one by one. Few bodies make more.
+const LOOKED_THROUGH: usize = 8;
+
+/// Observations in the order of their first making, each once. The first ones are looked through, and one behind them is found
+/// in a tree.
 #[derive(Drop)]
 pub(crate) struct Observed {
     list: SeenList,
+    /// By what those behind the first ones are found.
     keys: BTreeSet<SeenKey>,
 }
 
 impl Model for Observed {
-    ghost use Rattle.std.specs.Prelude.{List};
+    ghost use Rattle.std.specs.Prelude.{List, drop};
     ghost use Rattle.txn_lang.specs.declared.run.Seen.{Seen};
     ghost use Rattle.txn_eval.specs.code.Found.{AreFound};
+    ghost use Rattle.txn_eval.specs.declared.observed.TheConstants.{LOOKED_THROUGH};
 
     ghost Value = { List Seen };
 
     ghost view = { λ o. o.list };
 
-    ghost invariant = { λ o. AreFound o.keys o.list };
+    ghost invariant = { λ o. AreFound o.keys (drop LOOKED_THROUGH o.list) };
+}
+
+/// The first observations.
+fn first(list: &[Seen]) -> &[Seen]
+    ensures { result.now ≡ take LOOKED_THROUGH list.now }
+{
+    if list.len() <= LOOKED_THROUGH {
+        list
+    } else {
+        &list[..LOOKED_THROUGH]
+    }
 }
 
 /// Keeps one key more, and answers whether it is new.
@@ -56,9 +74,24 @@ impl Observed {
         }
     }
 
-    /// Lists an observation, unless it is listed. Its key is looked for once.
+    /// Lists an observation, unless it is listed.
     pub fn note(&mut self, seen: Seen) -> Result<(), AllocError>
         ensures ok { OnOk result (self.new ≡ with_seen self.old seen) }
+        ensures err { OnErr result (self.new ≡ self.old) }
+    {
+        if first(self.list.as_slice()).contains(&seen) {
+            return Ok(());
+        }
+        if self.list.len() < LOOKED_THROUGH {
+            return self.list.push(seen);
+        }
+        self.note_behind(seen)
+    }
+
+    /// Lists an observation, unless it is listed behind the first ones. Its key is looked for once.
+    fn note_behind(&mut self, seen: Seen) -> Result<(), AllocError>
+        requires { LOOKED_THROUGH ≤ length self.old }
+        ensures ok { OnOk result (self.new ≡ take LOOKED_THROUGH self.old ++ with_seen (drop LOOKED_THROUGH self.old) seen) }
         ensures err { OnErr result (self.new ≡ self.old) }
     {
         let key = key_of(&seen)?;

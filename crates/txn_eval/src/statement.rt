@@ -6,8 +6,10 @@ ghost use Rattle.txn_lang.specs.Rules as rules;
 ghost use Rattle.txn_lang.specs.Items.{named, texts_in};
 ghost use Rattle.txn_eval.specs.code.Answers.{Answers, Leaves};
 ghost use Rattle.txn_eval.specs.code.Buffering.{kept};
+ghost use Rattle.txn_eval.specs.code.Forms.{step_on, write_run};
 ghost use Rattle.txn_eval.specs.code.Loops.{for_run, stmts_on};
 ghost use Rattle.txn_eval.specs.Running.{values_of};
+ghost use Rattle.txn_trees.specs.declared.statement.StmtNode.TheOpen.{StmtNode-F};
 
 use crate::charging::{carry, charge};
 use crate::environment::Environment;
@@ -56,8 +58,33 @@ fn write(
     };
     carry(run, size)?;
     match write_of(alloc, kind, word, arguments)? {
-        Some(op) => write_at(alloc, snaps, run, &Address { kind, key }, &op),
+        Some(op) => write_at(alloc, snaps, run, Address { kind, key }, &op),
         None => Ok(()),
+    }
+}
+
+/// Writes what a word says with what its arguments give. A single one takes no list.
+fn write_given(
+    alloc: Global,
+    snaps: &Snaps,
+    names: &Environment,
+    run: &mut Progress<Kept>,
+    kind: Kind,
+    key: Item,
+    word: WriteWord,
+    arguments: &[Expr],
+) -> Result<(), Stop>
+    ensures { Leaves result names.now run.new (write_run (kept (values_of snaps.now)) kind key word arguments.now names.now run.old) }
+{
+    match arguments {
+        [only] => {
+            let items = [value_of(alloc, snaps, names, run, only)?];
+            write(alloc, snaps, run, kind, key, word, &items)
+        }
+        _ => {
+            let items = values_of(alloc, snaps, names, run, arguments)?;
+            write(alloc, snaps, run, kind, key, word, items.as_slice())
+        }
     }
 }
 
@@ -191,8 +218,71 @@ fn repeat(
     }
 }
 
+/// Binds what an expression gives.
+#[tactic(auto, using(crate::proofs::Bound::bound_pushed))]
+fn bind_value(
+    alloc: Global,
+    snaps: &Snaps,
+    names: &mut Environment,
+    run: &mut Progress<Kept>,
+    name: &Text,
+    expr: &Expr,
+) -> Result<(), Stop>
+    ensures leaves { Leaves result names.new run.new (step_on snaps.now (StmtNode-F.Let name.now expr.now) names.old run.old) }
+    ensures bound { OnOk result (take (length names.old) names.new ≡ names.old) }
+{
+    let item = value_of(alloc, snaps, names, run, expr)?;
+    names.bind(name, item)?;
+    Ok(())
+}
+
+/// Emits what an expression gives.
+fn emit_value(
+    alloc: Global,
+    snaps: &Snaps,
+    names: &Environment,
+    run: &mut Progress<Kept>,
+    expr: &Expr,
+) -> Result<(), Stop>
+    ensures { Leaves result names.now run.new (step_on snaps.now (StmtNode-F.Emit expr.now) names.now run.old) }
+{
+    let item = value_of(alloc, snaps, names, run, expr)?;
+    emit(run, item)
+}
+
+/// Fails with what an expression gives.
+fn fail_value(
+    alloc: Global,
+    snaps: &Snaps,
+    names: &Environment,
+    run: &mut Progress<Kept>,
+    expr: &Expr,
+) -> Result<(), Stop>
+    ensures { Leaves result names.now run.new (step_on snaps.now (StmtNode-F.Fail expr.now) names.now run.old) }
+{
+    let item = value_of(alloc, snaps, names, run, expr)?;
+    Err(Stop::Fail(into_text(alloc, item)))
+}
+
+/// Writes at the key that an expression gives.
+fn write_value(
+    alloc: Global,
+    snaps: &Snaps,
+    names: &Environment,
+    run: &mut Progress<Kept>,
+    kind: Kind,
+    key: &Expr,
+    word: WriteWord,
+    arguments: &[Expr],
+) -> Result<(), Stop>
+    ensures { Leaves result names.now run.new (step_on snaps.now (StmtNode-F.Write kind key.now word arguments.now) names.now run.old) }
+{
+    let key = value_of(alloc, snaps, names, run, key)?;
+    write_given(alloc, snaps, names, run, kind, key, word, arguments)
+}
+
 /// A statement.
-#[tactic(auto, using(crate::proofs::Bound::bound_same, crate::proofs::Bound::bound_pushed))]
+#[tactic(auto, using(crate::proofs::Bound::bound_same))]
 #[cycle(step)]
 fn step(
     alloc: Global,
@@ -206,19 +296,9 @@ fn step(
 {
     charge(run, 1)?;
     match &stmt.node {
-        StmtNode::Let(name, expr) => {
-            let item = value_of(alloc, snaps, names, run, expr)?;
-            names.bind(name, item)?;
-            Ok(())
-        }
-        StmtNode::Emit(expr) => {
-            let item = value_of(alloc, snaps, names, run, expr)?;
-            emit(run, item)
-        }
-        StmtNode::Fail(expr) => {
-            let item = value_of(alloc, snaps, names, run, expr)?;
-            Err(Stop::Fail(into_text(alloc, item)))
-        }
+        StmtNode::Let(name, expr) => bind_value(alloc, snaps, names, run, name, expr),
+        StmtNode::Emit(expr) => emit_value(alloc, snaps, names, run, expr),
+        StmtNode::Fail(expr) => fail_value(alloc, snaps, names, run, expr),
         StmtNode::If(expr, yes, no) => {
             let item = value_of(alloc, snaps, names, run, expr)?;
             if bool_in(&item) {
@@ -234,9 +314,16 @@ fn step(
             repeat(alloc, snaps, names, run, name, stmts.as_slice(), expr)
         }
         StmtNode::Write(kind, key, word, arguments) => {
-            let key = value_of(alloc, snaps, names, run, key)?;
-            let items = values_of(alloc, snaps, names, run, arguments.as_slice())?;
-            write(alloc, snaps, run, *kind, key, *word, items.as_slice())
+            write_value(
+                alloc,
+                snaps,
+                names,
+                run,
+                *kind,
+                key,
+                *word,
+                arguments.as_slice(),
+            )
         }
     }
 }

@@ -49,8 +49,21 @@ impl Buffer {
         ensures ok { OnOk result (self.new ≡ with_delta self.old address.now (deltas.delta_of op.now)) }
         ensures err { OnErr result (self.new ≡ self.old) }
     {
-        let delta = delta_of(alloc, op)?;
         let address = address.clone()?;
+        self.put_at(alloc, address, op)
+    }
+
+    /// Adds an operation, as `put` does, at an address that is the buffer's own from then on.
+    pub fn put_at(
+        &mut self,
+        alloc: Global,
+        address: Address,
+        op: &WriteOp,
+    ) -> Result<(), AllocError>
+        ensures ok { OnOk result (self.new ≡ with_delta self.old address (deltas.delta_of op.now)) }
+        ensures err { OnErr result (self.new ≡ self.old) }
+    {
+        let delta = delta_of(alloc, op)?;
         add_delta(alloc, &mut self.deltas, address, delta)
     }
 

@@ -373,3 +373,22 @@ fn bodies_on_values(rt: HostRuntime) {
         assert!(rt; on_given(rt.alloc(), source, *given, *end));
     }
 }
+
+/// How many observations the run of a body on the empty set lists, if it is done.
+fn listed(alloc: Global, source: &[u8]) -> Option<usize> {
+    match ran(alloc, source, Value::Set(TextSet::new(alloc))) {
+        Ok(Some(done)) => Some(done.observations.len()),
+        _ => None,
+    }
+}
+
+/// Observations are listed once, those that are looked through and those behind them.
+#[test]
+fn observations_are_listed_once(rt: HostRuntime) {
+    let eight =
+        b"let t = [\"a\",\"b\",\"c\",\"d\",\"e\",\"f\",\"g\",\"h\"]; for x in t { emit set(\"k\").has(x); } for x in t { emit set(\"k\").has(x); }";
+    assert!(rt; listed(rt.alloc(), eight) == Some(8));
+    let ten =
+        b"let t = [\"a\",\"b\",\"c\",\"d\",\"e\",\"f\",\"g\",\"h\",\"i\",\"j\"]; for x in t { emit set(\"k\").has(x); } for x in t { emit set(\"k\").has(x); }";
+    assert!(rt; listed(rt.alloc(), ten) == Some(10));
+}

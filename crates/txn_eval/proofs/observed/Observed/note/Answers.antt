@@ -1,20 +1,37 @@
-use Rattle.std.proofs.Common.{rules}
-use Rattle.txn_eval.proofs.FoundKept.{found-push, found-back, taken_back}
+use Rattle.std.proofs.Common.{◌≡◌, ◌<◌, length, take, OnOk, sym, ap, ◌∙◌, subst, arith}
+use Rattle.txn_eval.specs.declared.observed.TheConstants.{LOOKED_THROUGH}
+use Rattle.txn_lang.specs.Own.{with_seen}
+use Rattle.txn_eval.proofs.FoundKept.{listed, seen_first, seen_few, seen_behind, found-few}
 use Rattle.txn_eval.proofs.observed.Observed.note.Goals as goal
 
-pub invariant_of-self-in-Ok-true : goal.invariant_of-self-in-Ok-true
-invariant_of-self-in-Ok-true c =
-    found-push c.self.inside.keys c.keep.new.keys c.self.inside.list c.push.new.self c.args.seen c.in_ok-key.key c.self.invariant c.in_ok-key.ensures
-    c.in_ok-push.ensures.ok c.in-Ok-true.ensures.ok
+pub returns-then-contains-clause-ok : goal.returns-then-contains-clause-ok
+returns-then-contains-clause-ok c =
+    seen_first LOOKED_THROUGH c.args.self.now c.args.seen
+    (ap (λ zs. listed c.args.seen (take LOOKED_THROUGH zs)) (sym c.self.view_is)
+    ∙ ap (listed c.args.seen) (sym (c.first.ensures ∙ ap (take LOOKED_THROUGH) c.as_slice.ensures))
+    ∙ sym c.contains.ensures.value
+    ∙ c.if-contains.true)
 
-pub invariant_of-self-in-Ok-false : goal.invariant_of-self-in-Ok-false
-invariant_of-self-in-Ok-false c =
-    let same = taken_back c.self.inside.list c.push.new.self c.args.seen c.len-count.result c.len-count.ensures c.in_ok-push.ensures.ok in
-    rw (c.truncate.ensures)
-    (found-back c.self.inside.keys c.keep.new.keys c.self.inside.list _ c.self.invariant (search rules) same)
+pub returns-clause-ok : goal.returns-clause-ok
+returns-clause-ok c =
+    subst (λ zs. OnOk c.note_behind.result (c.note_behind.new.self ≡ zs))
+    (seen_behind LOOKED_THROUGH c.args.self.now c.args.seen
+    (ap (λ zs. listed c.args.seen (take LOOKED_THROUGH zs)) (sym c.self.view_is)
+    ∙ ap (listed c.args.seen) (sym (c.first.ensures ∙ ap (take LOOKED_THROUGH) c.as_slice.ensures))
+    ∙ sym c.contains.ensures.value
+    ∙ c.if-contains.false))
+    c.note_behind.ensures.ok
 
-pub invariant_of-self-in-Err : goal.invariant_of-self-in-Err
-invariant_of-self-in-Err c =
-    let same = taken_back c.self.inside.list c.push.new.self c.args.seen c.len-count.result c.len-count.ensures c.in_ok-push.ensures.ok in
-    rw (c.truncate-in-Err.ensures)
-    (found-back c.self.inside.keys c.keep.new.keys c.self.inside.list _ c.self.invariant c.in-Err.ensures.err same)
+pub invariant_of-self : goal.invariant_of-self
+invariant_of-self c =
+    let few : length c.self.inside.list < 8 = omega (arith, c.if-len-lt-LOOKED_THROUGH.true, c.len.ensures) in
+    found-few c.push.result LOOKED_THROUGH c.self.inside.keys c.self.inside.list c.push.new.self c.args.seen few c.self.invariant c.push.ensures.ok
+    c.push.ensures.err
+
+pub returns-then-len-lt-LOOKED_THROUGH-clause-ok : goal.returns-then-len-lt-LOOKED_THROUGH-clause-ok
+returns-then-len-lt-LOOKED_THROUGH-clause-ok c =
+    let few : length c.self.inside.list < 8 = omega (arith, c.if-len-lt-LOOKED_THROUGH.true, c.len.ensures) in
+    subst (λ zs. OnOk c.push.result (c.push.new.self ≡ with_seen zs c.args.seen)) c.self.view_is
+    (seen_few LOOKED_THROUGH c.self.inside.list c.args.seen c.push.result c.push.new.self few
+    (ap (listed c.args.seen) (sym (c.first.ensures ∙ ap (take LOOKED_THROUGH) c.as_slice.ensures)) ∙ sym c.contains.ensures.value ∙ c.if-contains.false)
+    c.push.ensures.ok)
