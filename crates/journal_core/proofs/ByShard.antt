@@ -156,6 +156,13 @@ all_past m n (commit ∷ rest) order numbered =
     passing (λ k. nat_lt m k) commit rest (changes rest) (lt-ltb m commit.number (omega (arith, order, numbered.0)))
     (all_past m (n + 1) rest (omega (arith, order)) numbered.1)
 
+-- none is past a number that they don't reach beyond
+pub none_past : (m n : ℕ) (journal : Journal) → n + length journal ≤ m → AreNumberedFrom n journal → past m (changes journal) ≡ []
+none_past m n [] order numbered = refl
+none_past m n (commit ∷ rest) order numbered =
+    failing (λ k. nat_lt m k) commit rest [] (le-ltb m commit.number (omega (arith, order, numbered.0)))
+    (none_past m (n + 1) rest (omega (arith, order)) numbered.1)
+
 -- the changes up to a number are those of so many commits
 pub changes-up_to : (m n t : ℕ) (journal : Journal) → m ≡ n + t → AreNumberedFrom n journal → up_to m (changes journal) ≡ changes (take t journal)
 changes-up_to m n zero [] is numbered = refl

@@ -1,5 +1,5 @@
 -- Changes past a number, for an observation that is based at it or before it.
-use Rattle.std.proofs.Common.{◌≡◌, ℕ, ◌≤◌, Bool, true, false, ◌&&◌, nat_lt, List, [], ◌∷◌, filter, refl, ap, arith, cond, Some}
+use Rattle.std.proofs.Common.{◌≡◌, ℕ, ◌≤◌, Bool, true, false, ◌&&◌, nat_lt, List, [], ◌∷◌, filter, refl, sym, ap, ◌∙◌, arith, cond, Some, None}
 use Rattle.std.specs.BTreeMap.{is_at}
 use Rattle.rdt_types.specs.Addresses.{address_cmp}
 use Rattle.conflict_table.specs.Clashes.{clash}
@@ -47,3 +47,7 @@ meets-past based from (change ∷ rest) within = by_number (meets-past based fro
         let also = lower based.base from change.number within here in
         rw (here, also) (ap (λ o. cond (is_at (address_cmp based.address) change.address) (change ∷ o) o) later)
     by_number later false here = rw here later
+
+-- where nothing is past a number, nothing clashes with the observation as if it was made there
+pub none_clashes : (based : Based) (from : ℕ) (all : List Change) → based.base ≤ from → past from all ≡ [] → first_clash (moved based from) all ≡ None
+none_clashes based from all within none = sym (first_clash-past based from all within) ∙ ap (first_clash based) none

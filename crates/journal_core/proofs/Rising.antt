@@ -11,6 +11,7 @@ use Rattle.rdt_types.specs.DeltaMaps.{Deltas}
 use Rattle.change_feed.specs.declared.change.Change.{Change}
 use Rattle.txn_lang.specs.States.{Journal}
 use Rattle.std.proofs.Common.{append-nil, append_assoc}
+use Rattle.std.proofs.Math.Seq.{drop-nil}
 use Rattle.txn_lang.specs.declared.commit.Commit.{Commit}
 use Rattle.journal_core.specs.Changes.{changes, changes_of, past, up_to}
 use Rattle.journal_core.specs.Pairs.{AreNumberedFrom}
@@ -97,6 +98,32 @@ filter-back p q other (x ∷ xs) (suc i) point within =
       (λ k d low high. point.0 (suc k) d (omega arith) (omega (arith, high))),
       λ k d low high. point.1 (suc k) d (omega (arith, low)) (omega (arith, high)),
     ) (omega (arith, within))))
+
+-- what stands before a change up to a number is up to it too, and so is the rest of those that are
+pub front-up_to : (m n : ℕ) (all : List Change) (i : ℕ) (d : Change) → Rises n all → i < length all → (get_or all i d).number ≤ m
+    → up_to m all ≡ take i all ++ up_to m (drop i all)
+front-up_to m n [] i d rises within at = absurd (omega (arith, within))
+front-up_to m n (change ∷ rest) zero d rises within at = refl
+front-up_to m n (change ∷ rest) (suc i) d rises within at =
+    let later = rises-at change.number rest i d rises.1 (omega (arith, within)) in
+    let here : nat_le change.number m ≡ true = grind (arith, later, at) in
+    rw here (ap (λ more. change ∷ more) (front-up_to m change.number rest i d rises.1 (omega (arith, within)) at))
+
+-- and nothing of it is past it
+pub front-past : (m n : ℕ) (all : List Change) (i : ℕ) (d : Change) → Rises n all → i < length all → (get_or all i d).number ≤ m
+    → past m all ≡ past m (drop i all)
+front-past m n [] i d rises within at = absurd (omega (arith, within))
+front-past m n (change ∷ rest) zero d rises within at = refl
+front-past m n (change ∷ rest) (suc i) d rises within at =
+    let later = rises-at change.number rest i d rises.1 (omega (arith, within)) in
+    let here : nat_lt m change.number ≡ false = grind (arith, later, at) in
+    rw here (front-past m change.number rest i d rises.1 (omega (arith, within)) at)
+
+-- what is left behind a place is in order
+pub rises-drop : (n i : ℕ) (all : List Change) → Rises n all → Rises n (drop i all)
+rises-drop n i [] rises = rw (drop-nil {A = Change} i) tt
+rises-drop n zero (change ∷ rest) rises = rises
+rises-drop n (suc i) (change ∷ rest) rises = rises_lower n change.number (drop i rest) rises.0 (rises-drop change.number i rest rises.1)
 
 -- what is past a number isn't up to it
 pub later : (m n : ℕ) → nat_lt m n ≡ not (nat_le n m)

@@ -1,7 +1,6 @@
 //! The least clash past what was prepared.
 
-ghost use Rattle.std.specs.Prelude.{◌≡◌, ◌+◌, ◌<◌, ◌≤◌, ◌^◌, filter, length};
-ghost use Rattle.rdt_types.specs.declared.limits.TheConstants.{LEAST_SHARDS, MOST_SHARDS};
+ghost use Rattle.std.specs.Prelude.{◌≡◌, ◌+◌, ◌<◌, ◌≤◌, ◌^◌, filter, length, max};
 ghost use Rattle.abort_witness.specs.Pairs as pairs;
 ghost use Rattle.journal_core.specs.Pairs as spec;
 ghost use Rattle.journal_core.specs.Changes.{changes};
@@ -26,17 +25,16 @@ fn front_at(fronts: &[PreparedFront], shard: u8) -> u64
     0
 }
 
-/// From which number on commits count for an observation: past its base, and past the front of its shard.
-fn counts_from(based: &Based, shards: u8, fronts: &[PreparedFront]) -> u64
-    requires { (LEAST_SHARDS ≤ shards) × (shards ≤ MOST_SHARDS) }
-    ensures from { result ≡ (spec.past_front shards fronts.now based.now).base }
-    ensures base { based.now.base ≤ result }
+/// From which number on commits count for an observation in a shard: past its base, and past the front of its shard.
+fn counts_from(based: &Based, shard: u8, fronts: &[PreparedFront]) -> u64
+    ensures { result ≡ max based.now.base (spec.front_at fronts.now shard) }
 {
-    let front = front_at(fronts, shard_of(&based.address, shards));
+    let front = front_at(fronts, shard);
     based.base.max(front)
 }
 
-/// The number of the first change past what was prepared that clashes with an observation. It looks only into its shard.
+/// The number of the first change past what was prepared that clashes with an observation. It looks only into its shard, and
+/// nowhere where no commit is past the base.
 fn clash_past<L: Ledger>(
     based: &Based,
     log: &Log,
@@ -46,8 +44,12 @@ fn clash_past<L: Ledger>(
     ensures first { result ≡ pairs.first_clash (spec.past_front log.now.shards fronts.now based.now) (changes log.now.commits) }
     ensures steps { steps.new ≤ steps.old + length (filter (pairs.meets (spec.past_front log.now.shards fronts.now based.now)) (changes log.now.commits)) }
 {
-    let from = counts_from(based, log.shards(), fronts);
-    let here = log.in_shard(shard_of(&based.address, log.shards()));
+    if log.commits().len() as u64 <= based.base {
+        return None;
+    }
+    let shard = shard_of(&based.address, log.shards());
+    let from = counts_from(based, shard, fronts);
+    let here = log.in_shard(shard);
     first_clash(based, past(here, from), steps)
 }
 

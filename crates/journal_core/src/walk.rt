@@ -1,27 +1,64 @@
 //! Parts of a list of changes whose numbers don't fall.
 
-ghost use Rattle.std.specs.Prelude.{◌≡◌};
+ghost use Rattle.std.specs.Prelude.{◌≡◌, ◌≤◌, ◌++◌, length, take, drop};
 ghost use Rattle.journal_core.specs.Rising.{Rises};
 ghost use Rattle.journal_core.specs.Changes as spec;
 
 use change_feed::Change;
 
-/// The changes of commits past a number, found by halving.
+/// A place before which all changes are of commits up to a number. It is found from the end by steps that double, since most
+/// that ask are near it.
+fn near_end(changes: &[Change], number: u64) -> usize
+    requires { Rises 0 changes.now }
+    ensures within { result ≤ length changes.now }
+    ensures up_to { spec.up_to number changes.now ≡ take result changes.now ++ spec.up_to number (drop result changes.now) }
+    ensures past { spec.past number changes.now ≡ spec.past number (drop result changes.now) }
+{
+    let mut step = 1;
+    while step < changes.len() {
+        if changes[changes.len() - step].number <= number {
+            return changes.len() - step;
+        }
+        step *= 2;
+    }
+    0
+}
+
+/// How many changes are of commits up to a number, found by halving.
+fn halved(changes: &[Change], number: u64) -> usize
+    requires { Rises 0 changes.now }
+    ensures within { result ≤ length changes.now }
+    ensures up_to { take result changes.now ≡ spec.up_to number changes.now }
+    ensures past { drop result changes.now ≡ spec.past number changes.now }
+{
+    changes.partition_point(|change| change.number <= number)
+}
+
+/// The same, by halving near the end alone.
+fn count_up_to(changes: &[Change], number: u64) -> usize
+    requires { Rises 0 changes.now }
+    ensures within { result ≤ length changes.now }
+    ensures up_to { take result changes.now ≡ spec.up_to number changes.now }
+    ensures past { drop result changes.now ≡ spec.past number changes.now }
+{
+    let start = near_end(changes, number);
+    start + halved(&changes[start..], number)
+}
+
+/// The changes of commits past a number.
 pub(crate) fn past(changes: &[Change], from: u64) -> &[Change]
     requires { Rises 0 changes.now }
     ensures { result.now ≡ spec.past from changes.now }
 {
-    let place = changes.partition_point(|change| change.number <= from);
-    &changes[place..]
+    &changes[count_up_to(changes, from)..]
 }
 
-/// The changes of commits up to a number, found by halving.
+/// The changes of commits up to a number.
 pub(crate) fn up_to(changes: &[Change], to: u64) -> &[Change]
     requires { Rises 0 changes.now }
     ensures { result.now ≡ spec.up_to to changes.now }
 {
-    let place = changes.partition_point(|change| change.number <= to);
-    &changes[..place]
+    &changes[..count_up_to(changes, to)]
 }
 
 /// The changes of commits past one number and up to another, of a list in which numbers don't fall.

@@ -30,7 +30,7 @@ use Rattle.session_core.specs.declared.turn.Turn.{Turn}
 use Rattle.session_core.specs.Errors.{error_of}
 use Rattle.session_core.specs.Phases.{Phase, with_attempt, closed, ended, afresh, event_call, call_of, moved_at, moved_by, said, stepped, is_abort}
 use Rattle.session_core.specs.Phases.{after_end, gone, look_by, look_on, look_from, asks, after}
-use Rattle.session_core.specs.Leading.{Leads, Reaches, Arrives, Stops, Went, Turned, Moves, Tries, Makes, Drives, Closes, Replies, LooksAt, Valued, turn_of}
+use Rattle.session_core.specs.Leading.{Leads, Reaches, Arrives, Stops, Went, Turned, Moves, Tries, Makes, MakesOn, Drives, Closes, Replies, LooksAt, Valued, turn_of}
 use Rattle.session_core.specs.Holding.{Holds, Attends}
 use Rattle.session_core.proofs.Phases.{PhaseHolds, plain-on, phase-kept}
 
@@ -189,6 +189,11 @@ module _ {B : Type 0} (known : B → Known) (goes : B → Call → Answer → B 
   pub unmade : (s : Session) (a : Attempt) (b : B) (result : Result Moved SessionError) (e : SessionError) → result ≡ Err e → e ≡ error.NoMemory
       → Makes known goes s a b result b
   unmade s a b result e is want = subst (λ r. Makes known goes s a b r b) (sym is) (Tries.not_made refl want)
+
+  -- an event that wasn't made, or failed, of an attempt that stays in its place
+  pub makes-err : (s : Session) (a : Attempt) (b : B) (result : Result (Option Reply) SessionError) (e : SessionError) (following : Attempt) (c : B)
+      → result ≡ Err e → Tries known goes s a b e c → MakesOn known goes s a b result following c
+  makes-err s a b result e following c is tries = subst (λ r. MakesOn known goes s a b r following c) (sym is) tries
 
   module _ (b : B) (p : Phase) (n : ℕ) (c d : B) (s : Session) (left : ℕ) (a : Attempt) (led : Leads (Goes known goes) b p n c (Phase.going s left a)) where
     -- the event's call is one step more, after which the attempt goes on

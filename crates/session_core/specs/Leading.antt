@@ -2,17 +2,21 @@
 use Rattle.std.specs.Prelude.{◌≡◌, ℕ, ◌+◌, ◌-◌, ◌≤◌, true, List, [], Option, Some, None, Result, Ok, Err}
 use Rattle.std.specs.BTreeMap.{insert_entry}
 use Rattle.rdt_types.specs.declared.address.Address.{Address}
+use Rattle.rdt_types.specs.declared.outcome.Outcome.{Outcome}
 use Rattle.rdt_types.specs.Addresses.{address_cmp}
 use Rattle.session_text.specs.declared.reply.Reply.{Reply}
 use Rattle.session_text.specs.declared.reply.Reply.TheVariants as reply
 use Rattle.txn_lang.specs.declared.checked.Checked.{Checked}
+use Rattle.txn_lang.specs.declared.run.Run.{Run}
 use Rattle.docc_prepare.specs.declared.attempt.Attempt.{Attempt}
-use Rattle.docc_prepare.specs.Attempts.{SnapList}
+use Rattle.docc_prepare.specs.declared.attempt.Next.TheVariants as next
+use Rattle.docc_prepare.specs.Attempts.{SnapList, next_event}
 use Rattle.docc_prepare.specs.Calls.{Known, Call, Answer}
 use Rattle.docc_prepare.specs.Backends.{Goes}
 use Rattle.session_core.specs.declared.limits.TheConstants.{MOST_CALLS, MOST_EVENTS}
 use Rattle.session_core.specs.declared.line.Line.TheVariants as asked
 use Rattle.session_core.specs.declared.moved.Moved.{Moved}
+use Rattle.session_core.specs.declared.moved.Moved.TheVariants as moved
 use Rattle.session_core.specs.declared.moved.Ended.{Ended}
 use Rattle.session_core.specs.declared.moved.Followed.{Followed}
 use Rattle.session_core.specs.declared.moved.Followed.TheVariants as followed
@@ -87,6 +91,39 @@ pub data Tries {B : Type 0} (known : B → Known) (goes : B → Call → Answer 
 abbrev pub Makes : {B : Type 0} → (B → Known) → (B → Call → Answer → B → Type 0) → Session → Attempt → B → Result Moved SessionError → B → Type 0
 Makes known goes s a old (Ok m) new = Moves known goes s a old m new
 Makes known goes s a old (Err e) new = Tries known goes s a old e new
+
+-- a result of one event as what it makes of the attempt: a read, which shows its base, a preparing, and an append
+abbrev pub moved_on_read : Address → Attempt → Result ℕ SessionError → Result Moved SessionError
+moved_on_read address a (Ok base) = Ok (moved.More a (reply.Read address base))
+moved_on_read address a (Err e) = Err e
+
+abbrev pub moved_on_prepare : ℕ → Attempt → Result (Result ℕ Reply) SessionError → Result Moved SessionError
+moved_on_prepare shard a (Ok (Ok front)) = Ok (moved.More a (reply.Prepared shard front))
+moved_on_prepare shard a (Ok (Err r)) = Ok (moved.End a r)
+moved_on_prepare shard a (Err e) = Err e
+
+abbrev pub moved_on_append : Attempt → Result Reply SessionError → Result Moved SessionError
+moved_on_append a (Ok r) = Ok (moved.End a r)
+moved_on_append a (Err e) = Err e
+
+-- the next event is an append of a run with this outcome
+pub record Appends (a : Attempt) (outcome : Outcome) : Type 0 where
+  pub run : Run
+  pub next : next_event a ≡ next.Append run
+  pub outcome_is : run.outcome ≡ outcome
+
+-- one event after which the attempt goes on, whatever would show it
+pub record GoesOn {B : Type 0} (known : B → Known) (goes : B → Call → Answer → B → Type 0) (s : Session) (a : Attempt) (old : B) (next : Attempt)
+    (new : B) : Type 0 where
+  pub shown : Reply
+  pub moves : Moves known goes s a old (moved.More next shown) new
+
+-- one event of an attempt that stays in its place: it goes on, or has ended with a reply
+abbrev pub MakesOn : {B : Type 0} → (B → Known) → (B → Call → Answer → B → Type 0) → Session → Attempt → B → Result (Option Reply) SessionError → Attempt
+    → B → Type 0
+MakesOn known goes s a old (Ok None) next new = GoesOn known goes s a old next new
+MakesOn known goes s a old (Ok (Some r)) last new = Moves known goes s a old (moved.End last r) new
+MakesOn known goes s a old (Err e) last new = Tries known goes s a old e new
 
 -- ---- more events
 

@@ -10,7 +10,7 @@ ghost use Rattle.session_core.specs.Leading.{Drives, Closes, followed_by};
 use crate::error::SessionError;
 use crate::event::event_on;
 use crate::limits::MOST_EVENTS;
-use crate::moved::{Ended, Followed, Moved};
+use crate::moved::{Ended, Followed};
 use crate::session::Session;
 use docc_prepare::{Attempt, Backend};
 use session_text::Reply;
@@ -31,14 +31,9 @@ pub fn drive<B: Backend>(
     let mut attempt = attempt;
     let mut known = None;
     for _ in 0..MOST_EVENTS {
-        match event_on(alloc, backend, session, attempt, &mut known)? {
-            Moved::More(next, _) => attempt = next,
-            Moved::End(last, reply) => {
-                return Ok(Ended {
-                    attempt: last,
-                    reply,
-                });
-            }
+        let end = event_on(alloc, backend, session, &mut attempt, &mut known)?;
+        if let Some(reply) = end {
+            return Ok(Ended { attempt, reply });
         }
     }
     Err(SessionError::NoMemory)

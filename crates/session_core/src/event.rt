@@ -5,7 +5,7 @@ ghost use Rattle.docc_prepare.specs.Attempts.{in_shard, based, next_event, ready
 ghost use Rattle.docc_prepare.specs.Calls.{snap_answered, front_answered, commit_answered};
 ghost use Rattle.session_core.specs.Phases.{closed};
 ghost use Rattle.session_core.specs.Holding.{Attends, Holds};
-ghost use Rattle.session_core.specs.Leading.{Turned, Makes};
+ghost use Rattle.session_core.specs.Leading.{Turned, Makes, MakesOn, Appends, moved_on_read, moved_on_prepare, moved_on_append};
 ghost use Rattle.session_core.specs.Remembering.{IsRunOf, Remembers};
 
 use crate::error::SessionError;
@@ -15,28 +15,26 @@ use crate::session::Session;
 use abort_witness::BasedList;
 use docc_prepare::{AppendError, Attempt, Backend, Next, PrepareError, StoreError};
 use journal_core::Ready;
-use rdt_types::Address;
+use rdt_types::{Address, Outcome};
 use session_text::Reply;
 use std::alloc::{AllocError, Global};
 use txn_lang::{Run, Snap};
 use version_shard::Prepared;
 
-/// What an answered read makes of an attempt. The address is there twice: for the attempt, and for the reply.
+/// What an answered read makes of an attempt, and the front at which the value was read.
 fn after_read(
-    mut attempt: Attempt,
+    attempt: &mut Attempt,
     address: Address,
-    shown: Address,
     answer: Result<Snap, StoreError>,
-) -> Result<Moved, SessionError>
-    requires next { next_event attempt ≡ Next.Read address }
-    requires shown { shown ≡ address }
-    ensures { Turned attempt (snap_answered answer) result }
+) -> Result<u64, SessionError>
+    requires { next_event attempt.old ≡ Next.Read address }
+    ensures { Turned attempt.old (snap_answered answer) (moved_on_read address attempt.new result) }
 {
     match answer {
         Ok(snap) => {
             let base = snap.base;
             match attempt.take_snap(address, snap) {
-                Ok(()) => Ok(Moved::More(attempt, Reply::Read(shown, base))),
+                Ok(()) => Ok(base),
                 Err(AllocError) => Err(SessionError::NoMemory),
             }
         }
@@ -45,50 +43,47 @@ fn after_read(
     }
 }
 
-/// What an answered preparing of a shard makes of it.
+/// What an answered preparing of a shard makes of an attempt: it has a front more, or has ended with a reply.
 fn after_prepare(
-    mut attempt: Attempt,
+    attempt: &mut Attempt,
     shard: u8,
     answer: Result<Prepared, PrepareError>,
-) -> Result<Moved, SessionError>
-    requires { Prepares attempt shard }
-    ensures { Turned attempt (front_answered answer) result }
+) -> Result<Result<u64, Reply>, SessionError>
+    requires { Prepares attempt.old shard }
+    ensures { Turned attempt.old (front_answered answer) (moved_on_prepare shard attempt.new result) }
 {
     match answer {
         Ok(prepared) => {
             let front = prepared.front;
             match attempt.take_prepared(Prepared { shard, front }) {
-                Ok(()) => Ok(Moved::More(attempt, Reply::Prepared(shard, front))),
+                Ok(()) => Ok(Ok(front)),
                 Err(AllocError) => Err(SessionError::NoMemory),
             }
         }
         Err(error) => match error {
-            PrepareError::Late(base, horizon) => Ok(Moved::End(
-                attempt,
-                Reply::Late(base, horizon),
-            )),
-            PrepareError::Clash(witness) => Ok(Moved::End(attempt, Reply::Abort(witness))),
+            PrepareError::Late(base, horizon) => Ok(Err(Reply::Late(base, horizon))),
+            PrepareError::Clash(witness) => Ok(Err(Reply::Abort(witness))),
             PrepareError::Fault => Err(SessionError::StoreFault),
             PrepareError::NoMemory => Err(SessionError::NoMemory),
         },
     }
 }
 
-/// What an answered append makes of it.
+/// The reply with which an attempt ends at an answered append.
 fn after_append(
-    attempt: Attempt,
-    run: Run,
+    attempt: &Attempt,
+    outcome: Outcome,
     answer: Result<u64, AppendError>,
-) -> Result<Moved, SessionError>
-    requires { next_event attempt ≡ Next.Append run }
-    ensures { Turned attempt (commit_answered answer) result }
+) -> Result<Reply, SessionError>
+    requires { Appends attempt.now outcome }
+    ensures { Turned attempt.now (commit_answered answer) (moved_on_append attempt.now result) }
 {
     match answer {
-        Ok(number) => Ok(Moved::End(attempt, Reply::Commit(number, run.outcome))),
+        Ok(number) => Ok(Reply::Commit(number, outcome)),
         Err(error) => match error {
-            AppendError::Clash(witness) => Ok(Moved::End(attempt, Reply::Abort(witness))),
-            AppendError::Full(limit) => Ok(Moved::End(attempt, Reply::Full(limit))),
-            AppendError::Disk => Ok(Moved::End(attempt, Reply::Disk)),
+            AppendError::Clash(witness) => Ok(Reply::Abort(witness)),
+            AppendError::Full(limit) => Ok(Reply::Full(limit)),
+            AppendError::Disk => Ok(Reply::Disk),
             AppendError::Fault => Err(SessionError::StoreFault),
             AppendError::NoMemory => Err(SessionError::NoMemory),
         },
@@ -106,21 +101,21 @@ fn copied(address: &Address) -> Result<Address, SessionError>
     }
 }
 
+/// Reads the value that an attempt needs, and answers the front at which it was read.
 fn read_event<B: Backend>(
     backend: &mut B,
     session: &Session,
-    attempt: Attempt,
+    attempt: &mut Attempt,
     address: Address,
-) -> Result<Moved, SessionError>
+) -> Result<u64, SessionError>
     requires attends { Attends (B.known backend.old) (closed session.now) }
-    requires holds { Holds (B.known backend.old) attempt }
-    requires next { next_event attempt ≡ Next.Read address }
-    ensures makes { Makes B.known B.goes session.now attempt backend.old result backend.new }
+    requires holds { Holds (B.known backend.old) attempt.old }
+    requires next { next_event attempt.old ≡ Next.Read address }
+    ensures makes { Makes B.known B.goes session.now attempt.old backend.old (moved_on_read address attempt.new result) backend.new }
     ensures home { B.home backend.new ≡ B.home backend.old }
 {
-    let shown = copied(&address)?;
     let answer = backend.read(&address);
-    after_read(attempt, address, shown, answer)
+    after_read(attempt, address, answer)
 }
 
 /// What a run observed in a shard, with bases, where that isn't too much.
@@ -143,21 +138,22 @@ fn based_here(
     }
 }
 
+/// Prepares a shard for an attempt: it has a front more, or has ended with a reply.
 fn prepare_event<B: Backend>(
     alloc: Global,
     backend: &mut B,
     session: &Session,
-    attempt: Attempt,
+    attempt: &mut Attempt,
     shard: u8,
     run: &Run,
-) -> Result<Moved, SessionError>
+) -> Result<Result<u64, Reply>, SessionError>
     requires attends { Attends (B.known backend.old) (closed session.now) }
-    requires holds { Holds (B.known backend.old) attempt }
-    requires next { next_event attempt ≡ Next.Prepare shard run.now }
-    ensures makes { Makes B.known B.goes session.now attempt backend.old result backend.new }
+    requires holds { Holds (B.known backend.old) attempt.old }
+    requires next { next_event attempt.old ≡ Next.Prepare shard run.now }
+    ensures makes { Makes B.known B.goes session.now attempt.old backend.old (moved_on_prepare shard attempt.new result) backend.new }
     ensures home { B.home backend.new ≡ B.home backend.old }
 {
-    let all = based_here(alloc, &attempt, run, shard)?;
+    let all = based_here(alloc, attempt, run, shard)?;
     let answer = backend.prepare(shard, &all);
     after_prepare(attempt, shard, answer)
 }
@@ -183,23 +179,24 @@ fn readied(
     }
 }
 
+/// Hands an attempt to the journal, and answers the reply with which it ends.
 fn append_event<B: Backend>(
     alloc: Global,
     backend: &mut B,
     session: &Session,
-    attempt: Attempt,
+    attempt: &Attempt,
     run: Run,
-) -> Result<Moved, SessionError>
+) -> Result<Reply, SessionError>
     requires attends { Attends (B.known backend.old) (closed session.now) }
-    requires holds { Holds (B.known backend.old) attempt }
-    requires next { next_event attempt ≡ Next.Append run }
-    ensures makes { Makes B.known B.goes session.now attempt backend.old result backend.new }
+    requires holds { Holds (B.known backend.old) attempt.now }
+    requires next { next_event attempt.now ≡ Next.Append run }
+    ensures makes { Makes B.known B.goes session.now attempt.now backend.old (moved_on_append attempt.now result) backend.new }
     ensures home { B.home backend.new ≡ B.home backend.old }
 {
-    let ready = readied(alloc, session, &attempt, run)?;
+    let ready = readied(alloc, session, attempt, run)?;
     let answer = backend.append(&ready);
     let Ready { run, .. } = ready;
-    after_append(attempt, run, answer)
+    after_append(attempt, run.outcome, answer)
 }
 
 /// The next event of an attempt, of which the run may be known.
@@ -218,29 +215,36 @@ fn next_of(alloc: Global, attempt: &Attempt, known: Option<Run>) -> Result<Next,
 }
 
 /// Makes the next event of an attempt of a session, of which the run may be known. What is known of the run then stands in that
-/// place: a preparing changes nothing of it.
+/// place: a preparing changes nothing of it. Where the attempt has ended it answers the reply that shows its end.
 pub fn event_on<B: Backend>(
     alloc: Global,
     backend: &mut B,
     session: &Session,
-    attempt: Attempt,
+    attempt: &mut Attempt,
     known: &mut Option<Run>,
-) -> Result<Moved, SessionError>
+) -> Result<Option<Reply>, SessionError>
     requires attends { Attends (B.known backend.old) (closed session.now) }
-    requires holds { Holds (B.known backend.old) attempt }
-    requires known { IsRunOf attempt known.old }
-    ensures makes { Makes B.known B.goes session.now attempt backend.old result backend.new }
-    ensures known { IfOk result (λ moved. Remembers moved known.new) }
+    requires holds { Holds (B.known backend.old) attempt.old }
+    requires known { IsRunOf attempt.old known.old }
+    ensures makes { MakesOn B.known B.goes session.now attempt.old backend.old result attempt.new backend.new }
+    ensures known { IfOk result (λ end. Remembers attempt.new end known.new) }
     ensures home { B.home backend.new ≡ B.home backend.old }
 {
-    match next_of(alloc, &attempt, known.take())? {
-        Next::Read(address) => read_event(backend, session, attempt, address),
-        Next::Prepare(shard, run) => {
-            let moved = prepare_event(alloc, backend, session, attempt, shard, &run)?;
-            *known = Some(run);
-            Ok(moved)
+    match next_of(alloc, attempt, known.take())? {
+        Next::Read(address) => {
+            read_event(backend, session, attempt, address)?;
+            Ok(None)
         }
-        Next::Append(run) => append_event(alloc, backend, session, attempt, run),
+        Next::Prepare(shard, run) => {
+            match prepare_event(alloc, backend, session, attempt, shard, &run)? {
+                Ok(_) => {
+                    *known = Some(run);
+                    Ok(None)
+                }
+                Err(reply) => Ok(Some(reply)),
+            }
+        }
+        Next::Append(run) => Ok(Some(append_event(alloc, backend, session, attempt, run)?)),
     }
 }
 
@@ -256,6 +260,22 @@ pub fn event<B: Backend>(
     ensures makes { Makes B.known B.goes session.now attempt backend.old result backend.new }
     ensures home { B.home backend.new ≡ B.home backend.old }
 {
-    let mut known = None;
-    event_on(alloc, backend, session, attempt, &mut known)
+    let mut attempt = attempt;
+    match next_of(alloc, &attempt, None)? {
+        Next::Read(address) => {
+            let shown = copied(&address)?;
+            let base = read_event(backend, session, &mut attempt, address)?;
+            Ok(Moved::More(attempt, Reply::Read(shown, base)))
+        }
+        Next::Prepare(shard, run) => {
+            match prepare_event(alloc, backend, session, &mut attempt, shard, &run)? {
+                Ok(front) => Ok(Moved::More(attempt, Reply::Prepared(shard, front))),
+                Err(reply) => Ok(Moved::End(attempt, reply)),
+            }
+        }
+        Next::Append(run) => {
+            let reply = append_event(alloc, backend, session, &attempt, run)?;
+            Ok(Moved::End(attempt, reply))
+        }
+    }
 }

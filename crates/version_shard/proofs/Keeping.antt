@@ -8,6 +8,7 @@ use Rattle.std.specs.BTreeMap.{is_at}
 use Rattle.std.proofs.Math.Seq.{take-length, drop-length}
 use Rattle.std.proofs.lemmas.List.Elements.{recursion_from_All}
 use Rattle.std.proofs.lemmas.List.Sorted.{IsNonDecreasingBy-from_all_adjacent}
+use Rattle.std.proofs.lemmas.Bool.{le-ltb}
 use Rattle.plain_data.proofs.Entries.{equal}
 use Rattle.rdt_types.specs.declared.address.Address.{Address}
 use Rattle.rdt_types.specs.Addresses.{address_cmp}
@@ -21,7 +22,7 @@ use Rattle.journal_core.specs.Rising.{Rises}
 use Rattle.journal_core.proofs.Each.{each-more, each-take, each-filter}
 use Rattle.journal_core.proofs.Rising.{rises-at}
 use Rattle.version_shard.specs.declared.version.Version.{Version}
-use Rattle.version_shard.specs.Versions.{Versioned, up_to}
+use Rattle.version_shard.specs.Versions.{Versioned, up_to, past}
 use Rattle.version_shard.specs.Shards.{Kept, unchanged, versions_of, SuitsVersion, AreKept}
 use Rattle.version_shard.specs.code.Following.{followed_along, cut_along, StopsAt, Reaches}
 use Rattle.version_shard.proofs.Stepping.{below-all, below-none, all-below, along-all, cut_back}
@@ -117,6 +118,11 @@ tail-within from to changes tail = recursion_from_All (λ (c : Change). c.number
 pub up_to-kept : (front n : ℕ) (kept : Kept) (a : Address) → AreKept front kept → front ≤ n
     → AllByRecursion (λ version. version.number ≤ n) (versions_of kept a).later
 up_to-kept front n kept a are within = each-more _ _ (versions_of kept a).later (λ version suits. let r = suits.reached in omega (arith, r, within)) (are a)
+
+-- and none of them is past it
+pub past-kept : (n : ℕ) (later : List Version) → AllByRecursion (λ version. version.number ≤ n) later → past n later ≡ []
+past-kept n [] all = refl
+past-kept n (version ∷ later) all = rw (le-ltb n version.number all.0) (past-kept n later all.1)
 
 module _ (window : ℕ) (tail : Tail) (old : Kept) (kept : AreKept tail.from old) where
   -- the versions that follow some changes are up to what is not below these

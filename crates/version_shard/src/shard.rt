@@ -171,7 +171,7 @@ impl Shard {
         if let Some(base) = late_base(horizon, based) {
             return Err(Refusal::Late(base, horizon));
         }
-        match least_hit(&self.kept, based, steps) {
+        match least_hit(&self.kept, self.front, based, steps) {
             Some(hit) => Err(Refusal::Clash(witness_of(hit.based, hit.version)?)),
             None => Ok(Prepared {
                 shard: self.number,

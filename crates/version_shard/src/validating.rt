@@ -4,6 +4,7 @@ ghost use Rattle.std.specs.Prelude.{◌≡◌, ◌+◌, ◌≤◌, option_map, I
 ghost use Rattle.std.specs.Option.{option_copied};
 ghost use Rattle.abort_witness.specs.Naming.{Names};
 ghost use Rattle.version_shard.specs.Bases as spec;
+ghost use Rattle.version_shard.specs.Shards.{AreKept};
 ghost use Rattle.version_shard.specs.code.Clashing as clashing;
 ghost use Rattle.version_shard.specs.code.Clashing.{IsClash};
 
@@ -31,15 +32,21 @@ pub(crate) fn late_base(horizon: u64, based: &[Based]) -> Option<u64>
     }
 }
 
-/// The first version past the base of an observation, at its address, that clashes with it.
+/// The first version past the base of an observation, at its address, that clashes with it. None is past a base that is the
+/// front, so that nothing is looked up then.
 fn clash_at<'a, L: Ledger>(
     kept: &'a Kept,
+    front: u64,
     based: &Based,
     steps: &mut Steps<L>,
 ) -> Option<&'a Version>
+    requires { AreKept front kept.now.entries }
     ensures first { option_copied result ≡ clashing.clashing_in kept.now.entries based.now }
     ensures steps { steps.new ≤ steps.old + clashing.steps_at kept.now.entries based.now }
 {
+    if front <= based.base {
+        return None;
+    }
     match kept.get(&based.address) {
         Some(versions) => versions.first_clash(based, steps),
         None => None,
@@ -64,15 +71,17 @@ pub(crate) fn witness_of(based: &Based, version: &Version) -> Result<Witness, Al
 /// The hit with the least number, and of these the first.
 pub(crate) fn least_hit<'a, L: Ledger>(
     kept: &'a Kept,
+    front: u64,
     based: &'a [Based],
     steps: &mut Steps<L>,
 ) -> Option<Hit<'a>>
+    requires { AreKept front kept.now.entries }
     ensures least { option_map (λ hit. (hit.based.now, hit.version.now)) result ≡ clashing.least_hit kept.now.entries based.now }
     ensures steps { steps.new ≤ steps.old + clashing.most_steps kept.now.entries based.now }
 {
     let mut least: Option<Hit<'a>> = None;
     for based in based {
-        let Some(version) = clash_at(kept, based, steps) else {
+        let Some(version) = clash_at(kept, front, based, steps) else {
             continue;
         };
         least = match least {

@@ -1,10 +1,9 @@
-use Rattle.std.proofs.Common.{ℕ, ◌+◌, refl, subst, sym, ◌∙◌, arith}
+use Rattle.std.proofs.Common.{ℕ, ◌+◌, Option, Ok, refl, subst, sym, ◌∙◌, arith}
 use Rattle.std.proofs.lemmas.Result.{err_from_is_err_and}
-use Rattle.session_core.specs.declared.moved.Moved.{Moved}
-use Rattle.session_core.specs.declared.moved.Moved.TheVariants as moved
+use Rattle.session_text.specs.declared.reply.Reply.{Reply}
 use Rattle.session_core.specs.declared.error.SessionError.{SessionError}
 use Rattle.session_core.specs.Phases.{Phase}
-use Rattle.session_core.specs.Leading.{Leads, Moves, Tries}
+use Rattle.session_core.specs.Leading.{Leads, Tries, MakesOn, GoesOn}
 use Rattle.session_core.specs.Remembering.{Remembers}
 use Rattle.session_core.proofs.Steps.{more-led, end-led, made-stops, stopped-here, drives-err, led-holds}
 use Rattle.session_core.proofs.driving.drive.Goals as goal
@@ -12,44 +11,43 @@ use Rattle.session_core.proofs.driving.drive.Goals as goal
 pub loop-init : goal.loop-init
 loop-init g c = record { led = λ left. Leads.stays; attends = c.requires.attends; holds = c.requires.holds; known = tt; home = refl }
 
-pub returns-in_err-next-clause-drives : goal.returns-in_err-next-clause-drives
-returns-in_err-next-clause-drives g c =
+pub returns-in_err-end-clause-drives : goal.returns-in_err-end-clause-drives
+returns-in_err-end-clause-drives g c =
     let p = err_from_is_err_and c.from_residual.result c.from_residual.ensures.1 in
     drives-err g.B.Backend.known g.B.Backend.goes c.args.session.now c.args.attempt c.args.backend.now c.from_residual.result p.0 c.event_on.new.backend p.1
     (λ left. made-stops g.B.Backend.known g.B.Backend.goes c.args.backend.now
     (Phase.going c.args.session.now left c.args.attempt) c.loop.counter c.loop.backend c.event_on.new.backend c.args.session.now left c.loop.attempt
     (c.loop.invariant.led left) p.0
     (subst (λ (e : SessionError). Tries g.B.Backend.known g.B.Backend.goes c.args.session.now c.loop.attempt c.loop.backend e c.event_on.new.backend)
-    (sym p.2) c.in_err-next.ensures.makes))
+    (sym p.2) c.in_err-end.ensures.makes))
 
-pub returns-in-End-clause-drives : goal.returns-in-End-clause-drives
-returns-in-End-clause-drives g c = λ left. record {
+pub returns-in-Some-clause-drives : goal.returns-in-Some-clause-drives
+returns-in-Some-clause-drives g c = λ left. record {
   count = c.loop.counter + 1;
   few = omega arith;
   leads = end-led g.B.Backend.known g.B.Backend.goes c.args.backend.now (Phase.going c.args.session.now left c.args.attempt) c.loop.counter
       c.loop.backend c.event_on.new.backend c.args.session.now left c.loop.attempt
-      (c.loop.invariant.led left) c.in-End.last c.in-End.reply
-      (subst (λ (m : Moved). Moves g.B.Backend.known g.B.Backend.goes c.args.session.now c.loop.attempt c.loop.backend m c.event_on.new.backend)
-      c.in-End.is c.in_ok-next.ensures.makes);
+      (c.loop.invariant.led left) c.event_on.new.attempt c.in-Some.reply
+      (subst (λ (o : Option Reply). MakesOn g.B.Backend.known g.B.Backend.goes c.args.session.now c.loop.attempt c.loop.backend (Ok o)
+      c.event_on.new.attempt c.event_on.new.backend) c.in-Some.is c.in_ok-end.ensures.makes);
 }
 
 pub loop-preserved : goal.loop-preserved
 loop-preserved g c =
-    let m : Moves g.B.Backend.known g.B.Backend.goes c.args.session.now c.loop.attempt c.loop.backend
-    (moved.More c.in-More.next c.in-More.field-1) c.event_on.new.backend =
-    subst (λ (m : Moved). Moves g.B.Backend.known g.B.Backend.goes c.args.session.now c.loop.attempt c.loop.backend m c.event_on.new.backend)
-    c.in-More.is c.in_ok-next.ensures.makes in
+    let on : GoesOn g.B.Backend.known g.B.Backend.goes c.args.session.now c.loop.attempt c.loop.backend c.event_on.new.attempt c.event_on.new.backend =
+    subst (λ (o : Option Reply). MakesOn g.B.Backend.known g.B.Backend.goes c.args.session.now c.loop.attempt c.loop.backend (Ok o)
+    c.event_on.new.attempt c.event_on.new.backend) c.in_default.is c.in_ok-end.ensures.makes in
     let led = λ (left : ℕ). more-led g.B.Backend.known g.B.Backend.goes c.args.backend.now
     (Phase.going c.args.session.now left c.args.attempt) c.loop.counter c.loop.backend c.event_on.new.backend c.args.session.now left c.loop.attempt
-    (c.loop.invariant.led left) c.in-More.next c.in-More.field-1 m in
+    (c.loop.invariant.led left) c.event_on.new.attempt on.shown on.moves in
     let h = led-holds g.B.Backend.known g.B.Backend.goes c.args.backend.now (Phase.going c.args.session.now 0 c.args.attempt)
-    (c.loop.counter + 1) c.event_on.new.backend (Phase.going c.args.session.now 0 c.in-More.next)
+    (c.loop.counter + 1) c.event_on.new.backend (Phase.going c.args.session.now 0 c.event_on.new.attempt)
     (c.requires.attends, c.requires.holds) (led 0) in
     record {
       led = led;
       attends = h.0;
       holds = h.1;
-      known = subst (λ (m : Moved). Remembers m c.event_on.new.known) c.in-More.is c.in_ok-next.ensures.known;
+      known = subst (λ (o : Option Reply). Remembers c.event_on.new.attempt o c.event_on.new.known) c.in_default.is c.in_ok-end.ensures.known;
       home = c.event_on.ensures.home ∙ c.loop.invariant.home;
     }
 

@@ -1,10 +1,11 @@
 use Rattle.std.proofs.Common.{refl, ◌∙◌}
 use Rattle.std.proofs.lemmas.Result.{err_from_is_err_and}
-use Rattle.session_core.proofs.Steps.{unmade}
+use Rattle.session_core.specs.Leading.{Tries}
+use Rattle.session_core.proofs.Steps.{makes-err}
 use Rattle.session_core.proofs.event.event_on.Goals as goal
 
 pub returns-in_err-address-clause-makes : goal.returns-in_err-address-clause-makes
 returns-in_err-address-clause-makes g c =
     let p = err_from_is_err_and c.from_residual.result c.from_residual.ensures.1 in
-    unmade g.B.Backend.known g.B.Backend.goes c.args.session.now c.args.attempt c.args.backend.now c.from_residual.result p.0 p.1
-    (p.2 ∙ c.in_err-address.ensures.err c.in_err-address.field-0.0 refl)
+    makes-err g.B.Backend.known g.B.Backend.goes c.args.session.now c.args.attempt.now c.args.backend.now c.from_residual.result p.0
+    c.args.attempt.now c.args.backend.now p.1 (Tries.not_made refl (p.2 ∙ c.in_err-address.ensures.err c.in_err-address.field-0.0 refl))

@@ -1,0 +1,14 @@
+use Rattle.std.proofs.Common.{sym, ap}
+use Rattle.version_shard.specs.Shards.{versions_of}
+use Rattle.version_shard.specs.code.Clashing.{first_clashing}
+use Rattle.version_shard.proofs.Keeping.{up_to-kept, past-kept}
+use Rattle.version_shard.proofs.validating.clash_at.Goals as goal
+
+-- no version is past the front, and so none is past a base that is
+pub returns-then-front-based-clause-first : goal.returns-then-front-based-clause-first
+returns-then-front-based-clause-first g c =
+    let based = c.args.based.now in
+    let kept = c.args.kept.now.entries in
+    ap (first_clashing based.obs)
+    (sym (past-kept based.base (versions_of kept based.address).later
+    (up_to-kept c.args.front based.base kept based.address c.requires c.if-front-based.true)))
