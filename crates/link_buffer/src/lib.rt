@@ -1,5 +1,5 @@
-//! Links that read ahead. A reader that asks for one byte at a time, as `next_line` of dio_core does, then costs a call of
-//! the link below for many bytes, and not for each.
+//! Links that read ahead. A link that doesn't see the bytes ahead is read byte by byte by `next_line` of dio_core. Over it,
+//! one that reads ahead costs a call of the link below for many bytes, and not for each, and gives a line in pieces.
 //!
 //! Read `specs/Ahead.antt` first: what such a link holds, and what one read gives of it.
 #![tactic(auto)]

@@ -77,6 +77,21 @@ fn a_buffer_of_any_size_is_filled_from_what_is_held(rt: HostRuntime) -> Result<(
 }
 
 #[test]
+fn what_is_held_is_given_up_to_a_newline(rt: HostRuntime) -> Result<(), Fail> {
+    let alloc = rt.alloc();
+    let mut ahead = BufferedLink::new(link(alloc, b"a\nbcde\n\n", 5, &[], &[])?);
+    let mut buf = [0; 2];
+    // Where nothing is held a byte is given.
+    assert!(rt; ahead.read_through(b'\n', &mut buf) == Got::Bytes(1) && buf[0] == b'a');
+    assert!(rt; ahead.read_through(b'\n', &mut buf) == Got::Bytes(1) && buf[0] == b'\n');
+    assert!(rt; ahead.read_through(b'\n', &mut buf) == Got::Bytes(2) && buf == *b"bc");
+    assert!(rt; ahead.held() == b"d".as_slice());
+    assert!(rt; reads(alloc, &mut ahead, b"de"));
+    assert!(rt; ahead.held() == b"\n".as_slice());
+    Ok(())
+}
+
+#[test]
 fn a_read_fault_is_answered_once_behind_what_is_held(rt: HostRuntime) -> Result<(), Fail> {
     let alloc = rt.alloc();
     let mut ahead = BufferedLink::new(MemLink::new(alloc, b"ab\ncd\n", 4, &[1], &[])?);

@@ -1,6 +1,6 @@
 //! Reply lines: whom each names, and the words of what is answered.
 
-ghost use Rattle.std.specs.Prelude.{◌≡◌, ◌++◌, Some, IfOk, OnOk};
+ghost use Rattle.std.specs.Prelude.{◌≡◌, ◌++◌, [], Some, IfOk, OnOk};
 ghost use Rattle.session_text.specs.Printing.{printed_reply};
 ghost use Rattle.script_runner.specs.Play as spec;
 
@@ -20,6 +20,16 @@ fn push_named(text: &mut Text, client: Option<u32>) -> Result<(), AllocError>
     }
 }
 
+/// How many bytes room is made for at once. A usual reply is shorter.
+const USUAL: usize = 64;
+
+/// An empty text with room for a usual reply.
+fn with_room(alloc: Global) -> Result<Text, AllocError>
+    ensures { IfOk result (λ text. text ≡ []) }
+{
+    Ok(Text::from_vec(Vec::with_capacity(alloc, USUAL)?))
+}
+
 /// Adds the line of one reply.
 fn push_line(lines: &mut Text, client: Option<u32>, reply: &Reply) -> Result<(), AllocError>
     ensures { OnOk result (lines.new ≡ lines.old ++ spec.reply_line client (printed_reply reply.now)) }
@@ -34,7 +44,7 @@ fn push_line(lines: &mut Text, client: Option<u32>, reply: &Reply) -> Result<(),
 pub fn reply_line(alloc: Global, client: Option<u32>, reply: &Reply) -> Result<Text, AllocError>
     ensures { IfOk result (λ line. line ≡ spec.reply_line client (printed_reply reply.now)) }
 {
-    let mut line = Text::new(alloc);
+    let mut line = with_room(alloc)?;
     push_line(&mut line, client, reply)?;
     Ok(line)
 }
@@ -50,7 +60,7 @@ pub fn refused_line(alloc: Global, client: Option<u32>, reason: Why) -> Result<T
 fn reply_lines(alloc: Global, client: u32, replies: &[Reply]) -> Result<Text, AllocError>
     ensures { IfOk result (λ lines. lines ≡ spec.reply_lines (Some client) replies.now) }
 {
-    let mut lines = Text::new(alloc);
+    let mut lines = with_room(alloc)?;
     for reply in replies {
         push_line(&mut lines, Some(client), reply)?;
     }
