@@ -36,26 +36,25 @@ fn shared(word: &[u8], bytes: &[u8]) -> usize
     word.len()
 }
 
-/// The one of two words that has more in common with the bytes.
-fn closer<W: Spelled>(bytes: &[u8], best: W, word: W) -> W
-    ensures { result ≡ spec.closer W.spelled bytes.now best word }
+/// The one of two words that has more in common with the bytes, with how much that is. Of the first it is known already.
+fn closer<W: Spelled>(bytes: &[u8], best: (W, usize), word: W) -> (W, usize)
+    requires { best.1 ≡ spec.shared (W.spelled best.0) bytes.now }
+    ensures word { result.0 ≡ spec.closer W.spelled bytes.now best.0 word }
+    ensures count { result.1 ≡ spec.shared (W.spelled result.0) bytes.now }
 {
-    if shared(best.bytes(), bytes) < shared(word.bytes(), bytes) {
-        word
-    } else {
-        best
-    }
+    let count = shared(word.bytes(), bytes);
+    if best.1 < count { (word, count) } else { best }
 }
 
 /// The one of some words that has most in common with the bytes.
 fn closest<W: Spelled>(bytes: &[u8], first: W, others: &[W]) -> W
     ensures { result ≡ spec.closest W.spelled bytes.now first others.now }
 {
-    let mut best = first;
+    let mut best = (first, shared(first.bytes(), bytes));
     for word in others {
         best = closer(bytes, best, *word);
     }
-    best
+    best.0
 }
 
 impl<'a> Cursor<'a, u8> {
