@@ -51,8 +51,8 @@ fn entry_at<K: Ord, V>(entries: &[(K, V)], place: usize) -> Option<&(K, V)>
     entries.get(place)
 }
 
-/// The pair at a key.
-fn pair_at<'a, K: Ord, V>(entries: &'a [(K, V)], key: &K) -> Option<&'a (K, V)>
+/// The pair at a key, found by halving.
+fn halved<'a, K: Ord, V>(entries: &'a [(K, V)], key: &K) -> Option<&'a (K, V)>
     requires { IsStrictlySortedBy K.cmp (keys_of entries.now) }
     ensures value { option_map (λ pair. pair.1) (option_copied result) ≡ lookup (is_at (K.cmp key.now)) entries.now }
     ensures key { IfSome result (λ pair. K.cmp key.now pair.now.0 ≡ Ordering.Equal) }
@@ -64,6 +64,21 @@ fn pair_at<'a, K: Ord, V>(entries: &'a [(K, V)], key: &K) -> Option<&'a (K, V)>
             Ordering::Equal => Some(pair),
             _ => None,
         },
+    }
+}
+
+/// The pair at a key. Where there is one pair alone, its key is looked at once.
+fn pair_at<'a, K: Ord, V>(entries: &'a [(K, V)], key: &K) -> Option<&'a (K, V)>
+    requires { IsStrictlySortedBy K.cmp (keys_of entries.now) }
+    ensures value { option_map (λ pair. pair.1) (option_copied result) ≡ lookup (is_at (K.cmp key.now)) entries.now }
+    ensures key { IfSome result (λ pair. K.cmp key.now pair.now.0 ≡ Ordering.Equal) }
+{
+    match entries {
+        [only] => match key.cmp(&only.0) {
+            Ordering::Equal => Some(only),
+            _ => None,
+        },
+        _ => halved(entries, key),
     }
 }
 

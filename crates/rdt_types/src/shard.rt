@@ -1,10 +1,10 @@
 //! Which shard holds the value at an address.
 
 ghost use Rattle.std.specs.Prelude.{◌≡◌, ◌≤◌, fold};
-ghost use Rattle.rdt_types.specs.Printed.{spelled, spelling_of as spelling, printed_text};
+ghost use Rattle.rdt_types.specs.Printed.{spelled, spelling_of as spelling, printed_text, word_of};
 ghost use Rattle.rdt_types.specs.Shards as spec;
 
-use crate::address::Address;
+use crate::address::{Address, Kind};
 use crate::limits::{LEAST_SHARDS, MOST_SHARDS};
 use crate::printed::{Spelling, spelling_of};
 
@@ -47,13 +47,27 @@ fn hashed_text(hash: u32, text: &[u8]) -> u32
     hashed(hash, b'"')
 }
 
+/// The word of a kind and what opens its key. Each word stands in its own arm, so that its bytes are hashed when this is built.
+fn hashed_kind(kind: Kind) -> u32
+    ensures { result ≡ spec.hashed (fold spec.hashed 0 (word_of kind)) 40 }
+{
+    match kind {
+        Kind::Bool => hashed_all(0, b"bool(".as_slice()),
+        Kind::Counter => hashed_all(0, b"counter(".as_slice()),
+        Kind::Text => hashed_all(0, b"text(".as_slice()),
+        Kind::Set => hashed_all(0, b"set(".as_slice()),
+        Kind::Hash => hashed_all(0, b"hash(".as_slice()),
+        Kind::List => hashed_all(0, b"list(".as_slice()),
+    }
+}
+
 /// The shard of an address among as many as there are: begun with 0, each byte of the printed address makes
 /// 31 times what was there and itself, in 32 bits, and the rest of that by the number of shards is the answer.
 pub fn shard_of(address: &Address, shards: u8) -> u8
     requires { (LEAST_SHARDS ≤ shards) × (shards ≤ MOST_SHARDS) }
     ensures { result ≡ spec.shard_of address.now shards }
 {
-    let begun = hashed_all(0, address.kind.word());
-    let key = hashed_text(hashed(begun, b'('), address.key.as_slice());
+    let begun = hashed_kind(address.kind);
+    let key = hashed_text(begun, address.key.as_slice());
     (hashed(key, b')') % u32::from(shards)) as u8
 }

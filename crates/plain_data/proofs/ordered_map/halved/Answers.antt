@@ -1,7 +1,7 @@
 use Rattle.std.proofs.Common.{◌≡◌, None, Some, sym, ap, ◌∙◌}
 use Rattle.std.proofs.lemmas.Map.Entries.{lookup_at_gap}
 use Rattle.plain_data.proofs.Entries.{lookup-hit, less}
-use Rattle.plain_data.proofs.ordered_map.pair_at.Goals as goal
+use Rattle.plain_data.proofs.ordered_map.halved.Goals as goal
 
 pub returns-in-None-clause-value : goal.returns-in-None-clause-value
 returns-in-None-clause-value g c =
