@@ -110,6 +110,32 @@ fn three(alloc: Global) -> Result<CommitList, AllocError>
     Ok(kept)
 }
 
+/// How many changes of x the three commits have past one number and up to another.
+fn between(alloc: Global, from: u64, to: u64) -> Result<Option<usize>, AllocError> {
+    let journal = Journal::new(alloc, &Settings::standard(), MemKeep, three(alloc)?)?;
+    if from > to || to > journal.length() {
+        return Ok(None);
+    }
+    let tail = journal.tail(1, from, to)?;
+    Ok(Some(tail.changes.len()))
+}
+
+#[test]
+fn a_tail_begins_and_ends_at_any_number(rt: HostRuntime) -> Result<(), Fail> {
+    let alloc = rt.alloc();
+    for (from, to, wanted) in [
+        (0, 3, 2),
+        (1, 3, 1),
+        (2, 3, 1),
+        (3, 3, 0),
+        (0, 2, 1),
+        (1, 2, 0),
+    ] {
+        assert!(rt; between(alloc, from, to)? == Some(wanted));
+    }
+    Ok(())
+}
+
 /// The counters that were read, each at a base.
 fn reads(alloc: Global, read: &[(&[u8], u64)]) -> Result<BasedList, AllocError> {
     let mut based = BasedList::new(alloc);

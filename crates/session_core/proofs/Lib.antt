@@ -29,4 +29,3 @@ pub mod Talked
 pub mod GoingOn
 pub mod Unbroken
 pub mod Went
-pub mod Remembered
