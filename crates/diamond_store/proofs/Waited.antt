@@ -1,5 +1,5 @@
 -- Learning more and more, until there is a commit past what was seen.
-use Rattle.std.proofs.Common.{◌≡◌, ℕ, ◌≤◌, ◌<◌, length, refl, sym, ap, ◌∙◌, subst, arith}
+use Rattle.std.proofs.Common.{◌≡◌, ◌≤◌, ◌<◌, length, refl, ap, ◌∙◌, subst, arith}
 use Rattle.history_lock.proofs.Prefixes.{IsPrefix-self, IsPrefix-trans}
 use Rattle.txn_lang.specs.Journals.{IsLegal, own}
 use Rattle.docc_prepare.specs.Calls.{Call, Answer}

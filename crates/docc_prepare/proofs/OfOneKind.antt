@@ -1,5 +1,5 @@
 -- Kinds: the values that a journal leaves are of the kinds of their addresses.
-use Rattle.std.proofs.Common.{◌≡◌, Bool, List, [], ◌∷◌, fold, Option, Some, None, refl, ◌∙◌}
+use Rattle.std.proofs.Common.{◌≡◌, [], ◌∷◌, fold, Option, Some, None, refl, ◌∙◌}
 use Rattle.std.specs.List.{AllByRecursion}
 use Rattle.rdt_types.specs.declared.address.Kind.{Kind}
 use Rattle.rdt_types.specs.declared.address.Kind.TheVariants as kind

@@ -1,12 +1,11 @@
 -- Each step of a store may be done.
-use Rattle.std.proofs.Common.{◌≡◌, ℕ, ◌≤◌, ◌-◌, Bool, true, false, cond, List, Option, Some, None, length, refl, sym}
+use Rattle.std.proofs.Common.{◌≡◌, ℕ, ◌-◌, Bool, true, false, cond, Option, Some, None, length, refl}
 use Rattle.std.proofs.Common.{subst, arith}
 use Rattle.std.specs.Prelude.{nat_lt, nat_le}
 use Rattle.abort_witness.specs.declared.witness.Witness.{Witness}
 use Rattle.journal_core.specs.declared.ready.Ready.{Ready}
 use Rattle.docc_prepare.specs.Calls.{Call, Answer}
 use Rattle.docc_prepare.specs.Stores.{Store, front_of, late_base, least_base, validated, decided, witness_past, step, HasStalled, Does, IsSound, StepsMayBeDone}
-use Rattle.docc_prepare.specs.Witnesses.{least_witness}
 
 -- an answer that is no failure
 abbrev Succeeds : Answer → Type 0

@@ -3,8 +3,6 @@
 -- their own. These are the laws by which this is so.
 use Rattle.std.specs.Prelude.{◌≡◌, ℕ, [], ◌∷◌, ◌++◌, Some}
 use Rattle.std.specs.List.{AllByRecursion}
-use Rattle.rdt_types.specs.Deltas.{kind_changed}
-use Rattle.rdt_types.specs.DeltaMaps.{Deltas}
 use Rattle.txn_lang.specs.declared.run.Run.{Run}
 use Rattle.txn_lang.specs.States.{Journal, known, left_by}
 use Rattle.txn_lang.specs.Execution.{done, exec}

@@ -1,12 +1,11 @@
 -- Each call of a world goes by the step of its store.
-use Rattle.std.proofs.Common.{◌≡◌, ℕ, ◌+◌, ◌-◌, ◌≤◌, ◌<◌, Bool, true, false, cond, ◌&&◌, max, List, [], ◌∷◌, ◌++◌, length, get_or, set, Option, Some}
+use Rattle.std.proofs.Common.{◌≡◌, ℕ, ◌+◌, ◌-◌, ◌<◌, Bool, true, false, cond, ◌&&◌, max, List, length, get_or, set, Option, Some}
 use Rattle.std.proofs.Common.{None, refl, sym, ap, ◌∙◌, subst, arith}
-use Rattle.std.specs.Prelude.{◌==◌, nat_lt, nat_le}
+use Rattle.std.specs.Prelude.{◌==◌, nat_lt}
 use Rattle.std.specs.BTreeMap.{is_at}
 use Rattle.std.proofs.Math.Path.{fun_ext}
 use Rattle.std.proofs.lemmas.List.{length-append}
 use Rattle.rdt_types.specs.declared.address.Address.{Address}
-use Rattle.rdt_types.specs.declared.settings.Settings.{Settings}
 use Rattle.rdt_types.specs.Addresses.{address_cmp}
 use Rattle.rdt_types.specs.Shards.{shard_of}
 use Rattle.change_feed.specs.Feeds.{Fed}
@@ -18,7 +17,7 @@ use Rattle.journal_core.specs.declared.ready.Ready.{Ready}
 use Rattle.reactive_registry.specs.Registered.{Registered, is_subscribed}
 use Rattle.docc_prepare.specs.Calls.{Call, Answer}
 use Rattle.docc_prepare.specs.Backends.{CanCall}
-use Rattle.docc_prepare.specs.Stores.{Store, CLIENTS, front_of, seen_by, saw, moved, telling, took, validated, prepare_at, decided, append_to}
+use Rattle.docc_prepare.specs.Stores.{Store, CLIENTS, saw, moved, telling, validated, prepare_at, decided, append_to}
 use Rattle.docc_prepare.specs.Stores.{feed_for, step, HasStalled, Does, IsSound, known_by}
 use Rattle.docc_prepare.proofs.Answered.{steps_are_answered}
 use Rattle.local_world.specs.Stored.{Stored, taken_by, store_of}

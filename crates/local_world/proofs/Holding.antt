@@ -1,6 +1,6 @@
 -- A shard that follows the journal goes on holding it, and so do the others.
-use Rattle.std.proofs.Common.{◌≡◌, ℕ, zero, suc, ◌+◌, ◌≤◌, ◌<◌, max, List, [], ◌∷◌, ◌++◌, length, take, map, get_or, set, Some, Result, Ok, Err}
-use Rattle.std.proofs.Common.{IfOk, Bool, true, false, cond, ◌-◌, inl, inr, refl, sym, ap, ◌∙◌, subst, arith}
+use Rattle.std.proofs.Common.{◌≡◌, ℕ, zero, suc, ◌≤◌, ◌<◌, max, List, [], ◌∷◌, ◌++◌, length, take, get_or, set, Some, Result, Ok, Err}
+use Rattle.std.proofs.Common.{IfOk, true, false, cond, ◌-◌, inl, inr, refl, sym, ap, ◌∙◌, subst, arith}
 use Rattle.std.specs.Prelude.{◌⊎◌, slice_get, nat_lt}
 use Rattle.std.proofs.lemmas.List.{take-append-le, length-append, length-set, get_or-set_same}
 use Rattle.std.proofs.lemmas.Bool.Decides.{nat_tests}
@@ -11,7 +11,6 @@ use Rattle.rdt_types.specs.declared.value.Value.{Value}
 use Rattle.rdt_types.specs.Shards.{shard_of}
 use Rattle.rdt_types.specs.declared.limits.TheConstants.{LEAST_SHARDS}
 use Rattle.rdt_types.specs.declared.settings.Settings.{Settings}
-use Rattle.change_feed.specs.declared.change.Change.{Change}
 use Rattle.change_feed.specs.declared.tail.Tail.{Tail}
 use Rattle.change_feed.specs.Feeds.{AreOfTheirKinds}
 use Rattle.txn_lang.specs.declared.snaps.Snap.{Snap}

@@ -1,7 +1,7 @@
 -- A new world is the first store, and its parts stand for the journal without commits.
-use Rattle.std.proofs.Common.{◌≡◌, ℕ, zero, suc, ◌+◌, ◌≤◌, ◌<◌, Bool, true, false, cond, List, [], ◌∷◌, ◌++◌, length, take, Option, Some, None, inl}
+use Rattle.std.proofs.Common.{◌≡◌, ℕ, zero, suc, ◌+◌, ◌≤◌, Bool, true, false, cond, List, [], ◌∷◌, ◌++◌, length, take, Option, Some, None, inl}
 use Rattle.std.proofs.Common.{inr, add-one, refl, sym, ap, ◌∙◌, subst, arith}
-use Rattle.std.specs.Prelude.{◌⊎◌, IsSome, is_some, nat_lt, replicate, slice_get}
+use Rattle.std.specs.Prelude.{◌⊎◌, is_some, nat_lt, replicate, slice_get}
 use Rattle.std.proofs.lemmas.List.{length-append}
 use Rattle.change_feed.specs.declared.tail.Tail.{Tail}
 use Rattle.version_shard.specs.Standing.{Holds, IsNext, empty}
@@ -11,12 +11,11 @@ use Rattle.std.proofs.lemmas.Bool.Decides.{nat_tests}
 use Rattle.rdt_types.specs.declared.address.Address.{Address}
 use Rattle.rdt_types.specs.declared.limits.TheConstants.{LEAST_SHARDS}
 use Rattle.rdt_types.specs.declared.settings.Settings.{Settings}
-use Rattle.change_feed.specs.declared.change.Change.{Change}
 use Rattle.txn_lang.specs.States.{Journal}
 use Rattle.journal_core.specs.Journals.{Standing}
 use Rattle.version_shard.specs.Shards.{Sharded}
-use Rattle.reactive_registry.specs.Registered.{Kept, Registered, kept_of, entered, is_address, is_subscribed}
-use Rattle.reactive_registry.specs.Standing.{KeptFor, StandsFor}
+use Rattle.reactive_registry.specs.Registered.{Kept, Registered, entered, is_address, is_subscribed}
+use Rattle.reactive_registry.specs.Standing.{KeptFor}
 use Rattle.docc_prepare.specs.Stores.{Store, CLIENTS, first_store, IsSound}
 use Rattle.docc_prepare.proofs.Stored.{first_store_is_sound}
 use Rattle.local_world.specs.Stored.{taken_by, store_of}

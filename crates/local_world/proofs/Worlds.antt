@@ -11,7 +11,6 @@ use Rattle.rdt_types.specs.Shards.{shard_of}
 use Rattle.change_feed.specs.Feeds.{Fed}
 use Rattle.txn_lang.specs.declared.snaps.Snap.{Snap}
 use Rattle.txn_lang.specs.States.{Journal, state}
-use Rattle.txn_lang.specs.Short.{IsShortAddress}
 use Rattle.abort_witness.specs.declared.witness.Based.{Based}
 use Rattle.abort_witness.specs.Kinds.{IsBasedOfOneKind}
 use Rattle.txn_lang.specs.Journals.{IsLegal, own}

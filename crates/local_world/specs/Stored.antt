@@ -1,5 +1,5 @@
 -- What callers see of a world, and the store that it is.
-use Rattle.std.specs.Prelude.{◌≡◌, ℕ, List, [], refl}
+use Rattle.std.specs.Prelude.{ℕ, List, refl}
 use Rattle.std.specs.Coded.{Coded, code_by, coded×, coded_list, coded_ℕ}
 use Rattle.std.specs.Option.{option_map_or}
 use Rattle.txn_lang.specs.declared.commit.Commit.{Commit}

@@ -1,5 +1,4 @@
 -- The session after a line that isn't of watches, as its answer shows it.
-use Rattle.std.proofs.Common.{◌≡◌, ap}
 use Rattle.txn_lang.specs.States.{Journal}
 use Rattle.session_core.specs.declared.line.Line.{Line}
 use Rattle.session_core.specs.declared.session.Session.{Session}

@@ -31,7 +31,7 @@ use Rattle.docc_prepare.specs.declared.attempt.Next.{Next}
 use Rattle.docc_prepare.specs.declared.attempt.Next.TheVariants as next
 use Rattle.docc_prepare.specs.Attempts.{SnapList, base_in, with_base, based, in_shard, has_front, lesser, least_unprepared, next_event, with_snap, with_front, Fits}
 use Rattle.docc_prepare.specs.Calls.{Known, Call, Answer, is_fault}
-use Rattle.docc_prepare.specs.Calls.Call.{refresh, read, read_at}
+use Rattle.docc_prepare.specs.Calls.Call.{refresh, read_at}
 use Rattle.docc_prepare.specs.Calls.Answer.{number, snap, prepared, value, late, clash, full, disk}
 use Rattle.docc_prepare.specs.Backends.{IsPrefix, IsAnswered, SaysOfJournal}
 use Rattle.docc_prepare.proofs.Each.{each-more}

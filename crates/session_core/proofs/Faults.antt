@@ -1,5 +1,5 @@
 -- The backend's count of faults along a line: it rises where a line breaks by a fault, and nowhere else.
-use Rattle.std.proofs.Common.{◌≡◌, ℕ, zero, suc, Bool, true, false, cond, [], Option, Some, None, Result, Ok, Err, ◌⊎◌, inl, inr, refl, sym, ◌∙◌, subst}
+use Rattle.std.proofs.Common.{◌≡◌, ℕ, zero, suc, Bool, true, false, cond, [], Option, Some, None, Result, Ok, Err, inl, inr, refl, sym, ◌∙◌, subst}
 use Rattle.std.specs.Prelude.{nat_lt}
 use Rattle.dio_core.specs.Counts.{Rose, IsCounted}
 use Rattle.session_text.specs.declared.reply.Reply.{Reply}

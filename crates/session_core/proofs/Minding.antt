@@ -1,12 +1,10 @@
 -- What a session's watches rest on: it stays over calls that neither subscribe nor take, behind a line of watches, and over what
 -- others do.
-use Rattle.std.proofs.Common.{◌≡◌, ℕ, ◌+◌, ◌≤◌, Bool, true, false, List, [], ◌∷◌, length, Option, Some, None, refl, sym, ap, ◌∙◌, subst, arith}
+use Rattle.std.proofs.Common.{◌≡◌, ℕ, ◌≤◌, List, length, Option, Some, None, refl, sym, ◌∙◌, subst, arith}
 use Rattle.std.specs.Prelude.{IfSome}
-use Rattle.std.specs.List.{AllByRecursion}
 use Rattle.std.specs.List.Sorted.{IsStrictlySortedBy}
 use Rattle.dio_core.specs.Told.{WhereTold}
 use Rattle.dio_core.proofs.Told.{IfSome-WhereTold}
-use Rattle.plain_data.specs.Texts.{Bytes}
 use Rattle.rdt_types.specs.declared.address.Address.{Address}
 use Rattle.session_text.specs.declared.reply.Reply.{Reply}
 use Rattle.txn_lang.specs.Journals.{IsLegal}
@@ -17,8 +15,8 @@ use Rattle.docc_prepare.specs.Stores.{HasFollowed}
 use Rattle.client_watches.specs.declared.watching.Watching.{Watching}
 use Rattle.client_watches.specs.Watching.{none_yet}
 use Rattle.client_watches.specs.Keeping.{Keeps}
-use Rattle.client_watches.specs.Standing.{Subscribes, Stands, CanRead, CanReadOn}
-use Rattle.client_watches.specs.Explained.{Shown, shown_of}
+use Rattle.client_watches.specs.Standing.{CanRead, CanReadOn}
+use Rattle.client_watches.specs.Explained.{shown_of}
 use Rattle.client_watches.specs.Phases.{Phase as WatchPhase, Goal}
 use Rattle.client_watches.specs.Leading.{Leads}
 use Rattle.client_watches.specs.Laws.{Attends, MayBeShown, GoesOn}
@@ -31,7 +29,7 @@ use Rattle.client_watches.proofs.Ready.{lines_go_on}
 use Rattle.client_watches.proofs.Stays.{stands-stay}
 use Rattle.client_watches.proofs.Telling.{all-up-to, up-to-more}
 use Rattle.session_core.specs.Holding.{Minds, WatchesAttend}
-use Rattle.session_core.proofs.Grown.{prefix-again, prefix-shorter}
+use Rattle.session_core.proofs.Grown.{prefix-again}
 
 -- ---- journals that can be read
 

@@ -26,7 +26,7 @@ use Rattle.rdt_types.specs.declared.address.Address.{Address}
 use Rattle.session_core.specs.declared.moved.Moved.{Moved}
 use Rattle.session_core.specs.declared.moved.Moved.TheVariants as moved
 use Rattle.session_core.specs.Phases.{Phase, with_attempt, closed, ended, afresh, event_call, call_of, moved_at, moved_by, said, stepped, after_end}
-use Rattle.session_core.specs.Phases.{gone, look_by, look_on, look_from, with_watching, of_watches, wait_for, asks, after, start}
+use Rattle.session_core.specs.Phases.{gone, look_by, look_on, look_from, of_watches, wait_for, asks, after, start}
 use Rattle.session_core.specs.Holding.{Holds, BodyIsReady, WatchesAttend, Attends}
 use Rattle.txn_lang.proofs.Observed.{runs_ask_short}
 use Rattle.client_watches.specs.Phases.{Phase as WatchPhase, start_sync}

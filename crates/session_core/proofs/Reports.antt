@@ -1,5 +1,5 @@
 -- Over a backend that tells its journal, what a line of watches is answered is explained.
-use Rattle.std.proofs.Common.{◌≡◌, ℕ, ◌+◌, ◌≤◌, ◌<◌, Bool, true, false, cond, max, List, [], ◌∷◌, fold, length, Option, Some, None, refl, sym, ap, ◌∙◌, subst, arith}
+use Rattle.std.proofs.Common.{◌≡◌, ℕ, ◌+◌, ◌≤◌, ◌<◌, Bool, true, false, cond, List, [], ◌∷◌, fold, Option, Some, None, refl, sym, ap, ◌∙◌, subst, arith}
 use Rattle.std.specs.Prelude.{nat_lt, IfSome}
 use Rattle.std.specs.List.{AllByRecursion}
 use Rattle.std.proofs.lemmas.Bool.Decides.{nat_tests}
@@ -14,9 +14,9 @@ use Rattle.txn_lang.specs.States.{Journal}
 use Rattle.docc_prepare.specs.Calls.{Known, Call, Answer}
 use Rattle.docc_prepare.specs.Backends.{IsPrefix, IsAnswered, KeepsGiven, SaysOfJournal}
 use Rattle.client_watches.specs.declared.watching.Watching.{Watching}
-use Rattle.client_watches.specs.Explained.{Shown, ShownList, shown_of, GoalPasses, UnwatchPasses}
+use Rattle.client_watches.specs.Explained.{shown_of, GoalPasses, UnwatchPasses}
 use Rattle.client_watches.specs.GoingOn.{WatchLine, start_of}
-use Rattle.client_watches.specs.Laws.{starts_for, MayBeShown}
+use Rattle.client_watches.specs.Laws.{starts_for}
 use Rattle.client_watches.specs.Leading.{Leads as WatchLeads}
 use Rattle.client_watches.specs.Phases.{Phase as WatchPhase, Goal, start_sync, start_watch, start_unwatch}
 use Rattle.client_watches.specs.Saying.{IsOfWatches}
@@ -33,12 +33,12 @@ use Rattle.session_core.specs.declared.turn.Turn.TheVariants as turn
 use Rattle.session_core.specs.Phases.{Phase, with_watching, of_watches, synced, wait_for, asks, after}
 use Rattle.session_core.specs.Holding.{Minds, Attends}
 use Rattle.session_core.specs.Leading.{Leads}
-use Rattle.session_core.specs.Explained.{Setting, Story, story_of, low_by, LinePasses, MayBeTold, setting_of}
+use Rattle.session_core.specs.Explained.{story_of, low_by, LinePasses, MayBeTold}
 use Rattle.session_core.proofs.Grown.{prefix-again}
 use Rattle.session_core.proofs.Kept.{SameOwn}
 use Rattle.session_core.proofs.Minding.{told-attends, untold-watched}
 use Rattle.session_core.proofs.Phases.{plain-on}
-use Rattle.session_core.proofs.Watched.{IsOverOf, over-of, LedOf, led-of}
+use Rattle.session_core.proofs.Watched.{over-of, led-of}
 
 -- ---- numbers
 

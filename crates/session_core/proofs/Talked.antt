@@ -1,5 +1,5 @@
 -- Whole sessions: what holds of a line holds of line after line, with others at work between them.
-use Rattle.std.proofs.Common.{◌≡◌, inl, inr, ℕ, ◌+◌, ◌≤◌, List, [], ◌∷◌, ◌++◌, append_assoc, map, fold, length, Option, Some, None, refl, sym, ap, ◌∙◌, subst, arith}
+use Rattle.std.proofs.Common.{◌≡◌, inl, inr, ℕ, ◌+◌, ◌≤◌, List, [], ◌∷◌, ◌++◌, append_assoc, map, length, Option, Some, None, refl, sym, ap, ◌∙◌, subst, arith}
 use Rattle.std.specs.Prelude.{IfSome}
 use Rattle.std.proofs.lemmas.List.{append-nil}
 use Rattle.dio_core.specs.Told.{WhereTold}
@@ -12,7 +12,7 @@ use Rattle.txn_lang.specs.Journals.{own}
 use Rattle.txn_lang.specs.States.{Journal}
 use Rattle.docc_prepare.specs.declared.attempt.Attempt.{Attempt}
 use Rattle.docc_prepare.specs.Attempts.{ran, Fits}
-use Rattle.docc_prepare.specs.Backends.{IsPrefix, IsAnswered, IsSameClient, HasGrown, IsLater}
+use Rattle.docc_prepare.specs.Backends.{IsPrefix, IsSameClient, HasGrown, IsLater}
 use Rattle.docc_prepare.specs.Calls.{Known}
 use Rattle.session_core.specs.declared.line.Line.{Line}
 use Rattle.session_core.specs.declared.session.Session.{Session}
@@ -23,7 +23,7 @@ use Rattle.client_watches.specs.Explained.{shown_of}
 use Rattle.client_watches.specs.Standing.{CanRead}
 use Rattle.session_core.specs.Explained.{Setting, Attempting, Story, attempting_of, story_of, Passes, replies_in, low_after, attempting_after, begun_after, Explains}
 use Rattle.session_core.specs.Explained.{setting_of, LinePasses, AreFrom, AreReported, MayBeTold}
-use Rattle.session_core.specs.Sessions.{committed_by, OwnsAnswered, denied_by, denied_by_all, Finds, Says, Talks, all_replies, ExplainsAll, SessionsAreExplained}
+use Rattle.session_core.specs.Sessions.{committed_by, denied_by, denied_by_all, Finds, Says, Talks, all_replies, ExplainsAll, SessionsAreExplained}
 use Rattle.session_core.proofs.Grown.{prefix-whole, prefix-again}
 use Rattle.session_core.proofs.Kept.{reads-on, fronts-on, fits-on}
 use Rattle.session_core.proofs.Said.{denied-rises, named-append, there-append, there-stays, named-stays}

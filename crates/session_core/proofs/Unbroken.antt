@@ -1,5 +1,5 @@
 -- Only a failed call breaks a line.
-use Rattle.std.proofs.Common.{◌≡◌, ℕ, zero, suc, Bool, true, false, cond, [], Option, Some, None, refl, sym, ap, ◌∙◌, subst}
+use Rattle.std.proofs.Common.{◌≡◌, ℕ, suc, Bool, true, false, cond, [], Option, Some, None, refl, ap, ◌∙◌, subst}
 use Rattle.std.specs.Prelude.{nat_lt}
 use Rattle.session_text.specs.declared.reply.Reply.{Reply}
 use Rattle.session_text.specs.declared.reply.Reply.TheVariants as reply
@@ -12,11 +12,11 @@ use Rattle.docc_prepare.specs.declared.attempt.Next.TheVariants as next
 use Rattle.docc_prepare.specs.Attempts.{SnapList, next_event}
 use Rattle.docc_prepare.specs.Calls.{Known, Call, Answer, is_fault}
 use Rattle.docc_prepare.specs.Calls.Answer.{number, snap, prepared, value, late, clash, full, disk}
-use Rattle.docc_prepare.specs.Backends.{IsAnswered, Shows}
+use Rattle.docc_prepare.specs.Backends.{Shows}
 use Rattle.session_core.specs.declared.session.Session.{Session}
 use Rattle.session_core.specs.declared.moved.Moved.{Moved}
 use Rattle.session_core.specs.declared.moved.Moved.TheVariants as moved
-use Rattle.session_core.specs.Phases.{Phase, of_watches, event_call, call_of, moved_at, moved_by, said, stepped, after_end, gone, look_by, look_on, look_from, asks, after}
+use Rattle.session_core.specs.Phases.{Phase, of_watches, event_call, call_of, moved_at, said, stepped, after_end, gone, look_by, look_on, look_from, asks, after}
 use Rattle.client_watches.specs.GoingOn.{has_failed, is_broken as broken_watch}
 use Rattle.client_watches.specs.Phases.{Phase as WatchPhase, start_sync}
 use Rattle.client_watches.specs.Phases as watches

@@ -1,5 +1,5 @@
 -- What a line and its answer say, also where it had to wait first.
-use Rattle.std.proofs.Common.{◌≡◌, ℕ, ◌+◌, ◌≤◌, List, [], ◌∷◌, ◌++◌, map, length, Option, Some, None, refl, sym, ap, ◌∙◌, subst, arith}
+use Rattle.std.proofs.Common.{◌≡◌, ℕ, ◌≤◌, List, [], ◌++◌, length, Option, Some, None, refl, sym, ap, ◌∙◌, subst, arith}
 use Rattle.std.proofs.lemmas.List.{append-nil}
 use Rattle.dio_core.specs.Told.{WhereTold}
 use Rattle.dio_core.specs.declared.line.TheConstants.{LONGEST_LINE}
@@ -9,7 +9,7 @@ use Rattle.txn_grammar.specs.Characters.{Text}
 use Rattle.txn_lang.specs.Journals.{own}
 use Rattle.txn_lang.specs.States.{Journal}
 use Rattle.docc_prepare.specs.declared.attempt.Attempt.{Attempt}
-use Rattle.docc_prepare.specs.Backends.{IsPrefix, IsAnswered, IsSameClient, SaysOfJournal}
+use Rattle.docc_prepare.specs.Backends.{IsPrefix, IsAnswered, IsSameClient}
 use Rattle.docc_prepare.specs.Calls.{Known, Call, Answer}
 use Rattle.client_watches.specs.Explained.{ShownList, shown_of}
 use Rattle.session_core.specs.declared.line.Line.{Line}

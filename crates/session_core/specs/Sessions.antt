@@ -1,6 +1,6 @@
 -- Whole sessions: the lines of one client, one after another, with others at work between them. What a client is answered is
 -- explained by the journal at the end; its commits and its denials are those that it was answered.
-use Rattle.std.specs.Prelude.{◌≡◌, ◌⊎◌, ℕ, ◌+◌, ◌≤◌, List, [], ◌∷◌, ◌++◌, map, fold, length, Option, Some, None, Result, Ok, Err, codes, refl}
+use Rattle.std.specs.Prelude.{◌≡◌, ◌⊎◌, ℕ, ◌≤◌, List, [], ◌∷◌, ◌++◌, map, fold, length, Option, Some, None, Result, Ok, Err, codes, refl}
 use Rattle.dio_core.specs.Counts.{one_more, last_count}
 use Rattle.dio_core.specs.Told.{WhereTold}
 use Rattle.dio_core.specs.declared.line.TheConstants.{LONGEST_LINE}

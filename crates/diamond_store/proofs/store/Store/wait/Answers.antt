@@ -1,5 +1,5 @@
-use Rattle.std.proofs.Common.{refl, ◌∙◌, arith}
-use Rattle.diamond_store.proofs.Waited.{learns-self, learns-trans, waited}
+use Rattle.std.proofs.Common.{refl, ◌∙◌}
+use Rattle.diamond_store.proofs.Waited.{learns-self, learns-trans}
 use Rattle.diamond_store.proofs.store.Store.wait.Goals as goal
 
 pub loop-init : goal.loop-init

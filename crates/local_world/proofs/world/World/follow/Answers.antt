@@ -1,8 +1,7 @@
 use Rattle.std.proofs.Common.{◌<◌, ℕ, max, get_or, set, length, ap, subst, sym, ◌∙◌}
-use Rattle.docc_prepare.specs.Stores.{IsSound, HasStalled, followed}
+use Rattle.docc_prepare.specs.Stores.{IsSound, followed}
 use Rattle.local_world.specs.Stored.{Stored, store_of}
-use Rattle.local_world.specs.Standing.{stored}
-use Rattle.local_world.proofs.Worlds.{client-there, want, followed-to, followed-kept, stalled-kept}
+use Rattle.local_world.proofs.Worlds.{client-there, followed-to, followed-kept, stalled-kept}
 use Rattle.local_world.proofs.world.World.follow.Goals as goal
 
 pub follow_at-requires-clause-legal : goal.follow_at-requires-clause-legal

@@ -1,4 +1,4 @@
-use Rattle.std.proofs.Common.{[], ap, ◌∙◌}
+use Rattle.std.proofs.Common.{◌∙◌}
 use Rattle.local_world.proofs.Made.{is-first, first-sound, first-kept}
 use Rattle.local_world.proofs.world.World.new.Goals as goal
 

@@ -1,4 +1,4 @@
-use Rattle.std.proofs.Common.{◌≡◌, ℕ, max, get_or, set, length, false, refl, ap, subst, sym, ◌∙◌}
+use Rattle.std.proofs.Common.{◌≡◌, ℕ, max, get_or, set, false, refl, ap, subst, sym, ◌∙◌}
 use Rattle.docc_prepare.specs.Calls.{Call, Answer, front_answered}
 use Rattle.local_world.specs.Standing.{stored}
 use Rattle.local_world.proofs.Worlds.{stays, goes, client-there, all-here, all-kinds, preparing, want_nothing}

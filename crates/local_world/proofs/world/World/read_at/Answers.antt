@@ -1,4 +1,4 @@
-use Rattle.std.proofs.Common.{◌≤◌, length, false, refl, subst, sym, arith}
+use Rattle.std.proofs.Common.{◌≤◌, false, refl, subst, sym, arith}
 use Rattle.docc_prepare.specs.Calls.{Call, Answer, value_answered}
 use Rattle.local_world.specs.Standing.{stored}
 use Rattle.local_world.proofs.Worlds.{stays, goes, seen-within, want, backing}
