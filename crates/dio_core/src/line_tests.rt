@@ -54,7 +54,12 @@ fn is_read(alloc: Global, length: usize, piece: usize) -> bool {
     } else {
         line.as_slice()
     };
-    reads(alloc, StdSource::new(alloc, reader), &[first, b"", b"last", b"end"], 0)
+    reads(
+        alloc,
+        StdSource::new(alloc, reader),
+        &[first, b"", b"last", b"end"],
+        0,
+    )
 }
 
 #[test]
@@ -98,7 +103,17 @@ fn a_read_stops_at_the_newline_and_where_the_buffer_is_full(rt: HostRuntime) -> 
     // Where nothing was read ahead a byte is given.
     let whole = [b"a".as_slice(), b"\n", b"bcde", b"fg\n", b"\n", b""];
     assert!(rt; parts(alloc, 100, &whole));
-    let some = [b"a".as_slice(), b"\n", b"b", b"c", b"de", b"f", b"g\n", b"\n", b""];
+    let some = [
+        b"a".as_slice(),
+        b"\n",
+        b"b",
+        b"c",
+        b"de",
+        b"f",
+        b"g\n",
+        b"\n",
+        b"",
+    ];
     assert!(rt; parts(alloc, 3, &some));
     Ok(())
 }

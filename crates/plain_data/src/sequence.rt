@@ -77,8 +77,30 @@ impl<T: Ord> Ord for Sequence<T> {
     ghost matches_eq = { lists_ties T.cmp T.matches_eq };
 
     fn cmp(&self, other: &Self) -> Ordering {
-        self.items.cmp(&other.items)
+        ordered(self.as_slice(), other.as_slice())
     }
+}
+
+/// How many items at the front are compared one by one, since most keys differ there. What is behind goes to std, which skips
+/// what is equal in groups.
+const COMPARED_SINGLY: usize = 16;
+
+/// The order of two lists.
+fn ordered<T: Ord>(mut a: &[T], mut b: &[T]) -> Ordering
+    ensures { result ≡ slice_cmp T.cmp a.entry.now b.entry.now }
+{
+    for _ in 0..COMPARED_SINGLY {
+        let ([x, xs @ ..], [y, ys @ ..]) = (a, b) else {
+            return a.cmp(&b);
+        };
+        let found = x.cmp(y);
+        if found.is_ne() {
+            return found;
+        }
+        a = xs;
+        b = ys;
+    }
+    a.cmp(&b)
 }
 
 impl<T> Sequence<T> {

@@ -16,14 +16,18 @@ returns-in_err-kept-clause-begun g c =
     let rest = g.S.Source.left c.args.source.now in
     let p = err_from_is_err_and c.from_residual.result c.from_residual.ensures.1 in
     let few : length begun < LONGEST_LINE + 1 = omega (arith, c.requires.few) in
-    rw (p.1, p.2) (length begun, c.requires.some, few,
-    Reads-begun (length begun) _ (with_prefix begun rest) rest (Reads-first begun _ rest c.requires.unbroken refl))
+    rw (p.1, p.2) (
+      length begun,
+      c.requires.some,
+      few,
+      Reads-begun (length begun) _ (with_prefix begun rest) rest (Reads-first begun _ rest c.requires.unbroken refl),
+    )
 
 pub loop-taken-init : goal.loop-taken-init
 loop-taken-init g c =
     let begun = c.args.begun.now in
     let is : c.keep.new.kept.items ≡ take LONGEST_LINE begun =
-        c.keep.ensures ∙ ap (λ none. take LONGEST_LINE (none ++ begun)) c.in_ok-kept.ensures.items in record {
+    c.keep.ensures ∙ ap (λ none. take LONGEST_LINE (none ++ begun)) c.in_ok-kept.ensures.items in record {
       reads = Reads-first begun _ (g.S.Source.left c.args.source.now) c.requires.unbroken is;
       long = omega (arith, ap length is, length-take LONGEST_LINE begun);
       some = c.requires.some;
@@ -67,9 +71,9 @@ returns-then-part-clause-line g c =
     let new = left c.next_part.new.source in
     let goes = c.in_ok-part.ensures.part in
     let size : length buf ≡ c.min-most.result =
-        omega (arith, c.next_part.auto.buf, length-take c.min-most.result before.piece, before.invariant.piece, c.min-most.ensures) in
+    omega (arith, c.next_part.auto.buf, length-take c.min-most.result before.piece, before.invariant.piece, c.min-most.ensures) in
     let below : before.taken + part.count < LONGEST_RUN =
-        omega (arith, given-ended part _ buf (left before.source) new c.in-Some.is c.if-part.true goes, size, c.min-most.ensures) in
+    omega (arith, given-ended part _ buf (left before.source) new c.in-Some.is c.if-part.true goes, size, c.min-most.ensures) in
     let reads = Reads-part before.taken part _ buf (drop c.min-most.result before.piece) before.kept.items c.make_room.new.kept.items kept
     old (left before.source) new c.in-Some.is goes c.make_room.ensures.same c.keep-in-loop-taken.ensures before.invariant.long before.invariant.reads in
     let ended = subst (λ e. Reads (before.taken + part.count) kept old (if e then with_prefix (NEWLINE ∷ []) new else new)) c.if-part.true reads.0 in
@@ -96,7 +100,7 @@ loop-taken-preserved g c =
     let goes = c.in_ok-part.ensures.part in
     let within = given-within part _ buf (left before.source) new c.in-Some.is goes in
     let size : length buf ≡ c.min-most.result =
-        omega (arith, c.next_part.auto.buf, length-take c.min-most.result before.piece, before.invariant.piece, c.min-most.ensures) in
+    omega (arith, c.next_part.auto.buf, length-take c.min-most.result before.piece, before.invariant.piece, c.min-most.ensures) in
     let reads = Reads-part before.taken part _ buf behind before.kept.items c.make_room.new.kept.items kept
     old (left before.source) new c.in-Some.is goes c.make_room.ensures.same c.keep-in-loop-taken.ensures before.invariant.long before.invariant.reads in record {
       reads = subst (λ e. Reads (before.taken + part.count) kept old (if e then with_prefix (NEWLINE ∷ []) new else new)) c.if-part.false reads.0;
