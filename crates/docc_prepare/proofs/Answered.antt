@@ -1,5 +1,5 @@
 -- Each step of a store meets the clause of every call.
-use Rattle.std.proofs.Common.{◌≡◌, ℕ, zero, suc, ◌+◌, ◌-◌, ◌≤◌, ◌<◌, Bool, true, false, cond, min, max, ◌&&◌, ◌||◌, not, List, [], ◌∷◌, length, take}
+use Rattle.std.proofs.Common.{◌≡◌, ℕ, ◌+◌, ◌-◌, ◌≤◌, ◌<◌, Bool, true, false, cond, max, ◌&&◌, ◌||◌, not, List, [], ◌∷◌, length, take}
 use Rattle.std.proofs.Common.{get_or, set, Option, Some, None, ◌⊎◌, inl, inr, refl, sym, ap, ◌∙◌, subst, arith}
 use Rattle.std.specs.Prelude.{nat_lt, nat_le, ◌==◌}
 use Rattle.std.specs.List.{AllByRecursion}
@@ -26,11 +26,10 @@ use Rattle.journal_core.specs.declared.ready.Ready.{Ready}
 use Rattle.journal_core.specs.Changes.{changes, up_to, between}
 use Rattle.journal_core.specs.Pairs.{pairs}
 use Rattle.journal_core.specs.Readies.{made_of}
-use Rattle.docc_prepare.specs.Attempts.{lesser}
 use Rattle.docc_prepare.specs.Serial.{AreOfTheirKinds, IsOrderly}
 use Rattle.docc_prepare.specs.Witnesses.{witness_of, least_witness}
 use Rattle.docc_prepare.specs.Calls.{Known, Call, Answer, is_fault}
-use Rattle.docc_prepare.specs.Backends.{CanValidate, CanPrepare, CanAppend, CanCall, IsLeastBase, IsTaken, Row, OwnRow, SaysOfJournal, Shows, Keeps}
+use Rattle.docc_prepare.specs.Backends.{CanValidate, CanPrepare, CanAppend, CanCall, IsTaken, Row, OwnRow, SaysOfJournal, Shows, Keeps}
 use Rattle.docc_prepare.specs.Backends.{Gives, subscribed_after, taken_after, denied_after, KnowsDenials, IsAnswered}
 use Rattle.docc_prepare.specs.Stores.{Store, CLIENTS, front_of, seen_by, saw, moved, committed, telling, took, least_base, late_base, validated}
 use Rattle.docc_prepare.specs.Stores.{witness_past, decided, read_back, feed_for, step, HasStalled, Does, IsSound, known_by, StepsAreAnswered}
@@ -41,6 +40,7 @@ use Rattle.docc_prepare.proofs.Missing.{none-of-least}
 use Rattle.docc_prepare.proofs.Nexts.{appends}
 use Rattle.docc_prepare.proofs.Witnessed.{none-of-witness, witness-within, orderly-front, witness-of-front}
 use Rattle.docc_prepare.proofs.Feeding.{fed-is-pending, kinds-of-changes, kinds-fed}
+use Rattle.docc_prepare.proofs.LeastBase.{late-is}
 use Rattle.docc_prepare.proofs.Stored.{IsOf, one-kinds, found-is, all-clear, commits-legally, StepsSoundly, step-sound, with_fronts, stalled-sound}
 use Rattle.docc_prepare.proofs.Stored.{Grown, step-grows, stalled-grows, same-client, kept-given, does-one}
 
@@ -69,61 +69,6 @@ untold-now : (mine here was : Bool) → mine ≡ true → cond (mine && here) fa
 untold-now true true was e = refl
 untold-now true false was e = refl
 untold-now false here was e = absurd (cc)
-
--- ---- the least base
-
--- without a least base there is no observation
-no-base : (P : Based → Type 0) (bs : List Based) → least_base bs ≡ None → AllByRecursion P bs
-no-base P [] e = tt
-no-base P (b ∷ bs) e = absurd (cc)
-
--- by whether the first observation has the lesser base or the others do
-least-is : (bs : List Based) (base : ℕ) → least_base bs ≡ Some base → IsLeastBase bs base
-least-is [] base e = absurd (cc)
-least-is (b ∷ bs) base e = by (least_base bs) refl e (λ m h. least-is bs m h)
-  where
-    lower : (m : ℕ) → base ≤ m → AllByRecursion (λ (x : Based). m ≤ x.base) bs → AllByRecursion (λ (x : Based). base ≤ x.base) bs
-    lower m h all = each-more (λ (x : Based). m ≤ x.base) (λ (x : Based). base ≤ x.base) bs (λ x l. omega arith) all
-
-    of-two : (m : ℕ) → min b.base m ≡ base → (t : Bool) → nat_le b.base m ≡ t → IsLeastBase bs m → IsLeastBase (b ∷ bs) base
-    of-two m same true is r =
-        let l = reached-is b.base m is in record {
-          place = zero;
-          observation = b;
-          there = refl;
-          is = omega arith;
-          least = (omega arith, lower m (omega arith) r.least);
-        }
-    of-two m same false is r =
-        let l : m < b.base = grind (arith, nat_tests) in
-        let here = r.is in record {
-          place = suc r.place;
-          observation = r.observation;
-          there = r.there;
-          is = omega arith;
-          least = (omega arith, lower m (omega arith) r.least);
-        }
-
-    by : (o : Option ℕ) → least_base bs ≡ o → Some (lesser b.base o) ≡ Some base → ((m : ℕ) → least_base bs ≡ Some m → IsLeastBase bs m)
-        → IsLeastBase (b ∷ bs) base
-    by None is e rest =
-        let same : b.base ≡ base = cc in record {
-          place = zero;
-          observation = b;
-          there = refl;
-          is = same;
-          least = (omega arith, no-base (λ (x : Based). base ≤ x.base) bs is);
-        }
-    by (Some m) is e rest = let same : min b.base m ≡ base = cc in of-two m same (nat_le b.base m) refl (rest m is)
-
--- a late base is the least one, and below the horizon
-late-is : (h : ℕ) (o : Option ℕ) (base : ℕ) → late_base h o ≡ Some base → (o ≡ Some base) × (base < h)
-late-is h None base e = absurd (cc)
-late-is h (Some b) base e = by (nat_lt b h) refl e
-  where
-    by : (t : Bool) → nat_lt b h ≡ t → cond t (Some b) None ≡ Some base → (Some b ≡ Some base) × (base < h)
-    by true is e = let same : b ≡ base = cc in let l = below-is b h is in (e, omega arith)
-    by false is e = absurd (cc)
 
 -- ---- the steps
 
@@ -275,11 +220,11 @@ module _ (s : Store) (sound : IsSound s) (c : ℕ) (ours : c < CLIENTS) where
         → least_witness based (take front s.journal) ≡ w
         → IsAnswered k (Call.prepare shard based) (validated shard front (front - s.window) late w) (known_by t c)
     validated-by (Some base) w el ew =
-        let l = late-is (front - s.window) (least_base based) base el in
+        let l = late-is (front - s.window) based base el in
         let below = l.1 in
         let r = sound.reached shard in
         validation (Answer.late base (front - s.window)) refl (λ b. refl) refl refl (omega arith) tt
-        (tt, (least-is based base l.0, record { below = below; behind = omega arith }), refl)
+        (tt, (l.0, record { below = below; behind = omega arith }), refl)
     validated-by None (Some w) el ew =
         let least = witness-of-front based s.journal front w orderly kinds-here ew in
         let within = witness-within based (take front s.journal) w (orderly-front front s.journal orderly) kinds-here ew in

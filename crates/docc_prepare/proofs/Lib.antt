@@ -11,6 +11,7 @@ pub mod Nexts
 pub mod EachRead
 pub mod Stored
 pub mod Feeding
+pub mod LeastBase
 pub mod Answered
 pub mod StepDoes
 pub mod Elsewhere

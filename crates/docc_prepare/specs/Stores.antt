@@ -21,8 +21,7 @@ use Rattle.journal_core.specs.declared.ready.Ready.{Ready}
 use Rattle.journal_core.specs.Changes.{changes, between, adding}
 use Rattle.journal_core.specs.Pairs.{least_pair, past_fronts}
 use Rattle.journal_core.specs.Readies.{made_of}
-pub use Rattle.version_shard.specs.Bases.{late_base}
-use Rattle.docc_prepare.specs.Attempts.{lesser}
+pub use Rattle.version_shard.specs.Bases.{least_base, late_base}
 use Rattle.docc_prepare.specs.Witnesses.{witness_of, least_witness}
 use Rattle.docc_prepare.specs.Calls.{Known, Call, Answer}
 use Rattle.docc_prepare.specs.Backends.{CanCall, IsAnswered, IsLater, IsSameClient, KeepsGiven}
@@ -89,11 +88,6 @@ took s client number = record s { taken = λ c. if c == client then number else 
 abbrev pub read_at_front : Store → ℕ → Address → ℕ → Store × Answer
 read_at_front s client address front =
     (saw (moved s (shard_of address s.shards) front) client front, Answer.snap (record { base = front; value = state s.journal front address }))
-
--- the least base, if there is one
-abbrev pub least_base : List Based → Option ℕ
-least_base [] = None
-least_base (b ∷ rest) = Some (lesser b.base (least_base rest))
 
 -- late where a base is below the horizon, else a clash where there is one up to the front, and else the front
 abbrev pub validated : ℕ → ℕ → ℕ → Option ℕ → Option Witness → Answer
@@ -270,9 +264,6 @@ read-refreshed = refl
 
 abbrev read_at_base : ℕ → Based
 read_at_base base = record { address = counter (codes "x"); obs = obs.CounterIs; base = base }
-
-least_base-example : least_base (read_at_base 3 ∷ read_at_base 2 ∷ []) ≡ Some 2
-least_base-example = refl
 
 -- what was read at 0 clashes with the commit once the shard, which is the first, has followed to it
 prepare-example :

@@ -1,5 +1,5 @@
 -- What a shard answers when it validates is what the store answers.
-use Rattle.std.proofs.Common.{◌≡◌, ℕ, ◌-◌, min, List, [], ◌∷◌, Option, Some, None, Ok, Err, refl, sym, ap, ◌∙◌}
+use Rattle.std.proofs.Common.{◌≡◌, ℕ, ◌-◌, List, None, Ok, Err, refl, sym, ap, ◌∙◌}
 use Rattle.std.specs.List.{AllByRecursion}
 use Rattle.std.specs.Option.{option_and_then}
 use Rattle.abort_witness.specs.declared.witness.Based.{Based}
@@ -10,26 +10,12 @@ use Rattle.version_shard.specs.declared.prepared.Prepared.{Prepared}
 use Rattle.version_shard.specs.declared.prepared.Refusal.TheVariants as refusal
 use Rattle.version_shard.specs.Shards.{Sharded}
 use Rattle.version_shard.specs.Standing.{IsReadable}
-use Rattle.version_shard.specs.Bases as shard
 use Rattle.version_shard.specs.Validating.{late, Validates}
 use Rattle.docc_prepare.specs.Calls.{Answer}
 use Rattle.docc_prepare.specs.Serial.{IsOrderly}
 use Rattle.docc_prepare.specs.Witnesses.{witness_of, least_witness}
 use Rattle.docc_prepare.specs.Stores.{least_base, late_base, validated}
 use Rattle.local_world.proofs.Naming.{named-by-shard}
-
--- a shard's least base is the store's: both take the lesser, observation by observation
-least-same : (based : List Based) → shard.least_base based ≡ least_base based
-least-same [] = refl
-least-same (b ∷ based) = by (shard.least_base based) (least_base based) (least-same based)
-  where
-    by : (o p : Option ℕ) → o ≡ p
-        → elim o as (λ _. Option ℕ) [ None ↦ Some b.base | Some other ↦ Some (min b.base other) ]
-        ≡ Some (elim p as (λ _. ℕ) [ None ↦ b.base | Some other ↦ min b.base other ])
-    by None None e = refl
-    by None (Some y) e = absurd (cc)
-    by (Some x) None e = absurd (cc)
-    by (Some x) (Some y) e = let same : x ≡ y = cc in ap (λ n. Some (min b.base n)) same
 
 module _ (journal : Journal) (s : Sharded) (based : List Based) where
   -- what the store answers at the shard's front
@@ -38,7 +24,7 @@ module _ (journal : Journal) (s : Sharded) (based : List Based) where
 
   -- so what the shard calls late the store does
   late-is : late s based ≡ late_base (s.front - s.window) (least_base based)
-  late-is = ap (late_base (s.front - s.window)) (least-same based)
+  late-is = refl
 
   -- without a late base and without a pair both answer the front
   pub as-ok : (p : Prepared) → Validates journal s based (Ok p) → Answer.prepared p ≡ expected
