@@ -1,11 +1,11 @@
 -- What is found at an address of a feed.
-use Rattle.std.proofs.Common.{◌≡◌, Bool, true, false, cond, List, [], ◌∷◌, map, filter, Option, Some, None, refl, sym, ap, ◌∙◌}
-use Rattle.std.specs.Map.{lookup, keys_of}
+use Rattle.std.proofs.Common.{◌≡◌, Bool, true, false, cond, List, [], ◌∷◌, map, filter, Some, None, refl, sym, ap, ◌∙◌}
+use Rattle.std.specs.Map.{keys_of}
 use Rattle.std.specs.List.{AllByRecursion}
 use Rattle.std.specs.List.Sorted.{IsStrictlySortedBy}
 use Rattle.std.specs.BTreeMap.{is_at}
-use Rattle.std.specs.Ordering.{is_eq, ordering_reverse}
-use Rattle.std.specs.declared.cmp.Ordering.TheVariants.{Less, Equal, Greater}
+use Rattle.std.specs.Ordering.{is_eq}
+use Rattle.std.specs.declared.cmp.Ordering.TheVariants.{Less, Equal}
 use Rattle.rdt_types.specs.declared.address.Address.{Address}
 use Rattle.rdt_types.specs.declared.delta.Delta.{Delta}
 use Rattle.rdt_types.specs.Addresses.{address_cmp}
@@ -13,8 +13,8 @@ use Rattle.rdt_types.specs.DeltaMaps.{Deltas, delta_at, after_maybe, with_delta}
 use Rattle.rdt_types.specs.contracts.address.AddressOrd.TheImpl.Laws as addresses
 use Rattle.plain_data.proofs.Entries.{equal, lookup-insert_entry, lookup-alike}
 use Rattle.change_feed.specs.declared.change.Change.{Change}
-use Rattle.change_feed.specs.Pending.{deltas_at, composed_after, pending}
-use Rattle.change_feed.specs.Feeds.{Fed, joined, with_changes, after_both, FeedsKeepPending, FeedsJoin}
+use Rattle.change_feed.specs.Pending.{deltas_at, composed_after}
+use Rattle.change_feed.specs.Feeds.{with_changes, after_both, FeedsKeepPending, FeedsJoin}
 
 -- one delta more at an address is found there, after what stood there, and nowhere else
 pub delta_at-with_delta : (deltas : Deltas) (address : Address) (delta : Delta) (q : Address)

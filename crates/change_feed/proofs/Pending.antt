@@ -2,7 +2,6 @@
 use Rattle.std.proofs.Common.{◌≡◌, Bool, true, false, cond, List, [], ◌∷◌, ◌++◌, map, filter, Option, Some, None, refl, sym, ap, ◌∙◌}
 use Rattle.std.specs.List.{AllByRecursion}
 use Rattle.std.specs.BTreeMap.{is_at}
-use Rattle.std.specs.Ordering.{is_eq}
 use Rattle.plain_data.proofs.Entries.{equal}
 use Rattle.rdt_types.specs.declared.address.Kind.{Kind}
 use Rattle.rdt_types.specs.declared.address.Address.{Address}
@@ -20,7 +19,7 @@ use Rattle.change_feed.specs.Feeds.{after_both, AreOfTheirKinds, PendingJoins}
 
 module _ (k : Kind) where
   -- deltas of one kind
-  abbrev AreOfKind : List Delta → Type 0
+  abbrev pub AreOfKind : List Delta → Type 0
   AreOfKind deltas = AllByRecursion (λ d. kind_changed d ≡ k) deltas
 
   -- a delta of this kind, or none
@@ -88,7 +87,7 @@ deltas_at-append address before (change ∷ changes) later =
     by before false rest = rest before
 
 -- they are of the address's kind
-at-of_kind : (address : Address) (changes : List Change) → AreOfTheirKinds changes → AreOfKind address.kind (deltas_at address changes)
+pub at-of_kind : (address : Address) (changes : List Change) → AreOfTheirKinds changes → AreOfKind address.kind (deltas_at address changes)
 at-of_kind address [] all = tt
 at-of_kind address (change ∷ changes) all = by (is_at (address_cmp address) change.address) refl (at-of_kind address changes all.1)
   where

@@ -1,5 +1,5 @@
 -- What a tail keeps.
-use Rattle.std.specs.Prelude.{ℕ, ◌<◌, ◌≤◌, List, [], ◌∷◌, length, All}
+use Rattle.std.specs.Prelude.{ℕ, ◌<◌, ◌≤◌, List, length, All}
 use Rattle.std.specs.List.{AllAdjacentBelow}
 use Rattle.change_feed.specs.declared.change.Change.{Change}
 

@@ -2,7 +2,6 @@
 use Rattle.std.proofs.Common.{◌≡◌, Bool, true, false, cond, List, [], ◌∷◌, ◌++◌, map, filter, Option, Some, None, option_map, refl, sym, ap, ◌∙◌}
 use Rattle.std.specs.List.{AllByRecursion}
 use Rattle.std.specs.BTreeMap.{is_at}
-use Rattle.plain_data.proofs.Entries.{equal}
 use Rattle.rdt_types.specs.declared.address.Kind.{Kind}
 use Rattle.rdt_types.specs.declared.address.Address.{Address}
 use Rattle.rdt_types.specs.declared.value.Value.{Value}
@@ -11,15 +10,15 @@ use Rattle.rdt_types.specs.Addresses.{address_cmp}
 use Rattle.rdt_types.specs.Values.{default_of}
 use Rattle.rdt_types.specs.Deltas.{kind_changed, compose, apply}
 use Rattle.rdt_types.specs.DeltaMaps.{delta_at}
-use Rattle.rdt_types.proofs.Addresses.{address_cmp-equal}
 use Rattle.rdt_types.proofs.OneKind.{kind-compose}
 use Rattle.rdt_types.proofs.Laws.{compositions_apply_in_turn}
 use Rattle.change_feed.specs.declared.change.Change.{Change}
 use Rattle.change_feed.specs.Pending.{deltas_at, composed_after, pending}
-use Rattle.change_feed.specs.Feeds.{Fed, AreOfTheirKinds}
+use Rattle.change_feed.specs.Feeds.{AreOfTheirKinds}
+use Rattle.change_feed.proofs.Pending.{at-of_kind}
 use Rattle.client_cache.specs.Histories.{apply_maybe, applied, state_at}
-use Rattle.client_cache.specs.Cached.{Cached, held, after_feed, Advances}
-use Rattle.client_cache.specs.Laws.{PendingAppliesInTurn, HoldsState, CachesFollow}
+use Rattle.client_cache.specs.Cached.{held}
+use Rattle.client_cache.specs.Laws.{PendingAppliesInTurn, CachesFollow}
 
 -- ---- deltas of one kind
 
@@ -47,18 +46,6 @@ at address changes = filter (λ c. is_at (address_cmp address) c.address) change
 -- the deltas of changes, in order
 abbrev deltas_of : List Change → List Delta
 deltas_of changes = map (λ c. c.delta) changes
-
--- the deltas at an address are of its kind
-at-of_kind : (address : Address) (changes : List Change) → AreOfTheirKinds changes
-    → AllByRecursion (λ d. kind_changed d ≡ address.kind) (deltas_at address changes)
-at-of_kind address [] all = tt
-at-of_kind address (change ∷ changes) all = by (is_at (address_cmp address) change.address) refl (at-of_kind address changes all.1)
-  where
-    by : (b : Bool) → is_at (address_cmp address) change.address ≡ b
-        → AllByRecursion (λ d. kind_changed d ≡ address.kind) (deltas_at address changes)
-        → AllByRecursion (λ d. kind_changed d ≡ address.kind) (deltas_of (cond b (change ∷ at address changes) (at address changes)))
-    by true here rest = (all.0 ∙ ap (λ (a : Address). a.kind) (sym (address_cmp-equal address change.address (equal _ here))), rest)
-    by false there rest = rest
 
 -- what is pending is a composition of deltas of the address's kind, with none before it
 pub pending_applies_in_turn : PendingAppliesInTurn

@@ -7,14 +7,12 @@ use Rattle.std.proofs.lemmas.Bool.Decides.{leb_tells}
 use Rattle.std.specs.List.{list_any, AllByRecursion}
 use Rattle.std.specs.BTreeMap.{is_at}
 use Rattle.std.specs.Option.{option_map_or}
-use Rattle.plain_data.proofs.Entries.{equal}
 use Rattle.rdt_types.specs.declared.address.Kind.{Kind}
 use Rattle.rdt_types.specs.declared.address.Address.{Address}
 use Rattle.rdt_types.specs.declared.delta.Delta.{Delta}
 use Rattle.rdt_types.specs.Addresses.{address_cmp}
 use Rattle.rdt_types.specs.Deltas.{kind_changed, compose}
 use Rattle.rdt_types.specs.DeltaMaps.{delta_at}
-use Rattle.rdt_types.proofs.Addresses.{address_cmp-equal}
 use Rattle.rdt_types.proofs.OneKind.{kind-compose}
 use Rattle.conflict_table.specs.declared.observation.Obs.{Obs}
 use Rattle.conflict_table.specs.Clashes.{clash}
@@ -23,6 +21,7 @@ use Rattle.conflict_table.proofs.Rows.{compositions_clash_by_parts}
 use Rattle.change_feed.specs.declared.change.Change.{Change}
 use Rattle.change_feed.specs.Pending.{deltas_at, composed_after, pending}
 use Rattle.change_feed.specs.Feeds.{Fed, AreOfTheirKinds}
+use Rattle.change_feed.proofs.Pending.{AreOfKind, at-of_kind}
 use Rattle.journal_core.specs.Changes.{between, up_to}
 use Rattle.txn_lang.specs.declared.run.Seen.{Seen}
 use Rattle.rerun_driver.specs.declared.watch.Watch.{Watch}
@@ -30,10 +29,6 @@ use Rattle.rerun_driver.specs.Watches.{clashes, touches, told}
 use Rattle.rerun_driver.specs.Touched.{meets, is_touched, Follow, reached, told_each, StaleIsTouched}
 
 -- ---- what is pending clashes where one of its deltas does
-
--- all of some deltas are of one kind
-abbrev AreOfKind : Kind → List Delta → Type 0
-AreOfKind k deltas = AllByRecursion (λ d. kind_changed d ≡ k) deltas
 
 module _ (o : Obs) (k : Kind) where
   -- of deltas of one kind, composed after a first
@@ -60,16 +55,6 @@ at address changes = filter (λ c. is_at (address_cmp address) c.address) change
 -- what changes do, in order
 abbrev deltas_of : List Change → List Delta
 deltas_of changes = map (λ c. c.delta) changes
-
--- they are of its kind
-at-of_kind : (address : Address) (changes : List Change) → AreOfTheirKinds changes → AreOfKind address.kind (deltas_at address changes)
-at-of_kind address [] all = tt
-at-of_kind address (change ∷ changes) all = by (is_at (address_cmp address) change.address) refl (at-of_kind address changes all.1)
-  where
-    by : (b : Bool) → is_at (address_cmp address) change.address ≡ b → AreOfKind address.kind (deltas_at address changes)
-        → AreOfKind address.kind (deltas_of (cond b (change ∷ at address changes) (at address changes)))
-    by true here rest = (all.0 ∙ ap (λ (a : Address). a.kind) (sym (address_cmp-equal address change.address (equal _ here))), rest)
-    by false there rest = rest
 
 -- one of them clashes where a change meets the observation
 clash-deltas_at : (seen : Seen) (changes : List Change) → list_any (clash seen.obs) (deltas_at seen.address changes) ≡ list_any (meets seen) changes

@@ -1,6 +1,6 @@
 -- How the code advances a cache: new values first, and then each in its place. `held-advanced` of proofs/Changing ties this
 -- to `Advances` of specs/Cached.
-use Rattle.std.specs.Prelude.{List, [], ◌∷◌, fold, Option, Some, None}
+use Rattle.std.specs.Prelude.{[], ◌∷◌, fold, Option, Some, None}
 use Rattle.std.specs.Map.{lookup, set_value}
 use Rattle.std.specs.BTreeMap.{is_at}
 use Rattle.rdt_types.specs.declared.address.Address.{Address}

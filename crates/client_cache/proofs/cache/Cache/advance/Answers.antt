@@ -1,7 +1,4 @@
-use Rattle.std.proofs.Common.{◌≡◌, refl, sym, ap, ◌∙◌, subst}
-use Rattle.std.specs.Map.{keys_of}
-use Rattle.std.specs.List.Sorted.{IsStrictlySortedBy}
-use Rattle.rdt_types.specs.Addresses.{address_cmp}
+use Rattle.std.proofs.Common.{ap, ◌∙◌}
 use Rattle.rdt_types.specs.DeltaMaps.{Deltas}
 use Rattle.client_cache.specs.Cached.{Cached, Values, held, after_feed, advanced}
 use Rattle.client_cache.specs.code.Changing.{changed_from, with_all}
