@@ -53,7 +53,7 @@ split_last (y ∷ xs) (suc n) x e there = ap (λ zs. y ∷ zs) (split_last xs n 
 
 module _ {A : Type 0} where
   -- nothing is kept of no names
-  pub keeps-empty : Keeps fin.empty []
+  pub keeps-empty : Keeps {A = A} fin.empty []
   keeps-empty = record { newest = λ x. ap place_there (fin.get-empty text_cmp x); hidden = tt }
 
   -- ---- one more binding

@@ -27,7 +27,7 @@ pub struct Environment<V> {
 }
 
 impl<V> Model for Environment<V> {
-    ghost use Rattle.std.specs.Prelude.{List, ◌×◌};
+    ghost use Rattle.std.specs.Prelude.{List};
     ghost use Rattle.std.specs.Coded.{coded_list, coded×, coded_ℕ};
     ghost use Rattle.plain_data.specs.Texts.{Bytes};
     ghost use Rattle.txn_lang.specs.code.Places.{names_of, Keeps};
