@@ -79,7 +79,7 @@ fn a_buffer_of_any_size_is_filled_from_what_is_held(rt: HostRuntime) -> Result<(
 #[test]
 fn what_is_held_is_given_up_to_a_newline(rt: HostRuntime) -> Result<(), Fail> {
     let alloc = rt.alloc();
-    let mut ahead = BufferedLink::new(link(alloc, b"a\nbcde\n\n", 5, &[], &[])?);
+    let mut ahead = BufferedLink::new(MemLink::new(alloc, b"a\nbcde\n\n", 5, &[], &[])?);
     let mut buf = [0; 2];
     // Where nothing is held a byte is given.
     assert!(rt; ahead.read_through(b'\n', &mut buf) == Got::Bytes(1) && buf[0] == b'a');
