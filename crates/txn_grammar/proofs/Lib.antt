@@ -8,3 +8,4 @@ pub mod Values
 pub mod Cuts
 pub mod Blanks
 pub mod Marks
+pub mod Words

@@ -60,29 +60,29 @@ pub enum Symbol {
     Dot,
 }
 
-/// The reserved words, which are no names. They are looked for in this order, so the commonest stand first.
+/// The reserved words, which are no names: by their first letters, and of one letter the commonest first.
 pub const WORDS: [(&[u8], Symbol); 21] = [
+    (b"and", Symbol::And),
+    (b"bool", Symbol::Bool),
     (b"counter", Symbol::Counter),
     (b"emit", Symbol::Emit),
-    (b"text", Symbol::Text),
-    (b"bool", Symbol::Bool),
-    (b"set", Symbol::Set),
-    (b"hash", Symbol::Hash),
-    (b"list", Symbol::List),
-    (b"let", Symbol::Let),
-    (b"if", Symbol::If),
-    (b"fail", Symbol::Fail),
     (b"else", Symbol::Else),
     (b"for", Symbol::For),
-    (b"in", Symbol::In),
-    (b"and", Symbol::And),
-    (b"or", Symbol::Or),
-    (b"not", Symbol::Not),
-    (b"true", Symbol::True),
+    (b"fail", Symbol::Fail),
     (b"false", Symbol::False),
+    (b"hash", Symbol::Hash),
+    (b"if", Symbol::If),
+    (b"in", Symbol::In),
+    (b"let", Symbol::Let),
+    (b"list", Symbol::List),
     (b"len", Symbol::Len),
-    (b"str", Symbol::Str),
+    (b"not", Symbol::Not),
+    (b"or", Symbol::Or),
     (b"peak", Symbol::Peak),
+    (b"set", Symbol::Set),
+    (b"str", Symbol::Str),
+    (b"text", Symbol::Text),
+    (b"true", Symbol::True),
 ];
 
 /// The marks, of two bytes and of one, the commonest first.
