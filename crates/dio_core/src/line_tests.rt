@@ -171,3 +171,18 @@ fn a_line_is_read_by_few_reads(rt: HostRuntime) -> Result<(), Fail> {
     assert_eq!(rt; reads_of(alloc, &mut source, 4), Some(3));
     Ok(())
 }
+
+#[test]
+fn a_source_sees_what_it_has_read_ahead(rt: HostRuntime) -> Result<(), Fail> {
+    let reader = Pieces {
+        rest: b"a\nb".as_slice(),
+        piece: 100,
+    };
+    let mut source = StdSource::new(rt.alloc(), reader)?;
+    assert!(rt; !source.sees(b'\n'));
+    assert!(rt; gives(&mut source, b"a"));
+    assert!(rt; source.sees(b'\n') && source.sees(b'b') && !source.sees(b'a'));
+    assert!(rt; gives(&mut source, b"\n"));
+    assert!(rt; !source.sees(b'\n') && source.sees(b'b'));
+    Ok(())
+}

@@ -83,6 +83,11 @@ impl<R: Read + Drop> Source for StdSource<R> {
         Got::Bytes(count)
     }
 
+    // From behind, where of several lines the newline of the last is near.
+    fn sees(&self, last: u8) -> bool {
+        self.reader.buffer().iter().rev().any(|byte| *byte == last)
+    }
+
     fn read_faults(&self) -> u64 {
         self.faults.get()
     }

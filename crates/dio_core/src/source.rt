@@ -1,8 +1,9 @@
 //! Where bytes come from. Contracts see the bytes that a source has left, where it tells them.
 
 ghost use Rattle.std.specs.Prelude.{◌≡◌, ◌==◌, ℕ, ◌<◌, ◌++◌, List, Option, length, take, drop, position};
+ghost use Rattle.std.specs.Bool.{OnTrue};
 ghost use Rattle.dio_core.specs.Counts.{IsCounted};
-ghost use Rattle.dio_core.specs.Sources.{Gives, StopsAt, length_through, read_failed};
+ghost use Rattle.dio_core.specs.Sources.{Gives, StopsAt, IsAhead, length_through, read_failed};
 ghost use Rattle.dio_core.specs.Links.{Outgoing};
 
 /// What a read gave.
@@ -44,6 +45,15 @@ pub trait Source {
         ensures counted { IsCounted (read_failed result) (read_faults self.old) (read_faults self.new) }
     {
         self.read(&mut buf[..1])
+    }
+
+    /// Whether this byte is among those that the source sees ahead, so that reading up to it waits for nothing. One that sees
+    /// none of the bytes ahead answers `false`.
+    fn sees(&self, last: u8) -> bool
+        ensures { OnTrue result (IsAhead last (left self.now)) }
+    {
+        let _ = last;
+        false
     }
 
     /// How many reads have failed.

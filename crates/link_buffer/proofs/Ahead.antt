@@ -1,22 +1,16 @@
 -- What a link that reads ahead has left.
-use Rattle.std.proofs.Common.{◌≡◌, ◌<◌, ◌≤◌, ℕ, List, [], ◌++◌, length, take, drop, Option, Some, None, ap, sym, ◌∙◌, refl, arith}
+use Rattle.std.proofs.Common.{◌≡◌, ◌<◌, ◌≤◌, ℕ, List, [], length, take, drop, Option, Some, None, ap, sym, ◌∙◌, refl, arith}
 use Rattle.std.proofs.lemmas.Grind.{common_steps}
-use Rattle.std.proofs.lemmas.List.{take-append-drop, append_assoc, take_at, length-take-le}
+use Rattle.std.proofs.lemmas.List.{take_at, length-take-le}
 use Rattle.dio_core.specs.Sources.{with_prefix, Gives}
 use Rattle.dio_core.specs.declared.source.Got.TheVariants as got
+use Rattle.dio_core.proofs.Sources.{with_prefix-split}
 use Rattle.link_buffer.specs.Ahead.{Ahead, left_of, GivesHeld}
 
 -- no bytes before what is left change nothing
 pub with_prefix-none : (rest : Option (List ℕ)) → with_prefix [] rest ≡ rest
 with_prefix-none None = refl
 with_prefix-none (Some rest) = refl
-
--- some bytes before what is left are the first n of them and then the others
-pub with_prefix-split : (n : ℕ) (bytes : List ℕ) (rest : Option (List ℕ))
-    → with_prefix bytes rest ≡ with_prefix (take n bytes) (with_prefix (drop n bytes) rest)
-with_prefix-split n bytes None = refl
-with_prefix-split n bytes (Some rest) =
-    ap Some (ap (λ b. b ++ rest) (sym (take-append-drop n bytes)) ∙ append_assoc (take n bytes) (drop n bytes) rest)
 
 -- what is given of what is held is given of what is left
 pub gives-left : {K : Type 0} (left : K → Option (List ℕ)) (n : ℕ) (buffer filled : List ℕ) (old new : Ahead K)

@@ -1,4 +1,4 @@
-use Rattle.std.proofs.Common.{List, [], ◌∷◌, drop, length-append, length-drop, if◌then◌else◌, ◌≡◌, ◌+◌, ◌<◌, ◌++◌, ℕ, length, take, arith, refl, sym, subst, ap, ◌∙◌}
+use Rattle.std.proofs.Common.{List, [], ◌∷◌, if◌then◌else◌, ◌≡◌, ◌+◌, ◌<◌, ◌++◌, ℕ, length, take, arith, refl, sym, subst, ap, ◌∙◌}
 use Rattle.std.proofs.lemmas.Grind.{common_steps}
 use Rattle.std.proofs.lemmas.Result.{err_from_is_err_and}
 use Rattle.std.proofs.lemmas.List.{length-take}
@@ -6,7 +6,7 @@ use Rattle.dio_core.specs.declared.line.TheConstants.{NEWLINE, LONGEST_LINE, LON
 use Rattle.dio_core.specs.Sources.{with_prefix}
 use Rattle.dio_core.specs.Lines.{TakesLine, IsShort}
 use Rattle.dio_core.specs.code.Lines.{Reads, GoesOn, answer_of}
-use Rattle.dio_core.proofs.Lines.{Reads-first, Reads-part, Reads-begun, given-within, given-ended, kept-short, answer-short, TakesLine-newline, TakesLine-end, TakesLine-full}
+use Rattle.dio_core.proofs.Lines.{Reads-first, Reads-begun, read-part, kept-short, answer-short, TakesLine-newline, TakesLine-end, TakesLine-full}
 use Rattle.dio_core.proofs.line.rest_of_line.Goals as goal
 
 -- there is no memory for a line that has begun
@@ -66,19 +66,14 @@ returns-then-part-clause-line g c =
     let before = c.loop-taken in
     let part = c.in-Some.part in
     let kept = c.keep-in-loop-taken.new.kept.items in
-    let buf = c.next_part.new.buf in
     let old = with_prefix c.args.begun.now (left c.args.source.now) in
     let new = left c.next_part.new.source in
-    let goes = c.in_ok-part.ensures.part in
-    let size : length buf ≡ c.min-most.result =
-    omega (arith, c.next_part.auto.buf, length-take c.min-most.result before.piece, before.invariant.piece, c.min-most.ensures) in
-    let below : before.taken + part.count < LONGEST_RUN =
-    omega (arith, given-ended part _ buf (left before.source) new c.in-Some.is c.if-part.true goes, size, c.min-most.ensures) in
-    let reads = Reads-part before.taken part _ buf (drop c.min-most.result before.piece) before.kept.items c.make_room.new.kept.items kept
-    old (left before.source) new c.in-Some.is goes c.make_room.ensures.same c.keep-in-loop-taken.ensures before.invariant.long before.invariant.reads in
-    let ended = subst (λ e. Reads (before.taken + part.count) kept old (if e then with_prefix (NEWLINE ∷ []) new else new)) c.if-part.true reads.0 in
+    let read = read-part before.taken c.min-most.result part _ c.next_part.new.buf before.piece before.kept.items c.make_room.new.kept.items kept
+    old (left before.source) new c.loop-taken-test.true c.min-most.ensures before.invariant.piece c.next_part.auto.buf
+    c.in-Some.is c.in_ok-part.ensures.part c.make_room.ensures.same c.keep-in-loop-taken.ensures before.invariant.long before.invariant.reads in
+    let reads = subst (λ e. Reads (before.taken + part.count) kept old (if e then with_prefix (NEWLINE ∷ []) new else new)) c.if-part.true read.reads in
     subst (λ answer. TakesLine answer old new) (sym c.answer-then-part.ensures)
-    (TakesLine-newline (before.taken + part.count) kept old _ new below ended refl)
+    (TakesLine-newline (before.taken + part.count) kept old _ new (read.ended c.if-part.true) reads refl)
 
 pub returns-then-part-clause-short : goal.returns-then-part-clause-short
 returns-then-part-clause-short g c =
@@ -93,21 +88,16 @@ loop-taken-preserved g c =
     let before = c.loop-taken in
     let part = c.in-Some.part in
     let kept = c.keep-in-loop-taken.new.kept.items in
-    let buf = c.next_part.new.buf in
-    let behind = drop c.min-most.result before.piece in
     let old = with_prefix c.args.begun.now (left c.args.source.now) in
     let new = left c.next_part.new.source in
-    let goes = c.in_ok-part.ensures.part in
-    let within = given-within part _ buf (left before.source) new c.in-Some.is goes in
-    let size : length buf ≡ c.min-most.result =
-    omega (arith, c.next_part.auto.buf, length-take c.min-most.result before.piece, before.invariant.piece, c.min-most.ensures) in
-    let reads = Reads-part before.taken part _ buf behind before.kept.items c.make_room.new.kept.items kept
-    old (left before.source) new c.in-Some.is goes c.make_room.ensures.same c.keep-in-loop-taken.ensures before.invariant.long before.invariant.reads in record {
-      reads = subst (λ e. Reads (before.taken + part.count) kept old (if e then with_prefix (NEWLINE ∷ []) new else new)) c.if-part.false reads.0;
-      long = reads.1;
+    let read = read-part before.taken c.min-most.result part _ c.next_part.new.buf before.piece before.kept.items c.make_room.new.kept.items kept
+    old (left before.source) new c.loop-taken-test.true c.min-most.ensures before.invariant.piece c.next_part.auto.buf
+    c.in-Some.is c.in_ok-part.ensures.part c.make_room.ensures.same c.keep-in-loop-taken.ensures before.invariant.long before.invariant.reads in record {
+      reads = subst (λ e. Reads (before.taken + part.count) kept old (if e then with_prefix (NEWLINE ∷ []) new else new)) c.if-part.false read.reads;
+      long = read.long;
       some = omega (arith, before.invariant.some);
-      most = omega (arith, within, size, c.min-most.ensures, c.loop-taken-test.true);
-      piece = omega (arith, length-append buf behind, length-drop c.min-most.result before.piece, size, before.invariant.piece, c.min-most.ensures);
+      most = read.most;
+      piece = read.whole;
       written = grind (arith, common_steps);
       counted = grind (arith, common_steps);
     }
