@@ -21,7 +21,8 @@ use Rattle.txn_lang.specs.States.{Journal}
 use Rattle.journal_core.specs.Changes.{changes, changes_of, changes_by, past, up_to, between, of_shard, of_address}
 use Rattle.journal_core.specs.Pairs.{AreNumberedFrom}
 use Rattle.journal_core.specs.Logs.{Keeps}
-use Rattle.journal_core.proofs.Passing.{moved, fails-middle, first_clash-past, meets-past}
+use Rattle.journal_core.specs.Parts.{MeetsAlike}
+use Rattle.journal_core.proofs.Passing.{moved, fails-middle, past-same}
 use Rattle.journal_core.specs.Kinds.{AreOfTheirKinds}
 use Rattle.journal_core.proofs.Rising.{changes-more, numbered-more}
 use Rattle.journal_core.proofs.OfRuns.{kinds-more}
@@ -69,17 +70,15 @@ meets-in_shard based shards (change ∷ rest) =
     by later false here =
         rw here (rw (elsewhere based.address change.address shards here) (rw (and-false (nat_lt based.base change.number)) later))
 
--- past a number, the first clash in the list of its shard is that of the observation as if it was made there
-pub first_clash-here : (based : Based) (from shards : ℕ) (here all : List Change) → based.base ≤ from
-    → here ≡ of_shard shards (shard_of based.address shards) all → first_clash based (past from here) ≡ first_clash (moved based from) all
-first_clash-here based from shards here all within same =
-    first_clash-past based from here within ∙ ap (first_clash (moved based from)) same ∙ first_clash-in_shard (moved based from) shards all
-
--- and as many may be met
-pub meets-here : (based : Based) (from shards : ℕ) (here all : List Change) → based.base ≤ from
-    → here ≡ of_shard shards (shard_of based.address shards) all → filter (meets based) (past from here) ≡ filter (meets (moved based from)) all
-meets-here based from shards here all within same =
-    meets-past based from here within ∙ ap (filter (meets (moved based from))) same ∙ meets-in_shard (moved based from) shards all
+-- past a number, an observation meets in the list of its shard what it does in all as if it was made there
+pub past-alike : (based : Based) (from shards : ℕ) (here all : List Change) → based.base ≤ from
+    → here ≡ of_shard shards (shard_of based.address shards) all → MeetsAlike based (past from here) (moved based from) all
+past-alike based from shards here all within same =
+    let later = past-same based from here within in
+    record {
+      first = later.first ∙ ap (first_clash (moved based from)) same ∙ first_clash-in_shard (moved based from) shards all;
+      met = later.met ∙ ap (filter (meets (moved based from))) same ∙ meets-in_shard (moved based from) shards all;
+    }
 
 -- and all that is at an address
 pub of_address-in_shard : (address : Address) (shards : ℕ) (all : List Change)

@@ -1,5 +1,5 @@
 -- The least pair of a journal is the least of all pairs.
-use Rattle.std.proofs.Common.{◌≡◌, List, length, take, drop, MatchOption, sym, ap, subst, ◌∙◌, arith}
+use Rattle.std.proofs.Common.{◌≡◌, length, take, drop, MatchOption, sym, ap, subst, ◌∙◌, arith}
 use Rattle.std.proofs.lemmas.Grind.{common_steps}
 use Rattle.change_feed.specs.Tails.{IsTail}
 use Rattle.abort_witness.specs.Pairs.{IsLeast, HasNoPair}

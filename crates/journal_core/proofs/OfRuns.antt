@@ -29,7 +29,7 @@ use Rattle.txn_lang.specs.States.{Journal, PartialState}
 use Rattle.txn_lang.specs.Own as owns
 use Rattle.txn_lang.specs.Own.{Operations, at_address}
 use Rattle.txn_lang.specs.Execution.{Ran, need, done, Own, own, own_read, own_value, own_write, ended, own_run, exec, begun, nothing_yet}
-use Rattle.txn_lang.proofs.Simulation.{Suits, Simulates, Fine, Same, Lacking, onto, body_simulates, answered_bounded, answered_lacking}
+use Rattle.txn_lang.proofs.Simulation.{Suits, Simulates, Fine, Same, onto, body_simulates, answered_bounded, answered_lacking}
 use Rattle.journal_core.specs.Kinds.{AreOfTheirKinds, HasKinds}
 use Rattle.journal_core.specs.Keeping.{IsOfRun}
 use Rattle.journal_core.proofs.Each.{each-push}

@@ -1,5 +1,5 @@
 -- Changes past a number, for an observation that is based at it or before it.
-use Rattle.std.proofs.Common.{◌≡◌, ℕ, ◌≤◌, Bool, true, false, ◌&&◌, nat_lt, List, [], ◌∷◌, filter, refl, sym, ap, ◌∙◌, arith, cond, Some, None}
+use Rattle.std.proofs.Common.{◌≡◌, ℕ, ◌≤◌, Bool, true, false, ◌&&◌, nat_lt, List, [], ◌∷◌, filter, refl, ap, subst, arith, cond, Some}
 use Rattle.std.specs.BTreeMap.{is_at}
 use Rattle.rdt_types.specs.Addresses.{address_cmp}
 use Rattle.conflict_table.specs.Clashes.{clash}
@@ -7,6 +7,7 @@ use Rattle.change_feed.specs.declared.change.Change.{Change}
 use Rattle.abort_witness.specs.declared.witness.Based.{Based}
 use Rattle.abort_witness.specs.Pairs.{meets, first_clash}
 use Rattle.journal_core.specs.Changes.{past}
+use Rattle.journal_core.specs.Parts.{MeetsAlike}
 
 -- the observation as if it was made later
 abbrev pub moved : Based → ℕ → Based
@@ -48,6 +49,10 @@ meets-past based from (change ∷ rest) within = by_number (meets-past based fro
         rw (here, also) (ap (λ o. cond (is_at (address_cmp based.address) change.address) (change ∷ o) o) later)
     by_number later false here = rw here later
 
--- where nothing is past a number, nothing clashes with the observation as if it was made there
-pub none_clashes : (based : Based) (from : ℕ) (all : List Change) → based.base ≤ from → past from all ≡ [] → first_clash (moved based from) all ≡ None
-none_clashes based from all within none = sym (first_clash-past based from all within) ∙ ap (first_clash based) none
+-- an observation meets past a number what it does as if it was made there
+pub past-same : (based : Based) (from : ℕ) (all : List Change) → based.base ≤ from → MeetsAlike based (past from all) (moved based from) all
+past-same based from all within = record { first = first_clash-past based from all within; met = meets-past based from all within }
+
+-- where nothing is past a number, it meets nothing
+pub none-alike : (based : Based) (from : ℕ) (all : List Change) → based.base ≤ from → past from all ≡ [] → MeetsAlike based [] (moved based from) all
+none-alike based from all within none = subst (λ (l : List Change). MeetsAlike based l (moved based from) all) none (past-same based from all within)

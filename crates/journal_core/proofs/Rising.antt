@@ -11,11 +11,13 @@ use Rattle.rdt_types.specs.DeltaMaps.{Deltas}
 use Rattle.change_feed.specs.declared.change.Change.{Change}
 use Rattle.txn_lang.specs.States.{Journal}
 use Rattle.std.proofs.Common.{append-nil, append_assoc}
-use Rattle.std.proofs.Math.Seq.{drop-nil}
+use Rattle.std.proofs.Math.Seq.{drop-nil, take-add}
+use Rattle.std.proofs.lemmas.List.{drop-drop, length-drop}
 use Rattle.txn_lang.specs.declared.commit.Commit.{Commit}
 use Rattle.journal_core.specs.Changes.{changes, changes_of, past, up_to}
 use Rattle.journal_core.specs.Pairs.{AreNumberedFrom}
 use Rattle.journal_core.specs.Rising.{Rises}
+use Rattle.journal_core.specs.Parts.{IsPartedAt, IsUpToBefore}
 
 -- what rises from a number rises from a lesser one
 pub rises_lower : (m n : ℕ) (all : List Change) → m ≤ n → Rises n all → Rises m all
@@ -99,25 +101,16 @@ filter-back p q other (x ∷ xs) (suc i) point within =
       λ k d low high. point.1 (suc k) d (omega (arith, low)) (omega (arith, high)),
     ) (omega (arith, within))))
 
--- what stands before a change up to a number is up to it too, and so is the rest of those that are
-pub front-up_to : (m n : ℕ) (all : List Change) (i : ℕ) (d : Change) → Rises n all → i < length all → (get_or all i d).number ≤ m
-    → up_to m all ≡ take i all ++ up_to m (drop i all)
+-- what stands before a change up to a number is up to it too, since the numbers rise
+pub front-up_to : (m n : ℕ) (all : List Change) (i : ℕ) (d : Change) → Rises n all → i < length all → (get_or all i d).number ≤ m → IsUpToBefore m all i
 front-up_to m n [] i d rises within at = absurd (omega (arith, within))
-front-up_to m n (change ∷ rest) zero d rises within at = refl
+front-up_to m n (change ∷ rest) zero d rises within at = record { within = omega arith; up_to = refl; past = refl }
 front-up_to m n (change ∷ rest) (suc i) d rises within at =
     let later = rises-at change.number rest i d rises.1 (omega (arith, within)) in
     let here : nat_le change.number m ≡ true = grind (arith, later, at) in
-    rw here (ap (λ more. change ∷ more) (front-up_to m change.number rest i d rises.1 (omega (arith, within)) at))
-
--- and nothing of it is past it
-pub front-past : (m n : ℕ) (all : List Change) (i : ℕ) (d : Change) → Rises n all → i < length all → (get_or all i d).number ≤ m
-    → past m all ≡ past m (drop i all)
-front-past m n [] i d rises within at = absurd (omega (arith, within))
-front-past m n (change ∷ rest) zero d rises within at = refl
-front-past m n (change ∷ rest) (suc i) d rises within at =
-    let later = rises-at change.number rest i d rises.1 (omega (arith, within)) in
-    let here : nat_lt m change.number ≡ false = grind (arith, later, at) in
-    rw here (front-past m change.number rest i d rises.1 (omega (arith, within)) at)
+    let not_past : nat_lt m change.number ≡ false = grind (arith, later, at) in
+    let more = front-up_to m change.number rest i d rises.1 (omega (arith, within)) at in
+    record { within = omega (arith, within); up_to = rw here (ap (λ l. change ∷ l) more.up_to); past = rw not_past more.past }
 
 -- what is left behind a place is in order
 pub rises-drop : (n i : ℕ) (all : List Change) → Rises n all → Rises n (drop i all)
@@ -132,6 +125,23 @@ later m n = grind arith
 -- all that stands behind a place
 pub all_behind : {X : Type 0} (xs : List X) (i : ℕ) → take (length xs - i) (drop i xs) ≡ drop i xs
 all_behind xs i = grind (arith, common_steps)
+
+-- where those up to a number come to an end the list is parted
+pub parted-at : (m : ℕ) (all : List Change) (i : ℕ)
+    → IsPartitionPoint (λ change. nat_le change.number m ≡ true) (λ change. nat_le change.number m ≡ false) all i → i ≤ length all → IsPartedAt m all i
+parted-at m all i point within = record {
+  within = within;
+  up_to = sym (filter-front (λ change. nat_le change.number m) all i point within);
+  past = sym (filter-back (λ change. nat_le change.number m) (λ change. nat_lt m change.number) (λ change. later m change.number) all i point within);
+}
+
+-- a list that is parted behind a place before which all is up to the number is parted there
+pub parted-behind : (m : ℕ) (all : List Change) (i j : ℕ) → IsUpToBefore m all i → IsPartedAt m (drop i all) j → IsPartedAt m all (i + j)
+parted-behind m all i j before parted = record {
+  within = let w = parted.within in let u = before.within in let l = length-drop i all in omega (arith, w, u, l);
+  up_to = take-add i j all ∙ ap (λ l. take i all ++ l) parted.up_to ∙ sym before.up_to;
+  past = sym (drop-drop j i all) ∙ parted.past ∙ sym before.past;
+}
 
 -- the changes of one commit more stand at the end
 pub changes-more : (journal : Journal) (commit : Commit) → changes (journal ++ commit ∷ []) ≡ changes journal ++ changes_of commit

@@ -4,6 +4,7 @@ pub mod Pairs
 pub mod ByShard
 pub mod Logs
 pub mod Tails
+pub mod Parts
 pub mod Readies
 pub mod Kinds
 pub mod Keeping

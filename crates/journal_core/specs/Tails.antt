@@ -2,9 +2,14 @@
 use Rattle.std.specs.Prelude.{◌≡◌, ℕ, List}
 use Rattle.change_feed.specs.declared.change.Change.{Change}
 use Rattle.change_feed.specs.declared.tail.Tail.{Tail}
+use Rattle.journal_core.specs.declared.lent.LentTail.{LentTail}
 
 -- the tail goes from one number to another, and has exactly these changes
 pub record HasAll (first last : ℕ) (all : List Change) (tail : Tail) : Type 0 where
   pub begins : tail.from ≡ first
   pub ends : tail.to ≡ last
   pub exact : tail.changes ≡ all
+
+-- what is lent is a tail
+abbrev pub tail_of : LentTail → Tail
+tail_of lent = record { from = lent.from; to = lent.to; changes = lent.changes.now; in_order = lent.in_order }

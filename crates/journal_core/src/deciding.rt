@@ -4,11 +4,13 @@ ghost use Rattle.std.specs.Prelude.{◌≡◌, ◌+◌, ◌<◌, ◌≤◌, ◌^
 ghost use Rattle.abort_witness.specs.Pairs as pairs;
 ghost use Rattle.journal_core.specs.Pairs as spec;
 ghost use Rattle.journal_core.specs.Changes.{changes};
+ghost use Rattle.journal_core.specs.Parts.{MeetsAlike};
 
 use crate::log::Log;
 use crate::ready::PreparedFront;
 use crate::walk::past;
 use abort_witness::{Based, Found, first_clash, lesser};
+use change_feed::Change;
 use conflict_table::Steps;
 use rdt_types::shard_of;
 use std::sync::ledger::Ledger;
@@ -33,8 +35,20 @@ fn counts_from(based: &Based, shard: u8, fronts: &[PreparedFront]) -> u64
     based.base.max(front)
 }
 
-/// The number of the first change past what was prepared that clashes with an observation. It looks only into its shard, and
-/// nowhere where no commit is past the base.
+/// The changes that an observation may meet past what was prepared. It looks only into its shard, and nowhere where no commit is
+/// past the base.
+fn ahead<'a>(based: &Based, log: &'a Log, fronts: &[PreparedFront]) -> &'a [Change]
+    ensures { MeetsAlike based.now result.now (spec.past_front log.now.shards fronts.now based.now) (changes log.now.commits) }
+{
+    if log.commits().len() as u64 <= based.base {
+        return &[];
+    }
+    let shard = shard_of(&based.address, log.shards());
+    let from = counts_from(based, shard, fronts);
+    past(log.in_shard(shard), from)
+}
+
+/// The number of the first change past what was prepared that clashes with an observation.
 fn clash_past<L: Ledger>(
     based: &Based,
     log: &Log,
@@ -44,13 +58,7 @@ fn clash_past<L: Ledger>(
     ensures first { result ≡ pairs.first_clash (spec.past_front log.now.shards fronts.now based.now) (changes log.now.commits) }
     ensures steps { steps.new ≤ steps.old + length (filter (pairs.meets (spec.past_front log.now.shards fronts.now based.now)) (changes log.now.commits)) }
 {
-    if log.commits().len() as u64 <= based.base {
-        return None;
-    }
-    let shard = shard_of(&based.address, log.shards());
-    let from = counts_from(based, shard, fronts);
-    let here = log.in_shard(shard);
-    first_clash(based, past(here, from), steps)
+    first_clash(based, ahead(based, log, fronts), steps)
 }
 
 /// The least pair past what was prepared.

@@ -5,7 +5,7 @@ ghost use Rattle.std.specs.Option.{option_copied};
 ghost use Rattle.rdt_types.specs.declared.settings.Settings.{Settings};
 ghost use Rattle.journal_core.specs.Changes as spec;
 ghost use Rattle.journal_core.specs.Pairs.{AreNumbered, past_fronts, most_steps};
-ghost use Rattle.journal_core.specs.Tails.{HasAll};
+ghost use Rattle.journal_core.specs.Tails.{HasAll, tail_of};
 ghost use Rattle.journal_core.specs.Kinds.{HasKinds};
 ghost use Rattle.journal_core.specs.Witnesses.{AreBasedOfOneKind, IsWitnessOf};
 ghost use Rattle.abort_witness.specs.Kinds.{IsOfOneKind};
@@ -16,11 +16,12 @@ ghost use Rattle.journal_core.specs.Journals.{CanAppend, Decides, IsSlot, IfDisk
 use crate::appended::Appended;
 use crate::copying::changes_by;
 use crate::keep::Keep;
+use crate::lent::LentTail;
 use crate::log::Log;
 use crate::naming::witness_of;
 use crate::ready::Ready;
 use crate::slot::Slot;
-use crate::tails::{tail_of_address, tail_of_all, tail_of_shard};
+use crate::tails::{lent_in_shard, tail_of_address, tail_of_all, tail_of_shard};
 use abort_witness::{Found, Witness};
 use change_feed::Tail;
 use conflict_table::Steps;
@@ -113,6 +114,15 @@ impl<K: Keep> Journal<K> {
         ensures { IfOk result (HasAll from to (spec.of_shard self.now.shards shard (spec.between from to (spec.changes self.now.commits)))) }
     {
         tail_of_shard(self.alloc, &self.log, shard, from, to)
+    }
+
+    /// The same changes, lent: it takes no memory.
+    pub fn lend_tail(&self, shard: u8, from: u64, to: u64) -> LentTail<'_>
+        requires order { from ≤ to }
+        requires within { to ≤ length self.now.commits }
+        ensures { HasAll from to (spec.of_shard self.now.shards shard (spec.between from to (spec.changes self.now.commits))) (tail_of result) }
+    {
+        lent_in_shard(&self.log, shard, from, to)
     }
 
     /// The changes at an address, of commits past one number and up to another.

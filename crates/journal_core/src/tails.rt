@@ -4,9 +4,10 @@ ghost use Rattle.std.specs.Prelude.{◌≡◌, ◌≤◌, length, take, drop, If
 ghost use Rattle.change_feed.specs.Tails.{IsTail};
 ghost use Rattle.journal_core.specs.Changes as spec;
 ghost use Rattle.journal_core.specs.Pairs.{AreNumbered};
-ghost use Rattle.journal_core.specs.Tails.{HasAll};
+ghost use Rattle.journal_core.specs.Tails.{HasAll, tail_of};
 
 use crate::copying::{all_changes, copies, copies_of_address};
+use crate::lent::LentTail;
 use crate::log::Log;
 use crate::walk::between;
 use change_feed::{Change, ChangeList, Tail};
@@ -78,6 +79,18 @@ pub(crate) fn tail_of_all(alloc: Global, log: &Log, from: u64, to: u64) -> Resul
     Ok(as_tail(from, to, changes))
 }
 
+/// The tail of the changes in a shard, lent.
+pub(crate) fn lent_in_shard(log: &Log, shard: u8, from: u64, to: u64) -> LentTail<'_>
+    requires { from ≤ to }
+    ensures { HasAll from to (spec.of_shard log.now.shards shard (spec.between from to (spec.changes log.now.commits))) (tail_of result) }
+{
+    LentTail {
+        from,
+        to,
+        changes: between_in_shard(log, shard, from, to),
+    }
+}
+
 /// The tail of the changes in a shard.
 pub(crate) fn tail_of_shard(
     alloc: Global,
@@ -89,7 +102,8 @@ pub(crate) fn tail_of_shard(
     requires { from ≤ to }
     ensures { IfOk result (HasAll from to (spec.of_shard log.now.shards shard (spec.between from to (spec.changes log.now.commits)))) }
 {
-    let changes = copies(alloc, between_in_shard(log, shard, from, to))?;
+    let lent = lent_in_shard(log, shard, from, to);
+    let changes = copies(alloc, lent.changes)?;
     Ok(as_tail(from, to, changes))
 }
 

@@ -1,8 +1,9 @@
 //! Parts of a list of changes whose numbers don't fall.
 
-ghost use Rattle.std.specs.Prelude.{◌≡◌, ◌≤◌, ◌++◌, length, take, drop};
+ghost use Rattle.std.specs.Prelude.{◌≡◌};
 ghost use Rattle.journal_core.specs.Rising.{Rises};
 ghost use Rattle.journal_core.specs.Changes as spec;
+ghost use Rattle.journal_core.specs.Parts.{IsPartedAt, IsUpToBefore};
 
 use change_feed::Change;
 
@@ -10,9 +11,7 @@ use change_feed::Change;
 /// that ask are near it.
 fn near_end(changes: &[Change], number: u64) -> usize
     requires { Rises 0 changes.now }
-    ensures within { result ≤ length changes.now }
-    ensures up_to { spec.up_to number changes.now ≡ take result changes.now ++ spec.up_to number (drop result changes.now) }
-    ensures past { spec.past number changes.now ≡ spec.past number (drop result changes.now) }
+    ensures { IsUpToBefore number changes.now result }
 {
     let mut step = 1;
     while step < changes.len() {
@@ -27,9 +26,7 @@ fn near_end(changes: &[Change], number: u64) -> usize
 /// How many changes are of commits up to a number, found by halving.
 fn halved(changes: &[Change], number: u64) -> usize
     requires { Rises 0 changes.now }
-    ensures within { result ≤ length changes.now }
-    ensures up_to { take result changes.now ≡ spec.up_to number changes.now }
-    ensures past { drop result changes.now ≡ spec.past number changes.now }
+    ensures { IsPartedAt number changes.now result }
 {
     changes.partition_point(|change| change.number <= number)
 }
@@ -37,9 +34,7 @@ fn halved(changes: &[Change], number: u64) -> usize
 /// The same, by halving near the end alone.
 fn count_up_to(changes: &[Change], number: u64) -> usize
     requires { Rises 0 changes.now }
-    ensures within { result ≤ length changes.now }
-    ensures up_to { take result changes.now ≡ spec.up_to number changes.now }
-    ensures past { drop result changes.now ≡ spec.past number changes.now }
+    ensures { IsPartedAt number changes.now result }
 {
     let start = near_end(changes, number);
     start + halved(&changes[start..], number)

@@ -44,8 +44,8 @@ fn follow_to(
     if to <= front {
         return Ok(());
     }
-    let tail = journal.tail(place, front, to)?;
-    shard.follow(&tail)
+    let tail = journal.lend_tail(place, front, to);
+    shard.follow_lent(&tail)
 }
 
 /// Lets the shard at a place follow the journal to a number, where it is behind that. For want of memory it may stand at a

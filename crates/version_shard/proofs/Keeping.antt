@@ -24,6 +24,7 @@ use Rattle.journal_core.proofs.Rising.{rises-at}
 use Rattle.version_shard.specs.declared.version.Version.{Version}
 use Rattle.version_shard.specs.Versions.{Versioned, up_to, past}
 use Rattle.version_shard.specs.Shards.{Kept, unchanged, versions_of, SuitsVersion, AreKept}
+use Rattle.version_shard.specs.code.Marks.{IsPut}
 use Rattle.version_shard.specs.code.Following.{followed_along, cut_along, StopsAt, Reaches}
 use Rattle.version_shard.proofs.Stepping.{below-all, below-none, all-below, along-all, cut_back}
 
@@ -32,11 +33,16 @@ pub at_err : {V E : Type 0} (r : Result V E) (P : Type 0) → is_err r ≡ true 
 at_err (Ok v) P e p = absurd (cc)
 at_err (Err x) P e p = p
 
+-- and what holds anyway holds there too
+pub on_err : {V E : Type 0} (r : Result V E) (P : Type 0) → P → OnErr r P
+on_err (Ok v) P p = tt
+on_err (Err x) P p = p
+
 -- ---- one address of a map
 
--- at one address a map has what was put there, and at all others what it had
-abbrev pub IsPut : Kept → Kept → Address → Versioned → Type 0
-IsPut old new k put = (q : Address) → lookup (is_at (address_cmp q)) new ≡ cond (is_at (address_cmp k) q) (Some put) (lookup (is_at (address_cmp q)) old)
+-- at one address the versions past a number are let go
+abbrev pub IsCut : Kept → Kept → Address → ℕ → Type 0
+IsCut old new k number = (a : Address) → versions_of new a ≡ cond (is_at (address_cmp k) a) (up_to number (versions_of old a)) (versions_of old a)
 
 module _ (old new : Kept) (k : Address) where
   -- what is put at an address is what was done there
@@ -49,18 +55,9 @@ module _ (old new : Kept) (k : Address) where
       by true e = is ∙ ap (λ q. f (versions_of old q)) (address_cmp-equal k a (equal _ e))
       by false e = refl
 
-  -- what was there is put back
-  pub put_back : (put : Versioned) → IsPut old new k put → put ≡ versions_of old k → (a : Address) → versions_of new a ≡ versions_of old a
-  put_back put puts is a = ap (λ o. unwrap_or o (unchanged a)) (puts a) ∙ by (is_at (address_cmp k) a) refl
-    where
-      by : (b : Bool) → is_at (address_cmp k) a ≡ b
-          → unwrap_or (cond b (Some put) (lookup (is_at (address_cmp a)) old)) (unchanged a) ≡ versions_of old a
-      by true e = is ∙ ap (versions_of old) (address_cmp-equal k a (equal _ e))
-      by false e = refl
-
 -- where nothing is kept nothing is cut
 pub cut_nowhere : (old : Kept) (k : Address) (r : ℕ) → None ≡ lookup (is_at (address_cmp k)) old
-    → (a : Address) → versions_of old a ≡ cond (is_at (address_cmp k) a) (up_to r (versions_of old a)) (versions_of old a)
+    → IsCut old old k r
 cut_nowhere old k r none a = by (is_at (address_cmp k) a) refl
   where
     by : (b : Bool) → is_at (address_cmp k) a ≡ b → versions_of old a ≡ cond b (up_to r (versions_of old a)) (versions_of old a)

@@ -1,5 +1,6 @@
 pub mod Bases
 pub mod Stepping
+pub mod Marks
 pub mod Keeping
 pub mod Folding
 pub mod Holding

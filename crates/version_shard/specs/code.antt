@@ -1,2 +1,3 @@
 pub mod Clashing
 pub mod Following
+pub mod Marks

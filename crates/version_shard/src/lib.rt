@@ -8,7 +8,9 @@
 
 mod at_error;
 mod following;
+mod kept;
 mod laws;
+mod mark;
 mod prepared;
 mod shard;
 mod validating;

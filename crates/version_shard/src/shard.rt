@@ -10,19 +10,21 @@ ghost use Rattle.version_shard.specs.Shards.{IsIn};
 ghost use Rattle.version_shard.specs.Standing.{Holds, IsNext, empty};
 ghost use Rattle.version_shard.specs.Validating.{ReadsAt, Validates};
 ghost use Rattle.journal_core.specs.Changes.{changes};
+ghost use Rattle.journal_core.specs.Tails.{tail_of};
 ghost use Rattle.journal_core.specs.Pairs.{most_steps};
 
 use crate::at_error::AtError;
-use crate::following::{Kept, horizon_of, reach};
+use crate::following::{horizon_of, reach};
+use crate::kept::Kept;
 use crate::prepared::{Prepared, Refusal};
 use crate::validating::{late_base, least_hit, witness_of};
 use abort_witness::Based;
 use change_feed::Tail;
 use conflict_table::Steps;
+use journal_core::LentTail;
 use plain_data::copied;
 use rdt_types::{Address, Settings, Value, default_value};
 use std::alloc::{AllocError, Global};
-use std::collections::BTreeMap;
 use std::marker::Model;
 use std::sync::ledger::Ledger;
 use txn_lang::Snap;
@@ -47,9 +49,9 @@ impl Model for Shard {
 
     ghost coded = { sharded_code address.the_row.coded versions.the_row.coded };
 
-    ghost view = { λ s. record { number = s.number; shards = s.shards; window = s.window; front = s.front; kept = s.kept.entries } };
+    ghost view = { λ s. record { number = s.number; shards = s.shards; window = s.window; front = s.front; kept = s.kept } };
 
-    ghost invariant = { λ s. AreKept s.front s.kept.entries };
+    ghost invariant = { λ s. AreKept s.front s.kept };
 }
 
 impl Shard {
@@ -73,7 +75,7 @@ impl Shard {
             shards: settings.shards,
             window: settings.window,
             front: 0,
-            kept: BTreeMap::new(alloc),
+            kept: Kept::new(alloc),
         };
         shard.follow(kept)?;
         Ok(shard)
@@ -104,6 +106,24 @@ impl Shard {
         ensures never_back { self.old.front ≤ self.new.front }
         ensures within { self.new.front ≤ tail.now.to }
         ensures holds { (journal : Journal) → IsNext journal self.old tail.now → Holds (take self.old.front journal) self.old
+            → Holds (take self.new.front journal) self.new }
+    {
+        self.follow_lent(&LentTail {
+            from: tail.from,
+            to: tail.to,
+            changes: tail.changes.as_slice(),
+        })
+    }
+
+    /// Follows a tail that a journal lends.
+    pub fn follow_lent(&mut self, tail: &LentTail<'_>) -> Result<(), AllocError>
+        requires from { tail.now.from ≡ self.old.front }
+        requires kinds { AreOfTheirKinds tail.now.changes.now }
+        ensures same { self.new ≡ record self.old { front = self.new.front; kept = self.new.kept } }
+        ensures reached { OnOk result (self.new.front ≡ tail.now.to) }
+        ensures never_back { self.old.front ≤ self.new.front }
+        ensures within { self.new.front ≤ tail.now.to }
+        ensures holds { (journal : Journal) → IsNext journal self.old (tail_of tail.now) → Holds (take self.old.front journal) self.old
             → Holds (take self.new.front journal) self.new }
     {
         match reach(&mut self.kept, self.alloc, tail, self.window) {

@@ -8,7 +8,7 @@ ghost use Rattle.version_shard.specs.Shards.{AreKept};
 ghost use Rattle.version_shard.specs.code.Clashing as clashing;
 ghost use Rattle.version_shard.specs.code.Clashing.{IsClash};
 
-use crate::following::Kept;
+use crate::kept::Kept;
 use crate::version::Version;
 use abort_witness::{Based, Witness, name_delta};
 use conflict_table::Steps;
@@ -40,9 +40,9 @@ fn clash_at<'a, L: Ledger>(
     based: &Based,
     steps: &mut Steps<L>,
 ) -> Option<&'a Version>
-    requires { AreKept front kept.now.entries }
-    ensures first { option_copied result ≡ clashing.clashing_in kept.now.entries based.now }
-    ensures steps { steps.new ≤ steps.old + clashing.steps_at kept.now.entries based.now }
+    requires { AreKept front kept.now }
+    ensures first { option_copied result ≡ clashing.clashing_in kept.now based.now }
+    ensures steps { steps.new ≤ steps.old + clashing.steps_at kept.now based.now }
 {
     if front <= based.base {
         return None;
@@ -75,9 +75,9 @@ pub(crate) fn least_hit<'a, L: Ledger>(
     based: &'a [Based],
     steps: &mut Steps<L>,
 ) -> Option<Hit<'a>>
-    requires { AreKept front kept.now.entries }
-    ensures least { option_map (λ hit. (hit.based.now, hit.version.now)) result ≡ clashing.least_hit kept.now.entries based.now }
-    ensures steps { steps.new ≤ steps.old + clashing.most_steps kept.now.entries based.now }
+    requires { AreKept front kept.now }
+    ensures least { option_map (λ hit. (hit.based.now, hit.version.now)) result ≡ clashing.least_hit kept.now based.now }
+    ensures steps { steps.new ≤ steps.old + clashing.most_steps kept.now based.now }
 {
     let mut least: Option<Hit<'a>> = None;
     for based in based {

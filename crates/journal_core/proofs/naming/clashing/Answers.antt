@@ -1,5 +1,5 @@
-use Rattle.std.proofs.Common.{◌≡◌, Some, ◌∙◌, ap, rules}
-use Rattle.std.specs.Prelude.{IsSome, option_copied}
+use Rattle.std.proofs.Common.{◌≡◌, Some, rules}
+use Rattle.std.specs.Prelude.{option_copied}
 use Rattle.rdt_types.specs.DeltaMaps.{delta_at}
 use Rattle.journal_core.proofs.Witnessed.{alone, there, borrowed}
 use Rattle.journal_core.proofs.naming.clashing.Goals as goal

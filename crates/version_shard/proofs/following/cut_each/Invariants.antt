@@ -6,5 +6,5 @@ use Rattle.version_shard.proofs.following.cut_each.Given as goal
 
 -- once the rest is cut, all are
 abbrev pub invariant-loop-change : goal.invariant-loop-change
-invariant-loop-change l = (a : Address) → cut_along l.number a (drop l.change-index l.changes) (versions_of l.kept.entries a)
-    ≡ cut_along l.number a l.changes (versions_of l.fn.kept.entries a)
+invariant-loop-change l = (a : Address) → cut_along l.number a (drop l.change-index l.changes) (versions_of l.kept a)
+    ≡ cut_along l.number a l.changes (versions_of l.fn.kept a)

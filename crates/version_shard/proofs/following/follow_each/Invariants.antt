@@ -6,5 +6,5 @@ use Rattle.version_shard.proofs.following.follow_each.Given as goal
 
 -- those so far were followed
 abbrev pub invariant-loop-change : goal.invariant-loop-change
-invariant-loop-change l = (a : Address) → versions_of l.kept.entries a
-    ≡ followed_along l.window a (take l.change-index l.tail.changes) (versions_of l.fn.kept.entries a)
+invariant-loop-change l = (a : Address) → versions_of l.kept a
+    ≡ followed_along l.window a (take l.change-index l.tail.changes.now) (versions_of l.fn.kept a)

@@ -1,7 +1,5 @@
-use Rattle.std.proofs.Common.{◌-◌, List, ap, ◌∙◌, arith}
-use Rattle.change_feed.specs.declared.change.Change.{Change}
-use Rattle.version_shard.specs.Shards.{versions_of}
-use Rattle.version_shard.specs.code.Following.{cut_along}
+use Rattle.std.proofs.Common.{arith}
+use Rattle.journal_core.specs.Tails.{tail_of}
 use Rattle.version_shard.proofs.Keeping.{reaches-whole, reaches-part}
 use Rattle.version_shard.proofs.following.reach.Goals as goal
 
@@ -10,7 +8,7 @@ overflow_sub-front c = let p = c.in-Err.ensures.err.past in omega (arith, p)
 
 pub returns-in-Ok-clause-ok : goal.returns-in-Ok-clause-ok
 returns-in-Ok-clause-ok c =
-    reaches-whole c.args.window c.args.tail.now c.args.kept.now.entries c.requires c.follow_each.new.kept.entries c.in-Ok.ensures.ok
+    reaches-whole c.args.window (tail_of c.args.tail.now) c.args.kept.now c.requires c.follow_each.new.kept c.in-Ok.ensures.ok
 
 pub returns-in-Err-clause-within : goal.returns-in-Err-clause-within
 returns-in-Err-clause-within c =
@@ -20,7 +18,6 @@ returns-in-Err-clause-within c =
 
 pub returns-in-Err-clause-err : goal.returns-in-Err-clause-err
 returns-in-Err-clause-err c =
-    reaches-part c.args.window c.args.tail.now c.args.kept.now.entries c.requires c.in-Err.number c.follow_each.new.kept.entries c.cut_each.new.kept.entries
+    reaches-part c.args.window (tail_of c.args.tail.now) c.args.kept.now c.requires c.in-Err.number c.follow_each.new.kept c.cut_each.new.kept
     c.in-Err.ensures.err
-    (λ a. c.cut_each.ensures a
-    ∙ ap (λ (l : List Change). cut_along (c.in-Err.number - 1) a l (versions_of c.follow_each.new.kept.entries a)) c.as_slice.ensures)
+    c.cut_each.ensures

@@ -8,7 +8,7 @@ use Rattle.version_shard.proofs.validating.clash_at.Goals as goal
 pub returns-then-front-based-clause-first : goal.returns-then-front-based-clause-first
 returns-then-front-based-clause-first g c =
     let based = c.args.based.now in
-    let kept = c.args.kept.now.entries in
+    let kept = c.args.kept.now in
     ap (first_clashing based.obs)
     (sym (past-kept based.base (versions_of kept based.address).later
     (up_to-kept c.args.front based.base kept based.address c.requires c.if-front-based.true)))

@@ -1,51 +1,18 @@
-use Rattle.std.proofs.Common.{◌≡◌, take, refl, sym, ap, ◌∙◌, subst, arith}
-use Rattle.txn_lang.specs.States.{Journal}
-use Rattle.version_shard.specs.Shards.{Sharded, AreKept}
-use Rattle.version_shard.specs.Standing.{Holds, IsNext}
-use Rattle.version_shard.proofs.Keeping.{kept-after}
-use Rattle.version_shard.proofs.Holding.{held-after}
+use Rattle.std.proofs.Common.{List, subst, sym, ◌∙◌}
+use Rattle.change_feed.specs.declared.change.Change.{Change}
+use Rattle.change_feed.specs.Feeds.{AreOfTheirKinds}
 use Rattle.version_shard.proofs.shard.Shard.follow.Goals as goal
 
-pub invariant_of-self : goal.invariant_of-self
-invariant_of-self c =
-    let inside = c.self.inside in
-    let tail = c.args.tail.now in
-    kept-after inside.window tail.from tail.to tail.changes inside.kept.entries c.reach.new.kept.entries
-    (subst (λ n. AreKept n inside.kept.entries) (ap (λ (s : Sharded). s.front) c.self.view_is ∙ sym c.requires.from) c.self.invariant)
-    c.requires.kinds c.in-Ok.ensures.ok
+pub follow_lent-requires-clause-kinds : goal.follow_lent-requires-clause-kinds
+follow_lent-requires-clause-kinds c = subst (λ (l : List Change). AreOfTheirKinds l) (sym c.as_slice.ensures) c.requires.kinds
 
-pub invariant_of-self-in-Err : goal.invariant_of-self-in-Err
-invariant_of-self-in-Err c =
-    let inside = c.self.inside in
-    let tail = c.args.tail.now in
-    kept-after inside.window tail.from c.in-Err.front tail.changes inside.kept.entries c.reach.new.kept.entries
-    (subst (λ n. AreKept n inside.kept.entries) (ap (λ (s : Sharded). s.front) c.self.view_is ∙ sym c.requires.from) c.self.invariant)
-    c.requires.kinds c.in-Err.ensures.err
-
-pub returns-in-Ok-clause-holds : goal.returns-in-Ok-clause-holds
-returns-in-Ok-clause-holds c =
-    let inside = c.self.inside in
-    let tail = c.args.tail.now in
-    let from : tail.from ≡ inside.front = c.requires.from ∙ sym (ap (λ (s : Sharded). s.front) c.self.view_is) in
-    let rises = tail.in_order.rises in
-    let old : Sharded = record { number = inside.number; shards = inside.shards; window = inside.window; front = inside.front; kept = inside.kept.entries } in
-    let new : Sharded = record old { front = tail.to; kept = c.reach.new.kept.entries } in
-    subst (λ (s : Sharded). (journal : Journal) → IsNext journal s tail → Holds (take s.front journal) s → Holds (take tail.to journal) new) c.self.view_is
-    (λ journal next holds.
-    held-after journal old new tail c.self.invariant (record { number = refl; shards = refl; window = refl }) next holds
-    (omega (arith, from, rises)) (omega arith) c.in-Ok.ensures.ok)
-
-pub returns-in-Err-clause-holds : goal.returns-in-Err-clause-holds
-returns-in-Err-clause-holds c =
-    let inside = c.self.inside in
-    let tail = c.args.tail.now in
-    let from : tail.from ≡ inside.front = c.requires.from ∙ sym (ap (λ (s : Sharded). s.front) c.self.view_is) in
-    let within = c.in-Err.ensures.within in
-    let low = within.0 in
-    let old : Sharded = record { number = inside.number; shards = inside.shards; window = inside.window; front = inside.front; kept = inside.kept.entries } in
-    let new : Sharded = record old { front = c.in-Err.front; kept = c.reach.new.kept.entries } in
-    subst (λ (s : Sharded). (journal : Journal) → IsNext journal s tail → Holds (take s.front journal) s
-    → Holds (take c.in-Err.front journal) new) c.self.view_is
-    (λ journal next holds.
-    held-after journal old new tail c.self.invariant (record { number = refl; shards = refl; window = refl }) next holds
-    (omega (arith, from, low)) within.1 c.in-Err.ensures.err)
+-- the same tail, lent
+pub returns-clause-holds : goal.returns-clause-holds
+returns-clause-holds c journal next holds =
+    c.follow_lent.ensures.holds journal
+    (record {
+      readable = next.readable;
+      within = next.within;
+      exact = record { begins = next.exact.begins; ends = next.exact.ends; exact = c.as_slice.ensures ∙ next.exact.exact };
+    })
+    holds

@@ -12,7 +12,7 @@ use Rattle.version_shard.proofs.shard.Shard.validate.Goals as goal
 pub witness_of-requires : goal.witness_of-requires
 witness_of-requires g c =
     subst (λ o. IfHit IsClash o) (sym c.in-Some-least_hit.ensures.least)
-    (hits-clash c.self.inside.front c.self.inside.kept.entries c.args.based.now c.self.invariant c.requires.kinds)
+    (hits-clash c.self.inside.front c.self.inside.kept c.args.based.now c.self.invariant c.requires.kinds)
 
 pub returns-in_ok-witness_of-in-Some-least_hit-clause-answers : goal.returns-in_ok-witness_of-in-Some-least_hit-clause-answers
 returns-in_ok-witness_of-in-Some-least_hit-clause-answers g c journal holds =
