@@ -18,3 +18,4 @@ pub mod Elsewhere
 pub mod Laters
 pub mod Sound
 pub mod Appending
+pub mod Pauses

@@ -16,7 +16,9 @@ use Rattle.txn_lang.specs.declared.run.Seen.{Seen}
 use Rattle.txn_lang.specs.declared.snaps.Snap.{Snap}
 use Rattle.txn_lang.specs.States.{Journal, state}
 use Rattle.txn_lang.specs.Execution.{Ran, need, done, exec}
+use Rattle.txn_eval.specs.declared.pause.Pause.{Pause}
 use Rattle.txn_eval.specs.Running.{values_of}
+use Rattle.txn_eval.specs.Pausing.{IsPauseOf}
 use Rattle.journal_core.specs.declared.ready.PreparedFront.{PreparedFront}
 use Rattle.journal_core.specs.declared.ready.Ready.{Ready}
 use Rattle.journal_core.specs.Pairs.{pairs}
@@ -32,6 +34,14 @@ SnapList = List (Address × Snap)
 -- the run of its body on the values that were read
 abbrev pub ran : Attempt → Ran
 ran attempt = exec attempt.body.body (values_of attempt.snaps)
+
+-- the run of its body comes to this pause on the values that were read
+abbrev pub PausesAt : Attempt → Pause → Type 0
+PausesAt attempt pause = IsPauseOf attempt.body.body.stmts attempt.snaps pause
+
+-- to whatever pause the one comes, the other does
+abbrev pub KeepsPauses : Attempt → Attempt → Type 0
+KeepsPauses old new = (pause : Pause) → PausesAt old pause → PausesAt new pause
 
 -- the front at which an address was read, or 0 where it wasn't
 abbrev pub base_in : Option Snap → ℕ

@@ -4,7 +4,7 @@ ghost use Rattle.std.specs.Prelude.{◌≡◌, ◌≤◌, [], IfOk, OnOk, OnErr}
 ghost use Rattle.rdt_types.specs.declared.limits.TheConstants.{LEAST_SHARDS, MOST_SHARDS};
 ghost use Rattle.txn_lang.specs.Execution.{done};
 ghost use Rattle.docc_prepare.specs.Attempts as spec;
-ghost use Rattle.docc_prepare.specs.Attempts.{Prepares};
+ghost use Rattle.docc_prepare.specs.Attempts.{PausesAt, KeepsPauses, Prepares};
 
 use crate::attempt::{Attempt, Next};
 use crate::observed;
@@ -14,7 +14,7 @@ use journal_core::{FrontList, PreparedFront, Ready};
 use plain_data::OrderedMap;
 use rdt_types::Address;
 use std::alloc::{AllocError, Global};
-use txn_eval::{Step, run};
+use txn_eval::{Pause, Step, go_on};
 use txn_lang::{Checked, Run, Snap};
 use version_shard::Prepared;
 
@@ -54,20 +54,30 @@ impl Attempt {
         self.after_run(run)
     }
 
+    /// The next event. The run of the body goes on from a pause, and leaves one from which it may go on.
+    pub fn next_from(&self, alloc: Global, pause: &mut Pause) -> Result<Next, AllocError>
+        requires { PausesAt self.now pause.old }
+        ensures next { IfOk result (λ next. next ≡ spec.next_event self.now) }
+        ensures paused { IfOk result (λ next. PausesAt self.now pause.new) }
+    {
+        match go_on(alloc, &self.body, &self.snaps, pause)? {
+            Step::Need(address) => Ok(Next::Read(address)),
+            Step::Done(run) => Ok(self.after_run(run)),
+        }
+    }
+
     /// The next event. The body is run from its start.
     pub fn next(&self, alloc: Global) -> Result<Next, AllocError>
         ensures { IfOk result (λ next. next ≡ spec.next_event self.now) }
     {
-        match run(alloc, &self.body, &self.snaps)? {
-            Step::Need(address) => Ok(Next::Read(address)),
-            Step::Done(run) => Ok(self.after_run(run)),
-        }
+        self.next_from(alloc, &mut Pause::begun(alloc))
     }
 
     /// Takes the value that was read at an address, with the front at which it was.
     pub fn take_snap(&mut self, address: Address, snap: Snap) -> Result<(), AllocError>
         requires next { spec.next_event self.old ≡ Next.Read address }
         ensures ok { OnOk result (self.new ≡ spec.with_snap self.old address snap) }
+        ensures pauses { OnOk result (KeepsPauses self.old self.new) }
         ensures err { OnErr result (self.new ≡ self.old) }
     {
         self.snaps.insert(address, snap)
@@ -77,6 +87,7 @@ impl Attempt {
     pub fn take_prepared(&mut self, prepared: Prepared) -> Result<(), AllocError>
         requires next { Prepares self.old prepared.shard }
         ensures ok { OnOk result (self.new ≡ spec.with_front self.old prepared.shard prepared.front) }
+        ensures pauses { OnOk result (KeepsPauses self.old self.new) }
         ensures err { OnErr result (self.new ≡ self.old) }
     {
         self.fronts.push(PreparedFront {

@@ -13,7 +13,8 @@ use plain_data::{Sequence, Text};
 use rdt_types::Value;
 use std::alloc::{AllocError, Global};
 use std::test::Fail;
-use txn_lang::{CheckError, Checked, Snap, check};
+use txn_eval::Pause;
+use txn_lang::{CheckError, Checked, Run, Snap, check};
 use txn_parse::parse;
 use version_shard::Prepared;
 
@@ -70,6 +71,63 @@ fn prepares(alloc: Global, source: &[u8], shards: u8, wanted: &[u8]) -> bool {
     match stepped(alloc, body, shards, 3) {
         Ok(prepared) => prepared.as_slice() == wanted,
         Err(_) => false,
+    }
+}
+
+/// The run of an attempt at which each address is read as 5. It goes on from its pauses, or begins anew for each value.
+fn ran(alloc: Global, body: Checked, anew: bool) -> Result<Run, AllocError> {
+    let mut attempt = Attempt::begin(alloc, body, 1);
+    let mut pause = Pause::begun(alloc);
+    for _ in 0..40 {
+        let next = if anew {
+            attempt.next(alloc)?
+        } else {
+            attempt.next_from(alloc, &mut pause)?
+        };
+        match next {
+            Next::Read(address) => {
+                let value = Value::Counter(5);
+                attempt.take_snap(address, Snap { base: 0, value })?;
+            }
+            Next::Prepare(_, run) => return Ok(run),
+            Next::Append(run) => return Ok(run),
+        }
+    }
+    Err(AllocError)
+}
+
+/// Whether two runs came to the same.
+fn alike(one: &Result<Run, AllocError>, other: &Result<Run, AllocError>) -> bool {
+    match (one, other) {
+        (Ok(one), Ok(other)) => {
+            one.outcome == other.outcome
+                && one.observations.as_slice() == other.observations.as_slice()
+        }
+        _ => false,
+    }
+}
+
+/// Whether a body's run comes to the same from its pauses as from its start.
+fn goes_on_alike(alloc: Global, source: &[u8]) -> bool {
+    let (Ok(paused), Ok(begun)) = (checked(alloc, source), checked(alloc, source)) else {
+        return false;
+    };
+    alike(&ran(alloc, paused, false), &ran(alloc, begun, true))
+}
+
+/// Bodies whose runs pause: before plain statements, blocks, a failure, and a statement with two reads.
+const PAUSING: [&[u8]; 5] = [
+    b"let a = counter(\"a\").get(); counter(\"b\").add(a); emit counter(\"b\").get(); emit counter(\"c\").get() + a;",
+    b"emit 1; if counter(\"a\").get() == 5 { counter(\"b\").add(1); emit counter(\"b\").get(); } emit counter(\"b\").get();",
+    b"emit 1; for k in [\"a\", \"b\", \"a\"] { counter(k).add(1); emit counter(k).get(); }",
+    b"counter(\"b\").add(1); let a = counter(\"a\").get(); fail str(a + counter(\"b\").get());",
+    b"let n = counter(\"a\").get() + counter(\"b\").get(); counter(\"c\").put(n * counter(\"d\").get()); emit counter(\"c\").get();",
+];
+
+#[test]
+fn runs_go_on_as_they_would_from_their_start(rt: HostRuntime) {
+    for source in PAUSING.as_slice() {
+        assert!(rt; goes_on_alike(rt.alloc(), source));
     }
 }
 

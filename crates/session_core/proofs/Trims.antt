@@ -1,6 +1,7 @@
 -- A text without the blanks at its end, by its last byte.
 use Rattle.std.proofs.Common.{◌≡◌, ℕ, Bool, ◌<◌, ◌≤◌, ◌+◌, ◌-◌, true, false, List, [], ◌∷◌, ◌++◌, length, take, get_or, arith, refl, sym, ap, ◌∙◌}
 use Rattle.std.proofs.lemmas.List.{take_more}
+use Rattle.std.proofs.Math.Seq.{take-append_seam}
 use Rattle.std.specs.Prelude.{if◌then◌else◌}
 use Rattle.std.proofs.lemmas.List.Elements.{All-nil, All-cons}
 use Rattle.txn_grammar.specs.Characters.{is_blank}
@@ -58,3 +59,7 @@ split (b ∷ z) = let rest = split z in by (trimmed_end z) (is_blank b) refl res
 -- blanks at the end mean nothing to the grammar
 pub parsed_trimmed : (z : List ℕ) → parsed (trimmed_end z) ≡ parsed z
 parsed_trimmed z = let cut = split z in sym (ap parsed cut.2 ∙ keep_body (trimmed_end z) cut.0 cut.1)
+
+-- a text begins with what is left of it, since only blanks behind that are gone
+pub take-trimmed : (z : List ℕ) → take (length (trimmed_end z)) z ≡ trimmed_end z
+take-trimmed z = let cut = split z in ap (take (length (trimmed_end z))) cut.2 ∙ take-append_seam (trimmed_end z) cut.0

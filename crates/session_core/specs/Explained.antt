@@ -1,6 +1,10 @@
 -- Replies that a journal explains: which reply passes for which line, when the replies before it have shown so much. No program
 -- stands in it, and no store but its journal. The laws that tie this to sessions are in `specs/Sessions`; a clause of each line
 -- says it of that line.
+--
+-- The rows: `Passes`, one a form of line, with `PlainPasses` for the lines that aren't of watches and `WaitPasses`; `EndPasses`,
+-- one a reply that ends an attempt; `StepPasses`, one a reply that shows an event; `LookPasses` and `AtPasses`, one a reply to a
+-- look; `SyncPasses`, `WatchPasses` and `UnwatchPasses` of client_watches; and `ExplainsTold` of script_runner for `follow`.
 use Rattle.std.specs.Prelude.{◌≡◌, ℕ, ◌+◌, ◌≤◌, ◌<◌, max, List, [], ◌∷◌, ◌++◌, fold, length, take, Option, Some, None, Result, Ok, Err, IfSome, codes, refl}
 use Rattle.std.specs.List.{AllByRecursion}
 use Rattle.std.proofs.Common.{lit≤}
@@ -129,11 +133,17 @@ pub record IsAppended (a : Attempt) : Type 0 where
 
 -- an end, a row a reply
 abbrev pub EndPasses : Setting → Journal → ℕ → Attempting → Attempt → Reply → Type 0
+-- it stands at its number with this outcome, and nothing before it clashes with what it observed
 EndPasses set journal low s a (reply.Commit n outcome) = IsCommitted low journal s a n outcome
+-- the least pair of an observation and a commit that clash is named
 EndPasses set journal low s a (reply.Abort w) = IsAborted journal a w
+-- the least base in the shard that comes next is below its horizon
 EndPasses set journal low s a (reply.Late base horizon) = IsLateAttempt set journal a base horizon
+-- the journal has as many commits as it may, and none of them clashes
 EndPasses set journal low s a (reply.Full limit) = IsFull set journal a limit
+-- nothing was left but to append it
 EndPasses set journal low s a reply.Disk = IsAppended a
+-- nothing else ends an attempt
 EndPasses set journal low s a r = ⊥
 
 -- From one attempt to another by events that no reply shows: reads and preparings, at bases and fronts that are not below what
@@ -154,8 +164,11 @@ pub record HiddenEnd (set : Setting) (journal : Journal) (y : Story) (first : At
 -- ---- one event that is shown, a row a reply
 
 abbrev pub StepPasses : Setting → Journal → Story → Attempt → Reply → Type 0
+-- the run needs the value at this address, and it was read at a number that may be shown
 StepPasses set journal y a (reply.Read address base) = (next_event a ≡ next.Read address) × IsShown y.low journal base
+-- this shard comes next, and nothing up to its front clashes with what was observed in it
 StepPasses set journal y a (reply.Prepared shard front) = Prepares a shard × Fits journal (with_front a shard front)
+-- or the attempt has ended
 StepPasses set journal y a r = EndPasses set journal y.low y.attempting a r
 
 -- ---- looks
@@ -168,15 +181,22 @@ pub record IsOutcomeAt (journal : Journal) (body : Checked) (n : ℕ) (outcome :
 
 -- `look`, a row a reply
 abbrev pub LookPasses : Setting → Journal → ℕ → Checked → Reply → Type 0
+-- the outcome is the body's on a prefix that may be shown
 LookPasses set journal low body (reply.At n outcome) = IsShown low journal n × IsOutcomeAt journal body n outcome
+-- the prefix that may be shown is below a horizon
 LookPasses set journal low body (reply.Late n horizon) = IsShown low journal n × IsLate set.window n horizon journal
+-- nothing else answers a look
 LookPasses set journal low body r = ⊥
 
 -- `at`, whose number is the user's, a row a reply
 abbrev pub AtPasses : Setting → Journal → ℕ → ℕ → Checked → Reply → Type 0
+-- the outcome is the body's on the prefix that was asked for
 AtPasses set journal low asked_for body (reply.At n outcome) = (n ≡ asked_for) × (n ≤ length journal) × IsOutcomeAt journal body n outcome
+-- that prefix is below a horizon
 AtPasses set journal low asked_for body (reply.Late n horizon) = (n ≡ asked_for) × IsLate set.window n horizon journal
+-- it is past what the client has seen, which may be shown
 AtPasses set journal low asked_for body (reply.Ahead n m) = (n ≡ asked_for) × (m < n) × IsShown low journal m
+-- nothing else answers it
 AtPasses set journal low asked_for body r = ⊥
 
 abbrev pub SeenPasses : Journal → ℕ → Reply → Type 0
@@ -207,18 +227,29 @@ begun_now y = record y { begun = y.low }
 
 -- which answer passes for a line that isn't of watches, a row a form of line
 abbrev pub PlainPasses : Setting → Journal → Story → Line → Turn → Type 0
+-- a line that asks for nothing has no reply
 PlainPasses set journal y asked.Quiet t = t ≡ turn.Quiet
+-- one that is refused says why, and nothing else
 PlainPasses set journal y (asked.Refused reason) t = t ≡ said (reply.Refused reason)
+-- `begin` shows what is seen, unless an attempt is open
 PlainPasses set journal y (asked.Begin body) t = IfOpen y.attempting.attempt (By (SeenPasses journal y.low) t) (λ a. t ≡ is_busy)
+-- `do` and `try` show how the last attempt at the body ended, unless one is open
 PlainPasses set journal y (asked.Try tries body) t =
     IfOpen y.attempting.attempt (By (HiddenEnd set journal (begun_now y) (opened set.shards body)) t) (λ a. t ≡ is_busy)
+-- `step` shows one event of the open attempt
 PlainPasses set journal y asked.Step t = IfOpen y.attempting.attempt (t ≡ none_open) (λ a. By (StepPasses set journal y a) t)
+-- `go` shows its end
 PlainPasses set journal y asked.Go t = IfOpen y.attempting.attempt (t ≡ none_open) (λ a. By (HiddenEnd set journal y a) t)
+-- `drop` gives it up
 PlainPasses set journal y asked.Drop t = IfOpen y.attempting.attempt (t ≡ none_open) (λ a. t ≡ said reply.Dropped)
+-- `look` and `at` show a body's outcome on a prefix
 PlainPasses set journal y (asked.Look body) t = By (LookPasses set journal y.low body) t
 PlainPasses set journal y (asked.At n body) t = By (AtPasses set journal y.low n body) t
+-- `seen` shows how many commits the client has seen
 PlainPasses set journal y asked.Seen t = By (SeenPasses journal y.low) t
+-- `quit` ends the session
 PlainPasses set journal y asked.Quit t = t ≡ turn.Ended (reply.Dropped ∷ [])
+-- lines of watches have rows of their own
 PlainPasses set journal y l t = ⊥
 
 -- replies, which pass
@@ -233,10 +264,12 @@ WaitPasses set journal y t later = ByAll (λ replies. SyncPasses set.window jour
 
 -- WHICH ANSWER PASSES FOR A LINE, a row a form of line, and which watches there are then, each with the number of its last report.
 abbrev pub Passes : Setting → Journal → Story → Line → Turn → ShownList → Type 0
+-- `watch`, `unwatch`, `sync` and `wait`: the rows of client_watches, specs/Explained
 Passes set journal y (asked.Watch name body) t later = ByAll (λ replies. WatchPasses set.window journal y.low name body y.watches replies later) t
 Passes set journal y (asked.Unwatch name) t later = ByAll (λ replies. UnwatchPasses name y.watches replies later) t
 Passes set journal y asked.Sync t later = ByAll (λ replies. SyncPasses set.window journal y.low y.watches replies later) t
 Passes set journal y asked.Wait t later = WaitPasses set journal y t later
+-- no other line touches a watch
 Passes set journal y l t later = PlainPasses set journal y l t × (later ≡ y.watches)
 
 -- ---- what the replies have shown then

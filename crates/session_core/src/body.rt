@@ -5,7 +5,7 @@ ghost use Rattle.session_core.specs.Bodies as spec;
 ghost use Rattle.session_core.specs.Holding.{IsReady};
 ghost use Rattle.session_core.specs.Reading.{ReadsBody};
 
-use crate::words::trimmed_end;
+use crate::words::trim_end;
 use dio_core::LONGEST_LINE;
 use plain_data::{OrNoMemory, Text};
 use session_text::Why;
@@ -19,12 +19,27 @@ pub fn body_of(alloc: Global, text: &[u8], read_only: bool) -> Result<Checked, O
     ensures reads { ReadsBody result (spec.body_of read_only text.now) }
     ensures ready { IfOk result (λ checked. IsReady checked) }
 {
-    let body = match parse(alloc, text) {
+    let text = Text::from_slice(alloc, text)?;
+    read_body(alloc, text, read_only)
+}
+
+/// The same, where the text itself becomes the source.
+pub(crate) fn read_body(
+    alloc: Global,
+    text: Text,
+    read_only: bool,
+) -> Result<Checked, OrNoMemory<Why>>
+    requires { length text ≤ LONGEST_LINE }
+    ensures reads { ReadsBody result (spec.body_of read_only text) }
+    ensures ready { IfOk result (λ checked. IsReady checked) }
+{
+    let mut source = text;
+    let body = match parse(alloc, source.as_slice()) {
         Ok(body) => body,
         Err(ParseError::Syntax(column)) => return Err(OrNoMemory::Cause(Why::Syntax(column))),
         Err(ParseError::NoMemory) => return Err(OrNoMemory::NoMemory),
     };
-    let source = Text::from_slice(alloc, trimmed_end(text))?;
+    trim_end(&mut source);
     match check(alloc, body, source, read_only) {
         Ok(checked) => Ok(checked),
         Err(CheckError::BadType(column)) => Err(OrNoMemory::Cause(Why::BadType(column))),

@@ -11,6 +11,7 @@ use crate::error::SessionError;
 use crate::event::event_on;
 use crate::limits::MOST_EVENTS;
 use crate::moved::{Ended, Followed};
+use crate::remembered::Remembered;
 use crate::session::Session;
 use docc_prepare::{Attempt, Backend};
 use session_text::Reply;
@@ -29,7 +30,7 @@ pub fn drive<B: Backend>(
     ensures home { B.home backend.new ≡ B.home backend.old }
 {
     let mut attempt = attempt;
-    let mut known = None;
+    let mut known = Remembered::nothing(alloc);
     for _ in 0..MOST_EVENTS {
         let end = event_on(alloc, backend, session, &mut attempt, &mut known)?;
         if let Some(reply) = end {

@@ -1,16 +1,17 @@
 //! One event of an attempt: the call that its next event is, and what the answer makes of it.
 
-ghost use Rattle.std.specs.Prelude.{◌≡◌, ◌<◌, ◌^◌, length, IfOk, Err};
-ghost use Rattle.docc_prepare.specs.Attempts.{in_shard, based, next_event, ready_of, Prepares};
+ghost use Rattle.std.specs.Prelude.{◌≡◌, ◌<◌, ◌^◌, length, None, IfOk, OnOk, Err};
+ghost use Rattle.docc_prepare.specs.Attempts.{in_shard, based, next_event, ready_of, KeepsPauses, Prepares};
 ghost use Rattle.docc_prepare.specs.Calls.{snap_answered, front_answered, commit_answered};
 ghost use Rattle.session_core.specs.Phases.{closed};
 ghost use Rattle.session_core.specs.Holding.{Attends, Holds};
 ghost use Rattle.session_core.specs.Leading.{Turned, Makes, MakesOn, Appends, moved_on_read, moved_on_prepare, moved_on_append};
-ghost use Rattle.session_core.specs.Remembering.{IsRunOf, Remembers};
+ghost use Rattle.session_core.specs.Remembering.{IsKnownOf, Remembers};
 
 use crate::error::SessionError;
 use crate::limits::MOST_OBSERVATIONS;
 use crate::moved::Moved;
+use crate::remembered::Remembered;
 use crate::session::Session;
 use abort_witness::BasedList;
 use docc_prepare::{AppendError, Attempt, Backend, Next, PrepareError, StoreError};
@@ -28,7 +29,8 @@ fn after_read(
     answer: Result<Snap, StoreError>,
 ) -> Result<u64, SessionError>
     requires { next_event attempt.old ≡ Next.Read address }
-    ensures { Turned attempt.old (snap_answered answer) (moved_on_read address attempt.new result) }
+    ensures turned { Turned attempt.old (snap_answered answer) (moved_on_read address attempt.new result) }
+    ensures pauses { OnOk result (KeepsPauses attempt.old attempt.new) }
 {
     match answer {
         Ok(snap) => {
@@ -50,7 +52,8 @@ fn after_prepare(
     answer: Result<Prepared, PrepareError>,
 ) -> Result<Result<u64, Reply>, SessionError>
     requires { Prepares attempt.old shard }
-    ensures { Turned attempt.old (front_answered answer) (moved_on_prepare shard attempt.new result) }
+    ensures turned { Turned attempt.old (front_answered answer) (moved_on_prepare shard attempt.new result) }
+    ensures pauses { IfOk result (λ front. OnOk front (KeepsPauses attempt.old attempt.new)) }
 {
     match answer {
         Ok(prepared) => {
@@ -112,6 +115,7 @@ fn read_event<B: Backend>(
     requires holds { Holds (B.known backend.old) attempt.old }
     requires next { next_event attempt.old ≡ Next.Read address }
     ensures makes { Makes B.known B.goes session.now attempt.old backend.old (moved_on_read address attempt.new result) backend.new }
+    ensures pauses { OnOk result (KeepsPauses attempt.old attempt.new) }
     ensures home { B.home backend.new ≡ B.home backend.old }
 {
     let answer = backend.read(&address);
@@ -151,6 +155,7 @@ fn prepare_event<B: Backend>(
     requires holds { Holds (B.known backend.old) attempt.old }
     requires next { next_event attempt.old ≡ Next.Prepare shard run.now }
     ensures makes { Makes B.known B.goes session.now attempt.old backend.old (moved_on_prepare shard attempt.new result) backend.new }
+    ensures pauses { IfOk result (λ front. OnOk front (KeepsPauses attempt.old attempt.new)) }
     ensures home { B.home backend.new ≡ B.home backend.old }
 {
     let all = based_here(alloc, attempt, run, shard)?;
@@ -199,38 +204,52 @@ fn append_event<B: Backend>(
     after_append(attempt, run.outcome, answer)
 }
 
-/// The next event of an attempt, of which the run may be known.
-fn next_of(alloc: Global, attempt: &Attempt, known: Option<Run>) -> Result<Next, SessionError>
-    requires { IsRunOf attempt.now known }
+/// The next event of an attempt, by what is known of its run. A run that is known is taken.
+fn next_of(alloc: Global, attempt: &Attempt, known: &mut Remembered) -> Result<Next, SessionError>
+    requires { IsKnownOf attempt.now known.old }
+    ensures ok { IfOk result (λ next. next ≡ next_event attempt.now) }
+    ensures known { IfOk result (λ next. IsKnownOf attempt.now known.new) }
+    ensures taken { IfOk result (λ next. known.new.run ≡ None) }
+    ensures err { (e : SessionError) → result ≡ Err e → e ≡ SessionError.NoMemory }
+{
+    if let Some(run) = known.run.take() {
+        return Ok(attempt.next_on(run));
+    }
+    match attempt.next_from(alloc, &mut known.pause) {
+        Ok(next) => Ok(next),
+        Err(AllocError) => Err(SessionError::NoMemory),
+    }
+}
+
+/// The next event of an attempt of which nothing is known.
+fn next_anew(alloc: Global, attempt: &Attempt) -> Result<Next, SessionError>
     ensures ok { IfOk result (λ next. next ≡ next_event attempt.now) }
     ensures err { (e : SessionError) → result ≡ Err e → e ≡ SessionError.NoMemory }
 {
-    if let Some(run) = known {
-        return Ok(attempt.next_on(run));
-    }
     match attempt.next(alloc) {
         Ok(next) => Ok(next),
         Err(AllocError) => Err(SessionError::NoMemory),
     }
 }
 
-/// Makes the next event of an attempt of a session, of which the run may be known. What is known of the run then stands in that
-/// place: a preparing changes nothing of it. Where the attempt has ended it answers the reply that shows its end.
+/// Makes the next event of an attempt of a session, by what is known of its run. What is then known of it stands in that place: a
+/// read leaves the run where it has paused, and a preparing changes nothing of it. Where the attempt has ended it answers the
+/// reply that shows its end.
 pub fn event_on<B: Backend>(
     alloc: Global,
     backend: &mut B,
     session: &Session,
     attempt: &mut Attempt,
-    known: &mut Option<Run>,
+    known: &mut Remembered,
 ) -> Result<Option<Reply>, SessionError>
     requires attends { Attends (B.known backend.old) (closed session.now) }
     requires holds { Holds (B.known backend.old) attempt.old }
-    requires known { IsRunOf attempt.old known.old }
+    requires known { IsKnownOf attempt.old known.old }
     ensures makes { MakesOn B.known B.goes session.now attempt.old backend.old result attempt.new backend.new }
     ensures known { IfOk result (λ end. Remembers attempt.new end known.new) }
     ensures home { B.home backend.new ≡ B.home backend.old }
 {
-    match next_of(alloc, attempt, known.take())? {
+    match next_of(alloc, attempt, known)? {
         Next::Read(address) => {
             read_event(backend, session, attempt, address)?;
             Ok(None)
@@ -238,7 +257,7 @@ pub fn event_on<B: Backend>(
         Next::Prepare(shard, run) => {
             match prepare_event(alloc, backend, session, attempt, shard, &run)? {
                 Ok(_) => {
-                    *known = Some(run);
+                    known.run = Some(run);
                     Ok(None)
                 }
                 Err(reply) => Ok(Some(reply)),
@@ -261,7 +280,7 @@ pub fn event<B: Backend>(
     ensures home { B.home backend.new ≡ B.home backend.old }
 {
     let mut attempt = attempt;
-    match next_of(alloc, &attempt, None)? {
+    match next_anew(alloc, &attempt)? {
         Next::Read(address) => {
             let shown = copied(&address)?;
             let base = read_event(backend, session, &mut attempt, address)?;

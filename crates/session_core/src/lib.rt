@@ -19,6 +19,7 @@ mod lines;
 mod looking;
 mod moved;
 mod reading;
+mod remembered;
 mod session;
 mod turn;
 mod verbs;

@@ -6,7 +6,7 @@ ghost use Rattle.session_core.specs.Lines as spec;
 ghost use Rattle.session_core.specs.Holding.{BodyIsReady};
 ghost use Rattle.session_core.specs.Reading.{ReadsLine};
 
-use crate::body::body_of;
+use crate::body::read_body;
 use crate::line::Line;
 use crate::words::{is_quiet, trimmed_start};
 use dio_core::LONGEST_LINE;
@@ -15,11 +15,11 @@ use session_text::{Verb, VerbError, Why, read_verb};
 use std::alloc::{AllocError, Global};
 
 /// `begin`.
-fn begin(alloc: Global, text: &[u8]) -> Result<Line, AllocError>
-    requires { length text.now ≤ LONGEST_LINE }
-    ensures { ReadsLine result (spec.of_begin text.now) }
+fn begin(alloc: Global, text: Text) -> Result<Line, AllocError>
+    requires { length text ≤ LONGEST_LINE }
+    ensures { ReadsLine result (spec.of_begin text) }
 {
-    match body_of(alloc, text, false) {
+    match read_body(alloc, text, false) {
         Ok(body) => Ok(Line::Begin(body)),
         Err(OrNoMemory::Cause(reason)) => Ok(Line::Refused(reason)),
         Err(OrNoMemory::NoMemory) => Err(AllocError),
@@ -27,11 +27,11 @@ fn begin(alloc: Global, text: &[u8]) -> Result<Line, AllocError>
 }
 
 /// `do` and `try`.
-fn try_times(alloc: Global, tries: u8, text: &[u8]) -> Result<Line, AllocError>
-    requires { length text.now ≤ LONGEST_LINE }
-    ensures { ReadsLine result (spec.of_try tries text.now) }
+fn try_times(alloc: Global, tries: u8, text: Text) -> Result<Line, AllocError>
+    requires { length text ≤ LONGEST_LINE }
+    ensures { ReadsLine result (spec.of_try tries text) }
 {
-    match body_of(alloc, text, false) {
+    match read_body(alloc, text, false) {
         Ok(body) => Ok(Line::Try(tries, body)),
         Err(OrNoMemory::Cause(reason)) => Ok(Line::Refused(reason)),
         Err(OrNoMemory::NoMemory) => Err(AllocError),
@@ -39,11 +39,11 @@ fn try_times(alloc: Global, tries: u8, text: &[u8]) -> Result<Line, AllocError>
 }
 
 /// `look`.
-fn look(alloc: Global, text: &[u8]) -> Result<Line, AllocError>
-    requires { length text.now ≤ LONGEST_LINE }
-    ensures { ReadsLine result (spec.of_look text.now) }
+fn look(alloc: Global, text: Text) -> Result<Line, AllocError>
+    requires { length text ≤ LONGEST_LINE }
+    ensures { ReadsLine result (spec.of_look text) }
 {
-    match body_of(alloc, text, true) {
+    match read_body(alloc, text, true) {
         Ok(body) => Ok(Line::Look(body)),
         Err(OrNoMemory::Cause(reason)) => Ok(Line::Refused(reason)),
         Err(OrNoMemory::NoMemory) => Err(AllocError),
@@ -51,11 +51,11 @@ fn look(alloc: Global, text: &[u8]) -> Result<Line, AllocError>
 }
 
 /// `at`.
-fn look_at(alloc: Global, number: u64, text: &[u8]) -> Result<Line, AllocError>
-    requires { length text.now ≤ LONGEST_LINE }
-    ensures { ReadsLine result (spec.of_at number text.now) }
+fn look_at(alloc: Global, number: u64, text: Text) -> Result<Line, AllocError>
+    requires { length text ≤ LONGEST_LINE }
+    ensures { ReadsLine result (spec.of_at number text) }
 {
-    match body_of(alloc, text, true) {
+    match read_body(alloc, text, true) {
         Ok(body) => Ok(Line::At(number, body)),
         Err(OrNoMemory::Cause(reason)) => Ok(Line::Refused(reason)),
         Err(OrNoMemory::NoMemory) => Err(AllocError),
@@ -63,11 +63,11 @@ fn look_at(alloc: Global, number: u64, text: &[u8]) -> Result<Line, AllocError>
 }
 
 /// `watch`.
-fn watch(alloc: Global, name: Text, text: &[u8]) -> Result<Line, AllocError>
-    requires { length text.now ≤ LONGEST_LINE }
-    ensures { ReadsLine result (spec.of_watch name text.now) }
+fn watch(alloc: Global, name: Text, text: Text) -> Result<Line, AllocError>
+    requires { length text ≤ LONGEST_LINE }
+    ensures { ReadsLine result (spec.of_watch name text) }
 {
-    match body_of(alloc, text, true) {
+    match read_body(alloc, text, true) {
         Ok(body) => Ok(Line::Watch(name, body)),
         Err(OrNoMemory::Cause(reason)) => Ok(Line::Refused(reason)),
         Err(OrNoMemory::NoMemory) => Err(AllocError),
@@ -80,12 +80,12 @@ fn of_verb(alloc: Global, verb: Verb) -> Result<Line, AllocError>
     ensures { ReadsLine result (spec.of_verb verb) }
 {
     match verb {
-        Verb::Begin(text) => begin(alloc, text.as_slice()),
-        Verb::Do(text) => try_times(alloc, 1, text.as_slice()),
-        Verb::Try(tries, text) => try_times(alloc, tries, text.as_slice()),
-        Verb::Look(text) => look(alloc, text.as_slice()),
-        Verb::At(number, text) => look_at(alloc, number, text.as_slice()),
-        Verb::Watch(name, text) => watch(alloc, name, text.as_slice()),
+        Verb::Begin(text) => begin(alloc, text),
+        Verb::Do(text) => try_times(alloc, 1, text),
+        Verb::Try(tries, text) => try_times(alloc, tries, text),
+        Verb::Look(text) => look(alloc, text),
+        Verb::At(number, text) => look_at(alloc, number, text),
+        Verb::Watch(name, text) => watch(alloc, name, text),
         Verb::Step => Ok(Line::Step),
         Verb::Go => Ok(Line::Go),
         Verb::Drop => Ok(Line::Drop),

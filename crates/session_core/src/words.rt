@@ -4,6 +4,7 @@ ghost use Rattle.std.specs.Prelude.{◌≡◌, ◌≤◌, length};
 ghost use Rattle.session_core.specs.Words as spec;
 
 use dtext::is_blank;
+use plain_data::Text;
 use predictive_parsing::prefix_len;
 
 /// The text without the blanks at its beginning.
@@ -24,6 +25,15 @@ pub fn trimmed_end(text: &[u8]) -> &[u8]
         end -= 1;
     }
     &text[..end]
+}
+
+/// Takes the blanks at a text's end off.
+pub(crate) fn trim_end(text: &mut Text)
+    ensures value { text.new ≡ spec.trimmed_end text.old }
+    ensures shorter { length text.new ≤ length text.old }
+{
+    let end = trimmed_end(text.as_slice()).len();
+    text.truncate(end);
 }
 
 /// Whether a text asks for nothing: it is empty, or a remark.

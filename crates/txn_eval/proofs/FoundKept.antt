@@ -1,7 +1,7 @@
 -- Observations are found by their keys, as they are listed.
 use Rattle.std.proofs.Common.{◌≡◌, ◌≤◌, ◌<◌, ℕ, Bool, true, false, ◌&&◌, ◌||◌, cond, List, [], ◌∷◌, ◌++◌, take, drop, length, refl, ap, sym, ◌∙◌}
 use Rattle.std.proofs.Common.{append_assoc, arith, Result, Ok, Err, OnOk, OnErr}
-use Rattle.std.proofs.lemmas.List.{take-append-drop, drop-append-le, drop_all, take_all, length-append}
+use Rattle.std.proofs.lemmas.List.{take-append-drop, drop-append-le, drop_all, take_all, length-append, length-take}
 use Rattle.std.proofs.lemmas.List.Folds.{list_any-append}
 use Rattle.std.proofs.Math.Seq.{take-append_seam}
 use Rattle.std.specs.List.{list_any}
@@ -149,3 +149,11 @@ module _ (n : ℕ) (old xs ys : List Seen) (s : Seen) (keys : BTreeSet SeenKey) 
       ∙ is
       ∙ sym (take-append-drop n old)
       ∙ sym (ap (λ b. take n old ++ cond b (drop n old) (drop n old ++ s ∷ [])) (told true there))
+
+-- behind few stands nothing, nor does it behind the first of them
+pub found-cut : (n count : ℕ) (keys : BTreeSet SeenKey) (xs ys : List Seen) → length xs ≤ n → AreFound keys (drop n xs) → ys ≡ take count xs
+    → AreFound keys (drop n ys)
+found-cut n count keys xs ys few found cut q =
+    let none : drop n xs ≡ [] = drop_all n xs few in
+    let none_left : drop n (take count xs) ≡ [] = drop_all n (take count xs) (omega (arith, few, length-take count xs)) in
+    found q ∙ ap (listed q) (none ∙ sym none_left ∙ ap (drop n) (sym cut))

@@ -2,3 +2,6 @@ pub mod Bound
 pub mod Buffered
 pub mod Ending
 pub mod FoundKept
+pub mod Steady
+pub mod Pauses
+pub mod MoreKnown

@@ -4,3 +4,4 @@ pub mod Lengths
 pub mod Forms
 pub mod Loops
 pub mod Found
+pub mod Pauses

@@ -8,19 +8,24 @@
 mod charging;
 mod environment;
 mod expression;
+mod going;
 mod items;
 mod kept;
+mod laws;
 mod loads;
 mod memory;
 mod naming;
 mod observed;
+mod pause;
 mod running;
 mod seen_key;
 mod sizes;
 mod statement;
 mod words;
 
-pub use running::{Step, run};
+pub use laws::pauses_stay;
+pub use pause::Pause;
+pub use running::{Step, go_on, run};
 pub use txn_lang::{Run, Seen, SeenList, Snap, Snaps};
 
 #[cfg(test)]

@@ -1,7 +1,7 @@
 //! What a run has observed.
 
 ghost use Rattle.std.specs.Prelude.{◌≡◌, ◌≤◌, ◌++◌, true, not, if◌then◌else◌, [], take, drop, length, IfOk, OnOk, OnErr};
-ghost use Rattle.std.specs.Bool.{OnFalse};
+ghost use Rattle.std.specs.Bool.{OnTrue, OnFalse};
 ghost use Rattle.std.specs.BTreeMap.{is_at};
 ghost use Rattle.txn_lang.specs.Own.{with_seen};
 ghost use Rattle.txn_eval.specs.declared.seen_key.SeenKey.{SeenKey};
@@ -108,6 +108,28 @@ impl Observed {
                 Err(error)
             }
         }
+    }
+
+    /// Forgets all but the first so many, unless one of those that it would forget may be in the tree.
+    pub fn cut(&mut self, count: usize) -> bool
+        ensures done { OnTrue result (self.new ≡ take count self.old) }
+        ensures same { OnFalse result (self.new ≡ self.old) }
+    {
+        if self.list.len() <= count {
+            return true;
+        }
+        if self.list.len() > LOOKED_THROUGH {
+            return false;
+        }
+        self.list.truncate(count);
+        true
+    }
+
+    /// How many observations are listed.
+    pub fn len(&self) -> usize
+        ensures { result ≡ length self.now }
+    {
+        self.list.len()
     }
 
     /// The observations in order. It takes no memory.

@@ -1,20 +1,22 @@
 //! Whole runs.
 
-ghost use Rattle.std.specs.Prelude.{◌≡◌, IfOk, [], map};
-ghost use Rattle.txn_lang.specs.Execution.{exec};
+ghost use Rattle.std.specs.Prelude.{◌≡◌, IfOk, []};
+ghost use Rattle.txn_lang.specs.Execution.{begun, exec};
+ghost use Rattle.txn_lang.specs.Rules.{all_steps};
+ghost use Rattle.txn_eval.specs.Pausing.{IsPauseOf};
 ghost use Rattle.txn_eval.specs.Running.{ran_of, values_of};
 ghost use Rattle.txn_eval.specs.code.Answers.{EndsAs};
-ghost use Rattle.txn_eval.specs.code.Buffering.{exec_over};
+ghost use Rattle.txn_eval.specs.code.Buffering.{kept_ended, nothing_kept};
+ghost use Rattle.txn_eval.specs.code.Loops.{stmts_on};
 
-use crate::environment::Environment;
+use crate::going::go_through;
 use crate::kept::Kept;
-use crate::observed::Observed;
-use crate::statement::steps_of;
-use rdt_types::{Address, DeltaMap, ItemList, Outcome};
+use crate::pause::Pause;
+use rdt_types::{Address, DeltaMap, Outcome};
 use std::alloc::{AllocError, Global};
+use std::mem::replace;
 use txn_lang::{Checked, Progress, Run, Snaps, Stop};
-use txn_trees::Body;
-use write_buffer::Buffer;
+use txn_trees::Stmt;
 
 /// What a run comes to.
 #[derive(Debug, Drop)]
@@ -81,23 +83,40 @@ fn ended(alloc: Global, run: Progress<Kept>, ran: Result<(), Stop>) -> Result<St
     }
 }
 
-/// The run of a body over the deltas of its writes.
-#[tactic(auto, unfolding(crate::specs::code::Buffering::exec_over), using(crate::proofs::Ending::ends_over))]
-fn run_body(alloc: Global, snaps: &Snaps, body: &Body) -> Result<Step, AllocError>
-    ensures { IfOk result (λ step. ran_of step ≡ exec_over body.now (values_of snaps.now)) }
+/// The run of statements over the deltas of their writes, from a pause.
+#[tactic(auto, using(crate::proofs::Ending::ends_told))]
+fn run_from(
+    alloc: Global,
+    snaps: &Snaps,
+    stmts: &[Stmt],
+    pause: &mut Pause,
+) -> Result<Step, AllocError>
+    requires { IsPauseOf stmts.now snaps.now pause.old }
+    ensures ran { IfOk result (λ step. ran_of step ≡ kept_ended (all_steps (stmts_on snaps.now stmts.now) [] (begun nothing_kept))) }
+    ensures paused { IfOk result (λ step. IsPauseOf stmts.now snaps.now pause.new) }
 {
-    let mut names = Environment::new(alloc);
-    let mut run = Progress {
-        memory: Kept {
-            buffer: Buffer::new(alloc),
-            observations: Observed::new(alloc),
-        },
-        emitted: ItemList::new(alloc),
-        ticks: 0,
-        load: 0,
-    };
-    let ran = steps_of(alloc, snaps, &mut names, &mut run, body.stmts.as_slice());
-    ended(alloc, run, ran)
+    let ran = go_through(alloc, snaps, stmts, pause);
+    if let Err(Stop::Need(address)) = ran {
+        return Ok(Step::Need(address));
+    }
+    let done = replace(pause, Pause::first(alloc));
+    ended(alloc, done.run, ran)
+}
+
+/// Goes on with the run of a checked body from a pause, on values that may be more than it came on. Where it needs a value it
+/// leaves a pause from which it may go on; else it is done, as the run from the start is, and the pause is that of a run which
+/// begins.
+pub fn go_on(
+    alloc: Global,
+    body: &Checked,
+    snaps: &Snaps,
+    pause: &mut Pause,
+) -> Result<Step, AllocError>
+    requires { IsPauseOf body.now.body.stmts snaps.now pause.old }
+    ensures ran { IfOk result (λ step. ran_of step ≡ exec body.now.body (values_of snaps.now)) }
+    ensures paused { IfOk result (λ step. IsPauseOf body.now.body.stmts snaps.now pause.new) }
+{
+    run_from(alloc, snaps, body.body.stmts.as_slice(), pause)
 }
 
 /// Runs a checked body on the values of the snaps. It needs the value of an address exactly where the run by the definition
@@ -105,5 +124,5 @@ fn run_body(alloc: Global, snaps: &Snaps, body: &Body) -> Result<Step, AllocErro
 pub fn run(alloc: Global, body: &Checked, snaps: &Snaps) -> Result<Step, AllocError>
     ensures { IfOk result (λ step. ran_of step ≡ exec body.now.body (values_of snaps.now)) }
 {
-    run_body(alloc, snaps, &body.body)
+    go_on(alloc, body, snaps, &mut Pause::begun(alloc))
 }

@@ -1,6 +1,6 @@
 //! What statements do.
 
-ghost use Rattle.std.specs.Prelude.{◌≡◌, ◌+◌, [], take, length, OnOk};
+ghost use Rattle.std.specs.Prelude.{◌≡◌, ◌+◌, [], take, length, false, OnOk, OnErr};
 ghost use Rattle.txn_lang.specs.Steps as steps;
 ghost use Rattle.txn_lang.specs.Rules as rules;
 ghost use Rattle.txn_lang.specs.Items.{named, texts_in};
@@ -8,6 +8,7 @@ ghost use Rattle.txn_eval.specs.code.Answers.{Answers, Leaves};
 ghost use Rattle.txn_eval.specs.code.Buffering.{kept};
 ghost use Rattle.txn_eval.specs.code.Forms.{step_on, write_run};
 ghost use Rattle.txn_eval.specs.code.Loops.{for_run, stmts_on};
+ghost use Rattle.txn_eval.specs.code.Pauses.{holds_block};
 ghost use Rattle.txn_eval.specs.Running.{values_of};
 ghost use Rattle.txn_trees.specs.declared.statement.StmtNode.TheOpen.{StmtNode-F};
 
@@ -91,7 +92,7 @@ fn write_given(
 /// Statements in order. What was bound before stays bound, to the same.
 #[tactic(auto, using(crate::proofs::Bound::bound_through))]
 #[cycle(step)]
-pub(crate) fn steps_of(
+fn steps_of(
     alloc: Global,
     snaps: &Snaps,
     names: &mut Environment,
@@ -230,6 +231,7 @@ fn bind_value(
 ) -> Result<(), Stop>
     ensures leaves { Leaves result names.new run.new (step_on snaps.now (StmtNode-F.Let name.now expr.now) names.old run.old) }
     ensures bound { OnOk result (take (length names.old) names.new ≡ names.old) }
+    ensures err { OnErr result (names.new ≡ names.old) }
 {
     let item = value_of(alloc, snaps, names, run, expr)?;
     names.bind(name, item)?;
@@ -281,10 +283,10 @@ fn write_value(
     write_given(alloc, snaps, names, run, kind, key, word, arguments)
 }
 
-/// A statement.
+/// A statement. One that holds no block and stops binds no name.
 #[tactic(auto, using(crate::proofs::Bound::bound_same))]
 #[cycle(step)]
-fn step(
+pub(crate) fn step(
     alloc: Global,
     snaps: &Snaps,
     names: &mut Environment,
@@ -293,6 +295,7 @@ fn step(
 ) -> Result<(), Stop>
     ensures leaves { Leaves result names.new run.new (rules.stmt_run (kept (values_of snaps.now)) stmt.now names.old run.old) }
     ensures bound { OnOk result (take (length names.old) names.new ≡ names.old) }
+    ensures err { OnErr result (holds_block stmt.now ≡ false → names.new ≡ names.old) }
 {
     charge(run, 1)?;
     match &stmt.node {

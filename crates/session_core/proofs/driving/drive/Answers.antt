@@ -9,7 +9,13 @@ use Rattle.session_core.proofs.Steps.{more-led, end-led, made-stops, stopped-her
 use Rattle.session_core.proofs.driving.drive.Goals as goal
 
 pub loop-init : goal.loop-init
-loop-init g c = record { led = λ left. Leads.stays; attends = c.requires.attends; holds = c.requires.holds; known = tt; home = refl }
+loop-init g c = record {
+  led = λ left. Leads.stays;
+  attends = c.requires.attends;
+  holds = c.requires.holds;
+  known = c.nothing-known.ensures c.args.attempt;
+  home = refl;
+}
 
 pub returns-in_err-end-clause-drives : goal.returns-in_err-end-clause-drives
 returns-in_err-end-clause-drives g c =

@@ -3,7 +3,7 @@ use Rattle.docc_prepare.specs.Backends.{Goes}
 use Rattle.session_core.specs.Phases.{Phase, closed}
 use Rattle.session_core.specs.Holding.{Attends, Holds}
 use Rattle.session_core.specs.Leading.{Leads}
-use Rattle.session_core.specs.Remembering.{IsRunOf}
+use Rattle.session_core.specs.Remembering.{IsKnownOf}
 use Rattle.session_core.proofs.driving.drive.Given as goal
 
 abbrev pub invariant-loop : goal.invariant-loop
@@ -12,6 +12,6 @@ invariant-loop g l = record {
       (Phase.going l.session left l.attempt);
   attends : Attends (g.B.Backend.known l.backend) (closed l.session);
   holds : Holds (g.B.Backend.known l.backend) l.attempt;
-  known : IsRunOf l.attempt l.known;
+  known : IsKnownOf l.attempt l.known;
   home : g.B.Backend.home l.backend ≡ g.B.Backend.home l.fn.backend;
 }

@@ -35,4 +35,4 @@ returns-clause-makes g c =
     c.requires.next
     (subst (λ (bs : List Based). Goes g.B.Backend.known g.B.Backend.goes c.args.backend.now (prepare c.args.shard bs)
     (front_answered c.prepare-answer.result) c.prepare-answer.new.self) e c.prepare-answer.ensures.goes)
-    c.after_prepare.ensures
+    c.after_prepare.ensures.turned

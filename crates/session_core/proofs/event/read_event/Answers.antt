@@ -11,4 +11,4 @@ read-answer-requires g c = short-need c.args.attempt.now c.args.address c.requir
 pub returns-clause-makes : goal.returns-clause-makes
 returns-clause-makes g c = answered g.B.Backend.known g.B.Backend.goes c.args.session.now c.args.attempt.now c.args.backend.now c.read-answer.new.self
     (next.Read c.args.address) (snap_answered c.read-answer.result) (moved_on_read c.args.address c.after_read.new.attempt c.after_read.result)
-    c.requires.next c.read-answer.ensures.goes c.after_read.ensures
+    c.requires.next c.read-answer.ensures.goes c.after_read.ensures.turned

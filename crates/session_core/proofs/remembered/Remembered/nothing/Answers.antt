@@ -1,0 +1,5 @@
+use Rattle.session_core.specs.Remembering.{IsKnownOf}
+use Rattle.session_core.proofs.remembered.Remembered.nothing.Goals as goal
+
+pub returns : goal.returns
+returns c = λ a. record { run = tt; pause = c.begun.ensures a.body.body.stmts a.snaps }

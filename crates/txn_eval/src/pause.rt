@@ -1,0 +1,53 @@
+//! Where runs pause, and go on from.
+
+ghost use Rattle.std.specs.Prelude.{◌≡◌, List};
+ghost use Rattle.rdt_types.specs.declared.address.Address.{Address};
+ghost use Rattle.txn_lang.specs.declared.snaps.Snap.{Snap};
+ghost use Rattle.txn_trees.specs.declared.statement.Stmt.{Stmt};
+ghost use Rattle.txn_eval.specs.Pausing.{IsPauseOf};
+ghost use Rattle.txn_eval.specs.code.Pauses.{first_pause};
+
+use crate::environment::Environment;
+use crate::kept::Kept;
+use crate::observed::Observed;
+use rdt_types::ItemList;
+use std::alloc::Global;
+use txn_lang::Progress;
+use write_buffer::Buffer;
+
+/// A run that has paused before one of its body's own statements, with all that those before it have done.
+#[derive(Drop)]
+pub struct Pause {
+    /// The statement that comes next.
+    pub(crate) at: usize,
+    pub(crate) names: Environment,
+    pub(crate) run: Progress<Kept>,
+}
+
+impl Pause {
+    /// A run before its first statement. It takes no memory yet.
+    pub(crate) fn first(alloc: Global) -> Pause
+        ensures { result ≡ first_pause }
+    {
+        Pause {
+            at: 0,
+            names: Environment::new(alloc),
+            run: Progress {
+                memory: Kept {
+                    buffer: Buffer::new(alloc),
+                    observations: Observed::new(alloc),
+                },
+                emitted: ItemList::new(alloc),
+                ticks: 0,
+                load: 0,
+            },
+        }
+    }
+
+    /// A run before its first statement, as every run comes to it. It takes no memory yet.
+    pub fn begun(alloc: Global) -> Pause
+        ensures { (stmts : List Stmt) (snaps : List (Address × Snap)) → IsPauseOf stmts snaps result }
+    {
+        Pause::first(alloc)
+    }
+}
