@@ -7,8 +7,8 @@ use cli_words::{Plan, Question, VERSION, WordsError, asked, help_text, read_word
 use diamond_cli::{BAD_WORDS, NO_MEMORY, WRITE_FAULT, diamond};
 use dio_core::{Listener, NoDisk, NoListener, StdSink, StdSource, TcpListening};
 use link_buffer::BufferedListening;
-use std::alloc::AllocError;
-use std::io::ErrorKind;
+use std::alloc::{AllocError, Global};
+use std::io::{BufWriter, ErrorKind, Write};
 use std::process::ExitCode;
 use std::sync::Wait;
 use std::thread::Threads;
@@ -32,6 +32,14 @@ fn answer(rt: &HostRuntime, question: Question) -> Result<u8, AllocError> {
     Ok(if written.is_ok() { 0 } else { WRITE_FAULT })
 }
 
+/// A writer that holds back what it takes until it is flushed or full. For want of memory the writer is dropped.
+fn held_back<W: Write + Drop>(alloc: Global, writer: W) -> Result<BufWriter<W>, AllocError> {
+    match BufWriter::new(alloc, writer) {
+        Ok(writer) => Ok(writer),
+        Err(_) => Err(AllocError),
+    }
+}
+
 /// Runs the command over the process's streams and a listener, and answers its status. `threads` is the runtime too, as
 /// what starts threads and waits.
 fn command<R: Threads + Wait + Sync, N: Listener>(
@@ -41,7 +49,7 @@ fn command<R: Threads + Wait + Sync, N: Listener>(
     listener: &mut N,
 ) -> Result<u8, AllocError> {
     let mut source = StdSource::new(rt.alloc(), rt.reader())?;
-    let mut sink = StdSink::new(io::writer(rt));
+    let mut sink = StdSink::new(held_back(rt.alloc(), io::writer(rt))?);
     Ok(diamond(
         threads,
         rt.alloc(),

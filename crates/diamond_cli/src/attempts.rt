@@ -8,11 +8,12 @@ use crate::rows::{Row, answered};
 use std::test::Fail;
 
 /// Neither observes anything, so neither can be refused.
-const ADDITIONS: [Row; 5] = [
+const ADDITIONS: [Row; 6] = [
     (br#"0 begin counter("x").add(2);"#, b"0 seen 0"),
     (br#"1 begin counter("x").add(3);"#, b"1 seen 0"),
     (b"0 go", b"0 commit 1 ok"),
     (b"1 go", b"1 commit 2 ok"),
+    (br#"0 look emit counter("x").get();"#, b"0 at 2 ok 5"),
     (br#"0 do emit counter("x").get();"#, b"0 commit 3 ok 5"),
 ];
 

@@ -1,8 +1,6 @@
 //! Lines of the whole language, and the reply to each.
 
-use crate::rows::{Row, answered};
-use crate::tests::{expect, in_pieces};
-use std::alloc::Global;
+use crate::rows::{Repeated, Row, answered, answered_repeated};
 use std::test::Fail;
 
 /// Lines that ask for nothing, and refusals, in the order of their tests. Client 1 commits in between.
@@ -547,26 +545,6 @@ fn rules_of_typing_and_syntax(rt: HostRuntime) -> Result<(), Fail> {
     answered(&rt, rt.alloc(), &SYNTAX)
 }
 
-/// A line that has one part many times, and how its reply begins and ends.
-#[derive(Clone, Copy)]
-struct Repeated {
-    before: &'static [u8],
-    part: &'static [u8],
-    count: usize,
-    after: &'static [u8],
-    reply: &'static [u8],
-}
-
-/// The line.
-fn line_of(alloc: Global, row: &Repeated) -> Result<Vec<u8>, Fail> {
-    let mut line = Vec::from_slice(alloc, row.before)?;
-    for _ in 0..row.count {
-        line.extend_from_slice(row.part)?;
-    }
-    line.extend_from_slice(row.after)?;
-    Ok(line)
-}
-
 /// With `+1` 327 times behind it this charges 10,000 ticks: 12 for the texts, 9,332 for the loops and 656 for the sum.
 const TICKS: &[u8] =
     b"0 do let t = [\"\",\"\",\"\",\"\",\"\",\"\",\"\",\"\",\"\",\"\"]; for a in t { for b in t { for c in t { let y = 1+1+1+1; } } } let x = 1";
@@ -687,15 +665,95 @@ const LIMITS: [Repeated; 15] = [
 #[test]
 fn limits_bind(rt: HostRuntime) -> Result<(), Fail> {
     for row in LIMITS {
-        let line = line_of(rt.alloc(), &row)?;
-        expect(
-            &rt,
-            rt.alloc(),
-            &in_pieces(4096),
-            line.as_slice(),
-            0,
-            row.reply,
-        )?;
+        answered_repeated(&rt, rt.alloc(), &[row])?;
     }
     Ok(())
+}
+
+/// Runs that fail or are spent write nothing, and so does one at the limit of ticks.
+const UNWRITTEN: [Repeated; 4] = [
+    Repeated {
+        before: b"0 do counter(\"x\").put(9); fail \"no stock\";\n",
+        part: b"",
+        count: 0,
+        after: b"",
+        reply: b"0 commit 1 fail \"no stock\"\n",
+    },
+    Repeated {
+        before: TICKS,
+        part: b"+1",
+        count: 326,
+        after: b"+-1;\n",
+        reply: b"0 commit 2 spent\n",
+    },
+    Repeated {
+        before: TICKS,
+        part: b"+1",
+        count: 327,
+        after: b";\n",
+        reply: b"0 commit 3 ok\n",
+    },
+    Repeated {
+        before: b"0 do emit counter(\"x\").get();\n",
+        part: b"",
+        count: 0,
+        after: b"",
+        reply: b"0 commit 4 ok 0\n",
+    },
+];
+
+#[test]
+fn outcomes_that_write_nothing(rt: HostRuntime) -> Result<(), Fail> {
+    answered_repeated(&rt, rt.alloc(), &UNWRITTEN)
+}
+
+/// The longest text and one byte more; the longest line and one byte more. What is refused or too big changes nothing.
+const SIZES: [Repeated; 6] = [
+    Repeated {
+        before: b"0 do text(\"t\").put(\"",
+        part: b"a",
+        count: 1024,
+        after: b"\");\n",
+        reply: b"0 commit 1 ok\n",
+    },
+    Repeated {
+        before: b"0 do text(\"t\").put(\"",
+        part: b"a",
+        count: 1025,
+        after: b"\");\n",
+        reply: b"0 commit 2 big\n",
+    },
+    Repeated {
+        before: b"0 look emit len(text(\"t\").get());\n",
+        part: b"",
+        count: 0,
+        after: b"",
+        reply: b"0 at 2 ok 1024\n",
+    },
+    Repeated {
+        before: b"0 seen",
+        part: b" ",
+        count: 4090,
+        after: b"\n",
+        reply: b"0 seen 2\n",
+    },
+    Repeated {
+        before: b"0 seen",
+        part: b" ",
+        count: 4091,
+        after: b"\n",
+        reply: b"- refused long\n",
+    },
+    Repeated {
+        before: b"0 seen\n",
+        part: b"",
+        count: 0,
+        after: b"",
+        reply: b"0 seen 2\n",
+    },
+];
+
+#[test]
+fn sizes_bind_in_one_script(rt: HostRuntime) -> Result<(), Fail> {
+    answered_repeated(&rt, rt.alloc(), &SIZES)
 }

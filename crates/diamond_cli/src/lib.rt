@@ -24,6 +24,8 @@ mod looks;
 #[cfg(test)]
 mod order;
 #[cfg(test)]
+mod refusals;
+#[cfg(test)]
 mod rows;
 #[cfg(test)]
 mod schedules;

@@ -156,7 +156,7 @@ fn a_follow_lets_a_shard_come_to_the_end(rt: HostRuntime) -> Result<(), Fail> {
     answered(&rt, rt.alloc(), &FOLLOWS)
 }
 
-/// A text of 1,024 bytes is put, one more is big, and nothing of it is there. A line may have 4,096 bytes.
+/// A text of 1,024 bytes is put, one more is big, and nothing of it is there.
 const SIZES: [Row; 3] = [
     (
         br#"0 do let t = "0123456789abcdef"; let u = t + t + t + t; let v = u + u + u + u; text("t").put(v + v + v + v);"#,
@@ -170,6 +170,6 @@ const SIZES: [Row; 3] = [
 ];
 
 #[test]
-fn sizes_of_texts_and_lines(rt: HostRuntime) -> Result<(), Fail> {
+fn sizes_of_joined_texts(rt: HostRuntime) -> Result<(), Fail> {
     answered(&rt, rt.alloc(), &SIZES)
 }

@@ -5,8 +5,12 @@ ghost use Rattle.dio_core.specs.Links.{no_sink, no_source};
 
 use crate::top::diamond;
 use dio_core::{Got, NoDisk, NoListener, Sink, Source, Took};
+use std::alloc::Global;
 use std::cell::RefCell;
+use std::process::Abort;
+use std::sync::Wait;
 use std::test::Fail;
+use std::thread::Threads;
 
 /// What was read and written so far, byte by byte, with `!` for a flush.
 type Log = RefCell<Vec<u8>>;
@@ -18,10 +22,11 @@ fn note(log: &Log, byte: u8) {
     }
 }
 
-/// A source that gives a byte in a call, and notes it.
+/// A source that gives a byte in a call, and notes it. It may see all that is left.
 #[derive(Drop)]
 struct NotedSource<'a> {
     rest: &'a [u8],
+    sees_all: bool,
     log: &'a Log,
 }
 
@@ -42,6 +47,10 @@ impl Source for NotedSource<'_> {
             }
             None => Got::End,
         }
+    }
+
+    fn sees(&self, last: u8) -> bool {
+        self.sees_all && self.rest.contains(&last)
     }
 
     fn read_faults(&self) -> u64 {
@@ -79,17 +88,23 @@ impl Sink for NotedSink<'_> {
     }
 }
 
-#[test]
-fn each_line_is_answered_before_the_next_is_read(rt: HostRuntime) -> Result<(), Fail> {
-    let log = RefCell::new(Vec::new(rt.alloc()));
+/// What a run of a script reads and writes.
+fn noted(
+    rt: &(impl Abort + Threads + Wait + Sync),
+    alloc: Global,
+    script: &[u8],
+    sees_all: bool,
+) -> Result<Vec<u8>, Fail> {
+    let log = RefCell::new(Vec::new(alloc));
     let mut source = NotedSource {
-        rest: b"0 fly\n\n1 fly\n0 fly".as_slice(),
+        rest: script,
+        sees_all,
         log: &log,
     };
     let mut sink = NotedSink { log: &log };
     let status = diamond(
-        &rt,
-        rt.alloc(),
+        rt,
+        alloc,
         &["run"],
         &mut source,
         &mut sink,
@@ -98,10 +113,25 @@ fn each_line_is_answered_before_the_next_is_read(rt: HostRuntime) -> Result<(), 
     );
     let _ = (source, sink);
     assert_eq!(rt; status, 0);
-    let noted = log.into_inner();
+    Ok(log.into_inner())
+}
+
+#[test]
+fn each_line_is_answered_before_the_next_is_read(rt: HostRuntime) -> Result<(), Fail> {
+    let log = noted(&rt, rt.alloc(), b"0 fly\n\n1 fly\n0 fly", false)?;
     assert_eq!(rt;
-        noted.as_slice(),
-        b"0 fly\n0 refused verb\n\n1 fly\n1 refused verb\n0 fly0 refused verb\n!".as_slice()
+        log.as_slice(),
+        b"0 fly\n0 refused verb\n!\n!1 fly\n1 refused verb\n!0 fly0 refused verb\n!!".as_slice()
+    );
+    Ok(())
+}
+
+#[test]
+fn answers_are_held_back_while_lines_are_ahead(rt: HostRuntime) -> Result<(), Fail> {
+    let log = noted(&rt, rt.alloc(), b"0 fly\n\n1 fly\n0 fly", true)?;
+    assert_eq!(rt;
+        log.as_slice(),
+        b"0 fly\n0 refused verb\n\n1 fly\n1 refused verb\n!0 fly0 refused verb\n!!".as_slice()
     );
     Ok(())
 }

@@ -56,6 +56,49 @@ pub(crate) fn answered(
     )
 }
 
+/// A line that has one part many times, and the reply to it, both with their ends.
+#[derive(Clone, Copy)]
+pub(crate) struct Repeated {
+    pub(crate) before: &'static [u8],
+    pub(crate) part: &'static [u8],
+    pub(crate) count: usize,
+    pub(crate) after: &'static [u8],
+    pub(crate) reply: &'static [u8],
+}
+
+/// The line.
+pub(crate) fn line_of(alloc: Global, row: &Repeated) -> Result<Vec<u8>, Fail> {
+    let mut line = Vec::from_slice(alloc, row.before)?;
+    for _ in 0..row.count {
+        line.extend_from_slice(row.part)?;
+    }
+    line.extend_from_slice(row.after)?;
+    Ok(line)
+}
+
+/// Runs the lines as one script, in which each is answered as its row says.
+pub(crate) fn answered_repeated(
+    rt: &(impl Abort + Threads + Wait + Sync),
+    alloc: Global,
+    rows: &[Repeated],
+) -> Result<(), Fail> {
+    let mut script = Vec::new(alloc);
+    let mut output = Vec::new(alloc);
+    for row in rows {
+        let line = line_of(alloc, row)?;
+        script.extend_from_slice(line.as_slice())?;
+        output.extend_from_slice(row.reply)?;
+    }
+    expect(
+        rt,
+        alloc,
+        &in_pieces(4096),
+        script.as_slice(),
+        0,
+        output.as_slice(),
+    )
+}
+
 /// The standard settings, but for how many shards there are.
 pub(crate) fn with_shards(shards: u8) -> Settings
     requires { (LEAST_SHARDS ≤ shards) × (shards ≤ MOST_SHARDS) }

@@ -61,11 +61,8 @@ pub(crate) fn expect(
     );
     assert_eq!(rt; found, status);
     assert_eq!(rt; sink.taken(), output);
-    // Only where a write or a flush failed isn't all passed on.
-    assert_eq!(rt;
-        sink.passed() == output,
-        way.write_fails.is_empty() || output.is_empty()
-    );
+    // Where no write and no flush failed, all was passed on.
+    assert!(rt; !way.write_fails.is_empty() || sink.passed() == output);
     Ok(())
 }
 
@@ -200,12 +197,12 @@ fn faults_stop_a_run(rt: HostRuntime) -> Result<(), Fail> {
 
 #[test]
 fn a_flush_that_fails_leaves_status_3(rt: HostRuntime) -> Result<(), Fail> {
-    // The read of the second line's first byte fails, and then the flush, the second call of the sink.
+    // The read of the second line's first byte fails, and then the flush, the third call of the sink.
     let way = Way {
         read_piece: 1,
         read_fails: &[51],
         write_piece: 4096,
-        write_fails: &[1],
+        write_fails: &[2],
     };
     expect(&rt, rt.alloc(), &way, ROW_1, 3, b"0 commit 1 ok 5\n")
 }

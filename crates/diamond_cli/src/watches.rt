@@ -1,6 +1,7 @@
 //! Watches: bodies that run anew exactly where a commit touched what they observed.
 
 use crate::rows::{Row, answered};
+use crate::tests::{expect, in_pieces};
 use std::test::Fail;
 
 /// One report for three commits, and then none.
@@ -62,6 +63,25 @@ const REFUSALS: [Row; 14] = [
 #[test]
 fn refusals_stand_before_watches(rt: HostRuntime) -> Result<(), Fail> {
     answered(&rt, rt.alloc(), &REFUSALS)
+}
+
+/// Refusals one behind another; the last line has no end.
+const REFUSED: &[u8] =
+    b"64 seen\n0 fly\n0 step\n0 watch w emit 1;\n0 watch w emit 2;\n0 look counter(\"x\").add(1);\n0 do emit 1 + true;\n0 do emit 1\n0 do\n0 unwatch w\n0 seen";
+
+const REFUSED_REPLIES: &[u8] =
+    b"- refused client\n0 refused verb\n0 refused none\n0 run w 0 ok 1\n0 refused name\n0 refused writes 1\n0 refused type 10\n0 refused syntax 7\n0 refused syntax 1\n0 dropped\n0 seen 0\n";
+
+#[test]
+fn a_line_without_an_end_is_answered_behind_refusals(rt: HostRuntime) -> Result<(), Fail> {
+    expect(
+        &rt,
+        rt.alloc(),
+        &in_pieces(4096),
+        REFUSED,
+        0,
+        REFUSED_REPLIES,
+    )
 }
 
 /// A change that comes to nothing is one: a set is observed as a whole.
@@ -162,7 +182,7 @@ fn watches_run_in_the_order_of_their_making(rt: HostRuntime) -> Result<(), Fail>
 }
 
 /// A rerun may observe another address than before, and then that one touches the watch and the other one doesn't.
-const MOVED: [Row; 8] = [
+const MOVED: [Row; 9] = [
     (
         br#"0 watch w if bool("b").get() { emit counter("x").get(); } else { emit counter("y").get(); }"#,
         b"0 run w 0 ok 0",
@@ -177,6 +197,7 @@ const MOVED: [Row; 8] = [
         br#"1 do counter("x").add(1); counter("y").add(1);"#,
         b"1 commit 4 ok",
     ),
+    (b"0 sync", b"0 run w 4 ok 2\n0 current 4"),
 ];
 
 #[test]
@@ -184,8 +205,8 @@ fn a_rerun_may_observe_elsewhere(rt: HostRuntime) -> Result<(), Fail> {
     answered(&rt, rt.alloc(), &MOVED)
 }
 
-/// A name that is free again is given to another body, which is the last then.
-const RENAMED: [Row; 8] = [
+/// A name that is free again is given to another body, which is the last then; and so is a body that is given another name.
+const RENAMED: [Row; 12] = [
     (br#"0 watch v emit counter("x").get();"#, b"0 run v 0 ok 0"),
     (br#"0 watch w emit counter("x").get();"#, b"0 run w 0 ok 0"),
     (b"0 unwatch v", b"0 dropped"),
@@ -197,6 +218,13 @@ const RENAMED: [Row; 8] = [
         b"0 commit 2 ok",
     ),
     (b"0 sync", b"0 run w 2 ok 2\n0 run v 2 ok 1\n0 current 2"),
+    (b"0 unwatch w", b"0 dropped"),
+    (br#"0 watch u emit counter("x").get();"#, b"0 run u 2 ok 2"),
+    (
+        br#"1 do counter("x").add(1); counter("y").add(1);"#,
+        b"1 commit 3 ok",
+    ),
+    (b"0 sync", b"0 run v 3 ok 2\n0 run u 3 ok 3\n0 current 3"),
 ];
 
 #[test]

@@ -246,10 +246,10 @@ answer-stands world line.TooLong h short = h
 answer-stands world line.End h short = h
 
 -- so the world stands that code has left, unless memory ran out
-pub answered-stands : (r : Result Text AllocError) (world left : ScriptWorld) (l : Line) → Stands world → IsShort l → Answers r left (answer world l)
-    → OnOk r (Stands left)
-answered-stands (Ok output) world left l h short done = subst Stands done.left_is (answer-stands world l h short)
-answered-stands (Err e) world left l h short done = tt
+pub answered-stands : (r : Result (Unit {0}) AllocError) (before output : Text) (world left : ScriptWorld) (l : Line) → Stands world → IsShort l
+    → Answers r before output left (answer world l) → OnOk r (Stands left)
+answered-stands (Ok done) before output world left l h short leaves = subst Stands leaves.left_is (answer-stands world l h short)
+answered-stands (Err e) before output world left l h short leaves = tt
 
 -- ---- many lines
 

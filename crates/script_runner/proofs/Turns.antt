@@ -1,5 +1,5 @@
 -- One line of a script.
-use Rattle.std.proofs.Common.{◌≡◌, Option, refl, ap, sym, ◌∙◌, subst, arith}
+use Rattle.std.proofs.Common.{◌≡◌, [], Option, refl, ap, sym, ◌∙◌, subst, arith}
 use Rattle.dio_core.specs.declared.line.Line.{Line}
 use Rattle.dio_core.specs.declared.line.Line.TheVariants as line
 use Rattle.dio_core.specs.Told.{WhereTold}
@@ -18,11 +18,11 @@ first_taken line.End all rest some takes = absurd (some refl)
 first_taken (line.Bytes bytes) all rest some takes = takes
 first_taken line.TooLong all rest some takes = takes
 
-module _ (old new : ScriptWorld) (reply : Text) (l : Line) (some : l ≡ line.End → ⊥) (done : Leaves reply new (answer old l))
-    (left left_then taken taken_then : Option Text) where
-  -- what was answered to the line is what the play answers to it
-  answer_is : (raw : Text) → l ≡ line_of raw → Leaves reply new (answer old (line_of raw))
-  answer_is raw is = subst (λ (k : Line). Leaves reply new (answer old k)) is done
+module _ (old new : ScriptWorld) (before reply : Text) (l : Line) (some : l ≡ line.End → ⊥) (empty : before ≡ [])
+    (done : Leaves before reply new (answer old l)) (left left_then taken taken_then : Option Text) where
+  -- what was answered to the line, with nothing before it, is what the play answers to it
+  answer_is : (raw : Text) → l ≡ line_of raw → Leaves [] reply new (answer old (line_of raw))
+  answer_is raw is = subst (λ (k : Line). Leaves [] reply new (answer old k)) is (subst (λ (z : Text). Leaves z reply new (answer old l)) empty done)
 
   -- a line was done, and its reply was taken
   pub line-done : TakesLine l left left_then → taken_then ≡ with_more taken reply

@@ -1,5 +1,5 @@
 -- What a function that does a line returns and leaves.
-use Rattle.std.specs.Prelude.{◌≡◌, Option, Result, Ok, Err}
+use Rattle.std.specs.Prelude.{◌≡◌, ◌++◌, Option, Result, Ok, Err}
 use Rattle.std.specs.declared.alloc.AllocError.{AllocError}
 use Rattle.txn_grammar.specs.Characters.{Text}
 use Rattle.docc_prepare.specs.Stores.{Store}
@@ -9,25 +9,25 @@ use Rattle.session_core.specs.Phases.{Phase}
 use Rattle.script_runner.specs.Driving.{Place}
 use Rattle.script_runner.specs.Play.{ScriptWorld, Did, Done, printed}
 
--- a line leaves this world, and its output is what is told of it
-pub record Leaves (output : Text) (world : ScriptWorld) (d : Done) : Type 0 where
+-- a line leaves this world, and behind the output so far stands what is told of it
+pub record Leaves (before output : Text) (world : ScriptWorld) (d : Done) : Type 0 where
   pub left_is : d.world ≡ world
-  pub output_is : printed d.told ≡ output
+  pub output_is : before ++ printed d.told ≡ output
 
 -- so does the line of a client: it leaves the store, and the client's session
-pub record LeavesClient (output : Text) (store : Store) (session : Option Session) (d : Did) : Type 0 where
+pub record LeavesClient (before output : Text) (store : Store) (session : Option Session) (d : Did) : Type 0 where
   pub store_is : d.store ≡ store
   pub session_is : d.session ≡ session
-  pub output_is : printed d.told ≡ output
+  pub output_is : before ++ printed d.told ≡ output
 
 -- the same unless memory ran out
-abbrev pub Answers : Result Text AllocError → ScriptWorld → Done → Type 0
-Answers (Ok output) world d = Leaves output world d
-Answers (Err e) world d = Unit {0}
+abbrev pub Answers : Result (Unit {0}) AllocError → Text → Text → ScriptWorld → Done → Type 0
+Answers (Ok done) before output world d = Leaves before output world d
+Answers (Err e) before output world d = Unit {0}
 
-abbrev pub Does : Result Text AllocError → Store → Option Session → Did → Type 0
-Does (Ok output) store session d = LeavesClient output store session d
-Does (Err e) store session d = Unit {0}
+abbrev pub Does : Result (Unit {0}) AllocError → Text → Text → Store → Option Session → Did → Type 0
+Does (Ok done) before output store session d = LeavesClient before output store session d
+Does (Err e) before output store session d = Unit {0}
 
 -- the line is over: the store, the session and the turn are those where it ends, unless memory ran out
 abbrev pub IsOver : Result Turn AllocError → Store → Session → Place → Type 0

@@ -1,6 +1,6 @@
 //! What each line of a script does.
 
-ghost use Rattle.std.specs.Prelude.{◌≡◌, ◌≤◌, ◌<◌, length, IfOk, IfSome, OnOk, None, Some};
+ghost use Rattle.std.specs.Prelude.{◌≡◌, ◌≤◌, ◌<◌, length, if◌then◌else◌, IfSome, OnOk, None, Some};
 ghost use Rattle.dio_core.specs.Lines.{IsShort};
 ghost use Rattle.docc_prepare.specs.Stores.{CLIENTS, seen_by, known_by};
 ghost use Rattle.local_world.specs.Stored.{store_of};
@@ -11,7 +11,7 @@ ghost use Rattle.script_runner.specs.Lines.{Answers, Does, IsOver};
 ghost use Rattle.script_runner.specs.Play as spec;
 ghost use Rattle.script_runner.specs.Worlds.{world_of, Stands};
 
-use crate::replies::{refused_line, reply_line, turn_lines};
+use crate::replies::{push_line, push_refused, push_turn};
 use crate::words::{after_word, client_named, first_word, is_follow, shard_named};
 use crate::world::Script;
 use dio_core::{LONGEST_LINE, Line};
@@ -57,53 +57,31 @@ fn in_world(
     over_view(alloc, &mut view, session, text)
 }
 
-/// A session goes on, unless its turn ended it.
-fn left(session: Session, turn: &Turn) -> Option<Session>
-    ensures { result ≡ spec.left session turn.now }
+/// Whether a turn ends its session.
+fn is_end(turn: &Turn) -> bool
+    ensures { (session : Session) → spec.left session turn.now ≡ (if result then None else Some session) }
 {
-    match turn {
-        Turn::Ended(_) => None,
-        _ => Some(session),
-    }
-}
-
-/// A line of a client's session, where the session then stands at the place.
-fn session_line(
-    alloc: Global,
-    world: &mut World,
-    client: u32,
-    mut session: Session,
-    place: &mut Option<Session>,
-    text: &[u8],
-) -> Result<Text, AllocError>
-    requires client { client < CLIENTS }
-    requires attends { Attends (known_by (store_of world.old) client) session }
-    requires short { length text.now ≤ LONGEST_LINE }
-    ensures { Does result (store_of world.new) place.new (spec.session_line client (store_of world.old) session text.now) }
-{
-    let turn = in_world(alloc, world, client, &mut session, text)?;
-    let output = turn_lines(alloc, client, &turn)?;
-    *place = left(session, &turn);
-    Ok(output)
+    matches!(turn, Turn::Ended(_))
 }
 
 /// `follow K`.
 fn follow_line(
-    alloc: Global,
     world: &mut World,
     client: u32,
     shard: Option<u8>,
-) -> Result<Text, AllocError>
+    output: &mut Text,
+) -> Result<(), AllocError>
     requires client { client < CLIENTS }
     requires below { IfSome shard (λ k. k < world.old.shards) }
-    ensures { (session : Session) → Does result (store_of world.new) (Some session) (spec.follow_line client (store_of world.old) session shard) }
+    ensures { (session : Session) → Does result output.old output.new (store_of world.new) (Some session)
+        (spec.follow_line client (store_of world.old) session shard) }
 {
     match shard {
         Some(shard) => {
             let front = world.follow(client, shard)?;
-            reply_line(alloc, Some(client), &Reply::Followed(shard, front))
+            push_line(output, Some(client), &Reply::Followed(shard, front))
         }
-        None => refused_line(alloc, Some(client), Why::Verb),
+        None => push_refused(output, Some(client), Why::Verb),
     }
 }
 
@@ -114,22 +92,26 @@ fn client_line(
     client: u32,
     place: &mut Option<Session>,
     text: &[u8],
-) -> Result<Text, AllocError>
+    output: &mut Text,
+) -> Result<(), AllocError>
     requires client { client < CLIENTS }
     requires attends { IfSome place.old (Attends (known_by (store_of world.old) client)) }
     requires short { length text.now ≤ LONGEST_LINE }
-    ensures { Does result (store_of world.new) place.new (spec.client_line client (store_of world.old) place.old text.now) }
+    ensures { Does result output.old output.new (store_of world.new) place.new
+        (spec.client_line client (store_of world.old) place.old text.now) }
 {
-    let Some(session) = place.take() else {
-        return refused_line(alloc, None, Why::Client);
+    let Some(session) = place else {
+        return push_refused(output, None, Why::Client);
     };
     if is_follow(text) {
         let shard = shard_named(world.shards(), after_word(text));
-        *place = Some(session);
-        follow_line(alloc, world, client, shard)
-    } else {
-        session_line(alloc, world, client, session, place, text)
+        return follow_line(world, client, shard, output);
     }
+    let turn = in_world(alloc, world, client, session, text)?;
+    if is_end(&turn) {
+        *place = None;
+    }
+    push_turn(output, client, &turn)
 }
 
 /// What follows the first word of a line, which names a client or none.
@@ -138,44 +120,55 @@ fn named_line(
     script: &mut Script,
     client: Option<u32>,
     text: &[u8],
-) -> Result<Text, AllocError>
+    output: &mut Text,
+) -> Result<(), AllocError>
     requires client { IfSome client (λ n. n < CLIENTS) }
     requires stands { Stands (world_of script.old) }
     requires short { length text.now ≤ LONGEST_LINE }
-    ensures { Answers result (world_of script.new) (spec.named_line (world_of script.old) client text.now) }
+    ensures { Answers result output.old output.new (world_of script.new) (spec.named_line (world_of script.old) client text.now) }
 {
     match client {
         Some(client) => {
             let place = &mut script.sessions[client as usize];
-            client_line(alloc, &mut script.world, client, place, text)
+            client_line(alloc, &mut script.world, client, place, text, output)
         }
-        None => refused_line(alloc, None, Why::Client),
+        None => push_refused(output, None, Why::Client),
     }
 }
 
 /// A line without the blanks at its beginning.
-fn text_line(alloc: Global, script: &mut Script, text: &[u8]) -> Result<Text, AllocError>
+fn text_line(
+    alloc: Global,
+    script: &mut Script,
+    text: &[u8],
+    output: &mut Text,
+) -> Result<(), AllocError>
     requires stands { Stands (world_of script.old) }
     requires short { length text.now ≤ LONGEST_LINE }
-    ensures { Answers result (world_of script.new) (spec.text_line (world_of script.old) text.now) }
+    ensures { Answers result output.old output.new (world_of script.new) (spec.text_line (world_of script.old) text.now) }
 {
     if is_quiet(text) {
-        return Ok(Text::new(alloc));
+        return Ok(());
     }
     let client = client_named(first_word(text));
-    named_line(alloc, script, client, after_word(text))
+    named_line(alloc, script, client, after_word(text), output)
 }
 
-/// Does a line, and answers the bytes of its reply. After want of memory the script is of no use.
-pub fn answer(alloc: Global, script: &mut Script, line: &Line) -> Result<Text, AllocError>
+/// Does a line, and adds the bytes of its reply to the output. After want of memory the script is of no use.
+pub fn answer(
+    alloc: Global,
+    script: &mut Script,
+    line: &Line,
+    output: &mut Text,
+) -> Result<(), AllocError>
     requires stands { Stands (world_of script.old) }
     requires short { IsShort line.now }
-    ensures answers { Answers result (world_of script.new) (spec.answer (world_of script.old) line.now) }
+    ensures answers { Answers result output.old output.new (world_of script.new) (spec.answer (world_of script.old) line.now) }
     ensures stands { OnOk result (Stands (world_of script.new)) }
 {
     match line {
-        Line::Bytes(bytes) => text_line(alloc, script, trimmed_start(bytes.as_slice())),
-        Line::TooLong => refused_line(alloc, None, Why::Long),
-        Line::End => Ok(Text::new(alloc)),
+        Line::Bytes(bytes) => text_line(alloc, script, trimmed_start(bytes.as_slice()), output),
+        Line::TooLong => push_refused(output, None, Why::Long),
+        Line::End => Ok(()),
     }
 }

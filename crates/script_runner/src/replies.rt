@@ -1,6 +1,6 @@
 //! Reply lines: whom each names, and the words of what is answered.
 
-ghost use Rattle.std.specs.Prelude.{◌≡◌, ◌++◌, [], Some, IfOk, OnOk};
+ghost use Rattle.std.specs.Prelude.{◌≡◌, ◌++◌, Some, OnOk};
 ghost use Rattle.session_text.specs.Printing.{printed_reply};
 ghost use Rattle.script_runner.specs.Play as spec;
 
@@ -8,7 +8,7 @@ use dtext::push_natural;
 use plain_data::Text;
 use session_core::Turn;
 use session_text::{Reply, Why, push_reply};
-use std::alloc::{AllocError, Global};
+use std::alloc::AllocError;
 
 /// Adds the client's number, or a hyphen.
 fn push_named(text: &mut Text, client: Option<u32>) -> Result<(), AllocError>
@@ -20,18 +20,8 @@ fn push_named(text: &mut Text, client: Option<u32>) -> Result<(), AllocError>
     }
 }
 
-/// How many bytes room is made for at once. A usual reply is shorter.
-const USUAL: usize = 64;
-
-/// An empty text with room for a usual reply.
-fn with_room(alloc: Global) -> Result<Text, AllocError>
-    ensures { IfOk result (λ text. text ≡ []) }
-{
-    Ok(Text::from_vec(Vec::with_capacity(alloc, USUAL)?))
-}
-
 /// Adds the line of one reply.
-fn push_line(lines: &mut Text, client: Option<u32>, reply: &Reply) -> Result<(), AllocError>
+pub fn push_line(lines: &mut Text, client: Option<u32>, reply: &Reply) -> Result<(), AllocError>
     ensures { OnOk result (lines.new ≡ lines.old ++ spec.reply_line client (printed_reply reply.now)) }
 {
     push_named(lines, client)?;
@@ -40,41 +30,31 @@ fn push_line(lines: &mut Text, client: Option<u32>, reply: &Reply) -> Result<(),
     lines.push(b'\n')
 }
 
-/// The line of one reply.
-pub fn reply_line(alloc: Global, client: Option<u32>, reply: &Reply) -> Result<Text, AllocError>
-    ensures { IfOk result (λ line. line ≡ spec.reply_line client (printed_reply reply.now)) }
+/// Adds the line of a refusal.
+pub fn push_refused(lines: &mut Text, client: Option<u32>, reason: Why) -> Result<(), AllocError>
+    ensures { OnOk result (lines.new ≡ lines.old ++ spec.refused_line client reason) }
 {
-    let mut line = with_room(alloc)?;
-    push_line(&mut line, client, reply)?;
-    Ok(line)
+    push_line(lines, client, &Reply::Refused(reason))
 }
 
-/// The line of a refusal.
-pub fn refused_line(alloc: Global, client: Option<u32>, reason: Why) -> Result<Text, AllocError>
-    ensures { IfOk result (λ line. line ≡ spec.refused_line client reason) }
+/// Adds the lines of replies, in their order.
+fn push_lines(lines: &mut Text, client: u32, replies: &[Reply]) -> Result<(), AllocError>
+    ensures { OnOk result (lines.new ≡ lines.old ++ spec.reply_lines (Some client) replies.now) }
 {
-    reply_line(alloc, client, &Reply::Refused(reason))
-}
-
-/// The lines of replies, in their order.
-fn reply_lines(alloc: Global, client: u32, replies: &[Reply]) -> Result<Text, AllocError>
-    ensures { IfOk result (λ lines. lines ≡ spec.reply_lines (Some client) replies.now) }
-{
-    let mut lines = with_room(alloc)?;
     for reply in replies {
-        push_line(&mut lines, Some(client), reply)?;
+        push_line(lines, Some(client), reply)?;
     }
-    Ok(lines)
+    Ok(())
 }
 
-/// The lines of a turn.
-pub fn turn_lines(alloc: Global, client: u32, turn: &Turn) -> Result<Text, AllocError>
-    ensures { IfOk result (λ text. text ≡ spec.turn_lines client turn.now) }
+/// Adds the lines of a turn.
+pub fn push_turn(lines: &mut Text, client: u32, turn: &Turn) -> Result<(), AllocError>
+    ensures { OnOk result (lines.new ≡ lines.old ++ spec.turn_lines client turn.now) }
 {
     match turn {
-        Turn::Quiet => Ok(Text::new(alloc)),
-        Turn::Replies(replies) => reply_lines(alloc, client, replies.as_slice()),
-        Turn::WaitWanted => reply_line(alloc, Some(client), &Reply::Idle),
-        Turn::Ended(replies) => reply_lines(alloc, client, replies.as_slice()),
+        Turn::Quiet => Ok(()),
+        Turn::Replies(replies) => push_lines(lines, client, replies.as_slice()),
+        Turn::WaitWanted => push_line(lines, Some(client), &Reply::Idle),
+        Turn::Ended(replies) => push_lines(lines, client, replies.as_slice()),
     }
 }

@@ -1,8 +1,11 @@
 //! A script: its lines are read, done and answered, one after another.
 
-ghost use Rattle.std.specs.Prelude.{◌≡◌, IfOk, IfErr, OnOk};
+ghost use Rattle.std.specs.Prelude.{◌≡◌, ◌⊎◌, not, IfOk, IfErr, OnOk};
+ghost use Rattle.std.specs.Bool.{OnTrue};
 ghost use Rattle.dio_core.specs.Counts.{IsCounted};
 ghost use Rattle.dio_core.specs.Lines.{TakesLine, IsShort};
+ghost use Rattle.dio_core.specs.Sinks.{IsPassedOn};
+ghost use Rattle.dio_core.specs.Sources.{IsAhead};
 ghost use Rattle.script_runner.specs.Worlds.{world_of, Stands};
 ghost use Rattle.script_runner.specs.Play.{first_world};
 ghost use Rattle.script_runner.specs.Script.{reading, writing, TriesFlush, KeepsPromises};
@@ -12,10 +15,11 @@ use crate::lines::answer;
 use crate::status::{NO_MEMORY, READ_FAULT, TOO_MANY_LINES, WHOLE, WRITE_FAULT};
 use crate::stop::{Cause, MOST_LINES, Stop};
 use crate::world::Script;
-use dio_core::{Line, LineFault, Sink, Source, next_line, write_all};
-use plain_data::OrNoMemory;
+use dio_core::{Line, LineFault, NEWLINE, Sink, Source, next_line, write_all};
+use plain_data::{OrNoMemory, Text};
 use rdt_types::Settings;
 use std::alloc::Global;
+use std::mem::ManuallyDrop;
 
 /// The next line of the source.
 fn read_line<S: Source>(alloc: Global, source: &mut S) -> Result<Line, Stop>
@@ -31,10 +35,21 @@ fn read_line<S: Source>(alloc: Global, source: &mut S) -> Result<Line, Stop>
     }
 }
 
-/// Reads, does and answers one line. `false` says that there was none.
+/// Passes on what was written, unless the next line is ahead already: until that is answered nobody waits. `false` is a
+/// fault of the sink.
+fn pass_on<S: Source, W: Sink>(source: &S, sink: &mut W) -> bool
+    ensures passed { OnTrue result (IsAhead NEWLINE (S.left source.now) ⊎ IsPassedOn (W.taken sink.new) (W.passed sink.new)) }
+    ensures taken { W.taken sink.new ≡ W.taken sink.old }
+    ensures writes { IsCounted (not result) (W.write_faults sink.old) (W.write_faults sink.new) }
+{
+    source.sees(NEWLINE) || sink.flush()
+}
+
+/// Reads, does and answers one line. `false` says that there was none. The reply is made in memory that all lines share.
 fn turn<S: Source, W: Sink>(
     alloc: Global,
     script: &mut Script,
+    reply: &mut Text,
     source: &mut S,
     sink: &mut W,
 ) -> Result<bool, Stop>
@@ -49,8 +64,9 @@ fn turn<S: Source, W: Sink>(
         Line::End => return Ok(false),
         line => line,
     };
-    let reply = answer(alloc, script, &line)?;
-    if write_all(sink, reply.as_slice()) {
+    reply.truncate(0);
+    answer(alloc, script, &line, reply)?;
+    if write_all(sink, reply.as_slice()) && pass_on(source, sink) {
         Ok(true)
     } else {
         Err(OrNoMemory::Cause(Cause::WriteFault))
@@ -69,8 +85,10 @@ fn run_lines<S: Source, W: Sink>(
     ensures writes { IsCounted (write_stopped result) (W.write_faults sink.old) (W.write_faults sink.new) }
 {
     let mut script = Script::new(alloc, settings)?;
+    let mut reply = Text::new(alloc);
     for _ in 0..MOST_LINES {
-        if !turn(alloc, &mut script, source, sink)? {
+        if !turn(alloc, &mut script, &mut reply, source, sink)? {
+            leave(script);
             return Ok(());
         }
     }
@@ -80,11 +98,17 @@ fn run_lines<S: Source, W: Sink>(
     }
 }
 
-/// Runs a script: each line is read, done and answered before the next one is read. It answers a status.
+/// Leaves what a script has to the end of the process, which comes with the end of the run: to take its store apart, value by
+/// value, would cost a tenth of the run.
+fn leave(script: Script) {
+    let _left = ManuallyDrop::new(script);
+}
+
+/// Runs a script: each line is read, done and answered before the next one is read. It answers a status. The sink is flushed
+/// behind an answer where the source doesn't see a whole line ahead, so that who waits for it gets it.
 ///
-/// 0: the input was read to its end. 3: a read failed. 4: a write failed, or the flush at the end. 5: there was no
-/// memory. 9: there is a line behind the last one that may be read. At 3 and 9 too the sink is flushed at the end,
-/// whatever that answers.
+/// 0: the input was read to its end. 3: a read failed. 4: a write or a flush failed. 5: there was no memory. 9: there is
+/// a line behind the last one that may be read. At 3 and 9 too the sink is flushed at the end, whatever that answers.
 pub fn run_script<S: Source, W: Sink>(
     alloc: Global,
     settings: &Settings,

@@ -14,6 +14,8 @@ pub returns-in-Bytes-clause-stands : goal.returns-in-Bytes-clause-stands
 returns-in-Bytes-clause-stands c =
     let old = world_of c.args.script.now in
     let new = world_of c.text_line.new.script in
-    answered-stands c.text_line.result old new (line.Bytes c.in-Bytes.bytes) c.requires.stands (subst IsShort c.in-Bytes.is c.requires.short)
-    (subst (λ (z : Text). Answers c.text_line.result new (text_line old z)) (c.trimmed_start.ensures.value ∙ ap trimmed_start c.as_slice.ensures)
-    c.text_line.ensures)
+    let before = c.args.output.now in
+    let after = c.text_line.new.output in
+    answered-stands c.text_line.result before after old new (line.Bytes c.in-Bytes.bytes) c.requires.stands (subst IsShort c.in-Bytes.is c.requires.short)
+    (subst (λ (z : Text). Answers c.text_line.result before after new (text_line old z))
+    (c.trimmed_start.ensures.value ∙ ap trimmed_start c.as_slice.ensures) c.text_line.ensures)
