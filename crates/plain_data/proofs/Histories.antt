@@ -23,7 +23,7 @@ module _ {E : Type 0} (may_follow : ℕ → List E → E → Type 0) (base : ℕ
       → IsLawful may_follow base (items ++ e ∷ [])
   IsLawful-push items e lawful follows = lawful_after-push [] items e lawful follows
 
-  -- each item of a front follows the same items as in the whole list
+  -- each item of a prefix follows the same items as in the whole list
   lawful_after-first : (before items rest : List E) → IsLawfulAfter may_follow base before (items ++ rest)
       → IsLawfulAfter may_follow base before items
   lawful_after-first before [] rest lawful = tt

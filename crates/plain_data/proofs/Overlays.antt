@@ -104,9 +104,9 @@ module _ {V : Type 0} where
           ∙ ap (λ xs. e ∷ xs) (rest (Some v))
           ∙ sym (λ i. before_above key e es is i ++ (key, v) ∷ [] ++ after_above key e es is i)
 
-  -- all keys of a front are below a key
+  -- all keys of a prefix are below a key
   abbrev AllBelow : Bytes → List (Bytes × V) → Type 0
-  AllBelow key front = AllByRecursion (λ e. text_cmp key e.0 ≡ Greater) front
+  AllBelow key prefix = AllByRecursion (λ e. text_cmp key e.0 ≡ Greater) prefix
 
   -- the pairs below a key, and the one at it, are below every greater key
   AllBelow-before : (key next : Bytes) (o : Option V) (es : List (Bytes × V)) → text_cmp key next ≡ Less
@@ -127,31 +127,31 @@ module _ {V : Type 0} where
       by rest Greater is =
           subst (λ xs. AllBelow next (xs ++ pair_at key o)) (sym (before_above key e es is)) (greater-through key next e.0 up is, rest)
 
-  -- a front below the key is passed pair by pair
-  before-front : (key : Bytes) (front es : List (Bytes × V)) → AllBelow key front → before key (front ++ es) ≡ front ++ before key es
-  before-front key [] es all = refl
-  before-front key (e ∷ front) es all = before_above key e (front ++ es) all.0 ∙ ap (λ xs. e ∷ xs) (before-front key front es all.1)
+  -- a prefix below the key is passed pair by pair
+  before-prefix : (key : Bytes) (prefix es : List (Bytes × V)) → AllBelow key prefix → before key (prefix ++ es) ≡ prefix ++ before key es
+  before-prefix key [] es all = refl
+  before-prefix key (e ∷ prefix) es all = before_above key e (prefix ++ es) all.0 ∙ ap (λ xs. e ∷ xs) (before-prefix key prefix es all.1)
 
-  -- nothing in such a front is above the key, so only the rest counts
-  after-front : (key : Bytes) (front es : List (Bytes × V)) → AllBelow key front → after key (front ++ es) ≡ after key es
-  after-front key [] es all = refl
-  after-front key (e ∷ front) es all = after_above key e (front ++ es) all.0 ∙ after-front key front es all.1
+  -- nothing in such a prefix is above the key, so only the rest counts
+  after-prefix : (key : Bytes) (prefix es : List (Bytes × V)) → AllBelow key prefix → after key (prefix ++ es) ≡ after key es
+  after-prefix key [] es all = refl
+  after-prefix key (e ∷ prefix) es all = after_above key e (prefix ++ es) all.0 ∙ after-prefix key prefix es all.1
 
   module _ {M : Type 0} (left : M → Option V) where
-    -- a front whose keys are below the first that is marked stays as it is
+    -- a prefix whose keys are below the first that is marked stays as it is
     abbrev IsPassed : List (Bytes × V) → List (Bytes × M) → Type 0
-    IsPassed front [] = Unit {0}
-    IsPassed front (mark ∷ marks) = AllBelow mark.0 front
+    IsPassed prefix [] = Unit {0}
+    IsPassed prefix (mark ∷ marks) = AllBelow mark.0 prefix
 
-    -- the first mark passes such a front whole, and the later marks meet only what is above the first
-    merged-front : (front es : List (Bytes × V)) (marks : List (Bytes × M)) → IsPassed front marks
-        → merged left (front ++ es) marks ≡ front ++ merged left es marks
+    -- the first mark passes such a prefix whole, and the later marks meet only what is above the first
+    merged-prefix : (prefix es : List (Bytes × V)) (marks : List (Bytes × M)) → IsPassed prefix marks
+        → merged left (prefix ++ es) marks ≡ prefix ++ merged left es marks
     unfolding merged
-    merged-front front es [] passed = refl
-    merged-front front es (mark ∷ marks) passed =
-        (λ i. (before-front mark.0 front es passed i ++ pair_at mark.0 (left mark.1)) ++ merged left (after-front mark.0 front es passed i) marks)
-        ∙ ap (λ xs. xs ++ merged left (after mark.0 es) marks) (append_assoc front (before mark.0 es) (pair_at mark.0 (left mark.1)))
-        ∙ append_assoc front (before mark.0 es ++ pair_at mark.0 (left mark.1)) (merged left (after mark.0 es) marks)
+    merged-prefix prefix es [] passed = refl
+    merged-prefix prefix es (mark ∷ marks) passed =
+        (λ i. (before-prefix mark.0 prefix es passed i ++ pair_at mark.0 (left mark.1)) ++ merged left (after-prefix mark.0 prefix es passed i) marks)
+        ∙ ap (λ xs. xs ++ merged left (after mark.0 es) marks) (append_assoc prefix (before mark.0 es) (pair_at mark.0 (left mark.1)))
+        ∙ append_assoc prefix (before mark.0 es ++ pair_at mark.0 (left mark.1)) (merged left (after mark.0 es) marks)
 
     -- what has been merged up to a mark is below the next one, since the marks rise
     passed_next : (es : List (Bytes × V)) (mark : Bytes × M) (marks : List (Bytes × M)) → T (below_all text_cmp mark.0 marks)
@@ -169,7 +169,7 @@ module _ {V : Type 0} where
     unfolding merged
     merged-is-marked es [] h rising = refl
     merged-is-marked es (mark ∷ marks) h rising =
-        sym (merged-front (before mark.0 es ++ pair_at mark.0 (left mark.1)) (after mark.0 es) marks (passed_next es mark marks (halves _ _ rising).0))
+        sym (merged-prefix (before mark.0 es ++ pair_at mark.0 (left mark.1)) (after mark.0 es) marks (passed_next es mark marks (halves _ _ rising).0))
         ∙ ap (λ xs. merged left xs marks) (sym (entry_at-parts es mark.0 (left mark.1) h))
         ∙ merged-is-marked (entry_at es mark.0 (left mark.1)) marks (sorted-entry_at es mark.0 (left mark.1) h) (halves _ _ rising).1
 

@@ -9,7 +9,7 @@ use Rattle.std.specs.FinMap as map
 abbrev pub Bytes : Type 0
 Bytes = List ℕ
 
--- texts are ordered by their bytes, a front before what it begins
+-- texts are ordered by their bytes, a prefix before what it begins
 abbrev pub text_cmp : Bytes → Bytes → Ordering
 text_cmp = slice_cmp nat_cmp
 

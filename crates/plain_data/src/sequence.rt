@@ -10,7 +10,7 @@ use std::alloc::{AllocError, Global};
 use std::cmp::Ordering;
 use std::marker::Model;
 
-/// A list of items, which grows at its end. Lists are compared item by item, a front before what it begins.
+/// A list of items, which grows at its end. Lists are compared item by item, a prefix before what it begins.
 #[derive(Debug, Drop)]
 pub struct Sequence<T> {
     items: Vec<T>,
@@ -81,8 +81,8 @@ impl<T: Ord> Ord for Sequence<T> {
     }
 }
 
-/// How many items at the front are compared one by one, since most keys differ there. What is behind goes to std, which skips
-/// what is equal in groups.
+/// How many items at the beginning are compared one by one, since most keys differ there. What is behind goes to std, which
+/// skips what is equal in groups.
 const COMPARED_SINGLY: usize = 16;
 
 /// The order of two lists.
