@@ -1,13 +1,10 @@
 -- The classes of bytes that texts are cut by.
 use Rattle.std.specs.Prelude.{ℕ, Bool, ◌&&◌, ◌||◌, nat_eq, nat_le}
+pub use Rattle.predictive_parsing.specs.Digits.{is_digit}
 
 -- `a` to `z`
 abbrev pub is_letter : ℕ → Bool
 is_letter byte = nat_le 97 byte && nat_le byte 122
-
--- `0` to `9`
-abbrev pub is_digit : ℕ → Bool
-is_digit byte = nat_le 48 byte && nat_le byte 57
 
 -- what a word goes on with: a letter, a digit or `_`
 abbrev pub is_word : ℕ → Bool
