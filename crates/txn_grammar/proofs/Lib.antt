@@ -8,4 +8,3 @@ pub mod Values
 pub mod Cuts
 pub mod Blanks
 pub mod Marks
-pub mod Words

@@ -14,6 +14,7 @@ abbrev ends_in_equal : Text → Bool
 ends_in_equal (a ∷ b ∷ []) = b == 61
 ends_in_equal other = true
 
+-- each row's text does
 abbrev each_does : List (Text × Symbol) → Bool
 each_does [] = true
 each_does (row ∷ rows) = ends_in_equal row.0 && each_does rows

@@ -1,7 +1,7 @@
 -- What digits are worth.
 use Rattle.std.specs.Prelude.{◌≡◌, ℕ, ◌+◌, ◌-◌, ◌*◌, ◌&&◌, ◌==◌, if◌then◌else◌, nat_le, nat_lt, length, fold}
 use Rattle.std.specs.Prelude.{slice_index, pos, ℤ, codes, Option, Some, None, refl}
-use Rattle.txn_grammar.specs.declared.limit.TheConstants.{LARGEST}
+use Rattle.dtext.specs.declared.number.TheConstants.{MOST}
 use Rattle.txn_grammar.specs.Characters.{Text}
 
 abbrev pub with_digit : ℕ → ℕ → ℕ
@@ -12,7 +12,7 @@ digits_value digits = fold with_digit 0 digits
 
 -- the value, unless it is above the largest number
 unfoldable pub small_value : Text → Option ℤ
-small_value digits = if nat_le (digits_value digits) LARGEST then Some (pos (digits_value digits)) else None
+small_value digits = if nat_le (digits_value digits) MOST then Some (pos (digits_value digits)) else None
 
 -- the number that the digits write, where none of them is a needless zero in front and it isn't too large
 unfoldable pub number_value : Text → Option ℤ

@@ -1,4 +1,3 @@
 -- Definitions that mirror code. Nobody has to judge by them: laws tie them to the rules.
 pub mod Forms
 pub mod Reader
-pub mod Words

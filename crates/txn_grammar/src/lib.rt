@@ -26,7 +26,7 @@ mod token;
 pub use form::{Leaf, Nesting, Opener, Simple};
 pub use laws::{blanks_at_the_end, parsed_is_body, syntax_columns};
 pub use lexer::tokens;
-pub use limit::{DEEPEST, LARGEST, LONGEST_NAME};
+pub use limit::{DEEPEST, LONGEST_NAME};
 pub use meaning::{
     is_symbol, kind_at, leaf_of, nesting_of, number_of, opener_of, operator_at, read_at,
     relation_at, simple_of, truth_at, write_at,

@@ -6,6 +6,3 @@ pub const DEEPEST: u8 = 32;
 
 /// The most bytes of a word, and so of a name. A longer word is malformed.
 pub const LONGEST_NAME: usize = 32;
-
-/// The largest number that can be written, which is the largest of 64 bits. A larger one is malformed.
-pub const LARGEST: u64 = 9223372036854775807;

@@ -3,7 +3,7 @@
 ghost use Rattle.std.specs.Prelude.{◌≡◌};
 ghost use Rattle.txn_grammar.specs.Numbers as spec;
 
-use crate::limit::LARGEST;
+use dtext::MOST;
 
 /// The value of the digits, unless it is above the largest number.
 fn small_value(digits: &[u8]) -> Option<i64>
@@ -12,7 +12,7 @@ fn small_value(digits: &[u8]) -> Option<i64>
     let mut value: u128 = 0;
     for digit in digits {
         value = 10 * value + u128::from(digit.saturating_sub(b'0'));
-        if value > u128::from(LARGEST) {
+        if value > u128::from(MOST) {
             return None;
         }
     }

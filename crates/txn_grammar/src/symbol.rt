@@ -60,29 +60,29 @@ pub enum Symbol {
     Dot,
 }
 
-/// The reserved words, which are no names: by their first letters, and of one letter the commonest first.
+/// The reserved words, which are no names, the commonest first.
 pub const WORDS: [(&[u8], Symbol); 21] = [
-    (b"and", Symbol::And),
-    (b"bool", Symbol::Bool),
     (b"counter", Symbol::Counter),
+    (b"set", Symbol::Set),
     (b"emit", Symbol::Emit),
-    (b"else", Symbol::Else),
-    (b"for", Symbol::For),
-    (b"fail", Symbol::Fail),
-    (b"false", Symbol::False),
-    (b"hash", Symbol::Hash),
     (b"if", Symbol::If),
+    (b"hash", Symbol::Hash),
+    (b"list", Symbol::List),
+    (b"text", Symbol::Text),
+    (b"str", Symbol::Str),
+    (b"for", Symbol::For),
     (b"in", Symbol::In),
     (b"let", Symbol::Let),
-    (b"list", Symbol::List),
-    (b"len", Symbol::Len),
+    (b"else", Symbol::Else),
+    (b"and", Symbol::And),
+    (b"true", Symbol::True),
+    (b"false", Symbol::False),
+    (b"fail", Symbol::Fail),
     (b"not", Symbol::Not),
     (b"or", Symbol::Or),
+    (b"len", Symbol::Len),
+    (b"bool", Symbol::Bool),
     (b"peak", Symbol::Peak),
-    (b"set", Symbol::Set),
-    (b"str", Symbol::Str),
-    (b"text", Symbol::Text),
-    (b"true", Symbol::True),
 ];
 
 /// The marks, of two bytes and of one, the commonest first.
