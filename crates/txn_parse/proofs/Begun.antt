@@ -13,7 +13,8 @@ use Rattle.txn_grammar.specs.code.Reader.{unary, unary_of, negation, negation_of
 use Rattle.txn_parse.specs.code.Begun as begun
 
 -- two steps, and then one, are one step, and then two
-bind_twice : {I A B C : Type 0} (o : Outcome I A) (q : A → Reader I B) (r : B → Reader I C) → and_then (and_then o q) r ≡ and_then o (λ a us. and_then (q a us) r)
+bind_twice : {I A B C : Type 0} (o : Outcome I A) (q : A → Reader I B) (r : B → Reader I C)
+    → and_then (and_then o q) r ≡ and_then o (λ a us. and_then (q a us) r)
 bind_twice (Ok read) q r = refl
 bind_twice (Err ts) q r = refl
 
@@ -21,6 +22,7 @@ bind_twice (Err ts) q r = refl
 either_other : {I A : Type 0} (starts : Option I → Bool) (p q : Reader I A) (ts : List I) → starts (next ts) ≡ false → either starts p q ts ≡ q ts
 either_other starts p q ts none = rw none refl
 
+-- and what is ahead is read
 either_first : {I A : Type 0} (starts : Option I → Bool) (p q : Reader I A) (ts : List I) → starts (next ts) ≡ true → either starts p q ts ≡ p ts
 either_first starts p q ts some = rw some refl
 
@@ -38,7 +40,8 @@ module _ (rank : Rank) (p : Reader Spot Expr) where
   chain_begins ts = by (p ts)
     where
       by : (o : Outcome Spot Expr)
-          → and_then (and_then o (λ first us. and_then (many (begins_operator rank) (further rank p) us) (λ others. pure (first, others)))) (λ operands. pure (chained operands))
+          → and_then (and_then o (λ first us. and_then (many (begins_operator rank) (further rank p) us) (λ others. pure (first, others))))
+              (λ operands. pure (chained operands))
           ≡ and_then o (begun.chain rank p)
       by (Ok (first, us)) = in_pairs first us
       by (Err us) = refl
@@ -120,7 +123,8 @@ module _ (n : ℕ) where
   joined first us = and_then (conjunction_on first us) disjunction_on
 
   -- without `not` an expression is its first operand, and what is read behind it
-  pub expression_begins : (ts : List Spot) → sees symbol.Not (next ts) ≡ false → expression n ts ≡ and_then (unary n ts) (begun.expression_of (negation n) (unary n))
+  pub expression_begins : (ts : List Spot) → sees symbol.Not (next ts) ≡ false
+      → expression n ts ≡ and_then (unary n ts) (begun.expression_of (negation n) (unary n))
   unfolding begun.expression_of
   expression_begins ts none =
       disjunction_begins ts
@@ -138,7 +142,8 @@ module _ (n : ℕ) where
       let sum_less = neither (begins_operator rank.Sum (next us)) _ product_less.1 in
       let relation_less = neither (begins_relation (next us)) _ sum_less.1 in
       let conjunction_less = neither (begins_operator rank.Conjunction (next us)) _ relation_less.1 in
-      ap (λ o. and_then (and_then (and_then o (begun.chain rank.Sum (product_read u us))) (begun.comparison (sum_read u us))) joined) (chain_alone rank.Product u first us product_less.0)
+      ap (λ o. and_then (and_then (and_then o (begun.chain rank.Sum (product_read u us))) (begun.comparison (sum_read u us))) joined)
+      (chain_alone rank.Product u first us product_less.0)
       ∙ ap (λ o. and_then (and_then o (begun.comparison (sum_read u us))) joined) (chain_alone rank.Sum (product_read u us) first us sum_less.0)
       ∙ ap (λ o. and_then o joined) (comparison_alone (sum_read u us) first us relation_less.0)
       ∙ ap (λ o. and_then o disjunction_on) (chain_alone rank.Conjunction (negation n) first us conjunction_less.0)

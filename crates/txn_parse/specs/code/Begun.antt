@@ -1,4 +1,5 @@
--- Rules of expressions whose first operand is read already: what is read behind it.
+-- Rules of expressions whose first operand is read already: what is read behind it. The lemmas `chain_begins` and
+-- `expression_begins` of proofs/Begun tie them to the whole rules in specs/code/Reader of `txn_grammar`.
 use Rattle.std.specs.Prelude.{Bool, ◌||◌, Option}
 use Rattle.txn_trees.specs.declared.expression.Expr.{Expr}
 use Rattle.predictive_parsing.specs.Reading.{Reader, ◌>>=◌, pure, many, optional}

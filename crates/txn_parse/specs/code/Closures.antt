@@ -1,4 +1,5 @@
--- What closures of the parser's code read.
+-- What closures of the parser's code read. The clauses of the rules in src/grammar.rt that hand a closure to `chain` or
+-- `comparison`, as `product_from` does, put in the reader of specs/code/Reader of `txn_grammar` that the closure is.
 use Rattle.std.specs.Prelude.{◌≡◌, List, Result}
 use Rattle.std.specs.Fn.{Shared}
 use denote.Ref.{MutBor}

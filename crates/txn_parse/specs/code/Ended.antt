@@ -1,4 +1,5 @@
--- How the call that reads a text ends, by what the reader of bodies answers and leaves.
+-- How the call that reads a text ends, by what the reader of bodies answers and leaves. The lemmas of proofs/Wholes tie it to
+-- `parsed`, `IsBody` and `IsSyntaxColumn` of `txn_grammar`, which are all that the clauses of `parse` speak of.
 use Rattle.std.specs.Prelude.{ℕ, ◌==◌, if◌then◌else◌, List, length, Result, Ok, Err}
 use Rattle.plain_data.specs.declared.or_no_memory.OrNoMemory.{OrNoMemory}
 use Rattle.plain_data.specs.declared.or_no_memory.OrNoMemory.TheVariants as stop

@@ -1,4 +1,5 @@
--- What was found in a token.
+-- What was found in a token. The clauses of `name_ahead`, `text_ahead` and `take_copy` in src/token.rt tie it to the tokens of
+-- `txn_grammar`.
 use Rattle.std.specs.Prelude.{ℕ, Option}
 use Rattle.std.specs.Option.{option_map}
 use denote.Ref.{Bor}

@@ -1,4 +1,5 @@
--- Statements that open a level, with so many left: what stands inside has one less.
+-- Statements that open a level, with so many left: what stands inside has one less. Each is the reader of its name in
+-- specs/code/Reader of `txn_grammar`; the lemma `statement_nests` of proofs/Levels ties them to that of all statements.
 use Rattle.std.specs.Prelude.{ℕ, ◌-◌, Bool, List, Option}
 use Rattle.txn_trees.specs.declared.statement.Stmt.{Stmt}
 use Rattle.predictive_parsing.specs.Reading.{Reader, many, optional}

@@ -1,4 +1,5 @@
--- What stands inside a level, and functions that read it.
+-- What stands inside a level, and functions that read it. The clauses of `placed_read` and `statement`, which are what is called
+-- so, tie them to the readers of specs/code/Reader of `txn_grammar`, with any number of levels left.
 use Rattle.std.specs.Prelude.{ℕ, ◌<◌, Result}
 use Rattle.std.specs.declared.alloc.Global.{Global}
 use denote.Ref.{MutBor}
