@@ -24,7 +24,8 @@ use Rattle.txn_trees.specs.declared.word.ReadWord.{ReadWord}
 use Rattle.txn_trees.specs.declared.word.ReadWord.TheVariants as read
 use Rattle.txn_trees.specs.declared.word.WriteWord.{WriteWord}
 use Rattle.txn_trees.specs.declared.word.WriteWord.TheVariants as write
-use Rattle.txn_grammar.specs.declared.limit.TheConstants.{LONGEST_NAME, LARGEST}
+use Rattle.dtext.specs.declared.number.TheConstants.{MOST}
+use Rattle.txn_grammar.specs.declared.limit.TheConstants.{LONGEST_NAME}
 use Rattle.txn_grammar.specs.declared.symbol.Symbol.{Symbol}
 use Rattle.txn_grammar.specs.declared.symbol.Symbol.TheVariants as s
 use Rattle.txn_grammar.specs.declared.token.Token.{Token}
@@ -304,7 +305,7 @@ within : (k m : ℕ) → k ≤ m → nat_le k m ≡ true
 within k m h = grind (arith, nat_tests)
 
 -- a number above 0
-positive_good : (k : ℕ) → 0 < k → k ≤ LARGEST → Good (spaced (t.Number (pos k)))
+positive_good : (k : ℕ) → 0 < k → k ≤ MOST → Good (spaced (t.Number (pos k)))
 unfolding number_value small_value
 positive_good k some small =
     let d = decimal_parts k some (omega arith) in
@@ -314,11 +315,11 @@ positive_good k some small =
     let value : digits_value (d.first ∷ d.rest) ≡ k = ap (λ v. fold with_digit v d.rest) front ∙ worth d.rest (digit_value d.first) d.others ∙ d.value in
     digits_good k d.first d.rest d.whole all
     (ap (λ t. cond t None (small_value (d.first ∷ d.rest))) (no_needless_zero (nat_lt 1 (length (d.first ∷ d.rest))) d.first d.not_zero)
-    ∙ ap (λ v. cond (nat_le v LARGEST) (Some (pos v)) None) value
-    ∙ ap (λ t. cond t (Some (pos k)) None) (within k LARGEST small))
+    ∙ ap (λ v. cond (nat_le v MOST) (Some (pos v)) None) value
+    ∙ ap (λ t. cond t (Some (pos k)) None) (within k MOST small))
 
 -- 0 is printed as one digit, and all others begin with one above `0`
-number_good : (k : ℕ) → k ≤ LARGEST → Good (spaced (t.Number (pos k)))
+number_good : (k : ℕ) → k ≤ MOST → Good (spaced (t.Number (pos k)))
 unfolding number_value small_value
 number_good zero h = digits_good 0 48 [] decimal_zero (all_pass is_digit (48 ∷ []) refl) refl
 number_good (suc k) h = positive_good (suc k) (omega arith) h
@@ -356,7 +357,7 @@ word_at_good b z l h =
     word_token_good (take n (b ∷ z)) b (take (n - 1) z) (take_some n b z some) l (prefix-passes is_word (b ∷ z)) h
 
 -- a number
-small_good : (k : ℕ) (v : ℤ) (needless small : Bool) → nat_le k LARGEST ≡ small
+small_good : (k : ℕ) (v : ℤ) (needless small : Bool) → nat_le k MOST ≡ small
     → cond needless None (cond small (Some (pos k)) None) ≡ Some v → Good (spaced (t.Number v))
 small_good k v true u e h = absurd (cc)
 small_good k v false false e h = absurd (cc)
@@ -370,7 +371,7 @@ number_token_good : (ds : Bytes) (o : Option ℤ) → number_value ds ≡ o → 
 unfolding number_value small_value
 number_token_good ds None e h = absurd (cc)
 number_token_good ds (Some v) e h =
-    small_good (digits_value ds) v (nat_lt 1 (length ds) && slice_index ds 0 == 48) (nat_le (digits_value ds) LARGEST) refl e
+    small_good (digits_value ds) v (nat_lt 1 (length ds) && slice_index ds 0 == 48) (nat_le (digits_value ds) MOST) refl e
 
 -- a text in quotes
 quoted_good : (z : Bytes) (o : Outcome ℕ Bytes) → is_malformed (quoted_lexeme z o).token ≡ false → Good (spaced (quoted_lexeme z o).token)
