@@ -9,7 +9,8 @@ use Rattle.cli_words.specs.declared.reading.Reading.{Reading}
 use Rattle.cli_words.specs.declared.reading.Reading.TheVariants as reading
 use Rattle.cli_words.specs.Forms.{Word, EQUALS, Takes, option_word, Given, nothing_given, SpellsOption, IsOption, AreOptions, IsForm, OneForm}
 use Rattle.cli_words.specs.code.Reading.{option_named, is_given, with_value, ready, name_part, value_part, free_option, with_free, begun, step, on, after}
-use Rattle.cli_words.proofs.Names.{command_named-complete, option_named-complete, takes-complete, name-alone, value-alone, name-joined, value-joined, has_value-joined}
+use Rattle.cli_words.proofs.Names.{command_named-complete, option_named-complete, takes-complete}
+use Rattle.cli_words.proofs.Names.{name-alone, value-alone, name-joined, value-joined, has_value-joined}
 use Rattle.cli_words.proofs.Values.{free-complete, value-complete}
 
 -- the option that a command takes and that is not given yet is free
@@ -35,7 +36,8 @@ unfolding step
 reads c given next o value e = ap (ready c) e
 
 -- so it is in one word with its name
-reads_joined : (c : CommandName) (given next : Given) (o : OptionName) (value : Word) → Takes c o → is_given o given ≡ false → with_value o value given ≡ Ok next
+reads_joined : (c : CommandName) (given next : Given) (o : OptionName) (value : Word) → Takes c o → is_given o given ≡ false
+    → with_value o value given ≡ Ok next
     → step (reading.Ready c given) (option_word o ++ EQUALS ∷ value) ≡ Ok (reading.Ready c next)
 unfolding step
 reads_joined c given next o value taken free e =
@@ -65,12 +67,14 @@ option_read c words rest given next is = by is.spelled
         ap (λ ws. after ws (reading.Ready c given)) e
         ∙ ap (on (after rest)) (reads_joined c given next is.option is.value is.taken free value)
 
+-- each option that was spelled is read by the step above, and the rest again so
 pub options_read : (n : ℕ) (c : CommandName) (words : List Word) (given end : Given) → AreOptions c n words given end
     → after words (reading.Ready c given) ≡ Ok (reading.Ready c end)
 options_read zero c words given end h = ap (λ ws. after ws (reading.Ready c given)) h.0 ∙ ap (λ g. Ok (reading.Ready c g)) (sym h.1)
 options_read (suc n) c words given end h =
     option_read c words h.0 given h.1 h.2 ∙ options_read n c h.0 h.1 end h.3
 
+-- a form is a command, which its word names, and options behind it
 pub form_read : (words : List Word) (c : CommandName) (given : Given) → IsForm words c given → after words reading.Start ≡ Ok (reading.Ready c given)
 unfolding step
 form_read words c given form =

@@ -1,7 +1,7 @@
 -- Names: a word names an option exactly where it is that option's word, and a word with `=` in it is a name and a value.
-use Rattle.std.proofs.Common.{◌≡◌, Bool, true, false, cond, ◌==◌, ◌∷◌, ◌++◌, length, refl, ap, ◌∙◌, subst, arith}
-use Rattle.std.specs.Prelude.{codes, Some, None}
-use Rattle.std.specs.List.{position_or_len}
+use Rattle.std.proofs.Common.{◌≡◌, Bool, true, false, cond, ◌==◌, List, [], ◌∷◌, ◌++◌, length, refl, ap, sym, ◌∙◌, arith}
+use Rattle.std.specs.Prelude.{Some}
+use Rattle.std.specs.List.{find, position_or_len}
 use Rattle.std.specs.Str.{bytes_eq}
 use Rattle.std.proofs.lemmas.Bool.{ltb-true, ltb-false, lt-ltb, eqb-true}
 use Rattle.std.proofs.lemmas.List.{take_all}
@@ -11,45 +11,24 @@ use Rattle.cli_words.specs.declared.name.CommandName.{CommandName}
 use Rattle.cli_words.specs.declared.name.CommandName.TheVariants as command
 use Rattle.cli_words.specs.declared.name.OptionName.{OptionName}
 use Rattle.cli_words.specs.declared.name.OptionName.TheVariants as option
+use Rattle.cli_words.specs.declared.name.TheConstants.{COMMANDS, OPTIONS}
 use Rattle.cli_words.specs.Forms.{Word, EQUALS, Takes, command_word, option_word}
 use Rattle.cli_words.specs.code.Reading.{command_named, option_named, takes, name_part, has_value, value_part}
 
-same_word : (x y : Word) → bytes_eq x y ≡ true → x ≡ y
-same_word x y e = (bytes_eq-Decides x y).0 e
+-- what is found passes the test: the first that passes is, and where it is passed over the rest is looked through
+found_passes : {N : Type 0} (p : N → Bool) (names : List N) (n : N) → find p names ≡ Some n → p n ≡ true
+found_passes p [] n h = absurd (cc)
+found_passes p (m ∷ names) n h = by (p m) refl h (found_passes p names n)
+  where
+    by : (b : Bool) → p m ≡ b → cond b (Some m) (find p names) ≡ Some n → (find p names ≡ Some n → p n ≡ true) → p n ≡ true
+    by true e h rest = let k : m ≡ n = cc in ap p (sym k) ∙ e
+    by false e h rest = rest h
 
--- which of five tests an option goes with
-abbrev tested : OptionName → Bool → Bool → Bool → Bool → Bool → Bool
-tested option.Shards a b c d e = a
-tested option.Window a b c d e = b
-tested option.Limit a b c d e = c
-tested option.Sessions a b c d e = d
-tested option.Address a b c d e = e
-
--- the option that is named has passed its test
-test_passed : (a b c d e : Bool) (o : OptionName)
-    → cond a (Some option.Shards) (cond b (Some option.Window) (cond c (Some option.Limit) (cond d (Some option.Sessions) (cond e (Some option.Address) None)))) ≡ Some o
-    → tested o a b c d e ≡ true
-test_passed true b c d e o h = let k : option.Shards ≡ o = cc in subst (λ x. tested x true b c d e ≡ true) k refl
-test_passed false true c d e o h = let k : option.Window ≡ o = cc in subst (λ x. tested x false true c d e ≡ true) k refl
-test_passed false false true d e o h = let k : option.Limit ≡ o = cc in subst (λ x. tested x false false true d e ≡ true) k refl
-test_passed false false false true e o h = let k : option.Sessions ≡ o = cc in subst (λ x. tested x false false false true e ≡ true) k refl
-test_passed false false false false true o h = let k : option.Address ≡ o = cc in subst (λ x. tested x false false false false true ≡ true) k refl
-test_passed false false false false false o h = absurd (cc)
-
-is_word : (w : Word) (o : OptionName)
-    → tested o (bytes_eq w (codes "--shards")) (bytes_eq w (codes "--window")) (bytes_eq w (codes "--limit")) (bytes_eq w (codes "--sessions")) (bytes_eq w (codes "--address")) ≡ true
-    → w ≡ option_word o
-is_word w option.Shards h = same_word w (codes "--shards") h
-is_word w option.Window h = same_word w (codes "--window") h
-is_word w option.Limit h = same_word w (codes "--limit") h
-is_word w option.Sessions h = same_word w (codes "--sessions") h
-is_word w option.Address h = same_word w (codes "--address") h
-
+-- equal bytes are one word, so what is named has the word
 pub option_named-sound : (w : Word) (o : OptionName) → option_named w ≡ Some o → w ≡ option_word o
-option_named-sound w o h =
-    is_word w o (test_passed (bytes_eq w (codes "--shards")) (bytes_eq w (codes "--window")) (bytes_eq w (codes "--limit")) (bytes_eq w (codes "--sessions"))
-    (bytes_eq w (codes "--address")) o h)
+option_named-sound w o h = sym ((bytes_eq-Decides (option_word o) w).0 (found_passes (λ n. bytes_eq (option_word n) w) OPTIONS o h))
 
+-- no word in front of an option's own in the table is the same, and its own is there
 pub option_named-complete : (o : OptionName) → option_named (option_word o) ≡ Some o
 option_named-complete option.Shards = refl
 option_named-complete option.Window = refl
@@ -57,15 +36,11 @@ option_named-complete option.Limit = refl
 option_named-complete option.Sessions = refl
 option_named-complete option.Address = refl
 
-command_by : (w : Word) (a b : Bool) (c : CommandName) → bytes_eq w (codes "run") ≡ a → bytes_eq w (codes "serve") ≡ b
-    → cond a (Some command.Run) (cond b (Some command.Serve) None) ≡ Some c → w ≡ command_word c
-command_by w true b c p q h = let k : command.Run ≡ c = cc in subst (λ x. w ≡ command_word x) k (same_word w (codes "run") p)
-command_by w false true c p q h = let k : command.Serve ≡ c = cc in subst (λ x. w ≡ command_word x) k (same_word w (codes "serve") q)
-command_by w false false c p q h = absurd (cc)
-
+-- the same of commands
 pub command_named-sound : (w : Word) (c : CommandName) → command_named w ≡ Some c → w ≡ command_word c
-command_named-sound w c h = command_by w (bytes_eq w (codes "run")) (bytes_eq w (codes "serve")) c refl refl h
+command_named-sound w c h = sym ((bytes_eq-Decides (command_word c) w).0 (found_passes (λ n. bytes_eq (command_word n) w) COMMANDS c h))
 
+-- each is found by its own word
 pub command_named-complete : (c : CommandName) → command_named (command_word c) ≡ Some c
 command_named-complete command.Run = refl
 command_named-complete command.Serve = refl
@@ -79,6 +54,7 @@ takes-sound command.Run option.Limit h = tt
 takes-sound command.Run option.Sessions h = absurd (cc)
 takes-sound command.Run option.Address h = absurd (cc)
 
+-- and what the form lets a command take passes the test
 pub takes-complete : (c : CommandName) (o : OptionName) → Takes c o → takes c o ≡ true
 takes-complete command.Serve o h = refl
 takes-complete command.Run option.Shards h = refl
@@ -89,11 +65,13 @@ takes-complete command.Run option.Address h = absurd h
 
 -- ---- a name and a value in one word
 
+-- the first `=` is behind the name, and behind that is the value
 pub split : (w : Word) → has_value w ≡ true → w ≡ name_part w ++ EQUALS ∷ value_part w
 split w h =
     let l = ltb-true (position_or_len (λ b. b == EQUALS) w) (length w) h in
     split_at_first (λ b. b == EQUALS) w 0 l ∙ ap (λ b. name_part w ++ b ∷ value_part w) (eqb-true _ EQUALS (passes_at_first (λ b. b == EQUALS) w 0 l))
 
+-- with no `=` the name goes to the end of the word
 pub whole_name : (w : Word) → has_value w ≡ false → name_part w ≡ w
 whole_name w h = take_all (position_or_len (λ b. b == EQUALS) w) w (ltb-false (position_or_len (λ b. b == EQUALS) w) (length w) h)
 
@@ -105,6 +83,7 @@ name-alone option.Limit = refl
 name-alone option.Sessions = refl
 name-alone option.Address = refl
 
+-- so none has a value
 pub value-alone : (o : OptionName) → has_value (option_word o) ≡ false
 value-alone option.Shards = refl
 value-alone option.Window = refl
@@ -112,6 +91,7 @@ value-alone option.Limit = refl
 value-alone option.Sessions = refl
 value-alone option.Address = refl
 
+-- and where `=` stands behind it, that is the first
 pub name-joined : (o : OptionName) (value : Word) → name_part (option_word o ++ EQUALS ∷ value) ≡ option_word o
 name-joined option.Shards value = refl
 name-joined option.Window value = refl
@@ -119,6 +99,7 @@ name-joined option.Limit value = refl
 name-joined option.Sessions value = refl
 name-joined option.Address value = refl
 
+-- what stands behind is the value
 pub value-joined : (o : OptionName) (value : Word) → value_part (option_word o ++ EQUALS ∷ value) ≡ value
 value-joined option.Shards value = refl
 value-joined option.Window value = refl
@@ -126,6 +107,7 @@ value-joined option.Limit value = refl
 value-joined option.Sessions value = refl
 value-joined option.Address value = refl
 
+-- as the place of `=` is within the word
 pub has_value-joined : (o : OptionName) (value : Word) → has_value (option_word o ++ EQUALS ∷ value) ≡ true
 has_value-joined option.Shards value = lt-ltb 8 (length (option_word option.Shards ++ EQUALS ∷ value)) (omega arith)
 has_value-joined option.Window value = lt-ltb 8 (length (option_word option.Window ++ EQUALS ∷ value)) (omega arith)

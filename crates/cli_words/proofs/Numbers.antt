@@ -1,5 +1,6 @@
 -- The number that a word is read as is the one whose decimal form it is.
-use Rattle.std.proofs.Common.{◌≡◌, ◌≢◌, ◌<◌, ◌≤◌, ◌^◌, ℕ, zero, suc, Bool, true, false, not, ◌&&◌, ◌||◌, cond, [], ◌∷◌, length, get_or, refl, ap, sym, ◌∙◌, arith}
+use Rattle.std.proofs.Common.{◌≡◌, ◌≢◌, ◌<◌, ◌≤◌, ◌^◌, ℕ, zero, suc, Bool, true, false, not, ◌&&◌, ◌||◌, cond, [], ◌∷◌, length}
+use Rattle.std.proofs.Common.{get_or, refl, ap, sym, ◌∙◌, arith}
 use Rattle.std.specs.Prelude.{Option, Some, None, Result, Ok, Err, nat_eq, nat_le, nat_lt}
 use Rattle.std.proofs.lemmas.Bool.{ltb-true, leb-true, lt-ltb, le-leb, eqb-false, ne_eqb}
 use Rattle.std.proofs.lemmas.Str.Parse.{IsNumeralModel, numerals_by_value, tells_all_ascii_digits, parse_plain}
@@ -11,6 +12,7 @@ use Rattle.std.specs.Result.{OkIff, result_ok}
 use Rattle.cli_words.specs.Forms.{Word, IsNumber}
 use Rattle.cli_words.specs.code.Reading.{is_led, small_number, if_within, number_within}
 
+-- digits are worth what std says of numerals
 own : IsNumeralModel (λ ds. all_ascii_digits ds ≡ true) (digits_value 10)
 own = numerals_by_value _ tells_all_ascii_digits
 
@@ -24,6 +26,7 @@ no_plus (b ∷ c ∷ word) e h = absurd (cc)
 abbrev choice : (led full all few : Bool) (v : ℕ) → Option ℕ
 choice led full all few v = cond ((not led && full && all) && few) (Some v) None
 
+-- digits that pass all tests are chosen: where one fails a premise fails too
 chosen : (led full all few : Bool) (v : ℕ) → led ≡ false → full ≡ true → all ≡ true → few ≡ true → choice led full all few v ≡ Some v
 chosen false true true true v a b c d = refl
 chosen true full all few v a b c d = absurd (cc)
@@ -31,6 +34,7 @@ chosen false false all few v a b c d = absurd (cc)
 chosen false true false few v a b c d = absurd (cc)
 chosen false true true false v a b c d = absurd (cc)
 
+-- where they don't all hold nothing is
 not_chosen : (led full all few : Bool) (v : ℕ) → (full ≡ true → all ≡ true → few ≡ true → ⊥) → choice led full all few v ≡ None
 not_chosen true full all few v h = refl
 not_chosen false false all few v h = refl
@@ -49,13 +53,15 @@ parsed word (Err x) e h =
     sym (not_chosen (is_led word) (nat_lt 0 (length word)) (all_ascii_digits word) (nat_lt (digits_value 10 word) (2 ^ 32)) (digits_value 10 word)
     (λ full all few. h (all, ltb-true 0 (length word) full, ltb-true (digits_value 10 word) (2 ^ 32) few)))
 
+-- that holds of what `parse` ensures, since there is no plus in front
 pub parsed-is : {E : Type 0} (word : Word) (r : Result ℕ E) → is_led word ≡ false → ParsesUnsigned 32 10 word r → result_ok r ≡ small_number word
 parsed-is word r e h = parsed word r e (parse_plain own 32 word r h (no_plus word e))
 
 -- ---- the number within limits is the one whose decimal form the word is
 
 -- digits with nothing in front are the decimal form of what they are worth
-plain_decimal : (word : Word) → is_led word ≡ false → 0 < length word → all_ascii_digits word ≡ true → digits_value 10 word < 2 ^ 64 → decimal (digits_value 10 word) ≡ word
+plain_decimal : (word : Word) → is_led word ≡ false → 0 < length word → all_ascii_digits word ≡ true
+    → digits_value 10 word < 2 ^ 64 → decimal (digits_value 10 word) ≡ word
 plain_decimal word e some all small = decimal-digits_value own word all some (alone word e) small
   where
     alone : (w : Word) → is_led w ≡ false → get_or w 0 0 ≡ 48 → length w ≡ 1
@@ -82,12 +88,14 @@ within least most m n true true e = (refl, refl, cc)
 within least most m n true false e = absurd (cc)
 within least most m n false high e = absurd (cc)
 
+-- a number that is within limits was there
 small_within : (least most : ℕ) (o : Option ℕ) (n : ℕ) → if_within least most o ≡ Some n → (o ≡ Some n) × (least ≤ n) × (n ≤ most)
 small_within least most None n e = absurd (cc)
 small_within least most (Some m) n e =
     let k = within least most m n (nat_le least m) (nat_le m most) e in
     (ap Some k.2, omega (arith, leb-true least m k.0, k.2), omega (arith, leb-true m most k.1, k.2))
 
+-- digits that passed the tests are the decimal form of what they are worth
 pub number-sound : (least most : ℕ) (word : Word) (n : ℕ) → number_within least most word ≡ Some n → IsNumber least most word n
 number-sound least most word n e =
     let k = small_within least most (small_number word) n e in
@@ -106,6 +114,7 @@ not_led (b ∷ c ∷ w) h = neither (nat_eq b 43) (nat_eq b 48) (ne_eqb b 43 (λ
     neither true q d e = absurd (cc)
     neither false true d e = absurd (cc)
 
+-- 0 stands alone, and the form of any other number begins with a digit above 0
 decimal-not_led : (n : ℕ) → n < 2 ^ 64 → is_led (decimal n) ≡ false
 decimal-not_led zero small = ap is_led (decimal_digit 0 (omega arith))
 decimal-not_led (suc n) small = not_led (decimal (suc n)) (first_decimal (suc n) (omega arith) small)
@@ -115,11 +124,13 @@ decimal-small : (n : ℕ) → n < 2 ^ 32 → small_number (decimal n) ≡ Some n
 decimal-small n small =
     let long : n < 2 ^ 64 = omega (arith, small) in
     let worth : digits_value 10 (decimal n) ≡ n = digits_value-decimal own n long in
-    chosen (is_led (decimal n)) (nat_lt 0 (length (decimal n))) (all_ascii_digits (decimal n)) (nat_lt (digits_value 10 (decimal n)) (2 ^ 32)) (digits_value 10 (decimal n))
+    chosen (is_led (decimal n)) (nat_lt 0 (length (decimal n))) (all_ascii_digits (decimal n)) (nat_lt (digits_value 10 (decimal n)) (2 ^ 32))
+    (digits_value 10 (decimal n))
     (decimal-not_led n long) (lt-ltb 0 (length (decimal n)) (decimal_nonempty n long)) (digits_decimal own n long)
     (lt-ltb (digits_value 10 (decimal n)) (2 ^ 32) (omega (arith, worth, small)))
     ∙ ap Some worth
 
+-- so where it is within the limits, it is found
 pub number-complete : (least most : ℕ) (word : Word) (n : ℕ) → most < 2 ^ 32 → IsNumber least most word n → number_within least most word ≡ Some n
 number-complete least most word n small h =
     ap (λ w. if_within least most (small_number w)) h.0

@@ -30,12 +30,14 @@ on_by : (words more : List Word) (made : Result Reading Why) → ((r : Reading) 
 on_by words more (Ok r) again = again r
 on_by words more (Err w) again = refl
 
+-- words are read one after another, so others go on with what the first made
 pub after-append : (words more : List Word) (r : Reading) → after (words ++ more) r ≡ on (after more) (after words r)
 after-append [] more r = refl
 after-append (word ∷ words) more r = on_by words more (step r word) (after-append words more)
 
 -- ---- no further
 
+-- a form is read whole, and what was refused is not, whatever comes behind
 pub no_further : (words : List Word) (w : Why) → after words reading.Start ≡ Err w → (more : List Word) → IsNoForm (words ++ more)
 no_further words w e more c given form =
     let read = form_read (words ++ more) c given form in
@@ -68,21 +70,25 @@ address_for given e = record {
   whole = refl;
 }
 
+-- with an address nothing more is wanted
 serve_completes : (given : Given) (found : Option Word) → given.address ≡ found → Completes (reading.Ready command.Serve given)
 serve_completes given None e = address_for given e
 serve_completes given (Some a) e = record { more = []; name = command.Serve; given = given; made = refl; whole = ap is_some e }
 
+-- `run` wants nothing more
 ready_completes : (c : CommandName) (given : Given) → Completes (reading.Ready c given)
 ready_completes command.Run given = record { more = []; name = command.Run; given = given; made = refl; whole = tt }
 ready_completes command.Serve given = serve_completes given given.address refl
 
 -- a value that any option takes can follow its name
-value_completes : (c : CommandName) (given next : Given) (o : OptionName) (value : Word) → with_value o value given ≡ Ok next → Completes (reading.Waiting c given o)
+value_completes : (c : CommandName) (given next : Given) (o : OptionName) (value : Word)
+    → with_value o value given ≡ Ok next → Completes (reading.Waiting c given o)
 unfolding step
 value_completes c given next o value e =
     let k = ready_completes c next in
     record { more = value ∷ k.more; name = k.name; given = k.given; made = ap (λ made. on (after k.more) (ready c made)) e ∙ k.made; whole = k.whole }
 
+-- whatever was read goes on to a whole command line: with `run`, with nothing or an address, or with a value first
 completes : (r : Reading) → Completes r
 unfolding step
 completes reading.Start = record { more = codes "run" ∷ []; name = command.Run; given = _; made = refl; whole = tt }
@@ -93,6 +99,7 @@ completes (reading.Waiting c given option.Limit) = value_completes c given (reco
 completes (reading.Waiting c given option.Sessions) = value_completes c given (record given { sessions = Some 1 }) option.Sessions (codes "1") refl
 completes (reading.Waiting c given option.Address) = value_completes c given (record given { address = Some (codes "a") }) option.Address (codes "a") refl
 
+-- so the words that were read do, and what is read is of a form
 pub goes_on : (words : List Word) (r : Reading) → after words reading.Start ≡ Ok r → GoesOn words
 goes_on words r e =
     let k = completes r in
@@ -114,6 +121,7 @@ whole-not_missing command.Serve given m whole e = by (is_some given.address) who
     by true h e = absurd (cc)
     by false h e = absurd (cc)
 
+-- they are of no form themselves, since something is missing of what they make
 pub cut_short : (words : List Word) (r : Reading) (m : Missing) → after words reading.Start ≡ Ok r → missing_of r ≡ Some m → IsCutShort words
 cut_short words r m e missing = record {
   goes_on = goes_on words r e;
@@ -129,6 +137,7 @@ plan-whole command.Run given p h = tt
 plan-whole command.Serve given (plan.Run settings) h = absurd h
 plan-whole command.Serve given (plan.Serve settings address sessions) h = ap is_some h.1
 
+-- at the end a plan is made of a command and its options alone, which are of a form
 pub spelled : (words : List Word) (r : Reading) (p : Plan) → after words reading.Start ≡ Ok r → Finishes r (Ok p) → Spells words p
 spelled words reading.Start p e h = absurd h
 spelled words (reading.Waiting c given o) p e h = absurd h
@@ -137,7 +146,8 @@ spelled words (reading.Ready c given) p e h = record { name = c; given = given; 
 -- ---- word by word
 
 -- the first words, and the next one
-texts_more : (words : List (Bor Word)) (i : ℕ) (d : Bor Word) → i < length words → take (i + 1) (texts words) ≡ take i (texts words) ++ (get_or words i d).now ∷ []
+texts_more : (words : List (Bor Word)) (i : ℕ) (d : Bor Word) → i < length words
+    → take (i + 1) (texts words) ≡ take i (texts words) ++ (get_or words i d).now ∷ []
 texts_more words i d l =
     take_more (texts words) i [] (omega (arith, length-map words (λ (word : Bor Word). word.now), l))
     ∙ ap (λ w. take i (texts words) ++ w ∷ []) (get_or-map (λ (word : Bor Word). word.now) words i d [] l)
@@ -174,7 +184,8 @@ stops words i d r (or_no_memory.Cause w) l e h =
     )
 
 -- at the end all words have been read
-pub all_read : (words : List (Bor Word)) (i : ℕ) (r : Reading) → length words ≤ i → after (take i (texts words)) reading.Start ≡ Ok r → after (texts words) reading.Start ≡ Ok r
+pub all_read : (words : List (Bor Word)) (i : ℕ) (r : Reading) → length words ≤ i
+    → after (take i (texts words)) reading.Start ≡ Ok r → after (texts words) reading.Start ≡ Ok r
 all_read words i r l e =
     ap (λ ws. after ws reading.Start) (sym (take_all i (texts words) (omega (arith, length-map words (λ (word : Bor Word). word.now), l)))) ∙ e
 
@@ -184,6 +195,8 @@ missing-is reading.Start m h = h
 missing-is (reading.Ready c given) m h = h
 missing-is (reading.Waiting c given o) m h = h
 
-pub unfinished : (words : List (Bor Word)) (i : ℕ) (r : Reading) (m : Missing) → length words ≤ i → after (take i (texts words)) reading.Start ≡ Ok r → Finishes r (Err m)
+-- so words at whose end something is missing are cut short
+pub unfinished : (words : List (Bor Word)) (i : ℕ) (r : Reading) (m : Missing) → length words ≤ i
+    → after (take i (texts words)) reading.Start ≡ Ok r → Finishes r (Err m)
     → IsCutShort (texts words)
 unfinished words i r m l e h = cut_short (texts words) r m (all_read words i r l e) (missing-is r m h)

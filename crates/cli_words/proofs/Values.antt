@@ -22,32 +22,39 @@ record Put (least most : ℕ) (word : Word) (put : ℕ → Given) (next : Given)
   is : IsNumber least most word number
   puts : next ≡ put number
 
+-- what was found is put, and is of its form
 put_by : (least most : ℕ) (word : Word) (put : ℕ → Given) (next : Given) (found : Option ℕ)
     → number_within least most word ≡ found → put_number least most put found ≡ Ok next → Put least most word put next
 put_by least most word put next None e h = absurd (cc)
 put_by least most word put next (Some n) e h = record { number = n; is = number-sound least most word n e; puts = cc }
 
+-- the same of the number that the word is
 put-sound : (least most : ℕ) (word : Word) (put : ℕ → Given) (next : Given)
     → put_number least most put (number_within least most word) ≡ Ok next → Put least most word put next
 put-sound least most word put next h = put_by least most word put next (number_within least most word) refl h
 
+-- a number of its form is found, and then put
 put-complete : (least most : ℕ) (word : Word) (put : ℕ → Given) (next : Given) (n : ℕ) → most < 2 ^ 32 → IsNumber least most word n → next ≡ put n
     → put_number least most put (number_within least most word) ≡ Ok next
 put-complete least most word put next n small is e =
     ap (put_number least most put) (number-complete least most word n small is) ∙ ap Ok (sym e)
 
+-- the test of an address is that it doesn't begin with `-`
 address-sound : (word : Word) → is_address word ≡ true → IsAddress word
 address-sound [] h = absurd (cc)
 address-sound (b ∷ word) h = eqb-false b HYPHEN (not-true (nat_eq b HYPHEN) h)
 
+-- and so the other way round
 address-complete : (word : Word) → IsAddress word → is_address word ≡ true
 address-complete [] h = absurd h
 address-complete (b ∷ word) h = ap not (ne_eqb b HYPHEN h)
 
+-- an address is given only where the test is passed
 address_by : (t : Bool) (x next : Given) → cond t (Ok x) (Err why.NotAnAddress) ≡ Ok next → (t ≡ true) × (next ≡ x)
 address_by true x next h = (refl, cc)
 address_by false x next h = absurd (cc)
 
+-- option by option: what is read is what the form gives
 pub value-sound : (o : OptionName) (word : Word) (given next : Given) → is_given o given ≡ false → with_value o word given ≡ Ok next → Gives o word given next
 value-sound option.Shards word given next free h =
     let k = put-sound LEAST_SHARDS MOST_SHARDS word (λ n. record given { shards = Some n }) next h in
@@ -73,10 +80,15 @@ free-complete option.Limit word given next h = ap is_some h.0
 free-complete option.Sessions word given next h = ap is_some h.0
 free-complete option.Address word given next h = ap is_some h.0
 
+-- and what the form gives is read
 pub value-complete : (o : OptionName) (word : Word) (given next : Given) → Gives o word given next → with_value o word given ≡ Ok next
-value-complete option.Shards word given next h = put-complete LEAST_SHARDS MOST_SHARDS word (λ n. record given { shards = Some n }) next h.1 (omega arith) h.2 h.3
-value-complete option.Window word given next h = put-complete LEAST_WINDOW MOST_WINDOW word (λ n. record given { window = Some n }) next h.1 (omega arith) h.2 h.3
-value-complete option.Limit word given next h = put-complete LEAST_COMMITS MOST_COMMITS word (λ n. record given { limit = Some n }) next h.1 (omega arith) h.2 h.3
-value-complete option.Sessions word given next h = put-complete LEAST_SESSIONS MOST_SESSIONS word (λ n. record given { sessions = Some n }) next h.1 (omega arith) h.2 h.3
+value-complete option.Shards word given next h =
+    put-complete LEAST_SHARDS MOST_SHARDS word (λ n. record given { shards = Some n }) next h.1 (omega arith) h.2 h.3
+value-complete option.Window word given next h =
+    put-complete LEAST_WINDOW MOST_WINDOW word (λ n. record given { window = Some n }) next h.1 (omega arith) h.2 h.3
+value-complete option.Limit word given next h =
+    put-complete LEAST_COMMITS MOST_COMMITS word (λ n. record given { limit = Some n }) next h.1 (omega arith) h.2 h.3
+value-complete option.Sessions word given next h =
+    put-complete LEAST_SESSIONS MOST_SESSIONS word (λ n. record given { sessions = Some n }) next h.1 (omega arith) h.2 h.3
 value-complete option.Address word given next h =
     ap (λ t. cond t (Ok (record given { address = Some word })) (Err why.NotAnAddress)) (address-complete word h.1) ∙ ap Ok (sym h.2)

@@ -5,7 +5,8 @@ use Rattle.std.specs.Fmt.{decimal}
 use Rattle.std.proofs.Common.{inl, inr}
 use Rattle.std.proofs.lemmas.Bool.{eqb-false}
 use denote.Bor.{Bor}
-use Rattle.rdt_types.specs.declared.limits.TheConstants.{LEAST_SHARDS, MOST_SHARDS, STANDARD_SHARDS, LEAST_WINDOW, MOST_WINDOW, STANDARD_WINDOW, LEAST_COMMITS, MOST_COMMITS, STANDARD_COMMITS}
+use Rattle.rdt_types.specs.declared.limits.TheConstants.{LEAST_SHARDS, MOST_SHARDS, STANDARD_SHARDS, LEAST_WINDOW, MOST_WINDOW}
+use Rattle.rdt_types.specs.declared.limits.TheConstants.{STANDARD_WINDOW, LEAST_COMMITS, MOST_COMMITS, STANDARD_COMMITS}
 use Rattle.rdt_types.specs.declared.settings.Settings.{Settings}
 use Rattle.cli_words.specs.declared.limits.TheConstants.{LEAST_SESSIONS, MOST_SESSIONS, STANDARD_SESSIONS}
 use Rattle.cli_words.specs.declared.name.CommandName.{CommandName}

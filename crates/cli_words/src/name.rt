@@ -21,6 +21,18 @@ pub enum OptionName {
     Address,
 }
 
+/// All commands.
+pub(crate) const COMMANDS: [CommandName; 2] = [CommandName::Run, CommandName::Serve];
+
+/// All options.
+pub(crate) const OPTIONS: [OptionName; 5] = [
+    OptionName::Shards,
+    OptionName::Window,
+    OptionName::Limit,
+    OptionName::Sessions,
+    OptionName::Address,
+];
+
 impl CommandName {
     /// The word that names the command.
     pub fn word(self) -> &'static str
@@ -36,13 +48,7 @@ impl CommandName {
     pub(crate) fn named(word: &str) -> Option<CommandName>
         ensures { result ≡ spec.command_named word.now }
     {
-        if word == "run" {
-            Some(CommandName::Run)
-        } else if word == "serve" {
-            Some(CommandName::Serve)
-        } else {
-            None
-        }
+        COMMANDS.iter().copied().find(|command| command.word() == word)
     }
 
     /// Whether the command takes the option.
@@ -74,18 +80,6 @@ impl OptionName {
     pub(crate) fn named(word: &str) -> Option<OptionName>
         ensures { result ≡ spec.option_named word.now }
     {
-        if word == "--shards" {
-            Some(OptionName::Shards)
-        } else if word == "--window" {
-            Some(OptionName::Window)
-        } else if word == "--limit" {
-            Some(OptionName::Limit)
-        } else if word == "--sessions" {
-            Some(OptionName::Sessions)
-        } else if word == "--address" {
-            Some(OptionName::Address)
-        } else {
-            None
-        }
+        OPTIONS.iter().copied().find(|option| option.word() == word)
     }
 }

@@ -1,4 +1,5 @@
--- What the functions that read words answer, beside want of memory.
+-- What the functions that read words answer, beside want of memory. Judge by specs/Forms and specs/Refusals: the clauses `plan`
+-- and `refused` of `read_words` tie what is answered here to them.
 use Rattle.std.specs.Prelude.{◌≡◌, ◌+◌, ◌≤◌, ℕ, List, Option, Some, None, Result, Ok, Err, take}
 use denote.Bor.{Bor}
 use Rattle.plain_data.specs.declared.or_no_memory.OrNoMemory.{OrNoMemory}

@@ -2,7 +2,7 @@
 -- `read_words` tie what is read here to the forms there.
 use Rattle.std.specs.Prelude.{◌≡◌, ℕ, ◌==◌, ◌^◌, Bool, true, false, not, ◌&&◌, ◌||◌, nat_lt, nat_le, nat_eq, if◌then◌else◌, List, [], ◌∷◌, length, codes}
 use Rattle.std.specs.Prelude.{Option, Some, None, is_some, Result, Ok, Err, refl}
-use Rattle.std.specs.List.{position_or_len, before_first, after_first}
+use Rattle.std.specs.List.{find, position_or_len, before_first, after_first}
 use Rattle.std.specs.Str.{bytes_eq, all_ascii_digits}
 use Rattle.std.specs.Str.Parse.{digits_value}
 use Rattle.rdt_types.specs.declared.limits.TheConstants.{LEAST_SHARDS, MOST_SHARDS, LEAST_WINDOW, MOST_WINDOW, LEAST_COMMITS, MOST_COMMITS}
@@ -17,24 +17,17 @@ use Rattle.cli_words.specs.declared.refusal.Missing.{Missing}
 use Rattle.cli_words.specs.declared.refusal.Missing.TheVariants as missing
 use Rattle.cli_words.specs.declared.reading.Reading.{Reading}
 use Rattle.cli_words.specs.declared.reading.Reading.TheVariants as reading
-use Rattle.cli_words.specs.Forms.{Word, HYPHEN, EQUALS, Given, nothing_given}
+use Rattle.cli_words.specs.declared.name.TheConstants.{COMMANDS, OPTIONS}
+use Rattle.cli_words.specs.Forms.{Word, HYPHEN, EQUALS, command_word, option_word, Given, nothing_given}
 
 -- ---- names
 
+-- the command whose word this is, and the option
 abbrev pub command_named : Word → Option CommandName
-command_named word =
-    if bytes_eq word (codes "run") then Some command.Run
-    else if bytes_eq word (codes "serve") then Some command.Serve
-    else None
+command_named word = find (λ c. bytes_eq (command_word c) word) COMMANDS
 
 abbrev pub option_named : Word → Option OptionName
-option_named word =
-    if bytes_eq word (codes "--shards") then Some option.Shards
-    else if bytes_eq word (codes "--window") then Some option.Window
-    else if bytes_eq word (codes "--limit") then Some option.Limit
-    else if bytes_eq word (codes "--sessions") then Some option.Sessions
-    else if bytes_eq word (codes "--address") then Some option.Address
-    else None
+option_named word = find (λ o. bytes_eq (option_word o) word) OPTIONS
 
 abbrev pub takes : CommandName → OptionName → Bool
 takes command.Run option.Sessions = false

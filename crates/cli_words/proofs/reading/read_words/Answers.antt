@@ -14,7 +14,8 @@ loop-place-preserved c =
 
 pub returns-in-Ok-finish-clause-plan : goal.returns-in-Ok-finish-clause-plan
 returns-in-Ok-finish-clause-plan c =
-    spelled _ c.loop-place.reading c.in-Ok-finish.plan (all_read c.args.words.now c.loop-place.place c.loop-place.reading (omega (arith, c.loop-place-test.false)) c.loop-place.invariant)
+    spelled _ c.loop-place.reading c.in-Ok-finish.plan
+    (all_read c.args.words.now c.loop-place.place c.loop-place.reading (omega (arith, c.loop-place-test.false)) c.loop-place.invariant)
     (c.in-Ok-finish.ensures)
 
 pub returns-in-Err-clause-refused : goal.returns-in-Err-clause-refused
@@ -29,4 +30,5 @@ returns-in-Err-clause-why c =
 
 pub returns-in-Err-finish-clause-refused : goal.returns-in-Err-finish-clause-refused
 returns-in-Err-finish-clause-refused c =
-    unfinished c.args.words.now c.loop-place.place c.loop-place.reading c.in-Err-finish.missing (omega (arith, c.loop-place-test.false)) c.loop-place.invariant (c.in-Err-finish.ensures)
+    unfinished c.args.words.now c.loop-place.place c.loop-place.reading c.in-Err-finish.missing (omega (arith, c.loop-place-test.false))
+    c.loop-place.invariant (c.in-Err-finish.ensures)
