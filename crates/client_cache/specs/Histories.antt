@@ -1,5 +1,5 @@
 -- The value at an address after a list of changes.
-use Rattle.std.specs.Prelude.{◌≡◌, ℕ, List, [], ◌∷◌, fold, Option, Some, None, codes, pos, refl}
+use Rattle.std.specs.Prelude.{◌≡◌, ℕ, List, [], ◌∷◌, fold, codes, pos, refl}
 use Rattle.rdt_types.specs.declared.address.Kind.TheVariants as kind
 use Rattle.rdt_types.specs.declared.address.Address.{Address}
 use Rattle.rdt_types.specs.declared.value.Value.{Value}
@@ -8,13 +8,9 @@ use Rattle.rdt_types.specs.declared.delta.Delta.{Delta}
 use Rattle.rdt_types.specs.declared.delta.Delta.TheVariants as delta
 use Rattle.rdt_types.specs.Values.{default_of}
 use Rattle.rdt_types.specs.Deltas.{apply}
+pub use Rattle.rdt_types.specs.Deltas.{apply_maybe}
 use Rattle.change_feed.specs.declared.change.Change.{Change}
 use Rattle.change_feed.specs.Pending.{deltas_at}
-
--- the value after a delta that may be there
-abbrev pub apply_maybe : Option Delta → Value → Value
-apply_maybe None value = value
-apply_maybe (Some delta) value = apply delta value
 
 -- the value after deltas, one by one
 abbrev pub applied : List Delta → Value → Value

@@ -28,7 +28,7 @@ use Rattle.txn_lang.specs.Rules.{body_run}
 use Rattle.txn_lang.specs.States.{Journal, PartialState}
 use Rattle.txn_lang.specs.Own as owns
 use Rattle.txn_lang.specs.Own.{Operations, at_address}
-use Rattle.txn_lang.specs.Execution.{Ran, need, done, Own, own, own_read, own_value, own_write, ended, own_run, exec, begun, nothing_yet}
+use Rattle.txn_lang.specs.Execution.{Ran, need, done, Own, own_memory, own_read, own_value, own_write, ended, own_run, exec, begun, nothing_yet}
 use Rattle.txn_lang.proofs.Simulation.{Suits, Simulates, Fine, Same, onto, body_simulates, answered_bounded, answered_lacking}
 use Rattle.journal_core.specs.Kinds.{AreOfTheirKinds, HasKinds}
 use Rattle.journal_core.specs.Keeping.{IsOfRun}
@@ -100,17 +100,17 @@ module _ (s : PartialState) where
     along false (Some v) all = (_, (refl, all), refl)
 
   -- a read keeps the kinds of the operations: it leaves the body's own writes as they are
-  reads : (r : ReadOp) (a : Address) → Suits a.kind r → Both (read_at (own s) r a) (read_at (own s) r a)
+  reads : (r : ReadOp) (a : Address) → Suits a.kind r → Both (read_at (own_memory s) r a) (read_at (own_memory s) r a)
   reads r a suits = record {
     back = λ p fine. tt;
-    forth = λ p m with_it fine. subst (λ m. Along (read_at (own s) r a p) (read_at (own s) r a (onto m p))) with_it.0
+    forth = λ p m with_it fine. subst (λ m. Along (read_at (own_memory s) r a p) (read_at (own_memory s) r a (onto m p))) with_it.0
         (along r a p (is_decided r (ops r a p)) (s a) with_it.1);
     bounded = λ p h. answered_bounded a (own_read s r a p.memory) p h;
     lacking = λ p. answered_lacking Always Good Any Any a (own_read s r a p.memory) p (λ e. tt);
   }
 
   -- a write keeps the kinds of the operations: the one that it adds is of the kind of its address
-  writes : (a : Address) (o : WriteOp) → kind_written o ≡ a.kind → Both (write_at (own s) a o) (write_at (own s) a o)
+  writes : (a : Address) (o : WriteOp) → kind_written o ≡ a.kind → Both (write_at (own_memory s) a o) (write_at (own_memory s) a o)
   writes a o k = record {
     back = λ p fine. tt;
     forth = λ p m with_it fine. (
@@ -126,8 +126,8 @@ module _ (s : PartialState) where
   }
 
   -- so a whole body keeps them, since its reads and its writes do
-  run_simulates : (b : Body) → Both (body_run (own s) b) (body_run (own s) b)
-  run_simulates b = body_simulates Always Good Any Any (own s) (own s) reads writes b
+  run_simulates : (b : Body) → Both (body_run (own_memory s) b) (body_run (own_memory s) b)
+  run_simulates b = body_simulates Always Good Any Any (own_memory s) (own_memory s) reads writes b
 
   -- a run that is done has deltas of the kinds of their addresses
   abbrev Told : Ran → Type 0

@@ -1,5 +1,5 @@
 -- Deltas: what a list of operations at one address comes to.
-use Rattle.std.specs.Prelude.{◌≡◌, ℤ, pos, Bool, true, false, refl}
+use Rattle.std.specs.Prelude.{◌≡◌, ℤ, pos, Bool, true, false, Option, Some, None, refl}
 use Rattle.rdt_types.specs.declared.address.Kind.{Kind}
 use Rattle.rdt_types.specs.declared.address.Kind.TheVariants as kind
 use Rattle.rdt_types.specs.declared.value.Value.{Value}
@@ -52,6 +52,11 @@ apply (delta.PutText t) v = value.Text t
 apply (delta.Set d) v = value.Set (keyed.applied added d (set_in v))
 apply (delta.Hash d) v = value.Hash (keyed.applied put_by d (hash_in v))
 apply (delta.List d) v = value.List (listed.applied d (list_in v))
+
+-- the value after a delta that may be there
+abbrev pub apply_maybe : Option Delta → Value → Value
+apply_maybe None value = value
+apply_maybe (Some delta) value = apply delta value
 
 -- an addition after a delta of a counter: it goes into what is there, and two additions stay one, also where their sum is 0
 abbrev pub add_after : Delta → ℤ → Delta

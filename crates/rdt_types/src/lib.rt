@@ -28,8 +28,8 @@ pub use delta::{
 pub use delta_map::{DeltaMap, add_delta};
 pub use keyed_delta::{HashDelta, KeyedDelta, SetDelta};
 pub use limits::{
-    LARGEST_TEXTS, LEAST_COMMITS, LEAST_SHARDS, LEAST_WINDOW, LONGEST_TEXT, MOST_COMMITS,
-    MOST_SHARDS, MOST_WINDOW, STANDARD_COMMITS, STANDARD_SHARDS, STANDARD_WINDOW,
+    LEAST_COMMITS, LEAST_SHARDS, LEAST_WINDOW, MOST_COMMITS, MOST_SHARDS, MOST_WINDOW,
+    STANDARD_COMMITS, STANDARD_SHARDS, STANDARD_WINDOW,
 };
 pub use list_delta::ListDelta;
 pub use mark::{Leaves, Mark};

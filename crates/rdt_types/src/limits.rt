@@ -1,4 +1,4 @@
-//! How large things may be. Each number is pinned by a line of `specs/Limits.antt`.
+//! How large a store may be. Each number is pinned by a line of `specs/Limits.antt`.
 
 /// How many shards hold the data of a store: at least, at most, and where it is told none.
 pub const LEAST_SHARDS: u8 = 1;
@@ -20,10 +20,3 @@ pub const LEAST_COMMITS: u32 = 1;
 pub const MOST_COMMITS: u32 = 100_000;
 
 pub const STANDARD_COMMITS: u32 = 100_000;
-
-/// How many bytes a text may have, a key included. It binds where a body makes or reads a text.
-pub const LONGEST_TEXT: usize = 1024;
-
-/// How large a list of texts may be: the bytes of its elements, and 1 for each of these. It binds where a body makes or
-/// reads one.
-pub const LARGEST_TEXTS: usize = 65_536;

@@ -22,7 +22,7 @@ use Rattle.txn_lang.specs.Own.{Operations, at_address, with_seen, deltas_of, Are
 use Rattle.txn_lang.specs.Steps.{Step, stopped, gives, Stepping, answered, read_at, write_at}
 use Rattle.txn_lang.specs.Items.{Names}
 use Rattle.txn_lang.specs.Rules.{body_run}
-use Rattle.txn_lang.specs.Execution.{Own, own, own_read, own_value, ended, own_run, exec, begun, nothing_yet}
+use Rattle.txn_lang.specs.Execution.{Own, own_memory, own_read, own_value, ended, own_run, exec, begun, nothing_yet}
 use Rattle.txn_lang.proofs.Replay.{delta_at-deltas, AllOf-at_address}
 use Rattle.txn_lang.proofs.Simulation.{Suits, Simulates, Fine, Same, onto, body_simulates, answered_bounded, answered_lacking}
 use Rattle.txn_eval.specs.declared.kept.Kept.{Kept}
@@ -96,22 +96,23 @@ module _ (s : PartialState) where
         (record { buffer = over.buffer; observations = with_seen p.memory.observations (record { address = a; obs = observed r ops v }) }, (refl, all), refl)
 
     -- so a read answers the same of both, as the deltas answer what the own operations do
-    read_along : Along (read_at (own s) r a p) (read_at (kept s) r a (onto over p))
+    read_along : Along (read_at (own_memory s) r a p) (read_at (kept s) r a (onto over p))
     read_along =
-        subst (λ t. Along (read_at (own s) r a p) (answered a (answered_by a over t) (onto over p)))
+        subst (λ t. Along (read_at (own_memory s) r a p) (answered a (answered_by a over t) (onto over p)))
         (sym (asked_is (is_decided r ops) (s a) refl refl)) (told_along (is_decided r ops) (s a))
 
   -- what goes with the own operations is their deltas, over which a read goes alike
-  reads : (r : ReadOp) (a : Address) → Suits a.kind r → Both (read_at (own s) r a) (read_at (kept s) r a)
+  reads : (r : ReadOp) (a : Address) → Suits a.kind r → Both (read_at (own_memory s) r a) (read_at (kept s) r a)
   reads r a suits = record {
     back = λ p fine. tt;
-    forth = λ p t with_it fine. subst (λ k. Along (read_at (own s) r a p) (read_at (kept s) r a (onto k p))) (sym with_it.0) (read_along r a p with_it.1);
+    forth = λ p t with_it fine. subst (λ k. Along (read_at (own_memory s) r a p) (read_at (kept s) r a (onto k p))) (sym with_it.0)
+        (read_along r a p with_it.1);
     bounded = λ p h. answered_bounded a (own_read s r a p.memory) p h;
     lacking = λ p. answered_lacking GoesWith (λ _. Unit {0}) (λ _. Unit {0}) (λ _. Unit {0}) a (own_read s r a p.memory) p (λ _. tt);
   }
 
   -- to add a delta to those of the operations is to take the deltas of the operations with one more
-  writes : (a : Address) (o : WriteOp) → kind_written o ≡ a.kind → Both (write_at (own s) a o) (write_at (kept s) a o)
+  writes : (a : Address) (o : WriteOp) → kind_written o ≡ a.kind → Both (write_at (own_memory s) a o) (write_at (kept s) a o)
   writes a o k = record {
     back = λ p fine. tt;
     forth = λ p t with_it fine. (
@@ -144,5 +145,5 @@ module _ (s : PartialState) where
 pub exec_is_over : (b : Body) (s : PartialState) → exec b s ≡ exec_over b s
 unfolding exec exec_over
 exec_is_over b s =
-    let sim = body_simulates GoesWith (λ _. Unit {0}) (λ _. Unit {0}) (λ _. Unit {0}) (own s) (kept s) (reads s) (writes s) b in
+    let sim = body_simulates GoesWith (λ _. Unit {0}) (λ _. Unit {0}) (λ _. Unit {0}) (own_memory s) (kept s) (reads s) (writes s) b in
     ended_alike s (own_run b s) (body_run (kept s) b (begun nothing_kept)) (sim.forth (begun nothing_yet) nothing_kept (refl, tt))

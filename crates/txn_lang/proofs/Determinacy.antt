@@ -29,7 +29,7 @@ use Rattle.txn_lang.specs.Steps.{Step, stopped, gives, Stepping, answered, read_
 use Rattle.txn_lang.specs.Items.{Names}
 use Rattle.txn_lang.specs.States.{PartialState}
 use Rattle.txn_lang.specs.Own.{at_address, with_seen}
-use Rattle.txn_lang.specs.Execution.{Ran, need, done, Own, own, own_read, own_value, own_write, ended, own_run, exec, begun, nothing_yet, RunsAreBounded}
+use Rattle.txn_lang.specs.Execution.{Ran, need, done, Own, own_memory, own_read, own_value, own_write, ended, own_run, exec, begun, nothing_yet, RunsAreBounded}
 use Rattle.txn_lang.specs.Determinacy.{AgreesOn, Agree, RunsAreDetermined}
 use Rattle.txn_lang.proofs.Simulation.{Suits, Simulates, Fine, Same, onto, body_simulates, answered_bounded, answered_lacking}
 
@@ -167,17 +167,17 @@ module _ (s t : PartialState) where
   same_step (gives x q) v p is = (q.memory, refl, sym is)
 
   -- the own operations decide a read, or the first state observes it, and the second answers as much where it agrees
-  reads : (r : ReadOp) (a : Address) → Suits a.kind r → Both (read_at (own s) r a) (read_at (own t) r a)
+  reads : (r : ReadOp) (a : Address) → Suits a.kind r → Both (read_at (own_memory s) r a) (read_at (own_memory t) r a)
   reads r a suits = record {
     back = λ p. read_back r a p (is_decided r (ops r a p)) (s a);
-    forth = λ p m is fine. subst (λ m. Same (λ o p. o ≡ p) Good Needs Anything (read_at (own s) r a p) (read_at (own t) r a (onto m p))) is
-        (same_step (read_at (own s) r a p) (read_at (own t) r a p) p (read_forth r a p (is_decided r (ops r a p)) (s a) refl refl fine));
+    forth = λ p m is fine. subst (λ m. Same (λ o p. o ≡ p) Good Needs Anything (read_at (own_memory s) r a p) (read_at (own_memory t) r a (onto m p))) is
+        (same_step (read_at (own_memory s) r a p) (read_at (own_memory t) r a p) p (read_forth r a p (is_decided r (ops r a p)) (s a) refl refl fine));
     bounded = λ p h. answered_bounded a (own_read s r a p.memory) p h;
     lacking = λ p. answered_lacking (λ o p. o ≡ p) Good Needs Anything a (own_read s r a p.memory) p (λ _. tt);
   }
 
   -- a write is one more operation of the run's own, whatever the state
-  writes : (a : Address) (o : WriteOp) → kind_written o ≡ a.kind → Both (write_at (own s) a o) (write_at (own t) a o)
+  writes : (a : Address) (o : WriteOp) → kind_written o ≡ a.kind → Both (write_at (own_memory s) a o) (write_at (own_memory t) a o)
   writes a o k = record { back = λ p fine. fine; forth = λ p m is fine. (own_write a o m, ap (own_write a o) is, refl); bounded = λ p h. h; lacking = λ p. tt }
 
   -- the two states agree on what a run that is done observed
@@ -201,11 +201,11 @@ module _ (s t : PartialState) where
 pub runs_are_determined : RunsAreDetermined
 unfolding exec
 runs_are_determined b s t r e agree =
-    let sim = body_simulates (λ o p. o ≡ p) (Good s t) (Needs s t) (Anything s t) (own s) (own t) (reads s t) (writes s t) b in
+    let sim = body_simulates (λ o p. o ≡ p) (Good s t) (Needs s t) (Anything s t) (own_memory s) (own_memory t) (reads s t) (writes s t) b in
     done_alike s t (own_run b s) (own_run b t) r e (subst (AgreeRan s t) (sym e) agree) (sim.forth (begun nothing_yet) nothing_yet refl)
 
 -- each charge is within the limit
 pub runs_are_bounded : RunsAreBounded
 runs_are_bounded b s =
-    let sim = body_simulates (λ o p. o ≡ p) (Good s s) (Needs s s) (Anything s s) (own s) (own s) (reads s s) (writes s s) b in
+    let sim = body_simulates (λ o p. o ≡ p) (Good s s) (Needs s s) (Anything s s) (own_memory s) (own_memory s) (reads s s) (writes s s) b in
     sim.bounded (begun nothing_yet) (lit≤ tt)

@@ -31,7 +31,7 @@ use Rattle.txn_lang.specs.Steps.{Step, stopped, gives, Stepping, and_then, answe
 use Rattle.txn_lang.specs.Items.{Names}
 use Rattle.txn_lang.specs.States.{State, PartialState, known}
 use Rattle.txn_lang.specs.Own.{at_address, with_seen}
-use Rattle.txn_lang.specs.Execution.{Ran, need, done, Own, own, own_value, ended, own_run, exec, begun, nothing_yet, ticks_of}
+use Rattle.txn_lang.specs.Execution.{Ran, need, done, Own, own_memory, own_value, ended, own_run, exec, begun, nothing_yet, ticks_of}
 use Rattle.txn_lang.specs.Determinacy.{AgreesOn, Agree}
 use Rattle.txn_lang.specs.Observed.{Extends}
 use Rattle.txn_lang.specs.Few.{IsReadNext, AreReadInTurn, ObservationsAreFew, ReadsAreFew}
@@ -123,17 +123,17 @@ module _ (s : PartialState) where
         omega (arith, length-with_seen p.memory.observations z)
 
   -- a read observes once at most, and owes one tick for it
-  reads : (r : ReadOp) (a : Address) → Suits a.kind r → IsShortRead a r → Paid 1 Item (read_at (own s) r a) (read_at (own s) r a)
+  reads : (r : ReadOp) (a : Address) → Suits a.kind r → IsShortRead a r → Paid 1 Item (read_at (own_memory s) r a) (read_at (own_memory s) r a)
   reads r a suits short p = read_paid r a p (is_decided r (at_address a p.memory.operations)) (s a)
 
   -- a write observes nothing and charges nothing
-  writes : (a : Address) (o : WriteOp) → kind_written o ≡ a.kind → Paid 0 (Unit {0}) (write_at (own s) a o) (write_at (own s) a o)
+  writes : (a : Address) (o : WriteOp) → kind_written o ≡ a.kind → Paid 0 (Unit {0}) (write_at (own_memory s) a o) (write_at (own_memory s) a o)
   writes a o k p = omega arith
 
   -- a body owes nothing at its end, and charges no more ticks than the limit
   run_paid : (b : Body) → seen_by (own_run b s) ≤ TICK_LIMIT
   run_paid b =
-      let paid = body_related (λ owed A f g. Paid owed A f f) ticks_pay (own s) (own s) reads writes b (begun nothing_yet) in
+      let paid = body_related (λ owed A f g. Paid owed A f f) ticks_pay (own_memory s) (own_memory s) reads writes b (begun nothing_yet) in
       omega (arith, paid, runs_are_bounded b s)
 
 -- whatever ended the run, it tells all that was observed up to there

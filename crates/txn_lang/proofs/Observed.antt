@@ -25,7 +25,7 @@ use Rattle.txn_lang.specs.Items.{Names}
 use Rattle.txn_lang.specs.Rules.{body_run}
 use Rattle.txn_lang.specs.States.{PartialState, known}
 use Rattle.txn_lang.specs.Own.{at_address, with_seen}
-use Rattle.txn_lang.specs.Execution.{Ran, need, done, Own, own, own_read, own_value, own_write, ended, own_run, exec, begun, nothing_yet}
+use Rattle.txn_lang.specs.Execution.{Ran, need, done, Own, own_memory, own_read, own_value, own_write, ended, own_run, exec, begun, nothing_yet}
 use Rattle.txn_lang.specs.Determinacy.{AgreesOn, Agree}
 use Rattle.txn_lang.specs.Observed.{IsThere, Extends, NeedsAreMissing, WholeRunsAreDone, ObservedIsThere, RunsStayDone, NeedsStay}
 use Rattle.txn_lang.specs.Short.{IsShortAddress, text_in, IsShortObservation, RunsAskShort}
@@ -149,10 +149,10 @@ module _ (s : PartialState) where
         (_, (refl, with_one IsSeen p.memory.observations _ all (there, brief)), refl)
 
   -- a read is answered by what is there, or needs what isn't; what it observes is there, and its texts are short
-  reads : (r : ReadOp) (a : Address) → Suits a.kind r → IsShortRead a r → Both (read_at (own s) r a) (read_at (own s) r a)
+  reads : (r : ReadOp) (a : Address) → Suits a.kind r → IsShortRead a r → Both (read_at (own_memory s) r a) (read_at (own_memory s) r a)
   reads r a suits short = record {
     back = λ p fine. tt;
-    forth = λ p m with_it fine. subst (λ m. Along (read_at (own s) r a p) (read_at (own s) r a (onto m p))) with_it.0
+    forth = λ p m with_it fine. subst (λ m. Along (read_at (own_memory s) r a p) (read_at (own_memory s) r a (onto m p))) with_it.0
         (along r a suits short p (is_decided r (ops r a suits short p)) (s a) refl with_it.1);
     bounded = λ p h. answered_bounded a (own_read s r a p.memory) p h;
     lacking = λ p. answered_lacking Always Good Needs Lacks a (own_read s r a p.memory) p
@@ -160,7 +160,7 @@ module _ (s : PartialState) where
   }
 
   -- a write observes nothing
-  writes : (a : Address) (o : WriteOp) → kind_written o ≡ a.kind → Both (write_at (own s) a o) (write_at (own s) a o)
+  writes : (a : Address) (o : WriteOp) → kind_written o ≡ a.kind → Both (write_at (own_memory s) a o) (write_at (own_memory s) a o)
   writes a o k = record {
     back = λ p fine. tt;
     forth = λ p m with_it fine. (own_write a o m, (ap (own_write a o) with_it.0, with_it.1), refl);
@@ -169,8 +169,8 @@ module _ (s : PartialState) where
   }
 
   -- reads and writes go on alike, so the run of each body does with itself
-  run_simulates : (b : Body) → Both (body_run (own s) b) (body_run (own s) b)
-  run_simulates b = short_reads_simulate Always Good Needs Lacks (own s) (own s) reads writes b
+  run_simulates : (b : Body) → Both (body_run (own_memory s) b) (body_run (own_memory s) b)
+  run_simulates b = short_reads_simulate Always Good Needs Lacks (own_memory s) (own_memory s) reads writes b
 
   -- what a run that needs an address says of it, and of its observations one that is done
   abbrev Told : Ran → Type 0
@@ -279,17 +279,18 @@ module _ (s t : PartialState) (more : Extends s t) where
     read_alike false (Some v) is fine = ap (at false) (sym (more a v is))
 
   -- what the smaller state has the larger has, and what the smaller needs the larger misses too
-  reads_on : (r : ReadOp) (a : Address) → Suits a.kind r → Onward (read_at (own s) r a) (read_at (own t) r a)
+  reads_on : (r : ReadOp) (a : Address) → Suits a.kind r → Onward (read_at (own_memory s) r a) (read_at (own_memory t) r a)
   reads_on r a suits = record {
     back = λ p fine. tt;
-    forth = λ p m is fine. subst (λ m. Alike (read_at (own s) r a p) (read_at (own t) r a (onto m p))) is
-        (alike (read_at (own s) r a p) (read_at (own t) r a p) (read_alike r a p (is_decided r (at_address a p.memory.operations)) (s a) refl fine));
+    forth = λ p m is fine. subst (λ m. Alike (read_at (own_memory s) r a p) (read_at (own_memory t) r a (onto m p))) is
+        (alike (read_at (own_memory s) r a p) (read_at (own_memory t) r a p)
+        (read_alike r a p (is_decided r (at_address a p.memory.operations)) (s a) refl fine));
     bounded = λ p h. answered_bounded a (own_read s r a p.memory) p h;
     lacking = λ p. answered_lacking (λ o p. o ≡ p) (Good s) Missing (Needs s) a (own_read s r a p.memory) p (λ e. tt);
   }
 
   -- a write is one more operation of the run's own, whatever the state
-  writes_on : (a : Address) (o : WriteOp) → kind_written o ≡ a.kind → Onward (write_at (own s) a o) (write_at (own t) a o)
+  writes_on : (a : Address) (o : WriteOp) → kind_written o ≡ a.kind → Onward (write_at (own_memory s) a o) (write_at (own_memory t) a o)
   writes_on a o k = record { back = λ p fine. tt; forth = λ p m is fine. (own_write a o m, ap (own_write a o) is, refl); bounded = λ p h. h; lacking = λ p. tt }
 
   -- the larger state misses the address that stopped the first run, so the second stopped for it too
@@ -305,5 +306,5 @@ module _ (s t : PartialState) (more : Extends s t) where
 pub needs_stay : NeedsStay
 unfolding exec
 needs_stay b s t a more e none =
-    let sim = body_simulates (λ o p. o ≡ p) (Good s) (Missing s t more) (Needs s) (own s) (own t) (reads_on s t more) (writes_on s t more) b in
+    let sim = body_simulates (λ o p. o ≡ p) (Good s) (Missing s t more) (Needs s) (own_memory s) (own_memory t) (reads_on s t more) (writes_on s t more) b in
     need_alike s t more (own_run b s) (own_run b t) a e none (sim.forth (begun nothing_yet) nothing_yet refl)

@@ -110,7 +110,8 @@ module _ {A : Type 0} where
   -- ---- the last binding forgotten
 
   -- the name that was bound last is forgotten
-  keeps-forget : (places : MapOf (Option ℕ)) (bs : List (Binding A)) (b : Binding A) → Keeps places (bs ++ b ∷ []) → Keeps (fin.insert places b.name b.hidden) bs
+  keeps-forget : (places : MapOf (Option ℕ)) (bs : List (Binding A)) (b : Binding A) → Keeps places (bs ++ b ∷ [])
+      → Keeps (fin.insert places b.name b.hidden) bs
   keeps-forget places bs b keeps = record {
     newest = λ x. place_there-insert places b.name b.hidden x ∙ by x (eq_by_cmp text_cmp x b.name) refl;
     hidden = IsLawful-prefix Hides 0 bs (bs ++ b ∷ []) (b ∷ [], refl) keeps.hidden;

@@ -9,7 +9,6 @@ use Rattle.plain_data.specs.Texts.{Bytes, text_cmp}
 use Rattle.rdt_types.specs.declared.address.Kind.{Kind}
 use Rattle.rdt_types.specs.declared.address.Kind.TheVariants as kind
 use Rattle.rdt_types.specs.declared.address.Address.{Address}
-use Rattle.rdt_types.specs.declared.limits.TheConstants.{LONGEST_TEXT}
 use Rattle.rdt_types.specs.declared.outcome.Item.{Item}
 use Rattle.rdt_types.specs.declared.outcome.Item.TheVariants as item
 use Rattle.conflict_table.specs.declared.read.ReadOp.{ReadOp}
@@ -23,7 +22,7 @@ use Rattle.txn_lang.specs.Short.{IsShortAddress}
 
 -- a text that is no longer than texts may be
 abbrev pub IsShortText : List ℕ → Type 0
-IsShortText text = length text ≤ LONGEST_TEXT
+IsShortText text = length text ≤ TEXT_LIMIT
 
 -- a text with nothing in it is short
 pub no_text_short : IsShortText []

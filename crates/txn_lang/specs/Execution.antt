@@ -4,12 +4,15 @@ use Rattle.std.specs.Prelude.{◌≡◌, ◌≤◌, ℕ, if◌then◌else◌, Li
 use Rattle.rdt_types.specs.declared.address.Kind.TheVariants as kind
 use Rattle.rdt_types.specs.declared.address.Address.{Address}
 use Rattle.rdt_types.specs.declared.value.Value.{Value}
+use Rattle.rdt_types.specs.declared.delta.Delta.TheVariants as delta
 use Rattle.rdt_types.specs.declared.operation.WriteOp.{WriteOp}
+use Rattle.rdt_types.specs.declared.operation.WriteOp.TheVariants as op
 use Rattle.rdt_types.specs.declared.outcome.Item.{Item}
 use Rattle.rdt_types.specs.declared.outcome.Item.TheVariants as item
 use Rattle.rdt_types.specs.declared.outcome.Outcome.{Outcome}
 use Rattle.rdt_types.specs.declared.outcome.Outcome.TheVariants as outcome
 use Rattle.rdt_types.specs.Values.{default_of}
+use Rattle.conflict_table.specs.declared.observation.Obs.TheVariants as obs
 use Rattle.conflict_table.specs.declared.read.ReadOp.{ReadOp}
 use Rattle.conflict_table.specs.Reads.{replay, answer, is_decided, observed}
 use Rattle.txn_trees.specs.declared.word.Operator.TheVariants as operator
@@ -21,7 +24,7 @@ use Rattle.txn_lang.specs.declared.progress.Progress.{Progress}
 use Rattle.txn_lang.specs.declared.progress.Stop.TheVariants as stop
 use Rattle.txn_lang.specs.declared.run.Run.{Run}
 use Rattle.txn_lang.specs.declared.run.Seen.{Seen}
-use Rattle.txn_lang.specs.States.{PartialState}
+use Rattle.txn_lang.specs.States.{PartialState, x_at}
 use Rattle.txn_lang.specs.Own.{Operations, at_address, with_seen, deltas_of}
 use Rattle.txn_lang.specs.Steps.{Memory, Step, stopped, gives, pure, stop_by}
 use Rattle.txn_lang.specs.Items.{Names}
@@ -54,10 +57,17 @@ own_read s r a o =
 abbrev pub own_write : Address → WriteOp → Own → Own
 own_write a w o = record o { operations = o.operations ++ (a, w) ∷ [] }
 
-abbrev pub own : PartialState → Memory Own
-own s = record { read = own_read s; write = own_write }
+abbrev pub own_memory : PartialState → Memory Own
+own_memory s = record { read = own_read s; write = own_write }
 
 -- ---- whole runs
+
+-- of a run that has added 1 to the counter `x` and read its value
+abbrev saw_all : Seen
+saw_all = record { address = x_at; obs = obs.CounterIs }
+
+abbrev added_one : Own
+added_one = record { operations = (x_at, op.AddCounter (pos 1)) ∷ []; observations = saw_all ∷ [] }
 
 abbrev pub begun : {M : Type 0} → M → Progress M
 begun m = record { memory = m; emitted = []; ticks = 0; load = 0 }
@@ -78,9 +88,23 @@ ended (stopped (stop.Fail t) p) = done (run_with p.memory.observations (outcome.
 ended (stopped stop.Spent p) = done (run_with p.memory.observations outcome.Spent)
 ended (stopped _ p) = done (run_with p.memory.observations outcome.Big)
 
+-- what was emitted and written comes out of a run that gives names, and what was observed
+ended-given : ended (gives [] (record { memory = added_one; emitted = item.Int (pos 5) ∷ []; ticks = 4; load = 17 }))
+    ≡ done (record { outcome = outcome.Ok (item.Int (pos 5) ∷ []); deltas = (x_at, delta.AddCounter (pos 1)) ∷ []; observations = saw_all ∷ [] })
+ended-given = refl
+
+-- of one that fails what was observed alone
+ended-failed : ended (stopped (stop.Fail (codes "no")) (record { memory = added_one; emitted = item.Int (pos 5) ∷ []; ticks = 4; load = 17 }))
+    ≡ done (record { outcome = outcome.Fail (codes "no"); deltas = []; observations = saw_all ∷ [] })
+ended-failed = refl
+
+-- and of one that needs a value nothing
+ended-needs : ended (stopped (stop.Need x_at) (record { memory = added_one; emitted = []; ticks = 4; load = 17 })) ≡ need x_at
+ended-needs = refl
+
 -- the run of a body on the values of a state
 abbrev pub own_run : Body → PartialState → Step Own Names
-own_run b s = body_run (own s) b (begun nothing_yet)
+own_run b s = body_run (own_memory s) b (begun nothing_yet)
 
 unfoldable pub exec : Body → PartialState → Ran
 exec b s = ended (own_run b s)
@@ -94,19 +118,19 @@ abbrev after_ticks : Item → ℕ → Step Own Item
 after_ticks i n = gives i (record { memory = nothing_yet; emitted = []; ticks = n; load = 0 })
 
 -- a chain charges one tick for each operator
-one-plus-two : of_node (own (λ a. None))
+one-plus-two : of_node (own_memory (λ a. None))
     (ExprNode-F.Chain (gives_it (item.Int (pos 1))) ((operator.Plus, gives_it (item.Int (pos 2))) ∷ [])) [] (begun nothing_yet)
     ≡ after_ticks (item.Int (pos 3)) 1
 one-plus-two = refl
 
 -- `or` stops at what decides: the next operand would stop the run
-or-stops : of_node (own (λ a. None))
+or-stops : of_node (own_memory (λ a. None))
     (ExprNode-F.Chain (gives_it (item.Bool true)) ((operator.Or, λ names. stop_by stop.Spent) ∷ [])) [] (begun nothing_yet)
     ≡ after_ticks (item.Bool true) 1
 or-stops = refl
 
 -- a read needs the value
-read-needs : of_node (own (λ a. None)) (ExprNode-F.Read kind.Counter (gives_it (item.Text (codes "x"))) read_word.Get []) [] (begun nothing_yet)
+read-needs : of_node (own_memory (λ a. None)) (ExprNode-F.Read kind.Counter (gives_it (item.Text (codes "x"))) read_word.Get []) [] (begun nothing_yet)
     ≡ stopped (stop.Need (record { kind = kind.Counter; key = codes "x" })) (record { memory = nothing_yet; emitted = []; ticks = 1; load = 0 })
 read-needs = refl
 

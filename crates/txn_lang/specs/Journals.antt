@@ -1,11 +1,11 @@
 -- Journals, and what makes one legal: each commit is what its body does on the state that the commits before it leave.
-use Rattle.std.specs.Prelude.{◌≡◌, ℕ, ◌+◌, ◌<◌, List, [], length, take, slice_get, Some, refl}
+use Rattle.std.specs.Prelude.{◌≡◌, ℕ, ◌+◌, ◌<◌, List, [], length, take, drop, slice_get, Some, refl}
 use Rattle.plain_data.specs.Histories as histories
 use Rattle.plain_data.specs.Histories.{IsLawful}
 use Rattle.txn_trees.specs.declared.statement.Body.{Body}
 use Rattle.txn_lang.specs.declared.commit.Commit.{Commit}
 use Rattle.txn_lang.specs.declared.run.Run.{Run}
-use Rattle.txn_lang.specs.States.{Journal, known, left_by}
+use Rattle.txn_lang.specs.States.{Journal, known, left_by, put_and_add}
 use Rattle.txn_lang.specs.Execution.{exec, done}
 use Rattle.txn_lang.specs.Tree.{tree}
 
@@ -13,9 +13,12 @@ use Rattle.txn_lang.specs.Tree.{tree}
 abbrev pub own : ℕ → Journal → Journal
 own client journal = histories.own (λ (commit : Commit). commit.client) client journal
 
--- nobody has a commit in an empty journal
-own-example : own 7 [] ≡ []
+-- the second of the two commits is that of client 9, and none is that of client 8
+own-example : own 9 put_and_add ≡ drop 1 put_and_add
 own-example = refl
+
+own-of-none : own 8 put_and_add ≡ []
+own-of-none = refl
 
 -- the commit that a run makes after these
 abbrev pub commit_of : Journal → ℕ → List ℕ → Run → Commit
@@ -48,7 +51,7 @@ pub record MayFollow (m : ℕ) (before : Journal) (commit : Commit) : Type 0 whe
 abbrev pub IsLegal : ℕ → Journal → Type 0
 IsLegal m journal = IsLawful MayFollow m journal
 
--- with nothing in it a journal is legal
+-- with nothing in it a journal is legal; specs/Examples has one of two commits
 IsLegal-example : IsLegal 0 []
 IsLegal-example = tt
 

@@ -14,4 +14,5 @@ pub mod Typing
 pub mod Writes
 pub mod Tree
 pub mod Journals
+pub mod Examples
 pub mod code

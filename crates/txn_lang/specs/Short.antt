@@ -2,17 +2,17 @@
 use Rattle.std.specs.Prelude.{◌≡◌, ◌≤◌, ℕ, List, [], length, codes, refl}
 use Rattle.std.specs.List.{AllByRecursion}
 use Rattle.rdt_types.specs.declared.address.Address.{Address}
-use Rattle.rdt_types.specs.declared.limits.TheConstants.{LONGEST_TEXT}
 use Rattle.conflict_table.specs.declared.observation.Obs.{Obs}
 use Rattle.conflict_table.specs.declared.observation.Obs.TheVariants as obs
 use Rattle.txn_trees.specs.declared.statement.Body.{Body}
+use Rattle.txn_lang.specs.declared.limits.TheConstants.{TEXT_LIMIT}
 use Rattle.txn_lang.specs.declared.run.Run.{Run}
 use Rattle.txn_lang.specs.States.{PartialState}
 use Rattle.txn_lang.specs.Execution.{need, done, exec}
 
 -- an address whose key is no longer than texts may be
 abbrev pub IsShortAddress : Address → Type 0
-IsShortAddress address = length address.key ≤ LONGEST_TEXT
+IsShortAddress address = length address.key ≤ TEXT_LIMIT
 
 -- the text that an observation is of: an element or a field, or none
 abbrev pub text_in : Obs → List ℕ
@@ -23,7 +23,7 @@ text_in other = []
 -- an observation at such an address, of no longer text
 pub record IsShortObservation (address : Address) (observation : Obs) : Type 0 where
   pub key : IsShortAddress address
-  pub text : length (text_in observation) ≤ LONGEST_TEXT
+  pub text : length (text_in observation) ≤ TEXT_LIMIT
 
 -- A law: what a run needs, and all that it observed, is short. No body is left out, since whatever makes a text tests its size,
 -- and no number has a longer one.

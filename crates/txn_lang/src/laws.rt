@@ -62,7 +62,7 @@ pub fn needs_stay()
     ensures { NeedsStay }
 {}
 
-/// The law that a run needs a value only at an address with a key of at most `LONGEST_TEXT` bytes, and observes only at such
+/// The law that a run needs a value only at an address with a key of at most `TEXT_LIMIT` bytes, and observes only at such
 /// addresses and of no longer texts.
 pub fn runs_ask_short()
     ensures { RunsAskShort }
