@@ -62,6 +62,7 @@ module _ (s t : PartialState) (more : Extends s t) where
   same_step (stopped e q) v is = (q.memory, refl, sym is)
   same_step (gives x q) v is = (q.memory, refl, sym is)
 
+  -- so a read does the same over both
   reads : (r : ReadOp) (a : Address) → Suits a.kind r → Both (read_at (kept s) r a) (read_at (kept t) r a)
   reads r a suits = record {
     back = λ p fine. tt;

@@ -124,7 +124,8 @@ need_emitted : (p q : Progress Kept) (i : Item) (names : Names) → NeedLeft p (
 need_emitted p q i names = by (nat_le (q.load + (8 + size_of i)) LOAD_LIMIT)
   where
     by : (b : Bool)
-        → NeedLeft p (and_then (and_then (cond b (gives unit (record q { load = q.load + (8 + size_of i) })) (stopped stop.Big q)) (λ _. emit i)) (λ _. pure names))
+        → NeedLeft p (and_then (and_then (cond b (gives unit (record q { load = q.load + (8 + size_of i) })) (stopped stop.Big q)) (λ _. emit i))
+        (λ _. pure names))
     by true = tt
     by false = tt
 
@@ -137,6 +138,7 @@ module _ (s : PartialState) where
   need_maybe p q a None names = tt
   need_maybe p q a (Some o) names = tt
 
+  -- nor one whose load is carried first, since what is too large needs nothing either
   need_written : (p q : Progress Kept) (k : Kind) (key : Item) (word : WriteWord) (is : List Item) (names : Names)
       → NeedLeft p (and_then (writes_with m k key word is q) (λ _. pure names))
   need_written p q k key word is names = by (8 + length (text_in key) + sum (map text_size is))

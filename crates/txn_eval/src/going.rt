@@ -57,15 +57,11 @@ fn advance(alloc: Global, snaps: &Snaps, pause: &mut Pause, stmt: &Stmt) -> Resu
     let ticks = pause.run.ticks;
     let count = pause.run.memory.observations.len();
     match step(alloc, snaps, &mut pause.names, &mut pause.run, stmt) {
-        Ok(()) => Ok(()),
         Err(Stop::Need(address)) => {
             undo(alloc, pause, stmt, ticks, count);
             Err(Stop::Need(address))
         }
-        Err(Stop::Fail(reason)) => Err(Stop::Fail(reason)),
-        Err(Stop::Spent) => Err(Stop::Spent),
-        Err(Stop::Big) => Err(Stop::Big),
-        Err(Stop::NoMemory) => Err(Stop::NoMemory),
+        done => done,
     }
 }
 
@@ -80,11 +76,9 @@ pub(crate) fn go_through(
     ensures told { Tells result pause.new.names pause.new.run (rules.all_steps (stmts_on snaps.now stmts.now) [] (begun nothing_kept)) }
     ensures paused { OnNeed result (IsPauseOf stmts.now snaps.now pause.new) }
 {
-    for place in pause.at..stmts.len() {
-        if let Err(stop) = advance(alloc, snaps, pause, &stmts[place]) {
-            return Err(stop);
-        }
-        pause.at = place + 1;
+    while let Some(stmt) = stmts.get(pause.at) {
+        advance(alloc, snaps, pause, stmt)?;
+        pause.at += 1;
     }
     Ok(())
 }

@@ -1,6 +1,6 @@
 //! What a run has observed.
 
-ghost use Rattle.std.specs.Prelude.{◌≡◌, ◌≤◌, ◌++◌, true, not, if◌then◌else◌, [], take, drop, length, IfOk, OnOk, OnErr};
+ghost use Rattle.std.specs.Prelude.{◌≡◌, ◌≤◌, ◌++◌, true, not, ◌||◌, nat_le, if◌then◌else◌, [], take, drop, length, IfOk, OnOk, OnErr};
 ghost use Rattle.std.specs.Bool.{OnTrue, OnFalse};
 ghost use Rattle.std.specs.BTreeMap.{is_at};
 ghost use Rattle.txn_lang.specs.Own.{with_seen};
@@ -110,8 +110,10 @@ impl Observed {
         }
     }
 
-    /// Forgets all but the first so many, unless one of those that it would forget may be in the tree.
+    /// Forgets all but the first so many, unless one of those that it would forget may be in the tree. It answers whether there
+    /// are no more now: so it does where there were no more, and where none stands behind the first ones.
     pub fn cut(&mut self, count: usize) -> bool
+        ensures answer { result ≡ (nat_le (length self.old) count || nat_le (length self.old) LOOKED_THROUGH) }
         ensures done { OnTrue result (self.new ≡ take count self.old) }
         ensures same { OnFalse result (self.new ≡ self.old) }
     {

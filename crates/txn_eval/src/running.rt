@@ -105,7 +105,7 @@ fn run_from(
 
 /// Goes on with the run of a checked body from a pause, on values that may be more than it came on. Where it needs a value it
 /// leaves a pause from which it may go on; else it is done, as the run from the start is, and the pause is that of a run which
-/// begins.
+/// begins. Where memory runs out nothing is said of the pause, which is then of no use: a run begins anew from `Pause::begun`.
 pub fn go_on(
     alloc: Global,
     body: &Checked,

@@ -1,5 +1,6 @@
 -- What forms do that the code does in functions of their own: a form with what the expressions in it do, and the rest of
--- the rules of a comparison, a read and a write, once their first items are there.
+-- the rules of a comparison, a read and a write, once their first items are there. The clauses of `value_of` in
+-- src/expression.rt and of `step` in src/statement.rt, which name none of these, tie them to the rules of `txn_lang`.
 use Rattle.std.specs.Prelude.{◌≡◌, List, [], map, refl}
 use Rattle.rdt_types.specs.declared.address.Kind.{Kind}
 use Rattle.rdt_types.specs.declared.address.Address.{Address}

@@ -1,4 +1,5 @@
--- The length of what an expression gives: the rest of the rule of `len`, once its tick is charged.
+-- The length of what an expression gives: the rest of the rule of `len`, once its tick is charged. The clause of `value_of` in
+-- src/expression.rt ties it to that rule, in `expr_run` of `txn_lang`.
 use Rattle.std.specs.Prelude.{pos}
 use Rattle.rdt_types.specs.declared.outcome.Item.TheVariants as item
 use Rattle.txn_trees.specs.declared.expression.Expr.{Expr}

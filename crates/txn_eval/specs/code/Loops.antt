@@ -1,4 +1,6 @@
--- What statements do over the code's memory, and a loop over the texts of an expression.
+-- What statements do over the code's memory, and a loop over the texts of an expression. The lemma `exec_is_steps` of
+-- proofs/Ending ties what a body's statements do to `exec`, and the clause `leaves` of `step` in
+-- src/statement.rt a loop to its rule.
 use Rattle.std.specs.Prelude.{◌≡◌, List, [], map, refl}
 use Rattle.plain_data.specs.Texts.{Bytes}
 use Rattle.rdt_types.specs.declared.address.Address.{Address}

@@ -1,4 +1,5 @@
--- How the code comes from pause to pause.
+-- How the code comes from pause to pause. The lemmas `pause_next` and `undone_is` of proofs/Pauses tie it to `IsPauseOf` of
+-- specs/Pausing, of which alone the clauses of `go_on` speak.
 use Rattle.std.specs.Prelude.{◌≡◌, ◌≢◌, ℕ, Bool, true, false, [], take, length, Result, Ok, Err}
 use Rattle.txn_trees.specs.declared.statement.Stmt.{Stmt, out-Stmt}
 use Rattle.txn_trees.specs.declared.statement.StmtNode.{StmtNode, out-StmtNode}

@@ -1,27 +1,24 @@
-use Rattle.std.proofs.Common.{◌≡◌, ◌<◌, ◌+◌, suc, ◌∷◌, drop, length, refl, ap, sym, ◌∙◌, arith}
+use Rattle.std.proofs.Common.{◌≡◌, ◌<◌, ◌+◌, ℕ, suc, List, ◌∷◌, drop, length, get_or, ap, sym, ◌∙◌}
 use Rattle.std.proofs.Math.Seq.{drop-cons}
+use Rattle.std.proofs.lemmas.Result.{err_from_is_err_and}
+use Rattle.txn_trees.specs.declared.statement.Stmt.{Stmt}
 use Rattle.txn_eval.proofs.Pauses.{all_told, pause_next}
 use Rattle.txn_eval.proofs.going.go_through.Goals as goal
 
-pub returns-in-Err-clause-told : goal.returns-in-Err-clause-told
-returns-in-Err-clause-told c =
-    let within : c.loop-place.place < length c.args.stmts.now = omega (arith, c.loop-place-test.true) in
-    let next : drop c.loop-place.pause.at c.args.stmts.now ≡ c.index-stmts-place.result ∷ drop (suc c.loop-place.place) c.args.stmts.now =
-    ap (λ n. drop n c.args.stmts.now) c.loop-place.invariant.1
-    ∙ (drop-cons c.args.stmts.now c.loop-place.place c.index-stmts-place.result within
-    ∙ ap (λ s. s ∷ drop (suc c.loop-place.place) c.args.stmts.now) (sym c.index-stmts-place.is)) in
-    all_told c.args.stmts.now c.args.snaps.now c.loop-place.pause c.loop-place.invariant.0 c.index-stmts-place.result _ next c.in-Err.stop
-    c.advance.new.pause.names c.advance.new.pause.run c.in-Err.ensures.told
+-- the statement that was found is the first of those that are left
+next : (stmts : List Stmt) (at : ℕ) (stmt : Stmt) → at < length stmts → stmt ≡ get_or stmts at stmt → drop at stmts ≡ stmt ∷ drop (suc at) stmts
+next stmts at stmt within is = drop-cons stmts at stmt within ∙ ap (λ s. s ∷ drop (suc at) stmts) (sym is)
 
-pub loop-place-preserved : goal.loop-place-preserved
-loop-place-preserved c =
-    let within : c.loop-place.place < length c.args.stmts.now = omega (arith, c.loop-place-test.true) in
-    let next : drop c.loop-place.pause.at c.args.stmts.now ≡ c.index-stmts-place.result ∷ drop (suc c.loop-place.place) c.args.stmts.now =
-    ap (λ n. drop n c.args.stmts.now) c.loop-place.invariant.1
-    ∙ (drop-cons c.args.stmts.now c.loop-place.place c.index-stmts-place.result within
-    ∙ ap (λ s. s ∷ drop (suc c.loop-place.place) c.args.stmts.now) (sym c.index-stmts-place.is)) in (
-      pause_next c.args.stmts.now c.args.snaps.now c.loop-place.pause c.loop-place.invariant.0 c.index-stmts-place.result _ next
-          (record { at = c.loop-place.place + 1; names = c.advance.new.pause.names; run = c.advance.new.pause.run })
-          (ap (λ n. n + 1) (sym c.loop-place.invariant.1)) c.in_default.ensures.told,
-      refl,
-    )
+pub returns-in_err-advance-clause-told : goal.returns-in_err-advance-clause-told
+returns-in_err-advance-clause-told c =
+    let p = err_from_is_err_and c.from_residual.result c.from_residual.ensures.1 in
+    rw (p.1, p.2) (all_told c.args.stmts.now c.args.snaps.now c.loop-stmt.pause c.loop-stmt.invariant c.in-Some.stmt.now _
+    (next c.args.stmts.now c.loop-stmt.pause.at c.in-Some.stmt.now c.in-Some.ensures.lookup.3.0 c.in-Some.ensures.lookup.1)
+    c.in_err-advance.field-0.0 c.advance.new.pause.names c.advance.new.pause.run c.in_err-advance.ensures.told)
+
+pub loop-stmt-preserved : goal.loop-stmt-preserved
+loop-stmt-preserved c =
+    pause_next c.args.stmts.now c.args.snaps.now c.loop-stmt.pause c.loop-stmt.invariant c.in-Some.stmt.now _
+    (next c.args.stmts.now c.loop-stmt.pause.at c.in-Some.stmt.now c.in-Some.ensures.lookup.3.0 c.in-Some.ensures.lookup.1)
+    (record { at = c.advance.new.pause.at + 1; names = c.advance.new.pause.names; run = c.advance.new.pause.run })
+    (ap (λ n. n + 1) c.in_ok-advance.ensures.place) c.in_ok-advance.ensures.told

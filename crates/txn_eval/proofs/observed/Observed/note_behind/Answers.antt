@@ -20,7 +20,8 @@ pub invariant_of-self-in-Err : goal.invariant_of-self-in-Err
 invariant_of-self-in-Err c =
     let same = taken_back c.self.inside.list c.push.new.self c.args.seen c.len-count.result c.len-count.ensures c.in_ok-push.ensures.ok in
     rw (c.truncate-in-Err.ensures)
-    (found-back c.self.inside.keys c.keep.new.keys (drop LOOKED_THROUGH c.self.inside.list) _ c.self.invariant c.in-Err.ensures.err (ap (drop LOOKED_THROUGH) same))
+    (found-back c.self.inside.keys c.keep.new.keys (drop LOOKED_THROUGH c.self.inside.list) _ c.self.invariant c.in-Err.ensures.err
+    (ap (drop LOOKED_THROUGH) same))
 
 pub returns-in-Ok-true-clause-ok : goal.returns-in-Ok-true-clause-ok
 returns-in-Ok-true-clause-ok c =
