@@ -181,6 +181,7 @@ apart Less e = refl
 apart Greater e = refl
 apart Equal e = absurd (false≢true e)
 
+-- the one order left is the equal one
 pub alike : (r : Ordering) → is_ne r ≡ false → is_eq r ≡ true
 alike Equal e = refl
 alike Less e = absurd (false≢true (sym e))
@@ -201,6 +202,7 @@ pub none-first : (first second : Option Versioned) → or_else first second ≡ 
 none-first None second e = refl
 none-first (Some v) second e = absurd (cc)
 
+-- what isn't there has nothing to keep to
 pub none-there : {X : Type 0} (o : Option X) (P : X → Type 0) → is_some o ≡ false → IfSome o P
 none-there None P e = tt
 none-there (Some x) P e = absurd (false≢true (sym e))
