@@ -108,7 +108,7 @@ impl<T: Stands + Drop, N: Naming> HistoryLock<T, N> {
     // One try to draw the number that follows the draws known. Where others were quicker, the token learns how many they drew.
     fn try_draw(&self, front: &mut Front<T, N>) -> Option<u32>
         requires { front.old.draws < MOST_DRAWS }
-        ensures drawn { MatchOption result (LearnsOfDraws front.old front.new) (λ n. IsDrawn T.names N.lock.first front.old n front.new) }
+        ensures drawn { MatchOption result (LearnsOfDraws T.names front.old front.new) (λ n. IsDrawn T.names N.lock.first front.old n front.new) }
         ensures limit { front.new.draws ≤ MOST_DRAWS }
     {
         let known = front.draws;
