@@ -198,10 +198,12 @@ same_values (x ∷ xs) (y ∷ ys) keys rising same =
 abbrev all_applied : Deltas → Values → Values
 all_applied changes values = map (λ entry. (entry.0, apply_maybe (delta_at changes entry.0) entry.1)) values
 
+-- each keeps its address
 keys-applied : (changes : Deltas) (values : Values) → keys_of (all_applied changes values) ≡ keys_of values
 keys-applied changes [] = refl
 keys-applied changes (pair ∷ values) = ap (λ ks. pair.0 ∷ ks) (keys-applied changes values)
 
+-- a value that is put where one is held adds no address
 keys-with_all : (now changed : Values) → keys_of (with_all now changed) ≡ keys_of now
 keys-with_all now [] = refl
 keys-with_all now (pair ∷ changed) =

@@ -16,6 +16,7 @@ pub mod Answered
 pub mod StepDoes
 pub mod Elsewhere
 pub mod Laters
+pub mod Reported
 pub mod Sound
 pub mod Appending
 pub mod Pauses

@@ -1,7 +1,8 @@
 -- Every event in place, and every move, leaves a sound world.
 use Rattle.std.proofs.Common.{◌≡◌, ℕ, ◌+◌, ◌-◌, ◌≤◌, Bool, true, false, cond, max, List, [], ◌∷◌, ◌++◌, length, take, Option, Some, None, refl, sym}
 use Rattle.std.proofs.Common.{ap, ◌∙◌, subst, arith}
-use Rattle.std.specs.Prelude.{◌==◌, IfSome}
+use Rattle.std.specs.Prelude.{◌==◌, IfSome, not}
+use Rattle.std.specs.Str.{bytes_eq}
 use Rattle.std.specs.List.{AllByRecursion}
 use Rattle.std.specs.Map.{lookup}
 use Rattle.std.specs.BTreeMap.{is_at}
@@ -33,6 +34,7 @@ use Rattle.docc_prepare.specs.Calls.{Call}
 use Rattle.docc_prepare.specs.Stores as stores
 use Rattle.docc_prepare.specs.Stores.{Store, CLIENTS, first_store, front_of, seen_by, saw, least_base, late_base, validated, followed}
 use Rattle.docc_prepare.specs.Worlds.{World, Event, attempt_of, holding, observed_in, append_of, call_of, taking, called, IsHeld, IsSound}
+use Rattle.docc_prepare.specs.Worlds.{Watch, watches_of, watching, IsReported}
 use Rattle.docc_prepare.specs.Worlds.{EventsStaySound, IsOpened, MovesStaySound, FirstIsSound, Turn, first_world, turned, IsTurn, after_turns}
 use Rattle.docc_prepare.specs.Worlds.{AreTurns, EveryWorldIsSound}
 use Rattle.docc_prepare.proofs.Nexts.{needs, appends, prepares}
@@ -44,6 +46,7 @@ use Rattle.docc_prepare.proofs.Growing.{fits_stays, legal_is_orderly}
 use Rattle.docc_prepare.proofs.Witnessed.{orderly-front, none-of-witness}
 use Rattle.docc_prepare.proofs.Stored.{kept, all_alike, commits-legally, StepsSoundly, step-sound, followed-sound, Grown, saw-grown, step-grows}
 use Rattle.docc_prepare.proofs.Stored.{followed-grows, first_store_is_sound}
+use Rattle.docc_prepare.proofs.Reported.{kept-each, step-rises, followed-rises, reported-on, reported-anew}
 
 -- ---- held attempts
 
@@ -152,6 +155,8 @@ called-sound w c call s soundly mine = record {
   stored = step-sound w.store c s.stored call soundly;
   held = λ d. kept (HeldMaybe (stores.step w.store c call).0) w.attempts c (taking call (stores.step w.store c call).1 (attempt_of w c)) None d mine
       (maybe-grown w.store (stores.step w.store c call).0 (attempt_of w d) (step-grows w.store c call) (s.held d));
+  reported = λ d. reported-on w.store (stores.step w.store c call).0 d s.stored (step-grows w.store c call) (step-rises w.store c s.stored call d)
+      (watches_of w d) (s.reported d);
 }
 
 module _ (w : World) (c : ℕ) (s : IsSound w) where
@@ -246,6 +251,8 @@ events_stay_sound w c Event.take s here = called-sound w c Call.take s tt (held-
 events_stay_sound w c (Event.follow shard) s here = record {
   stored = followed-sound w.store c s.stored shard;
   held = λ d. maybe-grown w.store (followed w.store c shard) (attempt_of w d) (followed-grows w.store c shard s.stored) (s.held d);
+  reported = λ d. reported-on w.store (followed w.store c shard) d s.stored (followed-grows w.store c shard s.stored)
+      (followed-rises w.store c s.stored shard d) (watches_of w d) (s.reported d);
 }
 
 -- ---- moves, and the first world
@@ -264,20 +271,39 @@ none-held w attempt opened = record {
 
 -- a move changes only its client's attempt
 holding-sound : (w : World) (c : ℕ) (o : Option Attempt) → IsSound w → HeldMaybe w.store o → IsSound (holding w c o)
-holding-sound w c o s h = record { stored = s.stored; held = λ d. kept (HeldMaybe w.store) w.attempts c o None d h (s.held d) }
+holding-sound w c o s h = record {
+  stored = s.stored;
+  held = λ d. kept (HeldMaybe w.store) w.attempts c o None d h (s.held d);
+  reported = s.reported;
+}
 
--- an opened attempt is held, and where none is open none need be
+-- or only its client's watches
+watching-sound : (w : World) (c : ℕ) (watches : List Watch) → IsSound w → AllByRecursion (IsReported w.store c) watches → IsSound (watching w c watches)
+watching-sound w c watches s all = record {
+  stored = s.stored;
+  held = s.held;
+  reported = λ d. kept-each (λ e (ws : List Watch). AllByRecursion (IsReported w.store e) ws) w.watches c watches [] d all (s.reported d);
+}
+
+-- An opened attempt is held, and where none is open none need be. A new watch and a report are bodies' runs, and the watches
+-- that stay are as before.
 pub moves_stay_sound : MovesStaySound
 moves_stay_sound = record {
   opening = λ w c attempt s opened. holding-sound w c (Some attempt) s (none-held w attempt opened);
   closing = λ w c s. holding-sound w c None s tt;
+  making = λ w c watch s runs. watching-sound w c (watches_of w c ++ watch ∷ []) s
+      (each-push (IsReported w.store c) (watches_of w c) watch (s.reported c) runs);
+  reporting = λ w c name n run s runs. watching-sound w c _ s (reported-anew w.store c name n run (watches_of w c) (s.reported c) runs);
+  forgetting = λ w c name s. watching-sound w c _ s
+      (each-filter (IsReported w.store c) (λ watch. not (bytes_eq name watch.name)) (watches_of w c) (s.reported c));
 }
 
--- the first store is sound, and no attempt is open
+-- the first store is sound, no attempt is open, and nobody has a watch
 pub first_is_sound : FirstIsSound
 first_is_sound shards window limit some = record {
   stored = first_store_is_sound shards window limit some;
   held = λ c. all_alike (HeldMaybe (first_store shards window limit)) CLIENTS c None tt;
+  reported = λ c. all_alike (λ (ws : List Watch). AllByRecursion (IsReported (first_store shards window limit) c) ws) CLIENTS c [] tt;
 }
 
 -- ---- lists of turns
@@ -287,6 +313,9 @@ turn-sound : (w : World) (turn : Turn) → IsSound w → IsTurn w turn → IsSou
 turn-sound w (Turn.event c e) s here = events_stay_sound w c e s here
 turn-sound w (Turn.opens c attempt) s here = moves_stay_sound.opening w c attempt s here.1
 turn-sound w (Turn.closes c) s here = moves_stay_sound.closing w c s
+turn-sound w (Turn.watches c watch) s here = moves_stay_sound.making w c watch s here
+turn-sound w (Turn.reports c name n run) s here = moves_stay_sound.reporting w c name n run s here
+turn-sound w (Turn.forgets c name) s here = moves_stay_sound.forgetting w c name s
 
 -- so do turns, one after another
 turns-sound : (w : World) (turns : List Turn) → IsSound w → AreTurns w turns → IsSound (after_turns w turns)

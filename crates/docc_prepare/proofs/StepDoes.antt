@@ -87,5 +87,6 @@ waits-alone s client (Call.unsubscribe address) f e = absurd (cc)
 waits-alone s client Call.take f e = absurd (cc)
 waits-alone s client Call.wait f e = refl
 
+-- both at once
 pub steps_may_be_done : StepsMayBeDone
 steps_may_be_done = record { done = step-does; failing = waits-alone }

@@ -1,15 +1,19 @@
--- The world of one thread: its store, and each client's open attempt. An event of a client is one call of the store, of which
--- its attempt takes the answer.
-use Rattle.std.specs.Prelude.{◌≡◌, ℕ, ◌+◌, ◌≤◌, ◌<◌, List, [], ◌∷◌, length, get_or, set, replicate, Option, Some, None, IfSome, codes, refl}
+-- The world of one thread: its store, and each client's open attempt and watches. An event of a client is one call of the
+-- store, of which its attempt takes the answer.
+use Rattle.std.specs.Prelude.{◌≡◌, ℕ, ◌+◌, ◌≤◌, ◌<◌, true, not, if◌then◌else◌, List, [], ◌∷◌, ◌++◌, map, filter, length, get_or, set, replicate}
+use Rattle.std.specs.Prelude.{Option, Some, None, IfSome, codes, refl}
 use Rattle.std.specs.List.{AllByRecursion}
+use Rattle.std.specs.Str.{bytes_eq}
+use Rattle.plain_data.specs.Texts.{Bytes}
 use Rattle.rdt_types.specs.declared.address.Kind.TheVariants as kind
 use Rattle.rdt_types.specs.declared.address.Address.{Address}
 use Rattle.rdt_types.specs.Shards.{shard_of}
 use Rattle.abort_witness.specs.declared.witness.Based.{Based}
+use Rattle.txn_lang.specs.declared.checked.Checked.{Checked}
 use Rattle.txn_lang.specs.declared.run.Run.{Run}
 use Rattle.txn_lang.specs.declared.snaps.Snap.{Snap}
-use Rattle.txn_lang.specs.States.{Journal}
-use Rattle.txn_lang.specs.Execution.{Ran, need, done}
+use Rattle.txn_lang.specs.States.{Journal, known, state}
+use Rattle.txn_lang.specs.Execution.{Ran, need, done, exec}
 use Rattle.txn_lang.specs.Journals.{own}
 use Rattle.txn_lang.specs.Tree.{tree}
 use Rattle.docc_prepare.specs.declared.attempt.Attempt.{Attempt}
@@ -19,14 +23,22 @@ use Rattle.docc_prepare.specs.Calls.{Call, Answer}
 use Rattle.docc_prepare.specs.Stores as stores
 use Rattle.docc_prepare.specs.Stores.{Store, CLIENTS, first_store, front_of, seen_by, followed}
 
--- the store, and of each client its open attempt, if it has one
+-- a watch: its name, its body, up to which commit it was reported last, and the body's run there
+pub record Watch : Type 0 where
+  pub name : Bytes
+  pub body : Checked
+  pub last : ℕ
+  pub run : Run
+
+-- the store, and of each client its open attempt, if it has one, and its watches
 pub record World : Type 0 where
   pub store : Store
   pub attempts : List (Option Attempt)
+  pub watches : List (List Watch)
 
 -- nothing was done yet
 abbrev pub first_world : ℕ → ℕ → ℕ → World
-first_world shards window limit = record { store = first_store shards window limit; attempts = replicate CLIENTS None }
+first_world shards window limit = record { store = first_store shards window limit; attempts = replicate CLIENTS None; watches = replicate CLIENTS [] }
 
 abbrev pub attempt_of : World → ℕ → Option Attempt
 attempt_of w client = get_or w.attempts client None
@@ -34,6 +46,13 @@ attempt_of w client = get_or w.attempts client None
 -- a client's open attempt is this, or it has none
 abbrev pub holding : World → ℕ → Option Attempt → World
 holding w client attempt = record w { attempts = set w.attempts client attempt }
+
+abbrev pub watches_of : World → ℕ → List Watch
+watches_of w client = get_or w.watches client []
+
+-- a client's watches are these
+abbrev pub watching : World → ℕ → List Watch → World
+watching w client watches = record w { watches = set w.watches client watches }
 
 -- the world of a store that went on
 abbrev pub over : World → Store → World
@@ -107,10 +126,20 @@ pub record IsHeld (s : Store) (attempt : Attempt) : Type 0 where
   pub bases : AllByRecursion (λ (read : Address × Snap). read.1.base ≤ front_of s (shard_of read.0 attempt.shards)) attempt.snaps
   pub text : tree attempt.body.source ≡ Some attempt.body.body
 
--- The store is sound, and each open attempt is held.
+-- The run of a body at a number that a client has seen: it is what the body does on what so many commits leave.
+pub record RunsAt (s : Store) (client : ℕ) (body : Checked) (number : ℕ) (run : Run) : Type 0 where
+  pub seen : number ≤ seen_by s client
+  pub ran : exec body.body (known (state s.journal number)) ≡ done run
+
+-- the last run of a watch is such a run
+abbrev pub IsReported : Store → ℕ → Watch → Type 0
+IsReported s client watch = RunsAt s client watch.body watch.last watch.run
+
+-- The store is sound, each open attempt is held, and each watch was reported by its body's run.
 pub record IsSound (w : World) : Type 0 where
   pub stored : stores.IsSound w.store
   pub held : (client : ℕ) → IfSome (attempt_of w client) (IsHeld w.store)
+  pub reported : (client : ℕ) → AllByRecursion (IsReported w.store client) (watches_of w client)
 
 -- An event is in place where the client may ask for it: a read, a preparing or an append where it is the next event of its
 -- open attempt, and a read at a number where that is among what it has seen.
@@ -132,10 +161,35 @@ pub record IsOpened (w : World) (attempt : Attempt) : Type 0 where
   pub unprepared : attempt.fronts ≡ []
   pub text : tree attempt.body.source ≡ Some attempt.body.body
 
--- A law: so does each move that opens or closes an attempt.
+-- a new watch is the last
+abbrev pub with_watch : Watch → List Watch → List Watch
+with_watch watch watches = watches ++ watch ∷ []
+
+-- the watch of a name is reported at a number, by this run
+abbrev pub report : Bytes → ℕ → Run → Watch → Watch
+report name number run watch = if bytes_eq name watch.name then (record watch { last = number; run = run }) else watch
+
+-- it is its body's run there
+abbrev pub IsReport : World → ℕ → Bytes → ℕ → Run → Type 0
+IsReport w client name number run =
+    AllByRecursion (λ watch. bytes_eq name watch.name ≡ true → RunsAt w.store client watch.body number run) (watches_of w client)
+
+abbrev pub with_report : Bytes → ℕ → Run → List Watch → List Watch
+with_report name number run watches = map (report name number run) watches
+
+-- the watch of a name is forgotten
+abbrev pub without_watch : Bytes → List Watch → List Watch
+without_watch name watches = filter (λ watch. not (bytes_eq name watch.name)) watches
+
+-- A law: so does each move, which opens or closes an attempt, or makes, reports or forgets a watch.
 pub record MovesStaySound : Type 0 where
   pub opening : (w : World) (client : ℕ) (attempt : Attempt) → IsSound w → IsOpened w attempt → IsSound (holding w client (Some attempt))
   pub closing : (w : World) (client : ℕ) → IsSound w → IsSound (holding w client None)
+  pub making : (w : World) (client : ℕ) (watch : Watch) → IsSound w → IsReported w.store client watch
+      → IsSound (watching w client (with_watch watch (watches_of w client)))
+  pub reporting : (w : World) (client : ℕ) (name : Bytes) (number : ℕ) (run : Run) → IsSound w → IsReport w client name number run
+      → IsSound (watching w client (with_report name number run (watches_of w client)))
+  pub forgetting : (w : World) (client : ℕ) (name : Bytes) → IsSound w → IsSound (watching w client (without_watch name (watches_of w client)))
 
 -- A law: the first world is sound.
 abbrev pub FirstIsSound : Type 0
@@ -143,23 +197,33 @@ FirstIsSound = (shards window limit : ℕ) → 0 < shards → IsSound (first_wor
 
 -- ---- lists of events and moves
 
--- an event of a client, or a move by which it opens an attempt or closes its own
+-- an event of a client, or a move by which it opens an attempt or closes its own, or makes, reports or forgets a watch
 pub data Turn : Type 0 where
   event : ℕ → Event → Turn
   opens : ℕ → Attempt → Turn
   closes : ℕ → Turn
+  watches : ℕ → Watch → Turn
+  reports : ℕ → Bytes → ℕ → Run → Turn
+  forgets : ℕ → Bytes → Turn
 
 -- the world after a turn
 abbrev pub turned : World → Turn → World
 turned w (Turn.event client e) = (step w client e).0
 turned w (Turn.opens client attempt) = holding w client (Some attempt)
 turned w (Turn.closes client) = holding w client None
+turned w (Turn.watches client watch) = watching w client (with_watch watch (watches_of w client))
+turned w (Turn.reports client name number run) = watching w client (with_report name number run (watches_of w client))
+turned w (Turn.forgets client name) = watching w client (without_watch name (watches_of w client))
 
--- an attempt is opened where its client has none open
+-- An attempt is opened where its client has none open. A watch is made or reported by its body's run at a number that its
+-- client has seen.
 abbrev pub IsTurn : World → Turn → Type 0
 IsTurn w (Turn.event client e) = IsInPlace w client e
 IsTurn w (Turn.opens client attempt) = (attempt_of w client ≡ None) × IsOpened w attempt
 IsTurn w (Turn.closes client) = Unit {0}
+IsTurn w (Turn.watches client watch) = IsReported w.store client watch
+IsTurn w (Turn.reports client name number run) = IsReport w client name number run
+IsTurn w (Turn.forgets client name) = Unit {0}
 
 -- the world after turns, one after another
 abbrev pub after_turns : World → List Turn → World
@@ -171,8 +235,8 @@ abbrev pub AreTurns : World → List Turn → Type 0
 AreTurns w [] = Unit {0}
 AreTurns w (turn ∷ rest) = IsTurn w turn × AreTurns (turned w turn) rest
 
--- A law: whatever is done from the first world on, each turn in place, leaves a sound world. So its journal is legal: it is a
--- serial order with the outcomes that were answered.
+-- A law: whatever is done from the first world on, each turn in place, leaves a sound world. So its journal is legal, a serial
+-- order with the outcomes that were answered, and the last run of each watch is its body's on what so many commits leave.
 abbrev pub EveryWorldIsSound : Type 0
 EveryWorldIsSound =
     (shards window limit : ℕ) (turns : List Turn) → 0 < shards → AreTurns (first_world shards window limit) turns
@@ -195,3 +259,11 @@ taking-example attempt taken = refl
 -- and stays as it is where a front is late
 taking-late : (attempt : Attempt) → taking (Call.prepare 1 []) (Answer.late 2 3) (Some attempt) ≡ Some attempt
 taking-late attempt = refl
+
+-- a report goes to the watch of its name
+report-example : (watch : Watch) (run : Run) → (report (codes "free") 3 run (record watch { name = codes "free" })).last ≡ 3
+report-example watch run = refl
+
+-- and to no other
+report-other : (watch : Watch) (run : Run) → (report (codes "free") 3 run (record watch { name = codes "sales"; last = 2 })).last ≡ 2
+report-other watch run = refl

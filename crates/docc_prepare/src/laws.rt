@@ -34,7 +34,7 @@ pub fn events_stay_sound()
     ensures { EventsStaySound }
 {}
 
-/// The law that so does each move that opens or closes an attempt.
+/// The law that so does each move, which opens or closes an attempt, or makes, reports or forgets a watch.
 pub fn moves_stay_sound()
     ensures { MovesStaySound }
 {}

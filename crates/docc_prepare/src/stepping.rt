@@ -54,7 +54,8 @@ impl Attempt {
         self.after_run(run)
     }
 
-    /// The next event. The run of the body goes on from a pause, and leaves one from which it may go on.
+    /// The next event. The run of the body goes on from a pause, and leaves one from which it may go on. For want of memory the
+    /// pause is of no use any more: nothing is said of it.
     pub fn next_from(&self, alloc: Global, pause: &mut Pause) -> Result<Next, AllocError>
         requires { PausesAt self.now pause.old }
         ensures next { IfOk result (λ next. next ≡ spec.next_event self.now) }

@@ -101,6 +101,7 @@ fn alike(one: &Result<Run, AllocError>, other: &Result<Run, AllocError>) -> bool
     match (one, other) {
         (Ok(one), Ok(other)) => {
             one.outcome == other.outcome
+                && one.deltas.as_slice() == other.deltas.as_slice()
                 && one.observations.as_slice() == other.observations.as_slice()
         }
         _ => false,

@@ -2,7 +2,7 @@
 ghost use Rattle.std.specs.Prelude.{◌≡◌, ◌<◌, ◌≤◌, length, None, MatchOption};
 ghost use mathlib.Core.List.{IsPrefix};
 ghost use Rattle.plain_data.specs.Histories.{IsLawful};
-ghost use Rattle.history_lock.specs.Tokens.{HaveDifferentNumbers, HoldsOwn, IsDrawn, IsLater, OneBeginsOther, copy_of, looked, met};
+ghost use Rattle.history_lock.specs.Tokens.{HaveDifferentNumbers, HoldsOwn, IsDrawn, IsLater, LearnsOfDraws, OneBeginsOther, copy_of, looked, met};
 ghost use Rattle.history_lock.specs.Authors.{IfAuthor, IfSpent};
 
 use crate::author::{Author, Drawn};
@@ -108,9 +108,7 @@ impl<T: Stands + Drop, N: Naming> HistoryLock<T, N> {
     // One try to draw the number that follows the draws known. Where others were quicker, the token learns how many they drew.
     fn try_draw(&self, front: &mut Front<T, N>) -> Option<u32>
         requires { front.old.draws < MOST_DRAWS }
-        ensures drawn { MatchOption result
-            ((front.new ≡ record front.old { draws = front.new.draws }) × (front.old.draws < front.new.draws))
-            (λ n. IsDrawn T.names N.lock.first front.old n front.new) }
+        ensures drawn { MatchOption result (LearnsOfDraws T.names front.old front.new) (λ n. IsDrawn T.names N.lock.first front.old n front.new) }
         ensures limit { front.new.draws ≤ MOST_DRAWS }
     {
         let known = front.draws;

@@ -8,5 +8,6 @@ pub mod Parts
 pub mod Readies
 pub mod Kinds
 pub mod Keeping
+pub mod Limits
 pub mod Journals
 pub mod Witnesses

@@ -1,4 +1,4 @@
-//! How large things may be.
+//! How large things may be. Each number is pinned by a line of `specs/Limits.antt`.
 
 /// The bytes of a body, at most. It binds what is kept: a longer body comes from no line.
 pub const LONGEST_BODY: usize = 4096;

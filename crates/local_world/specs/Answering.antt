@@ -1,11 +1,18 @@
 -- What a world's calls promise: each goes by the step of the store.
-use Rattle.std.specs.Prelude.{ℕ, ◌-◌, nat_lt, if◌then◌else◌}
+use Rattle.std.specs.Prelude.{◌≡◌, ℕ, ◌-◌, nat_lt, if◌then◌else◌, List, take, Result}
 use Rattle.rdt_types.specs.declared.address.Address.{Address}
+use Rattle.rdt_types.specs.declared.settings.Settings.{Settings}
+use Rattle.abort_witness.specs.declared.witness.Based.{Based}
 use Rattle.txn_lang.specs.States.{Journal, state}
-use Rattle.docc_prepare.specs.Calls.{Call, Answer}
+use Rattle.version_shard.specs.Shards.{Sharded, horizon}
+use Rattle.version_shard.specs.declared.prepared.Prepared.{Prepared}
+use Rattle.docc_prepare.specs.declared.backend.PrepareError.{PrepareError}
+use Rattle.docc_prepare.specs.Calls.{Call, Answer, front_answered}
 use Rattle.docc_prepare.specs.Backends.{IsAnswered}
-use Rattle.docc_prepare.specs.Stores.{Does, IsSound, known_by}
+use Rattle.docc_prepare.specs.Stores.{Does, IsSound, known_by, least_base, late_base, validated}
+use Rattle.docc_prepare.specs.Witnesses.{least_witness}
 use Rattle.local_world.specs.Stored.{Stored, store_of}
+use Rattle.local_world.specs.Standing.{front_to}
 
 -- A call of a client goes by the step of the store, which is sound, and within what all backends promise.
 pub record GoesBy (old : Stored) (client : ℕ) (c : Call) (a : Answer) (new : Stored) : Type 0 where
@@ -18,3 +25,17 @@ pub record GoesBy (old : Stored) (client : ℕ) (c : Call) (a : Answer) (new : S
 abbrev pub back_at : Journal → ℕ → Address → ℕ → ℕ → Answer
 back_at journal window address number front =
     if nat_lt number (front - window) then Answer.late number (front - window) else Answer.value (state journal number address)
+
+-- and where it has followed to the number first
+abbrev pub back_from : Journal → Settings → List Sharded → Address → ℕ → Answer
+back_from journal settings shards address number =
+    back_at journal settings.window address number (front_to settings shards address number)
+
+-- What a shard answers of observations, as the store does: by the commits up to its front.
+abbrev pub validated_by : Journal → Sharded → List Based → Answer
+validated_by journal shard based =
+    validated shard.number shard.front (horizon shard) (late_base (horizon shard) (least_base based))
+    (least_witness based (take shard.front journal))
+
+abbrev pub IsValidatedBy : Journal → Sharded → List Based → Result Prepared PrepareError → Type 0
+IsValidatedBy journal shard based answer = front_answered answer ≡ validated_by journal shard based

@@ -1,5 +1,9 @@
 -- What the parts of a world stand for: its journal.
-use Rattle.std.specs.Prelude.{◌≡◌, ℕ, ◌≤◌, ◌<◌, List, length, take, map, slice_get, get_or, Some, IsSome}
+use Rattle.std.specs.Prelude.{◌≡◌, ℕ, ◌≤◌, ◌<◌, ◌==◌, Bool, ◌&&◌, if◌then◌else◌, max, List, length, take, map, slice_get, get_or, set, Some, IsSome}
+use Rattle.std.specs.BTreeMap.{is_at}
+use Rattle.rdt_types.specs.declared.address.Address.{Address}
+use Rattle.rdt_types.specs.Addresses.{address_cmp}
+use Rattle.rdt_types.specs.Shards.{shard_of}
 use Rattle.rdt_types.specs.declared.settings.Settings.{Settings}
 use Rattle.txn_lang.specs.States.{Journal}
 use Rattle.journal_core.specs.Changes.{changes, up_to}
@@ -7,7 +11,7 @@ use Rattle.journal_core.specs.Journals.{Standing}
 use Rattle.version_shard.specs.Shards.{Sharded}
 use Rattle.version_shard.specs.Standing.{Holds}
 use Rattle.change_feed.specs.Feeds.{Fed}
-use Rattle.reactive_registry.specs.Registered.{Registered, kept_of}
+use Rattle.reactive_registry.specs.Registered.{Registered, kept_of, is_subscribed}
 use Rattle.reactive_registry.specs.Standing.{StandsFor}
 use Rattle.docc_prepare.specs.Stores.{CLIENTS, IsSound, feed_for}
 use Rattle.local_world.specs.Stored.{Stored, store_of}
@@ -32,6 +36,15 @@ AreHeld journal settings shards = AreHeldTo journal settings settings.shards sha
 abbrev pub fronts_of : List Sharded → List ℕ
 fronts_of shards = map (λ shard. shard.front) shards
 
+-- the front of an address' shard once that has followed to a number, where it was behind it
+abbrev pub front_to : Settings → List Sharded → Address → ℕ → ℕ
+front_to settings shards address number = max (get_or (fronts_of shards) (shard_of address settings.shards) 0) number
+
+-- and the fronts of all then
+abbrev pub fronts_to : Settings → List Sharded → Address → ℕ → List ℕ
+fronts_to settings shards address number =
+    set (fronts_of shards) (shard_of address settings.shards) (front_to settings shards address number)
+
 -- no front has fallen, and none is past the journal's end
 pub record HaveRisen (journal : Journal) (old new : List ℕ) : Type 0 where
   pub as_many : length new ≡ length old
@@ -43,6 +56,11 @@ pub record IsFollowing (journal : Journal) (registry : Registered) : Type 0 wher
   pub reached : registry.front ≤ length journal
   pub stands : StandsFor (up_to registry.front (changes journal)) registry
   pub entered : (client : ℕ) → client < CLIENTS → IsSome (kept_of registry client)
+
+-- who is told of what, once that is settled of one client and one address: the other pairs are as before
+abbrev pub with_told : Registered → ℕ → Address → Bool → ℕ → Address → Bool
+with_told registry client address told c a =
+    if c == client && is_at (address_cmp address) a then told else is_subscribed registry c a
 
 -- A feed is what the store of this journal and registry has for a client.
 abbrev pub IsFedBy : Journal → Registered → ℕ → Fed → Type 0

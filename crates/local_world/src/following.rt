@@ -1,18 +1,16 @@
 //! The shards of a world: they follow the journal, and are read and validated.
 
-ghost use Rattle.std.specs.Prelude.{◌≡◌, ◌≤◌, ◌<◌, ◌-◌, length, take, max, set, get_or, IfOk, OnOk};
+ghost use Rattle.std.specs.Prelude.{◌≡◌, ◌≤◌, ◌<◌, length, max, set, get_or, IfOk, OnOk};
 ghost use Rattle.txn_lang.specs.States as states;
-ghost use Rattle.version_shard.specs.Standing.{Holds};
+ghost use Rattle.version_shard.specs.Standing.{HoldsSoFar};
 ghost use Rattle.std.specs.List.{AllByRecursion};
 ghost use Rattle.rdt_types.specs.Shards.{shard_of};
 ghost use Rattle.abort_witness.specs.Kinds.{IsBasedOfOneKind};
 ghost use Rattle.txn_lang.specs.States.{state};
 ghost use Rattle.txn_lang.specs.Journals.{IsLegal};
-ghost use Rattle.docc_prepare.specs.Calls.{front_answered, value_answered};
-ghost use Rattle.docc_prepare.specs.Witnesses.{least_witness};
-ghost use Rattle.docc_prepare.specs.Stores.{least_base, late_base, validated};
-ghost use Rattle.local_world.specs.Answering.{back_at};
-ghost use Rattle.local_world.specs.Standing.{IsHeld, AreHeld, HaveRisen, fronts_of};
+ghost use Rattle.docc_prepare.specs.Calls.{value_answered};
+ghost use Rattle.local_world.specs.Answering.{back_from, IsValidatedBy};
+ghost use Rattle.local_world.specs.Standing.{IsHeld, AreHeld, HaveRisen, fronts_of, fronts_to};
 
 use abort_witness::Based;
 use conflict_table::Steps;
@@ -106,12 +104,9 @@ pub(crate) fn read_back(
     requires within { number ≤ length journal.now.commits }
     ensures held { AreHeld journal.now.commits settings.now shards.new.items }
     ensures risen { HaveRisen journal.now.commits (fronts_of shards.old.items) (fronts_of shards.new.items) }
-    ensures moved { OnOk result (fronts_of shards.new.items
-        ≡ set (fronts_of shards.old.items) (shard_of address.now settings.now.shards)
-        (max (get_or (fronts_of shards.old.items) (shard_of address.now settings.now.shards) 0) number)) }
+    ensures moved { OnOk result (fronts_of shards.new.items ≡ fronts_to settings.now shards.old.items address.now number) }
     ensures answer { IfOk result (λ answer. value_answered answer
-        ≡ back_at journal.now.commits settings.now.window address.now number
-        (max (get_or (fronts_of shards.old.items) (shard_of address.now settings.now.shards) 0) number)) }
+        ≡ back_from journal.now.commits settings.now shards.old.items address.now number) }
 {
     let place = shard_of(address, settings.shards);
     follow_at(journal, settings, shards, place, number)?;
@@ -133,9 +128,8 @@ pub(crate) fn validate_in<L: Ledger>(
     requires one { blank.parts ≡ 1 }
     requires here { AllByRecursion (λ b. shard_of b.address shard.now.shards ≡ shard.now.number) based.now }
     requires kinds { AllByRecursion IsBasedOfOneKind based.now }
-    ensures { (journal : states.Journal) → IsLegal 0 journal → Holds (take shard.now.front journal) shard.now → IfOk result (λ answer. front_answered answer
-        ≡ validated shard.now.number shard.now.front (shard.now.front - shard.now.window) (late_base (shard.now.front - shard.now.window) (least_base based.now))
-        (least_witness based.now (take shard.now.front journal))) }
+    ensures { (journal : states.Journal) → IsLegal 0 journal → HoldsSoFar journal shard.now
+        → IfOk result (IsValidatedBy journal shard.now based.now) }
 {
     let mut steps = Steps::<L>::new(blank);
     match shard.validate(based, &mut steps) {

@@ -12,6 +12,9 @@ use reactive_registry::Registry;
 use std::alloc::{AllocError, Global};
 use version_shard::Shard;
 
+/// How many clients there are, as the store's definition says: the clauses below cite that.
+const CLIENT_COUNT: u32 = 64;
+
 /// The shards of the settings, which have followed nothing.
 pub(crate) fn empty_shards(alloc: Global, settings: &Settings) -> Result<Vec<Shard>, AllocError>
     ensures held { IfOk result (λ shards. AreHeld [] settings.now shards.items) }
@@ -29,7 +32,7 @@ pub(crate) fn empty_shards(alloc: Global, settings: &Settings) -> Result<Vec<Sha
 pub(crate) fn nothing_seen(alloc: Global) -> Result<Sequence<u64>, AllocError>
     ensures { IfOk result (λ seens. seens ≡ replicate CLIENTS 0) }
 {
-    Ok(Sequence::from_vec(vec![in alloc; 0u64; 64]?))
+    Ok(Sequence::from_vec(vec![in alloc; 0u64; CLIENT_COUNT as usize]?))
 }
 
 /// A registry in which every client is entered, at the beginning of the journal.
@@ -37,7 +40,7 @@ pub(crate) fn all_entered(alloc: Global) -> Result<Registry, AllocError>
     ensures { IfOk result (λ registry. IsEntered CLIENTS registry) }
 {
     let mut registry = Registry::new(alloc, 0);
-    for client in 0..64 {
+    for client in 0..CLIENT_COUNT {
         registry.enter(client)?;
     }
     Ok(registry)

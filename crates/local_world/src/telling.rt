@@ -1,14 +1,12 @@
 //! The registry of a world: who is told of which changes of the journal.
 
-ghost use Rattle.std.specs.Prelude.{◌≡◌, ℕ, ◌<◌, ◌≤◌, Some, ◌==◌, ◌&&◌, true, false, if◌then◌else◌, length, IfOk, OnOk, OnErr};
-ghost use Rattle.std.specs.BTreeMap.{is_at};
+ghost use Rattle.std.specs.Prelude.{◌≡◌, ℕ, ◌<◌, ◌≤◌, Some, ◌==◌, true, false, if◌then◌else◌, length, IfOk, OnOk, OnErr};
 ghost use Rattle.rdt_types.specs.declared.address.Address.{Address};
-ghost use Rattle.rdt_types.specs.Addresses.{address_cmp};
 ghost use Rattle.txn_lang.specs.Journals.{IsLegal};
 ghost use Rattle.reactive_registry.specs.Registered.{Kept, kept_of, is_subscribed};
 ghost use Rattle.docc_prepare.specs.Stores.{CLIENTS};
 ghost use Rattle.local_world.specs.Stored.{taken_by};
-ghost use Rattle.local_world.specs.Standing.{IsFollowing, IsFedBy};
+ghost use Rattle.local_world.specs.Standing.{IsFollowing, IsFedBy, with_told};
 
 use change_feed::Feed;
 use journal_core::{Journal, MemKeep};
@@ -24,6 +22,8 @@ fn follow_all(journal: &Journal<MemKeep>, registry: &mut Registry) -> Result<(),
     ensures told { (client : ℕ) (a : Address) → is_subscribed registry.new client a ≡ is_subscribed registry.old client a }
     ensures taken { (client : ℕ) → taken_by registry.new client ≡ taken_by registry.old client }
     ensures ok { OnOk result (registry.new.front ≡ length journal.now.commits) }
+    ensures as_before { OnErr result (registry.new.front ≡ registry.old.front) }
+    ensures err { OnErr result ((client : ℕ) → kept_of registry.new client ≡ kept_of registry.old client) }
 {
     let tail = journal.tail_all(registry.front(), journal.length())?;
     registry.follow(&tail)
@@ -62,7 +62,7 @@ fn last_taken(registry: &Registry, client: u32) -> u64
     }
 }
 
-/// Has the changes at an address told to a client, and those since it took last. For want of memory all is as before.
+/// Has the changes at an address told to a client, and those since it took last. For want of memory the same are told as before.
 pub(crate) fn tell(
     journal: &Journal<MemKeep>,
     registry: &mut Registry,
@@ -74,8 +74,7 @@ pub(crate) fn tell(
     requires client { client < CLIENTS }
     ensures following { IsFollowing journal.now.commits registry.new }
     ensures taken { (c : ℕ) → taken_by registry.new c ≡ taken_by registry.old c }
-    ensures told { OnOk result ((c : ℕ) (a : Address) → is_subscribed registry.new c a
-        ≡ (if c == client && is_at (address_cmp address.now) a then true else is_subscribed registry.old c a)) }
+    ensures told { OnOk result ((c : ℕ) (a : Address) → is_subscribed registry.new c a ≡ with_told registry.old client address.now true c a) }
     ensures err { OnErr result ((c : ℕ) (a : Address) → is_subscribed registry.new c a ≡ is_subscribed registry.old c a) }
 {
     let front = registry.front();
@@ -94,8 +93,7 @@ pub(crate) fn hush(
     requires following { IsFollowing journal.now.commits registry.old }
     ensures following { IsFollowing journal.now.commits registry.new }
     ensures taken { (c : ℕ) → taken_by registry.new c ≡ taken_by registry.old c }
-    ensures told { (c : ℕ) (a : Address) → is_subscribed registry.new c a
-        ≡ (if c == client && is_at (address_cmp address.now) a then false else is_subscribed registry.old c a) }
+    ensures told { (c : ℕ) (a : Address) → is_subscribed registry.new c a ≡ with_told registry.old client address.now false c a }
 {
     registry.unsubscribe(client, address);
 }

@@ -2,13 +2,12 @@
 use Rattle.std.proofs.Common.{◌≡◌, ℕ, Bool, true, false, not, cond, ◌||◌, List, [], ◌∷◌, ◌++◌, map, filter, refl, sym, ap, subst, ◌∙◌}
 use Rattle.std.specs.List.{list_any}
 use Rattle.std.specs.Cmp.{eq_by_cmp_equiv}
-use Rattle.std.specs.Ordering.{is_eq, match_ordering}
+use Rattle.std.specs.Ordering.{match_ordering}
 use Rattle.std.specs.declared.cmp.Ordering.{Ordering}
 use Rattle.std.specs.declared.cmp.Ordering.TheVariants.{Less, Equal, Greater}
 use Rattle.std.specs.Set.{remove_key}
 use Rattle.std.specs.BTreeMap.{is_at}
 use Rattle.std.specs.BTreeSet.{insert_key}
-use Rattle.std.proofs.lemmas.List.Elements.{filter-append}
 use Rattle.rdt_types.specs.declared.address.Address.{Address}
 use Rattle.rdt_types.specs.declared.delta.Delta.{Delta}
 use Rattle.rdt_types.specs.Addresses.{address_cmp}
@@ -16,7 +15,7 @@ use Rattle.rdt_types.specs.contracts.address.AddressOrd.TheImpl.Laws as addresse
 use Rattle.rdt_types.proofs.Addresses.{address_cmp-equal}
 use Rattle.change_feed.specs.declared.change.Change.{Change}
 use Rattle.change_feed.specs.Pending.{deltas_at}
-use Rattle.reactive_registry.specs.Registered.{Kept, is_address, subscribed, unsubscribed, changes_at, changes_elsewhere, addresses_but}
+use Rattle.reactive_registry.specs.Registered.{Kept, is_address, unsubscribed, changes_at, changes_elsewhere}
 use Rattle.reactive_registry.specs.Standing.{since, KeptFor}
 use Rattle.reactive_registry.specs.Laws.{SubscribesStand, UnsubscribesStand}
 use Rattle.reactive_registry.proofs.Pairs.{same_address}

@@ -7,7 +7,7 @@ use Rattle.rdt_types.specs.declared.delta.Delta.{Delta}
 use Rattle.rdt_types.specs.Addresses.{address_cmp}
 use Rattle.change_feed.specs.declared.change.Change.{Change}
 use Rattle.change_feed.specs.Pending.{deltas_at, composed_after}
-use Rattle.reactive_registry.specs.Registered.{Kept, is_address}
+use Rattle.reactive_registry.specs.Registered.{is_address}
 use Rattle.reactive_registry.specs.Standing.{since}
 use Rattle.reactive_registry.specs.Laws.{PendingIsSince, EntriesStand, TakesStand, FollowsStand}
 use Rattle.reactive_registry.proofs.Pairs.{same_address}

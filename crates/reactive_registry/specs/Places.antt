@@ -1,9 +1,9 @@
 -- Who is subscribed to an address: the other direction.
-use Rattle.std.specs.Prelude.{◌≡◌, ℕ, ◌≤◌, Bool, false, List, Some}
+use Rattle.std.specs.Prelude.{◌≡◌, ℕ, ◌≤◌, Bool, false, ◌&&◌, if◌then◌else◌, List, Some}
 use Rattle.std.specs.List.{AllByRecursion}
 use Rattle.std.specs.Option.{option_map_or}
 use Rattle.std.specs.Ordering.{nat_cmp}
-use Rattle.std.specs.BTreeMap.{get}
+use Rattle.std.specs.BTreeMap.{get, is_at}
 use Rattle.std.specs.BTreeSet.{contains}
 use Rattle.rdt_types.specs.declared.address.Address.{Address}
 use Rattle.rdt_types.specs.Addresses.{address_cmp}
@@ -13,6 +13,11 @@ use Rattle.reactive_registry.specs.Registered.{Kept, kept_in, is_in}
 -- whether a subscriber stands at an address
 abbrev pub links : Places → Address → ℕ → Bool
 links places address subscriber = option_map_or (λ set. contains nat_cmp set subscriber) (get address_cmp places.sets address) false
+
+-- who stands where, once that is settled of one subscriber at one address: the other pairs are as before
+abbrev pub with_link : Places → Address → ℕ → Bool → Address → ℕ → Bool
+with_link places address subscriber stands a s =
+    if is_at (address_cmp address) a && is_at (nat_cmp subscriber) s then stands else links places a s
 
 -- The two directions have the same pairs, and no kept change is past the front.
 pub record AreLinked (front : ℕ) (subscribers : List (ℕ × Kept)) (places : Places) : Type 0 where

@@ -1,5 +1,6 @@
 -- What a registry keeps of each subscriber.
-use Rattle.std.specs.Prelude.{◌≡◌, ℕ, Bool, false, not, List, [], ◌∷◌, ◌++◌, filter, if◌then◌else◌, Option, Some, None, option_and_then, codes, pos, refl}
+use Rattle.std.specs.Prelude.{◌≡◌, ℕ, Bool, false, not, ◌&&◌, List, [], ◌∷◌, ◌++◌, filter, if◌then◌else◌, Option, Some, None}
+use Rattle.std.specs.Prelude.{option_and_then, option_map, codes, pos, refl}
 use Rattle.std.specs.Coded.{Coded, code_by, coded×, coded_list, coded_ℕ}
 use Rattle.std.specs.List.{list_any}
 use Rattle.std.specs.Option.{option_map_or}
@@ -63,6 +64,15 @@ is_subscribed registry subscriber address = is_in registry.subscribers subscribe
 abbrev pub with_kept : Registered → ℕ → Option Kept → ℕ → Option Kept
 with_kept registry subscriber kept other = if is_at (nat_cmp subscriber) other then kept else kept_of registry other
 
+-- what is kept of each subscriber after a call did something to what is kept of one: the others are as before
+abbrev pub kept_after : Registered → ℕ → (Kept → Kept) → ℕ → Option Kept
+kept_after registry subscriber does other = with_kept registry subscriber (option_map does (kept_of registry subscriber)) other
+
+-- who is subscribed to what, once that is settled of one subscriber and one address: the other pairs are as before
+abbrev pub with_subscription : Registered → ℕ → Address → Bool → ℕ → Address → Bool
+with_subscription registry subscriber address stands s a =
+    if is_at (nat_cmp subscriber) s && is_at (address_cmp address) a then stands else is_subscribed registry s a
+
 -- ---- what calls do to what is kept of one subscriber
 
 -- it enters at a front: no address, and all up to the front counts as taken
@@ -76,13 +86,14 @@ changes_at address changes = filter (λ change. is_at (address_cmp address) chan
 abbrev pub changes_elsewhere : Address → List Change → List Change
 changes_elsewhere address changes = filter (λ change. not (is_at (address_cmp address) change.address)) changes
 
--- it subscribes to an address, of which it missed changes: they are to be taken with the others. Where it is subscribed,
--- nothing changes
+-- it has one address more, of which it missed changes: they are to be taken with the others
+abbrev pub with_address : Address → List Change → Kept → Kept
+with_address address missed kept =
+    record kept { addresses = insert_key address_cmp kept.addresses address; changes = kept.changes ++ changes_at address missed }
+
+-- it subscribes to an address, of which it missed changes. Where it is subscribed, nothing changes
 abbrev pub subscribed : Address → List Change → Kept → Kept
-subscribed address missed kept =
-    if is_address kept address
-    then kept
-    else (record kept { addresses = insert_key address_cmp kept.addresses address; changes = kept.changes ++ changes_at address missed })
+subscribed address missed kept = if is_address kept address then kept else with_address address missed kept
 
 -- the addresses but for one
 abbrev pub addresses_but : Address → List Address → List Address

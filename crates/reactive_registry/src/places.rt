@@ -1,12 +1,11 @@
 //! The subscribers of each address.
 
-ghost use Rattle.std.specs.Prelude.{◌≡◌, ℕ, ◌&&◌, true, false, if◌then◌else◌, OnOk, OnErr};
+ghost use Rattle.std.specs.Prelude.{◌≡◌, ℕ, true, false, OnOk, OnErr};
 ghost use Rattle.std.specs.Option.{option_copied};
-ghost use Rattle.std.specs.Ordering.{nat_cmp};
-ghost use Rattle.std.specs.BTreeMap.{get, is_at};
+ghost use Rattle.std.specs.BTreeMap.{get};
 ghost use Rattle.rdt_types.specs.declared.address.Address.{Address};
 ghost use Rattle.rdt_types.specs.Addresses.{address_cmp};
-ghost use Rattle.reactive_registry.specs.Places.{links};
+ghost use Rattle.reactive_registry.specs.Places.{links, with_link};
 
 use plain_data::copied;
 use rdt_types::Address;
@@ -40,8 +39,7 @@ impl Places {
 
     /// Puts a subscriber at an address.
     pub fn link(&mut self, address: &Address, subscriber: u32) -> Result<(), AllocError>
-        ensures ok { OnOk result ((a : Address) (s : ℕ) → links self.new a s
-            ≡ (if is_at (address_cmp address.now) a && is_at (nat_cmp subscriber) s then true else links self.old a s)) }
+        ensures ok { OnOk result ((a : Address) (s : ℕ) → links self.new a s ≡ with_link self.old address.now subscriber true a s) }
         ensures err { OnErr result ((a : Address) (s : ℕ) → links self.new a s ≡ links self.old a s) }
     {
         if let Some(set) = self.sets.get_mut(address) {
@@ -56,8 +54,7 @@ impl Places {
 
     /// Takes a subscriber from an address. It takes no memory.
     pub fn unlink(&mut self, address: &Address, subscriber: u32)
-        ensures { (a : Address) (s : ℕ) → links self.new a s
-            ≡ (if is_at (address_cmp address.now) a && is_at (nat_cmp subscriber) s then false else links self.old a s) }
+        ensures { (a : Address) (s : ℕ) → links self.new a s ≡ with_link self.old address.now subscriber false a s }
     {
         if let Some(set) = self.sets.get_mut(address) {
             set.remove(&subscriber);

@@ -7,9 +7,9 @@ ghost use Rattle.rdt_types.specs.declared.address.Address.{Address};
 ghost use Rattle.rdt_types.specs.Addresses.{address_cmp};
 ghost use Rattle.rdt_types.specs.DeltaMaps.{delta_at};
 ghost use Rattle.reactive_registry.specs.Registered as spec;
-ghost use Rattle.reactive_registry.specs.Registered.{is_address, kept_of, with_kept, is_subscribed, pending_of};
+ghost use Rattle.reactive_registry.specs.Registered.{is_address, kept_of, kept_after, with_kept, is_subscribed, with_subscription, pending_of};
 ghost use Rattle.std.specs.BTreeSet.{contains};
-ghost use Rattle.reactive_registry.specs.Places.{links};
+ghost use Rattle.reactive_registry.specs.Places.{links, with_link};
 
 use crate::maps::put;
 use crate::places::Places;
@@ -65,8 +65,7 @@ fn subscribe_pair(
     requires { links places.old address.now subscriber ≡ is_address kept.old address.now }
     ensures kept { OnOk result (kept.new ≡ spec.subscribed address.now missed.now kept.old) }
     ensures has { OnOk result ((a : Address) → is_address kept.new a ≡ (if is_at (address_cmp address.now) a then true else is_address kept.old a)) }
-    ensures places { OnOk result ((a : Address) (s : ℕ) → links places.new a s
-        ≡ (if is_at (address_cmp address.now) a && is_at (nat_cmp subscriber) s then true else links places.old a s)) }
+    ensures places { OnOk result ((a : Address) (s : ℕ) → links places.new a s ≡ with_link places.old address.now subscriber true a s) }
     ensures as_kept { OnErr result (kept.new ≡ kept.old) }
     ensures as_placed { OnErr result ((a : Address) (s : ℕ) → links places.new a s ≡ links places.old a s) }
 {
@@ -156,9 +155,9 @@ impl Registry {
         requires missed { missed.now.to ≡ self.old.front }
         ensures front { self.new.front ≡ self.old.front }
         ensures ok { OnOk result ((s : ℕ) → kept_of self.new s
-            ≡ with_kept self.old subscriber (option_map (spec.subscribed address.now missed.now.changes) (kept_of self.old subscriber)) s) }
+            ≡ kept_after self.old subscriber (spec.subscribed address.now missed.now.changes) s) }
         ensures told { OnOk result ((s : ℕ) (a : Address) → is_subscribed self.new s a
-            ≡ (if is_at (nat_cmp subscriber) s && is_at (address_cmp address.now) a then true else is_subscribed self.old s a)) }
+            ≡ with_subscription self.old subscriber address.now true s a) }
         ensures err { OnErr result ((s : ℕ) → kept_of self.new s ≡ kept_of self.old s) }
     {
         match self.subscribers.get_mut(&subscriber) {
@@ -177,11 +176,9 @@ impl Registry {
     /// memory.
     pub fn unsubscribe(&mut self, subscriber: u32, address: &Address) -> bool
         ensures answer { result ≡ is_subscribed self.old subscriber address.now }
-        ensures told { (s : ℕ) (a : Address) → is_subscribed self.new s a
-            ≡ (if is_at (nat_cmp subscriber) s && is_at (address_cmp address.now) a then false else is_subscribed self.old s a) }
+        ensures told { (s : ℕ) (a : Address) → is_subscribed self.new s a ≡ with_subscription self.old subscriber address.now false s a }
         ensures front { self.new.front ≡ self.old.front }
-        ensures gone { (s : ℕ) → kept_of self.new s
-            ≡ with_kept self.old subscriber (option_map (spec.unsubscribed address.now) (kept_of self.old subscriber)) s }
+        ensures gone { (s : ℕ) → kept_of self.new s ≡ kept_after self.old subscriber (spec.unsubscribed address.now) s }
     {
         match self.subscribers.get_mut(&subscriber) {
             None => false,
@@ -215,8 +212,7 @@ impl Registry {
         ensures to { IfOk result (λ feed. feed.to ≡ self.old.front) }
         ensures pending { IfOk result (λ feed. (a : Address) → delta_at feed.changes a ≡ pending_of self.old subscriber a) }
         ensures front { self.new.front ≡ self.old.front }
-        ensures ok { OnOk result ((s : ℕ) → kept_of self.new s
-            ≡ with_kept self.old subscriber (option_map (spec.emptied self.old.front) (kept_of self.old subscriber)) s) }
+        ensures ok { OnOk result ((s : ℕ) → kept_of self.new s ≡ kept_after self.old subscriber (spec.emptied self.old.front) s) }
         ensures err { OnErr result ((s : ℕ) → kept_of self.new s ≡ kept_of self.old s) }
     {
         let Some(kept) = self.subscribers.get_mut(&subscriber) else {

@@ -7,7 +7,7 @@ ghost use Rattle.rdt_types.specs.declared.address.Address.{Address};
 ghost use Rattle.rdt_types.specs.Addresses.{address_cmp};
 ghost use Rattle.rdt_types.specs.DeltaMaps.{delta_at};
 ghost use Rattle.change_feed.specs.Pending.{pending};
-ghost use Rattle.reactive_registry.specs.Registered.{is_address, pending_for, entered, emptied, unsubscribed, changes_at, changes_elsewhere};
+ghost use Rattle.reactive_registry.specs.Registered.{is_address, pending_for, entered, emptied, with_address, unsubscribed, changes_at, changes_elsewhere};
 
 use change_feed::{Change, Feed};
 use plain_data::copied;
@@ -131,8 +131,7 @@ impl Subscriber {
     /// Adds an address, and the changes there that were missed.
     pub fn subscribe(&mut self, address: &Address, missed: &[Change]) -> Result<(), AllocError>
         ensures has { OnOk result ((a : Address) → is_address self.new a ≡ (if is_at (address_cmp address.now) a then true else is_address self.old a)) }
-        ensures ok { OnOk result (self.new
-            ≡ record self.old { addresses = insert_key address_cmp self.old.addresses address.now; changes = self.old.changes ++ changes_at address.now missed.now }) }
+        ensures ok { OnOk result (self.new ≡ with_address address.now missed.now self.old) }
         ensures err { OnErr result (self.new ≡ self.old) }
     {
         let count = self.changes.len();
@@ -178,8 +177,8 @@ fn add_address(
 ) -> Result<(), AllocError>
     ensures has { OnOk result ((a : Address) → contains address_cmp addresses.new a
         ≡ (if is_at (address_cmp address.now) a then true else contains address_cmp addresses.old a)) }
-    ensures ok { OnOk result ((addresses.new.keys ≡ insert_key address_cmp addresses.old.keys address.now) × (changes.new.items
-        ≡ changes.old.items ++ changes_at address.now missed.now)) }
+    ensures added { OnOk result (addresses.new.keys ≡ insert_key address_cmp addresses.old.keys address.now) }
+    ensures grown { OnOk result (changes.new.items ≡ changes.old.items ++ changes_at address.now missed.now) }
     ensures err { OnErr result (addresses.new.keys ≡ addresses.old.keys) }
     ensures begun { take (length changes.old.items) changes.new.items ≡ changes.old.items }
 {

@@ -1,12 +1,12 @@
 //! The walk over changes and the subscribers of their addresses.
 
-ghost use Rattle.std.specs.Prelude.{◌≡◌, ℕ, ◌<◌, false, Some, option_map, OnOk, OnErr};
+ghost use Rattle.std.specs.Prelude.{◌≡◌, ℕ, ◌<◌, false, Some, OnOk, OnErr};
 ghost use Rattle.std.specs.Ordering.{nat_cmp};
 ghost use Rattle.std.specs.BTreeMap.{is_at};
 ghost use Rattle.std.specs.BTreeSet.{contains};
 ghost use Rattle.reactive_registry.specs.Registered.{Kept, kept_in};
 ghost use Rattle.reactive_registry.specs.Places.{links};
-ghost use Rattle.reactive_registry.specs.code.Telling.{pushed, cut, done_where, told_along, cut_along, is_linked, ArePast, IsUpTo};
+ghost use Rattle.reactive_registry.specs.code.Telling.{cut, done_where, told_where, told_along, cut_along, is_linked, SameUpTo, ArePast, IsUpTo};
 
 use crate::places::Places;
 use crate::subscriber::Subscriber;
@@ -21,7 +21,7 @@ fn tell_one(
     change: &Change,
 ) -> Result<(), AllocError>
     ensures ok { OnOk result ((q : ℕ) → kept_in subscribers.new.entries q
-        ≡ done_where (is_at (nat_cmp subscriber) q) (pushed change.now) (kept_in subscribers.old.entries q)) }
+        ≡ told_where (is_at (nat_cmp subscriber) q) change.now (kept_in subscribers.old.entries q)) }
     ensures err { OnErr result ((q : ℕ) → kept_in subscribers.new.entries q ≡ kept_in subscribers.old.entries q) }
 {
     match subscribers.get_mut(&subscriber) {
@@ -46,9 +46,8 @@ fn tell_set(
     change: &Change,
 ) -> Result<(), AllocError>
     ensures ok { OnOk result ((q : ℕ) → kept_in subscribers.new.entries q
-        ≡ done_where (contains nat_cmp set.now q) (pushed change.now) (kept_in subscribers.old.entries q)) }
-    ensures behind { (front : ℕ) → front < change.now.number → (q : ℕ) → option_map (cut front) (kept_in subscribers.new.entries q)
-        ≡ option_map (cut front) (kept_in subscribers.old.entries q) }
+        ≡ told_where (contains nat_cmp set.now q) change.now (kept_in subscribers.old.entries q)) }
+    ensures behind { (front : ℕ) → front < change.now.number → SameUpTo front subscribers.old.entries subscribers.new.entries }
     ensures elsewhere { (q : ℕ) → contains nat_cmp set.now q ≡ false → kept_in subscribers.new.entries q ≡ kept_in subscribers.old.entries q }
 {
     for subscriber in set {
@@ -73,9 +72,8 @@ fn tell_linked(
     change: &Change,
 ) -> Result<(), AllocError>
     ensures ok { OnOk result ((q : ℕ) → kept_in subscribers.new.entries q
-        ≡ done_where (links places.now change.now.address q) (pushed change.now) (kept_in subscribers.old.entries q)) }
-    ensures behind { (front : ℕ) → front < change.now.number → (q : ℕ) → option_map (cut front) (kept_in subscribers.new.entries q)
-        ≡ option_map (cut front) (kept_in subscribers.old.entries q) }
+        ≡ told_where (links places.now change.now.address q) change.now (kept_in subscribers.old.entries q)) }
+    ensures behind { (front : ℕ) → front < change.now.number → SameUpTo front subscribers.old.entries subscribers.new.entries }
     ensures elsewhere { (q : ℕ) → links places.now change.now.address q ≡ false → kept_in subscribers.new.entries q ≡ kept_in subscribers.old.entries q }
 {
     match places.at(&change.address) {
@@ -105,8 +103,7 @@ fn tell_all(
     changes: &[Change],
 ) -> Result<(), AllocError>
     ensures ok { OnOk result ((q : ℕ) → kept_in subscribers.new.entries q ≡ told_along places.now q changes.now (kept_in subscribers.old.entries q)) }
-    ensures behind { (front : ℕ) → ArePast front changes.now → (q : ℕ) → option_map (cut front) (kept_in subscribers.new.entries q)
-        ≡ option_map (cut front) (kept_in subscribers.old.entries q) }
+    ensures behind { (front : ℕ) → ArePast front changes.now → SameUpTo front subscribers.old.entries subscribers.new.entries }
     ensures elsewhere { (q : ℕ) → is_linked places.now q changes.now ≡ false → kept_in subscribers.new.entries q ≡ kept_in subscribers.old.entries q }
 {
     for change in changes {

@@ -130,8 +130,12 @@ abbrev pub IsPutAt : Marked → Marked → ℕ → Own → Type 0
 IsPutAt old new mark own = (m : ℕ) → lookup (is_at (nat_cmp m)) new ≡ cond (is_at (nat_cmp mark) m) (Some own) (lookup (is_at (nat_cmp m)) old)
 
 -- what is put at its mark leaves each mark that of its address
-pub marked-put : (old new : Marked) (own : Own) → IsMarked old → IsStrictlySortedBy nat_cmp (keys_of new) → IsPutAt old new (mark_of own.address) own → IsMarked new
-marked-put old new own is rising puts = record { rising = rising; theirs = λ m other there. by m other (is_at (nat_cmp (mark_of own.address)) m) refl (sym (puts m) ∙ there) }
+pub marked-put : (old new : Marked) (own : Own) → IsMarked old → IsStrictlySortedBy nat_cmp (keys_of new)
+    → IsPutAt old new (mark_of own.address) own → IsMarked new
+marked-put old new own is rising puts = record {
+  rising = rising;
+  theirs = λ m other there. by m other (is_at (nat_cmp (mark_of own.address)) m) refl (sym (puts m) ∙ there);
+}
   where
     by : (m : ℕ) (other : Own) (b : Bool) → is_at (nat_cmp (mark_of own.address)) m ≡ b
         → cond b (Some own) (lookup (is_at (nat_cmp m)) old) ≡ Some other → mark_of other.address ≡ m
@@ -166,11 +170,13 @@ put-own others old new own none was is puts alone q = by (is_at (address_cmp own
         let k_is : k ≡ q = address_cmp-equal k q (equal _ same) in
         found q others new is ∙ ap (or_else (lookup (is_at (address_cmp q)) others)) (ap (own_at q) (puts (mark_of q)))
         ∙ rw (at-self (mark_of k) (mark_of q) (ap mark_of k_is))
-        (subst (λ (x : Address). or_else (lookup (is_at (address_cmp x)) others) (cond (is_at (address_cmp x) k) (Some own.versions) None) ≡ Some own.versions) k_is
+        (subst (λ (x : Address). or_else (lookup (is_at (address_cmp x)) others) (cond (is_at (address_cmp x) k) (Some own.versions) None)
+        ≡ Some own.versions) k_is
         (rw none (rw (self k) refl)))
     by false apart =
         found q others new is
-        ∙ ap (or_else (lookup (is_at (address_cmp q)) others)) (ap (own_at q) (puts (mark_of q)) ∙ apart-from (is_at (nat_cmp (mark_of k)) (mark_of q)) refl apart)
+        ∙ ap (or_else (lookup (is_at (address_cmp q)) others))
+        (ap (own_at q) (puts (mark_of q)) ∙ apart-from (is_at (nat_cmp (mark_of k)) (mark_of q)) refl apart)
         ∙ sym (found q others old was)
 
 -- ---- one address
@@ -181,6 +187,7 @@ apart Less e = refl
 apart Greater e = refl
 apart Equal e = absurd (false≢true e)
 
+-- the one order left is the equal one
 pub alike : (r : Ordering) → is_ne r ≡ false → is_eq r ≡ true
 alike Equal e = refl
 alike Less e = absurd (false≢true (sym e))
@@ -201,6 +208,7 @@ pub none-first : (first second : Option Versioned) → or_else first second ≡ 
 none-first None second e = refl
 none-first (Some v) second e = absurd (cc)
 
+-- what isn't there has nothing to keep to
 pub none-there : {X : Type 0} (o : Option X) (P : X → Type 0) → is_some o ≡ false → IfSome o P
 none-there None P e = tt
 none-there (Some x) P e = absurd (false≢true (sym e))
@@ -252,7 +260,8 @@ module _ (others : Kept) (marked : Marked) (k : Address) where
             (put-own others marked new (record { address = own.address; versions = put })
             (sym (subst (λ (b : Address). None ≡ lookup (is_at (address_cmp b)) others) a_is n)) is
             (marked-put marked new (record { address = own.address; versions = put }) is rising q) q
-            (subst (λ o. IfSome o (λ x. x.address ≡ own.address)) (subst (λ (b : Address). Some own ≡ lookup (is_at (nat_cmp (mark_of b))) marked) a_is t) refl))
+            (subst (λ o. IfSome o (λ x. x.address ≡ own.address))
+            (subst (λ (b : Address). Some own ≡ lookup (is_at (nat_cmp (mark_of b))) marked) a_is t) refl))
           where
             q : IsPutAt marked new (mark_of own.address) (record { address = own.address; versions = put })
             q = subst (λ (b : Address). IsPutAt marked new (mark_of b) (record { address = own.address; versions = put })) a_is p

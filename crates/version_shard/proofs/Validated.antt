@@ -1,5 +1,5 @@
 -- What a shard answers of a journal for which it holds.
-use Rattle.std.proofs.Common.{◌≡◌, ◌-◌, List, slice_get, Option, Some, None, IsSome, refl, sym, ap, ◌∙◌, subst, arith}
+use Rattle.std.proofs.Common.{◌≡◌, ℕ, ◌+◌, ◌-◌, ◌≤◌, List, slice_get, Option, Some, None, IsSome, refl, sym, ap, ◌∙◌, subst, arith}
 use Rattle.std.specs.List.{AllByRecursion}
 use Rattle.abort_witness.specs.declared.witness.Based.{Based}
 use Rattle.abort_witness.specs.declared.witness.Found.{Found}
@@ -8,14 +8,20 @@ use Rattle.abort_witness.specs.Pairs.{least}
 use Rattle.abort_witness.specs.Naming.{Names}
 use Rattle.txn_lang.specs.States.{Journal}
 use Rattle.journal_core.specs.Changes.{changes}
+use Rattle.journal_core.specs.Pairs as counted
 use Rattle.journal_core.specs.Pairs.{least_pair}
 use Rattle.journal_core.proofs.Ordering.{least-is-first}
-use Rattle.version_shard.specs.Shards.{Sharded, horizon, IsIn}
+use Rattle.version_shard.specs.Bases.{least_base, late_base}
+use Rattle.version_shard.specs.Shards.{Kept, Sharded, horizon, IsIn}
 use Rattle.version_shard.specs.Standing.{Holds}
 use Rattle.version_shard.specs.Validating.{late, NamesLeast}
-use Rattle.version_shard.specs.code.Clashing.{Hit, least_hit}
+use Rattle.version_shard.specs.code.Clashing.{Hit, least_hit, most_steps}
 use Rattle.version_shard.proofs.Bases.{in_time}
-use Rattle.version_shard.proofs.Clashes.{Finds, all-found, Agree, agree, IfHit, IsFirst, hits-first, first-stands, as_change}
+use Rattle.version_shard.proofs.Clashes.{Finds, steps-same, all-found, Agree, agree, IfHit, IsFirst, hits-first, first-stands, as_change}
+
+-- what the code finds by the horizon that it computed is what the shard answers
+pub timely-by : (shard : Sharded) (based : List Based) (h : ℕ) → h ≡ horizon shard → None ≡ late_base h (least_base based) → late shard based ≡ None
+timely-by shard based h is none = sym (none ∙ ap (λ n. late_base n (least_base based)) is)
 
 module _ (journal : Journal) (shard : Sharded) (holds : Holds journal shard) (based : List Based)
     (here : AllByRecursion (λ b. IsIn shard b.address) based) (timely : late shard based ≡ None) where
@@ -74,3 +80,11 @@ module _ (journal : Journal) (shard : Sharded) (holds : Holds journal shard) (ba
             least = sym least-is ∙ is;
             names = names;
           }
+
+  -- as many steps as there are versions past the bases are as many as there are changes past them
+  pub few-steps : (kept : Kept) (old new : ℕ) → kept ≡ shard.kept → new ≤ old + most_steps kept based
+      → new ≤ old + counted.most_steps based (changes journal)
+  few-steps kept old new is few =
+      let same = ap (λ (k : Kept). most_steps k based) is
+      ∙ steps-same journal shard holds based here (in_time (horizon shard) based timely) in
+      omega (arith, same, few)

@@ -1,9 +1,10 @@
 -- What a shard stands for: a journal.
-use Rattle.std.specs.Prelude.{◌≡◌, ℕ, ◌≤◌, [], length}
+use Rattle.std.specs.Prelude.{◌≡◌, ℕ, ◌≤◌, [], length, take}
 use Rattle.std.specs.List.{AllByRecursion}
 use Rattle.std.specs.List.Sorted.{IsStrictlySortedBy}
 use Rattle.std.specs.Map.{keys_of}
 use Rattle.rdt_types.specs.declared.address.Address.{Address}
+use Rattle.rdt_types.specs.declared.settings.Settings.{Settings}
 use Rattle.rdt_types.specs.Addresses.{address_cmp}
 use Rattle.journal_core.specs.Changes as journals
 use Rattle.journal_core.specs.Changes.{changes, between, of_shard, of_address}
@@ -35,6 +36,14 @@ pub record IsNext (journal : Journal) (shard : Sharded) (tail : Tail) : Type 0 w
   pub within : tail.to ≤ length journal
   pub exact : HasAll shard.front tail.to (of_shard shard.shards shard.number (between shard.front tail.to (changes journal))) tail
 
+-- a shard stands for the first commits of a journal, as many as its front says
+abbrev pub HoldsSoFar : Journal → Sharded → Type 0
+HoldsSoFar journal shard = Holds (take shard.front journal) shard
+
 -- a shard that has followed nothing
 abbrev pub empty : ℕ → ℕ → ℕ → Sharded
 empty number shards window = record { number = number; shards = shards; window = window; front = 0; kept = [] }
+
+-- the one of a number that settings say
+abbrev pub empty_by : ℕ → Settings → Sharded
+empty_by number settings = empty number settings.shards settings.window

@@ -1,13 +1,11 @@
 //! How the versions of a shard's addresses follow a tail.
 
-ghost use Rattle.std.specs.Prelude.{◌≡◌, ◌≤◌, ◌-◌, if◌then◌else◌, OnOk, OnErr, IfErr};
+ghost use Rattle.std.specs.Prelude.{◌≡◌, ◌≤◌, ◌-◌, OnOk, OnErr, IfErr};
 ghost use Rattle.std.specs.List.{AllByRecursion};
-ghost use Rattle.std.specs.BTreeMap.{is_at};
 ghost use Rattle.rdt_types.specs.declared.address.Address.{Address};
-ghost use Rattle.rdt_types.specs.Addresses.{address_cmp};
 ghost use Rattle.journal_core.specs.Tails.{tail_of};
 ghost use Rattle.version_shard.specs.Shards.{versions_of, AreKept, horizon_at};
-ghost use Rattle.version_shard.specs.code.Following.{followed, followed_along, cut_along, StopsAt, Reaches};
+ghost use Rattle.version_shard.specs.code.Following.{followed_at, followed_along, cut_along, StopsAt, Reaches};
 
 use crate::kept::Kept;
 use change_feed::Change;
@@ -29,8 +27,7 @@ fn follow_one(
     window: u16,
 ) -> Result<(), AllocError>
     requires { AllByRecursion (λ version. version.number ≤ change.now.number) (versions_of kept.old change.now.address).later }
-    ensures ok { OnOk result ((a : Address) → versions_of kept.new a
-        ≡ (if is_at (address_cmp change.now.address) a then followed window change.now (versions_of kept.old a) else versions_of kept.old a)) }
+    ensures ok { OnOk result ((a : Address) → versions_of kept.new a ≡ followed_at window a change.now (versions_of kept.old a)) }
     ensures err { OnErr result (kept.new ≡ kept.old) }
 {
     let horizon = horizon_of(window, change.number.saturating_sub(1));

@@ -7,7 +7,7 @@ ghost use Rattle.abort_witness.specs.Kinds.{IsBasedOfOneKind};
 ghost use Rattle.txn_lang.specs.States.{Journal, state};
 ghost use Rattle.version_shard.specs.Shards as spec;
 ghost use Rattle.version_shard.specs.Shards.{IsIn};
-ghost use Rattle.version_shard.specs.Standing.{Holds, IsNext, empty};
+ghost use Rattle.version_shard.specs.Standing.{Holds, HoldsSoFar, IsNext, empty_by};
 ghost use Rattle.version_shard.specs.Validating.{ReadsAt, Validates};
 ghost use Rattle.journal_core.specs.Changes.{changes};
 ghost use Rattle.journal_core.specs.Tails.{tail_of};
@@ -65,8 +65,8 @@ impl Shard {
         requires number { number < settings.now.shards }
         requires from { kept.now.from ≡ 0 }
         requires kinds { AreOfTheirKinds kept.now.changes }
-        ensures same { IfOk result (λ shard. shard ≡ record (empty number settings.now.shards settings.now.window) { front = kept.now.to; kept = shard.kept }) }
-        ensures holds { IfOk result (λ shard. (journal : Journal) → IsNext journal (empty number settings.now.shards settings.now.window) kept.now
+        ensures same { IfOk result (λ shard. shard ≡ record (empty_by number settings.now) { front = kept.now.to; kept = shard.kept }) }
+        ensures holds { IfOk result (λ shard. (journal : Journal) → IsNext journal (empty_by number settings.now) kept.now
             → Holds (take kept.now.to journal) shard) }
     {
         let mut shard = Shard {
@@ -105,8 +105,7 @@ impl Shard {
         ensures reached { OnOk result (self.new.front ≡ tail.now.to) }
         ensures never_back { self.old.front ≤ self.new.front }
         ensures within { self.new.front ≤ tail.now.to }
-        ensures holds { (journal : Journal) → IsNext journal self.old tail.now → Holds (take self.old.front journal) self.old
-            → Holds (take self.new.front journal) self.new }
+        ensures holds { (journal : Journal) → IsNext journal self.old tail.now → HoldsSoFar journal self.old → HoldsSoFar journal self.new }
     {
         self.follow_lent(&LentTail {
             from: tail.from,
@@ -123,8 +122,8 @@ impl Shard {
         ensures reached { OnOk result (self.new.front ≡ tail.now.to) }
         ensures never_back { self.old.front ≤ self.new.front }
         ensures within { self.new.front ≤ tail.now.to }
-        ensures holds { (journal : Journal) → IsNext journal self.old (tail_of tail.now) → Holds (take self.old.front journal) self.old
-            → Holds (take self.new.front journal) self.new }
+        ensures holds { (journal : Journal) → IsNext journal self.old (tail_of tail.now) → HoldsSoFar journal self.old
+            → HoldsSoFar journal self.new }
     {
         match reach(&mut self.kept, self.alloc, tail, self.window) {
             Ok(()) => {

@@ -1,10 +1,10 @@
 -- How the code follows: it walks over changes and the subscribers of their addresses. `told_each` and `undone` of
 -- proofs/Undone tie this to `told` of specs/Registered.
-use Rattle.std.specs.Prelude.{ℕ, ◌<◌, ◌≤◌, nat_le, Bool, List, [], ◌∷◌, ◌++◌, fold, filter, if◌then◌else◌, Option, option_map}
+use Rattle.std.specs.Prelude.{◌≡◌, ℕ, ◌<◌, ◌≤◌, nat_le, Bool, List, [], ◌∷◌, ◌++◌, fold, filter, if◌then◌else◌, Option, option_map}
 use Rattle.std.specs.List.{AllByRecursion, list_any}
 use Rattle.change_feed.specs.declared.change.Change.{Change}
 use Rattle.reactive_registry.specs.declared.places.Places.{Places}
-use Rattle.reactive_registry.specs.Registered.{Kept}
+use Rattle.reactive_registry.specs.Registered.{Kept, kept_in}
 use Rattle.reactive_registry.specs.Places.{links}
 
 -- one more change
@@ -18,6 +18,14 @@ cut front kept = record kept { changes = filter (λ change. nat_le change.number
 -- where a test holds, something is done to what is kept
 abbrev pub done_where : Bool → (Kept → Kept) → Option Kept → Option Kept
 done_where test does kept = if test then option_map does kept else kept
+
+-- where a test holds, it is told of a change
+abbrev pub told_where : Bool → Change → Option Kept → Option Kept
+told_where test change kept = done_where test (pushed change) kept
+
+-- of each subscriber two lists keep the same up to a front
+abbrev pub SameUpTo : ℕ → List (ℕ × Kept) → List (ℕ × Kept) → Type 0
+SameUpTo front old new = (q : ℕ) → option_map (cut front) (kept_in new q) ≡ option_map (cut front) (kept_in old q)
 
 -- what is kept of a subscriber after it was told of changes one by one, each where it stands at its address
 abbrev pub told_along : Places → ℕ → List Change → Option Kept → Option Kept

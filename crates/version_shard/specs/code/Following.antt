@@ -15,10 +15,13 @@ use Rattle.version_shard.specs.Shards.{Kept, horizon_at, versions_of}
 abbrev pub followed : ℕ → Change → Versioned → Versioned
 followed window change versions = trimmed (horizon_at window (change.number - 1)) (changed change.number change.delta versions)
 
--- the versions of an address after changes, one by one
+-- the versions of an address after a change, which may be elsewhere
+abbrev pub followed_at : ℕ → Address → Change → Versioned → Versioned
+followed_at window address change versions = if is_at (address_cmp change.address) address then followed window change versions else versions
+
+-- and after changes, one by one
 abbrev pub followed_along : ℕ → Address → List Change → Versioned → Versioned
-followed_along window address changes versions =
-    fold (λ v change. if is_at (address_cmp change.address) address then followed window change v else v) versions changes
+followed_along window address changes versions = fold (λ v change. followed_at window address change v) versions changes
 
 -- and after the way back to a number
 abbrev pub cut_along : ℕ → Address → List Change → Versioned → Versioned

@@ -8,4 +8,5 @@ returns-then-changes-step c =
     let all = c.args.changes.now in
     let some = c.loop-step.invariant in
     let within = c.loop-step-test.true in
-    front-up_to c.args.number 0 all (length all - c.loop-step.step) c.index-changes-changes.result c.requires (omega (arith, some, within)) c.if-changes-step.true
+    front-up_to c.args.number 0 all (length all - c.loop-step.step) c.index-changes-changes.result c.requires
+    (omega (arith, some, within)) c.if-changes-step.true

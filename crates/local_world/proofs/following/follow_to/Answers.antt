@@ -5,7 +5,8 @@ use Rattle.local_world.proofs.following.follow_to.Goals as goal
 
 pub follow_lent-requires-clause-kinds : goal.follow_lent-requires-clause-kinds
 follow_lent-requires-clause-kinds c =
-    tail-kinds c.args.journal.now.commits c.args.journal.now.shards c.args.place c.front-front.result c.args.to (tail_of c.lend_tail-tail.result) c.requires.legal
+    tail-kinds c.args.journal.now.commits c.args.journal.now.shards c.args.place c.front-front.result c.args.to
+    (tail_of c.lend_tail-tail.result) c.requires.legal
     c.lend_tail-tail.ensures
 
 pub returns-clause-held : goal.returns-clause-held

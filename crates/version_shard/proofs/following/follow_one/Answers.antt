@@ -12,6 +12,7 @@ returns-clause-ok c =
     let change = c.args.change.now in
     on_ok_weaker c.follow.result
     (λ is.
-    put_one old c.follow.new.self change.address (followed c.args.window change) (changed_by change c.horizon_of-horizon.result (versions_of old change.address)) is
+    put_one old c.follow.new.self change.address (followed c.args.window change)
+    (changed_by change c.horizon_of-horizon.result (versions_of old change.address)) is
     (ap (λ h. changed_by change h (versions_of old change.address)) (c.horizon_of-horizon.ensures ∙ ap (horizon_at c.args.window) c.saturating_sub.ensures)))
     c.follow.ensures.ok

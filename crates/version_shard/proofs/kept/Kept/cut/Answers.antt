@@ -8,7 +8,8 @@ use Rattle.version_shard.specs.Versions.{up_to}
 use Rattle.version_shard.specs.Shards.{Kept}
 use Rattle.version_shard.specs.code.Marks.{mark_of, kept_by}
 use Rattle.version_shard.proofs.Keeping.{IsCut, put_one, cut_nowhere}
-use Rattle.version_shard.proofs.Marks.{IsPutAt, apart, alike, own_at, not-own, written-back, same-kept, versions-other, versions-own, nowhere, put-other, put-found}
+use Rattle.version_shard.proofs.Marks.{IsPutAt, apart, alike, own_at, not-own, written-back, same-kept}
+use Rattle.version_shard.proofs.Marks.{versions-other, versions-own, nowhere, put-other, put-found}
 use Rattle.version_shard.proofs.kept.Kept.cut.Goals as goal
 
 pub returns-in-Some : goal.returns-in-Some
@@ -29,7 +30,8 @@ returns-in_default-get_mut c =
     let others = c.self.inside.others.entries in
     let marked = c.self.inside.marked.entries in
     subst (λ (new : Kept). IsCut c.args.self.now new k c.args.number)
-    (sym (same-kept others c.get_mut.follows.lender-at-none.entries marked c.get_mut-2.follows.lender-at-none.entries (ap (λ m. m.entries) c.get_mut.follows.holds-at-none)
+    (sym (same-kept others c.get_mut.follows.lender-at-none.entries marked c.get_mut-2.follows.lender-at-none.entries
+    (ap (λ m. m.entries) c.get_mut.follows.holds-at-none)
     (ap (λ m. m.entries) c.get_mut-2.follows.holds-at-none) ∙ c.self.view_is))
     (cut_nowhere c.args.self.now k c.args.number
     (sym (ap (lookup (is_at (address_cmp k))) (sym c.self.view_is)
@@ -43,7 +45,8 @@ returns-then-is_ne c =
     let marked = c.self.inside.marked.entries in
     let own = c.in-Some-get_mut.own.now in
     subst (λ (new : Kept). IsCut c.args.self.now new k c.args.number)
-    (sym (same-kept others c.get_mut.follows.lender-at-none.entries marked (c.get_mut-2.follows.lender own).entries (ap (λ m. m.entries) c.get_mut.follows.holds-at-none)
+    (sym (same-kept others c.get_mut.follows.lender-at-none.entries marked (c.get_mut-2.follows.lender own).entries
+    (ap (λ m. m.entries) c.get_mut.follows.holds-at-none)
     (written-back (is_at (nat_cmp c.mark_of.result)) marked (c.get_mut-2.follows.lender own).entries c.in-Some-get_mut.own.now own
     (c.get_mut-2.follows.holds own).0 c.in-Some-get_mut.ensures.value refl) ∙ c.self.view_is))
     (cut_nowhere c.args.self.now k c.args.number

@@ -9,7 +9,8 @@ use Rattle.version_shard.specs.Versions.{Versioned}
 use Rattle.version_shard.specs.Shards.{Kept, versions_of}
 use Rattle.version_shard.specs.code.Marks.{mark_of, IsPut, HasFollowed, changed_by, kept_by}
 use Rattle.version_shard.proofs.Keeping.{on_err}
-use Rattle.version_shard.proofs.Marks.{IsPutAt, apart, alike, own_at, not-own, written-back, same-kept, versions-other, versions-own, nowhere, put-other, put-found}
+use Rattle.version_shard.proofs.Marks.{IsPutAt, apart, alike, own_at, not-own, written-back, same-kept}
+use Rattle.version_shard.proofs.Marks.{versions-other, versions-own, nowhere, put-other, put-found}
 use Rattle.version_shard.proofs.kept.Kept.follow_known.Goals as goal
 
 pub change-requires : goal.change-requires
@@ -41,7 +42,8 @@ returns-in-Some-clause-ok c =
     let new = (c.get_mut.follows.lender put).entries in
     subst (λ (old : Kept). HasFollowed old (kept_by new marked) c.args.change.now c.args.horizon true) c.self.view_is
     (subst (λ (v : Versioned). IsPut (kept_by others marked) (kept_by new marked) k v)
-    (c.in_ok-change.ensures.ok ∙ ap (changed_by c.args.change.now c.args.horizon) (versions-other others marked k c.in-Some.versions.now c.in-Some.ensures.value))
+    (c.in_ok-change.ensures.ok
+    ∙ ap (changed_by c.args.change.now c.args.horizon) (versions-other others marked k c.in-Some.versions.now c.in-Some.ensures.value))
     (put-other others new marked k put ((c.get_mut.follows.holds put).3 (ap is_some (sym c.in-Some.ensures.value))).0))
 
 pub returns-in_default-get_mut-clause-ok : goal.returns-in_default-get_mut-clause-ok
@@ -49,7 +51,8 @@ returns-in_default-get_mut-clause-ok c =
     let k = c.args.change.now.address in
     let others = c.self.inside.others.entries in
     let marked = c.self.inside.marked.entries in (
-      same-kept others c.get_mut.follows.lender-at-none.entries marked c.get_mut-2.follows.lender-at-none.entries (ap (λ m. m.entries) c.get_mut.follows.holds-at-none)
+      same-kept others c.get_mut.follows.lender-at-none.entries marked c.get_mut-2.follows.lender-at-none.entries
+          (ap (λ m. m.entries) c.get_mut.follows.holds-at-none)
           (ap (λ m. m.entries) c.get_mut-2.follows.holds-at-none) ∙ c.self.view_is,
       ap (lookup (is_at (address_cmp k))) (sym c.self.view_is)
           ∙ nowhere others marked k c.self.invariant c.in_default.ensures.value
@@ -62,7 +65,8 @@ returns-then-is_ne-clause-ok c =
     let others = c.self.inside.others.entries in
     let marked = c.self.inside.marked.entries in
     let own = c.in-Some-get_mut.own.now in (
-      same-kept others c.get_mut.follows.lender-at-none.entries marked (c.get_mut-2.follows.lender own).entries (ap (λ m. m.entries) c.get_mut.follows.holds-at-none)
+      same-kept others c.get_mut.follows.lender-at-none.entries marked (c.get_mut-2.follows.lender own).entries
+          (ap (λ m. m.entries) c.get_mut.follows.holds-at-none)
           (written-back (is_at (nat_cmp c.mark_of.result)) marked (c.get_mut-2.follows.lender own).entries c.in-Some-get_mut.own.now own
           (c.get_mut-2.follows.holds own).0 c.in-Some-get_mut.ensures.value refl) ∙ c.self.view_is,
       ap (lookup (is_at (address_cmp k))) (sym c.self.view_is)
@@ -91,7 +95,8 @@ returns-in_err-change-2-clause-err c =
     let back : own ≡ c.in-Some-get_mut.own.now =
     ap (λ (v : Versioned). record { address = c.in-Some-get_mut.own.now.address; versions = v }) c.in_err-change-2.ensures.err in
     on_err c.from_residual-in_err-change-2.result _
-    (same-kept others c.get_mut.follows.lender-at-none.entries marked (c.get_mut-2.follows.lender own).entries (ap (λ m. m.entries) c.get_mut.follows.holds-at-none)
+    (same-kept others c.get_mut.follows.lender-at-none.entries marked (c.get_mut-2.follows.lender own).entries
+    (ap (λ m. m.entries) c.get_mut.follows.holds-at-none)
     (written-back (is_at (nat_cmp c.mark_of.result)) marked (c.get_mut-2.follows.lender own).entries c.in-Some-get_mut.own.now own
     (c.get_mut-2.follows.holds own).0 c.in-Some-get_mut.ensures.value back) ∙ c.self.view_is)
 
@@ -107,7 +112,8 @@ returns-clause-ok c =
     let same = ap is_eq (sym c.cmp.ensures) ∙ alike c.cmp.result (sym c.is_ne.ensures ∙ c.if-is_ne.false) in
     let puts : IsPutAt marked new (mark_of k) put =
     subst (λ m. IsPutAt marked new m put) c.mark_of.ensures ((c.get_mut-2.follows.holds put).3 (ap is_some (sym c.in-Some-get_mut.ensures.value))).0 in
-    subst (λ (o : Kept). HasFollowed c.args.self.now (kept_by o new) c.args.change.now c.args.horizon true) (sym (ap (λ m. m.entries) c.get_mut.follows.holds-at-none))
+    subst (λ (o : Kept). HasFollowed c.args.self.now (kept_by o new) c.args.change.now c.args.horizon true)
+    (sym (ap (λ m. m.entries) c.get_mut.follows.holds-at-none))
     (subst (λ (old : Kept). HasFollowed old (kept_by others new) c.args.change.now c.args.horizon true) c.self.view_is
     (subst (λ (v : Versioned). IsPut (kept_by others marked) (kept_by others new) k v)
     (c.in_ok-change-2.ensures.ok

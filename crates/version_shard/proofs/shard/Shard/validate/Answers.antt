@@ -1,12 +1,9 @@
-use Rattle.std.proofs.Common.{◌≡◌, Some, None, sym, ap, ◌∙◌, subst, arith}
+use Rattle.std.proofs.Common.{◌≡◌, Some, None, sym, ap, ◌∙◌, subst}
 use Rattle.std.proofs.lemmas.Result.{err_from_is_err_and}
-use Rattle.version_shard.specs.Bases.{least_base, late_base}
-use Rattle.version_shard.specs.Shards.{Sharded, horizon}
-use Rattle.version_shard.specs.Validating.{late}
-use Rattle.version_shard.specs.code.Clashing.{Hit, IsClash, least_hit, most_steps}
-use Rattle.version_shard.proofs.Bases.{in_time}
-use Rattle.version_shard.proofs.Clashes.{IfHit, hits-clash, steps-same}
-use Rattle.version_shard.proofs.Validated.{no-pair, some-pair, names-least}
+use Rattle.version_shard.specs.Shards.{Sharded}
+use Rattle.version_shard.specs.code.Clashing.{Hit, IsClash, least_hit}
+use Rattle.version_shard.proofs.Clashes.{IfHit, hits-clash}
+use Rattle.version_shard.proofs.Validated.{timely-by, no-pair, some-pair, names-least, few-steps}
 use Rattle.version_shard.proofs.shard.Shard.validate.Goals as goal
 
 pub witness_of-requires : goal.witness_of-requires
@@ -18,8 +15,8 @@ pub returns-in_ok-witness_of-in-Some-least_hit-clause-answers : goal.returns-in_
 returns-in_ok-witness_of-in-Some-least_hit-clause-answers g c journal holds =
     let shard = c.args.self.now in
     let based = c.args.based.now in
+    let timely = timely-by shard based c.horizon-horizon.result c.horizon-horizon.ensures c.in_default.ensures in
     let hit : Hit = (c.in-Some-least_hit.hit.based.now, c.in-Some-least_hit.hit.version.now) in
-    let timely : late shard based ≡ None = sym (c.in_default.ensures ∙ ap (λ h. late_base h (least_base based)) c.horizon-horizon.ensures) in
     let found : least_hit shard.kept based ≡ Some hit =
     sym (c.in-Some-least_hit.ensures.least ∙ ap (λ (s : Sharded). least_hit s.kept based) c.self.view_is) in (
       timely,
@@ -31,8 +28,8 @@ pub returns-in_err-witness_of-in-Some-least_hit-clause-answers : goal.returns-in
 returns-in_err-witness_of-in-Some-least_hit-clause-answers g c journal holds =
     let shard = c.args.self.now in
     let based = c.args.based.now in
+    let timely = timely-by shard based c.horizon-horizon.result c.horizon-horizon.ensures c.in_default.ensures in
     let hit : Hit = (c.in-Some-least_hit.hit.based.now, c.in-Some-least_hit.hit.version.now) in
-    let timely : late shard based ≡ None = sym (c.in_default.ensures ∙ ap (λ h. late_base h (least_base based)) c.horizon-horizon.ensures) in
     let found : least_hit shard.kept based ≡ Some hit =
     sym (c.in-Some-least_hit.ensures.least ∙ ap (λ (s : Sharded). least_hit s.kept based) c.self.view_is) in
     let p = err_from_is_err_and c.from_residual.result c.from_residual.ensures.1 in
@@ -42,36 +39,24 @@ pub returns-in-None-clause-answers : goal.returns-in-None-clause-answers
 returns-in-None-clause-answers g c journal holds =
     let shard = c.args.self.now in
     let based = c.args.based.now in
-    let timely : late shard based ≡ None = sym (c.in_default.ensures ∙ ap (λ h. late_base h (least_base based)) c.horizon-horizon.ensures) in
+    let timely = timely-by shard based c.horizon-horizon.result c.horizon-horizon.ensures c.in_default.ensures in
     let none : least_hit shard.kept based ≡ None = sym (c.in-None.ensures.least ∙ ap (λ (s : Sharded). least_hit s.kept based) c.self.view_is) in
     (timely, no-pair journal shard holds based c.requires.here timely none, ap (λ (s : Sharded). record { shard = s.number; front = s.front }) c.self.view_is)
 
 pub returns-in_ok-witness_of-in-Some-least_hit-clause-steps : goal.returns-in_ok-witness_of-in-Some-least_hit-clause-steps
 returns-in_ok-witness_of-in-Some-least_hit-clause-steps g c journal holds =
-    let shard = c.args.self.now in
-    let based = c.args.based.now in
-    let timely : late shard based ≡ None = sym (c.in_default.ensures ∙ ap (λ h. late_base h (least_base based)) c.horizon-horizon.ensures) in
-    let same = ap (λ (s : Sharded). most_steps s.kept based) c.self.view_is
-    ∙ steps-same journal shard holds based c.requires.here (in_time (horizon shard) based timely) in
-    let few = c.least_hit.ensures.steps in
-    omega (arith, same, few)
+    few-steps journal c.args.self.now holds c.args.based.now c.requires.here
+    (timely-by c.args.self.now c.args.based.now c.horizon-horizon.result c.horizon-horizon.ensures c.in_default.ensures)
+    c.self.inside.kept _ _ (ap (λ (s : Sharded). s.kept) c.self.view_is) c.least_hit.ensures.steps
 
 pub returns-in_err-witness_of-in-Some-least_hit-clause-steps : goal.returns-in_err-witness_of-in-Some-least_hit-clause-steps
 returns-in_err-witness_of-in-Some-least_hit-clause-steps g c journal holds =
-    let shard = c.args.self.now in
-    let based = c.args.based.now in
-    let timely : late shard based ≡ None = sym (c.in_default.ensures ∙ ap (λ h. late_base h (least_base based)) c.horizon-horizon.ensures) in
-    let same = ap (λ (s : Sharded). most_steps s.kept based) c.self.view_is
-    ∙ steps-same journal shard holds based c.requires.here (in_time (horizon shard) based timely) in
-    let few = c.least_hit.ensures.steps in
-    omega (arith, same, few)
+    few-steps journal c.args.self.now holds c.args.based.now c.requires.here
+    (timely-by c.args.self.now c.args.based.now c.horizon-horizon.result c.horizon-horizon.ensures c.in_default.ensures)
+    c.self.inside.kept _ _ (ap (λ (s : Sharded). s.kept) c.self.view_is) c.least_hit.ensures.steps
 
 pub returns-in-None-clause-steps : goal.returns-in-None-clause-steps
 returns-in-None-clause-steps g c journal holds =
-    let shard = c.args.self.now in
-    let based = c.args.based.now in
-    let timely : late shard based ≡ None = sym (c.in_default.ensures ∙ ap (λ h. late_base h (least_base based)) c.horizon-horizon.ensures) in
-    let same = ap (λ (s : Sharded). most_steps s.kept based) c.self.view_is
-    ∙ steps-same journal shard holds based c.requires.here (in_time (horizon shard) based timely) in
-    let few = c.least_hit.ensures.steps in
-    omega (arith, same, few)
+    few-steps journal c.args.self.now holds c.args.based.now c.requires.here
+    (timely-by c.args.self.now c.args.based.now c.horizon-horizon.result c.horizon-horizon.ensures c.in_default.ensures)
+    c.self.inside.kept _ _ (ap (λ (s : Sharded). s.kept) c.self.view_is) c.least_hit.ensures.steps
