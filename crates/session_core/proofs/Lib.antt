@@ -4,6 +4,7 @@ pub mod Bodies
 pub mod Forms
 pub mod Asked
 pub mod Attempts
+pub mod Whole
 pub mod Grown
 pub mod Minding
 pub mod Kept

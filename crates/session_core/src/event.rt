@@ -1,17 +1,19 @@
 //! One event of an attempt: the call that its next event is, and what the answer makes of it.
 
-ghost use Rattle.std.specs.Prelude.{◌≡◌, ◌<◌, ◌^◌, length, None, IfOk, OnOk, Err};
+ghost use Rattle.std.specs.Prelude.{◌≡◌, ◌<◌, ◌^◌, ℕ, length, Some, None, IfOk, OnOk, Err};
+ghost use Rattle.txn_lang.specs.declared.run.Run.{Run};
+ghost use Rattle.docc_prepare.specs.declared.attempt.Attempt.{Attempt};
 ghost use Rattle.docc_prepare.specs.Attempts.{in_shard, based, next_event, ready_of, KeepsPauses, Prepares};
 ghost use Rattle.docc_prepare.specs.Calls.{snap_answered, front_answered, commit_answered};
 ghost use Rattle.session_core.specs.Phases.{closed};
 ghost use Rattle.session_core.specs.Holding.{Attends, Holds};
 ghost use Rattle.session_core.specs.Leading.{Turned, Makes, MakesOn, Appends, moved_on_read, moved_on_prepare, moved_on_append};
-ghost use Rattle.session_core.specs.Remembering.{IsKnownOf, Remembers};
+ghost use Rattle.session_core.specs.Remembering.{AreAllOf, IsKnownOf, Remembers};
 
 use crate::error::SessionError;
 use crate::limits::MOST_OBSERVATIONS;
 use crate::moved::Moved;
-use crate::remembered::Remembered;
+use crate::remembered::{Ran, Remembered};
 use crate::session::Session;
 use abort_witness::BasedList;
 use docc_prepare::{AppendError, Attempt, Backend, Next, PrepareError, StoreError};
@@ -54,6 +56,7 @@ fn after_prepare(
     requires { Prepares attempt.old shard }
     ensures turned { Turned attempt.old (front_answered answer) (moved_on_prepare shard attempt.new result) }
     ensures pauses { IfOk result (λ front. OnOk front (KeepsPauses attempt.old attempt.new)) }
+    ensures snaps { IfOk result (λ front. OnOk front (attempt.new.snaps ≡ attempt.old.snaps)) }
 {
     match answer {
         Ok(prepared) => {
@@ -142,35 +145,70 @@ fn based_here(
     }
 }
 
+/// What a run observed in one shard, where that is all that it observed.
+fn whole(run: &Run, here: BasedList) -> Option<BasedList>
+    ensures { (a : Attempt) (shard : ℕ) → here ≡ in_shard a.shards shard (based a.snaps run.now.observations) → AreAllOf a run.now result }
+{
+    if here.len() == run.observations.len() {
+        Some(here)
+    } else {
+        None
+    }
+}
+
 /// Prepares a shard for an attempt: it has a front more, or has ended with a reply.
 fn prepare_event<B: Backend>(
-    alloc: Global,
     backend: &mut B,
     session: &Session,
     attempt: &mut Attempt,
     shard: u8,
     run: &Run,
+    all: &BasedList,
 ) -> Result<Result<u64, Reply>, SessionError>
     requires attends { Attends (B.known backend.old) (closed session.now) }
     requires holds { Holds (B.known backend.old) attempt.old }
     requires next { next_event attempt.old ≡ Next.Prepare shard run.now }
+    requires all { all.now ≡ in_shard attempt.old.shards shard (based attempt.old.snaps run.now.observations) }
+    requires few { length run.now.observations < 2 ^ 32 }
     ensures makes { Makes B.known B.goes session.now attempt.old backend.old (moved_on_prepare shard attempt.new result) backend.new }
     ensures pauses { IfOk result (λ front. OnOk front (KeepsPauses attempt.old attempt.new)) }
+    ensures snaps { IfOk result (λ front. OnOk front (attempt.new.snaps ≡ attempt.old.snaps)) }
     ensures home { B.home backend.new ≡ B.home backend.old }
 {
-    let all = based_here(alloc, attempt, run, shard)?;
-    let answer = backend.prepare(shard, &all);
+    let answer = backend.prepare(shard, all);
     after_prepare(attempt, shard, answer)
 }
 
-/// What is handed to the journal, where that isn't too much.
+/// What is handed to the journal, where the observations with bases are at hand.
+fn ready_with(
+    session: &Session,
+    attempt: &Attempt,
+    run: Run,
+    based: BasedList,
+) -> Result<Ready, AllocError>
+    requires { AreAllOf attempt.now run (Some based) }
+    ensures { IfOk result (λ ready. ready ≡ ready_of attempt.now run session.now.client session.now.seq) }
+{
+    Ok(Ready {
+        client: session.client,
+        seq: session.seq,
+        body: attempt.body.source.clone()?,
+        run,
+        based,
+        fronts: attempt.fronts.clone()?,
+    })
+}
+
+/// What is handed to the journal, where that isn't too much. Observations with bases that are at hand aren't made again.
 fn readied(
     alloc: Global,
     session: &Session,
     attempt: &Attempt,
     run: Run,
+    based: Option<BasedList>,
 ) -> Result<Ready, SessionError>
-    requires { next_event attempt.now ≡ Next.Append run }
+    requires next { next_event attempt.now ≡ Next.Append run }
+    requires based { AreAllOf attempt.now run based }
     ensures ok { IfOk result (λ ready. ready ≡ ready_of attempt.now run session.now.client session.now.seq) }
     ensures few { IfOk result (λ ready. length run.observations < 2 ^ 32) }
     ensures err { (e : SessionError) → result ≡ Err e → e ≡ SessionError.NoMemory }
@@ -178,7 +216,11 @@ fn readied(
     if run.observations.len() > MOST_OBSERVATIONS {
         return Err(SessionError::NoMemory);
     }
-    match attempt.ready(alloc, run, session.client, session.seq) {
+    let ready = match based {
+        Some(all) => ready_with(session, attempt, run, all),
+        None => attempt.ready(alloc, run, session.client, session.seq),
+    };
+    match ready {
         Ok(ready) => Ok(ready),
         Err(AllocError) => Err(SessionError::NoMemory),
     }
@@ -191,32 +233,40 @@ fn append_event<B: Backend>(
     session: &Session,
     attempt: &Attempt,
     run: Run,
+    based: Option<BasedList>,
 ) -> Result<Reply, SessionError>
     requires attends { Attends (B.known backend.old) (closed session.now) }
     requires holds { Holds (B.known backend.old) attempt.now }
     requires next { next_event attempt.now ≡ Next.Append run }
+    requires based { AreAllOf attempt.now run based }
     ensures makes { Makes B.known B.goes session.now attempt.now backend.old (moved_on_append attempt.now result) backend.new }
     ensures home { B.home backend.new ≡ B.home backend.old }
 {
-    let ready = readied(alloc, session, attempt, run)?;
+    let ready = readied(alloc, session, attempt, run, based)?;
     let answer = backend.append(&ready);
     let Ready { run, .. } = ready;
     after_append(attempt, run.outcome, answer)
 }
 
-/// The next event of an attempt, by what is known of its run. A run that is known is taken.
-fn next_of(alloc: Global, attempt: &Attempt, known: &mut Remembered) -> Result<Next, SessionError>
+/// The next event of an attempt, by what is known of its run, and what that observed with bases, where it is at hand. A run that
+/// is known is taken.
+fn next_of(
+    alloc: Global,
+    attempt: &Attempt,
+    known: &mut Remembered,
+) -> Result<(Next, Option<BasedList>), SessionError>
     requires { IsKnownOf attempt.now known.old }
-    ensures ok { IfOk result (λ next. next ≡ next_event attempt.now) }
+    ensures ok { IfOk result (λ next. next.0 ≡ next_event attempt.now) }
+    ensures based { IfOk result (λ next. (run : Run) → next.0 ≡ Next.Append run → AreAllOf attempt.now run next.1) }
     ensures known { IfOk result (λ next. IsKnownOf attempt.now known.new) }
-    ensures taken { IfOk result (λ next. known.new.run ≡ None) }
+    ensures taken { IfOk result (λ next. known.new.ran ≡ None) }
     ensures err { (e : SessionError) → result ≡ Err e → e ≡ SessionError.NoMemory }
 {
-    if let Some(run) = known.run.take() {
-        return Ok(attempt.next_on(run));
+    if let Some(Ran { run, based }) = known.ran.take() {
+        return Ok((attempt.next_on(run), based));
     }
     match attempt.next_from(alloc, &mut known.pause) {
-        Ok(next) => Ok(next),
+        Ok(next) => Ok((next, None)),
         Err(AllocError) => Err(SessionError::NoMemory),
     }
 }
@@ -249,21 +299,27 @@ pub fn event_on<B: Backend>(
     ensures known { IfOk result (λ end. Remembers attempt.new end known.new) }
     ensures home { B.home backend.new ≡ B.home backend.old }
 {
-    match next_of(alloc, attempt, known)? {
+    let (next, based) = next_of(alloc, attempt, known)?;
+    match next {
         Next::Read(address) => {
             read_event(backend, session, attempt, address)?;
             Ok(None)
         }
         Next::Prepare(shard, run) => {
-            match prepare_event(alloc, backend, session, attempt, shard, &run)? {
+            let all = based_here(alloc, attempt, &run, shard)?;
+            match prepare_event(backend, session, attempt, shard, &run, &all)? {
                 Ok(_) => {
-                    known.run = Some(run);
+                    let based = whole(&run, all);
+                    known.ran = Some(Ran { run, based });
                     Ok(None)
                 }
                 Err(reply) => Ok(Some(reply)),
             }
         }
-        Next::Append(run) => Ok(Some(append_event(alloc, backend, session, attempt, run)?)),
+        Next::Append(run) => {
+            let reply = append_event(alloc, backend, session, attempt, run, based)?;
+            Ok(Some(reply))
+        }
     }
 }
 
@@ -287,13 +343,14 @@ pub fn event<B: Backend>(
             Ok(Moved::More(attempt, Reply::Read(shown, base)))
         }
         Next::Prepare(shard, run) => {
-            match prepare_event(alloc, backend, session, &mut attempt, shard, &run)? {
+            let all = based_here(alloc, &attempt, &run, shard)?;
+            match prepare_event(backend, session, &mut attempt, shard, &run, &all)? {
                 Ok(front) => Ok(Moved::More(attempt, Reply::Prepared(shard, front))),
                 Err(reply) => Ok(Moved::End(attempt, reply)),
             }
         }
         Next::Append(run) => {
-            let reply = append_event(alloc, backend, session, &attempt, run)?;
+            let reply = append_event(alloc, backend, session, &attempt, run, None)?;
             Ok(Moved::End(attempt, reply))
         }
     }

@@ -2,4 +2,4 @@ use Rattle.session_core.specs.Remembering.{IsKnownOf}
 use Rattle.session_core.proofs.remembered.Remembered.nothing.Goals as goal
 
 pub returns : goal.returns
-returns c = λ a. record { run = tt; pause = c.begun.ensures a.body.body.stmts a.snaps }
+returns c = λ a. record { ran = tt; pause = c.begun.ensures a.body.body.stmts a.snaps }
