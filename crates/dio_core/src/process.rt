@@ -9,6 +9,7 @@ ghost use Rattle.dio_core.specs.Links.{no_sink, no_source, incoming, outgoing};
 use crate::count::Count;
 use crate::sink::{Sink, Took};
 use crate::source::{Got, Source, copy_through};
+use memchr::memrchr;
 use std::alloc::{AllocError, Global};
 use std::io::{BufRead, BufReader, Read, Write};
 use std::marker::Model;
@@ -85,7 +86,7 @@ impl<R: Read + Drop> Source for StdSource<R> {
 
     // From behind, where of several lines the newline of the last is near.
     fn sees(&self, last: u8) -> bool {
-        self.reader.buffer().iter().rev().any(|byte| *byte == last)
+        memrchr(last, self.reader.buffer()).is_some()
     }
 
     fn read_faults(&self) -> u64 {

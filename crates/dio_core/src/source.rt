@@ -6,6 +6,8 @@ ghost use Rattle.dio_core.specs.Counts.{IsCounted};
 ghost use Rattle.dio_core.specs.Sources.{Gives, StopsAt, IsAhead, length_through, read_failed};
 ghost use Rattle.dio_core.specs.Links.{Outgoing};
 
+use memchr::memchr;
+
 /// What a read gave.
 #[derive(Clone, Copy, Debug, PartialEq, Eq)]
 pub enum Got {
@@ -79,5 +81,5 @@ pub fn copy_through(last: u8, bytes: &[u8], buf: &mut [u8]) -> usize
 fn place_of(wanted: u8, bytes: &[u8]) -> Option<usize>
     ensures { result ≡ position (λ byte. byte == wanted) bytes.now }
 {
-    bytes.iter().position(|byte| *byte == wanted)
+    memchr(wanted, bytes)
 }
