@@ -20,8 +20,7 @@ use Rattle.txn_lang.specs.declared.checked.Checked.{Checked}
 use Rattle.txn_lang.specs.declared.commit.Commit.{Commit}
 use Rattle.txn_lang.specs.declared.run.Run.{Run}
 use Rattle.txn_lang.specs.declared.snaps.Snap.{Snap}
-use Rattle.txn_lang.specs.States.{Journal, known, state}
-use Rattle.txn_lang.specs.Execution.{exec, done}
+use Rattle.txn_lang.specs.States.{Journal, state}
 use Rattle.journal_core.specs.Changes.{adding}
 use Rattle.journal_core.specs.Pairs.{pairs}
 use Rattle.docc_prepare.specs.declared.attempt.Attempt.{Attempt}
@@ -30,6 +29,7 @@ use Rattle.docc_prepare.specs.Attempts.{based, in_shard, next_event, Prepares, w
 use Rattle.docc_prepare.specs.Witnesses.{least_witness}
 use Rattle.docc_prepare.specs.Calls.{Known}
 use Rattle.docc_prepare.specs.Backends.{IsPrefix, IsLeastBase}
+pub use Rattle.client_watches.specs.Explained.{IsOutcomeAt}
 use Rattle.client_watches.specs.Explained.{Shown, ShownList, shown_of, SyncPasses, WatchPasses, UnwatchPasses}
 use Rattle.plain_data.specs.Texts.{Bytes}
 use Rattle.session_core.specs.declared.line.Line.{Line}
@@ -172,12 +172,6 @@ StepPasses set journal y a (reply.Prepared shard front) = Prepares a shard × Fi
 StepPasses set journal y a r = EndPasses set journal y.low y.attempting a r
 
 -- ---- looks
-
--- the outcome is that of the body on the first n commits
-pub record IsOutcomeAt (journal : Journal) (body : Checked) (n : ℕ) (outcome : Outcome) : Type 0 where
-  pub run : Run
-  pub ran : exec body.body (known (state journal n)) ≡ done run
-  pub outcome_is : outcome ≡ run.outcome
 
 -- `look`, a row a reply
 abbrev pub LookPasses : Setting → Journal → ℕ → Checked → Reply → Type 0

@@ -28,6 +28,7 @@ mod watches;
 mod words;
 
 pub use body::body_of;
+pub use client_watches::ReplyList;
 pub use error::SessionError;
 pub use laws::{
     calls_suffice, explained_stays, failures_alone_break, lines_are_bounded, lines_are_ready,
@@ -37,5 +38,5 @@ pub use limits::{MOST_CALLS, MOST_EVENTS};
 pub use line::Line;
 pub use reading::read_line;
 pub use session::Session;
-pub use turn::{ReplyList, Turn};
+pub use turn::Turn;
 pub use words::{is_quiet, trimmed_end, trimmed_start};

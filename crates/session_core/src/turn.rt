@@ -1,10 +1,6 @@
 //! What a line is answered.
 
-use plain_data::Sequence;
-use session_text::Reply;
-
-/// Replies, one after another.
-pub type ReplyList = Sequence<Reply>;
+use client_watches::ReplyList;
 
 /// What a line is answered.
 #[derive(Debug, Drop, PartialEq, Eq)]
