@@ -18,6 +18,7 @@ within-from : (n k : ℕ) (bs : List Based) → k ≤ n → AllByRecursion (λ (
 within-from n k [] le all = le
 within-from n k (b ∷ bs) le all = let first = all.0 in within-from n (max k b.base) bs (omega arith) all.1
 
+-- so where none is past a number, the greatest base isn't: it is 0 where there is none
 pub greatest-within : (n : ℕ) (bs : List Based) → AllByRecursion (λ (b : Based). b.base ≤ n) bs → greatest_base bs ≤ n
 greatest-within n bs all = within-from n 0 bs (omega arith) all
 

@@ -18,11 +18,12 @@ use Rattle.diamond_store.specs.declared.decision.Decision.TheVariants as decisio
 use Rattle.diamond_store.specs.Books.{denials_after, IsAtMostRise}
 use Rattle.diamond_store.specs.Settling.{CountsFaults, HasSettled, IsAsBefore}
 
--- what holds anyway holds at an error, and at a success
+-- what holds anyway holds at an error
 pub on_err : {A E : Type 0} (r : Result A E) (P : Type 0) → P → OnErr r P
 on_err (Ok a) P p = tt
 on_err (Err e) P p = p
 
+-- and at a success
 pub on_ok : {A E : Type 0} (r : Result A E) (P : Type 0) → P → OnOk r P
 on_ok (Ok a) P p = p
 on_ok (Err e) P p = tt

@@ -65,7 +65,8 @@ module _ (journal later : Journal) (more : IsPrefix journal later) (numbered : A
   }
 
   -- and what changed up to a number of the first commits is what changed in them
-  pub feed-first : (addresses : List Address) (from to : ℕ) → to ≤ length journal → feed_between later addresses from to ≡ feed_between journal addresses from to
+  pub feed-first : (addresses : List Address) (from to : ℕ) → to ≤ length journal
+      → feed_between later addresses from to ≡ feed_between journal addresses from to
   feed-first addresses from to within =
       ap (λ (cs : List Change). let f : Fed = record { to = to; changes = with_changes [] (filter (λ c. is_in addresses c.address) (past from cs)) } in f)
       (changes-first to within)
@@ -219,7 +220,8 @@ tells-taken (Ok a) journal old new client tells front is same =
 tells-taken (Err e) journal old new client tells front is same = tells-same journal old new tells front same
 
 -- where all deltas are at some addresses, there is none elsewhere
-nothing-elsewhere : (addresses : List Address) (deltas : Deltas) → list_all (λ pair. is_in addresses pair.0) deltas ≡ true → (a : Address) → is_in addresses a ≡ false
+nothing-elsewhere : (addresses : List Address) (deltas : Deltas) → list_all (λ pair. is_in addresses pair.0) deltas ≡ true
+    → (a : Address) → is_in addresses a ≡ false
     → delta_at deltas a ≡ None
 nothing-elsewhere addresses [] within a out = refl
 nothing-elsewhere addresses (pair ∷ deltas) within a out =

@@ -26,6 +26,10 @@ feed_between journal addresses from to = record {
   changes = with_changes [] (filter (λ change. is_in addresses change.address) (between from to (changes journal)));
 }
 
+-- It is what changed at some addresses since a number, up to the registry's front, in every journal that the registry tells.
+abbrev pub IsFeedOf : Registered → List Address → ℕ → Fed → Type 0
+IsFeedOf registry addresses from feed = (journal : Journal) → Tells journal registry → feed ≡ feed_between journal addresses from registry.front
+
 abbrev counter : List ℕ → Address
 counter key = record { kind = kind.Counter; key = key }
 

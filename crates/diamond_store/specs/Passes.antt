@@ -39,7 +39,22 @@ passed_code commit address =
     code_by (ℕ × (Journal × (ℕ × (List Address × (ℕ × (ℕ × (ℕ × (ℕ × (ℕ × (ℕ × (ℕ × (ℕ × ℕ))))))))))))
     (coded× coded_ℕ (coded× (coded_list commit) (coded× coded_ℕ (coded× (coded_list address) (coded× coded_ℕ (coded× coded_ℕ (coded× coded_ℕ
     (coded× coded_ℕ (coded× coded_ℕ (coded× coded_ℕ (coded× coded_ℕ (coded× coded_ℕ coded_ℕ))))))))))))
-    (λ p. (p.client, (p.journal, (p.seen, (p.subscribed, (p.taken, (p.denied, (p.denials, (p.draws, (p.looks, (p.shards, (p.window, (p.limit, p.trusted)))))))))))))
+    (λ p. (
+      p.client,
+      (
+        p.journal,
+        (
+          p.seen,
+          (
+            p.subscribed,
+            (
+              p.taken,
+              (p.denied, (p.denials, (p.draws, (p.looks, (p.shards, (p.window, (p.limit, p.trusted))))))),
+            ),
+          ),
+        ),
+      ),
+    ))
     (λ t. record {
       client = t.0;
       journal = t.1.0;

@@ -9,6 +9,8 @@ use Rattle.txn_lang.specs.declared.snaps.Snap.{Snap}
 use Rattle.txn_lang.specs.States.{Journal, state}
 use Rattle.journal_core.specs.Pairs.{pairs}
 use Rattle.version_shard.specs.declared.prepared.Prepared.{Prepared}
+use Rattle.version_shard.specs.Shards.{Sharded}
+use Rattle.version_shard.specs.Standing.{HoldsSoFar}
 use Rattle.docc_prepare.specs.declared.backend.PrepareError.{PrepareError}
 use Rattle.docc_prepare.specs.declared.backend.PrepareError.TheVariants as prepare_error
 use Rattle.docc_prepare.specs.declared.backend.ReadAtError.{ReadAtError}
@@ -16,6 +18,7 @@ use Rattle.docc_prepare.specs.declared.backend.ReadAtError.TheVariants as read_a
 use Rattle.docc_prepare.specs.Backends.{IsLeastBase}
 use Rattle.docc_prepare.specs.Witnesses.{least_witness}
 use Rattle.diamond_store.specs.declared.replica.Validation.{Validation}
+use Rattle.diamond_store.specs.Following.{IsSound}
 
 -- the value that so many commits of the journal leave, no fewer than were seen
 pub record ReadsFrom (seen : ℕ) (journal : Journal) (address : Address) (snap : Snap) : Type 0 where
@@ -44,6 +47,12 @@ Finds journal window shard based front (Err (prepare_error.Clash witness)) =
     (least_witness based journal ≡ Some witness) × (witness.number ≤ front) × IsOfOneKind witness
 Finds journal window shard based front (Err prepare_error.Fault) = ⊥
 Finds journal window shard based front (Err prepare_error.NoMemory) = Unit {0}
+
+-- It finds this at its front in every sound journal for which it holds, of observations that aren't past the front.
+abbrev pub FindsAlong : Sharded → List Based → Result Prepared PrepareError → Type 0
+FindsAlong shard based answer =
+    (m : ℕ) (journal : Journal) → IsSound m journal → shard.front ≤ length journal → HoldsSoFar journal shard
+    → AllByRecursion (λ b. b.base ≤ shard.front) based → Finds journal shard.window shard.number based shard.front answer
 
 -- The shard was at a front within the journal, and found this there.
 pub record IsValidation (journal : Journal) (window shard : ℕ) (based : List Based) (validation : Validation) : Type 0 where

@@ -1,7 +1,7 @@
 //! What stands behind the registry's lock: the registry of subscriptions, and a token that has seen at least the commits that
 //! it has followed.
 
-ghost use Rattle.std.specs.Prelude.{◌≡◌, ℕ, ◌≤◌, ◌<◌, true, length, Some, None, if◌then◌else◌, IfOk, IfSome, OnOk};
+ghost use Rattle.std.specs.Prelude.{◌≡◌, ℕ, ◌≤◌, ◌<◌, true, length, Some, None, if◌then◌else◌, IfOk, IfSome, OnOk, OnErr};
 ghost use Rattle.std.specs.Bool.{MatchBool};
 ghost use Rattle.std.specs.BTreeMap.{is_at};
 ghost use mathlib.Core.List.{IsPrefix};
@@ -14,7 +14,7 @@ ghost use Rattle.journal_core.specs.Changes.{changes, between, of_address};
 ghost use Rattle.journal_core.specs.Tails.{HasAll};
 ghost use Rattle.reactive_registry.specs.Registered.{is_subscribed};
 ghost use Rattle.diamond_store.specs.Appending.{client_of};
-ghost use Rattle.diamond_store.specs.Feeders.{Tells, taken_of, feed_between};
+ghost use Rattle.diamond_store.specs.Feeders.{Tells, IsFeedOf, taken_of, feed_between};
 ghost use Rattle.diamond_store.specs.Following.{Follows};
 ghost use Rattle.diamond_store.specs.Passes.{is_in};
 
@@ -135,6 +135,7 @@ fn follow<K: Keep, N: Naming, R: Wait>(
     ensures begins { IsPrefix token.old.seen token.new.seen }
     ensures tells { Tells token.new.seen registry.new }
     ensures reached { OnOk result (registry.new.front ≡ to) }
+    ensures err { OnErr result (registry.new.front ≡ registry.old.front) }
 {
     let front = registry.front();
     if front == to {
@@ -216,8 +217,7 @@ fn take_pending(
     requires told { (a : Address) → is_in addresses.now.keys a ≡ true → is_subscribed registry.old client a ≡ true }
     ensures front { registry.new.front ≡ registry.old.front }
     ensures tells { (journal : Journal) → Tells journal registry.old → Tells journal registry.new }
-    ensures feed { IfOk result (λ found. IfSome found (λ feed. (journal : Journal) → Tells journal registry.old
-        → feed ≡ feed_between journal addresses.now.keys taken registry.old.front)) }
+    ensures feed { IfOk result (λ found. IfSome found (IsFeedOf registry.old addresses.now.keys taken)) }
     ensures took { OnOk result (taken_of registry.new client ≡ Some registry.old.front) }
 {
     let feed = registry.take(client)?;

@@ -13,10 +13,10 @@ ghost use Rattle.diamond_store.specs.Following.{Follows, IsSound};
 ghost use Rattle.diamond_store.specs.Numbers.{shards_in, window_in, HasSettings};
 ghost use Rattle.diamond_store.specs.Replicas.{Replicates};
 ghost use Rattle.diamond_store.specs.Reading as reading;
-ghost use Rattle.diamond_store.specs.Reading.{ReadsFrom, ReadsBack, Finds, IsValidation};
+ghost use Rattle.diamond_store.specs.Reading.{ReadsFrom, ReadsBack, FindsAlong, IsValidation};
 ghost use Rattle.txn_lang.specs.States.{Journal};
 ghost use Rattle.version_shard.specs.Shards.{IsIn};
-ghost use Rattle.version_shard.specs.Standing.{Holds};
+ghost use Rattle.version_shard.specs.Standing.{HoldsSoFar};
 
 use crate::book::Book;
 use crate::gate::Gate;
@@ -163,9 +163,7 @@ fn validate<L: Ledger>(
     requires one { blank.parts ≡ 1 }
     requires here { AllByRecursion (λ b. shard_of b.address shard.now.shards ≡ shard.now.number) based.now }
     requires kinds { AllByRecursion IsBasedOfOneKind based.now }
-    ensures { (m : ℕ) (journal : Journal) → IsSound m journal → shard.now.front ≤ length journal → Holds (take shard.now.front journal) shard.now
-        → AllByRecursion (λ b. b.base ≤ shard.now.front) based.now
-        → Finds journal shard.now.window shard.now.number based.now shard.now.front result }
+    ensures { FindsAlong shard.now based.now result }
 {
     let mut steps = Steps::<L>::new(blank);
     match shard.validate(based, &mut steps) {
@@ -241,7 +239,7 @@ fn value_at(
 ) -> Result<Result<Value, ReadAtError>, AllocError>
     requires here { IsIn shard.now address.now }
     requires within { number ≤ shard.now.front }
-    ensures { (journal : Journal) → shard.now.front ≤ length journal → Holds (take shard.now.front journal) shard.now
+    ensures { (journal : Journal) → shard.now.front ≤ length journal → HoldsSoFar journal shard.now
         → IfOk result (ReadsBack journal shard.now.window address.now number) }
 {
     match shard.read_at(address, number) {

@@ -15,7 +15,7 @@ use Rattle.txn_lang.specs.Execution.{exec}
 use Rattle.journal_core.specs.declared.ready.Ready.{Ready}
 use Rattle.docc_prepare.specs.Calls.{Call}
 use Rattle.docc_prepare.specs.Stores.{Store, front_of, seen_by, witness_past, decided, step, followed, IsSound}
-use Rattle.docc_prepare.specs.Worlds.{Watch, RunsAt, IsReported, report, with_report}
+use Rattle.docc_prepare.specs.Worlds.{Watch, RunsAt, IsReported, with_report}
 use Rattle.docc_prepare.proofs.Each.{each-more}
 use Rattle.docc_prepare.proofs.Stored.{rises, Grown}
 

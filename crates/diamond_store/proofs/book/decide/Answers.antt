@@ -18,7 +18,8 @@ witness-requires-clause-found g c =
 
 pub returns-in_err-witness-in-Clash-clause-err : goal.returns-in_err-witness-in-Clash-clause-err
 returns-in_err-witness-in-Clash-clause-err g c =
-    on_err c.from_residual-in_err-witness-in-Clash.result _ (as-before c.args.ready.now c.args.journal.now c.reserve.new.self c.reserve.ensures.same c.append.new.self c.in-Clash.ensures.decides.1)
+    on_err c.from_residual-in_err-witness-in-Clash.result _
+    (as-before c.args.ready.now c.args.journal.now c.reserve.new.self c.reserve.ensures.same c.append.new.self c.in-Clash.ensures.decides.1)
 
 pub returns-in-Number-clause-settled : goal.returns-in-Number-clause-settled
 returns-in-Number-clause-settled g c =
