@@ -27,7 +27,6 @@ mod waiting;
 mod watches;
 mod words;
 
-pub use body::body_of;
 pub use error::SessionError;
 pub use laws::{
     calls_suffice, explained_stays, failures_alone_break, lines_are_bounded, lines_are_ready,
