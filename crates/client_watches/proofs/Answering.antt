@@ -24,16 +24,16 @@ use Rattle.client_watches.specs.Watching.{after_feed, with_value, is_idle, witho
 use Rattle.client_watches.specs.Phases.{Phase, Goal, Job, Then, asks, after, drop_idle, then_on, ending, rerun_all, go_on}
 use Rattle.client_watches.specs.Standing.{Subscribes, Stands, CanRead, CanReadOn}
 use Rattle.client_watches.specs.Leading.{Leads}
-use Rattle.client_watches.specs.Explained.{ShownList, shown_of, Reports, AllHold, IsShownAt, IsCutShort}
-use Rattle.client_watches.specs.Explained.{GoalPasses}
+use Rattle.client_watches.specs.Explained.{ShownList, shown_of, Reports, AllHold, IsShownAt, IsCutShort, IsCutAtRerun}
+use Rattle.client_watches.specs.Explained.{IsUnknown, GoalPasses}
 use Rattle.client_watches.proofs.Names.{none-told}
 use Rattle.client_watches.proofs.Kept.{keeps-on, keeps-value, keeps-values, keeps-feed}
 use Rattle.client_watches.proofs.Journals.{prefix-shorter, prefix-state, prefix-again}
-use Rattle.client_watches.proofs.Stays.{AreUpTo, outcome-stays, reports-stay, hold-stay, stands-stay, reports-up-to}
+use Rattle.client_watches.proofs.Stays.{AreUpTo, outcome-stays, reports-stay, hold-stay, hold-before, stands-stay, reports-up-to}
 use Rattle.client_watches.proofs.Values.{held-advanced, rise-advanced, held-filled, rise-filled, held-released, rise-released, at-turned}
 use Rattle.client_watches.proofs.Moving.{stands-value, stands-without_value, stands-feed}
-use Rattle.client_watches.proofs.Telling.{shown-told, all-up-to, up-to-more, IsReady, Going, IsFree, JobTells, ThenTells, PhaseTells, drops-on}
-use Rattle.client_watches.proofs.Telling.{ending-tells, first-tells, reruns-tell}
+use Rattle.client_watches.proofs.Telling.{shown-told, shown-named, all-up-to, up-to-more, IsReady, IsNew, Going, IsLeft, IsFree}
+use Rattle.client_watches.proofs.Telling.{JobTells, ThenTells, PhaseTells, drops-on, ending-tells, first-tells, reruns-tell}
 
 -- ---- what is subscribed to
 
@@ -110,6 +110,7 @@ module _ (window low : ℕ) (goal : Goal) (story : ShownList) (old new : Journal
     before = is.before;
     reports = reports-stay old new could.readable.numbered can.readable.numbered p w.cache.at is.stands.within story said (shown_of w.watches)
         is.before is.reports;
+    new = is.new;
   }
 
   -- and that all hold
@@ -117,8 +118,14 @@ module _ (window low : ℕ) (goal : Goal) (story : ShownList) (old new : Journal
   holds-stay w is all = hold-stay old new could.readable.numbered can.readable.numbered p w.cache.at is.within (shown_of w.watches)
       (all-up-to old w.cache w.watches is.watches) all
 
+  -- and that one is left to run
+  left-stays : (w : Watching) → Stands old w → IsLeft window low goal story old w → IsLeft window low goal story new w
+  left-stays w is some all = some (hold-before old new could.readable.numbered can.readable.numbered p w.cache.at is.within (shown_of w.watches)
+      (all-up-to old w.cache w.watches is.watches) all)
+
+  -- so what a job tells stays
   job-stays : (job : Job) (w : Watching) (said : List Reply) → JobTells window low goal story old job w said → JobTells window low goal story new job w said
-  job-stays (Job.rerun_for g) w said is = (is.0, going-stays w said is.1)
+  job-stays (Job.rerun_for g) w said is = (is.0, going-stays w said is.1, left-stays w is.1.stands is.2)
   job-stays (Job.first_of name body) w said is = (is.0, going-stays w said is.1, holds-stay w is.1.stands is.2)
 
 -- ---- replies that pass
@@ -130,9 +137,11 @@ module _ (window low : ℕ) (story : ShownList) (upto : AreUpTo low story) (old 
   shown-stays : (n : ℕ) → IsShownAt low n old → IsShownAt low n new
   shown-stays n is = record { not_back = is.not_back; within = let w = is.within in let up = prefix-shorter old new p in omega arith }
 
+  -- nor was one reported past it
   at-most : (n : ℕ) → IsShownAt low n old → AreUpTo n story
   at-most n is = up-to-more low n story is.not_back upto
 
+  -- a cut is one of the longer journal's
   cut-stays : (said : List Reply) (later : ShownList) → IsCutShort window old low story said later → IsCutShort window new low story said later
   cut-stays said later is = record {
     n = is.n;
@@ -140,41 +149,54 @@ module _ (window low : ℕ) (story : ShownList) (upto : AreUpTo low story) (old 
     shown_at = shown-stays is.n is.shown_at;
     below = is.below;
     behind = let b = is.behind in let up = prefix-shorter old new p in omega arith;
-    front = is.front;
-    reports = reports-stay old new could.readable.numbered can.readable.numbered p is.n is.shown_at.within story is.front later
+    prefix = is.prefix;
+    reports = reports-stay old new could.readable.numbered can.readable.numbered p is.n is.shown_at.within story is.prefix later
         (at-most is.n is.shown_at) is.reports;
     replies_are = is.replies_are;
   }
 
+  -- and where a rerun was left, it is left
+  rerun-stays : (said : List Reply) (later : ShownList) → IsCutAtRerun window old low story said later → IsCutAtRerun window new low story said later
+  unfolding cut-stays
+  rerun-stays said later is = record {
+    cut = cut-stays said later is.cut;
+    some = λ all. is.some (hold-before old new could.readable.numbered can.readable.numbered p is.cut.n is.cut.shown_at.within later
+        (reports-up-to old is.cut.n is.cut.n story is.cut.prefix later (omega arith) (at-most is.cut.n is.cut.shown_at) is.cut.reports) all);
+  }
+
+  -- a row a reply
   pub passes-stay : (goal : Goal) (said : List Reply) (later : ShownList) → GoalPasses window old low goal story said later
       → GoalPasses window new low goal story said later
   passes-stay Goal.current said later (inl is) = inl (record {
     n = is.n;
     shown_at = shown-stays is.n is.shown_at;
-    front = is.front;
-    reports = reports-stay old new could.readable.numbered can.readable.numbered p is.n is.shown_at.within story is.front later
+    prefix = is.prefix;
+    reports = reports-stay old new could.readable.numbered can.readable.numbered p is.n is.shown_at.within story is.prefix later
         (at-most is.n is.shown_at) is.reports;
     all = hold-stay old new could.readable.numbered can.readable.numbered p is.n is.shown_at.within later
-        (reports-up-to old is.n is.n story is.front later (omega arith) (at-most is.n is.shown_at) is.reports) is.all;
+        (reports-up-to old is.n is.n story is.prefix later (omega arith) (at-most is.n is.shown_at) is.reports) is.all;
     replies_are = is.replies_are;
   })
-  passes-stay Goal.current said later (inr is) = inr (cut-stays said later is)
+  passes-stay Goal.current said later (inr is) = inr (rerun-stays said later is)
   passes-stay (Goal.watch name body) said later (inl is) = inl is
-  passes-stay (Goal.watch name body) said later (inr (inl is)) = inr (inl (record {
-    n = is.n;
-    shown_at = shown-stays is.n is.shown_at;
-    front = is.front;
-    others = is.others;
-    reports = reports-stay old new could.readable.numbered can.readable.numbered p is.n is.shown_at.within story is.front is.others
-        (at-most is.n is.shown_at) is.reports;
-    all = hold-stay old new could.readable.numbered can.readable.numbered p is.n is.shown_at.within is.others
-        (reports-up-to old is.n is.n story is.front is.others (omega arith) (at-most is.n is.shown_at) is.reports) is.all;
-    outcome = is.outcome;
-    outcome_is = outcome-stays old new could.readable.numbered can.readable.numbered p body is.n is.outcome is.shown_at.within is.outcome_is;
-    replies_are = is.replies_are;
-    later_are = is.later_are;
-  }))
-  passes-stay (Goal.watch name body) said later (inr (inr is)) = inr (inr (cut-stays said later is))
+  passes-stay (Goal.watch name body) said later (inr (new_name, inl is)) = inr (
+    new_name,
+    inl (record {
+      n = is.n;
+      shown_at = shown-stays is.n is.shown_at;
+      prefix = is.prefix;
+      others = is.others;
+      reports = reports-stay old new could.readable.numbered can.readable.numbered p is.n is.shown_at.within story is.prefix is.others
+          (at-most is.n is.shown_at) is.reports;
+      all = hold-stay old new could.readable.numbered can.readable.numbered p is.n is.shown_at.within is.others
+          (reports-up-to old is.n is.n story is.prefix is.others (omega arith) (at-most is.n is.shown_at) is.reports) is.all;
+      outcome = is.outcome;
+      outcome_is = outcome-stays old new could.readable.numbered can.readable.numbered p body is.n is.outcome is.shown_at.within is.outcome_is;
+      replies_are = is.replies_are;
+      later_are = is.later_are;
+    }),
+  )
+  passes-stay (Goal.watch name body) said later (inr (new_name, inr is)) = inr (new_name, inr (cut-stays said later is))
 
 -- ---- one step
 
@@ -210,6 +232,7 @@ module _ (window low : ℕ) (goal : Goal) (story : ShownList) (upto : AreUpTo lo
             before = subst (λ (n : ℕ). AreUpTo n story) (sym at) on.1.before;
             reports = subst (λ (n : ℕ). Reports new n story said (shown_of v.watches)) (sym at)
                 (subst (λ (ws : Watches). Reports new w.cache.at story said (shown_of ws)) (sym watches) on.1.reports);
+            new = on.1.new;
           },
           subst (λ (n : ℕ). AllHold new n (shown_of v.watches)) (sym at)
               (subst (λ (ws : Watches). AllHold new w.cache.at (shown_of ws)) (sym watches) on.2),
@@ -230,12 +253,8 @@ module _ (window low : ℕ) (goal : Goal) (story : ShownList) (upto : AreUpTo lo
       → IsBelowHorizon k w.cache.at horizon new
       → JobTells window low goal story new job w said
       → GoalPasses window new low goal story (said ++ reply.Late w.cache.at horizon ∷ []) (shown_of w.watches)
-  late-passes job w said horizon same within late is = by goal (going job is)
+  late-passes job w said horizon same within late is = by job is
     where
-      going : (j : Job) → JobTells window low goal story new j w said → Going window low goal story new w said
-      going (Job.rerun_for g) h = h.1
-      going (Job.first_of name body) h = h.1
-
       cut : Going window low goal story new w said → IsCutShort window new low story (said ++ reply.Late w.cache.at horizon ∷ []) (shown_of w.watches)
       cut h = record {
         n = w.cache.at;
@@ -243,15 +262,22 @@ module _ (window low : ℕ) (goal : Goal) (story : ShownList) (upto : AreUpTo lo
         shown_at = record { not_back = h.shown_at; within = within };
         below = late.below;
         behind = let b = late.behind in omega arith;
-        front = said;
+        prefix = said;
         reports = h.reports;
         replies_are = refl;
       }
 
-      by : (g : Goal) → Going window low goal story new w said
+      rerun : (g : Goal) → IsNew window low goal story g → Going window low goal story new w said → IsLeft window low goal story new w
           → GoalPasses window new low g story (said ++ reply.Late w.cache.at horizon ∷ []) (shown_of w.watches)
-      by Goal.current h = inr (cut h)
-      by (Goal.watch name body) h = inr (inr (cut h))
+      rerun Goal.current free h some = inr (record { cut = cut h; some = some })
+      rerun (Goal.watch name body) free h some = inr (free, inr (cut h))
+
+      by : (j : Job) → JobTells window low goal story new j w said
+          → GoalPasses window new low goal story (said ++ reply.Late w.cache.at horizon ∷ []) (shown_of w.watches)
+      by (Job.rerun_for g) h = rerun goal h.1.new h.1 h.2
+      by (Job.first_of name body) h =
+          subst (λ g. GoalPasses window new low g story (said ++ reply.Late w.cache.at horizon ∷ []) (shown_of w.watches)) (sym h.0)
+          (inr (subst (λ g. IsNew window low goal story g) h.0 h.1.new, inr (cut h.1)))
 
   -- a name that no watch has, none has after a feed
   free-told : (g : Goal) (w : Watching) (feed : Fed) → IsFree window low goal story g w → IsFree window low goal story g (after_feed w feed)
@@ -282,7 +308,13 @@ module _ (window low : ℕ) (goal : Goal) (story : ShownList) (upto : AreUpTo lo
         shown_at = low_to;
         before = up-to-more low feed.to story low_to upto;
         reports = subst (λ (later : ShownList). Reports new feed.to story [] later) (sym (shown-told feed.changes w.watches ∙ shown)) Reports.no_more;
+        new = new-name goal free;
       })
+    where
+      new-name : (h : Goal) → IsFree window low goal story h w → IsNew window low goal story h
+      new-name Goal.current none = tt
+      new-name (Goal.watch name body) none =
+          subst (λ (list : ShownList). IsUnknown name list) shown (sym (shown-named w.watches name) ∙ ap is_some none)
 
   -- a value was read: changes of it are to be told
   value-kept : (job : Job) (w : Watching) (said : List Reply) (address : Address) (value : Value) → Tells k old (Phase.reading job w said address)
@@ -347,6 +379,7 @@ module _ (window low : ℕ) (goal : Goal) (story : ShownList) (upto : AreUpTo lo
         shown_at = h.shown_at;
         before = h.before;
         reports = h.reports;
+        new = h.new;
       }
 
       by : (j : Job) → JobTells window low goal story new j w said → Tells l new (go_on j v said)
@@ -444,6 +477,7 @@ module _ (T : Known → Journal → Phase → Type 0) (kept : IsKeptBy T) (k : K
             tells = subst (T l new) same (kept m l is.journal new is.can can q call answer is.tells asked event says);
           }
 
+  -- step by step along the way
   pub led : (p : Phase) (n : ℕ) (l : Known) (q : Phase) → CanRead old → k.journal ≡ Some old → T k old p → Leads IsAnswered k p n l q → Led T k l old q
   led p n l q can told tells Leads.stays = record { journal = old; told = told; grows = take-length old; can = can; trusted = refl; tells = tells }
   led p n l r can told tells (Leads.by_step {n = m} {c = mid} {q = q} call answer leads asked step same) =

@@ -31,7 +31,8 @@ use Rattle.rerun_driver.specs.declared.rerun.Rerun.TheVariants as rerun
 use Rattle.rerun_driver.specs.Watches.{Watches, watch_of, all_told, settled, first_stale, next_rerun}
 use Rattle.docc_prepare.specs.Calls.{Call, Answer}
 use Rattle.client_watches.specs.declared.watching.Watching.{Watching}
-use Rattle.client_watches.specs.Watching.{addresses_of, observed_by, after_feed, with_value, with_rerun, with_first, without, is_idle, without_value, stale_count}
+use Rattle.client_watches.specs.Watching.{addresses_of, observed_by, after_feed, with_value, with_rerun, with_first, without, is_idle, without_value}
+use Rattle.client_watches.specs.Watching.{stale_count}
 use Rattle.client_watches.specs.Phases.{Phase, Goal, Job, Then, asks, after, settled as none_loose, drop_idle, then_on, ending, first_by, first_run}
 use Rattle.client_watches.specs.Phases.{caught_up, rerun_by, rerun_up_to, rerun_all, go_on}
 use Rattle.client_watches.specs.Keeping.{AreDistinct}
@@ -43,10 +44,12 @@ use Rattle.client_watches.proofs.Values.{held-filled, at-same}
 
 -- ---- lengths
 
+-- one list behind another is as long as both
 length-behind : {A : Type 0} (xs ys : List A) → length (xs ++ ys) ≡ length xs + length ys
 length-behind [] ys = omega arith
 length-behind (x ∷ xs) ys = let rest = length-behind xs ys in omega arith
 
+-- each observation has one address
 as-many : (seen : List Seen) → length (addresses_of seen) ≡ length seen
 as-many [] = refl
 as-many (z ∷ seen) = ap suc (as-many seen)
@@ -70,6 +73,7 @@ cost (x ∷ ws) = if_stale x.1.stale (cost_of x.1) + cost ws
 pub record CostsLess (ws : Watches) (e : Bytes × Watch) : Type 0 where
   pub less : (v : Watch) → v.stale ≡ false → cost ws ≡ cost_of e.1 + cost (set_value (bytes_eq e.0) ws v)
 
+-- it is the first, so its cost falls away from the front
 cost-here : (x : Bytes × Watch) (ws : Watches) → x.1.stale ≡ true → CostsLess (x ∷ ws) x
 cost-here x ws stale = record {
   less = λ v fresh.
@@ -79,6 +83,7 @@ cost-here x ws stale = record {
       let later : cost ((x.0, v) ∷ ws) ≡ 0 + cost ws = ap (λ b. if_stale b (cost_of v) + cost ws) fresh in omega arith;
 }
 
+-- the first costs nothing, since it isn't stale, and stays where another is set
 cost-behind : (x : Bytes × Watch) (ws : Watches) (e : Bytes × Watch) → x.1.stale ≡ false → bytes_eq e.0 x.0 ≡ false → CostsLess ws e
     → CostsLess (x ∷ ws) e
 cost-behind x ws e fresh other is = record {
@@ -130,7 +135,8 @@ observed-within (x ∷ ws) name = by (bytes_eq name x.0) (observed-within ws nam
 -- ---- a run that has read so many values
 
 -- what is needed and filled in is the next read
-pub filled-next : (b : Body) (cache : Cached) (a : Address) (value : Value) → exec b (held cache) ≡ need a → IsReadNext b (held cache) (held (filled cache a value))
+pub filled-next : (b : Body) (cache : Cached) (a : Address) (value : Value) → exec b (held cache) ≡ need a
+    → IsReadNext b (held cache) (held (filled cache a value))
 filled-next b cache a value needed = record {
   address = a;
   value = value;
@@ -154,6 +160,7 @@ abbrev pub HasRead : Option (Bytes × Watch) → ℕ → PartialState → Type 0
 HasRead None reads state = reads ≡ 0
 HasRead (Some e) reads state = AreReadInTurn e.1.body.body reads state
 
+-- no value was read yet, by whichever watch is the first
 pub none-read : (o : Option (Bytes × Watch)) (state : PartialState) → HasRead o 0 state
 none-read None state = refl
 none-read (Some e) state = tt
@@ -247,6 +254,7 @@ module _ (most : ℕ) where
       by true on = h
       by false on = on
 
+  -- each loose address is let go by one call at most
   ending-within : (w : Watching) (said : List Reply) (n : ℕ) → n + length w.loose ≤ most → Within n (ending w said)
   ending-within w said n h = drops-within Phase.over Then.ends (none_loose w) said w.loose n (omega arith) (omega arith)
 
@@ -261,6 +269,7 @@ module _ (most : ℕ) where
           let few = reads_are_few body.body reads (held w.cache) turn in
           ending-within (with_first w name body run) (said ++ reply.Ran name w.cache.at run.outcome ∷ []) n (omega arith)
 
+  -- the line is over, or what a first run may cost is left
   then-within : (next : Then) (w : Watching) (said : List Reply) (n : ℕ) → n + then_left next w ≤ most → Within n (then_on next w said)
   then-within Then.ends w said n h = omega arith
   then-within (Then.begins name body) w said n h = first-within name body w said n 0 tt (omega arith)
@@ -276,6 +285,7 @@ module _ (most : ℕ) where
   module _ (goal : Goal) (w : Watching) (name : Bytes) (run : Run) (n reads : ℕ) (names : AreDistinct w.watches)
       (e : next_rerun (held w.cache) w.watches ≡ rerun.Ran name run) (read : HasRead (first_stale w.watches) reads (held w.cache))
       (h : n + calls_left goal w ≤ most + 3 * reads) where
+    -- the cost of its own run pays for its reads and for what it lets go
     ran-left : n + calls_left goal (with_rerun w name run) ≤ most
     ran-left =
         let has = has-run (held w.cache) w.watches name run e in
@@ -329,6 +339,7 @@ module _ (most : ℕ) where
       first-within name body (with_value w a value) said (n + 1 + 1) (suc h.reads)
       (held w.cache, h.turn, filled-next body.body w.cache a value h.needed) (omega arith)
 
+  -- taking is one call, and each watch is stale at most once then
   taken-within : (n : ℕ) (goal : Goal) (w : Watching) (feed : Fed) → Within n (Phase.taking goal w) → Within (n + 1) (rerun_all goal (after_feed w feed) [])
   taken-within n goal w feed h =
       let v = after_feed w feed in
@@ -336,6 +347,7 @@ module _ (most : ℕ) where
       reruns-within (stale_count v.watches) goal v [] (n + 1) 0 (distinct-told feed.changes w.watches h.0) (none-read (first_stale v.watches) (held v.cache))
       (omega arith)
 
+  -- phase by phase: one call was made, and what may follow was counted before it
   within-on : (n : ℕ) (q : Phase) (call : Call) (answer : Answer) → Within n q → asks q ≡ Some call → Within (n + 1) (after q answer)
   within-on n (Phase.taking goal w) call (Answer.feed feed) h e = taken-within n goal w feed h
   within-on n (Phase.taking goal w) call answer h e = let all = h.1 in omega arith
@@ -370,6 +382,7 @@ module _ (most : ℕ) where
 
 -- ---- whole lines
 
+-- what a line may cost is counted at its beginning
 begins-within : (w : Watching) (line : WatchLine) → AreDistinct w.watches → Within (most_calls line w) 0 (start_of line w)
 begins-within w WatchLine.sync names = (names, omega arith)
 begins-within w (WatchLine.watch name body) names = by (is_some (watch_of w.watches name))
@@ -388,6 +401,7 @@ begins-within w (WatchLine.unwatch name) names = by (is_some (watch_of w.watches
         ending-within (most_calls (WatchLine.unwatch name) w) (without w name) (reply.Dropped ∷ []) 0 (omega arith)
     by false = omega arith
 
+-- each step keeps to the count with which the line began
 pub lines_are_bounded : LinesAreBounded
 lines_are_bounded w line n q names comes =
     bounded (most_calls line w) n q (comes-within (most_calls line w) (start_of line w) n q (begins-within w line names) comes)

@@ -25,7 +25,7 @@ use Rattle.client_watches.proofs.Kept.{keeps-on, keeps-values, keeps-without, ke
 use Rattle.client_watches.proofs.Stays.{stands-stay}
 use Rattle.client_watches.proofs.Moving.{stands-without, stands-without_value}
 use Rattle.client_watches.proofs.Answering.{subscribes-on, subscribes-without, idle-unobserved, IsKeptBy, Led, led}
-use Rattle.client_watches.proofs.Lined.{shown-named}
+use Rattle.client_watches.proofs.Telling.{shown-named}
 
 -- ---- one watch less
 
@@ -67,6 +67,7 @@ module _ (ws : Watches) (said : List Reply) where
   PhaseForgets k journal (Phase.broken by_fault) = Unit {0}
   PhaseForgets k journal p = ⊥
 
+  -- addresses that are observed are passed, and letting others go changes neither watches nor replies
   drops-forget : (k : Known) (journal : Journal) (w : Watching) (told : List Reply) (rest : List Address) → IsForgetting ws k journal w → told ≡ said
       → PhaseForgets k journal (drop_idle Phase.over Then.ends w told rest)
   drops-forget k journal w told [] is same = (is, same)
@@ -92,6 +93,7 @@ module _ (ws : Watches) (said : List Reply) where
       })
       same
 
+  -- only letting go is asked for, and only its answer goes on
   forgets-kept : IsKeptBy PhaseForgets
   forgets-kept k l old new could can (Phase.dropping Then.ends w told address rest) call Answer.done h asked event says =
       let e : call ≡ Call.unsubscribe address = cc in
@@ -157,11 +159,13 @@ forgets-begin k w name old is =
       watches = refl;
     }
 
+-- by whether a watch has the name: it is forgotten, or the line is over at once
 pub unwatches_are_explained : UnwatchesAreExplained
 unwatches_are_explained k l w v name calls said old is on leads = by (is_some (watch_of w.watches name)) refl leads
   where
     by : (b : Bool) → is_some (watch_of w.watches name) ≡ b
-        → Leads IsAnswered k (cond b (ending (without w name) (reply.Dropped ∷ [])) (Phase.over w (reply.Refused why.NoAttempt ∷ []))) calls l (Phase.over v said)
+        → Leads IsAnswered k (cond b (ending (without w name) (reply.Dropped ∷ [])) (Phase.over w (reply.Refused why.NoAttempt ∷ []))) calls l
+        (Phase.over v said)
         → Forgets k l w v name said old
     by true e way =
         let ws = without_watch w.watches name in
@@ -178,6 +182,7 @@ unwatches_are_explained k l w v name calls said old is on leads = by (is_some (w
 
 -- ---- what others do
 
+-- others add commits alone, and what stands for a journal stands for a longer one
 pub others_leave_standing : OthersLeaveStanding
 others_leave_standing k l w old new is on later e =
     let grown : HasGrown k old new =

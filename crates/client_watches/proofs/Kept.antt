@@ -68,6 +68,7 @@ short-set test (x ∷ ws) v all short = by (test x.0) (short-set test ws v all.1
     by true rest = (short, all.1)
     by false rest = (all.0, rest)
 
+-- one less
 short-remove : (test : Bytes → Bool) (ws : Watches) → AllShort ws → AllShort (remove_entry test ws)
 short-remove test [] all = tt
 short-remove test (x ∷ ws) all = by (test x.0) (short-remove test ws all.1)
@@ -76,6 +77,7 @@ short-remove test (x ∷ ws) all = by (test x.0) (short-remove test ws all.1)
     by true rest = all.1
     by false rest = (all.0, rest)
 
+-- the report stands in the place of the one before it, where there is one
 short-report : (ws : Watches) (name : Bytes) (n : ℕ) (run : Run) → AllShort ws → AreShort run.observations → AllShort (with_report ws name n run)
 short-report ws name n run all short = by (watch_of ws name)
   where

@@ -2,9 +2,6 @@
 use Rattle.std.proofs.Common.{◌≡◌, inl, ℕ, Bool, true, false, cond, [], ◌∷◌, Option, Some, None, is_some, refl, sym}
 use Rattle.std.proofs.Common.{◌∙◌}
 use Rattle.std.specs.List.Sorted.{IsStrictlySortedBy}
-use Rattle.std.specs.Map.{lookup}
-use Rattle.std.specs.Str.{bytes_eq}
-use Rattle.plain_data.specs.Texts.{Bytes}
 use Rattle.session_text.specs.declared.reply.Reply.TheVariants as reply
 use Rattle.session_text.specs.declared.reply.Why.TheVariants as why
 use Rattle.txn_lang.specs.States.{Journal}
@@ -12,24 +9,13 @@ use Rattle.version_shard.proofs.Legal.{legal-is-readable}
 use Rattle.docc_prepare.proofs.Growing.{legal_is_orderly}
 use Rattle.docc_prepare.specs.Calls.{Known}
 use Rattle.rerun_driver.specs.declared.watch.Watch.{Watch}
-use Rattle.rerun_driver.specs.Watches.{Watches, watch_of}
+use Rattle.rerun_driver.specs.Watches.{watch_of}
 use Rattle.client_watches.specs.declared.watching.Watching.{Watching}
 use Rattle.client_watches.specs.Phases.{Phase, Goal}
 use Rattle.client_watches.specs.Explained.{shown_of}
 use Rattle.client_watches.specs.Laws.{Attends, MayBeShown, starts_for, LinesAreExplained, PassingStays, BeginningsAttend}
-use Rattle.client_watches.proofs.Telling.{IsReady, PhaseTells}
+use Rattle.client_watches.proofs.Telling.{shown-named, IsReady, PhaseTells}
 use Rattle.client_watches.proofs.Answering.{Led, led, passes-stay, tells-kept}
-
--- a watch that has a name is shown by it
-pub shown-named : (ws : Watches) (name : Bytes) → is_some (watch_of ws name) ≡ is_some (lookup (bytes_eq name) (shown_of ws))
-shown-named [] name = refl
-shown-named (x ∷ ws) name = by (bytes_eq name x.0) (shown-named ws name)
-  where
-    by : (b : Bool) → is_some (watch_of ws name) ≡ is_some (lookup (bytes_eq name) (shown_of ws))
-        → is_some (cond b (Some x.1) (watch_of ws name))
-        ≡ is_some (cond b (Some (record { body = x.1.body; number = x.1.number })) (lookup (bytes_eq name) (shown_of ws)))
-    by true rest = refl
-    by false rest = rest
 
 -- a name that isn't found is free
 pub free-name : (o : Option Watch) → is_some o ≡ false → o ≡ None
@@ -52,6 +38,7 @@ begins k w low (Goal.watch name body) old is may = by (is_some (watch_of w.watch
     by true e = (ready, is.stands, inl (sym (shown-named w.watches name) ∙ e, record { replies_are = refl; same = refl }))
     by false e = (refl, ready, is.stands, refl, may.seen, free-name (watch_of w.watches name) e)
 
+-- the way leads to the end, and each step keeps what its phase tells
 pub lines_are_explained : LinesAreExplained
 lines_are_explained k l w v low calls goal said old is on may leads =
     let tells = PhaseTells k.window low goal (shown_of w.watches) in
@@ -72,10 +59,12 @@ lines_are_explained k l w v low calls goal said old is on may leads =
       passes = there.tells.2;
     }
 
+-- row by row, since the first commits are the same
 pub passing_stays : PassingStays
 passing_stays window low goal before later said old new upto could can p passes =
     passes-stay window low before upto old new could can p goal said later passes
 
+-- where nothing is held and nothing watched, nothing has to stand
 pub beginnings_attend : BeginningsAttend
 unfolding IsStrictlySortedBy
 beginnings_attend = record {

@@ -83,6 +83,7 @@ report-stands journal w watch run is e = record {
 
 -- ---- one value more
 
+-- it is found at its address, and all that was held is held
 pub stands-value : (journal : Journal) (w : Watching) (address : Address) (value : Value) → value ≡ state journal w.cache.at address → Stands journal w
     → Stands journal (with_value w address value)
 stands-value journal w address value same is = record {
@@ -148,6 +149,7 @@ each-last : (P : Watch → Type 0) (ws : Watches) (e : Bytes × Watch) → AllBy
 each-last P [] e all p = (p, tt)
 each-last P (x ∷ ws) e all p = (all.0, each-last P ws e all.1 p)
 
+-- its report is of the run on the values that are held, and the others are as before
 pub stands-rerun : (journal : Journal) (w : Watching) (name : Bytes) (run : Run) → AreDistinct w.watches
     → next_rerun (held w.cache) w.watches ≡ rerun.Ran name run → Stands journal w → Stands journal (with_rerun w name run)
 stands-rerun journal w name run distinct e is =
@@ -162,6 +164,7 @@ stands-rerun journal w name run distinct e is =
 
 -- ---- a new watch, and one less
 
+-- its report is of the run on the values that are held
 pub stands-first : (journal : Journal) (w : Watching) (name : Bytes) (body : Checked) (run : Run) → exec body.body (held w.cache) ≡ done run
     → Stands journal w → Stands journal (with_first w name body run)
 stands-first journal w name body run e is = record {
@@ -171,6 +174,7 @@ stands-first journal w name body run e is = record {
       (report-stands journal w (reported body w.cache.at run) run is e);
 }
 
+-- the others are as before
 pub stands-without : (journal : Journal) (w : Watching) (name : Bytes) → Stands journal w → Stands journal (without w name)
 stands-without journal w name is = record {
   within = is.within;
@@ -197,6 +201,7 @@ module _ (journal : Journal) (w : Watching) (address : Address) (rising : Rise w
       by true e h rest = absurd (cc)
       by false e h rest = (stays-elsewhere z.address e all.0, rest h)
 
+  -- so all stand where none observed it
   others : (ws : Watches) → is_observed ws address ≡ false → AllStand journal w.cache ws → AllStand journal (released w.cache address) ws
   others [] none all = tt
   others (x ∷ ws) none all = by (is_observed_by address x.1.observations) refl none (λ h. others ws h all.1)
@@ -216,6 +221,7 @@ module _ (journal : Journal) (w : Watching) (address : Address) (rising : Rise w
         rest h,
       )
 
+  -- no watch rests on the value, and the other values are as before
   pub stands-without_value : Stands journal (without_value w address)
   stands-without_value = record {
     within = is.within;
@@ -232,6 +238,7 @@ module _ (journal : Journal) (w : Watching) (address : Address) (rising : Rise w
 module _ (k l : Known) (w : Watching) (feed : Fed) (old new : Journal) (keeps : Keeps k w) (subscribes : Subscribes k w)
     (event : IsAnswered k Call.take (Answer.feed feed) l) (says : SaysOfJournal k l Call.take (Answer.feed feed) old new)
     (could : CanRead old) (can : CanRead new) (is : Stands old w) where
+  -- the feed goes up to what is seen, which isn't below what was seen before
   forward : w.cache.at ≤ feed.to
   forward = let s = keeps.seen in let up = event.goes_on.seen in let to = event.shows.0 in omega arith
 
@@ -242,6 +249,7 @@ module _ (k l : Known) (w : Watching) (feed : Fed) (old new : Journal) (keeps : 
       ∙ ap (λ (n : ℕ). pending a (between n l.seen (changes new))) (subscribes.taken a v found)
       ∙ ap (λ (n : ℕ). pending a (between w.cache.at n (changes new))) (sym event.shows.0)
 
+  -- a value that is held, after the feed
   fed : Address → Option Value → Option Value
   fed a o = option_map (apply_maybe (delta_at feed.changes a)) o
 
@@ -287,6 +295,7 @@ module _ (k l : Known) (w : Watching) (feed : Fed) (old new : Journal) (keeps : 
       let now = touches-pending (changes new) w.cache.at feed x.observations (journal-kinds new can.orderly.kinds) (pending-all x.observations h.held) in
       (λ i. was i || now i) ∙ touched-joined x.number w.cache.at feed.to h.number forward (changes new) x.observations
 
+  -- values and watches are moved on by what the feed has of the commits since
   pub stands-feed : Stands new (after_feed w feed)
   stands-feed = record {
     within = let to = event.shows.0 in let most = says.within in omega arith;

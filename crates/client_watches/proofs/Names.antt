@@ -17,6 +17,7 @@ use Rattle.client_watches.specs.Keeping.{AreDistinct}
 pub same_name : (x y : Bytes) → bytes_eq x y ≡ true → x ≡ y
 same_name x y e = (bytes_eq-Decides x y).0 e
 
+-- and themselves they do equal
 pub name_itself : (x : Bytes) → bytes_eq x x ≡ true
 name_itself x = (bytes_eq-Decides x x).1 refl
 
@@ -116,6 +117,7 @@ distinct-append (x ∷ ws) e all free = by (bytes_eq e.0 x.0) refl free (λ h. d
 abbrev pub reported_in : Watches → Bytes → ℕ → Run → Option Watch → Watches
 reported_in ws name n run o = option_map_or (λ watch. set_value (bytes_eq name) ws (settled n run watch)) o ws
 
+-- a report changes no name
 pub distinct-report : (ws : Watches) (name : Bytes) (n : ℕ) (run : Run) → AreDistinct ws → AreDistinct (with_report ws name n run)
 distinct-report ws name n run all = by (watch_of ws name)
   where
@@ -123,6 +125,7 @@ distinct-report ws name n run all = by (watch_of ws name)
     by None = all
     by (Some watch) = distinct-set (bytes_eq name) ws (settled n run watch) all
 
+-- nor does it add one
 pub none-report : (q : Bytes) (ws : Watches) (name : Bytes) (n : ℕ) (run : Run) → watch_of ws q ≡ None → watch_of (with_report ws name n run) q ≡ None
 none-report q ws name n run none = by (watch_of ws name)
   where

@@ -146,10 +146,12 @@ module _ (k l : Known) where
   free-job (Job.rerun_for (Goal.watch name body)) w address value free = free
   free-job (Job.first_of name body) w address value free = free
 
+  -- a value less changes no watch
   free-then : (next : Then) (w : Watching) (address : Address) → ThenKeeps next w → ThenKeeps next (without_value w address)
   free-then Then.ends w address free = tt
   free-then (Then.begins name body) w address free = free
 
+  -- the stale watches run next, with names as before
   take-keeps : (goal : Goal) (w : Watching) (feed : Fed) → PhaseKeeps k (Phase.taking goal w) → IsAnswered k Call.take (Answer.feed feed) l
       → PhaseKeeps l (rerun_all goal (after_feed w feed) [])
   take-keeps goal w feed is event = reruns-keep l (stale_count (after_feed w feed).watches) goal (after_feed w feed) []
@@ -159,11 +161,13 @@ module _ (k l : Known) where
   wanting-on : (job : Job) (w : Watching) (address : Address) → k.seen ≤ l.seen → IsWanting k job w address → IsWanting l job w address
   wanting-on job w address up is = record { keeps = keeps-on k l w up is.keeps; free = is.free; short = is.short }
 
+  -- the run goes on with a value more
   told-keeps : (job : Job) (w : Watching) (said : List Reply) (address : Address) (value : Value) → k.seen ≤ l.seen → IsWanting k job w address
       → PhaseKeeps l (go_on job (with_value w address value) said)
   told-keeps job w said address value up is = job-keeps l job (with_value w address value) said
       (keeps-value k l w up is.keeps address value is.short) (free-job job w address value is.free)
 
+  -- the next address is looked at with a value less
   dropped-keeps : (next : Then) (w : Watching) (said : List Reply) (address : Address) (rest : List Address) → k.seen ≤ l.seen
       → IsDropping k next w (address ∷ rest) → PhaseKeeps l (drop_idle (then_on next) next (without_value w address) said rest)
   dropped-keeps next w said address rest up is = drops-keep l (then_on next) next (without_value w address) said rest
@@ -173,6 +177,7 @@ module _ (k l : Known) where
       keeps : Keeps l (without_value w address)
       keeps = keeps-values k l w up is.keeps (without_value w address) (record { watches = refl; at = refl; loose = refl })
 
+  -- phase by phase
   pub answers-keep : (q : Phase) (call : Call) (answer : Answer) → PhaseKeeps k q → asks q ≡ Some call → IsAnswered k call answer l
       → PhaseKeeps l (after q answer)
   answers-keep (Phase.taking goal w) call (Answer.feed feed) is asked event =
@@ -192,6 +197,7 @@ module _ (k l : Known) where
 
 -- ---- the whole line
 
+-- a line begins with what was kept to before it
 pub line-begins : (k : Known) (w : Watching) (line : WatchLine) → Keeps k w → PhaseKeeps k (start_of line w)
 line-begins k w WatchLine.sync is = (is, tt)
 line-begins k w (WatchLine.watch name body) is = by (is_some (watch_of w.watches name)) refl
@@ -212,6 +218,7 @@ kept-along k p is n l q Leads.stays = is
 kept-along k p is n l r (Leads.by_step {n = m} {c = mid} {q = q} call answer leads asked step same) =
     subst (PhaseKeeps l) same (answers-keep mid l q call answer (kept-along k p is m mid q leads) asked step)
 
+-- so all along the way of a line
 pub way-keeps : (k : Known) (w : Watching) (line : WatchLine) (l : Known) (q : Phase) → IsOnItsWay k w line l q → PhaseKeeps l q
 way-keeps k w line l q way = kept-along k (start_of line w) (line-begins k w line way.keeps) way.calls l q way.leads
 
@@ -226,6 +233,7 @@ phase-owed k (Phase.dropping next w said address rest) call is e =
 phase-owed k (Phase.over w said) call is e = absurd (cc)
 phase-owed k (Phase.broken by_fault) call is e = absurd (cc)
 
+-- what is kept to on the way is what each call wants
 pub lines_are_ready : LinesAreReady
 lines_are_ready k w line l q call way e = phase-owed l q call (way-keeps k w line l q way) e
 

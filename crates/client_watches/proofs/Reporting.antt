@@ -61,11 +61,13 @@ shown_one watch = record { body = watch.body; number = watch.number }
 abbrev pub TellTouched : Journal → ℕ → Watches → Type 0
 TellTouched journal n ws = AllByRecursion (λ (entry : Bytes × Watch). touched journal n (shown_one entry.1) ≡ entry.1.stale) ws
 
+-- a watch that stands is stale exactly where what its run observed is touched
 pub stands-tells : (journal : Journal) (cache : Cached) (w : Watch) → WatchStands journal cache w → touched journal cache.at (shown_one w) ≡ w.stale
 stands-tells journal cache w is =
     ap (λ r. is_touched (changes journal) w.number cache.at (observed_in r)) is.ran
     ∙ ap (is_touched (changes journal) w.number cache.at) is.observed ∙ sym is.stale
 
+-- so are all
 pub all-tell : (journal : Journal) (cache : Cached) (ws : Watches) → AllByRecursion (λ (entry : Bytes × Watch). WatchStands journal cache entry.1) ws
     → TellTouched journal cache.at ws
 all-tell journal cache [] all = tt
@@ -81,6 +83,16 @@ none-touched journal n (x ∷ ws) tell none = by x.1.stale refl none (λ h. none
     by true is h rest = absurd (cc)
     by false is h rest = (tell.0 ∙ is, rest h)
 
+-- one is stale: not all hold
+pub some-touched : (journal : Journal) (n : ℕ) (ws : Watches) (e : Bytes × Watch) → TellTouched journal n ws → first_stale ws ≡ Some e
+    → AllHold journal n (shown_of ws) → ⊥
+some-touched journal n [] e tell first holds = cc
+some-touched journal n (x ∷ ws) e tell first holds = by x.1.stale refl first (λ h. some-touched journal n ws e tell.1 h holds.1)
+  where
+    by : (b : Bool) → x.1.stale ≡ b → cond b (Some x) (first_stale ws) ≡ Some e → (first_stale ws ≡ Some e → ⊥) → ⊥
+    by true is h rest = let fresh = holds.0 in let told = tell.0 in cc
+    by false is h rest = rest h
+
 -- ---- one report more
 
 module _ (journal : Journal) (n : ℕ) (e : Bytes × Watch) (run : Run) (stale : e.1.stale ≡ true) (ran : run_at journal n e.1.body ≡ done run) where
@@ -90,6 +102,7 @@ module _ (journal : Journal) (n : ℕ) (e : Bytes × Watch) (run : Run) (stale :
   abbrev Next : Watches → Watches → Type 0
   Next ws vs = Replaced e (settled n run e.1) ws vs
 
+  -- its outcome is that of the run that was made
   outcome_is : IsOutcomeAt journal e.1.body n run.outcome
   outcome_is = record { run = run; ran = ran; outcome_is = refl }
 

@@ -1,5 +1,5 @@
 -- A line of watches says replies of watches alone, at no number that isn't seen.
-use Rattle.std.proofs.Common.{◌≡◌, ℕ, zero, suc, ◌≤◌, Bool, true, false, cond, List, [], ◌∷◌, ◌++◌, Some, is_some, refl, subst, arith}
+use Rattle.std.proofs.Common.{◌≡◌, ℕ, zero, suc, ◌≤◌, Bool, true, false, cond, List, [], ◌∷◌, ◌++◌, Some, is_some, subst, arith}
 use Rattle.std.specs.List.{AllByRecursion}
 use Rattle.plain_data.specs.Texts.{Bytes}
 use Rattle.rdt_types.specs.declared.address.Address.{Address}
@@ -19,7 +19,7 @@ use Rattle.client_watches.specs.Watching.{after_feed, with_value, with_rerun, wi
 use Rattle.client_watches.specs.Phases.{Phase, Goal, Job, Then, asks, after, settled as none_loose, drop_idle, then_on, ending, first_by, first_run}
 use Rattle.client_watches.specs.Phases.{caught_up, rerun_by, rerun_up_to, go_on}
 use Rattle.client_watches.specs.Leading.{Leads}
-use Rattle.client_watches.specs.GoingOn.{WatchLine, start_of, IsOnItsWay}
+use Rattle.client_watches.specs.GoingOn.{WatchLine, start_of}
 use Rattle.client_watches.specs.Saying.{IsOfWatches, RepliesAreSeen}
 use Rattle.client_watches.proofs.Kept.{each-append}
 
@@ -54,6 +54,7 @@ module _ (most : ℕ) where
       by true on = is
       by false on = on
 
+  -- letting go says nothing
   ending-says : (w : Watching) (said : List Reply) → SaysUpTo w said → PhaseSays (ending w said)
   ending-says w said is = drops-say Phase.over Then.ends (none_loose w) said w.loose is is
 
@@ -66,6 +67,7 @@ module _ (most : ℕ) where
       by (done run) = ending-says (with_first w name body run) (said ++ reply.Ran name w.cache.at run.outcome ∷ [])
           (is.0, says-more said (reply.Ran name w.cache.at run.outcome) is.1 is.0)
 
+  -- nor does what is done then, but for a first run's report
   then-says : (next : Then) (w : Watching) (said : List Reply) → SaysUpTo w said → PhaseSays (then_on next w said)
   then-says Then.ends w said is = is
   then-says (Then.begins name body) w said is = first-says name body w said is
@@ -125,6 +127,7 @@ module _ (most : ℕ) where
 
   -- ---- the whole line
 
+  -- nothing was said before it
   line-says : (w : Watching) (line : WatchLine) → w.cache.at ≤ most → PhaseSays (start_of line w)
   line-says w WatchLine.sync at = tt
   line-says w (WatchLine.watch name body) at = by (is_some (watch_of w.watches name))
@@ -144,6 +147,7 @@ seen-along k p n l q Leads.stays = omega arith
 seen-along k p n l r (Leads.by_step {n = m} {c = mid} {q = q} call answer leads asked step same) =
     let so_far = seen-along k p m mid q leads in let more = step.goes_on.seen in omega arith
 
+-- each reply has a number that was seen when it was said, and what is seen never falls
 pub replies_are_seen : RepliesAreSeen
 replies_are_seen k w line l v said way =
     let at = way.keeps.seen in

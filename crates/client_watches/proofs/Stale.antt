@@ -69,6 +69,7 @@ pub record HasRun (state : PartialState) (ws : Watches) (name : Bytes) (run : Ru
   pub first : first_stale ws ≡ Some (name, watch)
   pub done : exec watch.body.body state ≡ done run
 
+-- only the first stale watch runs, and it is done where there is a run
 pub has-run : (state : PartialState) (ws : Watches) (name : Bytes) (run : Run) → next_rerun state ws ≡ rerun.Ran name run → HasRun state ws name run
 has-run state ws name run e = by (first_stale ws) refl e
   where
@@ -92,6 +93,7 @@ pub record Needs (state : PartialState) (ws : Watches) (address : Address) : Typ
   pub first : first_stale ws ≡ Some entry
   pub needed : exec entry.1.body.body state ≡ need address
 
+-- only the first stale watch runs, so it is the one that needs a value
 pub it-needs : (state : PartialState) (ws : Watches) (address : Address) → next_rerun state ws ≡ rerun.Need address → Needs state ws address
 it-needs state ws address e = by (first_stale ws) refl e
   where

@@ -29,6 +29,7 @@ module _ (old new : Journal) (numbered : AreNumbered old) (renumbered : AreNumbe
   pub run-stays : (n : ℕ) (body : Checked) → n ≤ length old → run_at new n body ≡ run_at old n body
   run-stays n body within = ap (λ (s : State). exec body.body (known s)) (prefix-state old new n p within)
 
+  -- so is its outcome
   pub outcome-stays : (body : Checked) (n : ℕ) (outcome : Outcome) → n ≤ length old → IsOutcomeAt old body n outcome → IsOutcomeAt new body n outcome
   outcome-stays body n outcome within is = record { run = is.run; ran = run-stays n body within ∙ is.ran; outcome_is = is.outcome_is }
 
@@ -52,6 +53,11 @@ module _ (old new : Journal) (numbered : AreNumbered old) (renumbered : AreNumbe
     pub hold-stay : (watches : ShownList) → AreUpTo n watches → AllHold old n watches → AllHold new n watches
     hold-stay [] all holds = tt
     hold-stay (w ∷ watches) all holds = (touched-stays n w.1 all.0 within ∙ holds.0, hold-stay watches all.1 holds.1)
+
+    -- they held before, where they hold of the longer journal
+    pub hold-before : (watches : ShownList) → AreUpTo n watches → AllHold new n watches → AllHold old n watches
+    hold-before [] all holds = tt
+    hold-before (w ∷ watches) all holds = (sym (touched-stays n w.1 all.0 within) ∙ holds.0, hold-before watches all.1 holds.1)
 
   -- a watch stands for the longer journal
   pub watch-stands : (cache : Cached) (w : Watch) → cache.at ≤ length old → WatchStands old cache w → WatchStands new cache w

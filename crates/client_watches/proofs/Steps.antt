@@ -122,20 +122,24 @@ ran-next goal w said name run all e =
 
 -- ---- a first run
 
+-- what a first run comes to, once it is known
 pub first-needs : (name : Bytes) (body : Checked) (w : Watching) (said : List Reply) (address : Address) → exec body.body (held w.cache) ≡ need address
     → first_run name body w said ≡ Phase.reading (Job.first_of name body) w said address
 first-needs name body w said address e = ap (first_by name body w said) e
 
+-- it is done, and is reported
 pub first-done : (name : Bytes) (body : Checked) (w : Watching) (said : List Reply) (run : Run) → exec body.body (held w.cache) ≡ done run
     → first_run name body w said ≡ ending (with_first w name body run) (said ++ reply.Ran name w.cache.at run.outcome ∷ [])
 first-done name body w said run e = ap (first_by name body w said) e
 
 -- ---- values that no watch observes
 
+-- one that no watch observes is let go
 pub idle-drops : (next : Then) (w : Watching) (said : List Reply) (address : Address) (rest : List Address) → is_idle w address ≡ true
     → drop_idle (then_on next) next w said (address ∷ rest) ≡ Phase.dropping next w said address rest
 idle-drops next w said address rest e = ap (λ b. cond b (Phase.dropping next w said address rest) (drop_idle (then_on next) next w said rest)) e
 
+-- one that a watch observes, or that isn't held, is passed
 pub other-stays : (next : Then) (w : Watching) (said : List Reply) (address : Address) (rest : List Address) → is_idle w address ≡ false
     → drop_idle (then_on next) next w said (address ∷ rest) ≡ drop_idle (then_on next) next w said rest
 other-stays next w said address rest e = ap (λ b. cond b (Phase.dropping next w said address rest) (drop_idle (then_on next) next w said rest)) e
@@ -172,6 +176,7 @@ module _ {B : Type 0} (known : B → Known) (goes : B → Call → Answer → B 
   take-wants b w result e feed c v is want step = takes-err b w result e c v is (λ goal.
       stopped-here known goes b (Phase.taking goal w) c (rerun_all goal (after_feed w feed) []) e want (took b w feed c goal step))
 
+  -- the watches and values are those after the feed
   pub take-done : (b : B) (w : Watching) (feed : Fed) (c : B) (v : Watching) → v ≡ after_feed w feed → Step b Call.take (Answer.feed feed) c → (goal : Goal)
       → Reaches known goes b (Phase.taking goal w) c (rerun_all goal v [])
   take-done b w feed c v is step goal = subst (λ x. Reaches known goes b (Phase.taking goal w) c (rerun_all goal x [])) (sym is) (took b w feed c goal step)
@@ -238,6 +243,7 @@ module _ {B : Type 0} (known : B → Known) (goes : B → Call → Answer → B 
   fetch-wants b w a result e value c d v is want step told = fetches-err b w a result e d v is (λ job said.
       stopped-here known goes b (Phase.reading job w said a) d (go_on job (with_value w a value) said) e want (value-told b w a value c d job said step told))
 
+  -- the value is held now, whatever run needed it
   pub fetch-done : (b : B) (w : Watching) (a : Address) (value : Value) (c d : B) (v : Watching) → v ≡ with_value w a value
       → Step b (Call.read_at a w.cache.at) (Answer.value value) c → Step c (Call.subscribe a) Answer.done d → HasFetched known goes b w a d v
   fetch-done b w a value c d v is step told = record {
@@ -308,11 +314,13 @@ module _ {B : Type 0} (known : B → Known) (goes : B → Call → Answer → B 
     late-then c v r h = and-then known goes b (rerun_all goal w said) b (Phase.reading (Job.rerun_for goal) w said a) c (ending w (said ++ r ∷ [])) needed
         (h.reaches (Job.rerun_for goal) said)
 
+    -- the line ends with that reply
     pub rerun-late : (c : B) (v : Watching) (r : Reply) (told : List Reply) → told ≡ said ++ r ∷ [] → WasLate known goes b w a r c v
         → Reaches known goes b (rerun_all goal w said) c (ending v told)
     rerun-late c v r told says h = to-same known goes b (rerun_all goal w said) c (ending w (said ++ r ∷ [])) (ending v told)
         (λ i. ending (sym h.kept i) (sym says i)) (late-then c v r h)
 
+    -- but there was no memory to say so
     pub rerun-late-wants : (result : Result (Option Bool) WatchError) (x : WatchError) (c : B) (v u : Watching) (r : Reply) (told : List Reply) → result ≡ Err x
         → x ≡ error.NoMemory → WasLate known goes b w a r c v → Reruns known goes goal b w said result c u told
     rerun-late-wants result x c v u r told is want h = reruns-err b w said result x c u told goal is
@@ -320,6 +328,7 @@ module _ {B : Type 0} (known : B → Known) (goes : B → Call → Answer → B 
 
   -- ---- reruns, one after another
 
+  -- what is owed of an error
   pub catches-err : (b : B) (w : Watching) (said : List Reply) (result : Result Bool WatchError) (e : WatchError) (c : B) (v : Watching)
       (told : List Reply) (goal : Goal) → result ≡ Err e → Stops known goes b (rerun_all goal w said) e c → Catches known goes goal b w said result c v told
   catches-err b w said result e c v told goal is stops = subst (λ r. Catches known goes goal b w said r c v told) (sym is) stops
@@ -335,6 +344,7 @@ module _ {B : Type 0} (known : B → Known) (goes : B → Call → Answer → B 
 
   -- ---- a first run
 
+  -- what is owed of an error
   pub runs-err : (body : Checked) (b : B) (w : Watching) (said : List Reply) (result : Result (Option Run) WatchError) (e : WatchError) (c : B) (v : Watching)
       (told : List Reply) → result ≡ Err e → ((name : Bytes) → Stops known goes b (first_run name body w said) e c)
       → Runs known goes body b w said result c v told
@@ -360,27 +370,32 @@ module _ {B : Type 0} (known : B → Known) (goes : B → Call → Answer → B 
       run-needs name = to-same known goes b (first_run name body w said) c (first_run name body v said) (Phase.reading (Job.first_of name body) v said a)
           (first-needs name body v said a e) (led name)
 
+      -- which could not be had
       pub run-unfetched : (result : Result (Option Run) WatchError) (x : WatchError) (d : B) (u z : Watching) (told : List Reply) → result ≡ Err x
           → Fetches known goes c v a (Err x) d z → Runs known goes body b w said result d u told
       run-unfetched result x d u z told is stops = runs-err body b w said result x d u told is (λ name.
           stops-behind known goes b (first_run name body w said) c (Phase.reading (Job.first_of name body) v said a) x d (run-needs name)
           (stops (Job.first_of name body) said))
 
+      -- which is held now
       pub run-fetched : (d : B) (u : Watching) → HasFetched known goes c v a d u → (name : Bytes)
           → Reaches known goes b (first_run name body w said) d (first_run name body u said)
       run-fetched d u h name = and-then known goes b (first_run name body w said) c (Phase.reading (Job.first_of name body) v said a) d
           (first_run name body u said) (run-needs name) (h.reaches (Job.first_of name body) said)
 
+      -- which was late
       late-run : (d : B) (u : Watching) (r : Reply) → WasLate known goes c v a r d u → (name : Bytes)
           → Reaches known goes b (first_run name body w said) d (ending v (said ++ r ∷ []))
       late-run d u r h name = and-then known goes b (first_run name body w said) c (Phase.reading (Job.first_of name body) v said a) d
           (ending v (said ++ r ∷ [])) (run-needs name) (h.reaches (Job.first_of name body) said)
 
+      -- the line ends with that reply
       pub run-late : (d : B) (u : Watching) (r : Reply) (told : List Reply) → told ≡ said ++ r ∷ [] → WasLate known goes c v a r d u → (name : Bytes)
           → Reaches known goes b (first_run name body w said) d (ending u told)
       run-late d u r told says h name = to-same known goes b (first_run name body w said) d (ending v (said ++ r ∷ [])) (ending u told)
           (λ i. ending (sym h.kept i) (sym says i)) (late-run d u r h name)
 
+      -- but there was no memory to say so
       pub run-late-wants : (result : Result (Option Run) WatchError) (x : WatchError) (d : B) (u z : Watching) (r : Reply) (told : List Reply) → result ≡ Err x
           → x ≡ error.NoMemory → WasLate known goes c v a r d u → Runs known goes body b w said result d z told
       run-late-wants result x d u z r told is want h = runs-err body b w said result x d z told is (λ name.
@@ -388,6 +403,7 @@ module _ {B : Type 0} (known : B → Known) (goes : B → Call → Answer → B 
 
   -- ---- values that no watch observes
 
+  -- the call failed
   pub drop-one-err : (b : B) (w : Watching) (a : Address) (rest : List Address) (result : Result (Unit {0}) WatchError) (e : WatchError) (x : StoreError)
       (c : B) (v : Watching) → is_idle w a ≡ true → result ≡ Err e → e ≡ error_of x → Step b (Call.unsubscribe a) (store_failed x) c
       → DropsOne known goes b w a rest result c v
@@ -396,6 +412,7 @@ module _ {B : Type 0} (known : B → Known) (goes : B → Call → Answer → B 
       (store_failed x) (here known goes b (drop_idle (then_on next) next w said (a ∷ rest)) (Phase.dropping next w said a rest)
       (idle-drops next w said a rest idle)) refl step (λ f. refl) (fault-answered x e cause))
 
+  -- it is one step
   pub drop-one : (b : B) (w : Watching) (a : Address) (rest : List Address) (c : B) (v : Watching) → is_idle w a ≡ true → v ≡ without_value w a
       → Step b (Call.unsubscribe a) Answer.done c → (next : Then) (said : List Reply)
       → Reaches known goes b (drop_idle (then_on next) next w said (a ∷ rest)) c (drop_idle (then_on next) next v said rest)
@@ -405,11 +422,13 @@ module _ {B : Type 0} (known : B → Known) (goes : B → Call → Answer → B 
       (here known goes b (drop_idle (then_on next) next w said (a ∷ rest)) (Phase.dropping next w said a rest) (idle-drops next w said a rest idle))
       refl step (ap (λ x. drop_idle (then_on next) next x said rest) (sym is))
 
+  -- nothing is asked for
   pub drop-none : (b : B) (w : Watching) (a : Address) (rest : List Address) → is_idle w a ≡ false → (next : Then) (said : List Reply)
       → Reaches known goes b (drop_idle (then_on next) next w said (a ∷ rest)) b (drop_idle (then_on next) next w said rest)
   drop-none b w a rest other next said = here known goes b (drop_idle (then_on next) next w said (a ∷ rest)) (drop_idle (then_on next) next w said rest)
       (other-stays next w said a rest other)
 
+  -- what is owed of an error
   pub drops-err : (b : B) (w : Watching) (loose : List Address) (result : Result (Unit {0}) WatchError) (e : WatchError) (c : B) (v : Watching) → result ≡ Err e
       → ((next : Then) (said : List Reply) → Stops known goes b (drop_idle (then_on next) next w said loose) e c) → Drops known goes b w loose result c v
   drops-err b w loose result e c v is stops = subst (λ r. Drops known goes b w loose r c v) (sym is) stops
@@ -427,6 +446,7 @@ module _ {B : Type 0} (known : B → Known) (goes : B → Call → Answer → B 
       → Stops known goes b p e c → Went known goes b p result c w
   went-err b p result e c w is stops = subst (λ r. Went known goes b p r c w) (sym is) stops
 
+  -- the same of a part of a line
   pub continues-err : (b : B) (p : Phase) (next : List Reply → Phase) (result : Result (Unit {0}) WatchError) (e : WatchError) (c : B) (said : List Reply)
       → result ≡ Err e → Stops known goes b p e c → Continues known goes b p next result c said
   continues-err b p next result e c said is stops = subst (λ r. Continues known goes b p next r c said) (sym is) stops
@@ -437,6 +457,7 @@ module _ {B : Type 0} (known : B → Known) (goes : B → Call → Answer → B 
       → Drops known goes c (none_loose w) w.loose (Ok u) d v → Reaches known goes b p d (Phase.over v said)
   line-ends b p c w said u d v led drops = and-then known goes b p c (ending w said) d (Phase.over v said) led (drops Then.ends said)
 
+  -- or it stops while that is let go
   pub line-breaks : (b : B) (p : Phase) (c : B) (w : Watching) (said : List Reply) (e : WatchError) (d : B) (v : Watching)
       → Reaches known goes b p c (ending w said) → Drops known goes c (none_loose w) w.loose (Err e) d v → Stops known goes b p e d
   line-breaks b p c w said e d v led drops = stops-behind known goes b p c (ending w said) e d led (drops Then.ends said)
@@ -448,6 +469,7 @@ module _ {B : Type 0} (known : B → Known) (goes : B → Call → Answer → B 
   line-begins b p c name body w said u d v led drops =
       and-then known goes b p c (caught_up (Goal.watch name body) w said) d (first_run name body v said) led (drops (Then.begins name body) said)
 
+  -- or it stops before that
   pub line-halts : (b : B) (p : Phase) (c : B) (name : Bytes) (body : Checked) (w : Watching) (said : List Reply) (e : WatchError) (d : B) (v : Watching)
       → Reaches known goes b p c (caught_up (Goal.watch name body) w said) → Drops known goes c (none_loose w) w.loose (Err e) d v
       → Stops known goes b p e d

@@ -1,6 +1,8 @@
 -- What the phases of a line tell of the journal, and that each step keeps to it.
 use Rattle.std.proofs.Common.{◌≡◌, inl, inr, ℕ, zero, suc, ◌≤◌, Bool, true, false, cond, List, [], ◌∷◌, ◌++◌}
-use Rattle.std.proofs.Common.{None, refl, sym, ap, ◌∙◌, subst, arith}
+use Rattle.std.proofs.Common.{Some, None, is_some, refl, sym, ap, ◌∙◌, subst, arith}
+use Rattle.std.specs.Map.{lookup}
+use Rattle.std.specs.Str.{bytes_eq}
 use Rattle.plain_data.specs.Texts.{Bytes}
 use Rattle.rdt_types.specs.declared.address.Address.{Address}
 use Rattle.rdt_types.specs.DeltaMaps.{Deltas}
@@ -24,13 +26,13 @@ use Rattle.client_watches.specs.Phases.{Phase, Goal, Job, Then, settled as none_
 use Rattle.client_watches.specs.Phases.{caught_up, rerun_by, rerun_up_to}
 use Rattle.client_watches.specs.Keeping.{AreDistinct, Keeps}
 use Rattle.client_watches.specs.Standing.{Subscribes, Stands}
-use Rattle.client_watches.specs.Explained.{ShownList, shown_of, Reports, AllHold, IsMade}
+use Rattle.client_watches.specs.Explained.{ShownList, shown_of, Reports, AllHold, IsMade, IsUnknown}
 use Rattle.client_watches.specs.Explained.{GoalPasses}
 use Rattle.client_watches.proofs.Names.{reported_in, none-report}
 use Rattle.client_watches.proofs.Stale.{has-run, it-needs, first-among, one-fewer, none-if-zero, none-if-left}
 use Rattle.client_watches.proofs.Kept.{keeps-rerun, keeps-first, keeps-none_loose}
 use Rattle.client_watches.proofs.Stays.{AreUpTo}
-use Rattle.client_watches.proofs.Reporting.{all-tell, none-touched, one-report, replaced}
+use Rattle.client_watches.proofs.Reporting.{all-tell, none-touched, some-touched, one-report, replaced}
 use Rattle.client_watches.proofs.Moving.{AllStand, run-is, stands-rerun, stands-first}
 
 -- ---- what is shown of watches
@@ -44,6 +46,17 @@ shown-told changes (x ∷ ws) = ap (λ (rest : ShownList). (x.0, record { body =
 shown-last : (ws : Watches) (e : Bytes × Watch) → shown_of (ws ++ e ∷ []) ≡ shown_of ws ++ (e.0, record { body = e.1.body; number = e.1.number }) ∷ []
 shown-last [] e = refl
 shown-last (x ∷ ws) e = ap (λ (rest : ShownList). (x.0, record { body = x.1.body; number = x.1.number }) ∷ rest) (shown-last ws e)
+
+-- a watch that has a name is shown by it
+pub shown-named : (ws : Watches) (name : Bytes) → is_some (watch_of ws name) ≡ is_some (lookup (bytes_eq name) (shown_of ws))
+shown-named [] name = refl
+shown-named (x ∷ ws) name = by (bytes_eq name x.0) (shown-named ws name)
+  where
+    by : (b : Bool) → is_some (watch_of ws name) ≡ is_some (lookup (bytes_eq name) (shown_of ws))
+        → is_some (cond b (Some x.1) (watch_of ws name))
+        ≡ is_some (cond b (Some (record { body = x.1.body; number = x.1.number })) (lookup (bytes_eq name) (shown_of ws)))
+    by true rest = refl
+    by false rest = rest
 
 -- none was reported past the number of the values
 pub all-up-to : (journal : Journal) (cache : Cached) (ws : Watches) → AllStand journal cache ws → AreUpTo cache.at (shown_of ws)
@@ -64,12 +77,22 @@ module _ (window low : ℕ) (goal : Goal) (story : ShownList) where
     pub subscribes : Subscribes k w
     pub window_is : k.window ≡ window
 
+  -- and no watch of the story has it
+  abbrev pub IsNew : Goal → Type 0
+  IsNew Goal.current = Unit {0}
+  IsNew (Goal.watch name body) = IsUnknown name story
+
   -- the watches are told, and some of them have run
   pub record Going (journal : Journal) (w : Watching) (said : List Reply) : Type 0 where
     pub stands : Stands journal w
     pub shown_at : low ≤ w.cache.at
     pub before : AreUpTo w.cache.at story
     pub reports : Reports journal w.cache.at story said (shown_of w.watches)
+    pub new : IsNew goal
+
+  -- a watch is touched that has not run yet
+  abbrev pub IsLeft : Journal → Watching → Type 0
+  IsLeft journal w = AllHold journal w.cache.at (shown_of w.watches) → ⊥
 
   -- a new watch may be made by this name
   abbrev pub IsFree : Goal → Watching → Type 0
@@ -77,7 +100,7 @@ module _ (window low : ℕ) (goal : Goal) (story : ShownList) where
   IsFree (Goal.watch name body) w = watch_of w.watches name ≡ None
 
   abbrev pub JobTells : Journal → Job → Watching → List Reply → Type 0
-  JobTells journal (Job.rerun_for g) w said = (g ≡ goal) × Going journal w said
+  JobTells journal (Job.rerun_for g) w said = (g ≡ goal) × Going journal w said × IsLeft journal w
   JobTells journal (Job.first_of name body) w said = (goal ≡ Goal.watch name body) × Going journal w said × AllHold journal w.cache.at (shown_of w.watches)
 
   abbrev pub ThenTells : Known → Journal → Then → Watching → List Reply → Type 0
@@ -125,11 +148,19 @@ module _ (window low : ℕ) (goal : Goal) (story : ShownList) where
       window_is = ready.window_is;
     }
 
+    -- what stands has nothing to do with what is loose
     stands-none : (w : Watching) → Stands journal w → Stands journal (none_loose w)
     stands-none w is = record { within = is.within; values = is.values; watches = is.watches }
 
+    -- nor do the reports
     going-none : (w : Watching) (said : List Reply) → Going journal w said → Going journal (none_loose w) said
-    going-none w said is = record { stands = stands-none w is.stands; shown_at = is.shown_at; before = is.before; reports = is.reports }
+    going-none w said is = record {
+      stands = stands-none w is.stands;
+      shown_at = is.shown_at;
+      before = is.before;
+      reports = is.reports;
+      new = is.new;
+    }
 
     -- the line ends with replies that pass
     pub ending-tells : (w : Watching) (said : List Reply) → IsReady k w → Stands journal w
@@ -151,7 +182,7 @@ module _ (window low : ℕ) (goal : Goal) (story : ShownList) where
         made run e = record {
           n = w.cache.at;
           shown_at = record { not_back = tells.0.1.shown_at; within = tells.0.1.stands.within };
-          front = said;
+          prefix = said;
           others = shown_of w.watches;
           reports = tells.0.1.reports;
           all = tells.0.2;
@@ -163,6 +194,9 @@ module _ (window low : ℕ) (goal : Goal) (story : ShownList) where
 
         free : watch_of w.watches name ≡ None
         free = subst (λ g. IsFree g w) tells.0.0 tells.2
+
+        new : IsUnknown name story
+        new = subst (λ g. IsNew g) tells.0.0 tells.0.1.new
 
         by : (r : Ran) → exec body.body (held w.cache) ≡ r → PhaseTells k journal (first_by name body w said r)
         by (need address) e = record {
@@ -179,7 +213,7 @@ module _ (window low : ℕ) (goal : Goal) (story : ShownList) where
               window_is = ready.window_is;
             })
             (stands-first journal w name body run e tells.0.1.stands)
-            (subst (λ g. GoalPasses window journal low g story (told run) (shown_of (later run).watches)) (sym tells.0.0) (inr (inl (made run e))))
+            (subst (λ g. GoalPasses window journal low g story (told run) (shown_of (later run).watches)) (sym tells.0.0) (inr (new, inl (made run e))))
 
     -- values that no watch observes are looked at, and then a new watch runs
     drops-begin : (name : Bytes) (body : Checked) (w : Watching) (said : List Reply) (rest : List Address) → IsReady k w
@@ -208,7 +242,7 @@ module _ (window low : ℕ) (goal : Goal) (story : ShownList) where
         (subst (λ x. GoalPasses window journal low x story (said ++ reply.Current w.cache.at ∷ []) (shown_of w.watches)) same (inl (record {
           n = w.cache.at;
           shown_at = record { not_back = going.shown_at; within = going.stands.within };
-          front = said;
+          prefix = said;
           reports = going.reports;
           all = all;
           replies_are = refl;
@@ -244,6 +278,7 @@ module _ (window low : ℕ) (goal : Goal) (story : ShownList) where
               story said (shown_of w.watches) w.watches _ going.reports refl
               (replaced w.watches (name, h.watch) (settled w.cache.at run h.watch) distinct h.first)
               (all-tell journal w.cache w.watches going.stands.watches));
+          new = going.new;
         }
 
     -- none is stale: all hold
@@ -271,7 +306,7 @@ module _ (window low : ℕ) (goal : Goal) (story : ShownList) where
           taken = taken;
           free = free;
           short = runs_ask_short.needed needs.entry.1.body.body (held w.cache) address needs.needed;
-          tells = (same, going);
+          tells = (same, going, some-touched journal w.cache.at w.watches needs.entry (all-tell journal w.cache w.watches going.stands.watches) needs.first);
         }
         by (rerun.Ran name run) next more = more (with_rerun w name run) (said ++ reply.Ran name w.cache.at run.outcome ∷ [])
             (fewer m _ (count ∙ one-fewer (held w.cache) w.watches name w.cache.at run ready.keeps.names next))

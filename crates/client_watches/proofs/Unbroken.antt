@@ -1,5 +1,5 @@
 -- Only a failed call breaks a line of watches.
-use Rattle.std.proofs.Common.{◌≡◌, ℕ, zero, suc, Bool, true, false, cond, List, [], ◌∷◌, ◌++◌, Option, Some, is_some, ◌⊎◌, inl, inr, refl, subst}
+use Rattle.std.proofs.Common.{◌≡◌, ℕ, zero, suc, Bool, true, false, cond, List, [], ◌∷◌, ◌++◌, Some, is_some, ◌⊎◌, inl, inr, refl, subst}
 use Rattle.plain_data.specs.Texts.{Bytes}
 use Rattle.rdt_types.specs.declared.address.Address.{Address}
 use Rattle.session_text.specs.declared.reply.Reply.{Reply}
@@ -30,6 +30,7 @@ drops-unbroken f next w said (address ∷ rest) more = by (is_idle w address) (d
     by true on = refl
     by false on = on
 
+-- letting go asks for calls, and then the line is over
 ending-unbroken : (w : Watching) (said : List Reply) → is_broken (ending w said) ≡ false
 ending-unbroken w said = drops-unbroken Phase.over Then.ends (none_loose w) said w.loose refl
 
@@ -41,10 +42,12 @@ first-unbroken name body w said = by (exec body.body (held w.cache))
     by (need address) = refl
     by (done run) = ending-unbroken (with_first w name body run) (said ++ reply.Ran name w.cache.at run.outcome ∷ [])
 
+-- the line is over, or a first run begins
 then-unbroken : (next : Then) (w : Watching) (said : List Reply) → is_broken (then_on next w said) ≡ false
 then-unbroken Then.ends w said = refl
 then-unbroken (Then.begins name body) w said = first-unbroken name body w said
 
+-- it is said that all hold, or a first run begins
 caught-unbroken : (goal : Goal) (w : Watching) (said : List Reply) → is_broken (caught_up goal w said) ≡ false
 caught-unbroken Goal.current w said = ending-unbroken w (said ++ reply.Current w.cache.at ∷ [])
 caught-unbroken (Goal.watch name body) w said =

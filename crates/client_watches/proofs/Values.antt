@@ -62,15 +62,18 @@ rise-advanced cache feed rising = subst (IsStrictlySortedBy address_cmp) (sym (a
 
 -- ---- one value more
 
+-- it is found at its address, and elsewhere what was found before
 pub held-filled : (cache : Cached) (address : Address) (value : Value) (a : Address)
     → held (filled cache address value) a ≡ cond (is_eq (address_cmp a address)) (Some value) (held cache a)
 held-filled cache address value a = lookup-insert_entry address_cmp order.total-law a address value cache.values
 
+-- it is put at its place among the others
 pub rise-filled : (cache : Cached) (address : Address) (value : Value) → Rise cache.values → Rise (filled cache address value).values
 rise-filled cache address value rising = sorted-insert_entry address_cmp order.total-law address value cache.values rising
 
 -- ---- one value less
 
+-- nothing is found at its address, and elsewhere what was found before
 pub held-released : (cache : Cached) (address a : Address) → Rise cache.values
     → held (released cache address) a ≡ cond (is_at (address_cmp address) a) None (held cache a)
 held-released cache address a rising =
@@ -96,6 +99,7 @@ rise-removed test (x ∷ values) rising = by (test x.0) (rise-removed test value
     by true rest = rising.1
     by false rest = (fewer (λ y. address_cmp x.0 y ≡ Less) values rising.0, rest)
 
+-- so the values are in order without one
 pub rise-released : (cache : Cached) (address : Address) → Rise cache.values → Rise (released cache address).values
 rise-released cache address rising = rise-removed (is_at (address_cmp address)) cache.values rising
 
@@ -105,6 +109,7 @@ rise-released cache address rising = rise-removed (is_at (address_cmp address)) 
 pub at-same : (a b : Address) → is_eq (address_cmp a b) ≡ true → a ≡ b
 at-same a b e = address_cmp-equal a b (equal (address_cmp a b) e)
 
+-- the order the other way round is turned, and equal stays equal
 pub at-turned : (a b : Address) → is_eq (address_cmp a b) ≡ is_eq (address_cmp b a)
 at-turned a b = ap is_eq (order.total-law.antisymm a b) ∙ by (address_cmp b a)
   where

@@ -87,62 +87,68 @@ pub record IsShownAt (low n : ℕ) (journal : Journal) : Type 0 where
 pub record IsCurrent (journal : Journal) (low : ℕ) (before : ShownList) (replies : List Reply) (later : ShownList) : Type 0 where
   pub n : ℕ
   pub shown_at : IsShownAt low n journal
-  pub front : List Reply
-  pub reports : Reports journal n before front later
+  pub prefix : List Reply
+  pub reports : Reports journal n before prefix later
   pub all : AllHold journal n later
-  pub replies_are : replies ≡ front ++ reply.Current n ∷ []
+  pub replies_are : replies ≡ prefix ++ reply.Current n ∷ []
 
--- the reports end where the number is below a horizon
+-- the reports end where a value is late: the number is below a horizon
 pub record IsCutShort (window : ℕ) (journal : Journal) (low : ℕ) (before : ShownList) (replies : List Reply) (later : ShownList) : Type 0 where
   pub n : ℕ
   pub horizon : ℕ
   pub shown_at : IsShownAt low n journal
   pub below : n < horizon
   pub behind : horizon + window ≤ length journal
-  pub front : List Reply
-  pub reports : Reports journal n before front later
-  pub replies_are : replies ≡ front ++ reply.Late n horizon ∷ []
+  pub prefix : List Reply
+  pub reports : Reports journal n before prefix later
+  pub replies_are : replies ≡ prefix ++ reply.Late n horizon ∷ []
+
+-- the same where a rerun needed that value: some watch that was touched has no report
+pub record IsCutAtRerun (window : ℕ) (journal : Journal) (low : ℕ) (before : ShownList) (replies : List Reply) (later : ShownList) : Type 0 where
+  pub cut : IsCutShort window journal low before replies later
+  pub some : AllHold journal cut.n later → ⊥
 
 -- all that were touched are reported, and then the new watch, which is the last
 pub record IsMade (journal : Journal) (low : ℕ) (name : Bytes) (body : Checked) (before : ShownList) (replies : List Reply) (later : ShownList) : Type 0 where
   pub n : ℕ
   pub shown_at : IsShownAt low n journal
-  pub front : List Reply
+  pub prefix : List Reply
   pub others : ShownList
-  pub reports : Reports journal n before front others
+  pub reports : Reports journal n before prefix others
   pub all : AllHold journal n others
   pub outcome : Outcome
   pub outcome_is : IsOutcomeAt journal body n outcome
-  pub replies_are : replies ≡ front ++ reply.Ran name n outcome ∷ []
+  pub replies_are : replies ≡ prefix ++ reply.Ran name n outcome ∷ []
   pub later_are : later ≡ others ++ (name, record { body = body; number = n }) ∷ []
 
 -- WHICH REPLIES PASS for `sync`
 abbrev pub SyncPasses : ℕ → Journal → ℕ → ShownList → List Reply → ShownList → Type 0
-SyncPasses window journal low before replies later = IsCurrent journal low before replies later ⊎ IsCutShort window journal low before replies later
+SyncPasses window journal low before replies later = IsCurrent journal low before replies later ⊎ IsCutAtRerun window journal low before replies later
 
 -- a watch has the name
 abbrev pub IsNamed : Bytes → ShownList → Type 0
 IsNamed name watches = IsSome (lookup (bytes_eq name) watches)
+
+-- no watch has the name
+abbrev pub IsUnknown : Bytes → ShownList → Type 0
+IsUnknown name watches = is_some (lookup (bytes_eq name) watches) ≡ false
 
 -- nothing is done
 pub record IsRefused (why_not : List Reply) (before : ShownList) (replies : List Reply) (later : ShownList) : Type 0 where
   pub replies_are : replies ≡ why_not
   pub same : later ≡ before
 
--- which pass for `watch`
+-- which pass for `watch`: the refusal where the name is in use, and nothing else; where it is free, the watch is made, or a value
+-- that a rerun or its first run needed was late
 abbrev pub WatchPasses : ℕ → Journal → ℕ → Bytes → Checked → ShownList → List Reply → ShownList → Type 0
 WatchPasses window journal low name body before replies later =
     (IsNamed name before × IsRefused (reply.Refused why.Name ∷ []) before replies later)
-    ⊎ IsMade journal low name body before replies later ⊎ IsCutShort window journal low before replies later
+    ⊎ (IsUnknown name before × (IsMade journal low name body before replies later ⊎ IsCutShort window journal low before replies later))
 
 -- which pass for a line that is to come to a goal
 abbrev pub GoalPasses : ℕ → Journal → ℕ → Goal → ShownList → List Reply → ShownList → Type 0
 GoalPasses window journal low Goal.current before replies later = SyncPasses window journal low before replies later
 GoalPasses window journal low (Goal.watch name body) before replies later = WatchPasses window journal low name body before replies later
-
--- no watch has the name
-abbrev pub IsUnknown : Bytes → ShownList → Type 0
-IsUnknown name watches = is_some (lookup (bytes_eq name) watches) ≡ false
 
 -- the watch of the name is gone, and every other stands as it was
 pub record IsForgotten (name : Bytes) (before : ShownList) (replies : List Reply) (later : ShownList) : Type 0 where
@@ -165,3 +171,18 @@ forgotten-example v w = inr (record { was = refl; replies_are = refl; gone = ref
 -- a name that none has is refused
 unknown-example : (v : Shown) → UnwatchPasses (codes "w") ((codes "v", v) ∷ []) (reply.Refused why.NoAttempt ∷ []) ((codes "v", v) ∷ [])
 unknown-example v = inl (refl, record { replies_are = refl; same = refl })
+
+-- a name that is in use is refused
+in-use-example : (window : ℕ) (journal : Journal) (low : ℕ) (body : Checked) (v : Shown)
+    → WatchPasses window journal low (codes "v") body ((codes "v", v) ∷ []) (reply.Refused why.Name ∷ []) ((codes "v", v) ∷ [])
+in-use-example window journal low body v = inl (refl, record { replies_are = refl; same = refl })
+
+-- and nothing else passes for it
+in-use-alone : (window : ℕ) (journal : Journal) (low : ℕ) (body : Checked) (v : Shown) (replies : List Reply) (later : ShownList)
+    → WatchPasses window journal low (codes "v") body ((codes "v", v) ∷ []) replies later → replies ≡ reply.Refused why.Name ∷ []
+in-use-alone window journal low body v replies later (inl is) = is.1.replies_are
+in-use-alone window journal low body v replies later (inr is) = absurd (let free = is.0 in cc)
+
+-- where there is no watch, no rerun is late
+none-to-rerun : (window : ℕ) (journal : Journal) (low : ℕ) (replies : List Reply) → IsCutAtRerun window journal low [] replies [] → ⊥
+none-to-rerun window journal low replies is = is.some tt

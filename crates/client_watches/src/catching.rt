@@ -10,6 +10,7 @@ ghost use Rattle.client_watches.specs.Leading.{Reruns, Catches};
 
 use crate::error::WatchError;
 use crate::fetching::fetch;
+use crate::replies::say;
 use crate::watching::{AddressList, ReplyList, Watching};
 use docc_prepare::Backend;
 use plain_data::{Text, copied};
@@ -58,8 +59,7 @@ fn report(
     loosen(&watching.watches, &mut watching.loose, &name)?;
     watching.watches.reserve(&run)?;
     watching.watches.settle(&name, number, run);
-    said.push(Reply::Ran(name, number, outcome))?;
-    Ok(())
+    say(said, Reply::Ran(name, number, outcome))
 }
 
 /// Runs the first stale watch, and reads each value that its run needs. Where none was stale, or a value was late and that was

@@ -11,6 +11,7 @@ use crate::catching::{catch_up, loosen};
 use crate::dropping::drop_idle;
 use crate::error::WatchError;
 use crate::fetching::take;
+use crate::replies::none_said;
 use crate::running::first_run;
 use crate::watching::{AddressList, ReplyList, Watching};
 use client_cache::Cache;
@@ -106,7 +107,7 @@ impl Watching {
         ensures keeps { IfOk result (λ said. Keeps (B.known backend.new) self.new) }
         ensures home { B.home backend.new ≡ B.home backend.old }
     {
-        let mut said = ReplyList::new(alloc);
+        let mut said = none_said(alloc)?;
         take(backend, self)?;
         say_current(backend, self, &mut said)?;
         drop_idle(alloc, backend, self)?;
@@ -130,7 +131,7 @@ impl Watching {
         if self.watches.has(&name) {
             return Ok(refusal);
         }
-        let mut said = ReplyList::new(alloc);
+        let mut said = none_said(alloc)?;
         take(backend, self)?;
         make(alloc, backend, self, &mut said, name, body)?;
         drop_idle(alloc, backend, self)?;

@@ -5,6 +5,9 @@ use Rattle.std.proofs.lemmas.Bool.{eq-eqb, or_cases, or_left, or_right}
 use Rattle.std.specs.Cmp.{eq_by_cmp_equiv}
 use Rattle.std.specs.Option.{option_map_or}
 use Rattle.std.specs.BTreeMap.{is_at}
+use Rattle.std.specs.Ordering.{is_ne}
+use Rattle.std.specs.declared.cmp.Ordering.{Ordering}
+use Rattle.std.specs.declared.cmp.Ordering.TheVariants.{Less, Equal, Greater}
 use Rattle.rdt_types.specs.declared.address.Address.{Address}
 use Rattle.rdt_types.specs.Addresses.{address_cmp}
 use Rattle.rdt_types.specs.contracts.address.AddressOrd.TheImpl.Laws as addresses
@@ -94,6 +97,24 @@ put-next g h n i observations seen within is puts a (inr left) =
     ⊎_elim (λ here. inl (there-put g h seen.address n puts a ((eq_by_cmp_equiv addresses.total-law).symm seen.address a ∙ here))) (λ later. inr later)
     (or_cases (is_at (address_cmp a) seen.address) (is_observed_by a (drop (i + 1) observations))
     (sym (ap (is_observed_by a) (drop-item observations i seen within is)) ∙ left))
+
+-- what is equal isn't ordered
+pub not-ordered : (r : Ordering) → is_ne r ≡ false → r ≡ Equal
+not-ordered Less e = absurd (cc)
+not-ordered Equal e = refl
+not-ordered Greater e = absurd (cc)
+
+-- two lists have the same address at a place: so what is observed from there on is the same where it is behind
+pub observed-from : (xs ys : List Seen) (i : ℕ) (x y : Seen) → i < length xs → i < length ys → get_or xs i x ≡ x → get_or ys i y ≡ y
+    → x.address ≡ y.address → ((a : Address) → is_observed_by a (drop (i + 1) xs) ≡ true → is_observed_by a (drop (i + 1) ys) ≡ true)
+    → (a : Address) → is_observed_by a (drop i xs) ≡ true → is_observed_by a (drop i ys) ≡ true
+observed-from xs ys i x y in_xs in_ys x_is y_is same behind a seen =
+    ap (is_observed_by a) (drop-item ys i y in_ys y_is)
+    ∙ ⊎_elim (λ here. or_left (is_at (address_cmp a) y.address) (is_observed_by a (drop (i + 1) ys))
+    (ap (λ (k : Address). is_at (address_cmp a) k) (sym same) ∙ here))
+    (λ later. or_right (is_at (address_cmp a) y.address) (is_observed_by a (drop (i + 1) ys)) (behind a later))
+    (or_cases (is_at (address_cmp a) x.address) (is_observed_by a (drop (i + 1) xs))
+    (sym (ap (is_observed_by a) (drop-item xs i x in_xs x_is)) ∙ seen))
 
 -- a list of no length has no numbers
 pub none-in : (xs : List ℕ) → length xs ≡ 0 → xs ≡ []

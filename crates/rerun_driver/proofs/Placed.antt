@@ -293,6 +293,22 @@ pub others-stand : (made : ℕ) (places : Places) (old new : Rolled) (observatio
 others-stand made places old new observations is covers n a other seen =
     covers n a (sym (ap (is_observed_by a) (is n ∙ ap (λ b. cond b observations (seen_by old n)) other)) ∙ seen)
 
+-- a watch that observed again where it observed before stands there, and so do the others
+pub placed-again : (b : Bool) (made : ℕ) (places : Places) (old new : Rolled) (observations before : List Seen) → IsInOrder new
+    → ((n : ℕ) → seen_by new n ≡ cond (nat_eq made n) observations (seen_by old n)) → before ≡ seen_by old made
+    → ((a : Address) → is_observed_by a observations ≡ true → is_observed_by a before ≡ true) → IsPlaced b places old → IsPlaced b places new
+placed-again b made places old new observations before ordered is was again placed = record {
+  ordered = ordered;
+  covers = λ e n a seen. placed.covers e n a (by n a (nat_eq made n) refl (sym (ap (is_observed_by a) (is n)) ∙ seen));
+}
+  where
+    by : (n : ℕ) (a : Address) (c : Bool) → nat_eq made n ≡ c → is_observed_by a (cond (nat_eq made n) observations (seen_by old n)) ≡ true
+        → is_observed_by a (seen_by old n) ≡ true
+    by n a true f seen =
+        sym (ap (λ k. is_observed_by a (seen_by old k)) (eqb-true made n f)) ∙ sym (ap (is_observed_by a) was)
+        ∙ again a (sym (ap (λ d. is_observed_by a (cond d observations (seen_by old n))) f) ∙ seen)
+    by n a false f seen = sym (ap (λ d. is_observed_by a (cond d observations (seen_by old n))) f) ∙ seen
+
 -- where a number is taken out, the others stand
 pub others-taken : (made : ℕ) (old new : Places) (roll : Rolled)
     → ((a : Address) (m : ℕ) → nat_eq made m ≡ false → stands new a m ≡ stands old a m) → CoversBut made old roll → CoversBut made new roll

@@ -174,6 +174,23 @@ seen-set name v made n (m ∷ ms) (w ∷ ws) r e = by (bytes_eq name w.0) e (see
         ap (cond (nat_eq m n) w.1.observations) (rest e)
         ∙ only-one (nat_eq m n) (nat_eq made n) w.1.observations v.observations (seen_in ms ws n) (apart m made n (above-named m ms ws name made r.0 e))
 
+-- what the watch of a name observed, that of its number did
+pub seen-named : (name : Bytes) (w : Watch) (made : ℕ) (order : List ℕ) (ws : Watches) → IsRising order → number_in order ws name ≡ Some made
+    → watch_of ws name ≡ Some w → seen_in order ws made ≡ w.observations
+seen-named name w made [] ws r e f = absurd (cc)
+seen-named name w made (m ∷ ms) [] r e f = absurd (cc)
+seen-named name w made (m ∷ ms) (x ∷ ws) r e f = by (bytes_eq name x.0) e f (seen-named name w made ms ws r.1)
+  where
+    by : (b : Bool) → cond b (Some m) (number_in ms ws name) ≡ Some made → cond b (Some x.1) (watch_of ws name) ≡ Some w
+        → (number_in ms ws name ≡ Some made → watch_of ws name ≡ Some w → seen_in ms ws made ≡ w.observations)
+        → cond (nat_eq m made) x.1.observations (seen_in ms ws made) ≡ w.observations
+    by true e f rest =
+        let same : m ≡ made = cc in let it : x.1 ≡ w = cc in
+        ap (λ b. cond b x.1.observations (seen_in ms ws made)) (eq-eqb m made same) ∙ ap (λ (v : Watch). v.observations) it
+    by false e f rest =
+        let lower = above-named m ms ws name made r.0 e in
+        ap (λ b. cond b x.1.observations (seen_in ms ws made)) (ne_eqb m made (λ same. omega (arith, lower, same))) ∙ rest e f
+
 -- a named watch is gone
 pub seen-removed : (name : Bytes) (made n : ℕ) (order : List ℕ) (ws : Watches) → IsRising order → number_in order ws name ≡ Some made
     → seen_in (without_number order made) (remove_entry (bytes_eq name) ws) n ≡ cond (nat_eq made n) [] (seen_in order ws n)

@@ -13,7 +13,7 @@ use crate::placing::{make_room, put_watch, sweep_all, take_all};
 use crate::rerun::{Rerun, run_watch};
 use crate::roll::Roll;
 use crate::telling::tell_placed;
-use crate::touching::is_observed_by;
+use crate::touching::{are_where, is_observed_by};
 use crate::watch::Watch;
 use change_feed::Feed;
 use client_cache::Cache;
@@ -162,6 +162,10 @@ impl Driver {
         let Some((made, before)) = self.roll.settle(name, number, run) else {
             return;
         };
+        if are_where(self.roll.observations(made), before.as_slice()) {
+            // It stands where it stood.
+            return;
+        }
         take_all(&mut self.places, before.as_slice(), made);
         put_watch(&self.roll, &mut self.places, &mut self.is_placed, made);
         sweep_all(&mut self.places, before.as_slice());

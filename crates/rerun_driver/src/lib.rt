@@ -1,6 +1,7 @@
 //! The watches of a client: bodies that are run anew once a change touches what their last run observed. A [`Driver`] keeps
 //! them in the order of their making; it is told of feeds, names the first watch that is stale, runs its body on the values of
-//! a cache, and takes the report. It stands on `txn_eval` and `client_cache`; a client's session will stand on it.
+//! a cache, and takes the report. It stands on `txn_eval` and `client_cache`; a client's watches over a store stand on it
+//! (`client_watches`).
 //!
 //! Read first `specs/Watches.antt` (what is kept of a watch, what a feed does to it, and what is run next) and then
 //! `specs/Touched.antt` (the law that the stale watches are those that commits touched).

@@ -13,10 +13,7 @@ use plain_data::{Text, copied};
 use rdt_types::{Address, Value};
 use std::alloc::{AllocError, Global};
 use txn_eval::{Step, run};
-use txn_lang::{Checked, Run, Snap, Snaps};
-
-/// More often than this no body runs to be done: each run before needed a value, and reading one takes one of 10,000 ticks.
-const MOST_RUNS: u64 = 10_001;
+use txn_lang::{Checked, Run, Snap, Snaps, TICK_LIMIT};
 
 /// What the next rerun comes to.
 #[derive(Debug, Drop)]
@@ -48,7 +45,7 @@ pub fn run_on(alloc: Global, body: &Checked, cache: &Cache) -> Result<Step, Allo
     ensures { IfOk result (λ step. ran_of step ≡ exec body.now.body (held cache.now)) }
 {
     let mut snaps = Snaps::new(alloc);
-    for _ in 0..MOST_RUNS {
+    for _ in 0..TICK_LIMIT + 1 {
         match run(alloc, body, &snaps)? {
             Step::Done(run) => return Ok(Step::Done(run)),
             Step::Need(address) => match cache.get(&address) {
@@ -57,7 +54,8 @@ pub fn run_on(alloc: Global, body: &Checked, cache: &Cache) -> Result<Step, Allo
             },
         }
     }
-    Err(AllocError)
+    // A run needs no more values than it has ticks.
+    unreachable!()
 }
 
 /// The run of a watch, by its name and its body, on the values of a cache.

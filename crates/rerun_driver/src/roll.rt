@@ -200,6 +200,7 @@ impl Roll {
         ensures kept { self.new ≡ (self.old.0, spec.with_report self.old.1 name.now number run) }
         ensures answer { is_some result ≡ is_some (watch_of self.old.1 name.now) }
         ensures seen { IfSome result (λ r. (n : ℕ) → seen_by self.new n ≡ (if nat_eq r.0 n then run.observations else seen_by self.old n)) }
+        ensures before { IfSome result (λ r. r.1 ≡ seen_by self.old r.0) }
         ensures order { IsInOrder self.new }
     {
         let Some(made) = self.number_of(name) else {

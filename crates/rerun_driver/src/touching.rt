@@ -1,6 +1,8 @@
 //! Whether changes touch what was observed.
 
-ghost use Rattle.std.specs.Prelude.{◌≡◌};
+ghost use Rattle.std.specs.Bool.{OnTrue};
+ghost use Rattle.std.specs.Prelude.{◌≡◌, true};
+ghost use Rattle.rdt_types.specs.declared.address.Address.{Address};
 ghost use Rattle.rerun_driver.specs.Watches as spec;
 
 use conflict_table::{Steps, clash};
@@ -49,4 +51,23 @@ pub(crate) fn is_observed_by(address: &Address, observations: &[Seen]) -> bool
     observations
         .iter()
         .any(|seen| address.cmp(&seen.address).is_eq())
+}
+
+/// Whether observations are at the addresses of earlier ones, in their order.
+pub(crate) fn are_where(observations: &[Seen], before: &[Seen]) -> bool
+    ensures { OnTrue result ((a : Address) → spec.is_observed_by a observations.now ≡ true → spec.is_observed_by a before.now ≡ true) }
+{
+    if observations.len() != before.len() {
+        return false;
+    }
+    for place in 0..before.len() {
+        if observations[place]
+            .address
+            .cmp(&before[place].address)
+            .is_ne()
+        {
+            return false;
+        }
+    }
+    true
 }

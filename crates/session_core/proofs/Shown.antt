@@ -15,7 +15,7 @@ use Rattle.txn_lang.specs.declared.snaps.Snap.{Snap}
 use Rattle.txn_lang.specs.States.{Journal, state}
 use Rattle.docc_prepare.specs.declared.attempt.Attempt.{Attempt}
 use Rattle.docc_prepare.proofs.EachRead.{each-inserted}
-use Rattle.client_watches.specs.Explained.{Shown, ShownList, Reports, IsMade, SyncPasses, IsRefused, WatchPasses, UnwatchPasses}
+use Rattle.client_watches.specs.Explained.{Shown, ShownList, Reports, IsCutShort, IsMade, SyncPasses, IsRefused, WatchPasses, UnwatchPasses}
 use Rattle.client_watches.proofs.Kept.{each-append}
 use Rattle.client_watches.proofs.Stays.{AreUpTo}
 use Rattle.client_watches.proofs.Telling.{up-to-more}
@@ -172,34 +172,41 @@ fold-more low [] r = refl
 fold-more low (x ∷ xs) r = fold-more (low_by low x) xs r
 
 module _ (window : ℕ) (journal : Journal) (low shown : ℕ) (before later : ShownList) (upto : AreUpTo shown before) where
+  -- reports and a value that was late
+  cut-up : (replies : List Reply) → IsCutShort window journal low before replies later → AreUpTo (fold low_by shown replies) later
+  cut-up replies is = subst (λ (rs : List Reply). AreUpTo (fold low_by shown rs) later) (sym is.replies_are)
+      (reports-up journal is.n shown before later is.prefix (reply.Late is.n is.horizon ∷ []) is.reports upto)
+
+  -- each reply to `sync` that passes
   sync-up : (replies : List Reply) → SyncPasses window journal low before replies later → AreUpTo (fold low_by shown replies) later
   sync-up replies (inl is) = subst (λ (rs : List Reply). AreUpTo (fold low_by shown rs) later) (sym is.replies_are)
-      (reports-up journal is.n shown before later is.front (reply.Current is.n ∷ []) is.reports upto)
-  sync-up replies (inr is) = subst (λ (rs : List Reply). AreUpTo (fold low_by shown rs) later) (sym is.replies_are)
-      (reports-up journal is.n shown before later is.front (reply.Late is.n is.horizon ∷ []) is.reports upto)
+      (reports-up journal is.n shown before later is.prefix (reply.Current is.n ∷ []) is.reports upto)
+  sync-up replies (inr is) = cut-up replies is.cut
 
   -- a new watch is the last, and its first report the last reply
   made-up : (name : Bytes) (body : Checked) (replies : List Reply) → IsMade journal low name body before replies later
       → AreUpTo (fold low_by shown replies) later
   made-up name body replies is = subst (λ (rs : List Reply). AreUpTo (fold low_by shown rs) later) (sym is.replies_are)
-      (subst (AreUpTo (fold low_by shown (is.front ++ last ∷ []))) (sym is.later_are)
-      (each-append (λ (entry : Bytes × Shown). entry.1.number ≤ fold low_by shown (is.front ++ last ∷ [])) is.others
+      (subst (AreUpTo (fold low_by shown (is.prefix ++ last ∷ []))) (sym is.later_are)
+      (each-append (λ (entry : Bytes × Shown). entry.1.number ≤ fold low_by shown (is.prefix ++ last ∷ [])) is.others
       ((name, record { body = body; number = is.n }) ∷ [])
-      (reports-up journal is.n shown before is.others is.front (last ∷ []) is.reports upto)
-      (subst (λ (n : ℕ). is.n ≤ n) (sym (fold-more shown is.front last)) (ran-up (fold low_by shown is.front) name is.n is.outcome), tt)))
+      (reports-up journal is.n shown before is.others is.prefix (last ∷ []) is.reports upto)
+      (subst (λ (n : ℕ). is.n ≤ n) (sym (fold-more shown is.prefix last)) (ran-up (fold low_by shown is.prefix) name is.n is.outcome), tt)))
     where
       last : Reply
       last = reply.Ran name is.n is.outcome
 
+  -- where nothing is done
   same-up : (replies why_not : List Reply) → IsRefused why_not before replies later → AreUpTo (fold low_by shown replies) later
   same-up replies why_not is = subst (AreUpTo (fold low_by shown replies)) (sym is.same)
       (up-to-more shown (fold low_by shown replies) before (all-up low_by low-up shown replies) upto)
 
+  -- each reply to `watch` that passes
   watch-up : (name : Bytes) (body : Checked) (replies : List Reply) → WatchPasses window journal low name body before replies later
       → AreUpTo (fold low_by shown replies) later
   watch-up name body replies (inl is) = same-up replies (reply.Refused why.Name ∷ []) is.1
-  watch-up name body replies (inr (inl is)) = made-up name body replies is
-  watch-up name body replies (inr (inr is)) = sync-up replies (inr is)
+  watch-up name body replies (inr (free, inl is)) = made-up name body replies is
+  watch-up name body replies (inr (free, inr is)) = cut-up replies is
 
   -- a watch less
   removed-up : (n : ℕ) (name : Bytes) (ws : ShownList) → AreUpTo n ws → AreUpTo n (remove_entry (bytes_eq name) ws)

@@ -13,17 +13,7 @@ use std::alloc::Global;
 use txn_lang::{CheckError, Checked, check};
 use txn_parse::{ParseError, parse};
 
-/// The body that a text is, or why it is refused. Its source is the text without the blanks at its end.
-pub fn body_of(alloc: Global, text: &[u8], read_only: bool) -> Result<Checked, OrNoMemory<Why>>
-    requires { length text.now ≤ LONGEST_LINE }
-    ensures reads { ReadsBody result (spec.body_of read_only text.now) }
-    ensures ready { IfOk result (λ checked. IsReady checked) }
-{
-    let text = Text::from_slice(alloc, text)?;
-    read_body(alloc, text, read_only)
-}
-
-/// The same, where the text itself becomes the source.
+/// The body that a text is, or why it is refused. The text itself, without the blanks at its end, becomes the source.
 pub(crate) fn read_body(
     alloc: Global,
     text: Text,

@@ -27,7 +27,6 @@ mod waiting;
 mod watches;
 mod words;
 
-pub use body::body_of;
 pub use client_watches::ReplyList;
 pub use error::SessionError;
 pub use laws::{

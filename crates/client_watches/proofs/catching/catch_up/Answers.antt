@@ -27,8 +27,8 @@ returns-in_err-all-clause-catches g c = λ x.
 
 pub returns-in-Some-clause-catches : goal.returns-in-Some-clause-catches
 returns-in-Some-clause-catches g c = λ x.
-    catches-then g.B.Backend.known g.B.Backend.goes c.args.backend.now c.args.watching.now c.args.said.now c.loop-all.backend c.loop-all.watching c.loop-all.said x
-    c.in-Some.all c.rerun_one.new.backend c.rerun_one.new.watching c.rerun_one.new.said (c.loop-all.invariant.led x)
+    catches-then g.B.Backend.known g.B.Backend.goes c.args.backend.now c.args.watching.now c.args.said.now c.loop-all.backend c.loop-all.watching
+    c.loop-all.said x c.in-Some.all c.rerun_one.new.backend c.rerun_one.new.watching c.rerun_one.new.said (c.loop-all.invariant.led x)
     (subst (λ (o : Option Bool). Reruns g.B.Backend.known g.B.Backend.goes x c.loop-all.backend c.loop-all.watching c.loop-all.said (Ok o)
     c.rerun_one.new.backend c.rerun_one.new.watching c.rerun_one.new.said) c.in-Some.is (c.in_ok-all.ensures.reruns x))
 

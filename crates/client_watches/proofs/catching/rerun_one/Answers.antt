@@ -14,7 +14,8 @@ use Rattle.client_watches.proofs.Names.{none-report}
 use Rattle.client_watches.proofs.Stale.{it-needs, is-there, one-fewer}
 use Rattle.client_watches.proofs.Bounds.{HasRead, none-read, reads-few, rerun-reads-more}
 use Rattle.client_watches.proofs.Kept.{keeps-rerun, keeps-value}
-use Rattle.client_watches.proofs.Steps.{rerun-wants, rerun-none, rerun-ran, rerun-unfetched, rerun-fetched, rerun-late, rerun-late-wants, reruns-then, here, none-else}
+use Rattle.client_watches.proofs.Steps.{rerun-wants, rerun-none, rerun-ran, rerun-unfetched, rerun-fetched, rerun-late, rerun-late-wants, reruns-then}
+use Rattle.client_watches.proofs.Steps.{here, none-else}
 use Rattle.client_watches.proofs.catching.rerun_one.Goals as goal
 
 pub loop-init : goal.loop-init
@@ -45,7 +46,8 @@ returns-in_err-report-in-Ran-clause-reruns g c = λ x.
     let p = err_from_is_err_and c.from_residual-in_err-report-in-Ran.result c.from_residual-in_err-report-in-Ran.ensures.1 in
     reruns-then g.B.Backend.known g.B.Backend.goes c.args.backend.now c.args.watching.now c.args.said.now c.loop.backend c.loop.watching c.loop.said x
     c.from_residual-in_err-report-in-Ran.result c.loop.backend c.report.new.watching c.report.new.said (c.loop.invariant.led x)
-    (rerun-wants g.B.Backend.known g.B.Backend.goes c.loop.backend c.loop.watching c.loop.said c.from_residual-in_err-report-in-Ran.result p.0 c.report.new.watching c.report.new.said x p.1 p.2)
+    (rerun-wants g.B.Backend.known g.B.Backend.goes c.loop.backend c.loop.watching c.loop.said c.from_residual-in_err-report-in-Ran.result p.0
+    c.report.new.watching c.report.new.said x p.1 p.2)
 
 pub fetch-requires-clause-short : goal.fetch-requires-clause-short
 fetch-requires-clause-short g c =
@@ -129,9 +131,11 @@ loop-preserved g c =
     (Ok o) c.fetch.new.backend c.fetch.new.watching) (none-else _ c.in_default.not-Some) c.in_ok-late-in-Need.ensures.fetches in
     let up : suc c.loop.counter ≡ c.loop.counter + 1 = omega arith in
     record {
-      led = λ x. reruns-then g.B.Backend.known g.B.Backend.goes c.args.backend.now c.args.watching.now c.args.said.now c.loop.backend c.loop.watching c.loop.said x (Ok None) c.fetch.new.backend c.fetch.new.watching c.loop.said
+      led = λ x. reruns-then g.B.Backend.known g.B.Backend.goes c.args.backend.now c.args.watching.now c.args.said.now c.loop.backend c.loop.watching
+          c.loop.said x (Ok None) c.fetch.new.backend c.fetch.new.watching c.loop.said
           (c.loop.invariant.led x)
-          (rerun-fetched g.B.Backend.known g.B.Backend.goes c.loop.backend c.loop.watching c.loop.said x c.in-Need.address e c.fetch.new.backend c.fetch.new.watching fetched);
+          (rerun-fetched g.B.Backend.known g.B.Backend.goes c.loop.backend c.loop.watching c.loop.said x c.in-Need.address e c.fetch.new.backend
+          c.fetch.new.watching fetched);
       read = subst (λ (w : Watching). HasRead (first_stale w.watches) (c.loop.counter + 1) (held w.cache)) (sym fetched.kept)
           (subst (λ (n : ℕ). HasRead (first_stale c.loop.watching.watches) n (held (filled c.loop.watching.cache c.in-Need.address fetched.value))) up
           (rerun-reads-more c.loop.watching c.in-Need.address fetched.value c.loop.counter e c.loop.invariant.read));

@@ -1,8 +1,12 @@
 use Rattle.client_cache.specs.Cached.{held}
+use Rattle.txn_lang.specs.Few.{AreReadInTurn}
 use Rattle.txn_lang.specs.Observed.{Extends}
 use Rattle.txn_eval.specs.Running.{values_of}
 use Rattle.rerun_driver.proofs.rerun.run_on.Given as goal
 
--- what was taken are values of the cache
+-- what was taken are values of the cache, each of which the run on those before it needed
 abbrev pub invariant-loop : goal.invariant-loop
-invariant-loop l = Extends (values_of l.snaps) (held l.fn.cache)
+invariant-loop l = record {
+  values : Extends (values_of l.snaps) (held l.fn.cache);
+  turn : AreReadInTurn l.body.body l.counter (values_of l.snaps);
+}

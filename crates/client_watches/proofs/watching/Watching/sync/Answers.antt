@@ -1,15 +1,23 @@
-use Rattle.std.proofs.Common.{[], Err, subst, sym, ap}
+use Rattle.std.proofs.Common.{[], Err, refl, subst, sym, ap}
 use Rattle.std.proofs.lemmas.Result.{err_from_is_err_and}
 use Rattle.client_watches.specs.declared.error.WatchError.{WatchError}
 use Rattle.client_watches.specs.Phases.{Goal, settled, rerun_all, ending, start_sync}
 use Rattle.client_watches.specs.Leading.{Takes, Continues, Drops}
-use Rattle.client_watches.proofs.Steps.{to-same, and-then, stops-behind, went-err, line-ends, line-breaks}
+use Rattle.client_watches.proofs.Steps.{here, to-same, and-then, stopped-here, stops-behind, went-err, line-ends, line-breaks}
 use Rattle.client_watches.proofs.watching.Watching.sync.Goals as goal
+
+pub returns-in_err-said-clause-went : goal.returns-in_err-said-clause-went
+returns-in_err-said-clause-went g c =
+    let p = err_from_is_err_and c.from_residual.result c.from_residual.ensures.1 in
+    let start = start_sync c.args.self.now in
+    went-err g.B.Backend.known g.B.Backend.goes c.args.backend.now start c.from_residual.result p.0 c.args.backend.now c.args.self.now p.1
+    (stopped-here g.B.Backend.known g.B.Backend.goes c.args.backend.now start c.args.backend.now start p.0 p.2
+    (here g.B.Backend.known g.B.Backend.goes c.args.backend.now start start refl))
 
 pub returns-in_err-take-clause-went : goal.returns-in_err-take-clause-went
 returns-in_err-take-clause-went g c =
-    let p = err_from_is_err_and c.from_residual.result c.from_residual.ensures.1 in
-    went-err g.B.Backend.known g.B.Backend.goes c.args.backend.now (start_sync c.args.self.now) c.from_residual.result p.0 c.take.new.backend
+    let p = err_from_is_err_and c.from_residual-in_err-take.result c.from_residual-in_err-take.ensures.1 in
+    went-err g.B.Backend.known g.B.Backend.goes c.args.backend.now (start_sync c.args.self.now) c.from_residual-in_err-take.result p.0 c.take.new.backend
     c.take.new.watching p.1
     ((subst (λ (e : WatchError). Takes g.B.Backend.known g.B.Backend.goes c.args.backend.now c.args.self.now (Err e) c.take.new.backend
     c.take.new.watching) (sym p.2) c.in_err-take.ensures.takes) Goal.current)
@@ -20,12 +28,12 @@ returns-in_err-say_current-clause-went g c =
     went-err g.B.Backend.known g.B.Backend.goes c.args.backend.now (start_sync c.args.self.now) c.from_residual-in_err-say_current.result p.0
     c.say_current.new.backend c.say_current.new.watching p.1
     (stops-behind g.B.Backend.known g.B.Backend.goes c.args.backend.now (start_sync c.args.self.now) c.take.new.backend
-    (rerun_all Goal.current c.take.new.watching c.new-said.result) p.0 c.say_current.new.backend
+    (rerun_all Goal.current c.take.new.watching c.in_ok-said.said) p.0 c.say_current.new.backend
     (to-same g.B.Backend.known g.B.Backend.goes c.args.backend.now (start_sync c.args.self.now) c.take.new.backend
-    (rerun_all Goal.current c.take.new.watching []) (rerun_all Goal.current c.take.new.watching c.new-said.result)
-    (ap (rerun_all Goal.current c.take.new.watching) (sym c.new-said.ensures)) (c.in_ok-take.ensures.takes Goal.current))
+    (rerun_all Goal.current c.take.new.watching []) (rerun_all Goal.current c.take.new.watching c.in_ok-said.said)
+    (ap (rerun_all Goal.current c.take.new.watching) (sym c.in_ok-said.ensures)) (c.in_ok-take.ensures.takes Goal.current))
     (subst (λ (e : WatchError). Continues g.B.Backend.known g.B.Backend.goes c.take.new.backend
-    (rerun_all Goal.current c.take.new.watching c.new-said.result) (ending c.say_current.new.watching) (Err e) c.say_current.new.backend
+    (rerun_all Goal.current c.take.new.watching c.in_ok-said.said) (ending c.say_current.new.watching) (Err e) c.say_current.new.backend
     c.say_current.new.said) (sym p.2) c.in_err-say_current.ensures.continues))
 
 pub returns-in_err-drop_idle-clause-went : goal.returns-in_err-drop_idle-clause-went
@@ -36,11 +44,11 @@ returns-in_err-drop_idle-clause-went g c =
     (line-breaks g.B.Backend.known g.B.Backend.goes c.args.backend.now (start_sync c.args.self.now) c.say_current.new.backend c.say_current.new.watching
     c.say_current.new.said p.0 c.drop_idle.new.backend c.drop_idle.new.watching
     (and-then g.B.Backend.known g.B.Backend.goes c.args.backend.now (start_sync c.args.self.now) c.take.new.backend
-    (rerun_all Goal.current c.take.new.watching c.new-said.result) c.say_current.new.backend
+    (rerun_all Goal.current c.take.new.watching c.in_ok-said.said) c.say_current.new.backend
     (ending c.say_current.new.watching c.say_current.new.said)
     (to-same g.B.Backend.known g.B.Backend.goes c.args.backend.now (start_sync c.args.self.now) c.take.new.backend
-    (rerun_all Goal.current c.take.new.watching []) (rerun_all Goal.current c.take.new.watching c.new-said.result)
-    (ap (rerun_all Goal.current c.take.new.watching) (sym c.new-said.ensures)) (c.in_ok-take.ensures.takes Goal.current))
+    (rerun_all Goal.current c.take.new.watching []) (rerun_all Goal.current c.take.new.watching c.in_ok-said.said)
+    (ap (rerun_all Goal.current c.take.new.watching) (sym c.in_ok-said.ensures)) (c.in_ok-take.ensures.takes Goal.current))
     c.in_ok-say_current.ensures.continues)
     (subst (λ (e : WatchError). Drops g.B.Backend.known g.B.Backend.goes c.say_current.new.backend (settled c.say_current.new.watching)
     c.say_current.new.watching.loose (Err e) c.drop_idle.new.backend c.drop_idle.new.watching) (sym p.2) c.in_err-drop_idle.ensures.drops))
@@ -50,10 +58,10 @@ returns-clause-went g c =
     line-ends g.B.Backend.known g.B.Backend.goes c.args.backend.now (start_sync c.args.self.now) c.say_current.new.backend c.say_current.new.watching
     c.say_current.new.said tt c.drop_idle.new.backend c.drop_idle.new.watching
     (and-then g.B.Backend.known g.B.Backend.goes c.args.backend.now (start_sync c.args.self.now) c.take.new.backend
-    (rerun_all Goal.current c.take.new.watching c.new-said.result) c.say_current.new.backend
+    (rerun_all Goal.current c.take.new.watching c.in_ok-said.said) c.say_current.new.backend
     (ending c.say_current.new.watching c.say_current.new.said)
     (to-same g.B.Backend.known g.B.Backend.goes c.args.backend.now (start_sync c.args.self.now) c.take.new.backend
-    (rerun_all Goal.current c.take.new.watching []) (rerun_all Goal.current c.take.new.watching c.new-said.result)
-    (ap (rerun_all Goal.current c.take.new.watching) (sym c.new-said.ensures)) (c.in_ok-take.ensures.takes Goal.current))
+    (rerun_all Goal.current c.take.new.watching []) (rerun_all Goal.current c.take.new.watching c.in_ok-said.said)
+    (ap (rerun_all Goal.current c.take.new.watching) (sym c.in_ok-said.ensures)) (c.in_ok-take.ensures.takes Goal.current))
     c.in_ok-say_current.ensures.continues)
     c.in_ok-drop_idle.ensures.drops

@@ -25,6 +25,14 @@ returns-then-has-clause-went g c =
     (sym c.has.ensures ∙ c.if-has.true)
     ∙ ap (Phase.over c.args.self.now) (sym c.in_ok-refusal.ensures))
 
+pub returns-in_err-said-clause-went : goal.returns-in_err-said-clause-went
+returns-in_err-said-clause-went g c =
+    let p = err_from_is_err_and c.from_residual-in_err-said.result c.from_residual-in_err-said.ensures.1 in
+    let start = start_watch c.args.self.now c.args.name c.args.body in
+    went-err g.B.Backend.known g.B.Backend.goes c.args.backend.now start c.from_residual-in_err-said.result p.0 c.args.backend.now c.args.self.now p.1
+    (stopped-here g.B.Backend.known g.B.Backend.goes c.args.backend.now start c.args.backend.now start p.0 p.2
+    (here g.B.Backend.known g.B.Backend.goes c.args.backend.now start start refl))
+
 pub make-requires-clause-free : goal.make-requires-clause-free
 make-requires-clause-free g c =
     c.in_ok-take.ensures.free c.args.name (free-name (watch_of c.args.self.now.watches c.args.name) (sym c.has.ensures ∙ c.if-has.false))
@@ -53,15 +61,15 @@ returns-in_err-make-clause-went g c =
     went-err g.B.Backend.known g.B.Backend.goes c.args.backend.now start c.from_residual-in_err-make.result p.0 c.make.new.backend
     c.make.new.watching p.1
     (stops-behind g.B.Backend.known g.B.Backend.goes c.args.backend.now start c.take.new.backend
-    (rerun_all aim c.take.new.watching c.new-said.result) p.0 c.make.new.backend
+    (rerun_all aim c.take.new.watching c.in_ok-said.said) p.0 c.make.new.backend
     (and-then g.B.Backend.known g.B.Backend.goes c.args.backend.now start c.args.backend.now (Phase.taking aim c.args.self.now) c.take.new.backend
-    (rerun_all aim c.take.new.watching c.new-said.result)
+    (rerun_all aim c.take.new.watching c.in_ok-said.said)
     (here g.B.Backend.known g.B.Backend.goes c.args.backend.now start (Phase.taking aim c.args.self.now) begun)
     (to-same g.B.Backend.known g.B.Backend.goes c.args.backend.now (Phase.taking aim c.args.self.now) c.take.new.backend
-    (rerun_all aim c.take.new.watching []) (rerun_all aim c.take.new.watching c.new-said.result)
-    (ap (rerun_all aim c.take.new.watching) (sym c.new-said.ensures)) (c.in_ok-take.ensures.takes aim)))
+    (rerun_all aim c.take.new.watching []) (rerun_all aim c.take.new.watching c.in_ok-said.said)
+    (ap (rerun_all aim c.take.new.watching) (sym c.in_ok-said.ensures)) (c.in_ok-take.ensures.takes aim)))
     (subst (λ (e : WatchError). Continues g.B.Backend.known g.B.Backend.goes c.take.new.backend
-    (rerun_all aim c.take.new.watching c.new-said.result) (ending c.make.new.watching) (Err e) c.make.new.backend
+    (rerun_all aim c.take.new.watching c.in_ok-said.said) (ending c.make.new.watching) (Err e) c.make.new.backend
     c.make.new.said) (sym p.2) c.in_err-make.ensures.continues))
 
 pub returns-in_err-drop_idle-clause-went : goal.returns-in_err-drop_idle-clause-went
@@ -76,13 +84,13 @@ returns-in_err-drop_idle-clause-went g c =
     (line-breaks g.B.Backend.known g.B.Backend.goes c.args.backend.now start c.make.new.backend c.make.new.watching
     c.make.new.said p.0 c.drop_idle.new.backend c.drop_idle.new.watching
     (and-then g.B.Backend.known g.B.Backend.goes c.args.backend.now start c.take.new.backend
-    (rerun_all aim c.take.new.watching c.new-said.result) c.make.new.backend (ending c.make.new.watching c.make.new.said)
+    (rerun_all aim c.take.new.watching c.in_ok-said.said) c.make.new.backend (ending c.make.new.watching c.make.new.said)
     (and-then g.B.Backend.known g.B.Backend.goes c.args.backend.now start c.args.backend.now (Phase.taking aim c.args.self.now) c.take.new.backend
-    (rerun_all aim c.take.new.watching c.new-said.result)
+    (rerun_all aim c.take.new.watching c.in_ok-said.said)
     (here g.B.Backend.known g.B.Backend.goes c.args.backend.now start (Phase.taking aim c.args.self.now) begun)
     (to-same g.B.Backend.known g.B.Backend.goes c.args.backend.now (Phase.taking aim c.args.self.now) c.take.new.backend
-    (rerun_all aim c.take.new.watching []) (rerun_all aim c.take.new.watching c.new-said.result)
-    (ap (rerun_all aim c.take.new.watching) (sym c.new-said.ensures)) (c.in_ok-take.ensures.takes aim)))
+    (rerun_all aim c.take.new.watching []) (rerun_all aim c.take.new.watching c.in_ok-said.said)
+    (ap (rerun_all aim c.take.new.watching) (sym c.in_ok-said.ensures)) (c.in_ok-take.ensures.takes aim)))
     c.in_ok-make.ensures.continues)
     (subst (λ (e : WatchError). Drops g.B.Backend.known g.B.Backend.goes c.make.new.backend (settled c.make.new.watching)
     c.make.new.watching.loose (Err e) c.drop_idle.new.backend c.drop_idle.new.watching) (sym p.2) c.in_err-drop_idle.ensures.drops))
@@ -96,12 +104,12 @@ returns-clause-went g c =
     line-ends g.B.Backend.known g.B.Backend.goes c.args.backend.now start c.make.new.backend c.make.new.watching
     c.make.new.said tt c.drop_idle.new.backend c.drop_idle.new.watching
     (and-then g.B.Backend.known g.B.Backend.goes c.args.backend.now start c.take.new.backend
-    (rerun_all aim c.take.new.watching c.new-said.result) c.make.new.backend (ending c.make.new.watching c.make.new.said)
+    (rerun_all aim c.take.new.watching c.in_ok-said.said) c.make.new.backend (ending c.make.new.watching c.make.new.said)
     (and-then g.B.Backend.known g.B.Backend.goes c.args.backend.now start c.args.backend.now (Phase.taking aim c.args.self.now) c.take.new.backend
-    (rerun_all aim c.take.new.watching c.new-said.result)
+    (rerun_all aim c.take.new.watching c.in_ok-said.said)
     (here g.B.Backend.known g.B.Backend.goes c.args.backend.now start (Phase.taking aim c.args.self.now) begun)
     (to-same g.B.Backend.known g.B.Backend.goes c.args.backend.now (Phase.taking aim c.args.self.now) c.take.new.backend
-    (rerun_all aim c.take.new.watching []) (rerun_all aim c.take.new.watching c.new-said.result)
-    (ap (rerun_all aim c.take.new.watching) (sym c.new-said.ensures)) (c.in_ok-take.ensures.takes aim)))
+    (rerun_all aim c.take.new.watching []) (rerun_all aim c.take.new.watching c.in_ok-said.said)
+    (ap (rerun_all aim c.take.new.watching) (sym c.in_ok-said.ensures)) (c.in_ok-take.ensures.takes aim)))
     c.in_ok-make.ensures.continues)
     c.in_ok-drop_idle.ensures.drops

@@ -6,7 +6,7 @@ use Rattle.rerun_driver.specs.code.Numbers.{Roomy, without_number}
 use Rattle.rerun_driver.specs.code.Rolls.{Rolled, IsRoll, IsInOrder, number_of, number_in, seen_in, seen_by}
 use Rattle.rerun_driver.specs.code.Shown.{shown}
 use Rattle.rerun_driver.proofs.Shown.{Kept, is_named, lookup-shown, shown-set_value, shown-settled}
-use Rattle.rerun_driver.proofs.Rolls.{named-none, seen-set}
+use Rattle.rerun_driver.proofs.Rolls.{named-none, seen-set, seen-named}
 use Rattle.rerun_driver.proofs.Keeping.{in-order, keeps-settled, unreported}
 use Rattle.rerun_driver.proofs.roll.Roll.settle.Goals as goal
 
@@ -80,3 +80,15 @@ returns-clause-seen c n =
     ap (λ (ws : Watches). seen_in inside.order.0 ws n) (ap shown (c.get_mut.follows.holds watch).0 ∙ shown-set_value bytes kept watch)
     ∙ seen-set bytes watch made n inside.order.0 (shown kept) c.self.invariant.rising at
     ∙ (λ i. cond (nat_eq made n) (ap (λ (w : Watch). w.observations) c.settle-before.ensures.kept i) (seen_by (c.self.view_is i) n))
+
+pub returns-clause-before : goal.returns-clause-before
+returns-clause-before c =
+    let inside = c.self.inside in
+    let kept = inside.watches.entries in
+    let made = c.in-Some.made in
+    let bytes = c.as_slice.result.now in
+    let watch = c.in-Some-get_mut.watch.now in
+    let at : number_in inside.order.0 (shown kept) bytes ≡ Some made = (λ i. number_of (c.self.view_is i) (c.as_slice.ensures i)) ∙ sym c.in-Some.ensures in
+    let found : watch_of (shown kept) bytes ≡ Some watch = lookup-shown bytes kept ∙ sym c.in-Some-get_mut.ensures.value in
+    c.settle-before.ensures.before ∙ sym (seen-named bytes watch made inside.order.0 (shown kept) c.self.invariant.rising at found)
+    ∙ (λ i. seen_by (c.self.view_is i) made)
