@@ -51,6 +51,7 @@ pub trait Sink {
 }
 
 /// Writes all of the bytes, or as many as the sink takes before it fails. `false` is a fault of the sink.
+#[inline(always)]
 pub fn write_all<W: Sink>(sink: &mut W, bytes: &[u8]) -> bool
     ensures all { OnTrue result (W.taken sink.new ≡ with_more (W.taken sink.old) bytes.now) }
 

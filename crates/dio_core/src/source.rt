@@ -64,6 +64,7 @@ pub trait Source {
 }
 
 /// Copies what fits of these bytes to the beginning of `buf`, up to and with the first `last`. How many they are.
+#[inline(always)]
 pub fn copy_through(last: u8, bytes: &[u8], buf: &mut [u8]) -> usize
     ensures count { result ≡ length_through last (take (length buf.old) bytes.now) }
     ensures copied { buf.new ≡ take result bytes.now ++ drop result buf.old }

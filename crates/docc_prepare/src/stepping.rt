@@ -36,6 +36,7 @@ impl Attempt {
     }
 
     /// What comes next where the run is done.
+    #[inline(always)]
     fn after_run(&self, run: Run) -> Next
         ensures { result ≡ spec.next_of self.now.shards self.now.fronts (done run) }
     {

@@ -47,6 +47,7 @@ fn changes_between(alloc: Global, log: &Log, from: u64, to: u64) -> Result<Chang
 }
 
 /// The changes in a shard between two numbers.
+#[inline(always)]
 fn between_in_shard(log: &Log, shard: u8, from: u64, to: u64) -> &[Change]
     ensures numbered { AreNumbered log.now.commits }
     ensures changes { result.now ≡ spec.of_shard log.now.shards shard (spec.between from to (spec.changes log.now.commits)) }

@@ -166,6 +166,7 @@ impl<T> Sequence<T> {
 
 impl<T: Drop> Sequence<T> {
     /// Adds an item at the end. For want of memory the item is dropped.
+    #[inline(always)]
     pub fn push(&mut self, item: T) -> Result<(), AllocError>
         ensures ok { OnOk result (self.new ≡ self.old ++ item ∷ []) }
         ensures err { OnErr result (self.new ≡ self.old) }

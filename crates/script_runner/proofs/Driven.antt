@@ -100,7 +100,8 @@ module _ {B : Type 0} (known : B → Known) (goes : B → Call → Answer → B 
       let past = led-driven b p mine n c q led in
       let now = steps c d call answer past.is_of step in
       record {
-        drives = subst (Drives client (store b, p) (n + 1) (store d)) is (driven-more client (store b, p) n (store c) (store d) q call answer past.drives asked now.0);
+        drives = subst (Drives client (store b, p) (n + 1) (store d)) is
+            (driven-more client (store b, p) n (store c) (store d) q call answer past.drives asked now.0);
         is_of = now.1;
       }
 
@@ -112,7 +113,8 @@ over-within : (client : ℕ) (x : Place) (n most : ℕ) (s : Store) (t : Session
 over-within client x n zero s t turn few e = subst (λ (m : ℕ). drive m client x ≡ (s, Phase.over t turn)) (let none : n ≡ zero = omega arith in none) e
 over-within client x n (suc most) s t turn few e = by (over-within client x n most s t turn) (same-or-not n (suc most))
   where
-    by : (n ≤ most → drive n client x ≡ (s, Phase.over t turn) → drive most client x ≡ (s, Phase.over t turn)) → (n ≡ suc most) ⊎ (n ≢ suc most) → drive (suc most) client x ≡ (s, Phase.over t turn)
+    by : (n ≤ most → drive n client x ≡ (s, Phase.over t turn) → drive most client x ≡ (s, Phase.over t turn)) → (n ≡ suc most) ⊎ (n ≢ suc most)
+        → drive (suc most) client x ≡ (s, Phase.over t turn)
     by rest (inl same) = subst (λ (m : ℕ). drive m client x ≡ (s, Phase.over t turn)) same e
     by rest (inr apart) = ap (advance client) (rest (let fewer : n ≤ most = omega arith in fewer) e)
 

@@ -1,5 +1,6 @@
 -- The world of a script stands before its first line, and behind each.
-use Rattle.std.proofs.Common.{◌≡◌, ◌≢◌, ℕ, zero, suc, ◌≤◌, ◌<◌, Bool, true, false, cond, List, [], ◌∷◌, ◌++◌, length, get_or, set, fold, Option, Some, None, Result, Ok, Err}
+use Rattle.std.proofs.Common.{◌≡◌, ◌≢◌, ℕ, zero, suc, ◌≤◌, ◌<◌, Bool, true, false, cond, List, [], ◌∷◌, ◌++◌, length, get_or, set, fold}
+use Rattle.std.proofs.Common.{Option, Some, None, Result, Ok, Err}
 use Rattle.std.proofs.Common.{◌⊎◌, inl, inr, refl, sym, ap, ◌∙◌, subst, arith, length-append, drop}
 use Rattle.std.specs.declared.alloc.AllocError.{AllocError}
 use Rattle.std.specs.Prelude.{OnOk, IfSome, nat_le, nat_lt}
@@ -33,9 +34,10 @@ use Rattle.session_core.proofs.GoingOn.{sessions_go_on}
 use Rattle.script_runner.specs.declared.words.TheConstants.{LAST_CLIENT}
 use Rattle.script_runner.specs.Driving.{Place, all_calls, line_done}
 use Rattle.script_runner.specs.Words.{is_solid, first_word, after_word, small_number, client_named, if_client, is_follow, if_shard, shard_named}
-use Rattle.script_runner.specs.Play.{ScriptWorld, first_session, first_sessions, first_world, session_of, Told, Did, did, left, ended_line, follow_line, client_line}
+use Rattle.script_runner.specs.Play.{ScriptWorld, first_session, first_sessions, first_world, session_of, Told, Did, did, left, ended_line}
+use Rattle.script_runner.specs.Play.{follow_line, client_line}
 use Rattle.script_runner.specs.Play.{Done, done, placed, named_line, text_line, answer, Played, nothing_played, one_more, play}
-use Rattle.script_runner.specs.Lines.{Answers}
+use Rattle.script_runner.specs.code.Lines.{Answers}
 use Rattle.script_runner.specs.Worlds.{Stands}
 use Rattle.script_runner.proofs.Places.{set-here, set-elsewhere, at-end, same-or-not}
 use Rattle.script_runner.proofs.Stood.{IsDriven, line-driven}
@@ -137,7 +139,8 @@ module _ (s : Store) (client : ℕ) (sound : IsSound s) (below : client < CLIENT
             let after = shards_follow s client shard sound below there in record {
               sound = after.sound;
               mine = sessions_go_on.followed (known_by s client) (known_by (followed s client shard) client) session is after.mine;
-              others = λ other apart theirs h. sessions_go_on.others (known_by s other) (known_by (followed s client shard) other) theirs h (after.others other apart);
+              others = λ other apart theirs h.
+                  sessions_go_on.others (known_by s other) (known_by (followed s client shard) other) theirs h (after.others other apart);
             }
 
     -- a session that goes on behind its line attends
@@ -148,7 +151,8 @@ module _ (s : Store) (client : ℕ) (sound : IsSound s) (below : client < CLIENT
     left-attends k t (turn.Ended replies) h = tt
 
     -- what a line is driven to, wherever that is
-    ended-leaves : (text : Text) (asked : Asked) (x : Place) → IsDriven s client session text (all_calls session asked) x → Leaves s client (ended_line client s session asked x)
+    ended-leaves : (text : Text) (asked : Asked) (x : Place) → IsDriven s client session text (all_calls session asked) x
+        → Leaves s client (ended_line client s session asked x)
     ended-leaves text asked (after, Phase.over t x) h = record {
       sound = h.sound;
       mine = left-attends after t x (sessions_go_on.behind (known_by s client) session text (known_by after client) t x h.way);
@@ -201,7 +205,8 @@ placed-stands world client d h leaves = record {
         all (Some theirs) is = leaves.others c apart theirs is
 
 -- the client that a word names is one of them
-named-stands : (world : ScriptWorld) (o : Option ℕ) (text : Text) → Stands world → length text ≤ LONGEST_LINE → Stands (named_line world (if_client o) text).world
+named-stands : (world : ScriptWorld) (o : Option ℕ) (text : Text) → Stands world → length text ≤ LONGEST_LINE
+    → Stands (named_line world (if_client o) text).world
 named-stands world None text h short = h
 named-stands world (Some client) text h short = by (nat_le client LAST_CLIENT) refl
   where

@@ -125,7 +125,8 @@ module _ (s : Store) (client : ℕ) (session : Session) (text : Text) (mine : cl
       }
     where
       -- one call more was made, since one was asked for
-      one-more : (n calls : ℕ) (o : Option Call) (c : Call) → o ≡ Some c → (calls ≡ n) ⊎ (o ≡ None) → (calls + 1 ≡ suc n) ⊎ (asks (after p (step t client c).1) ≡ None)
+      one-more : (n calls : ℕ) (o : Option Call) (c : Call) → o ≡ Some c → (calls ≡ n) ⊎ (o ≡ None)
+          → (calls + 1 ≡ suc n) ⊎ (asks (after p (step t client c).1) ≡ None)
       one-more n calls o c is (inl same) = inl (omega arith)
       one-more n calls o c is (inr none) = absurd (let no : None ≡ Some c = sym none ∙ is in cc)
 

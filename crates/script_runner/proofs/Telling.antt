@@ -44,7 +44,8 @@ use Rattle.session_core.proofs.Stories.{story-stays, story-told}
 use Rattle.script_runner.specs.declared.words.TheConstants.{LAST_CLIENT}
 use Rattle.script_runner.specs.Driving.{Place, all_calls, line_done}
 use Rattle.script_runner.specs.Words.{first_word, after_word, small_number, client_named, if_client, is_follow, if_shard, shard_named}
-use Rattle.script_runner.specs.Play.{ScriptWorld, first_session, first_sessions, first_world, session_of, Told, Did, did, left, ended_line, follow_line, client_line}
+use Rattle.script_runner.specs.Play.{ScriptWorld, first_session, first_sessions, first_world, session_of, Told, Did, did, left, ended_line}
+use Rattle.script_runner.specs.Play.{follow_line, client_line}
 use Rattle.script_runner.specs.Play.{Done, done, placed, named_line, text_line, answer, cut_line, world_after, Played, nothing_played, one_more, play}
 use Rattle.script_runner.specs.Explained.{setting_of, first_story, is_to, told_to, ExplainsTold, ExplainsScript}
 use Rattle.script_runner.specs.Worlds.{Stands}
@@ -78,6 +79,7 @@ record IsFront (s : Store) (client : ℕ) (session : Session) (d : Did) (who fro
   within : front ≤ length d.store.journal
   seen : front ≤ seen_by d.store client
 
+-- what a line tells of its client, by what it tells
 abbrev TellsMine : Store → ℕ → Session → Did → Told → Type 0
 TellsMine s client session d Told.nothing = (d.session ≡ Some session) × (seen_by s client ≤ seen_by d.store client)
 TellsMine s client session d (Told.nobody reason) = ⊥
@@ -95,12 +97,19 @@ record Tells (s : Store) (client : ℕ) (session : Session) (d : Did) : Type 0 w
 -- the same settings, field by field
 same-setting-in : (s t : Store) → t.shards ≡ s.shards → t.window ≡ s.window → t.limit ≡ s.limit → setting_in t ≡ setting_in s
 same-setting-in s t a b c = ap (λ (n : ℕ). record { shards = n; window = t.window; limit = t.limit }) a
-    ∙ (ap (λ (n : ℕ). record { shards = s.shards; window = n; limit = t.limit }) b ∙ ap (λ (n : ℕ). record { shards = s.shards; window = s.window; limit = n }) c)
+    ∙ (ap (λ (n : ℕ). record { shards = s.shards; window = n; limit = t.limit }) b
+    ∙ ap (λ (n : ℕ). record { shards = s.shards; window = s.window; limit = n }) c)
 
 module _ (s : Store) (client : ℕ) (session : Session) (sound : IsSound s) (below : client < CLIENTS) (is : Attends (known_by s client) session) where
   -- where nothing is done, nothing is told
   tells-nothing : Tells s client session (did s (Some session) Told.nothing)
-  tells-nothing = record { grows = prefix-whole s.journal; legal = sound.legal; setting = refl; others = λ other apart. omega arith; mine = (refl, omega arith) }
+  tells-nothing = record {
+    grows = prefix-whole s.journal;
+    legal = sound.legal;
+    setting = refl;
+    others = λ other apart. omega arith;
+    mine = (refl, omega arith);
+  }
 
   -- a line that names no shard is refused, and a refusal passes
   tells-refusal : Tells s client session (follow_line client s session None)
@@ -234,6 +243,7 @@ heard these journal c y told rest e h = subst (λ b. ExplainsTold these journal 
 same-tests : (a b : ℕ) → a ≡ b → (a == b) ≡ true
 same-tests a b e = grind (arith, nat_tests)
 
+-- and whether they are not
 apart-tests : (a b : ℕ) → (a ≡ b → ⊥) → (a == b) ≡ false
 apart-tests a b differ = by (a == b) refl
   where
@@ -407,7 +417,8 @@ module _ (these : Setting) (w : ScriptWorld) (e : setting_in w.store ≡ these) 
   told-either false x y kx ky = ky
 
   text-told : (text : Text) → length text ≤ LONGEST_LINE → HasTold these w (text_line w text)
-  text-told text short = told-either (is_quiet text) (done w Told.nothing) (named_line w (client_named (first_word text)) (after_word text)) (told-nobody Told.nothing (λ c. refl))
+  text-told text short = told-either (is_quiet text) (done w Told.nothing) (named_line w (client_named (first_word text)) (after_word text))
+      (told-nobody Told.nothing (λ c. refl))
       (named-told (small_number (first_word text)) (after_word text) (let shorter = after-shorter text in omega arith))
 
   -- any line
@@ -426,7 +437,8 @@ tolds_from w (raw ∷ raws) = (cut_line w raw).told ∷ tolds_from (world_after 
 -- it stands behind what was told before
 told-split : (raws : List Text) (p : Played) → (fold one_more p raws).told ≡ p.told ++ tolds_from p.world raws
 told-split [] p = sym (append-nil p.told)
-told-split (raw ∷ raws) p = told-split raws (one_more p raw) ∙ append_assoc p.told ((cut_line p.world raw).told ∷ []) (tolds_from (world_after p.world raw) raws)
+told-split (raw ∷ raws) p =
+    told-split raws (one_more p raw) ∙ append_assoc p.told ((cut_line p.world raw).told ∷ []) (tolds_from (world_after p.world raw) raws)
 
 module _ (these : Setting) where
   -- lines only add to the journal

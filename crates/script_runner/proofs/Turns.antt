@@ -8,7 +8,7 @@ use Rattle.dio_core.specs.Sinks.{with_more, TakesPrefix}
 use Rattle.dio_core.proofs.Told.{WhereTold-map}
 use Rattle.dio_core.proofs.Sinks.{with_more-nil}
 use Rattle.txn_grammar.specs.Characters.{Text}
-use Rattle.script_runner.specs.Lines.{Leaves}
+use Rattle.script_runner.specs.code.Lines.{Leaves}
 use Rattle.script_runner.specs.Play.{ScriptWorld, answer}
 use Rattle.script_runner.specs.code.Turns.{moment, DoesLine, BeginsLine}
 

@@ -2,7 +2,6 @@ pub mod Words
 pub mod Driving
 pub mod Play
 pub mod Worlds
-pub mod Lines
 pub mod Explained
 pub mod Script
 pub mod code

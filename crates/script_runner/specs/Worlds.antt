@@ -1,8 +1,9 @@
 -- The world of a script in code, and what it keeps to between its lines.
-use Rattle.std.specs.Prelude.{◌≡◌, ℕ, length, IfSome}
+use Rattle.std.specs.Prelude.{◌≡◌, ℕ, ◌+◌, length, IfSome, refl}
 use Rattle.docc_prepare.specs.Stores.{CLIENTS, IsSound, known_by}
 use Rattle.local_world.specs.Stored.{store_of}
 use Rattle.session_core.specs.Holding.{Attends}
+use Rattle.script_runner.specs.declared.words.TheConstants.{LAST_CLIENT}
 use Rattle.script_runner.specs.declared.world.Script.{Script}
 use Rattle.script_runner.specs.Play.{ScriptWorld, session_of}
 
@@ -15,3 +16,7 @@ pub record Stands (world : ScriptWorld) : Type 0 where
   pub sound : IsSound world.store
   pub places : length world.sessions ≡ CLIENTS
   pub attend : (client : ℕ) → IfSome (session_of world client) (Attends (known_by world.store client))
+
+-- the clients are those from 0 to the last one that a line may name
+CLIENTS-are : CLIENTS ≡ LAST_CLIENT + 1
+CLIENTS-are = refl

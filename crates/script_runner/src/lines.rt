@@ -7,7 +7,7 @@ ghost use Rattle.local_world.specs.Stored.{store_of};
 ghost use Rattle.session_core.specs.Lines.{line_of};
 ghost use Rattle.session_core.specs.Holding.{Attends};
 ghost use Rattle.script_runner.specs.Driving.{line_done};
-ghost use Rattle.script_runner.specs.Lines.{Answers, Does, IsOver};
+ghost use Rattle.script_runner.specs.code.Lines.{Answers, Does, IsOver};
 ghost use Rattle.script_runner.specs.Play as spec;
 ghost use Rattle.script_runner.specs.Worlds.{world_of, Stands};
 

@@ -9,5 +9,6 @@ use Rattle.session_core.specs.Explained.{Setting, Attempting, attempting_of, att
 abbrev pub with_attempting : Session → Attempting → Session
 with_attempting s x = record s { client = x.client; seq = x.seq; attempt = x.attempt }
 
+-- the session behind a line: it has come as far with its attempts as the answer shows, and its watches stay
 abbrev pub session_after : Setting → Journal → Session → Line → Turn → Session
 session_after set journal s l t = with_attempting s (attempting_after set journal (attempting_of s) l t)

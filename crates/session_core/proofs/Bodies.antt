@@ -21,7 +21,7 @@ use Rattle.session_core.specs.Bodies.{if_pure, if_tree, checked_of, ill_typed, u
 use Rattle.session_core.specs.declared.line.Line.{Line}
 use Rattle.session_core.specs.declared.line.Line.TheVariants as asks
 use Rattle.session_core.specs.Lines.{with_body}
-use Rattle.session_core.specs.Reading.{ReadsBody}
+use Rattle.session_core.specs.code.Reading.{ReadsBody}
 use Rattle.journal_core.specs.declared.limits.TheConstants.{LONGEST_BODY}
 use Rattle.session_core.specs.Holding.{IsReady}
 use Rattle.session_core.proofs.Same.{checked_same}

@@ -1,5 +1,6 @@
 -- How many calls a line makes at most: each read is given to the run that needs it, and each shard is prepared once.
-use Rattle.std.proofs.Common.{◌≡◌, ℕ, zero, suc, ◌+◌, ◌≤◌, ◌<◌, Bool, true, false, cond, ◌||◌, nat_le, min, List, [], ◌∷◌, ◌++◌, Option, Some, None, refl, sym, ap, ◌∙◌, subst, arith}
+use Rattle.std.proofs.Common.{◌≡◌, ℕ, zero, suc, ◌+◌, ◌≤◌, ◌<◌, Bool, true, false, cond, ◌||◌, nat_le, min, List, [], ◌∷◌, ◌++◌, Option}
+use Rattle.std.proofs.Common.{Some, None, refl, sym, ap, ◌∙◌, subst, arith}
 use Rattle.std.specs.Prelude.{IfSome, ◌==◌, nat_lt}
 use Rattle.std.specs.BTreeMap.{insert_entry}
 use Rattle.std.proofs.lemmas.Bool.Decides.{nat_tests}
@@ -45,7 +46,8 @@ use Rattle.client_watches.specs.Phases.{Phase as WatchPhase, start_sync, start_w
 use Rattle.client_watches.specs.Phases as watches
 use Rattle.client_watches.proofs.Bounds.{lines_are_bounded as watches_are_bounded}
 use Rattle.session_core.specs.declared.turn.Turn.TheVariants as turn
-use Rattle.session_core.specs.Phases.{Phase, with_attempt, of_watches, moved_at, moved_by, said, stepped, after_end, gone, look_by, look_on, look_from, asks, after, start}
+use Rattle.session_core.specs.Phases.{Phase, with_attempt, of_watches, moved_at, moved_by, said, stepped, after_end, gone, look_by, look_on}
+use Rattle.session_core.specs.Phases.{look_from, asks, after, start}
 use Rattle.session_core.specs.Bounds.{Comes, attempt_calls, calls_of_attempts, most_calls, IsBounded, IsPlain, LinesAreBounded, CallsSuffice}
 use Rattle.session_core.proofs.Attempts.{least-below}
 use Rattle.session_core.proofs.Tries.{tries_are_few}
@@ -244,6 +246,7 @@ pub record HasToWait (most n : ℕ) (w : Watching) : Type 0 where
   pub distinct : AreDistinct w.watches
   pub fewer : n + 1 + watch_calls WatchLine.sync w ≤ most
 
+-- So many calls were made to come to the phase: with those that may still follow it they are no more than the most.
 abbrev pub Within : ℕ → ℕ → Phase → Type 0
 Within most n (Phase.beginning s a) = n < most
 Within most n (Phase.stepping s a) = n < most
@@ -324,7 +327,8 @@ module _ (most n : ℕ) where
   of-within s (WatchPhase.dropping next w replies address rest) h = h
 
   -- one call more
-  watched-more : (p : WatchPhase) (call : Call) (answer : Answer) → watches.asks p ≡ Some call → HasWatched most n p → HasWatched most (n + 1) (watches.after p answer)
+  watched-more : (p : WatchPhase) (call : Call) (answer : Answer) → watches.asks p ≡ Some call → HasWatched most n p
+      → HasWatched most (n + 1) (watches.after p answer)
   watched-more p call answer e h = record {
     watching = h.watching;
     line = h.line;
@@ -436,7 +440,8 @@ lines_are_bounded shards seen s l n q distinct comes =
     bounded (most_calls s l) n q (comes-within (most_calls s l) (start shards seen s l) n q (begins-within shards seen s s.attempt l distinct) comes)
 
 -- a line that was read makes few calls
-few-calls : (s : Session) (l : Line) → IsPlain l → ((tries : ℕ) (body : Checked) → l ≡ asked.Try tries body → tries ≤ MOST_ATTEMPTS) → most_calls s l ≤ MOST_CALLS
+few-calls : (s : Session) (l : Line) → IsPlain l → ((tries : ℕ) (body : Checked) → l ≡ asked.Try tries body → tries ≤ MOST_ATTEMPTS)
+    → most_calls s l ≤ MOST_CALLS
 few-calls s (asked.Try tries body) plain few = let h = few tries body refl in omega arith
 few-calls s (asked.Begin body) plain few = omega arith
 few-calls s asked.Step plain few = omega arith

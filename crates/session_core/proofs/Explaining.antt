@@ -1,5 +1,6 @@
 -- What explains each phase of a line, and that each of its steps keeps to that.
-use Rattle.std.proofs.Common.{◌≡◌, ℕ, zero, suc, ◌+◌, ◌≤◌, ◌<◌, Bool, true, false, cond, nat_le, min, List, [], ◌∷◌, ◌++◌, length, Option, Some, None, refl, sym, ap, ◌∙◌, subst, arith}
+use Rattle.std.proofs.Common.{◌≡◌, ℕ, zero, suc, ◌+◌, ◌≤◌, ◌<◌, Bool, true, false, cond, nat_le, min, List, [], ◌∷◌, ◌++◌, length, Option}
+use Rattle.std.proofs.Common.{Some, None, refl, sym, ap, ◌∙◌, subst, arith}
 use Rattle.std.specs.Prelude.{IfSome, ◌==◌, nat_lt}
 use Rattle.std.specs.List.{AllByRecursion}
 use Rattle.std.specs.Map.{lookup}
@@ -29,7 +30,8 @@ use Rattle.journal_core.specs.declared.ready.PreparedFront.{PreparedFront}
 use Rattle.docc_prepare.specs.declared.attempt.Attempt.{Attempt}
 use Rattle.docc_prepare.specs.declared.attempt.Next.{Next}
 use Rattle.docc_prepare.specs.declared.attempt.Next.TheVariants as next
-use Rattle.docc_prepare.specs.Attempts.{SnapList, base_in, with_base, based, in_shard, has_front, lesser, least_unprepared, next_event, with_snap, with_front, Fits}
+use Rattle.docc_prepare.specs.Attempts.{SnapList, base_in, with_base, based, in_shard, has_front, lesser, least_unprepared, next_event}
+use Rattle.docc_prepare.specs.Attempts.{with_snap, with_front, Fits}
 use Rattle.docc_prepare.specs.Calls.{Known, Call, Answer, is_fault}
 use Rattle.docc_prepare.specs.Calls.Call.{refresh, read_at}
 use Rattle.docc_prepare.specs.Calls.Answer.{number, snap, prepared, value, late, clash, full, disk}
@@ -42,8 +44,10 @@ use Rattle.session_core.specs.declared.line.Line.TheVariants as asked
 use Rattle.session_core.specs.declared.moved.Moved.TheVariants as moved
 use Rattle.session_core.specs.declared.session.Session.{Session}
 use Rattle.session_core.specs.declared.turn.Turn.{Turn}
-use Rattle.session_core.specs.Phases.{Phase, with_attempt, closed, ended, opened, afresh, event_call, call_of, moved_at, said, stepped, after_end, gone, look_by, look_on, look_from, asks, after}
-use Rattle.session_core.specs.Explained.{Setting, Story, attempting_of, story_of, based_all, commit_by, EndPasses, IsAborted, Hides, IsOutcomeAt, PlainPasses, low_by, low_after}
+use Rattle.session_core.specs.Phases.{Phase, with_attempt, closed, ended, opened, afresh, event_call, call_of, moved_at, said, stepped}
+use Rattle.session_core.specs.Phases.{after_end, gone, look_by, look_on, look_from, asks, after}
+use Rattle.session_core.specs.Explained.{Setting, Story, attempting_of, story_of, based_all, commit_by, EndPasses, IsAborted, Hides}
+use Rattle.session_core.specs.Explained.{IsOutcomeAt, PlainPasses, low_by, low_after}
 use Rattle.session_core.specs.Explained.{setting_of, AreFrom}
 use Rattle.session_core.proofs.After.{session_after}
 use Rattle.session_core.proofs.Same.{attempt_same}
@@ -62,6 +66,7 @@ pub record Asking : Type 0 where
   pub attempt : Option Attempt
   pub line : Line
 
+-- the story of the client as it stood before the line
 abbrev pub told_before : Asking → Story
 told_before w = story_of w.low w.begun (with_attempt w.session w.attempt)
 
@@ -119,6 +124,7 @@ pub data LooksAt (w : Asking) (n : ℕ) (body : Checked) : Type 0 where
 abbrev pub IsOf : Journal → ℕ → (Address × Snap) → Type 0
 IsOf journal n entry = entry.1.value ≡ state journal n entry.0
 
+-- a run on a prefix has values of that prefix alone
 pub record IsLooked (w : Asking) (journal : Journal) (seen : ℕ) (t : Session) (n : ℕ) (body : Checked) (snaps : SnapList) : Type 0 where
   pub session : t ≡ with_attempt w.session w.attempt
   pub at : LooksAt w n body
@@ -126,6 +132,7 @@ pub record IsLooked (w : Asking) (journal : Journal) (seen : ℕ) (t : Session) 
   pub within : n ≤ seen
   pub values : AllByRecursion (IsOf journal n) snaps
 
+-- WHAT EACH PHASE OF A LINE KEEPS TO, so that the answer at its end passes.
 abbrev pub Explaining : Asking → Journal → ℕ → Phase → Type 0
 Explaining w journal seen (Phase.beginning t a) = IsBegun w t a
 Explaining w journal seen (Phase.stepping t a) = IsStepped w t a
@@ -334,7 +341,8 @@ module _ (w : Asking) (k l : Known) (old new : Journal) (is : setting_of k ≡ w
           next = e;
           before = says.row.1.before;
           there = prefix-of new (says.row.1.before ++ commit_by (attempting_of (with_attempt w.session o)) a run n ∷ [])
-              (says.row.1.added ∙ ap (λ (m : ℕ). says.row.1.before ++ commit_by (attempting_of (with_attempt w.session o)) a run m ∷ []) (sym says.row.1.numbered));
+              (says.row.1.added ∙ ap (λ (m : ℕ). says.row.1.before ++ commit_by (attempting_of (with_attempt w.session o)) a run m ∷ [])
+              (sym says.row.1.numbered));
           number = says.row.1.numbered;
           above = let m = says.row.1.numbered in let more = prefix-shorter old says.row.1.before says.row.1.grown in omega arith;
           clear = says.row.1.clear;

@@ -20,7 +20,8 @@ use Rattle.session_core.specs.declared.moved.Moved.{Moved}
 use Rattle.session_core.specs.declared.moved.Moved.TheVariants as moved
 use Rattle.session_core.specs.declared.session.Session.{Session}
 use Rattle.session_core.specs.declared.turn.Turn.{Turn}
-use Rattle.session_core.specs.Phases.{Phase, with_attempt, of_watches, said, stepped, after_end, gone, look_by, look_on, look_from, moved_by, asks, after, start}
+use Rattle.session_core.specs.Phases.{Phase, with_attempt, of_watches, said, stepped, after_end, gone, look_by, look_on, look_from}
+use Rattle.session_core.specs.Phases.{moved_by, asks, after, start}
 use Rattle.client_watches.specs.GoingOn.{WatchLine, is_broken}
 use Rattle.client_watches.specs.Phases.{Phase as WatchPhase, start_sync, start_watch, start_unwatch}
 use Rattle.client_watches.specs.Phases as watches

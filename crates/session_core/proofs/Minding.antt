@@ -51,6 +51,7 @@ minds-on k l w old new subscribed taken trusted grows legal is =
 
 -- ---- calls that neither subscribe nor take
 
+-- the watches stand as they did, since a call that neither subscribes nor takes lets the journal grow alone
 pub watches-on : (k l : Known) (w : Watching) (c : Call) (answer : Answer) → IsAnswered k c answer l → ((a : Address) → l.subscribed a ≡ k.subscribed a)
     → l.taken ≡ k.taken → WatchesAttend k w → WatchesAttend l w
 watches-on k l w c answer event subscribed taken is = record {
@@ -71,6 +72,7 @@ none-minds k at journal within can on = record {
   can_on = on;
 }
 
+-- a client without watches has nothing to keep but its place
 pub none-keeps : (k : Known) (at : ℕ) → at ≤ k.seen → Keeps k (none_yet at)
 none-keeps k at seen = record { seen = seen; names = tt; short = tt; loose = tt }
 
@@ -117,6 +119,7 @@ untold-on k l c answer event none = by k.journal l.journal none event.told
     by None (Some journal) e told = absurd told
     by (Some journal) y e told = absurd (cc)
 
+-- nor by many calls, one after another
 pub untold-watched : (k : Known) (p : WatchPhase) (n : ℕ) (l : Known) (q : WatchPhase) → Leads IsAnswered k p n l q → k.journal ≡ None → l.journal ≡ None
 untold-watched k p n l q Leads.stays none = none
 untold-watched k p i l r (Leads.by_step {n = n} {c = c} {q = q} call answer led asked step is) none =
@@ -167,6 +170,7 @@ watches-behind k l w v line said is way = record { keeps = lines_go_on.behind k 
 
 -- ---- what others do
 
+-- others let the journal grow alone, and change nothing of what this client subscribes to or has taken
 pub watches-later : (k here : Known) (w : Watching) → IsLater k here → WatchesAttend k w → WatchesAttend here w
 watches-later k here w later is = record {
   keeps = keeps-on k here w (let same = later.seen in omega arith) is.keeps;

@@ -79,7 +79,8 @@ module _ (k l : Known) (s : Session) (a : Attempt) (is : Attends k (closed s)) (
   pub held-by : (n : Next) (answer : Answer) (m : Moved) → next_event a ≡ n → IsAnswered k (event_call s a n) answer l → moved_at a n answer ≡ Some m
       → MovedHolds l s m
   held-by (next.Read address) (snap v) m e event h =
-      more (with_snap a address v) (reply.Read address v.base) m h (closed-on k l (closed s) (read address) (snap v) event (λ old new own. own) event.goes_on.subscribed event.goes_on.taken is)
+      more (with_snap a address v) (reply.Read address v.base) m h
+      (closed-on k l (closed s) (read address) (snap v) event (λ old new own. own) event.goes_on.subscribed event.goes_on.taken is)
       (read-holds k l a holds address v e event)
   held-by (next.Prepare shard run) (prepared p) m e event h =
       more (with_front a shard p.front) (reply.Prepared shard p.front) m h (closed-on k l (closed s) (event_call s a (next.Prepare shard run))
@@ -87,10 +88,12 @@ module _ (k l : Known) (s : Session) (a : Attempt) (is : Attends k (closed s)) (
       (prepare-holds k l a holds shard run p e event)
   held-by (next.Prepare shard run) (late base horizon) m e event h =
       end (event_call s a (next.Prepare shard run)) (late base horizon) (reply.Late base horizon) m h
-      (closed-on k l (closed s) (event_call s a (next.Prepare shard run)) (late base horizon) event (λ old new own. own) event.goes_on.subscribed event.goes_on.taken is) event
+      (closed-on k l (closed s) (event_call s a (next.Prepare shard run)) (late base horizon) event (λ old new own. own)
+      event.goes_on.subscribed event.goes_on.taken is) event
   held-by (next.Prepare shard run) (clash w) m e event h =
       end (event_call s a (next.Prepare shard run)) (clash w) (reply.Abort w) m h
-      (closed-on k l (closed s) (event_call s a (next.Prepare shard run)) (clash w) event (λ old new own. own) event.goes_on.subscribed event.goes_on.taken is) event
+      (closed-on k l (closed s) (event_call s a (next.Prepare shard run)) (clash w) event (λ old new own. own)
+      event.goes_on.subscribed event.goes_on.taken is) event
   held-by (next.Append run) (number n) m e event h =
       end (event_call s a (next.Append run)) (number n) (reply.Commit n run.outcome) m h
       (committed-on k l (closed s) (ready_of a run s.client s.seq) n refl event is) event
@@ -99,7 +102,8 @@ module _ (k l : Known) (s : Session) (a : Attempt) (is : Attends k (closed s)) (
       (clash w) event (λ old new own. own) event.goes_on.subscribed event.goes_on.taken is) event
   held-by (next.Append run) (full limit) m e event h =
       end (event_call s a (next.Append run)) (full limit) (reply.Full limit) m h
-      (closed-on k l (closed s) (event_call s a (next.Append run)) (full limit) event (λ old new own. own) event.goes_on.subscribed event.goes_on.taken is) event
+      (closed-on k l (closed s) (event_call s a (next.Append run)) (full limit) event (λ old new own. own)
+      event.goes_on.subscribed event.goes_on.taken is) event
   held-by (next.Append run) disk m e event h =
       end (event_call s a (next.Append run)) disk reply.Disk m h (closed-on k l (closed s) (event_call s a (next.Append run)) disk event
       (λ old new own. own) event.goes_on.subscribed event.goes_on.taken is) event
@@ -220,12 +224,15 @@ phase-kept k l (Phase.going s left a) call answer h asks_it event =
 phase-kept k l (Phase.beginning s a) call (number n) h asks_it event =
     let e : refresh ≡ call = cc in
     let ev = subst (λ c. IsAnswered k c (number n) l) (sym e) event in
-    opened-on l (closed s) a (closed-on k l (closed s) refresh (number n) ev (λ old new own. own) ev.goes_on.subscribed ev.goes_on.taken h.0) (holds-on k l a refresh (number n) ev ev.keeps h.1)
+    opened-on l (closed s) a (closed-on k l (closed s) refresh (number n) ev (λ old new own. own) ev.goes_on.subscribed ev.goes_on.taken h.0)
+    (holds-on k l a refresh (number n) ev ev.keeps h.1)
 phase-kept k l (Phase.beginning s a) call answer h asks_it event = tt
 phase-kept k l (Phase.trying s left a) call (number n) h asks_it event =
     let e : refresh ≡ call = cc in
-    let ev = subst (λ c. IsAnswered k c (number n) l) (sym e) event in
-    (closed-on k l (closed s) refresh (number n) ev (λ old new own. own) ev.goes_on.subscribed ev.goes_on.taken h.0, holds-on k l a refresh (number n) ev ev.keeps h.1)
+    let ev = subst (λ c. IsAnswered k c (number n) l) (sym e) event in (
+      closed-on k l (closed s) refresh (number n) ev (λ old new own. own) ev.goes_on.subscribed ev.goes_on.taken h.0,
+      holds-on k l a refresh (number n) ev ev.keeps h.1,
+    )
 phase-kept k l (Phase.trying s left a) call answer h asks_it event = tt
 phase-kept k l (Phase.looking s upto body) call (number n) h asks_it event =
     let e : refresh ≡ call = cc in

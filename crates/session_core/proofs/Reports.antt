@@ -66,6 +66,7 @@ pub record HasWatched (k : Known) (s : Session) (p : WatchPhase) (m : Known) (t 
   pub session : t ≡ with_watching s watching
   pub turn : x ≡ turn.Replies replies
 
+-- where the session is over its watches are, by their own steps, since each step of the one is a step of the other
 has-watched : (k : Known) (s : Session) (p : WatchPhase) (n : ℕ) (m : Known) (t : Session) (x : Turn)
     → Leads IsAnswered k (of_watches s p) n m (Phase.over t x) → HasWatched k s p m t x
 has-watched k s p n m t x led =
@@ -110,6 +111,7 @@ minded k s old is e = by k.journal e is.watches.told
 abbrev Grows : (Journal → Type 0) → Journal → Journal → Type 0
 Grows P old new = IsPrefix old new × P new
 
+-- a line of watches passes by the law of client_watches, on a journal that is told; on another there is nothing to show
 goal-passes : (k m : Known) (s : Session) (v : Watching) (replies : List Reply) (calls low : ℕ) (goal : Goal) → Attends k s → low ≤ k.seen
     → AreUpTo low (shown_of s.watching.watches) → WatchLeads IsAnswered k (starts_for goal s.watching) calls m (WatchPhase.over v replies)
     → WhereTold (Grows (λ new. GoalPasses k.window new low goal (shown_of s.watching.watches) replies (shown_of v.watches))) k.journal m.journal
@@ -135,6 +137,7 @@ seen-on k p i m r (WatchLeads.by_step {n = n} {c = c} {q = q} call answer led as
 
 -- ---- the lines
 
+-- `sync` comes to its watches alone, whose answer passes
 pub sync-explained : (k : Known) (s : Session) (n : ℕ) (m : Known) (t : Session) (x : Turn) (low begun : ℕ) → Attends k s
     → MayBeTold k (story_of low begun s) → Leads IsAnswered k (synced s) n m (Phase.over t x)
     → WhereTold (LinePasses k m (story_of low begun s) asked.Sync x t) k.journal m.journal
@@ -152,6 +155,7 @@ sync-explained k s n m t x low begun is may led =
     })
     (goal-passes k m s h.watching h.replies h.calls low Goal.current is may.seen may.reported h.leads)
 
+-- so does `watch`, whose new watch runs behind the others
 pub watch-explained : (k : Known) (s : Session) (name : Bytes) (body : Checked) (n : ℕ) (m : Known) (t : Session) (x : Turn) (low begun : ℕ)
     → Attends k s → MayBeTold k (story_of low begun s)
     → Leads IsAnswered k (of_watches s (start_watch s.watching name body)) n m (Phase.over t x)
@@ -171,6 +175,7 @@ watch-explained k s name body n m t x low begun is may led =
     })
     (goal-passes k m s h.watching h.replies h.calls low (Goal.watch name body) is may.seen may.reported h.leads)
 
+-- and `unwatch`, which runs nothing
 pub unwatch-explained : (k : Known) (s : Session) (name : Bytes) (n : ℕ) (m : Known) (t : Session) (x : Turn) (low begun : ℕ) → Attends k s
     → MayBeTold k (story_of low begun s) → Leads IsAnswered k (of_watches s (start_unwatch s.watching name)) n m (Phase.over t x)
     → WhereTold (LinePasses k m (story_of low begun s) (asked.Unwatch name) x t) k.journal m.journal
@@ -221,6 +226,7 @@ first-answer k s seen m call (Answer.full limit) r e event is = HasWaited.failed
 first-answer k s seen m call Answer.disk r e event is = HasWaited.failed false (sym is)
 first-answer k s seen m call (Answer.failed f) r e event is = HasWaited.failed f (sym is)
 
+-- by the first answer, since behind it a line of watches begins, or the line is over
 has-waited : (k : Known) (s : Session) (seen n : ℕ) (m : Known) (q : Phase) → Leads IsAnswered k (Phase.awaiting s seen) n m q → HasWaited k s seen m q
 has-waited k s seen n m q Leads.stays = HasWaited.not_yet refl refl
 has-waited k s seen i m r (Leads.by_step {n = n} {c = c} {q = q} call answer led asked step is) = by (has-waited k s seen n c q led)
@@ -297,6 +303,7 @@ module _ (k : Known) (s : Session) (m : Known) (t : Session) (x : Turn) (low beg
           still-waits n (subst (IsAnswered k Call.refresh (Answer.number n)) (sym over.0) event)
           (let same : t ≡ s = cc in same) (let same : x ≡ turn.WaitWanted = cc in same)
 
+-- `wait` is explained by how far it came: to no commit, or to one past those that were seen, and then as `sync`
 pub wait-explained : (k : Known) (s : Session) (n : ℕ) (m : Known) (t : Session) (x : Turn) (low begun : ℕ) → Attends k s
     → MayBeTold k (story_of low begun s) → Leads IsAnswered k (Phase.awaiting s k.seen) n m (Phase.over t x)
     → WhereTold (LinePasses k m (story_of low begun s) asked.Wait x t) k.journal m.journal

@@ -1,5 +1,6 @@
 -- What follows from the replies of a line alone: what they say of the client's commits, and of what the disk denied.
-use Rattle.std.proofs.Common.{◌≡◌, ℕ, zero, suc, ◌+◌, ◌-◌, ◌≤◌, ◌<◌, Bool, true, false, cond, inl, inr, ◌⊎◌, List, [], ◌∷◌, ◌++◌, append_assoc, length, Option, Some, None, refl, sym, ap, ◌∙◌, subst, arith}
+use Rattle.std.proofs.Common.{◌≡◌, ℕ, zero, suc, ◌+◌, ◌-◌, ◌≤◌, ◌<◌, Bool, true, false, cond, inl, inr, ◌⊎◌, List, [], ◌∷◌, ◌++◌}
+use Rattle.std.proofs.Common.{append_assoc, length, Option, Some, None, refl, sym, ap, ◌∙◌, subst, arith}
 use Rattle.std.specs.Prelude.{nat_lt, ◌==◌, slice_get}
 use Rattle.std.specs.List.{AllByRecursion}
 use Rattle.std.proofs.lemmas.Bool.Decides.{nat_tests}
@@ -40,7 +41,8 @@ use Rattle.client_watches.specs.GoingOn.{WatchLine, IsOnItsWay}
 use Rattle.client_watches.specs.Saying.{IsOfWatches}
 use Rattle.client_watches.proofs.Saying.{replies_are_seen}
 use Rattle.session_core.specs.declared.turn.Turn.TheVariants as turn
-use Rattle.session_core.specs.Phases.{Phase, with_attempt, of_watches, said, stepped, after_end, gone, look_by, look_on, look_from, event_call, call_of, moved_at, asks, after, start}
+use Rattle.session_core.specs.Phases.{Phase, with_attempt, of_watches, said, stepped, after_end, gone, look_by, look_on, look_from}
+use Rattle.session_core.specs.Phases.{event_call, call_of, moved_at, asks, after, start}
 use Rattle.session_core.specs.Leading.{Leads}
 use Rattle.session_core.specs.Explained.{replies_in}
 use Rattle.session_core.specs.Sessions.{as_list, committed_by, OwnsAnswered, OwnsOneAtMost, denied_by, denied_by_all}
@@ -56,6 +58,7 @@ is_plain (reply.Commit n outcome) = false
 is_plain reply.Disk = false
 is_plain r = true
 
+-- and replies that name none
 abbrev pub ArePlain : List Reply → Type 0
 ArePlain replies = AllByRecursion (λ r. is_plain r ≡ true) replies
 
@@ -202,7 +205,8 @@ module _ (P : List Reply → Type 0) where
     says-on (Phase.broken f) call answer e quiet h = absurd (cc)
 
     -- the first phase of a line
-    pub start-says : (shards seen : ℕ) (s : Session) (o : Option Attempt) (l : Line) → BeginsPlain s l → P [] → PhaseSays (start shards seen (with_attempt s o) l)
+    pub start-says : (shards seen : ℕ) (s : Session) (o : Option Attempt) (l : Line) → BeginsPlain s l → P []
+        → PhaseSays (start shards seen (with_attempt s o) l)
     start-says shards seen s o asked.Quiet quiet h = h
     start-says shards seen s o (asked.Refused reason) quiet h = plain (reply.Refused reason) refl h
     start-says shards seen s None (asked.Begin body) quiet h = h
@@ -276,6 +280,7 @@ none-named journal (r ∷ replies) all = one r all.0 ∙ none-named journal repl
     one (reply.Commit n outcome) is = absurd (cc)
     one r is = refl
 
+-- so there is none of which the journal would have to tell
 none-there : (journal : Journal) (replies : List Reply) → ArePlain replies → AreThere journal replies
 none-there journal [] all = tt
 none-there journal (r ∷ replies) all = one r all.0 (none-there journal replies all.1)
@@ -284,6 +289,7 @@ none-there journal (r ∷ replies) all = one r all.0 (none-there journal replies
     one (reply.Commit n outcome) is rest = absurd (cc)
     one r is rest = rest
 
+-- plain replies leave the client's own commits as they are, since they name none
 own-plains : (client : ℕ) (old new : Journal) (replies : List Reply) → ArePlain replies → HasOwn client old new [] → HasOwn client old new replies
 own-plains client old new replies all h = let none = none-named new replies all in record {
   grows = h.grows;
@@ -370,6 +376,7 @@ none-denied count (r ∷ replies) all = ap (λ (n : ℕ). denied_by_all n replie
     by reply.Disk is = absurd (cc)
     by r is = refl
 
+-- and the count of denials, since none of them is one
 denied-plains : (old new : ℕ) (replies : List Reply) → ArePlain replies → HasDenied old new [] → HasDenied old new replies
 denied-plains old new replies all h = record { denied = h.denied ∙ sym (none-denied old replies all); one = h.one }
 

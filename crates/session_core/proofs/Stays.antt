@@ -23,8 +23,10 @@ use Rattle.client_watches.specs.Standing.{CanRead}
 use Rattle.client_watches.proofs.Lined.{passing_stays}
 use Rattle.client_watches.proofs.Stays.{AreUpTo}
 use Rattle.client_watches.proofs.Telling.{up-to-more}
-use Rattle.session_core.specs.Explained.{Setting, Attempting, Story, IsShown, IsLate, based_here, based_all, commit_by, IsAborted, EndPasses, HiddenEnd, StepPasses}
-use Rattle.session_core.specs.Explained.{IsOutcomeAt, LookPasses, AtPasses, SeenPasses, By, begun_now, PlainPasses, ByAll, WaitPasses, Passes, holding, attempting_after}
+use Rattle.session_core.specs.Explained.{Setting, Attempting, Story, IsShown, IsLate, based_here, based_all, commit_by, IsAborted}
+use Rattle.session_core.specs.Explained.{EndPasses, HiddenEnd, StepPasses}
+use Rattle.session_core.specs.Explained.{IsOutcomeAt, LookPasses, AtPasses, SeenPasses, By, begun_now, PlainPasses, ByAll, WaitPasses}
+use Rattle.session_core.specs.Explained.{Passes, holding, attempting_after}
 use Rattle.session_core.specs.Explained.{story_after, low_after, begun_after, Explains}
 use Rattle.session_core.specs.Sessions.{ExplainsStays}
 use Rattle.session_core.proofs.Kept.{fits-on}

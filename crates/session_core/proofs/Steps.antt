@@ -30,7 +30,8 @@ use Rattle.session_core.specs.declared.turn.Turn.{Turn}
 use Rattle.session_core.specs.Errors.{error_of}
 use Rattle.session_core.specs.Phases.{Phase, with_attempt, closed, ended, afresh, event_call, call_of, moved_at, moved_by, said, stepped, is_abort}
 use Rattle.session_core.specs.Phases.{after_end, gone, look_by, look_on, look_from, asks, after}
-use Rattle.session_core.specs.Leading.{Leads, Reaches, Arrives, Stops, Went, Turned, Moves, Tries, Makes, MakesOn, Drives, Closes, Replies, LooksAt, Valued, turn_of}
+use Rattle.session_core.specs.Leading.{Leads, Reaches, Arrives, Stops, Went, Turned, Moves, Tries, Makes, MakesOn, Drives, Closes, Replies}
+use Rattle.session_core.specs.Leading.{LooksAt, Valued, turn_of}
 use Rattle.session_core.specs.Holding.{Holds, Attends}
 use Rattle.session_core.proofs.Phases.{PhaseHolds, plain-on, phase-kept}
 

@@ -21,7 +21,8 @@ use Rattle.session_core.specs.Lines.{line_of}
 use Rattle.session_core.specs.Holding.{Holds, Counts, Minds, Attends}
 use Rattle.client_watches.specs.Explained.{shown_of}
 use Rattle.client_watches.specs.Standing.{CanRead}
-use Rattle.session_core.specs.Explained.{Setting, Attempting, Story, attempting_of, story_of, Passes, replies_in, low_after, attempting_after, begun_after, Explains}
+use Rattle.session_core.specs.Explained.{Setting, Attempting, Story, attempting_of, story_of, Passes, replies_in, low_after}
+use Rattle.session_core.specs.Explained.{attempting_after, begun_after, Explains}
 use Rattle.session_core.specs.Explained.{setting_of, LinePasses, AreFrom, AreReported, MayBeTold}
 use Rattle.session_core.specs.Sessions.{committed_by, denied_by, denied_by_all, Finds, Says, Talks, all_replies, ExplainsAll, SessionsAreExplained}
 use Rattle.session_core.proofs.Grown.{prefix-whole, prefix-again}

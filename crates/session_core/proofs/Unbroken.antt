@@ -16,7 +16,8 @@ use Rattle.docc_prepare.specs.Backends.{Shows}
 use Rattle.session_core.specs.declared.session.Session.{Session}
 use Rattle.session_core.specs.declared.moved.Moved.{Moved}
 use Rattle.session_core.specs.declared.moved.Moved.TheVariants as moved
-use Rattle.session_core.specs.Phases.{Phase, of_watches, event_call, call_of, moved_at, said, stepped, after_end, gone, look_by, look_on, look_from, asks, after}
+use Rattle.session_core.specs.Phases.{Phase, of_watches, event_call, call_of, moved_at, said, stepped, after_end, gone, look_by, look_on}
+use Rattle.session_core.specs.Phases.{look_from, asks, after}
 use Rattle.client_watches.specs.GoingOn.{has_failed, is_broken as broken_watch}
 use Rattle.client_watches.specs.Phases.{Phase as WatchPhase, start_sync}
 use Rattle.client_watches.specs.Phases as watches

@@ -51,6 +51,7 @@ pub record IsOverOf (s : Session) (p : WatchPhase) (t : Session) (turn_is : Turn
   pub session : t ≡ with_watching s watching
   pub turn : turn_is ≡ turn.Replies replies
 
+-- by the phase of the watches: only one that is over makes the session's line over
 pub over-of : (s : Session) (p : WatchPhase) (t : Session) (x : Turn) → of_watches s p ≡ Phase.over t x → IsOverOf s p t x
 over-of s (WatchPhase.over w replies) t x e = record {
   watching = w;
@@ -118,6 +119,7 @@ went-of known goes s b p r x c w is went = subst (λ y. Went known goes b (of_wa
 goes-on : (s : Session) (seen n : ℕ) → seen < n → wait_for s seen n ≡ synced s
 goes-on s seen n more = let test : nat_lt seen n ≡ true = grind (arith, nat_tests) in ap (λ b. cond b (synced s) (Phase.over s turn.WaitWanted)) test
 
+-- and where there is none the line is to wait
 none-yet : (s : Session) (seen n : ℕ) → n ≤ seen → wait_for s seen n ≡ Phase.over s turn.WaitWanted
 none-yet s seen n few = let test : nat_lt seen n ≡ false = grind (arith, nat_tests) in ap (λ b. cond b (synced s) (Phase.over s turn.WaitWanted)) test
 

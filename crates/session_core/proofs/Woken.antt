@@ -21,7 +21,8 @@ use Rattle.session_core.specs.Lines.{line_of}
 use Rattle.session_core.specs.Phases.{Phase, synced, start}
 use Rattle.session_core.specs.Holding.{Attends}
 use Rattle.session_core.specs.Leading.{Leads}
-use Rattle.session_core.specs.Explained.{Setting, Story, IfOpen, attempting_of, story_of, Passes, replies_in, attempting_after, setting_of, LinePasses, MayBeTold}
+use Rattle.session_core.specs.Explained.{Setting, Story, IfOpen, attempting_of, story_of, Passes, replies_in, attempting_after, setting_of}
+use Rattle.session_core.specs.Explained.{LinePasses, MayBeTold}
 use Rattle.session_core.specs.Sessions.{committed_by, OwnsAnswered, denied_by_all, Says}
 use Rattle.session_core.proofs.Grown.{prefix-again}
 use Rattle.session_core.proofs.Phases.{PhaseHolds, plain-on, phase-begins}
@@ -49,6 +50,7 @@ pub record Waits (y : Story) (l : Line) (u : Session) : Type 0 where
   pub line : l ≡ asked.Wait
   pub story : story_of y.low y.begun u ≡ y
 
+-- by line: no other passes with that answer
 pub waits-alone : (set : Setting) (journal : Journal) (y : Story) (l : Line) (u : Session)
     → Passes set journal y l turn.WaitWanted (shown_of u.watching.watches)
     → attempting_of u ≡ attempting_after set journal y.attempting l turn.WaitWanted → Waits y l u
@@ -103,7 +105,8 @@ module _ (k m : Known) (s t : Session) (text : Text) (x : Turn) (is : Attends k 
   holds-there : (calls : ℕ) (there : Known) (q : Phase) → Leads IsAnswered k (start k.shards k.seen s l) calls there q → PhaseHolds there q
   holds-there = kept-along k (start k.shards k.seen s l) (phase-begins k s l is (line-ready text short))
 
-  module _ (there woke : Known) (u : Session) (calls again : ℕ) (led : Leads IsAnswered k (start k.shards k.seen s l) calls there (Phase.over u turn.WaitWanted))
+  module _ (there woke : Known) (u : Session) (calls again : ℕ)
+      (led : Leads IsAnswered k (start k.shards k.seen s l) calls there (Phase.over u turn.WaitWanted))
       (event : IsAnswered there Call.wait Answer.done woke) (on : Leads IsAnswered woke (synced u) again m (Phase.over t x)) where
     -- it went on where it was woken
     attends-there : Attends there u
@@ -182,8 +185,8 @@ module _ (k m : Known) (s t : Session) (text : Text) (x : Turn) (is : Attends k 
           let last = explained-on mid new from to old passes in
           subst (λ (line : Line). LinePasses k m (story_of low begun s) line x t old new) (sym waits.line) (record {
             grows = prefix-again old mid new passes.grows last.grows;
-            passes = subst (λ (set : Setting). Passes set new (story_of low begun s) asked.Wait x (shown_of t.watching.watches)) (same-setting k there client-there)
-                last.passes;
+            passes = subst (λ (set : Setting). Passes set new (story_of low begun s) asked.Wait x (shown_of t.watching.watches))
+                (same-setting k there client-there) last.passes;
             attempting = last.attempting;
             shown = last.shown;
           }))

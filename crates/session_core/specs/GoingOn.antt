@@ -10,16 +10,16 @@ use Rattle.client_watches.specs.Phases as watches
 use Rattle.session_core.specs.declared.session.Session.{Session}
 use Rattle.session_core.specs.declared.turn.Turn.{Turn}
 use Rattle.session_core.specs.Lines.{line_of}
-use Rattle.session_core.specs.Phases.{Phase, asks, after, start}
+use Rattle.session_core.specs.Phases.{Phase, asks, after}
 use Rattle.session_core.specs.Holding.{Attends}
-use Rattle.session_core.specs.Leading.{Leads}
+use Rattle.session_core.specs.Leading.{Leads, start_over}
 
 -- A line of a session that goes on comes to a phase by calls that keep the clause of every call.
 pub record IsOnItsWay (k : Known) (s : Session) (text : Text) (l : Known) (q : Phase) : Type 0 where
   pub goes_on : Attends k s
   pub short : length text ≤ LONGEST_LINE
   pub calls : ℕ
-  pub leads : Leads IsAnswered k (start k.shards k.seen s (line_of text)) calls l q
+  pub leads : Leads IsAnswered k (start_over k s (line_of text)) calls l q
 
 -- whether there is none
 abbrev pub is_nothing : Option Call → Bool

@@ -14,6 +14,7 @@ use Rattle.docc_prepare.specs.Attempts.{SnapList, next_event}
 use Rattle.docc_prepare.specs.Calls.{Known, Call, Answer}
 use Rattle.docc_prepare.specs.Backends.{Goes}
 use Rattle.session_core.specs.declared.limits.TheConstants.{MOST_CALLS, MOST_EVENTS}
+use Rattle.session_core.specs.declared.line.Line.{Line}
 use Rattle.session_core.specs.declared.line.Line.TheVariants as asked
 use Rattle.session_core.specs.declared.moved.Moved.{Moved}
 use Rattle.session_core.specs.declared.moved.Moved.TheVariants as moved
@@ -54,6 +55,10 @@ pub record Stops {B : Type 0} (known : B → Known) (goes : B → Call → Answe
   pub phase : Phase
   pub leads : Leads (Goes known goes) old p count new phase
   pub cause : e ≡ error.StoreFault → phase ≡ Phase.broken true
+
+-- where a line starts, over a backend of which this is known
+abbrev pub start_over : Known → Session → Line → Phase
+start_over k s line = start k.shards k.seen s line
 
 -- WHAT A LINE DOES: it leads from its first phase to the turn that it is answered and to the session after it; or, after an
 -- error, it has come somewhere on the way.

@@ -1,13 +1,14 @@
 pub mod Errors
+pub mod Limits
 pub mod Words
 pub mod Bodies
 pub mod Lines
 pub mod Phases
 pub mod Holding
-pub mod Reading
 pub mod Leading
 pub mod Explained
 pub mod Bounds
 pub mod GoingOn
 pub mod Sessions
 pub mod Remembering
+pub mod code

@@ -1,7 +1,7 @@
 -- Whole sessions: the lines of one client, one after another, with others at work between them. What a client is answered is
 -- explained by the journal at the end; its commits and its denials are those that it was answered.
 use Rattle.std.specs.Prelude.{◌≡◌, ◌⊎◌, ℕ, ◌≤◌, List, [], ◌∷◌, ◌++◌, map, fold, length, Option, Some, None, Result, Ok, Err, codes, refl}
-use Rattle.dio_core.specs.Counts.{one_more, last_count}
+use Rattle.dio_core.specs.Counts.{one_more, last_count, Rose}
 use Rattle.dio_core.specs.Told.{WhereTold}
 use Rattle.dio_core.specs.declared.line.TheConstants.{LONGEST_LINE}
 use Rattle.rdt_types.specs.declared.outcome.Outcome.{Outcome}
@@ -19,12 +19,13 @@ use Rattle.client_watches.specs.Standing.{CanRead}
 use Rattle.session_core.specs.declared.line.Line.{Line}
 use Rattle.session_core.specs.declared.session.Session.{Session}
 use Rattle.session_core.specs.declared.error.SessionError.{SessionError}
+use Rattle.session_core.specs.declared.error.SessionError.TheVariants as error
 use Rattle.session_core.specs.declared.turn.Turn.{Turn}
 use Rattle.session_core.specs.declared.turn.Turn.TheVariants as turn
 use Rattle.session_core.specs.Lines.{line_of}
-use Rattle.session_core.specs.Phases.{Phase, synced, start}
+use Rattle.session_core.specs.Phases.{Phase, synced}
 use Rattle.session_core.specs.Holding.{Attends}
-use Rattle.session_core.specs.Leading.{Leads}
+use Rattle.session_core.specs.Leading.{Leads, start_over}
 use Rattle.session_core.specs.Explained.{Setting, Story, AreReported, story_of, replies_in, Explains, MayBeTold, setting_of, IsExplained}
 
 -- ---- the client's own commits
@@ -74,6 +75,10 @@ abbrev pub CountsKnown : Known → Known → Result Turn SessionError → Type 0
 CountsKnown k l (Ok turn) = denied_by_all k.denials (replies_in turn) ≤ l.denials
 CountsKnown k l (Err e) = k.denials ≤ l.denials
 
+-- a fault of the store is one after which the session was over already, or the store has counted it
+abbrev pub CountsFault : Known → Known → Session → Result Turn SessionError → Type 0
+CountsFault k l s result = result ≡ Err error.StoreFault → (s.over ≡ Some error.StoreFault) ⊎ Rose k.faults l.faults
+
 -- all that is said of a line and of what it is answered
 pub record IsAccounted (k l : Known) (s : Session) (line : Line) (result : Result Turn SessionError) (t : Session) : Type 0 where
   pub explained : IsExplained k l s line result t
@@ -90,9 +95,9 @@ Finds k here = (here ≡ k) ⊎ IsLater k here
 -- A LINE AND ITS ANSWER: it goes the way of the machine of phases, by calls that keep the clause of every call. Where it is to
 -- wait, the client waits until its backend answers that there is a commit to tell of, and then the line goes on as `sync` does.
 pub data Says (k : Known) (s : Session) (text : Text) (said : Turn) (l : Known) (t : Session) : Type 0 where
-  at_once : (calls : ℕ) → Leads IsAnswered k (start k.shards k.seen s (line_of text)) calls l (Phase.over t said) → Says k s text said l t
+  at_once : (calls : ℕ) → Leads IsAnswered k (start_over k s (line_of text)) calls l (Phase.over t said) → Says k s text said l t
   woken : (there woke : Known) (u : Session) (calls again : ℕ)
-      → Leads IsAnswered k (start k.shards k.seen s (line_of text)) calls there (Phase.over u turn.WaitWanted)
+      → Leads IsAnswered k (start_over k s (line_of text)) calls there (Phase.over u turn.WaitWanted)
       → IsAnswered there Call.wait Answer.done woke
       → Leads IsAnswered woke (synced u) again l (Phase.over t said) → Says k s text said l t
 

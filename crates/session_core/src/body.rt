@@ -3,7 +3,7 @@
 ghost use Rattle.std.specs.Prelude.{◌≡◌, ◌≤◌, length, IfOk};
 ghost use Rattle.session_core.specs.Bodies as spec;
 ghost use Rattle.session_core.specs.Holding.{IsReady};
-ghost use Rattle.session_core.specs.Reading.{ReadsBody};
+ghost use Rattle.session_core.specs.code.Reading.{ReadsBody};
 
 use crate::words::trim_end;
 use dio_core::LONGEST_LINE;

@@ -48,6 +48,7 @@ fn after_read(
 }
 
 /// What an answered preparing of a shard makes of an attempt: it has a front more, or has ended with a reply.
+#[inline(always)]
 fn after_prepare(
     attempt: &mut Attempt,
     shard: u8,
@@ -157,6 +158,7 @@ fn whole(run: &Run, here: BasedList) -> Option<BasedList>
 }
 
 /// Prepares a shard for an attempt: it has a front more, or has ended with a reply.
+#[inline(always)]
 fn prepare_event<B: Backend>(
     backend: &mut B,
     session: &Session,

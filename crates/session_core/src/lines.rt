@@ -1,14 +1,12 @@
 //! A session, line by line.
 
-ghost use Rattle.std.specs.Prelude.{◌⊎◌, ◌≡◌, ◌≤◌, ◌+◌, length, None, Some, Err};
-ghost use Rattle.dio_core.specs.Counts.{Rose};
+ghost use Rattle.std.specs.Prelude.{◌≡◌, ◌≤◌, ◌+◌, length, None, Some, Err};
 ghost use Rattle.client_watches.specs.Watching.{none_yet};
 ghost use Rattle.session_core.specs.Lines.{line_of};
-ghost use Rattle.session_core.specs.Phases.{start};
 ghost use Rattle.session_core.specs.Holding.{Follows};
-ghost use Rattle.session_core.specs.Leading.{Went, AnswersAgain};
+ghost use Rattle.session_core.specs.Leading.{Went, start_over, AnswersAgain};
 ghost use Rattle.session_core.specs.Explained.{IsExplained};
-ghost use Rattle.session_core.specs.Sessions.{OwnGrows, CountsDenied, CountsKnown};
+ghost use Rattle.session_core.specs.Sessions.{OwnGrows, CountsDenied, CountsKnown, CountsFault};
 
 use crate::acting::turn;
 use crate::error::SessionError;
@@ -46,8 +44,7 @@ impl Session {
 
         // It goes the way of the machine of phases, by steps of the backend's relation, and answers what stands at its end.
         ensures went { self.old.over ≡ None → Went B.known B.goes backend.old
-            (start (B.known backend.old).shards (B.known backend.old).seen self.old (line_of bytes.now))
-            result backend.new self.new }
+            (start_over (B.known backend.old) self.old (line_of bytes.now)) result backend.new self.new }
 
         // Its answer is explained by the journal, where the backend tells that, whatever was shown before.
         ensures explained { IsExplained (B.known backend.old) (B.known backend.new) self.old (line_of bytes.now) result self.new }
@@ -67,8 +64,7 @@ impl Session {
         ensures again { (e : SessionError) → self.old.over ≡ Some e → AnswersAgain e result backend.old backend.new self.old self.new }
 
         // A fault of the store is counted by the store.
-        ensures fault { result ≡ Err SessionError.StoreFault
-            → (self.old.over ≡ Some SessionError.StoreFault) ⊎ Rose (B.known backend.old).faults (B.known backend.new).faults }
+        ensures fault { CountsFault (B.known backend.old) (B.known backend.new) self.old result }
 
         // The backend stays where it stands.
         ensures home { B.home backend.new ≡ B.home backend.old }

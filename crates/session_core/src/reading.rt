@@ -4,7 +4,7 @@ ghost use Rattle.std.specs.Prelude.{◌≡◌, ◌≤◌, length, false, true, I
 ghost use Rattle.session_text.specs.Bodies.{IsWithin};
 ghost use Rattle.session_core.specs.Lines as spec;
 ghost use Rattle.session_core.specs.Holding.{BodyIsReady};
-ghost use Rattle.session_core.specs.Reading.{ReadsLine};
+ghost use Rattle.session_core.specs.code.Reading.{ReadsLine};
 
 use crate::body::read_body;
 use crate::line::Line;

@@ -1,11 +1,10 @@
 //! The rest of a line that was to wait.
 
-ghost use Rattle.std.specs.Prelude.{◌⊎◌, ◌≡◌, None, Some, Err};
-ghost use Rattle.dio_core.specs.Counts.{Rose};
+ghost use Rattle.std.specs.Prelude.{◌≡◌, None, Some, Err};
 ghost use Rattle.session_core.specs.Phases.{synced};
 ghost use Rattle.session_core.specs.Holding.{Follows};
 ghost use Rattle.session_core.specs.Leading.{Went, AnswersAgain};
-ghost use Rattle.session_core.specs.Sessions.{IsAccounted};
+ghost use Rattle.session_core.specs.Sessions.{IsAccounted, CountsFault};
 
 use crate::acting::sync_turn;
 use crate::error::SessionError;
@@ -37,8 +36,7 @@ impl Session {
         ensures again { (e : SessionError) → self.old.over ≡ Some e → AnswersAgain e result backend.old backend.new self.old self.new }
 
         // A fault of the store is counted by the store.
-        ensures fault { result ≡ Err SessionError.StoreFault
-            → (self.old.over ≡ Some SessionError.StoreFault) ⊎ Rose (B.known backend.old).faults (B.known backend.new).faults }
+        ensures fault { CountsFault (B.known backend.old) (B.known backend.new) self.old result }
 
         // The backend stays where it stands.
         ensures home { B.home backend.new ≡ B.home backend.old }

@@ -69,6 +69,7 @@ fn chain(
 
 /// Does expressions in order.
 #[cycle(value)]
+#[inline(always)]
 pub(crate) fn values_of(
     alloc: Global,
     snaps: &Snaps,

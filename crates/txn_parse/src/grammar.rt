@@ -75,6 +75,7 @@ impl<F: Fn(Global, &mut Cursor<'_, Spot>, u8, Place) -> Result<Expr, Stop>> Gram
 
     /// An expression in parentheses, with the column of the opening one.
     #[tactic(auto, unfolding(txn_grammar::specs::code::Reader::in_parens))]
+    #[inline(always)]
     fn in_parens(&self, cursor: &mut Cursor<Spot>) -> Result<(u32, Expr), Stop>
         requires nests { Nests self.now.levels (F.pre self.now.inside) (F.post self.now.inside) }
         requires some { 0 < self.now.levels }
@@ -251,6 +252,7 @@ impl<F: Fn(Global, &mut Cursor<'_, Spot>, u8, Place) -> Result<Expr, Stop>> Gram
 
     /// A kind, and its key in parentheses, up to the dot.
     #[tactic(auto, unfolding(txn_grammar::specs::code::Reader::targeted))]
+    #[inline(always)]
     pub(crate) fn targeted(&self, cursor: &mut Cursor<Spot>) -> Result<Target, Stop>
         requires nests { Nests self.now.levels (F.pre self.now.inside) (F.post self.now.inside) }
         requires some { 0 < self.now.levels }
@@ -279,6 +281,7 @@ impl<F: Fn(Global, &mut Cursor<'_, Spot>, u8, Place) -> Result<Expr, Stop>> Gram
     }
 
     /// What opens a level so.
+    #[inline(always)]
     fn opened(&self, cursor: &mut Cursor<Spot>, opener: Opener) -> Result<Expr, Stop>
         requires nests { Nests self.now.levels (F.pre self.now.inside) (F.post self.now.inside) }
         requires some { 0 < self.now.levels }

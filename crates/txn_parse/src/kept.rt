@@ -19,6 +19,7 @@ pub(crate) fn both<A: Drop, B>(first: A, next: Result<B, Stop>) -> Result<(A, B)
 }
 
 /// A first item, and those behind it.
+#[inline(always)]
 pub(crate) fn in_front<T: Drop>(first: T, others: Sequence<T>) -> Result<Sequence<T>, AllocError>
     ensures { IfOk result (λ all. all ≡ first ∷ others) }
 {

@@ -67,6 +67,7 @@ fn leaf_read(cursor: &mut Cursor<Spot>, leaf: Leaf) -> Result<Expr, Stop>
 
 /// The leaf that is ahead.
 #[tactic(auto, using(crate::proofs::Levels::leaf_chosen))]
+#[inline(always)]
 pub(crate) fn leaf(cursor: &mut Cursor<Spot>) -> Result<Expr, Stop>
     ensures { Reads (spec.a_leaf cursor.old) result cursor.new }
 {

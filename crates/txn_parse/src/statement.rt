@@ -64,6 +64,7 @@ impl<F: Fn(Global, &mut Cursor<'_, Spot>, u8) -> Result<Stmt, Stop>> Statements<
     }
 
     /// As many of them as there are.
+    #[inline(always)]
     fn statements(&self, cursor: &mut Cursor<Spot>) -> Result<StmtList, Stop>
         requires nests { NestsStatements self.now.levels (F.pre self.now.inside) (F.post self.now.inside) }
         requires some { 0 < self.now.levels }

@@ -54,6 +54,7 @@ pub(crate) fn compared(
 }
 
 /// A read stands at its kind.
+#[inline(always)]
 pub(crate) fn read_expr(
     alloc: Global,
     target: Target,

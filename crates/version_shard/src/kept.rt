@@ -63,6 +63,7 @@ impl Kept {
     }
 
     /// The versions of an address, if it has any.
+    #[inline(always)]
     pub fn get(&self, address: &Address) -> Option<&Versions>
         ensures { option_copied result ≡ lookup (is_at (address_cmp address.now)) self.now }
     {

@@ -138,6 +138,7 @@ impl Shard {
     }
 
     /// The value at an address at a number.
+    #[inline(always)]
     fn value_at(&self, address: &Address, number: u64) -> Result<Value, AllocError>
         ensures { IfOk result (λ value. value ≡ spec.value_at self.now address.now number) }
     {

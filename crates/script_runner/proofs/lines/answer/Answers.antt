@@ -3,7 +3,7 @@ use Rattle.dio_core.specs.Lines.{IsShort}
 use Rattle.dio_core.specs.declared.line.Line.TheVariants as line
 use Rattle.txn_grammar.specs.Characters.{Text}
 use Rattle.session_core.specs.Words.{trimmed_start}
-use Rattle.script_runner.specs.Lines.{Answers}
+use Rattle.script_runner.specs.code.Lines.{Answers}
 use Rattle.script_runner.specs.Play.{text_line}
 use Rattle.script_runner.specs.Worlds.{world_of}
 use Rattle.script_runner.proofs.Standing.{answered-stands}

@@ -13,14 +13,16 @@ use Rattle.session_core.proofs.event.prepare_event.Goals as goal
 
 pub prepare-answer-requires : goal.prepare-answer-requires
 prepare-answer-requires g c =
-    let e : c.args.all.now ≡ in_shard c.args.attempt.now.shards c.args.shard (based c.args.attempt.now.snaps c.args.run.now.observations) = c.requires.all in
+    let e : c.args.all.now ≡ in_shard c.args.attempt.now.shards c.args.shard (based c.args.attempt.now.snaps c.args.run.now.observations)
+    = c.requires.all in
     subst (CanPrepare (g.B.Backend.known c.args.backend.now) c.args.shard) (sym e)
     (can-prepare (g.B.Backend.known c.args.backend.now) c.args.attempt.now c.args.shard c.args.run.now c.requires.holds
     (some-shards c.args.attempt.now) c.requires.few c.requires.next)
 
 pub returns-clause-makes : goal.returns-clause-makes
 returns-clause-makes g c =
-    let e : c.args.all.now ≡ in_shard c.args.attempt.now.shards c.args.shard (based c.args.attempt.now.snaps c.args.run.now.observations) = c.requires.all in
+    let e : c.args.all.now ≡ in_shard c.args.attempt.now.shards c.args.shard (based c.args.attempt.now.snaps c.args.run.now.observations)
+    = c.requires.all in
     answered g.B.Backend.known g.B.Backend.goes c.args.session.now c.args.attempt.now c.args.backend.now c.prepare-answer.new.self
     (next.Prepare c.args.shard c.args.run.now) (front_answered c.prepare-answer.result)
     (moved_on_prepare c.args.shard c.after_prepare.new.attempt c.after_prepare.result)

@@ -3,7 +3,7 @@ use Rattle.session_text.proofs.Within.{verb_within}
 use Rattle.dio_core.specs.declared.line.TheConstants.{LONGEST_LINE}
 use Rattle.session_core.specs.declared.line.Line.{Line}
 use Rattle.session_core.specs.Words.{is_quiet}
-use Rattle.session_core.specs.Reading.{ReadsLine}
+use Rattle.session_core.specs.code.Reading.{ReadsLine}
 use Rattle.session_core.proofs.Forms.{asked_complete, none_asked}
 use Rattle.session_core.proofs.Asked.{line-quiet, line-asks}
 use Rattle.session_core.proofs.reading.read_line.Goals as goal

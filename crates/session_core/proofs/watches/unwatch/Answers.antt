@@ -5,5 +5,6 @@ use Rattle.session_core.proofs.watches.unwatch.Goals as goal
 -- the session's line comes where that of its watches comes
 pub returns-clause-went : goal.returns-clause-went
 returns-clause-went g c =
-    went-of g.B.Backend.known g.B.Backend.goes c.args.session.now c.args.backend.now (start_unwatch c.args.session.now.watching c.args.name.now) c.unwatch.result
+    went-of g.B.Backend.known g.B.Backend.goes c.args.session.now c.args.backend.now
+    (start_unwatch c.args.session.now.watching c.args.name.now) c.unwatch.result
     c.turned.result c.unwatch.new.backend c.unwatch.new.self c.turned.ensures c.unwatch.ensures.went

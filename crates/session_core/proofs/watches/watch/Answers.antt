@@ -5,5 +5,6 @@ use Rattle.session_core.proofs.watches.watch.Goals as goal
 -- the session's line comes where that of its watches comes
 pub returns-clause-went : goal.returns-clause-went
 returns-clause-went g c =
-    went-of g.B.Backend.known g.B.Backend.goes c.args.session.now c.args.backend.now (start_watch c.args.session.now.watching c.args.name c.args.body) c.watch.result
+    went-of g.B.Backend.known g.B.Backend.goes c.args.session.now c.args.backend.now
+    (start_watch c.args.session.now.watching c.args.name c.args.body) c.watch.result
     c.turned.result c.watch.new.backend c.watch.new.self c.turned.ensures c.watch.ensures.went

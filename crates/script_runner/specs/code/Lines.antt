@@ -1,4 +1,5 @@
--- What a function that does a line returns and leaves.
+-- What a function that does a line returns and leaves, want of memory aside. The clause of each says by which rule of specs/Play and
+-- specs/Driving: that of `answer`, by `answer`; the laws of proofs/Turns make a turn of it.
 use Rattle.std.specs.Prelude.{◌≡◌, ◌++◌, Option, Result, Ok, Err}
 use Rattle.std.specs.declared.alloc.AllocError.{AllocError}
 use Rattle.txn_grammar.specs.Characters.{Text}

@@ -1,4 +1,5 @@
--- What the readers of lines answer.
+-- What the readers of lines answer, want of memory aside. The clauses of `read_line` and `body_of` tie what they read to the rules:
+-- `line_of` of specs/Lines and `body_of` of specs/Bodies.
 use Rattle.std.specs.Prelude.{◌≡◌, Result, Ok, Err}
 use Rattle.std.specs.declared.alloc.AllocError.{AllocError}
 use Rattle.plain_data.specs.declared.or_no_memory.OrNoMemory.{OrNoMemory}
