@@ -33,7 +33,8 @@ use Rattle.session_core.specs.Words.{trimmed_start, trimmed_end, is_quiet}
 use Rattle.session_core.proofs.GoingOn.{sessions_go_on}
 use Rattle.script_runner.specs.declared.words.TheConstants.{LAST_CLIENT}
 use Rattle.script_runner.specs.Driving.{Place, all_calls, line_done}
-use Rattle.script_runner.specs.Words.{is_solid, first_word, after_word, small_number, client_named, if_client, is_follow, if_shard, shard_named}
+use Rattle.session_text.specs.Lines.{is_solid}
+use Rattle.script_runner.specs.Words.{first_word, after_word, small_number, client_named, if_client, is_follow, if_shard, shard_named}
 use Rattle.script_runner.specs.Play.{ScriptWorld, first_session, first_sessions, first_world, session_of, Told, Did, did, left, ended_line}
 use Rattle.script_runner.specs.Play.{follow_line, client_line}
 use Rattle.script_runner.specs.Play.{Done, done, placed, named_line, text_line, answer, Played, nothing_played, one_more, play}

@@ -1,14 +1,11 @@
 -- The words of a script's line that are read before a session reads the rest.
-use Rattle.std.specs.Prelude.{◌≡◌, ℕ, ◌+◌, ◌-◌, ◌*◌, Bool, not, ◌&&◌, nat_le, nat_lt, if◌then◌else◌, [], ◌∷◌, take, drop, Option, Some, None, codes}
+use Rattle.std.specs.Prelude.{◌≡◌, ℕ, ◌+◌, ◌-◌, ◌*◌, Bool, ◌&&◌, nat_le, nat_lt, if◌then◌else◌, [], ◌∷◌, take, drop, Option, Some, None, codes}
 use Rattle.std.specs.Prelude.{bytes_eq, true, false, refl}
 use Rattle.std.specs.List.{prefix_len}
 use Rattle.script_runner.specs.declared.words.TheConstants.{LAST_CLIENT}
-use Rattle.txn_grammar.specs.Characters.{Text, is_blank, is_digit}
+use Rattle.txn_grammar.specs.Characters.{Text, is_digit}
+use Rattle.session_text.specs.Lines.{is_solid}
 use Rattle.session_core.specs.Words.{trimmed_start, trimmed_end}
-
--- what words are made of
-abbrev pub is_solid : ℕ → Bool
-is_solid b = not (is_blank b)
 
 -- the first word of a text that begins with no blank
 abbrev pub first_word : Text → Text

@@ -2,6 +2,7 @@
 
 ghost use Rattle.std.specs.Prelude.{◌≡◌, ◌≤◌, ◌<◌, length, IfSome};
 ghost use Rattle.std.specs.List.{prefix_len};
+ghost use Rattle.session_text.specs.Lines.{is_solid};
 ghost use Rattle.script_runner.specs.Words as spec;
 
 use dtext::is_blank;
@@ -13,7 +14,7 @@ pub const LAST_CLIENT: u32 = 63;
 
 /// How many bytes the first word has.
 fn word_len(text: &[u8]) -> usize
-    ensures value { result ≡ prefix_len spec.is_solid text.now }
+    ensures value { result ≡ prefix_len is_solid text.now }
     ensures within { result ≤ length text.now }
 {
     prefix_len(text, |byte| !is_blank(*byte))

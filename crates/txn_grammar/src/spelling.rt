@@ -6,10 +6,13 @@ ghost use Rattle.txn_grammar.specs.Spellings as spec;
 
 use crate::symbol::{MARKS, Symbol, WORDS};
 
-/// Whether the texts are one. They are short, and most differ at the first byte, so they are compared byte by byte.
+/// Whether the texts are one. Most differ in length, and what is left is short, so it is compared byte by byte.
 fn same(mut spelling: &[u8], mut text: &[u8]) -> bool
     ensures { result ≡ bytes_eq spelling.entry.now text.entry.now }
 {
+    if spelling.len() != text.len() {
+        return false;
+    }
     while let ([wanted, others @ ..], [found, behind @ ..]) = (spelling, text) {
         if wanted != found {
             return false;
