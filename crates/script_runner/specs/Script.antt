@@ -1,6 +1,8 @@
 -- What a run of a script promises, by the status that it answers.
 use Rattle.std.specs.Prelude.{◌≡◌, ℕ, ◌-◌, ◌≤◌, ◌⊎◌, ◌==◌, List, [], ◌∷◌, ◌++◌, length, take, Option, Some, IfSome, IsTrue, refl}
 use Rattle.std.specs.List.{list_any}
+use Rattle.dio_core.specs.declared.sink.Sink.{Ghosts as SinkTells}
+use Rattle.dio_core.specs.declared.source.Source.{Ghosts as SourceTells}
 use Rattle.dio_core.specs.Told.{WhereTold}
 use Rattle.dio_core.specs.Counts.{Rose, IsCounted}
 use Rattle.dio_core.specs.Lines.{lines, BreaksOff}
@@ -31,8 +33,8 @@ pub record Reading : Type 0 where
   pub faults_then : ℕ
 
 -- the source of a run, by what sources tell
-abbrev pub reading : {S : Type 0} → (S → Option Text) → (S → ℕ) → S → S → Reading
-reading left faults old new = record { left = left old; left_then = left new; faults = faults old; faults_then = faults new }
+abbrev pub reading : {S : Type 0} → SourceTells S → S → S → Reading
+reading told old new = record { left = told.left old; left_then = told.left new; faults = told.read_faults old; faults_then = told.read_faults new }
 
 -- The sink, when the run begins and when it ends.
 pub record Writing : Type 0 where
@@ -43,9 +45,14 @@ pub record Writing : Type 0 where
   pub faults_then : ℕ
 
 -- the sink of a run, by what sinks tell
-abbrev pub writing : {W : Type 0} → (W → Option Text) → (W → Option Text) → (W → ℕ) → W → W → Writing
-writing taken passed faults old new =
-    record { taken = taken old; taken_then = taken new; passed_then = passed new; faults = faults old; faults_then = faults new }
+abbrev pub writing : {W : Type 0} → SinkTells W → W → W → Writing
+writing told old new = record {
+  taken = told.taken old;
+  taken_then = told.taken new;
+  passed_then = told.passed new;
+  faults = told.write_faults old;
+  faults_then = told.write_faults new;
+}
 
 -- ---- how a run may end, from all of an input to the rest of it, and from what was taken to what is taken then
 

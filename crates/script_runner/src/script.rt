@@ -115,8 +115,8 @@ pub fn run_script<S: Source, W: Sink>(
     source: &mut S,
     sink: &mut W,
 ) -> u8
-    ensures { KeepsPromises settings.now result (reading S.left S.read_faults source.old source.new)
-        (writing W.taken W.passed W.write_faults sink.old sink.new) }
+    ensures { KeepsPromises settings.now result (reading S.Source source.old source.new)
+        (writing W.Sink sink.old sink.new) }
 {
     let ended = run_lines(alloc, settings, source, sink);
     close(sink, ended)
@@ -125,7 +125,7 @@ pub fn run_script<S: Source, W: Sink>(
 /// Ends a run whose lines ended so: it flushes the sink, unless a write or memory has failed, and answers the status.
 fn close<W: Sink>(sink: &mut W, ended: Result<(), Stop>) -> u8
     ensures taken { W.taken sink.new ≡ W.taken sink.old }
-    ensures closes { Closes ended result (writing W.taken W.passed W.write_faults sink.old sink.new) }
+    ensures closes { Closes ended result (writing W.Sink sink.old sink.new) }
 {
     match ended {
         Ok(()) => { if sink.flush() { WHOLE } else { WRITE_FAULT } }
@@ -140,7 +140,7 @@ fn close<W: Sink>(sink: &mut W, ended: Result<(), Stop>) -> u8
 fn flushed<W: Sink>(sink: &mut W, status: u8) -> u8
     ensures same { result ≡ status }
     ensures taken { W.taken sink.new ≡ W.taken sink.old }
-    ensures tried { TriesFlush (writing W.taken W.passed W.write_faults sink.old sink.new) }
+    ensures tried { TriesFlush (writing W.Sink sink.old sink.new) }
 {
     if sink.flush() { status } else { status }
 }

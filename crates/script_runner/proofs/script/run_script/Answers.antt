@@ -9,8 +9,8 @@ use Rattle.script_runner.proofs.script.run_script.Goals as goal
 pub returns : goal.returns
 returns g c =
     let settings = c.args.settings.now in
-    let r = reading g.S.Source.left g.S.Source.read_faults c.args.source.now c.run_lines-ended.new.source in
-    let w = writing g.W.Sink.taken g.W.Sink.passed g.W.Sink.write_faults c.args.sink.now c.close.new.sink in
+    let r = reading g.S.Source c.args.source.now c.run_lines-ended.new.source in
+    let w = writing g.W.Sink c.args.sink.now c.close.new.sink in
     let ended = c.run_lines-ended.result in
     keeps_promises settings r w ended _ _ _
     (subst (λ t. WhereTold (Ends settings ended w.taken t) r.left r.left_then) (sym c.close.ensures.taken) c.run_lines-ended.ensures.ran)
