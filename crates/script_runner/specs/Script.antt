@@ -7,6 +7,8 @@ use Rattle.dio_core.specs.Told.{WhereTold}
 use Rattle.dio_core.specs.Counts.{Rose, IsCounted}
 use Rattle.dio_core.specs.Lines.{lines, BreaksOff}
 use Rattle.dio_core.specs.Sinks.{with_more, IsPassedOn}
+use Rattle.dio_core.specs.Sources.{IsAhead}
+use Rattle.dio_core.specs.declared.line.TheConstants.{NEWLINE}
 use Rattle.rdt_types.specs.declared.settings.Settings.{Settings}
 use Rattle.txn_grammar.specs.Characters.{Text}
 use Rattle.txn_lang.specs.Journals.{IsLegal}
@@ -101,6 +103,15 @@ pub record IsCutOff (settings : Settings) (taken taken_then : Option Text) (all 
 abbrev pub IsCutOffBehindLine : Settings → Option Text → Option Text → Text → Text → Type 0
 IsCutOffBehindLine settings taken taken_then all rest = (cut : IsCutOff settings taken taken_then all rest) × (rest ≡ cut.behind)
 
+-- A run has answered some lines, and the answers were taken. They were passed on, unless there were none or the source had a whole
+-- line left behind them: so who waits for an answer has got it.
+pub record HasPassedOn (settings : Settings) (w : Writing) (all : Text) : Type 0 where
+  pub answered : List Text
+  pub behind : Text
+  pub read : lines all ≡ answered ++ lines behind
+  pub output : w.taken_then ≡ with_more w.taken (played settings answered).output
+  pub passed : (answered ≡ []) ⊎ (IsAhead NEWLINE (Some behind) ⊎ IsPassedOn w.taken_then w.passed_then)
+
 -- A flush was tried: it has passed on all that was taken, or it failed and was counted.
 abbrev pub TriesFlush : Writing → Type 0
 TriesFlush w = ((w.faults_then ≡ w.faults) × IsPassedOn w.taken_then w.passed_then) ⊎ Rose w.faults w.faults_then
@@ -126,6 +137,8 @@ pub record KeepsPromises (settings : Settings) (status : ℕ) (r : Reading) (w :
   -- the next line was read
   pub unwritten : status ≡ WRITE_FAULT → WhereTold (IsCutOffBehindLine settings w.taken w.taken_then) r.left r.left_then
   pub wanting : status ≡ NO_MEMORY → WhereTold (IsCutOff settings w.taken w.taken_then) r.left r.left_then
+  -- at 5 it stopped between two answers, and those so far were passed on, unless a whole line was ahead
+  pub passed_on : status ≡ NO_MEMORY → IfSome r.left (HasPassedOn settings w)
   -- the source's count rose at 3, and at no other status
   pub reads : IsCounted (status == READ_FAULT) r.faults r.faults_then
   -- the sink's count rose at 4

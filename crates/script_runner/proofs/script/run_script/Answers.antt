@@ -1,7 +1,8 @@
 use Rattle.std.proofs.Common.{sym, subst}
+use Rattle.std.specs.Prelude.{IfSome}
 use Rattle.dio_core.specs.Told.{WhereTold}
-use Rattle.script_runner.specs.Script.{reading, writing}
-use Rattle.script_runner.specs.code.Turns.{Ends}
+use Rattle.script_runner.specs.Script.{reading, writing, HasPassedOn}
+use Rattle.script_runner.specs.code.Turns.{Ends, StopsBetween}
 use Rattle.script_runner.proofs.Promises.{keeps_promises}
 use Rattle.script_runner.proofs.script.run_script.Goals as goal
 
@@ -16,3 +17,5 @@ returns g c =
     (subst (λ t. WhereTold (Ends settings ended w.taken t) r.left r.left_then) (sym c.close.ensures.taken) c.run_lines-ended.ensures.ran)
     c.run_lines-ended.ensures.reads c.run_lines-ended.ensures.writes
     c.close.ensures.closes
+    (λ is. subst (λ sink. IfSome r.left (HasPassedOn settings (writing g.W.Sink c.args.sink.now sink))) (sym (c.close.ensures.wanting is))
+    (subst (λ e. StopsBetween settings e r.left (writing g.W.Sink c.args.sink.now c.run_lines-ended.new.sink)) is c.run_lines-ended.ensures.between))
