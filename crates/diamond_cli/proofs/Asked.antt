@@ -1,5 +1,6 @@
 -- Words that ask to run a script are of one form, and ask for nothing else.
 use Rattle.std.proofs.Common.{◌≡◌, ℕ, List, subst}
+use denote.Bor.{Bor}
 use Rattle.rdt_types.specs.declared.settings.Settings.{Settings}
 use Rattle.cli_words.specs.declared.name.CommandName.{CommandName}
 use Rattle.cli_words.specs.declared.name.CommandName.TheVariants as command
@@ -9,13 +10,24 @@ use Rattle.cli_words.specs.declared.refusal.BadWords.{BadWords}
 use Rattle.cli_words.specs.declared.refusal.BadWords.TheVariants as bad_words
 use Rattle.cli_words.specs.declared.refusal.WordsError.{WordsError}
 use Rattle.cli_words.specs.declared.refusal.WordsError.TheVariants as words_error
-use Rattle.cli_words.specs.Forms.{Word, Given, IsNoForm, IsPlan, Spells}
+use Rattle.cli_words.specs.Forms.{Word, texts, Given, IsNoForm, IsPlan, Spells}
 use Rattle.cli_words.specs.Refusals.{Refuses}
 use Rattle.cli_words.proofs.Complete.{one_form}
+use Rattle.diamond_cli.specs.Words.{AsksNothing}
 
 -- words whose plan is another's by name spell that
 pub plan-asks : (words : List Word) (p q : Plan) → Spells words p → p ≡ q → Spells words q
 plan-asks words p q spells is = subst (Spells words) is spells
+
+-- words that spell a plan to run, or one to serve, ask for something
+pub runs-something : (words : List (Bor Word)) (p : Plan) (settings : Settings) → Spells (texts words) p → p ≡ plan.Run settings
+    → AsksNothing words → ⊥
+runs-something words p settings spells is no = no.0 (settings, plan-asks (texts words) p (plan.Run settings) spells is)
+
+pub serves-something : (words : List (Bor Word)) (p : Plan) (settings : Settings) (address : Word) (sessions : ℕ) → Spells (texts words) p
+    → p ≡ plan.Serve settings address sessions → AsksNothing words → ⊥
+serves-something words p settings address sessions spells is no =
+    no.1 (settings, address, sessions, plan-asks (texts words) p (plan.Serve settings address sessions) spells is)
 
 -- words that were refused are of no form
 no-form : (words : List Word) (bad : BadWords) → Refuses words (words_error.BadWords bad) → IsNoForm words

@@ -1,14 +1,16 @@
 -- What the commands promise.
 use Rattle.std.specs.Prelude.{◌≡◌, ℕ, List, [], ◌∷◌, refl}
 use denote.Bor.{Bor}
+use Rattle.dio_core.specs.declared.sink.Sink.{Ghosts as SinkTells}
+use Rattle.dio_core.specs.declared.source.Source.{Ghosts as SourceTells}
 use Rattle.rdt_types.specs.declared.limits.TheConstants.{STANDARD_SHARDS, STANDARD_WINDOW, STANDARD_COMMITS}
 use Rattle.rdt_types.specs.declared.settings.Settings.{Settings}
 use Rattle.cli_words.specs.Forms.{Word}
 use Rattle.script_runner.specs.Script.{Reading, Writing, KeepsPromises}
 use Rattle.diamond_cli.specs.declared.top.TheConstants.{BAD_WORDS}
-use Rattle.dio_core.specs.Links.{Both}
 use Rattle.diamond_cli.specs.Words.{AsksRunWith, AsksServeWith}
 use Rattle.diamond_server.specs.Accounts.{Gatherings}
+use Rattle.diamond_server.specs.Promises.{sides}
 use Rattle.diamond_cli.specs.Serving.{ServesLinks}
 
 BAD_WORDS-is : BAD_WORDS ≡ 1
@@ -24,10 +26,12 @@ pub record RunsScript (words : List (Bor Word)) (status : ℕ) (r : Reading) (w 
   pub asked : AsksRunWith words settings
   pub promises : KeepsPromises settings status r w
 
--- `serve` keeps its promises, with the settings and for as many sessions as the words ask for.
-pub record ServesAsAsked {L : Type 0} (words : List (Bor Word)) (told : L → Both) (g : Gatherings L) (status : ℕ) (w : Writing) : Type 0 where
+-- `serve` keeps its promises, with the settings and for as many sessions as the words ask for. Each link tells what it is as a
+-- source and as a sink.
+pub record Serves {L : Type 0} (words : List (Bor Word)) (source : SourceTells L) (sink : SinkTells L) (g : Gatherings L) (status : ℕ) (w : Writing)
+    : Type 0 where
   pub settings : Settings
   pub address : Word
   pub sessions : ℕ
   pub asked : AsksServeWith words settings address sessions
-  pub promises : ServesLinks told settings sessions g status w
+  pub promises : ServesLinks (sides source sink) settings sessions g status w

@@ -45,8 +45,8 @@ fn serve_over<Li: Listener, N: Naming + Send + Sync, R: Threads + Wait + Sync>(
     requires settings { HasSettings opened.lock.origin settings.now }
     requires author { opened.front.author ≡ None }
     requires whole { opened.lock.base ≡ 0 }
-    ensures { IfOk result (λ served. HasServed (sides Li.Link.left Li.Link.read_faults Li.Link.taken Li.Link.passed Li.Link.write_faults)
-        settings.now sessions (gatherings Li.links Li.given_back Li.accept_faults listener.old listener.new) served.tally served.commits) }
+    ensures { IfOk result (λ served. HasServed (sides Li.Link.Source Li.Link.Sink) settings.now sessions
+        (gatherings Li.Listener listener.old listener.new) served.tally served.commits) }
 {
     let (store, mut pass) = Store::<MemKeep, Open, N>::new(alloc, settings, opened, Open)?;
     let tally = serve_all(rt, alloc, listener, &store, &mut pass, sessions)?;
@@ -71,7 +71,7 @@ fn line_of(alloc: Global, served: &Served) -> Result<Text, AllocError>
 
 /// Writes a line and passes it on. `false` is a fault of the sink.
 fn tell<W: Sink>(sink: &mut W, line: &[u8]) -> bool
-    ensures { IsTried line.now result (writing W.taken W.passed W.write_faults sink.old sink.new) }
+    ensures { IsTried line.now result (writing W.Sink sink.old sink.new) }
 {
     write_all(sink, line) && sink.flush()
 }
@@ -96,9 +96,8 @@ fn serve_links<W: Sink, Li: Listener, R: Threads + Wait + Sync>(
     sink: &mut W,
     listener: &mut Li,
 ) -> Result<u8, AllocError>
-    ensures ended { IfOk result (λ status. IsEnded (sides Li.Link.left Li.Link.read_faults Li.Link.taken Li.Link.passed Li.Link.write_faults)
-        settings.now sessions (gatherings Li.links Li.given_back Li.accept_faults listener.old listener.new) status
-        (writing W.taken W.passed W.write_faults sink.old sink.new)) }
+    ensures ended { IfOk result (λ status. IsEnded (sides Li.Link.Source Li.Link.Sink) settings.now sessions
+        (gatherings Li.Listener listener.old listener.new) status (writing W.Sink sink.old sink.new)) }
     ensures unwritten { OnErr result (sink.new ≡ sink.old) }
 {
     let opened = open(alloc, settings, MemKeep, CommitList::new(alloc))?;
@@ -121,9 +120,8 @@ pub(crate) fn serve<W: Sink, Li: Listener, R: Threads + Wait + Sync>(
     sink: &mut W,
     listener: &mut Li,
 ) -> u8
-    ensures { ServesLinks (sides Li.Link.left Li.Link.read_faults Li.Link.taken Li.Link.passed Li.Link.write_faults) settings.now sessions
-        (gatherings Li.links Li.given_back Li.accept_faults listener.old listener.new) result
-        (writing W.taken W.passed W.write_faults sink.old sink.new) }
+    ensures { ServesLinks (sides Li.Link.Source Li.Link.Sink) settings.now sessions
+        (gatherings Li.Listener listener.old listener.new) result (writing W.Sink sink.old sink.new) }
 {
     match serve_links(rt, alloc, settings, sessions, sink, listener) {
         Ok(status) => status,

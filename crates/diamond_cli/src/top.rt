@@ -3,10 +3,9 @@
 ghost use Rattle.std.specs.Prelude.{◌≡◌, ◌⊎◌};
 ghost use Rattle.script_runner.specs.Script.{reading, writing};
 ghost use Rattle.script_runner.specs.declared.status.TheConstants.{NO_MEMORY};
-ghost use Rattle.diamond_server.specs.Promises.{sides};
 ghost use Rattle.diamond_server.specs.Accounts.{gatherings};
 ghost use Rattle.diamond_cli.specs.Words.{AsksRun, AsksServe, AsksNothing};
-ghost use Rattle.diamond_cli.specs.Commands.{RunsScript, ServesAsAsked};
+ghost use Rattle.diamond_cli.specs.Commands.{RunsScript, Serves};
 
 use crate::serve::serve;
 use cli_words::{Plan, WordsError, read_words};
@@ -47,15 +46,13 @@ pub fn diamond<R: Threads + Wait + Sync, S: Source, W: Sink, D: Disk, N: Listene
     ensures unwritten { AsksNothing words.now → (sink.new ≡ sink.old) × (disk.new ≡ disk.old) }
 
     // `run` keeps what a run of a script promises, and doesn't use the disk or the listener.
-    ensures run { AsksRun words.now → RunsScript words.now result (reading S.left S.read_faults source.old source.new)
-        (writing W.taken W.passed W.write_faults sink.old sink.new) }
+    ensures run { AsksRun words.now → RunsScript words.now result (reading S.Source source.old source.new)
+        (writing W.Sink sink.old sink.new) }
     ensures unused_by_run { AsksRun words.now → (disk.new ≡ disk.old) × (listener.new ≡ listener.old) }
 
     // `serve` keeps what it promises of its sessions, and doesn't use the source or the disk.
-    ensures serve { AsksServe words.now → ServesAsAsked words.now
-        (sides N.Link.left N.Link.read_faults N.Link.taken N.Link.passed N.Link.write_faults)
-        (gatherings N.links N.given_back N.accept_faults listener.old listener.new) result
-        (writing W.taken W.passed W.write_faults sink.old sink.new) }
+    ensures serve { AsksServe words.now → Serves words.now N.Link.Source N.Link.Sink
+        (gatherings N.Listener listener.old listener.new) result (writing W.Sink sink.old sink.new) }
     ensures unused_by_serve { AsksServe words.now → (source.new ≡ source.old) × (disk.new ≡ disk.old) }
 {
     match read_words(alloc, words) {

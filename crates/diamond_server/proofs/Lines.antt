@@ -1,5 +1,6 @@
 -- Lines of a session over a link, one after another, and how they end.
-use Rattle.std.proofs.Common.{◌≡◌, ℕ, ◌+◌, ◌≤◌, ◌<◌, false, List, [], ◌∷◌, ◌++◌, map, length, Option, Some, None, Result, Ok, Err, inl, inr, refl, sym, ap, ◌∙◌, subst, arith}
+use Rattle.std.proofs.Common.{◌≡◌, ℕ, ◌+◌, ◌≤◌, ◌<◌, false, List, [], ◌∷◌, ◌++◌, map, length, Option, Some, None, Result, Ok, Err, inl, inr}
+use Rattle.std.proofs.Common.{refl, sym, ap, ◌∙◌, subst, arith}
 use Rattle.std.proofs.Common.{append_assoc, length-append}
 use Rattle.std.proofs.lemmas.List.{append-nil, map-append}
 use Rattle.plain_data.specs.declared.or_no_memory.OrNoMemory.TheVariants as stop
@@ -181,8 +182,10 @@ module _ {B : Type 0} (known : B → Known) (goes : B → Call → Answer → B 
       )
       ends-stopped new t z (stop.Cause cause.WriteFault) few turn =
           (turn.0 ∙ past.counts.0, subst (λ (m : ℕ). Rose m z.outwards.faults) past.counts.1 turn.1)
-      ends-stopped new t z (stop.Cause cause.StoreFault) few turn =
-          (same-twice x y z past.counts turn.0, subst (λ (m : ℕ). Rose m (known new).faults) (talk-accounted known goes old now past.tolds (Some s) is past.talks).faults turn.1)
+      ends-stopped new t z (stop.Cause cause.StoreFault) few turn = (
+        same-twice x y z past.counts turn.0,
+        subst (λ (m : ℕ). Rose m (known new).faults) (talk-accounted known goes old now past.tolds (Some s) is past.talks).faults turn.1,
+      )
       ends-stopped new t z (stop.Cause cause.TooManyLines) few turn = absurd turn
 
       -- a turn was the last
@@ -208,7 +211,8 @@ module _ {B : Type 0} (known : B → Known) (goes : B → Call → Answer → B 
       )
 
       -- it broke off
-      pub ends-unread : (z : Both) (e : Stop) → n ≡ MOST_LINES → z.outwards ≡ y.outwards → IsCounted (read_stopped (error e)) y.inwards.faults z.inwards.faults → StopsReading e y.inwards.left z.inwards.left
+      pub ends-unread : (z : Both) (e : Stop) → n ≡ MOST_LINES → z.outwards ≡ y.outwards
+          → IsCounted (read_stopped (error e)) y.inwards.faults z.inwards.faults → StopsReading e y.inwards.left z.inwards.left
           → Ends known goes (Err e) old x now z
       ends-unread z stop.NoMemory most outwards reads off = (reads ∙ past.counts.0, ap (λ (o : Outgoing). o.faults) outwards ∙ past.counts.1)
       ends-unread z (stop.Cause cause.ReadFault) most outwards reads off = (

@@ -1,5 +1,6 @@
 -- Lists of links: accepted one after another, joined, and given back.
-use Rattle.std.proofs.Common.{◌≡◌, ℕ, ◌+◌, ◌==◌, ◌≤◌, List, [], ◌∷◌, ◌++◌, length, map, Bool, true, false, Option, Some, None, Result, Ok, Err, refl, ap, sym, ◌∙◌, arith, subst, append_assoc, append-nil, length-append}
+use Rattle.std.proofs.Common.{◌≡◌, ℕ, ◌+◌, ◌==◌, ◌≤◌, List, [], ◌∷◌, ◌++◌, length, map, Bool, true, false, Option, Some, None, Result, Ok}
+use Rattle.std.proofs.Common.{Err, refl, ap, sym, ◌∙◌, arith, subst, append_assoc, append-nil, length-append}
 use Rattle.std.specs.Prelude.{All, IfSome, if◌then◌else◌, slice_index_or}
 use mathlib.Core.List.{IsPrefix, map-append}
 use Rattle.std.proofs.lemmas.List.Elements.{All-nil, All-cons, All-append, All-rest}
@@ -14,15 +15,18 @@ use Rattle.diamond_store.specs.declared.join_error.JoinError.{JoinError}
 use Rattle.diamond_store.specs.declared.join_error.JoinError.TheVariants as join_error
 use Rattle.session_core.specs.Explained.{setting_of}
 use Rattle.script_runner.specs.declared.status.TheConstants.{WHOLE}
-use Rattle.diamond_server.specs.Accounts.{Account, Seat, seat_of, given_of, status_in, joined_in, link_in, IsServed, Rises, faults_of, with_these, and_these, Gatherings, Accepting, ServedAll}
-use Rattle.diamond_server.specs.Settling.{IsNear, IsNearTalk, JoinsNext, Turns, Settling}
+use Rattle.diamond_server.specs.Accounts.{Account, Seat, seat_of, given_of, status_in, joined_in, link_in, IsServed, Rises, faults_of}
+use Rattle.diamond_server.specs.Accounts.{with_these, and_these, Gatherings, Accepting, ServedAll}
+use Rattle.diamond_server.specs.code.Settling.{IsNear, IsNearTalk, JoinsNext, Turns, Settling}
 
 -- ---- statuses
 
+-- one status more counts where it isn't 0
 faults-append : (xs : List ℕ) (s : ℕ) → faults_of (xs ++ s ∷ []) ≡ faults_of xs + (if s == WHOLE then 0 else 1)
 faults-append [] s = omega arith
 faults-append (x ∷ xs) s = let h = faults-append xs s in omega (arith, h)
 
+-- each status counts once at most
 faults-few : (xs : List ℕ) → faults_of xs ≤ length xs
 faults-few [] = omega arith
 faults-few (x ∷ xs) = by (x == WHOLE) (faults-few xs)
@@ -47,8 +51,8 @@ rises-more j k low mid high (Err (join_error.Clients drawn) ∷ rs) p learns le 
 rises-more j k low mid high (Err join_error.NoMemory ∷ rs) p learns le = rises-more j k low mid high rs p learns le
 
 -- one more joined, or none
-rises-next : (j k : Passed) (low mid high : ℕ) (rs : List (Result Passed JoinError)) (r : Result Passed JoinError) → Rises j low rs mid → Learns j k → mid ≤ high
-    → JoinsNext k mid high r → Rises k low (rs ++ r ∷ []) high
+rises-next : (j k : Passed) (low mid high : ℕ) (rs : List (Result Passed JoinError)) (r : Result Passed JoinError) → Rises j low rs mid
+    → Learns j k → mid ≤ high → JoinsNext k mid high r → Rises k low (rs ++ r ∷ []) high
 rises-next j k low mid high [] (Ok q) p learns le next = (next.0, (let a = next.1 in omega arith), (let b = next.2 in omega arith))
 rises-next j k low mid high [] (Err (join_error.Clients drawn)) p learns le next = (next.0, next.1, omega arith)
 rises-next j k low mid high [] (Err join_error.NoMemory) p learns le next = omega arith
@@ -61,6 +65,7 @@ rises-next j k low mid high (Err join_error.NoMemory ∷ rs) r p learns le next 
 -- ---- what is near stays near
 
 module _ {L : Type 0} where
+  -- who has learnt more knows what was known
   near-more : (j k : Passed) → IsPrefix j.journal k.journal → j.denials ≤ k.denials → (a : Account L) → IsNear j a → IsNear k a
   near-more j k p few a near = by a.talk near
     where
@@ -75,28 +80,39 @@ module _ {L : Type 0} where
       subst (All (IsNear k)) (sym grown) (All-append (IsNear k) all (a ∷ [])
       (λ i d lt. near-more j k learns.begins learns.denials (slice_index_or all i d) (near i d lt)) (All-cons (IsNear k) a [] last (All-nil (IsNear k))))
 
-  pub seats-next : (all more : List (Account L)) (a : Account L) (x : Seat L) (rest left begun : List (Seat L)) → more ≡ all ++ a ∷ [] → rest ≡ x ∷ left → seat_of a ≡ x
-      → map seat_of all ++ rest ≡ begun → map seat_of more ++ left ≡ begun
+  -- its seat was the first of those still to be joined
+  pub seats-next : (all more : List (Account L)) (a : Account L) (x : Seat L) (rest left begun : List (Seat L)) → more ≡ all ++ a ∷ []
+      → rest ≡ x ∷ left → seat_of a ≡ x → map seat_of all ++ rest ≡ begun → map seat_of more ++ left ≡ begun
   seats-next all more a x rest left begun grown first same whole =
       ap (λ w. map seat_of w ++ left) grown
       ∙ (ap (λ w. w ++ left) (map-append seat_of all (a ∷ []))
       ∙ (append_assoc (map seat_of all) (seat_of a ∷ []) left
       ∙ (ap (λ s. map seat_of all ++ s ∷ left) same ∙ (ap (λ w. map seat_of all ++ w) (sym first) ∙ whole))))
 
-  pub seats-end : (all : List (Account L)) (rest begun : List (Seat L)) (n : ℕ) → n ≡ 0 → n ≡ length rest → map seat_of all ++ rest ≡ begun → map seat_of all ≡ begun
+  -- at the end none is still to be joined
+  pub seats-end : (all : List (Account L)) (rest begun : List (Seat L)) (n : ℕ) → n ≡ 0 → n ≡ length rest → map seat_of all ++ rest ≡ begun
+      → map seat_of all ≡ begun
   seats-end all rest begun n none len whole =
       let nil : rest ≡ [] = nil_from_length rest (omega arith) in
       sym (append-nil (map seat_of all)) ∙ (ap (λ w. map seat_of all ++ w) (sym nil) ∙ whole)
 
   -- ---- links accepted
 
-  links-next : (links rest left : Option (List L)) (xs : List L) (x : L) → links ≡ with_these xs rest → rest ≡ with_first x left → links ≡ with_these (xs ++ x ∷ []) left
+  -- a listener that tells this, when the serving begins and when it ends
+  abbrev telling : Option (List L) → Option (List L) → Option (List (L × ℕ)) → Option (List (L × ℕ)) → ℕ → ℕ → Gatherings L
+  telling links left given given_then before after =
+      record { links = links; links_then = left; given = given; given_then = given_then; faults = before; faults_then = after }
+
+  -- what was first of the rest is last of those that were taken
+  links-next : (links rest left : Option (List L)) (xs : List L) (x : L) → links ≡ with_these xs rest → rest ≡ with_first x left
+      → links ≡ with_these (xs ++ x ∷ []) left
   links-next links rest left xs x p first = p ∙ (ap (with_these xs) first ∙ by left)
     where
       by : (o : Option (List L)) → with_these xs (with_first x o) ≡ with_these (xs ++ x ∷ []) o
       by None = refl
       by (Some ys) = ap Some (sym (append_assoc xs (x ∷ []) ys))
 
+  -- before the first turn nothing was taken
   pub turns-start : (pass : Passed) (low : ℕ) (links : Option (List L)) (n : ℕ) → Turns pass low low 0 links links n n []
   turns-start pass low links n = record { taken = by links; clients = omega arith; many = refl; count = refl }
     where
@@ -104,8 +120,9 @@ module _ {L : Type 0} where
       by None = refl
       by (Some xs) = refl
 
-  pub turns-next : (j k : Passed) (low high more turns : ℕ) (links rest left : Option (List L)) (before now after : ℕ) (seats grown : List (Seat L)) (s : Seat L) (x : L)
-      → Turns j low high turns links rest before now seats → rest ≡ with_first x left → link_in s ≡ x → Learns j k → high ≤ more
+  -- a turn accepts the first of the rest, and its client joins behind those before it
+  pub turns-next : (j k : Passed) (low high more turns : ℕ) (links rest left : Option (List L)) (before now after : ℕ) (seats grown : List (Seat L))
+      (s : Seat L) (x : L) → Turns j low high turns links rest before now seats → rest ≡ with_first x left → link_in s ≡ x → Learns j k → high ≤ more
       → JoinsNext k high more (joined_in s) → after ≡ now → grown ≡ seats ++ s ∷ []
       → Turns k low more (turns + 1) links left before after grown
   turns-next j k low high more turns links rest left before now after seats grown s x p first link learns le next same is =
@@ -118,11 +135,13 @@ module _ {L : Type 0} where
         count = same ∙ p.count;
       })
 
-  pub turns-failed : (pass : Passed) (low high most turns : ℕ) (links rest left : Option (List L)) (given given_then : Option (List (L × ℕ))) (before now after : ℕ) (seats same : List (Seat L))
-      → Turns pass low high turns links rest before now seats → turns ≤ most → left ≡ rest → same ≡ seats → Rose now after
-      → Accepting pass low high most (record { links = links; links_then = left; given = given; given_then = given_then; faults = before; faults_then = after }) same true
+  -- an accept failed: nothing more was taken, and the count rose
+  pub turns-failed : (pass : Passed) (low high most turns : ℕ) (links rest left : Option (List L)) (given given_then : Option (List (L × ℕ)))
+      (before now after : ℕ) (seats same : List (Seat L)) → Turns pass low high turns links rest before now seats → turns ≤ most
+      → left ≡ rest → same ≡ seats → Rose now after
+      → Accepting pass low high most (telling links left given given_then before after) same true
   turns-failed pass low high most turns links rest left given given_then before now after seats same p le unchanged is rose =
-      subst (λ w. Accepting pass low high most (record { links = links; links_then = left; given = given; given_then = given_then; faults = before; faults_then = after }) w true) (sym is) (record {
+      subst (λ w. Accepting pass low high most (telling links left given given_then before after) w true) (sym is) (record {
         taken = p.taken ∙ ap (with_these (map link_in seats)) (sym unchanged);
         clients = p.clients;
         few = (let m = p.many in omega (arith, m));
@@ -131,11 +150,12 @@ module _ {L : Type 0} where
       })
 
   -- none is left
-  pub turns-none : (pass : Passed) (low high most turns : ℕ) (links rest left : Option (List L)) (given given_then : Option (List (L × ℕ))) (before now after : ℕ) (seats same : List (Seat L))
-      → Turns pass low high turns links rest before now seats → turns ≤ most → IfSome rest (λ xs. xs ≡ []) → left ≡ rest → same ≡ seats → after ≡ now
-      → Accepting pass low high most (record { links = links; links_then = left; given = given; given_then = given_then; faults = before; faults_then = after }) same false
+  pub turns-none : (pass : Passed) (low high most turns : ℕ) (links rest left : Option (List L)) (given given_then : Option (List (L × ℕ)))
+      (before now after : ℕ) (seats same : List (Seat L)) → Turns pass low high turns links rest before now seats → turns ≤ most
+      → IfSome rest (λ xs. xs ≡ []) → left ≡ rest → same ≡ seats → after ≡ now
+      → Accepting pass low high most (telling links left given given_then before after) same false
   turns-none pass low high most turns links rest left given given_then before now after seats same p le none unchanged is counted =
-      subst (λ w. Accepting pass low high most (record { links = links; links_then = left; given = given; given_then = given_then; faults = before; faults_then = after }) w false) (sym is) (record {
+      subst (λ w. Accepting pass low high most (telling links left given given_then before after) w false) (sym is) (record {
         taken = p.taken ∙ ap (with_these (map link_in seats)) (sym unchanged);
         clients = p.clients;
         few = (let m = p.many in omega (arith, m));
@@ -143,8 +163,10 @@ module _ {L : Type 0} where
         less = λ _ _. subst (λ o. IfSome o (λ xs. xs ≡ [])) (sym unchanged) none;
       })
 
-  pub turns-end : (pass : Passed) (low high most turns : ℕ) (links rest : Option (List L)) (given given_then : Option (List (L × ℕ))) (before now : ℕ) (seats : List (Seat L))
-      → Turns pass low high turns links rest before now seats → turns ≤ most → most ≤ turns → Accepting pass low high most (record { links = links; links_then = rest; given = given; given_then = given_then; faults = before; faults_then = now }) seats false
+  -- all turns were made
+  pub turns-end : (pass : Passed) (low high most turns : ℕ) (links rest : Option (List L)) (given given_then : Option (List (L × ℕ)))
+      (before now : ℕ) (seats : List (Seat L)) → Turns pass low high turns links rest before now seats → turns ≤ most → most ≤ turns
+      → Accepting pass low high most (telling links rest given given_then before now) seats false
   turns-end pass low high most turns links rest given given_then before now seats p le whole = record {
     taken = p.taken;
     clients = p.clients;
@@ -153,6 +175,7 @@ module _ {L : Type 0} where
     less = λ _ fewer. absurd (let m = p.many in omega (arith, m));
   }
 
+  -- what was accepted stays so for a pass that has learnt more
   pub accepting-more : (j k : Passed) (low mid high most : ℕ) (g : Gatherings L) (seats same : List (Seat L)) (failed : Bool)
       → Accepting j low mid most g seats failed → Learns j k → mid ≤ high → same ≡ seats
       → Accepting k low high most g same failed
@@ -167,6 +190,7 @@ module _ {L : Type 0} where
 
   -- ---- links given back
 
+  -- before the first nothing was given back
   pub settling-start : (told : L → Both) (pass : Passed) (all rest : List (Account L)) (old : Option (List (L × ℕ))) → rest ≡ all → All (IsNear pass) all
       → Settling told pass all rest old old 0
   settling-start told pass all rest old is near =
@@ -176,6 +200,7 @@ module _ {L : Type 0} where
       none None = refl
       none (Some xs) = ap Some (sym (append-nil xs))
 
+  -- the first of the rest is given back behind those before it, and counts by its status
   pub settling-next : (told : L → Both) (pass : Passed) (all rest left : List (Account L)) (a : Account L) (old new more : Option (List (L × ℕ))) (n m : ℕ)
       → Settling told pass all rest old new n → rest ≡ a ∷ left → more ≡ with_last new (given_of a) → IsServed told pass a
       → m ≡ n + (if a.status == WHOLE then 0 else 1) → Settling told pass all left old more m
@@ -199,6 +224,7 @@ module _ {L : Type 0} where
       → Settling told pass all rest old new n → rest ≡ a ∷ left → IsNear pass a
   settling-near told pass all rest left a old new n p first = subst (All (IsNear pass)) first p.near 0 a (omega arith)
 
+  -- those that count are among those that are done, so one more is within all
   pub settling-few : (told : L → Both) (pass : Passed) (all rest left : List (Account L)) (a : Account L) (old new : Option (List (L × ℕ))) (n : ℕ)
       → Settling told pass all rest old new n → rest ≡ a ∷ left → n + 1 ≤ length all
   settling-few told pass all rest left a old new n p first =
@@ -207,6 +233,7 @@ module _ {L : Type 0} where
       let whole : length all ≡ length p.done + length rest = ap length (sym p.parts) ∙ length-append p.done rest in
       omega (arith, p.faulted_is, few, l, whole, ap length first)
 
+  -- at the end none is to come
   pub settling-end : (told : L → Both) (pass : Passed) (all rest : List (Account L)) (old new : Option (List (L × ℕ))) (n k : ℕ) → k ≡ 0 → k ≡ length rest
       → Settling told pass all rest old new n → Settling told pass all [] old new n
   settling-end told pass all rest old new n k none len p =
@@ -214,10 +241,12 @@ module _ {L : Type 0} where
 
   -- ---- all of it
 
+  -- there are as many accounts as seats
   pub few-ended : (pass : Passed) (low high most : ℕ) (g : Gatherings L) (all : List (Account L)) (failed : Bool)
       → Accepting pass low high most g (map seat_of all) failed → length all ≤ most
   few-ended pass low high most g all failed p = let few = p.few in omega (arith, few, length-map all seat_of)
 
+  -- what was accepted was all given back, so there is an account of each
   pub served-all : (told : L → Both) (pass : Passed) (low high most : ℕ) (g : Gatherings L) (mid : Option (List (L × ℕ))) (all : List (Account L)) (n k : ℕ)
       (failed : Bool) → Accepting pass low high most g (map seat_of all) failed → mid ≡ g.given → Settling told pass all [] mid g.given_then n
       → k ≡ length all → ServedAll told pass low high most g (record { accepted = k; faulted = n; failed = failed })
@@ -231,5 +260,6 @@ module _ {L : Type 0} where
         faulted = q.faulted_is ∙ ap (λ w. faults_of (map status_in w)) whole;
       }
 
+  -- a pass that stayed the same explains the same
   pub served-at : (told : L → Both) (u v : Passed) (a : Account L) → u ≡ v → IsServed told u a → IsServed told v a
   served-at told u v a is p = subst (λ (w : Passed). IsServed told w a) is p

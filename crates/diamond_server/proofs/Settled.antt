@@ -5,6 +5,8 @@ use Rattle.std.proofs.lemmas.Bool.Decides.{nat_tests}
 use mathlib.Core.List.{IsPrefix}
 use Rattle.history_lock.specs.Tokens.{longer}
 use Rattle.history_lock.proofs.Prefixes.{prefix_whole}
+use Rattle.dio_core.specs.declared.sink.Sink.{Ghosts as SinkTells}
+use Rattle.dio_core.specs.declared.source.Source.{Ghosts as SourceTells}
 use Rattle.dio_core.specs.Links.{Both}
 use Rattle.txn_grammar.specs.Characters.{Text}
 use Rattle.txn_lang.specs.Journals.{IsLegal, own}
@@ -25,7 +27,7 @@ use Rattle.session_core.proofs.Talked.{finds, talks-attends, talks-owned}
 use Rattle.session_core.proofs.Woken.{says-attends, says-client}
 use Rattle.diamond_server.specs.Accounts.{IsExplained, IsTold, having_met}
 use Rattle.diamond_server.specs.Promises.{sides, IsAccounted, IsServed, Promises}
-use Rattle.diamond_server.specs.Settling.{IsNearTalk}
+use Rattle.diamond_server.specs.code.Settling.{IsNearTalk}
 use Rattle.diamond_server.specs.Talking.{Told, first_session, texts_of, turns_of}
 use Rattle.diamond_server.proofs.Talked.{talk-is}
 
@@ -62,10 +64,10 @@ served-explained known goes old new x y Reads begins p =
     }
 
 -- a link that tells what another tells
-pub sides-same : {K : Type 0} (left : K → Option Text) (reads : K → ℕ) (taken passed : K → Option Text) (writes : K → ℕ) (a b : K) → left a ≡ left b
-    → taken a ≡ taken b → passed a ≡ passed b → reads a ≡ reads b → writes a ≡ writes b
-    → sides left reads taken passed writes a ≡ sides left reads taken passed writes b
-sides-same left reads taken passed writes a b same_left same_taken same_passed same_reads same_writes =
+pub sides-same : {K : Type 0} (source : SourceTells K) (sink : SinkTells K) (a b : K) → source.left a ≡ source.left b → sink.taken a ≡ sink.taken b
+    → sink.passed a ≡ sink.passed b → source.read_faults a ≡ source.read_faults b → sink.write_faults a ≡ sink.write_faults b
+    → sides source sink a ≡ sides source sink b
+sides-same source sink a b same_left same_taken same_passed same_reads same_writes =
     rw (same_left, same_taken, same_passed, same_reads, same_writes) refl
 
 -- ---- a longer journal
@@ -86,7 +88,8 @@ module _ (p has : Passed) (journal : Journal) (denials : ℕ) (tolds : List Told
     (talks : SessionTalks (known_of p) (first_session (known_of p)) (texts_of tolds) (turns_of tolds) (known_of has) last)
     (grows : IsPrefix has.journal journal) (legal : IsLegal has.trusted journal) (same : own has.client journal ≡ own has.client has.journal)
     (more : has.denials ≤ denials) where
-  accounted-met : IsAccounted (known_of p) (known_of has) tolds → IsAccounted (known_of p) (known_of (record has { journal = journal; denials = denials })) tolds
+  accounted-met : IsAccounted (known_of p) (known_of has) tolds
+      → IsAccounted (known_of p) (known_of (record has { journal = journal; denials = denials })) tolds
   accounted-met a =
       let first = first_session (known_of p) in
       let texts = texts_of tolds in
@@ -130,7 +133,8 @@ told-met x y status t other new told near learns met = (told.0, promises-map _ _
     whole = met ∙ longer-prefix t.1.journal other.journal near.0
 
     legal : IsLegal t.1.trusted other.journal
-    legal = subst (λ (w : Journal). IsLegal t.1.trusted w) whole (subst (λ (n : ℕ). IsLegal n new.journal) (ap (λ (p : Passed). p.trusted) learns.rest) learns.legal)
+    legal = subst (λ (w : Journal). IsLegal t.1.trusted w) whole
+        (subst (λ (n : ℕ). IsLegal n new.journal) (ap (λ (p : Passed). p.trusted) learns.rest) learns.legal)
 
     same : own t.1.client other.journal ≡ own t.1.client t.1.journal
     same = ap (own t.1.client) (sym whole) ∙ learns.own_commits

@@ -1,5 +1,6 @@
 -- A talk over a backend is one of a session over what its client knows, so all that is proved of sessions holds of it.
-use Rattle.std.proofs.Common.{◌≡◌, ℕ, ◌+◌, ◌≤◌, List, [], ◌∷◌, ◌++◌, length, Option, Some, None, Result, Ok, Err, ◌⊎◌, inl, inr, refl, sym, ap, ◌∙◌, subst, arith, append_assoc}
+use Rattle.std.proofs.Common.{◌≡◌, ℕ, ◌+◌, ◌≤◌, List, [], ◌∷◌, ◌++◌, length, Option, Some, None, Result, Ok, Err, ◌⊎◌, inl, inr, refl, sym}
+use Rattle.std.proofs.Common.{ap, ◌∙◌, subst, arith, append_assoc}
 use Rattle.std.specs.Prelude.{IfSome, IfOk, OnOk}
 use Rattle.std.proofs.lemmas.List.{append-nil}
 use Rattle.dio_core.specs.declared.line.TheConstants.{LONGEST_LINE}
@@ -41,6 +42,7 @@ texts-long [] = refl
 texts-long (Told.long ∷ rest) = texts-long rest
 texts-long (Told.answered text said ∷ rest) = ap (λ texts. text ∷ texts) (texts-long rest)
 
+-- nor does it add to the turns
 turns-long : (tolds : List Told) → turns_of (tolds ++ Told.long ∷ []) ≡ turns_of tolds
 turns-long [] = refl
 turns-long (Told.long ∷ rest) = turns-long rest
@@ -52,6 +54,7 @@ texts-more [] text said = refl
 texts-more (Told.long ∷ rest) text said = texts-more rest text said
 texts-more (Told.answered first one ∷ rest) text said = ap (λ texts. first ∷ texts) (texts-more rest text said)
 
+-- and its turn the last turn
 turns-more : (tolds : List Told) (text : Text) (said : Turn) → turns_of (tolds ++ Told.answered text said ∷ []) ≡ turns_of tolds ++ said ∷ []
 turns-more [] text said = refl
 turns-more (Told.long ∷ rest) text said = turns-more rest text said
@@ -69,6 +72,7 @@ left-same t after (turn.Replies rs) e = cc
 left-same t after turn.WaitWanted e = cc
 left-same t after (turn.Ended rs) e = absurd (cc)
 
+-- the same where the session may have ended
 if-left : (o : Option Session) (after : Session) (said : Turn) → o ≡ left after said → IfSome o (λ t. t ≡ after)
 if-left None after said e = tt
 if-left (Some t) after said e = left-same t after said e
@@ -132,7 +136,8 @@ module _ {B : Type 0} (known : B → Known) (goes : B → Call → Answer → B 
   pub synced-attends : (b : B) (s : Session) (said : Turn) (c : B) (t : Session) → Attends (known b) s
       → Arrives known goes b (synced s) c (Phase.over t said) → Attends (known c) t
   synced-attends b s said c t is way = kept-along (known b) (start (known b).shards (known b).seen s asked.Sync)
-      (phase-begins (known b) s asked.Sync is tt) way.count (known c) (Phase.over t said) (known-led known goes b (synced s) way.count c (Phase.over t said) way.leads)
+      (phase-begins (known b) s asked.Sync is tt) way.count (known c) (Phase.over t said)
+      (known-led known goes b (synced s) way.count c (Phase.over t said) way.leads)
 
   -- whatever is answered behind the wait
   pub synced-on : (b : B) (s : Session) (r : Result Turn SessionError) (c : B) (t : Session) → Attends (known b) s

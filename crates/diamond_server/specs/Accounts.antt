@@ -1,7 +1,9 @@
 -- What is told of the links of a listener: each as it was accepted and as it is given back, and of its session that it is explained
 -- by one prefix of the journal, the same for all links.
-use Rattle.std.specs.Prelude.{◌≡◌, ℕ, ◌+◌, ◌<◌, ◌≤◌, ◌==◌, List, [], ◌∷◌, ◌++◌, length, map, All, Bool, false, Option, Some, None, IfSome, Result, Ok, Err, if◌then◌else◌, refl}
+use Rattle.std.specs.Prelude.{◌≡◌, ℕ, ◌+◌, ◌<◌, ◌≤◌, ◌==◌, List, [], ◌∷◌, ◌++◌, length, map, All, Bool, false, Option, Some, None, IfSome}
+use Rattle.std.specs.Prelude.{Result, Ok, Err, if◌then◌else◌, refl}
 use Rattle.history_lock.specs.declared.limits.TheConstants.{MOST_DRAWS}
+use Rattle.dio_core.specs.declared.listener.Listener.{Ghosts as ListenerTells}
 use Rattle.dio_core.specs.Counts.{IsCounted}
 use Rattle.dio_core.specs.Links.{Both}
 use Rattle.txn_grammar.specs.Characters.{Text}
@@ -122,14 +124,14 @@ pub record Gatherings (L : Type 0) : Type 0 where
   pub faults_then : ℕ
 
 -- the listener of a serving, by what listeners tell
-abbrev pub gatherings : {N L : Type 0} → (N → Option (List L)) → (N → Option (List (L × ℕ))) → (N → ℕ) → N → N → Gatherings L
-gatherings links given faults old new = record {
-  links = links old;
-  links_then = links new;
-  given = given old;
-  given_then = given new;
-  faults = faults old;
-  faults_then = faults new;
+abbrev pub gatherings : {N L : Type 0} → ListenerTells N L → N → N → Gatherings L
+gatherings told old new = record {
+  links = told.links old;
+  links_then = told.links new;
+  given = told.given_back old;
+  given_then = told.given_back new;
+  faults = told.accept_faults old;
+  faults_then = told.accept_faults new;
 }
 
 -- Clients' numbers rise, from at least `low` to below `high`, so no two are the same; and each is a client of the store of this
@@ -169,3 +171,7 @@ pub record ServedAll {L : Type 0} (told : L → Both) (pass : Passed) (low high 
   pub served : All (IsServed told pass) accounts
   pub given_back : g.given_then ≡ and_these g.given (map given_of accounts)
   pub faulted : tally.faulted ≡ faults_of (map status_in accounts)
+
+-- A serving that begins with one pass and ends with another, which has drawn the numbers of clients since, from the store's first on.
+abbrev pub ServedSince : {L : Type 0} → (L → Both) → ℕ → Passed → Passed → ℕ → Gatherings L → Tally → Type 0
+ServedSince told first old new most g tally = ServedAll told new (first + old.draws) (first + new.draws) most g tally

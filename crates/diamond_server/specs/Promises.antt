@@ -1,6 +1,8 @@
 -- What a session over a link promises, by the status that it answers.
 use Rattle.std.specs.Prelude.{◌≡◌, ℕ, ◌≤◌, ◌⊎◌, ◌==◌, List, [], ◌∷◌, ◌++◌, map, length, Option, Some, None, IfSome, IsTrue, refl}
 use Rattle.std.specs.List.{list_any}
+use Rattle.dio_core.specs.declared.sink.Sink.{Ghosts as SinkTells}
+use Rattle.dio_core.specs.declared.source.Source.{Ghosts as SourceTells}
 use Rattle.dio_core.specs.Told.{WhereTold}
 use Rattle.dio_core.specs.Counts.{Rose, IsCounted}
 use Rattle.dio_core.specs.Lines.{lines, line_of as cut_of, BreaksOff}
@@ -26,10 +28,12 @@ statuses-are = refl
 
 -- ---- the two ends of a session
 
--- both sides of a link, by what links tell
-abbrev pub sides : {K : Type 0} → (K → Option Text) → (K → ℕ) → (K → Option Text) → (K → Option Text) → (K → ℕ) → K → Both
-sides left reads taken passed writes link =
-    record { inwards = incoming (left link) (reads link); outwards = outgoing (taken link) (passed link) (writes link) }
+-- both sides of a link, by what it tells as a source and as a sink
+abbrev pub sides : {K : Type 0} → SourceTells K → SinkTells K → K → Both
+sides source sink link = record {
+  inwards = incoming (source.left link) (source.read_faults link);
+  outwards = outgoing (sink.taken link) (sink.passed link) (sink.write_faults link);
+}
 
 -- of a journal that is told: the client has no commit in it, what it has seen is there, and it can be read however it grows
 pub record IsNewTo (k : Known) (journal : Journal) : Type 0 where

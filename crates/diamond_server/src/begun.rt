@@ -26,8 +26,8 @@ impl<L: Source + Sink, K: Keep, N: Naming> Promise<(L, Pass<K, N>, u8)> for Serv
     ghost use Rattle.diamond_server.specs.Accounts.{IsTold};
     ghost use Rattle.diamond_server.specs.Promises.{sides};
 
-    ghost kept_by = { λ p r. IsTold (λ q. q) (sides L.left L.read_faults L.taken L.passed L.write_faults p.link.value)
-        (sides L.left L.read_faults L.taken L.passed L.write_faults r.0) r.2 (Ok (p.pass.value, r.1)) };
+    ghost kept_by = { λ p r. IsTold (λ q. q) (sides L.Source L.Sink p.link.value)
+        (sides L.Source L.Sink r.0) r.2 (Ok (p.pass.value, r.1)) };
 }
 
 /// A session in a thread.

@@ -4,7 +4,7 @@ ghost use Rattle.std.specs.Prelude.{◌≡◌, ℕ, Ok, Err};
 ghost use Rattle.diamond_store.specs.Answers.{Learns};
 ghost use Rattle.diamond_server.specs.Accounts.{seat, seat_of, given_of, unread, having_met, IsNewcomer, IsTold, IsServed};
 ghost use Rattle.diamond_server.specs.Promises.{sides};
-ghost use Rattle.diamond_server.specs.Settling.{IsNear, IsNearTalk};
+ghost use Rattle.diamond_server.specs.code.Settling.{IsNear, IsNearTalk};
 ghost use Rattle.dio_core.specs.Links.{Both};
 
 use crate::serving::serve_session;
@@ -64,7 +64,7 @@ impl<L: Source + Sink, K: Keep, N: Naming> Model for Ended<L, K, N> {
 
     ghost view = { λ e. record { was = e.was.value; link = e.link; status = e.status; talk = e.talk } };
 
-    ghost invariant = { λ e. IsEnded (sides L.left L.read_faults L.taken L.passed L.write_faults)
+    ghost invariant = { λ e. IsEnded (sides L.Source L.Sink)
         (record { was = e.was.value; link = e.link; status = e.status; talk = e.talk }) };
 }
 
@@ -77,8 +77,7 @@ pub(crate) fn serve<L: End, K: Keep, G: Gate + Drop, N: Naming, R: Wait>(
     pass: Pass<K, N>,
 ) -> (L, Pass<K, N>, u8)
     requires newcomer { IsNewcomer pass }
-    ensures told { IsTold (λ p. p) (sides L.left L.read_faults L.taken L.passed L.write_faults link)
-        (sides L.left L.read_faults L.taken L.passed L.write_faults result.0) result.2 (Ok (pass, result.1)) }
+    ensures told { IsTold (λ p. p) (sides L.Source L.Sink link) (sides L.Source L.Sink result.0) result.2 (Ok (pass, result.1)) }
 {
     let _seen = pass.seen();
     let _shards = pass.shards();
@@ -96,8 +95,8 @@ impl<L: End, K: Keep, N: Naming> Ended<L, K, N> {
         had: Snapshot<Pass<K, N>>,
         done: (L, Pass<K, N>, u8),
     ) -> Ended<L, K, N>
-        requires told { IsTold (λ p. p) (sides L.left L.read_faults L.taken L.passed L.write_faults was.value)
-            (sides L.left L.read_faults L.taken L.passed L.write_faults done.0) done.2 (Ok (had.value, done.1)) }
+        requires told { IsTold (λ p. p) (sides L.Source L.Sink was.value)
+            (sides L.Source L.Sink done.0) done.2 (Ok (had.value, done.1)) }
         ensures seat { seat_of result ≡ seat was.value (Ok had.value) }
     {
         let (link, pass, status) = done;
@@ -146,7 +145,7 @@ impl<L: End, K: Keep, N: Naming> Ended<L, K, N> {
         requires near { IsNear pass.old self }
         ensures same { pass.new ≡ pass.old }
         ensures given { result ≡ given_of self }
-        ensures served { IsServed (sides L.left L.read_faults L.taken L.passed L.write_faults) pass.old self }
+        ensures served { IsServed (sides L.Source L.Sink) pass.old self }
     {
         let Ended {
             was: _,

@@ -24,8 +24,8 @@ fn serve_line<B: Waiter, K: End>(
 ) -> Result<bool, Stop>
     requires attends { Attends (B.known backend.old) session.old }
     ensures turns { Turns B.known B.goes result
-        backend.old session.old (sides K.left K.read_faults K.taken K.passed K.write_faults link.old)
-        backend.new session.new (sides K.left K.read_faults K.taken K.passed K.write_faults link.new) }
+        backend.old session.old (sides K.Source K.Sink link.old)
+        backend.new session.new (sides K.Source K.Sink link.new) }
     ensures attends { result ≡ Ok true → Attends (B.known backend.new) session.new }
     ensures home { B.home backend.new ≡ B.home backend.old }
 {
@@ -45,8 +45,8 @@ fn serve_line<B: Waiter, K: End>(
 fn serve_lines<B: Waiter, K: End>(alloc: Global, backend: &mut B, link: &mut K) -> Result<(), Stop>
     requires new { IsNew (B.known backend.old) }
     ensures ends { Ends B.known B.goes result
-        backend.old (sides K.left K.read_faults K.taken K.passed K.write_faults link.old)
-        backend.new (sides K.left K.read_faults K.taken K.passed K.write_faults link.new) }
+        backend.old (sides K.Source K.Sink link.old)
+        backend.new (sides K.Source K.Sink link.new) }
     ensures home { B.home backend.new ≡ B.home backend.old }
 {
     let _shards = backend.shards();
@@ -70,8 +70,7 @@ fn serve_lines<B: Waiter, K: End>(alloc: Global, backend: &mut B, link: &mut K) 
 pub fn serve_session<B: Waiter, K: End>(alloc: Global, backend: &mut B, link: &mut K) -> u8
     requires new { IsNew (B.known backend.old) }
     ensures promises { KeepsPromises B.known B.goes result backend.old backend.new
-        (sides K.left K.read_faults K.taken K.passed K.write_faults link.old)
-        (sides K.left K.read_faults K.taken K.passed K.write_faults link.new) }
+        (sides K.Source K.Sink link.old) (sides K.Source K.Sink link.new) }
     ensures home { B.home backend.new ≡ B.home backend.old }
 {
     let ended = serve_lines(alloc, backend, link);

@@ -3,9 +3,9 @@
 ghost use Rattle.std.specs.Prelude.{◌≡◌, ◌<◌, ◌+◌, ◌-◌, ◌^◌, ◌==◌, [], length, map, All, IfOk, if◌then◌else◌};
 ghost use Rattle.diamond_store.specs.Answers.{Learns};
 ghost use Rattle.script_runner.specs.declared.status.TheConstants.{WHOLE};
-ghost use Rattle.diamond_server.specs.Accounts.{seat_of, joined_in, link_in, gatherings, Accepting, ServedAll};
+ghost use Rattle.diamond_server.specs.Accounts.{seat_of, joined_in, link_in, gatherings, Accepting, ServedSince};
 ghost use Rattle.diamond_server.specs.Promises.{sides};
-ghost use Rattle.diamond_server.specs.Settling.{IsNear, JoinsNext, Settling};
+ghost use Rattle.diamond_server.specs.code.Settling.{IsNear, JoinsNext, Settling};
 
 use crate::begun::{Begun, begin};
 use crate::ended::Ended;
@@ -52,10 +52,8 @@ pub fn serve_all<
 ) -> Result<Tally, AllocError>
     requires trusted { pass.old.trusted ≡ 0 }
     ensures learns { Learns pass.old pass.new }
-    ensures served { IfOk result (λ tally. ServedAll
-        (sides Li.Link.left Li.Link.read_faults Li.Link.taken Li.Link.passed Li.Link.write_faults) pass.new
-        (N.lock.first + pass.old.draws) (N.lock.first + pass.new.draws) sessions
-        (gatherings Li.links Li.given_back Li.accept_faults listener.old listener.new) tally) }
+    ensures served { IfOk result (ServedSince (sides Li.Link.Source Li.Link.Sink) N.lock.first pass.old pass.new sessions
+        (gatherings Li.Listener listener.old listener.new)) }
 {
     let (ended, failed) = run_scoped(rt, alloc, listener, store, pass, sessions)?;
     let accepted = ended.len() as u32;
@@ -87,7 +85,7 @@ fn run_scoped<
     ensures learns { Learns pass.old pass.new }
     ensures given { Li.given_back listener.new ≡ Li.given_back listener.old }
     ensures accepted { IfOk result (λ r. Accepting pass.new (N.lock.first + pass.old.draws) (N.lock.first + pass.new.draws) sessions
-        (gatherings Li.links Li.given_back Li.accept_faults listener.old listener.new) (map seat_of r.0.items) r.1) }
+        (gatherings Li.Listener listener.old listener.new) (map seat_of r.0.items) r.1) }
     ensures near { IfOk result (λ r. All (IsNear pass.new) r.0.items) }
 {
     let (ran, listener, _pass) = thread::scope(
@@ -133,7 +131,7 @@ fn run_all<
     ensures learns { Learns pass.old pass.new }
     ensures given { Li.given_back listener.new ≡ Li.given_back listener.old }
     ensures accepted { IfOk result (λ r. Accepting pass.new (N.lock.first + pass.old.draws) (N.lock.first + pass.new.draws) sessions
-        (gatherings Li.links Li.given_back Li.accept_faults listener.old listener.new) (map seat_of r.0.items) r.1) }
+        (gatherings Li.Listener listener.old listener.new) (map seat_of r.0.items) r.1) }
     ensures near { IfOk result (λ r. All (IsNear pass.new) r.0.items) }
 {
     let (begun, failed) = accept_all(scope, rt, alloc, listener, store, pass, sessions)?;
@@ -162,7 +160,7 @@ fn accept_all<
     ensures learns { Learns pass.old pass.new }
     ensures given { Li.given_back listener.new ≡ Li.given_back listener.old }
     ensures accepted { IfOk result (λ r. Accepting pass.new (N.lock.first + pass.old.draws) (N.lock.first + pass.new.draws) sessions
-        (gatherings Li.links Li.given_back Li.accept_faults listener.old listener.new) r.0.items r.1) }
+        (gatherings Li.Listener listener.old listener.new) r.0.items r.1) }
 {
     let _seen = pass.seen();
     let mut begun = Vec::new(alloc);
@@ -242,8 +240,7 @@ fn give_all<Li: Listener, K: Keep, G: Gate + Drop, N: Naming, R: Wait>(
     ensures same { pass.new ≡ pass.old }
     ensures links { Li.links listener.new ≡ Li.links listener.old }
     ensures count { Li.accept_faults listener.new ≡ Li.accept_faults listener.old }
-    ensures settled { IfOk result (λ faulted. Settling
-        (sides Li.Link.left Li.Link.read_faults Li.Link.taken Li.Link.passed Li.Link.write_faults) pass.old all.items []
+    ensures settled { IfOk result (λ faulted. Settling (sides Li.Link.Source Li.Link.Sink) pass.old all.items []
         (Li.given_back listener.old) (Li.given_back listener.new) faulted) }
 {
     let mut faulted = 0;

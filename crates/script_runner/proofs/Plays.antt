@@ -1,15 +1,18 @@
 -- Many lines of a script.
-use Rattle.std.proofs.Common.{◌≡◌, ℕ, suc, ◌+◌, ◌-◌, ◌≤◌, ◌<◌, true, false, List, [], ◌∷◌, ◌++◌, length, take, drop, Option, Ok, Err, refl, sym, ap}
-use Rattle.std.proofs.Common.{◌∙◌, arith, append_assoc, length-append, fold, inl, inr}
+use Rattle.std.proofs.Common.{◌≡◌, ℕ, suc, ◌+◌, ◌-◌, ◌≤◌, ◌<◌, true, false, List, [], ◌∷◌, ◌++◌, length, take, drop, Option, Some, None, Ok, Err, refl, sym, ap}
+use Rattle.std.proofs.Common.{◌∙◌, arith, append_assoc, length-append, fold, ◌⊎◌, inl, inr, subst}
 use Rattle.plain_data.specs.declared.or_no_memory.OrNoMemory.{OrNoMemory}
 use Rattle.plain_data.specs.declared.or_no_memory.OrNoMemory.TheVariants as stop
-use Rattle.std.proofs.lemmas.List.{append-nil, take-append-drop, take_all, take_at}
+use Rattle.std.specs.Prelude.{IfSome}
+use Rattle.std.proofs.lemmas.List.{append-nil, nil_from_length, take-append-drop, take_all, take_at}
 use Rattle.std.proofs.lemmas.List.Sums.{fold-append}
-use Rattle.dio_core.specs.declared.line.TheConstants.{LONGEST_RUN}
+use Rattle.dio_core.specs.declared.line.TheConstants.{LONGEST_RUN, NEWLINE}
 use Rattle.dio_core.specs.declared.line.Line.{Line}
 use Rattle.dio_core.specs.declared.line.Line.TheVariants as line
 use Rattle.dio_core.specs.Lines.{lines, Answers, TakesLine, IsBegun}
-use Rattle.dio_core.specs.Sinks.{with_more}
+use Rattle.dio_core.specs.Sinks.{with_more, IsPassedOn}
+use Rattle.dio_core.specs.Sources.{IsAhead}
+use Rattle.dio_core.specs.declared.sink.Sink.{Ghosts as SinkTells}
 use Rattle.dio_core.specs.Told.{WhereTold}
 use Rattle.dio_core.proofs.Told.{WhereTold-then, WhereTold-refl}
 use Rattle.dio_core.proofs.Sinks.{with_more-with_more, with_more-nil}
@@ -19,8 +22,8 @@ use Rattle.script_runner.specs.declared.stop.Cause.{Cause}
 use Rattle.script_runner.specs.declared.stop.Cause.TheVariants as cause
 use Rattle.script_runner.specs.declared.stop.TheConstants.{MOST_LINES}
 use Rattle.script_runner.specs.Play.{ScriptWorld, Played, played, nothing_played, first_world, one_more, world_after, reply_to}
-use Rattle.script_runner.specs.Script.{IsPlayed, IsBrokenOff, HasTooManyLines, IsCutOff, IsCutOffBehindLine, but_last}
-use Rattle.script_runner.specs.code.Turns.{Moment, moment, DoesLine, BeginsLine, Turns, StopsReading, HasPlayed, Plays, Ran}
+use Rattle.script_runner.specs.Script.{IsPlayed, IsBrokenOff, HasTooManyLines, IsCutOff, IsCutOffBehindLine, HasPassedOn, Writing, writing, but_last}
+use Rattle.script_runner.specs.code.Turns.{Moment, moment, DoesLine, BeginsLine, Turns, StopsReading, HasPlayed, Plays, Ran, StopsBetween}
 
 -- one more line, played after the others
 played-push : (settings : Settings) (raws : List Text) (raw : Text)
@@ -255,3 +258,40 @@ cut_unread settings left taken = WhereTold-refl (IsCutOff settings taken taken) 
   answered = omega arith;
   output = sym (with_more-nil taken);
 })
+
+-- ---- between two answers
+
+-- before the first line nothing was answered
+pub unread-between : (settings : Settings) (left : Option Text) (w : Writing) → w.taken_then ≡ w.taken → IfSome left (HasPassedOn settings w)
+unread-between settings None w same = tt
+unread-between settings (Some all) w same =
+    record { answered = []; behind = all; read = refl; output = same ∙ sym (with_more-nil w.taken); passed = inl refl }
+
+-- behind so many lines their answers were taken, and passed on unless there were none or a whole line is left
+lines-between : (settings : Settings) (n : ℕ) (left : Option Text) (now : Moment) (w : Writing) → Plays settings n left w.taken now
+    → now.taken ≡ w.taken_then → (n ≡ 0) ⊎ (IsAhead NEWLINE now.left ⊎ IsPassedOn w.taken_then w.passed_then) → IfSome left (HasPassedOn settings w)
+lines-between settings n left now w past same passed = by left now.left past passed
+  where
+    by : (x y : Option Text) → WhereTold (HasPlayed settings n w.taken now) x y
+        → (n ≡ 0) ⊎ (IsAhead NEWLINE y ⊎ IsPassedOn w.taken_then w.passed_then) → IfSome x (HasPassedOn settings w)
+    by None y past passed = tt
+    by (Some all) None past passed = absurd past
+    by (Some all) (Some mid) past (inl none) = record {
+      answered = past.raws;
+      behind = mid;
+      read = past.read;
+      output = sym same ∙ past.output;
+      passed = inl (nil_from_length past.raws (past.many ∙ none));
+    }
+    by (Some all) (Some mid) past (inr passed) =
+        record { answered = past.raws; behind = mid; read = past.read; output = sym same ∙ past.output; passed = inr passed }
+
+-- a run that stops for want of memory has written nothing since its last answer
+pub stops-between : (settings : Settings) {W : Type 0} (told : SinkTells W) (n : ℕ) (left : Option Text) (now : Moment) (first last then : W)
+    → Plays settings n left (told.taken first) now → now.taken ≡ told.taken last
+    → (n ≡ 0) ⊎ (IsAhead NEWLINE now.left ⊎ IsPassedOn (told.taken last) (told.passed last))
+    → (e : OrNoMemory Cause) → (e ≡ stop.NoMemory → then ≡ last) → StopsBetween settings (Err e) left (writing told first then)
+stops-between settings {W} told n left now first last then past same passed (stop.Cause cause) wrote = tt
+stops-between settings {W} told n left now first last then past same passed stop.NoMemory wrote =
+    subst (λ (x : W). IfSome left (HasPassedOn settings (writing told first x))) (sym (wrote refl))
+    (lines-between settings n left now (writing told first last) past same passed)

@@ -2,7 +2,7 @@
 use Rattle.std.proofs.Common.{◌≡◌, ℕ, ◌≤◌, ◌⊎◌, Bool, true, false, [], ◌∷◌, length, Option, Some, None, Result, Ok, Err, refl, ap, sym, ◌∙◌, subst}
 use Rattle.std.proofs.Common.{inl, inr, arith, length-append}
 use Rattle.std.proofs.lemmas.Bool.{false≢true}
-use Rattle.std.specs.Prelude.{◌==◌, IsTrue}
+use Rattle.std.specs.Prelude.{◌==◌, IsTrue, IfSome}
 use Rattle.std.specs.List.{list_any}
 use Rattle.plain_data.specs.declared.or_no_memory.OrNoMemory.{OrNoMemory}
 use Rattle.plain_data.specs.declared.or_no_memory.OrNoMemory.TheVariants as stop
@@ -17,9 +17,10 @@ use Rattle.script_runner.specs.declared.status.TheConstants.{WHOLE, READ_FAULT, 
 use Rattle.script_runner.specs.declared.stop.TheConstants.{MOST_LINES}
 use Rattle.script_runner.specs.declared.stop.Cause.{Cause}
 use Rattle.script_runner.specs.declared.stop.Cause.TheVariants as cause
-use Rattle.script_runner.specs.Script.{Reading, Writing, IsPlayed, IsBrokenOff, HasTooManyLines, IsCutOff, IsCutOffBehindLine, TriesFlush, KeepsPromises}
+use Rattle.script_runner.specs.Script.{Reading, Writing, IsPlayed, IsBrokenOff, HasTooManyLines, IsCutOff, IsCutOffBehindLine, HasPassedOn}
+use Rattle.script_runner.specs.Script.{TriesFlush, KeepsPromises}
 use Rattle.script_runner.specs.code.Turns.{read_stopped, write_stopped, Ends, Closes}
-use Rattle.script_runner.proofs.Plays.{cut_whole, cut_unread}
+use Rattle.script_runner.proofs.Plays.{cut_whole, cut_unread, unread-between}
 use Rattle.script_runner.proofs.Standing.{played_is_legal}
 use Rattle.script_runner.proofs.Telling.{scripts_are_explained}
 
@@ -65,8 +66,9 @@ module _ (settings : Settings) (r : Reading) (w : Writing) where
 
   -- so a run keeps its promises: each speaks of statuses at which what is said has it
   promises : (status : ℕ) → IsTrue (list_any (λ s. s == status) (WHOLE ∷ READ_FAULT ∷ WRITE_FAULT ∷ NO_MEMORY ∷ TOO_MANY_LINES ∷ []))
-      → Says status → IsCounted (status == READ_FAULT) r.faults r.faults_then → Completes status → KeepsPromises settings status r w
-  promises status one says reads completes = record {
+      → Says status → IsCounted (status == READ_FAULT) r.faults r.faults_then → Completes status
+      → (status ≡ NO_MEMORY → IfSome r.left (HasPassedOn settings w)) → KeepsPromises settings status r w
+  promises status one says reads completes between = record {
     statuses = one;
     whole = λ is. (at WHOLE is).0;
     flushed = λ is. (at WHOLE is).1;
@@ -76,6 +78,7 @@ module _ (settings : Settings) (r : Reading) (w : Writing) where
     too_many = λ is. (at TOO_MANY_LINES is).0;
     unwritten = λ is. (at WRITE_FAULT is).0;
     wanting = λ is. (at NO_MEMORY is).0;
+    passed_on = between;
     reads = reads;
     write_fault = λ is. (at WRITE_FAULT is).1;
     no_write_fault = λ is. elim is [ inl e ↦ (at WHOLE e).2 | inr e ↦ (at NO_MEMORY e).1 ];
@@ -94,31 +97,31 @@ module _ (settings : Settings) (r : Reading) (w : Writing) where
   pub keeps_promises : (ended : Result (Unit {0}) (OrNoMemory Cause)) (status : ℕ) (taken : Option Text) (faults : ℕ)
       → WhereTold (Ends settings ended w.taken w.taken_then) r.left r.left_then
       → IsCounted (read_stopped ended) r.faults r.faults_then → IsCounted (write_stopped ended) w.faults faults
-      → Closed ended status taken faults → KeepsPromises settings status r w
-  keeps_promises (Ok done) status taken faults ends reads writes (inl closed) =
+      → Closed ended status taken faults → (ended ≡ Err stop.NoMemory → IfSome r.left (HasPassedOn settings w)) → KeepsPromises settings status r w
+  keeps_promises (Ok done) status taken faults ends reads writes (inl closed) between =
       subst (λ s. KeepsPromises settings s r w) (sym closed.0)
-      (promises WHOLE refl (ends, closed.2, closed.1 ∙ writes) reads (λ all is few well written. inl refl))
-  keeps_promises (Ok done) status taken faults ends reads writes (inr closed) =
+      (promises WHOLE refl (ends, closed.2, closed.1 ∙ writes) reads (λ all is few well written. inl refl) (λ is. absurd (cc is)))
+  keeps_promises (Ok done) status taken faults ends reads writes (inr closed) between =
       let rose = subst (λ n. Rose n w.faults_then) writes closed.1 in
       subst (λ s. KeepsPromises settings s r w) (sym closed.0)
       (promises WRITE_FAULT refl (WhereTold-map r.left r.left_then (cut_whole settings w.taken w.taken_then) ends, rose) reads
-      (λ all is few well written. absurd (written rose)))
-  keeps_promises (Err stop.NoMemory) status taken faults ends reads writes closed =
+      (λ all is few well written. absurd (written rose)) (λ is. absurd (cc is)))
+  keeps_promises (Err stop.NoMemory) status taken faults ends reads writes closed between =
       subst (λ s. KeepsPromises settings s r w) (sym closed.0)
-      (promises NO_MEMORY refl (ends, closed.1 ∙ writes) reads (λ all is few well written. inr refl))
-  keeps_promises (Err (stop.Cause cause.WriteFault)) status taken faults ends reads writes closed =
+      (promises NO_MEMORY refl (ends, closed.1 ∙ writes) reads (λ all is few well written. inr refl) (λ is. between refl))
+  keeps_promises (Err (stop.Cause cause.WriteFault)) status taken faults ends reads writes closed between =
       let rose = subst (λ n. Rose w.faults n) (sym closed.1) writes in
       subst (λ s. KeepsPromises settings s r w) (sym closed.0)
-      (promises WRITE_FAULT refl (ends, rose) reads (λ all is few well written. absurd (written rose)))
-  keeps_promises (Err (stop.Cause cause.ReadFault)) status taken faults ends reads writes closed =
+      (promises WRITE_FAULT refl (ends, rose) reads (λ all is few well written. absurd (written rose)) (λ is. absurd (cc is)))
+  keeps_promises (Err (stop.Cause cause.ReadFault)) status taken faults ends reads writes closed between =
       let tried = subst (λ n. TriesFlush (record w { faults = n })) writes closed.1 in
       subst (λ s. KeepsPromises settings s r w) (sym closed.0)
-      (promises READ_FAULT refl (ends, tried) reads (λ all is few well written. absurd (well reads)))
-  keeps_promises (Err (stop.Cause cause.TooManyLines)) status taken faults ends reads writes closed =
+      (promises READ_FAULT refl (ends, tried) reads (λ all is few well written. absurd (well reads)) (λ is. absurd (cc is)))
+  keeps_promises (Err (stop.Cause cause.TooManyLines)) status taken faults ends reads writes closed between =
       let tried = subst (λ n. TriesFlush (record w { faults = n })) writes closed.1 in
       subst (λ s. KeepsPromises settings s r w) (sym closed.0)
       (promises TOO_MANY_LINES refl (ends, tried) reads
-      (λ all is few well written. absurd (told_too_many settings w.taken w.taken_then r.left r.left_then ends all is few)))
+      (λ all is few well written. absurd (told_too_many settings w.taken w.taken_then r.left r.left_then ends all is few)) (λ is. absurd (cc is)))
 
 -- a run for which there was no memory before it read or wrote
 pub unstarted : (settings : Settings) (left taken passed : Option Text) (reads writes : ℕ) → KeepsPromises settings NO_MEMORY
@@ -127,7 +130,7 @@ pub unstarted : (settings : Settings) (left taken passed : Option Text) (reads w
 unstarted settings left taken passed reads writes = keeps_promises settings
     (record { left = left; left_then = left; faults = reads; faults_then = reads })
     (record { taken = taken; taken_then = taken; passed_then = passed; faults = writes; faults_then = writes })
-    (Err stop.NoMemory) NO_MEMORY taken writes (cut_unread settings left taken) refl refl (refl, refl)
+    (Err stop.NoMemory) NO_MEMORY taken writes (cut_unread settings left taken) refl refl (refl, refl) (λ is. unread-between settings left _ refl)
 
 -- the status of the words is none of a run's
 pub no-words-status : (settings : Settings) (status : ℕ) (r : Reading) (w : Writing) → KeepsPromises settings status r w → status ≡ 1 → ⊥

@@ -1,10 +1,14 @@
 -- What a run of a script promises, by the status that it answers.
 use Rattle.std.specs.Prelude.{◌≡◌, ℕ, ◌-◌, ◌≤◌, ◌⊎◌, ◌==◌, List, [], ◌∷◌, ◌++◌, length, take, Option, Some, IfSome, IsTrue, refl}
 use Rattle.std.specs.List.{list_any}
+use Rattle.dio_core.specs.declared.sink.Sink.{Ghosts as SinkTells}
+use Rattle.dio_core.specs.declared.source.Source.{Ghosts as SourceTells}
 use Rattle.dio_core.specs.Told.{WhereTold}
 use Rattle.dio_core.specs.Counts.{Rose, IsCounted}
 use Rattle.dio_core.specs.Lines.{lines, BreaksOff}
 use Rattle.dio_core.specs.Sinks.{with_more, IsPassedOn}
+use Rattle.dio_core.specs.Sources.{IsAhead}
+use Rattle.dio_core.specs.declared.line.TheConstants.{NEWLINE}
 use Rattle.rdt_types.specs.declared.settings.Settings.{Settings}
 use Rattle.txn_grammar.specs.Characters.{Text}
 use Rattle.txn_lang.specs.Journals.{IsLegal}
@@ -31,8 +35,8 @@ pub record Reading : Type 0 where
   pub faults_then : ℕ
 
 -- the source of a run, by what sources tell
-abbrev pub reading : {S : Type 0} → (S → Option Text) → (S → ℕ) → S → S → Reading
-reading left faults old new = record { left = left old; left_then = left new; faults = faults old; faults_then = faults new }
+abbrev pub reading : {S : Type 0} → SourceTells S → S → S → Reading
+reading told old new = record { left = told.left old; left_then = told.left new; faults = told.read_faults old; faults_then = told.read_faults new }
 
 -- The sink, when the run begins and when it ends.
 pub record Writing : Type 0 where
@@ -43,9 +47,14 @@ pub record Writing : Type 0 where
   pub faults_then : ℕ
 
 -- the sink of a run, by what sinks tell
-abbrev pub writing : {W : Type 0} → (W → Option Text) → (W → Option Text) → (W → ℕ) → W → W → Writing
-writing taken passed faults old new =
-    record { taken = taken old; taken_then = taken new; passed_then = passed new; faults = faults old; faults_then = faults new }
+abbrev pub writing : {W : Type 0} → SinkTells W → W → W → Writing
+writing told old new = record {
+  taken = told.taken old;
+  taken_then = told.taken new;
+  passed_then = told.passed new;
+  faults = told.write_faults old;
+  faults_then = told.write_faults new;
+}
 
 -- ---- how a run may end, from all of an input to the rest of it, and from what was taken to what is taken then
 
@@ -94,6 +103,15 @@ pub record IsCutOff (settings : Settings) (taken taken_then : Option Text) (all 
 abbrev pub IsCutOffBehindLine : Settings → Option Text → Option Text → Text → Text → Type 0
 IsCutOffBehindLine settings taken taken_then all rest = (cut : IsCutOff settings taken taken_then all rest) × (rest ≡ cut.behind)
 
+-- A run has answered some lines, and the answers were taken. They were passed on, unless there were none or the source had a whole
+-- line left behind them: so who waits for an answer has got it.
+pub record HasPassedOn (settings : Settings) (w : Writing) (all : Text) : Type 0 where
+  pub answered : List Text
+  pub behind : Text
+  pub read : lines all ≡ answered ++ lines behind
+  pub output : w.taken_then ≡ with_more w.taken (played settings answered).output
+  pub passed : (answered ≡ []) ⊎ (IsAhead NEWLINE (Some behind) ⊎ IsPassedOn w.taken_then w.passed_then)
+
 -- A flush was tried: it has passed on all that was taken, or it failed and was counted.
 abbrev pub TriesFlush : Writing → Type 0
 TriesFlush w = ((w.faults_then ≡ w.faults) × IsPassedOn w.taken_then w.passed_then) ⊎ Rose w.faults w.faults_then
@@ -119,6 +137,8 @@ pub record KeepsPromises (settings : Settings) (status : ℕ) (r : Reading) (w :
   -- the next line was read
   pub unwritten : status ≡ WRITE_FAULT → WhereTold (IsCutOffBehindLine settings w.taken w.taken_then) r.left r.left_then
   pub wanting : status ≡ NO_MEMORY → WhereTold (IsCutOff settings w.taken w.taken_then) r.left r.left_then
+  -- at 5 it stopped between two answers, and those so far were passed on, unless a whole line was ahead
+  pub passed_on : status ≡ NO_MEMORY → IfSome r.left (HasPassedOn settings w)
   -- the source's count rose at 3, and at no other status
   pub reads : IsCounted (status == READ_FAULT) r.faults r.faults_then
   -- the sink's count rose at 4

@@ -1,15 +1,16 @@
 //! A script: its lines are read, done and answered, one after another.
 
-ghost use Rattle.std.specs.Prelude.{◌≡◌, ◌⊎◌, not, IfOk, IfErr, OnOk};
+ghost use Rattle.std.specs.Prelude.{◌≡◌, ◌⊎◌, not, true, Ok, Err, IfOk, IfErr, OnOk};
 ghost use Rattle.std.specs.Bool.{OnTrue};
 ghost use Rattle.dio_core.specs.Counts.{IsCounted};
 ghost use Rattle.dio_core.specs.Lines.{TakesLine, IsShort};
 ghost use Rattle.dio_core.specs.Sinks.{IsPassedOn};
 ghost use Rattle.dio_core.specs.Sources.{IsAhead};
+ghost use Rattle.plain_data.specs.declared.or_no_memory.OrNoMemory.TheVariants as stop;
 ghost use Rattle.script_runner.specs.Worlds.{world_of, Stands};
 ghost use Rattle.script_runner.specs.Play.{first_world};
 ghost use Rattle.script_runner.specs.Script.{reading, writing, TriesFlush, KeepsPromises};
-ghost use Rattle.script_runner.specs.code.Turns.{moment, read_stopped, write_stopped, StopsReading, Turns, Ran, Closes};
+ghost use Rattle.script_runner.specs.code.Turns.{moment, read_stopped, write_stopped, StopsReading, Turns, Ran, StopsBetween, Closes};
 
 use crate::lines::answer;
 use crate::status::{NO_MEMORY, READ_FAULT, TOO_MANY_LINES, WHOLE, WRITE_FAULT};
@@ -57,6 +58,8 @@ fn turn<S: Source, W: Sink>(
     ensures turns { Turns result (moment (world_of script.old) (S.left source.old) (W.taken sink.old))
         (moment (world_of script.new) (S.left source.new) (W.taken sink.new)) }
     ensures stands { OnOk result (Stands (world_of script.new)) }
+    ensures passed { result ≡ Ok true → IsAhead NEWLINE (S.left source.new) ⊎ IsPassedOn (W.taken sink.new) (W.passed sink.new) }
+    ensures wanting { result ≡ Err stop.NoMemory → sink.new ≡ sink.old }
     ensures reads { IsCounted (read_stopped result) (S.read_faults source.old) (S.read_faults source.new) }
     ensures writes { IsCounted (write_stopped result) (W.write_faults sink.old) (W.write_faults sink.new) }
 {
@@ -81,6 +84,7 @@ fn run_lines<S: Source, W: Sink>(
     sink: &mut W,
 ) -> Result<(), Stop>
     ensures ran { Ran settings.now result (S.left source.old) (W.taken sink.old) (S.left source.new) (W.taken sink.new) }
+    ensures between { StopsBetween settings.now result (S.left source.old) (writing W.Sink sink.old sink.new) }
     ensures reads { IsCounted (read_stopped result) (S.read_faults source.old) (S.read_faults source.new) }
     ensures writes { IsCounted (write_stopped result) (W.write_faults sink.old) (W.write_faults sink.new) }
 {
@@ -115,8 +119,8 @@ pub fn run_script<S: Source, W: Sink>(
     source: &mut S,
     sink: &mut W,
 ) -> u8
-    ensures { KeepsPromises settings.now result (reading S.left S.read_faults source.old source.new)
-        (writing W.taken W.passed W.write_faults sink.old sink.new) }
+    ensures { KeepsPromises settings.now result (reading S.Source source.old source.new)
+        (writing W.Sink sink.old sink.new) }
 {
     let ended = run_lines(alloc, settings, source, sink);
     close(sink, ended)
@@ -125,7 +129,8 @@ pub fn run_script<S: Source, W: Sink>(
 /// Ends a run whose lines ended so: it flushes the sink, unless a write or memory has failed, and answers the status.
 fn close<W: Sink>(sink: &mut W, ended: Result<(), Stop>) -> u8
     ensures taken { W.taken sink.new ≡ W.taken sink.old }
-    ensures closes { Closes ended result (writing W.taken W.passed W.write_faults sink.old sink.new) }
+    ensures wanting { ended ≡ Err stop.NoMemory → sink.new ≡ sink.old }
+    ensures closes { Closes ended result (writing W.Sink sink.old sink.new) }
 {
     match ended {
         Ok(()) => { if sink.flush() { WHOLE } else { WRITE_FAULT } }
@@ -140,7 +145,7 @@ fn close<W: Sink>(sink: &mut W, ended: Result<(), Stop>) -> u8
 fn flushed<W: Sink>(sink: &mut W, status: u8) -> u8
     ensures same { result ≡ status }
     ensures taken { W.taken sink.new ≡ W.taken sink.old }
-    ensures tried { TriesFlush (writing W.taken W.passed W.write_faults sink.old sink.new) }
+    ensures tried { TriesFlush (writing W.Sink sink.old sink.new) }
 {
     if sink.flush() { status } else { status }
 }

@@ -1,4 +1,6 @@
--- What the loop of a session over a link knows of one line, of those so far, and of the end. Nobody has to judge by it.
+-- What the loop of a session over a link knows of one line, of those so far, and of the end. The laws of proofs/Lines tie a line and
+-- those so far to `Talks` of specs/Talking and the end to `IsServed` of specs/Promises; `keeps_promises` of proofs/Promises ties the end
+-- and its status to `KeepsPromises`.
 use Rattle.std.specs.Prelude.{◌≡◌, ℕ, ◌⊎◌, Bool, true, false, List, [], length, Option, Some, None, Result, Ok, Err}
 use Rattle.plain_data.specs.declared.or_no_memory.OrNoMemory.{OrNoMemory}
 use Rattle.plain_data.specs.declared.or_no_memory.OrNoMemory.TheVariants as stop
@@ -64,7 +66,8 @@ StopsReading (stop.Cause cause.TooManyLines) left left_then = ⊥
 -- ---- answering
 
 -- a line that is to wait is woken, and goes on as `sync` does
-pub record Wakes {B : Type 0} (known : B → Known) (goes : B → Call → Answer → B → Type 0) (old : B) (s : Session) (said : Turn) (new : B) (t : Session) : Type 0 where
+pub record Wakes {B : Type 0} (known : B → Known) (goes : B → Call → Answer → B → Type 0) (old : B) (s : Session) (said : Turn) (new : B)
+    (t : Session) : Type 0 where
   pub woke : B
   pub waits : Goes known goes old Call.wait Answer.done woke
   pub syncs : Arrives known goes woke (synced s) new (Phase.over t said)

@@ -1,6 +1,6 @@
 -- What the loop of a run knows: of one line, of those so far, and of the end. The laws of proofs/Turns.antt,
 -- proofs/Plays.antt and proofs/Promises.antt tie it to what a run promises.
-use Rattle.std.specs.Prelude.{◌≡◌, ℕ, ◌⊎◌, Bool, true, false, List, [], ◌∷◌, ◌++◌, length, Option, Result, Ok, Err}
+use Rattle.std.specs.Prelude.{◌≡◌, ℕ, ◌⊎◌, Bool, true, false, List, [], ◌∷◌, ◌++◌, length, Option, IfSome, Result, Ok, Err}
 use Rattle.plain_data.specs.declared.or_no_memory.OrNoMemory.{OrNoMemory}
 use Rattle.plain_data.specs.declared.or_no_memory.OrNoMemory.TheVariants as stop
 use Rattle.dio_core.specs.Told.{WhereTold}
@@ -13,7 +13,7 @@ use Rattle.script_runner.specs.declared.status.TheConstants.{WHOLE, READ_FAULT, 
 use Rattle.script_runner.specs.declared.stop.Cause.{Cause}
 use Rattle.script_runner.specs.declared.stop.Cause.TheVariants as cause
 use Rattle.script_runner.specs.Play.{ScriptWorld, played, world_after, reply_to}
-use Rattle.script_runner.specs.Script.{Writing, IsPlayed, IsBrokenOff, HasTooManyLines, IsCutOff, IsCutOffBehindLine, TriesFlush}
+use Rattle.script_runner.specs.Script.{Writing, IsPlayed, IsBrokenOff, HasTooManyLines, IsCutOff, IsCutOffBehindLine, HasPassedOn, TriesFlush}
 
 -- What a run has at a moment: its world, what the source has left, and what the sink has taken.
 pub record Moment : Type 0 where
@@ -98,6 +98,12 @@ Ends settings (Err stop.NoMemory) taken taken_then = IsCutOff settings taken tak
 -- what a run did, of a source that may not tell what it has left
 abbrev pub Ran : Settings → Result (Unit {0}) (OrNoMemory Cause) → Option Text → Option Text → Option Text → Option Text → Type 0
 Ran settings result left taken left_then taken_then = WhereTold (Ends settings result taken taken_then) left left_then
+
+-- how a run stopped for want of memory: between two answers
+abbrev pub StopsBetween : Settings → Result (Unit {0}) (OrNoMemory Cause) → Option Text → Writing → Type 0
+StopsBetween settings (Ok done) left w = Unit {0}
+StopsBetween settings (Err (stop.Cause cause)) left w = Unit {0}
+StopsBetween settings (Err stop.NoMemory) left w = IfSome left (HasPassedOn settings w)
 
 -- ---- the end
 

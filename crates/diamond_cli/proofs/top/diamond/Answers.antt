@@ -1,20 +1,20 @@
 use Rattle.std.proofs.Common.{refl}
 use Rattle.cli_words.specs.Forms.{texts}
 use Rattle.script_runner.proofs.Promises.{unstarted}
-use Rattle.diamond_cli.proofs.Asked.{plan-asks, refused-no-plan, serve-no-run}
+use Rattle.diamond_cli.proofs.Asked.{plan-asks, runs-something, serves-something, refused-no-plan, serve-no-run}
 use Rattle.diamond_cli.proofs.Served.{unended-serves}
 use Rattle.diamond_cli.proofs.top.diamond.Goals as goal
 
 -- ---- a run
 
 pub returns-in-Ok-Run-clause-other : goal.returns-in-Ok-Run-clause-other
-returns-in-Ok-Run-clause-other g c = λ no. absurd (no.0 (c.in-Ok-Run.settings, plan-asks (texts c.args.words.now) _ _ c.in-Ok-Run.ensures.plan c.in-Ok-Run.field-0-is))
+returns-in-Ok-Run-clause-other g c = λ no. absurd (runs-something c.args.words.now _ _ c.in-Ok-Run.ensures.plan c.in-Ok-Run.field-0-is no)
 
 pub returns-in-Ok-Run-clause-unread : goal.returns-in-Ok-Run-clause-unread
-returns-in-Ok-Run-clause-unread g c = λ no. absurd (no.0 (c.in-Ok-Run.settings, plan-asks (texts c.args.words.now) _ _ c.in-Ok-Run.ensures.plan c.in-Ok-Run.field-0-is))
+returns-in-Ok-Run-clause-unread g c = λ no. absurd (runs-something c.args.words.now _ _ c.in-Ok-Run.ensures.plan c.in-Ok-Run.field-0-is no)
 
 pub returns-in-Ok-Run-clause-unwritten : goal.returns-in-Ok-Run-clause-unwritten
-returns-in-Ok-Run-clause-unwritten g c = λ no. absurd (no.0 (c.in-Ok-Run.settings, plan-asks (texts c.args.words.now) _ _ c.in-Ok-Run.ensures.plan c.in-Ok-Run.field-0-is))
+returns-in-Ok-Run-clause-unwritten g c = λ no. absurd (runs-something c.args.words.now _ _ c.in-Ok-Run.ensures.plan c.in-Ok-Run.field-0-is no)
 
 pub returns-in-Ok-Run-clause-run : goal.returns-in-Ok-Run-clause-run
 returns-in-Ok-Run-clause-run g c = λ asks. record {
@@ -34,35 +34,25 @@ returns-in-Ok-Run-clause-unused_by_serve g c = λ asks. absurd (serve-no-run (te
 -- ---- serving
 
 pub returns-in-Ok-Serve-clause-other : goal.returns-in-Ok-Serve-clause-other
-returns-in-Ok-Serve-clause-other g c = λ no. absurd (no.1 (
-  c.in-Ok-Serve.settings,
-  c.in-Ok-Serve.field-0-1,
-  c.in-Ok-Serve.sessions,
-  plan-asks (texts c.args.words.now) _ _ c.in-Ok-Serve.ensures.plan c.in-Ok-Serve.field-0-is,
-))
+returns-in-Ok-Serve-clause-other g c =
+    λ no. absurd (serves-something c.args.words.now _ _ _ _ c.in-Ok-Serve.ensures.plan c.in-Ok-Serve.field-0-is no)
 
 pub returns-in-Ok-Serve-clause-unread : goal.returns-in-Ok-Serve-clause-unread
-returns-in-Ok-Serve-clause-unread g c = λ no. absurd (no.1 (
-  c.in-Ok-Serve.settings,
-  c.in-Ok-Serve.field-0-1,
-  c.in-Ok-Serve.sessions,
-  plan-asks (texts c.args.words.now) _ _ c.in-Ok-Serve.ensures.plan c.in-Ok-Serve.field-0-is,
-))
+returns-in-Ok-Serve-clause-unread g c =
+    λ no. absurd (serves-something c.args.words.now _ _ _ _ c.in-Ok-Serve.ensures.plan c.in-Ok-Serve.field-0-is no)
 
 pub returns-in-Ok-Serve-clause-unwritten : goal.returns-in-Ok-Serve-clause-unwritten
-returns-in-Ok-Serve-clause-unwritten g c = λ no. absurd (no.1 (
-  c.in-Ok-Serve.settings,
-  c.in-Ok-Serve.field-0-1,
-  c.in-Ok-Serve.sessions,
-  plan-asks (texts c.args.words.now) _ _ c.in-Ok-Serve.ensures.plan c.in-Ok-Serve.field-0-is,
-))
+returns-in-Ok-Serve-clause-unwritten g c =
+    λ no. absurd (serves-something c.args.words.now _ _ _ _ c.in-Ok-Serve.ensures.plan c.in-Ok-Serve.field-0-is no)
 
 pub returns-in-Ok-Serve-clause-run : goal.returns-in-Ok-Serve-clause-run
-returns-in-Ok-Serve-clause-run g c = λ asks. absurd (serve-no-run (texts c.args.words.now) c.in-Ok-Serve.settings asks.0 c.in-Ok-Serve.field-0-1 c.in-Ok-Serve.sessions
+returns-in-Ok-Serve-clause-run g c = λ asks. absurd (serve-no-run (texts c.args.words.now) c.in-Ok-Serve.settings asks.0
+    c.in-Ok-Serve.field-0-1 c.in-Ok-Serve.sessions
     (plan-asks (texts c.args.words.now) _ _ c.in-Ok-Serve.ensures.plan c.in-Ok-Serve.field-0-is) asks.1)
 
 pub returns-in-Ok-Serve-clause-unused_by_run : goal.returns-in-Ok-Serve-clause-unused_by_run
-returns-in-Ok-Serve-clause-unused_by_run g c = λ asks. absurd (serve-no-run (texts c.args.words.now) c.in-Ok-Serve.settings asks.0 c.in-Ok-Serve.field-0-1 c.in-Ok-Serve.sessions
+returns-in-Ok-Serve-clause-unused_by_run g c = λ asks. absurd (serve-no-run (texts c.args.words.now) c.in-Ok-Serve.settings asks.0
+    c.in-Ok-Serve.field-0-1 c.in-Ok-Serve.sessions
     (plan-asks (texts c.args.words.now) _ _ c.in-Ok-Serve.ensures.plan c.in-Ok-Serve.field-0-is) asks.1)
 
 pub returns-in-Ok-Serve-clause-serve : goal.returns-in-Ok-Serve-clause-serve

@@ -11,7 +11,8 @@ returns-in_ok-answer_of-in-Ok-clause-replies g c = record {
   does = record {
     short = c.requires.short;
     after = c.said.new.session;
-    answers = subst (λ (z : Text). Answers g.B.Backend.known g.B.Backend.goes c.args.backend.now c.args.session.now z c.in-Ok.turn c.said.new.backend c.said.new.session)
+    answers = subst
+        (λ (z : Text). Answers g.B.Backend.known g.B.Backend.goes c.args.backend.now c.args.session.now z c.in-Ok.turn c.said.new.backend c.said.new.session)
         c.as_slice.ensures c.in-Ok.ensures.answers;
     goes_on = sym (c.in_ok-answer_of-in-Ok.ensures.left c.said.new.session);
   };

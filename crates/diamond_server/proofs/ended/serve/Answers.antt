@@ -18,11 +18,11 @@ serve_session-status-requires g c = record {
 -- the session is explained by what the pass knows at its end
 pub returns : goal.returns
 returns g c =
-    let told = sides g.L.Source.left g.L.Source.read_faults g.L.Sink.taken g.L.Sink.passed g.L.Sink.write_faults in
+    let told = sides g.L.Source g.L.Sink in
     let new = pass-is-new c.args.pass c.requires.newcomer.none c.requires.newcomer.trusted c.seen-seen.ensures.within c.seen-seen.ensures.legal in
     let range = subst (λ (n : ℕ). (LEAST_SHARDS ≤ n) × (n ≤ MOST_SHARDS)) c.shards-shards.ensures.shards c.shards-shards.ensures.in_range in
     let begins = new-attends (known_of c.args.pass) range new in
-    let ends = sides-same g.L.Source.left g.L.Source.read_faults g.L.Sink.taken g.L.Sink.passed g.L.Sink.write_faults c.end.new.self
+    let ends = sides-same g.L.Source g.L.Sink c.end.new.self
     c.serve_session-status.new.link c.end.ensures.left c.end.ensures.taken c.end.ensures.passed c.end.ensures.read_faults c.end.ensures.write_faults in record {
       told = (
         c.requires.newcomer,

@@ -9,8 +9,8 @@ use Rattle.diamond_server.proofs.serving.serve_lines.Given as goal
 abbrev pub invariant-loop : goal.invariant-loop
 invariant-loop g l = record {
   served : HasServed g.B.Backend.known g.B.Backend.goes l.counter l.fn.backend
-      (sides g.K.Source.left g.K.Source.read_faults g.K.Sink.taken g.K.Sink.passed g.K.Sink.write_faults l.fn.link) l.backend l.session
-      (sides g.K.Source.left g.K.Source.read_faults g.K.Sink.taken g.K.Sink.passed g.K.Sink.write_faults l.link);
+      (sides g.K.Source g.K.Sink l.fn.link) l.backend l.session
+      (sides g.K.Source g.K.Sink l.link);
   attends : Attends (g.B.Backend.known l.backend) l.session;
   first : Attends (g.B.Backend.known l.fn.backend) (first_session (g.B.Backend.known l.fn.backend));
   home : g.B.Backend.home l.backend ≡ g.B.Backend.home l.fn.backend;

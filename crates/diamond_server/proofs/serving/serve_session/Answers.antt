@@ -6,8 +6,8 @@ use Rattle.diamond_server.proofs.serving.serve_session.Goals as goal
 -- the status is that of how the lines ended
 pub returns : goal.returns
 returns g c =
-    let x = sides g.K.Source.left g.K.Source.read_faults g.K.Sink.taken g.K.Sink.passed g.K.Sink.write_faults c.args.link.now in
-    let y = sides g.K.Source.left g.K.Source.read_faults g.K.Sink.taken g.K.Sink.passed g.K.Sink.write_faults c.serve_lines-ended.new.link in
+    let x = sides g.K.Source g.K.Sink c.args.link.now in
+    let y = sides g.K.Source g.K.Sink c.serve_lines-ended.new.link in
     let old = c.args.backend.now in
     let new = c.serve_lines-ended.new.backend in record {
       promises = subst (λ (status : ℕ). KeepsPromises g.B.Backend.known g.B.Backend.goes status old new x y) (sym c.status_of.ensures)

@@ -1,6 +1,6 @@
 use Rattle.std.proofs.Common.{◌≡◌, ◌+◌}
 use Rattle.diamond_store.specs.Answers.{Learns}
-use Rattle.diamond_server.specs.Settling.{Turns}
+use Rattle.diamond_server.specs.code.Settling.{Turns}
 use Rattle.diamond_server.proofs.serving_all.accept_all.Given as goal
 
 -- each turn accepted a link

@@ -5,7 +5,7 @@ use Rattle.dio_core.specs.Listeners.{with_last}
 use Rattle.diamond_store.specs.Passes.{Passed}
 use Rattle.script_runner.specs.declared.status.TheConstants.{WHOLE}
 use Rattle.diamond_server.specs.Promises.{sides}
-use Rattle.diamond_server.specs.Settling.{IsNear}
+use Rattle.diamond_server.specs.code.Settling.{IsNear}
 use Rattle.diamond_server.proofs.Listing.{settling-start, settling-next, settling-near, settling-few, settling-end, served-at}
 use Rattle.diamond_server.proofs.serving_all.give_all.Goals as goal
 
@@ -36,7 +36,7 @@ loop-ended-preserved g c =
     let step = c.in-Some.ensures.steps in
     let back = c.in_ok-give_back.ensures in
     let told : g.row.Li-Link.Denot → Both =
-    sides g.Li.Link.Source.left g.Li.Link.Source.read_faults g.Li.Link.Sink.taken g.Li.Link.Sink.passed g.Li.Link.Sink.write_faults in record {
+    sides g.Li.Link.Source g.Li.Link.Sink in record {
       same = c.settled-link.ensures.same ∙ was.same;
       links = c.give_back.ensures.same ∙ was.links;
       count = c.give_back.ensures.count ∙ was.count;

@@ -1,7 +1,7 @@
 use Rattle.std.proofs.Common.{◌≡◌, length}
 use Rattle.std.specs.Vec.Iter.{into_iter_items, into_iter_len}
 use Rattle.diamond_server.specs.Promises.{sides}
-use Rattle.diamond_server.specs.Settling.{Settling}
+use Rattle.diamond_server.specs.code.Settling.{Settling}
 use Rattle.diamond_server.proofs.serving_all.give_all.Given as goal
 
 -- those given back, and those that are still to come
@@ -11,6 +11,6 @@ invariant-loop-ended g l = record {
   links : g.Li.Listener.links l.listener ≡ g.Li.Listener.links l.fn.listener;
   count : g.Li.Listener.accept_faults l.listener ≡ g.Li.Listener.accept_faults l.fn.listener;
   len : into_iter_len l.ended-iterator ≡ length (into_iter_items l.ended-iterator);
-  settling : Settling (sides g.Li.Link.Source.left g.Li.Link.Source.read_faults g.Li.Link.Sink.taken g.Li.Link.Sink.passed g.Li.Link.Sink.write_faults)
+  settling : Settling (sides g.Li.Link.Source g.Li.Link.Sink)
       l.fn.pass l.fn.all.items (into_iter_items l.ended-iterator) (g.Li.Listener.given_back l.fn.listener) (g.Li.Listener.given_back l.listener) l.faulted;
 }

@@ -3,7 +3,7 @@ use Rattle.std.specs.Prelude.{All}
 use Rattle.std.specs.Vec.Iter.{into_iter_items, into_iter_len}
 use Rattle.diamond_store.specs.Answers.{Learns}
 use Rattle.diamond_server.specs.Accounts.{seat_of}
-use Rattle.diamond_server.specs.Settling.{IsNear}
+use Rattle.diamond_server.specs.code.Settling.{IsNear}
 use Rattle.diamond_server.proofs.serving_all.join_all.Given as goal
 
 -- those joined, and those that are still to come

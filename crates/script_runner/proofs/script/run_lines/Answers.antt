@@ -1,9 +1,10 @@
-use Rattle.std.proofs.Common.{Bool, Ok, refl, subst, arith}
+use Rattle.std.proofs.Common.{Bool, Ok, Err, inr, refl, ap, subst, arith}
 use Rattle.std.proofs.lemmas.Grind.{common_steps}
 use Rattle.std.proofs.lemmas.Result.{err_from_is_err_and}
+use Rattle.script_runner.specs.Script.{writing}
 use Rattle.script_runner.specs.Worlds.{world_of}
 use Rattle.script_runner.specs.code.Turns.{moment, Turns}
-use Rattle.script_runner.proofs.Plays.{plays-more, plays-stopped, plays-unread, plays-too_many, cut_unread}
+use Rattle.script_runner.proofs.Plays.{plays-more, plays-stopped, plays-unread, plays-too_many, cut_unread, stops-between, unread-between}
 use Rattle.script_runner.proofs.script.run_lines.Goals as goal
 
 -- a turn stopped
@@ -27,6 +28,7 @@ loop-preserved g c =
     let then = moment (world_of c.turn.new.script) (left c.turn.new.source) (taken c.turn.new.sink) in
     let turned = subst (λ (b : Bool). Turns (Ok b) now then) c.if-not-branch.false c.in_ok-turn.ensures.turns in record {
       stands = c.in_ok-turn.ensures.stands;
+      passed = inr (c.in_ok-turn.ensures.passed (ap Ok c.if-not-branch.false));
       plays = plays-more c.args.settings.now c.loop.counter (left c.args.source.now) (taken c.args.sink.now) now then c.loop.invariant.plays turned;
       reads = grind (arith, common_steps);
       writes = grind (arith, common_steps);
@@ -59,6 +61,30 @@ returns g c =
     let then = moment (world_of c.loop.script) (left c.read_line.new.source) (taken c.loop.sink) in record {
       ran = plays-too_many c.args.settings.now c.loop.counter (left c.args.source.now) (taken c.args.sink.now) now then c.in_ok-read_line.field-0
           (omega arith) refl c.in_default.not-End c.loop.invariant.plays c.in_ok-read_line.ensures.line;
+      between = tt;
       reads = grind (arith, common_steps);
       writes = c.loop.invariant.writes;
     }
+
+-- memory was wanting between two answers: a turn that stops for it has written nothing
+pub returns-in_err-turn-clause-between : goal.returns-in_err-turn-clause-between
+returns-in_err-turn-clause-between g c =
+    let now = moment (world_of c.loop.script) (g.S.Source.left c.loop.source) (g.W.Sink.taken c.loop.sink) in
+    let p = err_from_is_err_and c.from_residual-in_err-turn.result c.from_residual-in_err-turn.ensures.1 in
+    rw (p.1, p.2) (stops-between c.args.settings.now g.W.Sink c.loop.counter (g.S.Source.left c.args.source.now) now c.args.sink.now c.loop.sink
+    c.turn.new.sink c.loop.invariant.plays refl c.loop.invariant.passed c.in_err-turn.field-0.0
+    (λ is. c.in_err-turn.ensures.wanting (ap Err is)))
+
+-- or behind the last line that may be read
+pub returns-in_err-read_line-clause-between : goal.returns-in_err-read_line-clause-between
+returns-in_err-read_line-clause-between g c =
+    let now = moment (world_of c.loop.script) (g.S.Source.left c.loop.source) (g.W.Sink.taken c.loop.sink) in
+    let p = err_from_is_err_and c.from_residual-in_err-read_line.result c.from_residual-in_err-read_line.ensures.1 in
+    rw (p.1, p.2) (stops-between c.args.settings.now g.W.Sink c.loop.counter (g.S.Source.left c.args.source.now) now c.args.sink.now c.loop.sink
+    c.loop.sink c.loop.invariant.plays refl c.loop.invariant.passed c.in_err-read_line.field-0.0 (λ is. refl))
+
+-- or before the first
+pub returns-in_err-script-clause-between : goal.returns-in_err-script-clause-between
+returns-in_err-script-clause-between g c =
+    let p = err_from_is_err_and c.from_residual.result c.from_residual.ensures.1 in
+    rw (p.1, p.2) (unread-between c.args.settings.now (g.S.Source.left c.args.source.now) (writing g.W.Sink c.args.sink.now c.args.sink.now) refl)

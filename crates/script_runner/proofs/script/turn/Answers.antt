@@ -12,4 +12,11 @@ returns-in_err-answer g c =
     let wanting = line-wanting (world_of c.args.script.now) (world_of c.answer.new.script) c.in_ok-line.line c.in_default.not-End
     (left c.args.source.now) (left c.read_line.new.source) (taken c.args.sink.now) (taken c.args.sink.now) c.in_ok-line.ensures.line refl in
     let p = err_from_is_err_and c.from_residual-in_err-answer.result c.from_residual-in_err-answer.ensures.1 in
-    rw (p.1, p.2) (record { turns = inr wanting; stands = tt; reads = c.in_ok-line.ensures.reads; writes = refl })
+    rw (p.1, p.2) (record {
+      turns = inr wanting;
+      stands = tt;
+      passed = λ is. absurd (cc is);
+      wanting = λ is. refl;
+      reads = c.in_ok-line.ensures.reads;
+      writes = refl;
+    })

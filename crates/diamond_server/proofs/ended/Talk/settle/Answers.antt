@@ -2,7 +2,7 @@ use Rattle.std.proofs.Common.{◌∙◌, ap, sym, subst, Ok}
 use Rattle.history_lock.specs.Tokens.{longer}
 use Rattle.diamond_store.specs.Passes.{Passed}
 use Rattle.diamond_server.specs.Accounts.{IsTold}
-use Rattle.diamond_server.specs.Settling.{IsNearTalk}
+use Rattle.diamond_server.specs.code.Settling.{IsNearTalk}
 use Rattle.diamond_server.proofs.Settled.{told-met}
 use Rattle.diamond_server.proofs.ended.Talk.settle.Goals as goal
 

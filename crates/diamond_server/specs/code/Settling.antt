@@ -1,4 +1,5 @@
--- What the loops over links know on their way; nobody has to judge by it.
+-- What the loops over links know on their way: of those that were accepted, and of those that were given back. The laws of
+-- proofs/Listing tie it to `Accepting` and `ServedAll` of specs/Accounts.
 use Rattle.std.specs.Prelude.{◌≡◌, ◌≤◌, ◌<◌, ℕ, List, ◌++◌, length, map, All, Option, Result, Ok, Err}
 use mathlib.Core.List.{IsPrefix}
 use Rattle.dio_core.specs.Links.{Both}
