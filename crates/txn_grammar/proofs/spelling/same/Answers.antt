@@ -1,7 +1,6 @@
 use Rattle.std.proofs.Common.{◌≡◌, ℕ, Bool, true, false, List, length, refl, ap}
 use Rattle.std.specs.Str.{bytes_eq}
 use Rattle.std.proofs.lemmas.Slice.Eq.{bytes_eq-Decides}
-use Rattle.txn_grammar.proofs.spelling.same.Goals as goal
 
 -- texts of two lengths aren't one
 unlike : (xs ys : List ℕ) → ¬ (length xs ≡ length ys) → false ≡ bytes_eq xs ys
