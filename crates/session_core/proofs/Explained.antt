@@ -176,13 +176,16 @@ line-explained k s (asked.Unwatch name) n m t turn low begun is ready may led = 
 line-explained k s asked.Sync n m t turn low begun is ready may led = sync-explained k s n m t turn low begun is may led
 line-explained k s asked.Wait n m t turn low begun is ready may led = wait-explained k s n m t turn low begun is may led
 line-explained k s asked.Quiet n m t turn low begun is ready may led = plain-explained k s asked.Quiet n m t turn low begun tt is ready may led
-line-explained k s (asked.Refused reason) n m t turn low begun is ready may led = plain-explained k s (asked.Refused reason) n m t turn low begun tt is ready may led
+line-explained k s (asked.Refused reason) n m t turn low begun is ready may led =
+    plain-explained k s (asked.Refused reason) n m t turn low begun tt is ready may led
 line-explained k s (asked.Begin body) n m t turn low begun is ready may led = plain-explained k s (asked.Begin body) n m t turn low begun tt is ready may led
-line-explained k s (asked.Try tries body) n m t turn low begun is ready may led = plain-explained k s (asked.Try tries body) n m t turn low begun tt is ready may led
+line-explained k s (asked.Try tries body) n m t turn low begun is ready may led =
+    plain-explained k s (asked.Try tries body) n m t turn low begun tt is ready may led
 line-explained k s asked.Step n m t turn low begun is ready may led = plain-explained k s asked.Step n m t turn low begun tt is ready may led
 line-explained k s asked.Go n m t turn low begun is ready may led = plain-explained k s asked.Go n m t turn low begun tt is ready may led
 line-explained k s asked.Drop n m t turn low begun is ready may led = plain-explained k s asked.Drop n m t turn low begun tt is ready may led
 line-explained k s (asked.Look body) n m t turn low begun is ready may led = plain-explained k s (asked.Look body) n m t turn low begun tt is ready may led
-line-explained k s (asked.At upto body) n m t turn low begun is ready may led = plain-explained k s (asked.At upto body) n m t turn low begun tt is ready may led
+line-explained k s (asked.At upto body) n m t turn low begun is ready may led =
+    plain-explained k s (asked.At upto body) n m t turn low begun tt is ready may led
 line-explained k s asked.Seen n m t turn low begun is ready may led = plain-explained k s asked.Seen n m t turn low begun tt is ready may led
 line-explained k s asked.Quit n m t turn low begun is ready may led = plain-explained k s asked.Quit n m t turn low begun tt is ready may led

@@ -161,7 +161,8 @@ reports-up journal n low before later replies rest Reports.no_more upto =
 reports-up journal n low before later replies rest (Reports.untouched {watches = watches} {later = more} name watch none rest_of) upto =
     let up = all-up low_by low-up low (replies ++ rest) in let first = upto.0 in
     (omega arith, reports-up journal n low watches more replies rest rest_of upto.1)
-reports-up journal n low before later replies rest (Reports.reports {watches = watches} {later = more} {replies = said} name watch outcome touched is rest_of) upto =
+reports-up journal n low before later replies rest
+    (Reports.reports {watches = watches} {later = more} {replies = said} name watch outcome touched is rest_of) upto =
     let next = low_by low (reply.Ran name n outcome) in
     let up = all-up low_by low-up next (said ++ rest) in let at = ran-up low name n outcome in
     (omega arith, reports-up journal n next watches more said rest rest_of (up-to-more low next watches (low-up low (reply.Ran name n outcome)) upto.1))
