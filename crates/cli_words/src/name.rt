@@ -48,7 +48,10 @@ impl CommandName {
     pub(crate) fn named(word: &str) -> Option<CommandName>
         ensures { result ≡ spec.command_named word.now }
     {
-        COMMANDS.iter().copied().find(|command| command.word() == word)
+        COMMANDS
+            .iter()
+            .copied()
+            .find(|command| command.word() == word)
     }
 
     /// Whether the command takes the option.

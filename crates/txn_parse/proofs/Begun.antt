@@ -41,7 +41,7 @@ module _ (rank : Rank) (p : Reader Spot Expr) where
     where
       by : (o : Outcome Spot Expr)
           → and_then (and_then o (λ first us. and_then (many (begins_operator rank) (further rank p) us) (λ others. pure (first, others))))
-              (λ operands. pure (chained operands))
+          (λ operands. pure (chained operands))
           ≡ and_then o (begun.chain rank p)
       by (Ok (first, us)) = in_pairs first us
       by (Err us) = refl

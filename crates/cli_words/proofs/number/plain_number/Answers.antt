@@ -7,4 +7,4 @@ pub returns-else-is_led : goal.returns-else-is_led
 returns-else-is_led c =
     c.ok.ensures.value
     ∙ parsed-is c.args.word.now c.parse.result (ap is_led (sym c.as_bytes.ensures.value) ∙ sym c.is_led.ensures ∙ c.if-is_led.false)
-        c.parse.ensures.value.0
+    c.parse.ensures.value.0
