@@ -24,6 +24,7 @@ pub runs-something : (words : List (Bor Word)) (p : Plan) (settings : Settings) 
     → AsksNothing words → ⊥
 runs-something words p settings spells is no = no.0 (settings, plan-asks (texts words) p (plan.Run settings) spells is)
 
+-- and so with a plan to serve
 pub serves-something : (words : List (Bor Word)) (p : Plan) (settings : Settings) (address : Word) (sessions : ℕ) → Spells (texts words) p
     → p ≡ plan.Serve settings address sessions → AsksNothing words → ⊥
 serves-something words p settings address sessions spells is no =

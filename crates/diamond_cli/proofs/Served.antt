@@ -63,6 +63,7 @@ module _ {L : Type 0} (told : L → Both) (settings : Settings) (sessions : ℕ)
     completes = λ accepted written. absurd (written (fault refl));
   }
 
+  -- at the status by which it ended
   pub ended-serves : (status : ℕ) → IsEnded told settings sessions g status w → ServesLinks told settings sessions g status w
   ended-serves status e =
       subst (λ (s : ℕ). ServesLinks told settings sessions g s w) (sym e.status_is) (kept-by e.tally.failed e.done

@@ -88,6 +88,7 @@ module _ (p has : Passed) (journal : Journal) (denials : ℕ) (tolds : List Told
     (talks : SessionTalks (known_of p) (first_session (known_of p)) (texts_of tolds) (turns_of tolds) (known_of has) last)
     (grows : IsPrefix has.journal journal) (legal : IsLegal has.trusted journal) (same : own has.client journal ≡ own has.client has.journal)
     (more : has.denials ≤ denials) where
+  -- the session is the same one, so each of its answers is explained by the longer journal
   accounted-met : IsAccounted (known_of p) (known_of has) tolds
       → IsAccounted (known_of p) (known_of (record has { journal = journal; denials = denials })) tolds
   accounted-met a =

@@ -117,6 +117,7 @@ module _ {B : Type 0} (known : B → Known) (goes : B → Call → Answer → B 
   came-attends b s text said c t is short way = says-attends (known b) (known c) s t text said is short
       (SaysLine.at_once way.count (known-led known goes b (start (known b).shards (known b).seen s (line_of text)) way.count c (Phase.over t said) way.leads))
 
+  -- an answer comes only where no call failed, so nothing more is counted
   pub came-unfaulted : (b : B) (s : Session) (text : Text) (said : Turn) (c : B) (t : Session)
       → Arrives known goes b (start (known b).shards (known b).seen s (line_of text)) c (Phase.over t said) → (known c).faults ≡ (known b).faults
   came-unfaulted b s text said c t way = led-unfaulted known goes b s (line_of text) way.count c t said way.leads
@@ -133,6 +134,7 @@ module _ {B : Type 0} (known : B → Known) (goes : B → Call → Answer → B 
   waited-attends b s c is waits = plain-on (known b) (known c) s Call.wait Answer.done waits.answered (λ old new own. own) waits.answered.keeps
       waits.answered.goes_on.subscribed waits.answered.goes_on.taken is
 
+  -- a `sync` leaves the session attended, as each line does
   pub synced-attends : (b : B) (s : Session) (said : Turn) (c : B) (t : Session) → Attends (known b) s
       → Arrives known goes b (synced s) c (Phase.over t said) → Attends (known c) t
   synced-attends b s said c t is way = kept-along (known b) (start (known b).shards (known b).seen s asked.Sync)
@@ -181,6 +183,7 @@ module _ {B : Type 0} (known : B → Known) (goes : B → Call → Answer → B 
     faults = answers-unfaulted mid t text said new does.after does.answers ∙ h.faults;
   }
 
+  -- line after line
   pub talk-is : (old : B) (s : Session) (tolds : List Told) (new : B) (o : Option Session) → Talks known goes old s tolds new o → IsTalk old s tolds new o
   talk-is old s tolds new o Talks.silent = record { session = s; talks = SessionTalks.silent; same = refl; faults = refl }
   talk-is old s tolds new o (Talks.says {before = before} {mid = mid} {t = t} told talks does is) =

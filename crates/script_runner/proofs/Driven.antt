@@ -94,6 +94,7 @@ module _ {B : Type 0} (known : B → Known) (goes : B → Call → Answer → B 
     pub drives : Drives client x n (store c) q
     pub is_of : IsOf c
 
+  -- by induction on the steps
   pub led-driven : (b : B) (p : Phase) → IsOf b → (n : ℕ) (c : B) (q : Phase) → Leads (Goes known goes) b p n c q → HasDriven (store b, p) n c q
   led-driven b p mine n c q Leads.stays = record { drives = inl refl; is_of = mine }
   led-driven b p mine k d r (Leads.by_step {n = n} {c = c} {q = q} call answer led asked step is) =

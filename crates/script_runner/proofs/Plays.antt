@@ -221,6 +221,7 @@ module _ (settings : Settings) where
     output = same ∙ past.output;
   }
 
+  -- where the source tells its bytes
   pub plays-too_many : (n : ℕ) (left taken : Option Text) (now then : Moment) (l : Line) → n ≡ MOST_LINES → then.taken ≡ now.taken → (l ≡ line.End → ⊥)
       → Plays settings n left taken now → TakesLine l now.left then.left → Ran settings (Err (stop.Cause cause.TooManyLines)) left taken then.left then.taken
   plays-too_many n left taken now then l most same some =

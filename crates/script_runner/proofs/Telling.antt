@@ -148,6 +148,7 @@ module _ (s : Store) (client : ℕ) (session : Session) (sound : IsSound s) (bel
         };
       }
 
+  -- a shard that there is follows; any other is refused
   tells-follow : (o : Option ℕ) → Tells s client session (follow_line client s session (if_shard s.shards o))
   tells-follow None = tells-refusal
   tells-follow (Some shard) = by (nat_lt shard s.shards) refl
@@ -209,6 +210,7 @@ module _ (s : Store) (client : ℕ) (session : Session) (sound : IsSound s) (bel
   tells-either true x y kx ky = kx
   tells-either false x y kx ky = ky
 
+  -- `follow`, or what a session does
   tells-line : (text : Text) → length text ≤ LONGEST_LINE → Tells s client session (client_line client s (Some session) text)
   tells-line text short = tells-either (is_follow text) (follow_line client s session (shard_named s.shards (after_word text)))
       (ended_line client s session (line_of text) (line_done client s session (line_of text))) (tells-follow (small_number (trimmed_end (after_word text))))
@@ -336,6 +338,7 @@ module _ (these : Setting) (w : ScriptWorld) (client : ℕ) (session : Session) 
   to-nobody-else c apart (Told.answered who asked t) mine = apart-tests who c (λ same. apart (sym same ∙ mine.is_mine))
   to-nobody-else c apart (Told.follow who shard front) mine = apart-tests who c (λ same. apart (sym same ∙ mine.is_mine))
 
+  -- so its story stays as it was
   others-hear : (c : ℕ) (y : Story) → c ≢ client → Listens w c y → Hears these (placed w client d) c y
   others-hear c y apart l = record {
     next = y;
@@ -412,10 +415,12 @@ module _ (these : Setting) (w : ScriptWorld) (e : setting_in w.store ≡ these) 
       by false is = told-nobody (Told.nobody why.Client) (λ c. refl)
       by true is = client-told client text (let below : client < CLIENTS = grind (arith, nat_tests) in below) short (session_of w client) refl
 
+  -- either of two lines
   told-either : (b : Bool) (x y : Done) → HasTold these w x → HasTold these w y → HasTold these w (cond b x y)
   told-either true x y kx ky = kx
   told-either false x y kx ky = ky
 
+  -- a line that asks for nothing, or one of a client
   text-told : (text : Text) → length text ≤ LONGEST_LINE → HasTold these w (text_line w text)
   text-told text short = told-either (is_quiet text) (done w Told.nothing) (named_line w (client_named (first_word text)) (after_word text))
       (told-nobody Told.nothing (λ c. refl))

@@ -552,6 +552,7 @@ module _ (k : Known) (p : Phase) (holds : PhaseHolds k p) where
 
 module _ (k : Known) (s : Session) (l : Line) (is : Attends k s) (ready : BodyIsReady l) (n : ℕ) (m : Known) (q : Phase)
     (led : Leads IsAnswered k (start k.shards k.seen s l) n m q) where
+  -- what a line begins with is held
   holds : PhaseHolds k (start k.shards k.seen s l)
   holds = phase-begins k s l is ready
 

@@ -143,6 +143,7 @@ module _ (set : Setting) (journal : Journal) (y : Story) (before : y.begun ≤ y
   from-by o asked.Sync t later from h = from
   from-by o asked.Wait t later from h = from
 
+  -- by what the line asks for
   pub from-on : (l : Line) (t : Turn) (later : ShownList) → IfSome y.attempting.attempt (AreFrom y.begun) → Passes set journal y l t later
       → IfSome (attempting_after set journal y.attempting l t).attempt (AreFrom (begun_after y l t))
   from-on l t later from h = from-by y.attempting.attempt l t later from h
@@ -218,6 +219,7 @@ module _ (window : ℕ) (journal : Journal) (low shown : ℕ) (before later : Sh
       by true rest = all.1
       by false rest = (all.0, rest)
 
+  -- one watch fewer, and no number has changed
   unwatch-up : (name : Bytes) (replies : List Reply) → UnwatchPasses name before replies later → AreUpTo (fold low_by shown replies) later
   unwatch-up name replies (inl is) = same-up replies (reply.Refused why.NoAttempt ∷ []) is.1
   unwatch-up name replies (inr is) = subst (AreUpTo (fold low_by shown replies)) (sym is.others)
@@ -230,6 +232,7 @@ all-up-to : (P : List Reply → Type 0) (low : ℕ) (later : ShownList) (t : Tur
 all-up-to P low later (turn.Replies replies) each h = each replies h
 all-up-to P low later t each h = absurd h
 
+-- a line that is to wait shows nothing; one that has waited is a `sync` past what was seen
 wait-up : (set : Setting) (journal : Journal) (y : Story) (t : Turn) (later : ShownList) → AreReported y → WaitPasses set journal y t later
     → AreUpTo (fold low_by y.low (replies_in t)) later
 wait-up set journal y turn.WaitWanted later upto h = subst (AreUpTo y.low) (sym h) upto

@@ -81,6 +81,7 @@ module _ {B : Type 0} (goes : B → Call → Answer → B → Type 0) (s : Sessi
     pub is : q ≡ of_watches s phase
     pub leads : WatchLeads goes b p n c phase
 
+  -- each step of a line of watches is one of theirs
   pub led-of : (b : B) (p : WatchPhase) (n : ℕ) (c : B) (q : Phase) → Leads goes b (of_watches s p) n c q → LedOf b p n c q
   led-of b p n c q Leads.stays = record { phase = p; is = refl; leads = WatchLeads.stays }
   led-of b p i d r (Leads.by_step {n = n} {c = c} {q = q} call answer led asked step is) =

@@ -195,28 +195,34 @@ module _ (k m : Known) (s t : Session) (text : Text) (x : Turn) (is : Attends k 
 
   -- ---- either way
 
+  -- what holds of a line that came at once holds of one that has waited, which goes on as a `sync`
   pub says-attends : Says k s text x m t → Attends m t
   says-attends (Says.at_once calls led) = holds-there calls m (Phase.over t x) led
   says-attends (Says.woken there woke u calls again led event on) = woken-attends there woke u calls again led event on
 
+  -- it is the same client, since no step gives the backend to another
   pub says-client : Says k s text x m t → IsSameClient k m
   says-client (Says.at_once calls led) =
       same-along k (start k.shards k.seen s l) (phase-begins k s l is (line-ready text short)) calls m (Phase.over t x) led
   says-client (Says.woken there woke u calls again led event on) = woken-client there woke u calls again led event on
 
+  -- its commits are those that were answered
   pub says-owns : Says k s text x m t → WhereTold (HasOwned k.client (replies_in x)) k.journal m.journal
   says-owns (Says.at_once calls led) = WhereTold-map k.journal m.journal (λ old new h. record { grows = h.grows; own_is = h.own_is; there = h.there })
       (line-owns k s l is (line-ready text short) calls m (Phase.over t x) led)
   says-owns (Says.woken there woke u calls again led event on) = woken-owns there woke u calls again led event on
 
+  -- each denial was answered, in the line or before it waited
   pub says-denied : Says k s text x m t → m.denied ≡ denied_by_all k.denied (replies_in x)
   says-denied (Says.at_once calls led) = (line-denies k s l is (line-ready text short) calls m (Phase.over t x) led).denied
   says-denied (Says.woken there woke u calls again led event on) = woken-denied there woke u calls again led event on
 
+  -- and the backend knows of as many at least
   pub says-known : Says k s text x m t → denied_by_all k.denials (replies_in x) ≤ m.denials
   says-known (Says.at_once calls led) = (line-knows k s l is (line-ready text short) calls m (Phase.over t x) led).known
   says-known (Says.woken there woke u calls again led event on) = woken-known there woke u calls again led event on
 
+  -- the answer passes for the line that was asked, also where it waited
   pub says-explained : (low begun : ℕ) → MayBeTold k (story_of low begun s) → Says k s text x m t
       → WhereTold (LinePasses k m (story_of low begun s) l x t) k.journal m.journal
   says-explained low begun may (Says.at_once calls led) = line-explained k s l calls m t x low begun is (line-ready text short) may led
