@@ -22,13 +22,13 @@ plan-asks words p q spells is = subst (Spells words) is spells
 -- words that spell a plan to run, or one to serve, ask for something
 pub runs-something : (words : List (Bor Word)) (p : Plan) (settings : Settings) → Spells (texts words) p → p ≡ plan.Run settings
     → AsksNothing words → ⊥
-runs-something words p settings spells is no = no.0 (settings, plan-asks (texts words) p (plan.Run settings) spells is)
+runs-something words p settings spells is nothing = nothing.0 (settings, plan-asks (texts words) p (plan.Run settings) spells is)
 
 -- and so with a plan to serve
 pub serves-something : (words : List (Bor Word)) (p : Plan) (settings : Settings) (address : Word) (sessions : ℕ) → Spells (texts words) p
     → p ≡ plan.Serve settings address sessions → AsksNothing words → ⊥
-serves-something words p settings address sessions spells is no =
-    no.1 (settings, address, sessions, plan-asks (texts words) p (plan.Serve settings address sessions) spells is)
+serves-something words p settings address sessions spells is nothing =
+    nothing.1 (settings, address, sessions, plan-asks (texts words) p (plan.Serve settings address sessions) spells is)
 
 -- words that were refused are of no form
 no-form : (words : List Word) (bad : BadWords) → Refuses words (words_error.BadWords bad) → IsNoForm words
