@@ -48,6 +48,7 @@ use Rattle.client_watches.proofs.Bounds.{lines_are_bounded as watches_are_bounde
 use Rattle.session_core.specs.declared.turn.Turn.TheVariants as turn
 use Rattle.session_core.specs.Phases.{Phase, with_attempt, of_watches, moved_at, moved_by, said, stepped, after_end, gone, look_by, look_on}
 use Rattle.session_core.specs.Phases.{look_from, asks, after, start}
+use Rattle.session_core.specs.Leading.{Leads}
 use Rattle.session_core.specs.Bounds.{Comes, attempt_calls, calls_of_attempts, most_calls, IsBounded, IsPlain, LinesAreBounded, CallsSuffice}
 use Rattle.session_core.proofs.Attempts.{least-below}
 use Rattle.session_core.proofs.Tries.{tries_are_few}
@@ -93,7 +94,7 @@ module _ (shard front : ℕ) where
       by false h = h
 
   -- the front that came in is found
-  there-now : (fronts : List PreparedFront) → has_front (fronts ++ one ∷ []) shard ≡ true
+  pub there-now : (fronts : List PreparedFront) → has_front (fronts ++ one ∷ []) shard ≡ true
   there-now [] = let e : (shard == shard) ≡ true = grind (arith, nat_tests) in ap (λ x. x || false) e
   there-now (f ∷ fronts) = by (f.shard == shard) (there-now fronts)
     where
@@ -404,6 +405,33 @@ module _ (most n : ℕ) where
 pub comes-within : (most : ℕ) (p : Phase) (n : ℕ) (q : Phase) → Within most 0 p → Comes p n q → Within most n q
 comes-within most p n q h Comes.stays = h
 comes-within most p k r h (Comes.by_answer {n = m} {q = q} call answer before e) = within-on most m q call answer (comes-within most p m q h before) e
+
+-- a way by calls is one by their answers
+comes-by : {B : Type 0} (goes : B → Call → Answer → B → Type 0) (b : B) (p : Phase) (n : ℕ) (c : B) (q : Phase) → Leads goes b p n c q → Comes p n q
+comes-by goes b p n c q Leads.stays = Comes.stays
+comes-by goes b p k c r (Leads.by_step {n = m} {c = c'} {q = q'} call answer led asked step is) =
+    subst (Comes p (m + 1)) is (Comes.by_answer call answer (comes-by goes b p m c' q' led) asked)
+
+-- so where it stays within the most, it is no longer than that
+way-few : {B : Type 0} (goes : B → Call → Answer → B → Type 0) (most : ℕ) (b : B) (p : Phase) (n : ℕ) (c : B) (q : Phase) → Within most 0 p
+    → Leads goes b p n c q → n ≤ most
+way-few goes most b p n c q h led = (bounded most n q (comes-within most p n q h (comes-by goes b p n c q led))).within
+
+-- an attempt has made no more events than it may make
+pub driven-few : {B : Type 0} (goes : B → Call → Answer → B → Type 0) (s : Session) (a : Attempt) (b : B) (n : ℕ) (c : B) (next : Attempt)
+    → Leads goes b (Phase.going s 0 a) n c (Phase.going s 0 next) → n ≤ attempt_calls
+driven-few goes s a b n c next led = way-few goes attempt_calls b (Phase.going s 0 a) n c (Phase.going s 0 next)
+    (record { calls = 0; spent = none-spent a; fewer = omega arith }) led
+
+-- and a look no more reads
+pub looked-few : {B : Type 0} (goes : B → Call → Answer → B → Type 0) (s : Session) (m : ℕ) (body : Checked) (b : B) (n : ℕ) (c : B) (snaps : SnapList)
+    → Leads goes b (look_on s m body []) n c (look_on s m body snaps) → n ≤ TICK_LIMIT
+looked-few goes s m body b n c snaps led = way-few goes TICK_LIMIT b (look_on s m body []) n c (look_on s m body snaps)
+    (looks-within s m body (exec body.body (values_of [])) refl) led
+  where
+    looks-within : (s : Session) (m : ℕ) (body : Checked) (r : Ran) → exec body.body (values_of []) ≡ r → Within TICK_LIMIT 0 (look_by s m body [] r)
+    looks-within s m body (need address) e = record { reads = 0; read = none-read body.body []; needed = e; fewer = omega arith }
+    looks-within s m body (done run) e = omega arith
 
 -- each form of line begins within its bound, whether an attempt is open or not
 begins-within : (shards seen : ℕ) (s : Session) (o : Option Attempt) (l : Line) → AreDistinct s.watching.watches

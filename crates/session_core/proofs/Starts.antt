@@ -12,7 +12,6 @@ use Rattle.docc_prepare.specs.Backends.{Goes}
 use Rattle.session_core.specs.declared.limits.TheConstants.{MOST_CALLS, MOST_EVENTS}
 use Rattle.session_core.specs.declared.error.SessionError.{SessionError}
 use Rattle.session_core.specs.declared.moved.Moved.TheVariants as moved
-use Rattle.session_core.specs.declared.moved.Ended.{Ended}
 use Rattle.session_core.specs.declared.session.Session.{Session}
 use Rattle.session_core.specs.Phases.{Phase, with_attempt, closed, seq_after, ended, said, if_open, unless_open}
 use Rattle.session_core.specs.Leading.{Leads, Reaches, Stops, Moves, Tries, Drives, Closes}
@@ -123,20 +122,19 @@ module _ {B : Type 0} (known : B → Known) (goes : B → Call → Answer → B 
         (step-end known goes (closed s) a last r b c (subst (λ x. Moves known goes (with_attempt s x) a b (moved.End last r) c) none m)))
 
     -- `go`
-    pub go-err : (a : Attempt) (b c : B) (e : SessionError) → s.attempt ≡ Some a → Drives known goes (with_attempt s o) a b (Err e) c
+    pub go-err : (a : Attempt) (b c : B) (e : SessionError) (last : Attempt) → s.attempt ≡ Some a → Drives known goes (with_attempt s o) a b (Err e) last c
         → Stops known goes b (if_open s (Phase.going (closed s) 0)) e c
-    go-err a b c e open_is drives = subst (λ p. Stops known goes b p e c) (sym (some-open (Phase.going (closed s) 0) a open_is))
+    go-err a b c e last open_is drives = subst (λ p. Stops known goes b p e c) (sym (some-open (Phase.going (closed s) 0) a open_is))
         (subst (λ x. Stops known goes b (Phase.going (with_attempt s x) 0 a) e c) none (drives 0))
 
     -- an attempt makes no more events than a line may make calls, and its end is shown since no other may follow
-    pub go-ends : (a : Attempt) (end : Ended) (q : ℕ) (b c : B) → s.attempt ≡ Some a → q ≡ seq_after s.seq end.reply
-        → Drives known goes (with_attempt s o) a b (Ok end) c
-        → Reaches known goes b (if_open s (Phase.going (closed s) 0)) MOST_CALLS c (Phase.over (record s { seq = q; attempt = o }) (said end.reply))
-    go-ends a end q b c open_is seq_is drives = reach-more known goes b (if_open s (Phase.going (closed s) 0)) MOST_EVENTS MOST_CALLS c
-        (Phase.over (ended (closed s) end.reply) (said end.reply))
-        (Phase.over (record s { seq = q; attempt = o }) (said end.reply))
-        (omega arith) (ap (λ t. Phase.over t (said end.reply)) (ended-as s o q end.reply none seq_is))
-        (subst (λ p. Reaches known goes b p MOST_EVENTS c (Phase.over (ended (closed s) end.reply) (said end.reply)))
+    pub go-ends : (a : Attempt) (r : Reply) (last : Attempt) (q : ℕ) (b c : B) → s.attempt ≡ Some a → q ≡ seq_after s.seq r
+        → Drives known goes (with_attempt s o) a b (Ok r) last c
+        → Reaches known goes b (if_open s (Phase.going (closed s) 0)) MOST_CALLS c (Phase.over (record s { seq = q; attempt = o }) (said r))
+    go-ends a r last q b c open_is seq_is drives = reach-more known goes b (if_open s (Phase.going (closed s) 0)) MOST_EVENTS MOST_CALLS c
+        (Phase.over (ended (closed s) r) (said r)) (Phase.over (record s { seq = q; attempt = o }) (said r))
+        (omega arith) (ap (λ t. Phase.over t (said r)) (ended-as s o q r none seq_is))
+        (subst (λ p. Reaches known goes b p MOST_EVENTS c (Phase.over (ended (closed s) r) (said r)))
         (sym (some-open (Phase.going (closed s) 0) a open_is))
         (subst (λ x. Reaches known goes b (Phase.going (with_attempt s x) 0 a) MOST_EVENTS c
-        (Phase.over (ended (with_attempt s x) end.reply) (said end.reply))) none (drives 0)))
+        (Phase.over (ended (with_attempt s x) r) (said r))) none (drives 0)))

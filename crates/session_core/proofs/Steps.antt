@@ -1,5 +1,5 @@
 -- Steps put together.
-use Rattle.std.proofs.Common.{◌≡◌, ℕ, zero, suc, ◌+◌, ◌-◌, ◌*◌, ◌≤◌, ◌<◌, Bool, true, false, cond, inl, inr, ◌⊎◌, List, [], ◌∷◌, length, set, Option}
+use Rattle.std.proofs.Common.{◌≡◌, ℕ, zero, suc, ◌+◌, ◌-◌, ◌≤◌, ◌<◌, Bool, true, false, cond, List, [], ◌∷◌, length, set, Option}
 use Rattle.std.proofs.Common.{Some, None, Result, Ok, Err, refl, sym, ap, ◌∙◌, subst, arith}
 use Rattle.std.specs.Prelude.{nat_lt}
 use Rattle.std.proofs.lemmas.Bool.Decides.{nat_tests}
@@ -24,13 +24,12 @@ use Rattle.session_core.specs.declared.error.SessionError.{SessionError}
 use Rattle.session_core.specs.declared.error.SessionError.TheVariants as error
 use Rattle.session_core.specs.declared.moved.Moved.{Moved}
 use Rattle.session_core.specs.declared.moved.Moved.TheVariants as moved
-use Rattle.session_core.specs.declared.moved.Ended.{Ended}
 use Rattle.session_core.specs.declared.session.Session.{Session}
 use Rattle.session_core.specs.declared.turn.Turn.{Turn}
 use Rattle.session_core.specs.Errors.{error_of}
 use Rattle.session_core.specs.Phases.{Phase, with_attempt, closed, ended, afresh, event_call, call_of, moved_at, moved_by, said, stepped, is_abort}
 use Rattle.session_core.specs.Phases.{after_end, gone, look_by, look_on, look_from, asks, after}
-use Rattle.session_core.specs.Leading.{Leads, Reaches, Arrives, Stops, Went, Turned, Moves, Tries, Makes, MakesOn, Drives, Closes, Replies}
+use Rattle.session_core.specs.Leading.{Leads, Reaches, Arrives, Stops, Went, Turned, Moves, Tries, Makes, MakesOn, Drives, Attempts, Closes, Replies}
 use Rattle.session_core.specs.Leading.{LooksAt, Valued, turn_of}
 use Rattle.session_core.specs.Holding.{Holds, Attends}
 use Rattle.session_core.proofs.Phases.{PhaseHolds, plain-on, phase-kept}
@@ -88,12 +87,6 @@ pub tried-again : (s : Session) (left : ℕ) (a : Attempt) (r : Reply) → is_ab
 tried-again s left a (reply.Abort w) e = refl
 tried-again s left a r e = absurd (cc)
 
--- what follows an end
-pub none-follows : (s : Session) (left : ℕ) (a : Attempt) (r : Reply) → (left ≡ 0) ⊎ (is_abort r ≡ false)
-    → after_end s left a r ≡ Phase.over (ended s r) (said r)
-none-follows s left a r (inl e) = shown-last s left a r e
-none-follows s left a r (inr e) = shown-other s left a r e
-
 -- behind an abort another attempt follows where one may, and then one less may follow it
 pub one-follows : (s : Session) (left : ℕ) (a : Attempt) (r : Reply) → 0 < left → is_abort r ≡ true
     → after_end s left a r ≡ Phase.trying s (left - 1) (afresh a)
@@ -147,9 +140,14 @@ module _ {B : Type 0} (known : B → Known) (goes : B → Call → Answer → B 
   looks-err s n body b result e c is stops = subst (λ r. LooksAt known goes s n body b r c) (sym is) stops
 
   -- the same of an attempt that is driven, whatever number of attempts may follow it
-  pub drives-err : (s : Session) (a : Attempt) (b : B) (result : Result Ended SessionError) (e : SessionError) (c : B) → result ≡ Err e
-      → ((left : ℕ) → Stops known goes b (Phase.going s left a) e c) → Drives known goes s a b result c
-  drives-err s a b result e c is stops = subst (λ r. Drives known goes s a b r c) (sym is) stops
+  pub drives-err : (s : Session) (a : Attempt) (b : B) (result : Result Reply SessionError) (e : SessionError) (last : Attempt) (c : B) → result ≡ Err e
+      → ((left : ℕ) → Stops known goes b (Phase.going s left a) e c) → Drives known goes s a b result last c
+  drives-err s a b result e last c is stops = subst (λ r. Drives known goes s a b r last c) (sym is) stops
+
+  -- and of one that begins with a refresh
+  pub attempts-err : (s : Session) (a : Attempt) (b : B) (result : Result Reply SessionError) (e : SessionError) (last : Attempt) (c : B) → result ≡ Err e
+      → ((left : ℕ) → Stops known goes b (Phase.trying s left a) e c) → Attempts known goes s a b result last c
+  attempts-err s a b result e last c is stops = subst (λ r. Attempts known goes s a b r last c) (sym is) stops
 
   -- the same of the line
   pub went-err : (b : B) (p : Phase) (result : Result Turn SessionError) (e : SessionError) (c : B) (s : Session) → result ≡ Err e
@@ -323,72 +321,49 @@ module _ {B : Type 0} (known : B → Known) (goes : B → Call → Answer → B 
     leads = subst (λ x. Leads (Goes known goes) b p h.count c x) is h.leads;
   }
 
-  -- one attempt of several
-  pub tried : (b : B) (p : Phase) (t : ℕ) (c : B) (s : Session) (left : ℕ) (a : Attempt) (n : ℕ) (c' d : B) (end : Ended)
-      → Reaches known goes b p (t * (MOST_EVENTS + 1)) c (Phase.trying s left a)
-      → Goes known goes c refresh (Answer.number n) c' → Drives known goes s a c' (Ok end) d
-      → Reaches known goes b p ((t + 1) * (MOST_EVENTS + 1)) d (after_end s left end.attempt end.reply)
-  tried b p t c s left a n c' d end first step drives = let rest = drives left in record {
-    count = first.count + 1 + rest.count;
-    few = let f = first.few in let r = rest.few in omega arith;
-    leads = leads-on (Goes known goes) b p c' (Phase.going s left a) (first.count + 1) d (after_end s left end.attempt end.reply) rest.count
-        (Leads.by_step refresh (Answer.number n) first.leads refl step refl) rest.leads;
-  }
+  -- an attempt is a refresh, and then its events
+  pub attempted : (s : Session) (a : Attempt) (n : ℕ) (b c : B) (result : Result Reply SessionError) (last : Attempt) (d : B)
+      → Goes known goes b refresh (Answer.number n) c → Drives known goes s a c result last d → Attempts known goes s a b result last d
+  attempted s a n b c (Ok reply) last d step drives = λ left. reaches-on known goes b (Phase.trying s left a) 1 c (Phase.going s left a)
+      (MOST_EVENTS + 1) MOST_EVENTS d (after_end s left last reply) (omega arith)
+      (one-led (Goes known goes) b c (Phase.trying s left a) (Phase.going s left a) refresh (Answer.number n) refl step refl) (drives left)
+  attempted s a n b c (Err e) last d step drives = λ left. stops-on known goes b (Phase.trying s left a) 1 c (Phase.going s left a) e d
+      (one-led (Goes known goes) b c (Phase.trying s left a) (Phase.going s left a) refresh (Answer.number n) refl step refl) (drives left)
 
-  -- the way to the attempt, its refresh, and then as far as its events have come
-  pub tried-stops : (b : B) (p : Phase) (t : ℕ) (c : B) (s : Session) (left : ℕ) (a : Attempt) (n : ℕ) (c' d : B) (e : SessionError)
-      → Reaches known goes b p t c (Phase.trying s left a)
-      → Goes known goes c refresh (Answer.number n) c' → Drives known goes s a c' (Err e) d → Stops known goes b p e d
-  tried-stops b p t c s left a n c' d e first step drives =
-      stops-on known goes b p (first.count + 1) c' (Phase.going s left a) e d (Leads.by_step refresh (Answer.number n) first.leads refl step refl) (drives left)
+  -- a refresh before an attempt that failed
+  pub attempt-stops : (s : Session) (a : Attempt) (b : B) (e : SessionError) (x : StoreError) (c : B) → e ≡ error_of x
+      → Goes known goes b refresh (number_answered (Err x)) c → (left : ℕ) → Stops known goes b (Phase.trying s left a) e c
+  attempt-stops s a b e x c is step left = refresh-stops known goes b (Phase.trying s left a) 0 b (Phase.trying s left a) e x c refl
+      (λ f. refl) is Leads.stays step
 
-  -- before the first attempt
-  pub tries-begin : (b : B) (s : Session) (n m : ℕ) (a : Attempt) → n ≡ m → Reaches known goes b (Phase.trying s n a) 0 b (Phase.trying s m a)
-  tries-begin b s n m a e = record {
-    count = 0;
-    few = omega arith;
-    leads = subst (λ (k : ℕ). Leads (Goes known goes) b (Phase.trying s n a) 0 b
-        (Phase.trying s k a)) e Leads.stays;
-  }
+  module _ (b : B) (p : Phase) (most : ℕ) (c : B) (s : Session) (left : ℕ) (a : Attempt) (reach : Reaches known goes b p most c (Phase.trying s left a)) where
+    -- what holds at first holds of the attempt that it has come to
+    pub tried-holds : PhaseHolds (known b) p → Attends (known c) (closed s) × Holds (known c) a
+    tried-holds h = led-holds known goes b p reach.count c (Phase.trying s left a) h reach.leads
 
-  -- another attempt follows
-  pub another : (b : B) (p : Phase) (t : ℕ) (c : B) (s : Session) (left : ℕ) (a : Attempt) (n : ℕ) (c' d : B) (end : Ended) (further : ℕ) (next : Attempt)
-      → Reaches known goes b p (t * (MOST_EVENTS + 1)) c (Phase.trying s left a) → Goes known goes c refresh (Answer.number n) c'
-      → Drives known goes s a c' (Ok end) d
-      → after_end s left end.attempt end.reply ≡ Phase.trying s further next
-      → Reaches known goes b p ((t + 1) * (MOST_EVENTS + 1)) d (Phase.trying s further next)
-  another b p t c s left a n c' d end further next first step drives is = reach-more b p ((t + 1) * (MOST_EVENTS + 1)) ((t + 1) * (MOST_EVENTS + 1)) d
-      (after_end s left end.attempt end.reply) (Phase.trying s further next) (omega arith) is (tried b p t c s left a n c' d end first step drives)
+    -- one attempt more, to its end
+    pub tried : (r : Reply) (last : Attempt) (d : B) (q : Phase) → after_end s left last r ≡ q → Attempts known goes s a c (Ok r) last d
+        → Reaches known goes b p (most + (MOST_EVENTS + 1)) d q
+    tried r last d q is attempts = reach-more b p (most + (MOST_EVENTS + 1)) (most + (MOST_EVENTS + 1)) d (after_end s left last r) q (omega arith) is
+        (reaches-on known goes b p reach.count c (Phase.trying s left a) (most + (MOST_EVENTS + 1)) (MOST_EVENTS + 1) d (after_end s left last r)
+        (let few = reach.few in omega arith) reach.leads (attempts left))
 
-  -- none follows
-  pub tries-end : (b : B) (p : Phase) (t : ℕ) (c : B) (s : Session) (left : ℕ) (a : Attempt) (n : ℕ) (c' d : B) (end : Ended) (reply : Reply) → t < 255
-      → Reaches known goes b p (t * (MOST_EVENTS + 1)) c (Phase.trying s left a) → Goes known goes c refresh (Answer.number n) c'
-      → Drives known goes s a c' (Ok end) d
-      → after_end s left end.attempt end.reply ≡ Phase.over (ended s reply) (said reply)
-      → Reaches known goes b p MOST_CALLS d (Phase.over (ended s reply) (said reply))
-  tries-end b p t c s left a n c' d end reply few first step drives is = reach-more b p ((t + 1) * (MOST_EVENTS + 1)) MOST_CALLS d
-      (after_end s left end.attempt end.reply) (Phase.over (ended s reply) (said reply)) (omega arith) is (tried b p t c s left a n c' d end first step drives)
+    -- or as far as its events have come
+    pub tried-stops : (e : SessionError) (last : Attempt) (d : B) → Attempts known goes s a c (Err e) last d → Stops known goes b p e d
+    tried-stops e last d attempts = stops-on known goes b p reach.count c (Phase.trying s left a) e d reach.leads (attempts left)
+
+    -- where none may follow, what the attempt comes to is what they come to
+    pub tried-last : (result : Result Reply SessionError) (last : Attempt) (d : B) → left ≡ 0 → most + (MOST_EVENTS + 1) ≤ MOST_CALLS
+        → Attempts known goes s a c result last d → Closes known goes s b p result d
+    tried-last (Ok r) last d none few attempts = reach-more b p (most + (MOST_EVENTS + 1)) MOST_CALLS d (Phase.over (ended s r) (said r))
+        (Phase.over (ended s r) (said r)) few refl (tried r last d (Phase.over (ended s r) (said r)) (shown-last s left last r none) attempts)
+    tried-last (Err e) last d none few attempts = tried-stops e last d attempts
 
   -- what holds of an attempt holds after a refresh
   pub refreshed : (b c : B) (s : Session) (a : Attempt) (n : ℕ) → Attends (known b) (closed s) → Holds (known b) a
       → Goes known goes b refresh (Answer.number n) c
       → Attends (known c) (closed s) × Holds (known c) a
   refreshed b c s a n at holds step = phase-kept (known b) (known c) (Phase.trying s 0 a) refresh (Answer.number n) (at, holds) refl step.answered
-
-  -- and of the one that follows
-  pub another-holds : (c d : B) (s : Session) (left : ℕ) (a : Attempt) (end : Ended) (further : ℕ) (next : Attempt) → Attends (known c) (closed s)
-      → Holds (known c) a
-      → Drives known goes s a c (Ok end) d → after_end s left end.attempt end.reply ≡ Phase.trying s further next
-      → Attends (known d) (closed s) × Holds (known d) next
-  another-holds c d s left a end further next at holds drives is = let rest = drives left in
-      subst (PhaseHolds (known d)) is (led-holds known goes c (Phase.going s left a) rest.count d (after_end s left end.attempt end.reply)
-      (at, holds) rest.leads)
-
-  -- a refresh before an attempt that failed
-  pub tries-stop : (b : B) (p : Phase) (t : ℕ) (c : B) (s : Session) (left : ℕ) (a : Attempt) (e : SessionError) (x : StoreError) (d : B) → e ≡ error_of x
-      → Reaches known goes b p t c (Phase.trying s left a) → Goes known goes c refresh (number_answered (Err x)) d → Stops known goes b p e d
-  tries-stop b p t c s left a e x d is first step = refresh-stops known goes b p first.count c (Phase.trying s left a) e x d refl
-      (λ f. refl) is first.leads step
 
   -- a refresh adds no commit of the client's, and keeps what was given
   pub look-attends : (b c : B) (s : Session) (n : ℕ) → Attends (known b) s → Goes known goes b refresh (Answer.number n) c → Attends (known c) s

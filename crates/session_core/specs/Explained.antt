@@ -193,8 +193,10 @@ AtPasses set journal low asked_for body (reply.Ahead n m) = (n ≡ asked_for) ×
 -- nothing else answers it
 AtPasses set journal low asked_for body r = ⊥
 
+-- `seen` and `begin`: how many commits the client has seen, not below what was shown
 abbrev pub SeenPasses : Journal → ℕ → Reply → Type 0
 SeenPasses journal low (reply.Seen n) = IsShown low journal n
+-- nothing else answers them
 SeenPasses journal low r = ⊥
 
 -- ---- lines
@@ -251,9 +253,11 @@ abbrev pub ByAll : (List Reply → Type 0) → Turn → Type 0
 ByAll P (turn.Replies replies) = P replies
 ByAll P t = ⊥
 
--- `wait`: there is no commit yet past those that were seen; or there was one, and the rest is as for `sync`
+-- `wait`, a row an answer
 abbrev pub WaitPasses : Setting → Journal → Story → Turn → ShownList → Type 0
+-- there is no commit yet past those that were seen, and no watch has changed
 WaitPasses set journal y turn.WaitWanted later = later ≡ y.watches
+-- there was one: the rest is as for `sync`, past all that was shown
 WaitPasses set journal y t later = ByAll (λ replies. SyncPasses set.window journal (y.low + 1) y.watches replies later) t
 
 -- WHICH ANSWER PASSES FOR A LINE, a row a form of line, and which watches there are then, each with the number of its last report.

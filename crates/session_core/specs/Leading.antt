@@ -18,9 +18,6 @@ use Rattle.session_core.specs.declared.line.Line.{Line}
 use Rattle.session_core.specs.declared.line.Line.TheVariants as asked
 use Rattle.session_core.specs.declared.moved.Moved.{Moved}
 use Rattle.session_core.specs.declared.moved.Moved.TheVariants as moved
-use Rattle.session_core.specs.declared.moved.Ended.{Ended}
-use Rattle.session_core.specs.declared.moved.Followed.{Followed}
-use Rattle.session_core.specs.declared.moved.Followed.TheVariants as followed
 use Rattle.session_core.specs.declared.session.Session.{Session}
 use Rattle.session_core.specs.declared.error.SessionError.{SessionError}
 use Rattle.session_core.specs.declared.error.SessionError.TheVariants as error
@@ -28,7 +25,7 @@ use Rattle.session_core.specs.declared.turn.Turn.{Turn}
 use Rattle.session_core.specs.declared.turn.Turn.TheVariants as turn
 use Rattle.client_watches.specs.declared.error.WatchError.{WatchError}
 use Rattle.session_core.specs.Errors.{of_watch_error}
-use Rattle.session_core.specs.Phases.{Phase, asks, after, call_of, moved_by, ended, after_end, said, look_on, start}
+use Rattle.session_core.specs.Phases.{Phase, asks, after, call_of, moved_by, ended, afresh, after_end, said, look_on, start}
 
 -- From one state and phase to another by so many steps of a relation, each of them the call that the phase asks for.
 pub data Leads {B : Type 0} (goes : B → Call → Answer → B → Type 0) (b : B) (p : Phase) : ℕ → B → Phase → Type 0 where
@@ -133,14 +130,22 @@ MakesOn known goes s a old (Err e) last new = Tries known goes s a old e new
 -- ---- more events
 
 -- events of an attempt until its end, whatever number of attempts may follow
-abbrev pub Drives : {B : Type 0} → (B → Known) → (B → Call → Answer → B → Type 0) → Session → Attempt → B → Result Ended SessionError → B → Type 0
-Drives known goes s a old (Ok end) new = (left : ℕ) → Reaches known goes old (Phase.going s left a) MOST_EVENTS new (after_end s left end.attempt end.reply)
-Drives known goes s a old (Err e) new = (left : ℕ) → Stops known goes old (Phase.going s left a) e new
+abbrev pub Drives : {B : Type 0} → (B → Known) → (B → Call → Answer → B → Type 0) → Session → Attempt → B → Result Reply SessionError → Attempt
+    → B → Type 0
+Drives known goes s a old (Ok reply) last new = (left : ℕ) → Reaches known goes old (Phase.going s left a) MOST_EVENTS new (after_end s left last reply)
+Drives known goes s a old (Err e) last new = (left : ℕ) → Stops known goes old (Phase.going s left a) e new
 
--- the phase behind an attempt's end, where so many attempts may follow
-abbrev pub followed_by : Session → ℕ → Followed → Phase
-followed_by s left (followed.Again a) = Phase.trying s (left - 1) a
-followed_by s left (followed.Shown reply) = Phase.over (ended s reply) (said reply)
+-- the same behind a refresh
+abbrev pub Attempts : {B : Type 0} → (B → Known) → (B → Call → Answer → B → Type 0) → Session → Attempt → B → Result Reply SessionError → Attempt
+    → B → Type 0
+Attempts known goes s a old (Ok reply) last new =
+    (left : ℕ) → Reaches known goes old (Phase.trying s left a) (MOST_EVENTS + 1) new (after_end s left last reply)
+Attempts known goes s a old (Err e) last new = (left : ℕ) → Stops known goes old (Phase.trying s left a) e new
+
+-- what follows an attempt's end, where so many attempts may follow: the reply is shown, or another attempt begins
+abbrev pub followed_by : Session → ℕ → Attempt → Option Reply → Phase
+followed_by s left a (Some reply) = Phase.over (ended s reply) (said reply)
+followed_by s left a None = Phase.trying s (left - 1) (afresh a)
 
 -- what a verb comes to: one reply, and the session after it
 abbrev pub Replies : {B : Type 0} → (B → Known) → (B → Call → Answer → B → Type 0) → B → Phase → Result Reply SessionError → B → Session → Type 0

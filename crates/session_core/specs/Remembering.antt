@@ -5,7 +5,8 @@ use Rattle.txn_lang.specs.declared.run.Run.{Run}
 use Rattle.txn_lang.specs.Execution.{done}
 use Rattle.docc_prepare.specs.declared.attempt.Attempt.{Attempt}
 use Rattle.abort_witness.specs.declared.witness.Based.{Based}
-use Rattle.docc_prepare.specs.Attempts.{ran, based, PausesAt}
+use Rattle.docc_prepare.specs.declared.attempt.Next.TheVariants as next
+use Rattle.docc_prepare.specs.Attempts.{ran, based, next_event, PausesAt}
 use Rattle.session_core.specs.declared.remembered.Ran.{Ran}
 use Rattle.session_core.specs.declared.remembered.Remembered.{Remembered}
 
@@ -13,13 +14,15 @@ use Rattle.session_core.specs.declared.remembered.Remembered.{Remembered}
 abbrev pub AreAllOf : Attempt → Run → Option (List Based) → Type 0
 AreAllOf a run known = IfSome known (λ all. all ≡ based a.snaps run.observations)
 
--- a run that is known is the attempt's
-abbrev pub IsRunOf : Attempt → Option Ran → Type 0
-IsRunOf a known = IfSome known (λ it. (ran a ≡ done it.run) × AreAllOf a it.run it.based)
+-- A run that is known is the attempt's. Where its observations have their bases at hand, its append is next.
+pub record IsRunOf (a : Attempt) (it : Ran) : Type 0 where
+  pub done_is : ran a ≡ done it.run
+  pub all : AreAllOf a it.run it.based
+  pub append : IfSome it.based (λ based. next_event a ≡ next.Append it.run)
 
 -- and a pause that is known is one that its run comes to
 pub record IsKnownOf (a : Attempt) (known : Remembered) : Type 0 where
-  pub ran : IsRunOf a known.ran
+  pub ran : IfSome known.ran (IsRunOf a)
   pub pause : PausesAt a known.pause
 
 -- and so it is after an event, where the attempt hasn't ended with a reply

@@ -1,43 +1,58 @@
-//! Attempts of a session: one event, events to the end, and attempts one after another.
+//! Attempts of a session: events to the end, and attempts one after another.
 
-ghost use Rattle.std.specs.Prelude.{◌≡◌, ◌-◌, ◌<◌, ◌^◌, None};
+ghost use Rattle.std.specs.Prelude.{◌≡◌, ◌-◌, ◌<◌, ℕ, None};
 ghost use Rattle.docc_prepare.specs.Calls.{Known};
 ghost use Rattle.session_core.specs.Phases as spec;
 ghost use Rattle.session_core.specs.Phases.{Phase, closed, after_end};
 ghost use Rattle.session_core.specs.Holding.{Attends, Holds};
-ghost use Rattle.session_core.specs.Leading.{Drives, Closes, followed_by};
+ghost use Rattle.session_core.specs.Leading.{Drives, Attempts, Closes, followed_by};
 
 use crate::error::SessionError;
 use crate::event::event_on;
 use crate::limits::MOST_EVENTS;
-use crate::moved::{Ended, Followed};
 use crate::remembered::Remembered;
 use crate::session::Session;
 use docc_prepare::{Attempt, Backend};
 use session_text::Reply;
 use std::alloc::Global;
 
-/// Makes events of an attempt until its end.
+/// Makes events of an attempt until its end, and answers the reply that shows that.
 pub fn drive<B: Backend>(
     alloc: Global,
     backend: &mut B,
     session: &Session,
-    attempt: Attempt,
-) -> Result<Ended, SessionError>
+    attempt: &mut Attempt,
+) -> Result<Reply, SessionError>
     requires attends { Attends (B.known backend.old) (closed session.now) }
-    requires holds { Holds (B.known backend.old) attempt }
-    ensures drives { Drives B.known B.goes session.now attempt backend.old result backend.new }
+    requires holds { Holds (B.known backend.old) attempt.old }
+    ensures drives { Drives B.known B.goes session.now attempt.old backend.old result attempt.new backend.new }
     ensures home { B.home backend.new ≡ B.home backend.old }
 {
-    let mut attempt = attempt;
     let mut known = Remembered::nothing(alloc);
     for _ in 0..MOST_EVENTS {
-        let end = event_on(alloc, backend, session, &mut attempt, &mut known)?;
+        let end = event_on(alloc, backend, session, attempt, &mut known)?;
         if let Some(reply) = end {
-            return Ok(Ended { attempt, reply });
+            return Ok(reply);
         }
     }
-    Err(SessionError::NoMemory)
+    // An attempt makes no more events than its run has ticks, the store has shards, and one.
+    unreachable!()
+}
+
+/// One attempt from its beginning to its end: a refresh, and its events.
+fn attempt_once<B: Backend>(
+    alloc: Global,
+    backend: &mut B,
+    session: &Session,
+    attempt: &mut Attempt,
+) -> Result<Reply, SessionError>
+    requires attends { Attends (B.known backend.old) (closed session.now) }
+    requires holds { Holds (B.known backend.old) attempt.old }
+    ensures attempts { Attempts B.known B.goes session.now attempt.old backend.old result attempt.new backend.new }
+    ensures home { B.home backend.new ≡ B.home backend.old }
+{
+    backend.refresh()?;
+    drive(alloc, backend, session, attempt)
 }
 
 /// The attempt, of which nothing is read any more.
@@ -58,18 +73,17 @@ fn is_abort(reply: &Reply) -> bool
     }
 }
 
-/// What follows an attempt's end, where so many attempts may follow: another attempt, or the reply is shown.
-fn following(alloc: Global, left: u8, end: Ended) -> Followed
-    ensures { (s : Session) → after_end s left end.attempt end.reply ≡ followed_by s left result }
+/// The reply with which an attempt ends, unless it is an abort: behind that another attempt may follow.
+fn unless_abort(reply: Reply) -> Option<Reply>
+    ensures { (s : Session) (left : ℕ) (a : Attempt) → 0 < left → after_end s left a reply ≡ followed_by s left a result }
 {
-    let Ended { attempt, reply } = end;
-    if left == 0 || !is_abort(&reply) {
-        return Followed::Shown(reply);
+    if is_abort(&reply) {
+        return None;
     }
-    Followed::Again(afresh(alloc, attempt))
+    Some(reply)
 }
 
-/// Makes attempts at a body, at most so many, until one doesn't end in an abort. Each begins with a refresh.
+/// Makes attempts at a body, one at least and at most so many, until one doesn't end in an abort. It answers the last end.
 pub fn try_times<B: Backend>(
     alloc: Global,
     backend: &mut B,
@@ -83,13 +97,12 @@ pub fn try_times<B: Backend>(
     ensures home { B.home backend.new ≡ B.home backend.old }
 {
     let mut attempt = attempt;
-    for turn in 0..tries {
-        backend.refresh()?;
-        let end = drive(alloc, backend, session, attempt)?;
-        match following(alloc, tries - 1 - turn, end) {
-            Followed::Again(next) => attempt = next,
-            Followed::Shown(reply) => return Ok(reply),
+    for _ in 1..tries {
+        let reply = attempt_once(alloc, backend, session, &mut attempt)?;
+        if let Some(shown) = unless_abort(reply) {
+            return Ok(shown);
         }
+        attempt = afresh(alloc, attempt);
     }
-    Err(SessionError::NoMemory)
+    attempt_once(alloc, backend, session, &mut attempt)
 }

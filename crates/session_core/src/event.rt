@@ -1,14 +1,14 @@
 //! One event of an attempt: the call that its next event is, and what the answer makes of it.
 
-ghost use Rattle.std.specs.Prelude.{◌≡◌, ◌<◌, ◌^◌, ℕ, length, Some, None, IfOk, OnOk, Err};
+ghost use Rattle.std.specs.Prelude.{◌≡◌, ◌<◌, ◌^◌, ℕ, length, Some, None, IfOk, IfSome, OnOk, Err};
 ghost use Rattle.txn_lang.specs.declared.run.Run.{Run};
 ghost use Rattle.docc_prepare.specs.declared.attempt.Attempt.{Attempt};
-ghost use Rattle.docc_prepare.specs.Attempts.{in_shard, based, next_event, ready_of, KeepsPauses, Prepares};
+ghost use Rattle.docc_prepare.specs.Attempts.{in_shard, based, next_event, ready_of, with_front, KeepsPauses, Prepares};
 ghost use Rattle.docc_prepare.specs.Calls.{snap_answered, front_answered, commit_answered};
 ghost use Rattle.session_core.specs.Phases.{closed};
 ghost use Rattle.session_core.specs.Holding.{Attends, Holds};
 ghost use Rattle.session_core.specs.Leading.{Turned, Makes, MakesOn, Appends, moved_on_read, moved_on_prepare, moved_on_append};
-ghost use Rattle.session_core.specs.Remembering.{AreAllOf, IsKnownOf, Remembers};
+ghost use Rattle.session_core.specs.Remembering.{AreAllOf, IsRunOf, IsKnownOf, Remembers};
 
 use crate::error::SessionError;
 use crate::limits::MOST_OBSERVATIONS;
@@ -57,7 +57,7 @@ fn after_prepare(
     requires { Prepares attempt.old shard }
     ensures turned { Turned attempt.old (front_answered answer) (moved_on_prepare shard attempt.new result) }
     ensures pauses { IfOk result (λ front. OnOk front (KeepsPauses attempt.old attempt.new)) }
-    ensures snaps { IfOk result (λ front. OnOk front (attempt.new.snaps ≡ attempt.old.snaps)) }
+    ensures front { IfOk result (λ front. IfOk front (λ f. attempt.new ≡ with_front attempt.old shard f)) }
 {
     match answer {
         Ok(prepared) => {
@@ -146,9 +146,11 @@ fn based_here(
     }
 }
 
-/// What a run observed in one shard, where that is all that it observed.
+/// What a run observed in one shard, where that is all that it observed: then its append is next once the shard is prepared.
 fn whole(run: &Run, here: BasedList) -> Option<BasedList>
-    ensures { (a : Attempt) (shard : ℕ) → here ≡ in_shard a.shards shard (based a.snaps run.now.observations) → AreAllOf a run.now result }
+    ensures all { (a : Attempt) (shard : ℕ) → here ≡ in_shard a.shards shard (based a.snaps run.now.observations) → AreAllOf a run.now result }
+    ensures append { (a : Attempt) (shard front : ℕ) → here ≡ in_shard a.shards shard (based a.snaps run.now.observations) →
+        next_event a ≡ Next.Prepare shard run.now → IfSome result (λ all. next_event (with_front a shard front) ≡ Next.Append run.now) }
 {
     if here.len() == run.observations.len() {
         Some(here)
@@ -174,7 +176,7 @@ fn prepare_event<B: Backend>(
     requires few { length run.now.observations < 2 ^ 32 }
     ensures makes { Makes B.known B.goes session.now attempt.old backend.old (moved_on_prepare shard attempt.new result) backend.new }
     ensures pauses { IfOk result (λ front. OnOk front (KeepsPauses attempt.old attempt.new)) }
-    ensures snaps { IfOk result (λ front. OnOk front (attempt.new.snaps ≡ attempt.old.snaps)) }
+    ensures front { IfOk result (λ front. IfOk front (λ f. attempt.new ≡ with_front attempt.old shard f)) }
     ensures home { B.home backend.new ≡ B.home backend.old }
 {
     let answer = backend.prepare(shard, all);
@@ -250,6 +252,20 @@ fn append_event<B: Backend>(
     after_append(attempt, run.outcome, answer)
 }
 
+/// The next event of an attempt whose run is known, and what that observed with bases, where it is at hand. The append is next then.
+fn next_known(attempt: &Attempt, ran: Ran) -> (Next, Option<BasedList>)
+    requires { IsRunOf attempt.now ran }
+    ensures next { result.0 ≡ next_event attempt.now }
+    ensures based { (run : Run) → result.0 ≡ Next.Append run → AreAllOf attempt.now run result.1 }
+{
+    let Ran { run, based } = ran;
+    let next = match based {
+        Some(_) => Next::Append(run),
+        None => attempt.next_on(run),
+    };
+    (next, based)
+}
+
 /// The next event of an attempt, by what is known of its run, and what that observed with bases, where it is at hand. A run that
 /// is known is taken.
 fn next_of(
@@ -264,8 +280,8 @@ fn next_of(
     ensures taken { IfOk result (λ next. known.new.ran ≡ None) }
     ensures err { (e : SessionError) → result ≡ Err e → e ≡ SessionError.NoMemory }
 {
-    if let Some(Ran { run, based }) = known.ran.take() {
-        return Ok((attempt.next_on(run), based));
+    if let Some(ran) = known.ran.take() {
+        return Ok(next_known(attempt, ran));
     }
     match attempt.next_from(alloc, &mut known.pause) {
         Ok(next) => Ok((next, None)),

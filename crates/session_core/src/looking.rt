@@ -69,7 +69,8 @@ fn look_at<B: Backend>(
             }
         }
     }
-    Err(SessionError::NoMemory)
+    // A run needs no more values than it has ticks.
+    unreachable!()
 }
 
 /// Runs a body on the prefix of so many commits, or on all that is seen now.

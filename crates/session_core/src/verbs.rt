@@ -10,7 +10,7 @@ use crate::driving::{drive, try_times};
 use crate::error::SessionError;
 use crate::event::event;
 use crate::line::Line;
-use crate::moved::{Ended, Moved};
+use crate::moved::Moved;
 use crate::session::Session;
 use docc_prepare::{Attempt, Backend};
 use session_text::{Reply, Why};
@@ -127,7 +127,8 @@ pub fn go<B: Backend>(
     match session.attempt.take() {
         None => Ok(Reply::Refused(Why::NoAttempt)),
         Some(attempt) => {
-            let Ended { reply, .. } = drive(alloc, backend, session, attempt)?;
+            let mut attempt = attempt;
+            let reply = drive(alloc, backend, session, &mut attempt)?;
             session.seq = next_seq(session.seq, &reply);
             Ok(reply)
         }

@@ -1,4 +1,4 @@
--- What the readers of lines answer, want of memory aside. The clauses of `read_line` and `body_of` tie what they read to the rules:
+-- What the readers of lines answer, want of memory aside. The clauses of `read_line` and `read_body` tie what they read to the rules:
 -- `line_of` of specs/Lines and `body_of` of specs/Bodies.
 use Rattle.std.specs.Prelude.{◌≡◌, Result, Ok, Err}
 use Rattle.std.specs.declared.alloc.AllocError.{AllocError}

@@ -1,11 +1,13 @@
 use Rattle.std.proofs.Common.{ℕ, ◌+◌, Option, Ok, refl, subst, sym, ◌∙◌, arith}
 use Rattle.std.proofs.lemmas.Result.{err_from_is_err_and}
 use Rattle.session_text.specs.declared.reply.Reply.{Reply}
+use Rattle.docc_prepare.specs.Backends.{Goes}
 use Rattle.session_core.specs.declared.error.SessionError.{SessionError}
 use Rattle.session_core.specs.Phases.{Phase}
 use Rattle.session_core.specs.Leading.{Leads, Tries, MakesOn, GoesOn}
 use Rattle.session_core.specs.Remembering.{Remembers}
-use Rattle.session_core.proofs.Steps.{more-led, end-led, made-stops, stopped-here, drives-err, led-holds}
+use Rattle.session_core.proofs.Bounds.{driven-few}
+use Rattle.session_core.proofs.Steps.{more-led, end-led, made-stops, drives-err, led-holds}
 use Rattle.session_core.proofs.driving.drive.Goals as goal
 
 pub loop-init : goal.loop-init
@@ -13,16 +15,17 @@ loop-init g c = record {
   led = λ left. Leads.stays;
   attends = c.requires.attends;
   holds = c.requires.holds;
-  known = c.nothing-known.ensures c.args.attempt;
+  known = c.nothing-known.ensures c.args.attempt.now;
   home = refl;
 }
 
 pub returns-in_err-end-clause-drives : goal.returns-in_err-end-clause-drives
 returns-in_err-end-clause-drives g c =
     let p = err_from_is_err_and c.from_residual.result c.from_residual.ensures.1 in
-    drives-err g.B.Backend.known g.B.Backend.goes c.args.session.now c.args.attempt c.args.backend.now c.from_residual.result p.0 c.event_on.new.backend p.1
+    drives-err g.B.Backend.known g.B.Backend.goes c.args.session.now c.args.attempt.now c.args.backend.now c.from_residual.result p.0
+    c.event_on.new.attempt c.event_on.new.backend p.1
     (λ left. made-stops g.B.Backend.known g.B.Backend.goes c.args.backend.now
-    (Phase.going c.args.session.now left c.args.attempt) c.loop.counter c.loop.backend c.event_on.new.backend c.args.session.now left c.loop.attempt
+    (Phase.going c.args.session.now left c.args.attempt.now) c.loop.counter c.loop.backend c.event_on.new.backend c.args.session.now left c.loop.attempt
     (c.loop.invariant.led left) p.0
     (subst (λ (e : SessionError). Tries g.B.Backend.known g.B.Backend.goes c.args.session.now c.loop.attempt c.loop.backend e c.event_on.new.backend)
     (sym p.2) c.in_err-end.ensures.makes))
@@ -31,7 +34,7 @@ pub returns-in-Some-clause-drives : goal.returns-in-Some-clause-drives
 returns-in-Some-clause-drives g c = λ left. record {
   count = c.loop.counter + 1;
   few = omega arith;
-  leads = end-led g.B.Backend.known g.B.Backend.goes c.args.backend.now (Phase.going c.args.session.now left c.args.attempt) c.loop.counter
+  leads = end-led g.B.Backend.known g.B.Backend.goes c.args.backend.now (Phase.going c.args.session.now left c.args.attempt.now) c.loop.counter
       c.loop.backend c.event_on.new.backend c.args.session.now left c.loop.attempt
       (c.loop.invariant.led left) c.event_on.new.attempt c.in-Some.reply
       (subst (λ (o : Option Reply). MakesOn g.B.Backend.known g.B.Backend.goes c.args.session.now c.loop.attempt c.loop.backend (Ok o)
@@ -44,9 +47,9 @@ loop-preserved g c =
     subst (λ (o : Option Reply). MakesOn g.B.Backend.known g.B.Backend.goes c.args.session.now c.loop.attempt c.loop.backend (Ok o)
     c.event_on.new.attempt c.event_on.new.backend) c.in_default.is c.in_ok-end.ensures.makes in
     let led = λ (left : ℕ). more-led g.B.Backend.known g.B.Backend.goes c.args.backend.now
-    (Phase.going c.args.session.now left c.args.attempt) c.loop.counter c.loop.backend c.event_on.new.backend c.args.session.now left c.loop.attempt
+    (Phase.going c.args.session.now left c.args.attempt.now) c.loop.counter c.loop.backend c.event_on.new.backend c.args.session.now left c.loop.attempt
     (c.loop.invariant.led left) c.event_on.new.attempt on.shown on.moves in
-    let h = led-holds g.B.Backend.known g.B.Backend.goes c.args.backend.now (Phase.going c.args.session.now 0 c.args.attempt)
+    let h = led-holds g.B.Backend.known g.B.Backend.goes c.args.backend.now (Phase.going c.args.session.now 0 c.args.attempt.now)
     (c.loop.counter + 1) c.event_on.new.backend (Phase.going c.args.session.now 0 c.event_on.new.attempt)
     (c.requires.attends, c.requires.holds) (led 0) in
     record {
@@ -57,7 +60,7 @@ loop-preserved g c =
       home = c.event_on.ensures.home ∙ c.loop.invariant.home;
     }
 
-pub returns-clause-drives : goal.returns-clause-drives
-returns-clause-drives g c = λ left. stopped-here g.B.Backend.known g.B.Backend.goes c.args.backend.now
-    (Phase.going c.args.session.now left c.args.attempt) c.loop.counter c.loop.backend
-    (Phase.going c.args.session.now left c.loop.attempt) _ refl (c.loop.invariant.led left)
+pub unreachable-requires : goal.unreachable-requires
+unreachable-requires g c =
+    let few = driven-few (Goes g.B.Backend.known g.B.Backend.goes) c.args.session.now c.args.attempt.now c.args.backend.now c.loop.counter c.loop.backend
+    c.loop.attempt (c.loop.invariant.led 0) in omega arith

@@ -1,5 +1,4 @@
-use Rattle.std.proofs.Common.{◌≡◌, List, refl, subst, sym, ap, ◌∙◌}
-use Rattle.std.proofs.lemmas.Result.{err_from_is_err_and}
+use Rattle.std.proofs.Common.{◌≡◌, List, subst, sym}
 use Rattle.abort_witness.specs.declared.witness.Based.{Based}
 use Rattle.docc_prepare.specs.Attempts.{in_shard, based}
 use Rattle.docc_prepare.specs.Calls.Call.{prepare}
@@ -8,7 +7,7 @@ use Rattle.docc_prepare.specs.Backends.{CanPrepare, Goes}
 use Rattle.docc_prepare.specs.declared.attempt.Next.TheVariants as next
 use Rattle.session_core.specs.Leading.{moved_on_prepare}
 use Rattle.session_core.proofs.Kept.{can-prepare, some-shards}
-use Rattle.session_core.proofs.Steps.{answered, unmade}
+use Rattle.session_core.proofs.Steps.{answered}
 use Rattle.session_core.proofs.event.prepare_event.Goals as goal
 
 pub prepare-answer-requires : goal.prepare-answer-requires

@@ -2,10 +2,12 @@ use Rattle.std.proofs.Common.{Option, Ok, Err, refl, subst, sym, ap, ◌∙◌, 
 use Rattle.std.proofs.lemmas.Result.{err_from_is_err_and}
 use Rattle.session_text.specs.declared.reply.Reply.{Reply}
 use Rattle.txn_eval.specs.Running.{ran_of, values_of}
+use Rattle.docc_prepare.specs.Backends.{Goes}
 use Rattle.docc_prepare.specs.Calls.{value_answered}
 use Rattle.session_core.specs.declared.error.SessionError.{SessionError}
 use Rattle.session_core.specs.Leading.{Leads, Valued}
 use Rattle.txn_lang.proofs.Observed.{runs_ask_short}
+use Rattle.session_core.proofs.Bounds.{looked-few}
 use Rattle.session_core.proofs.Steps.{look-more, look-late, look-stops, looks-err, none-else}
 use Rattle.session_core.proofs.looking.look_at.Goals as goal
 
@@ -48,3 +50,8 @@ loop-preserved g c = record {
   seen = let up = c.read_at-answer.ensures.goes.answered.goes_on.seen in let s = c.loop.invariant.seen in omega arith;
   home = c.read_at-answer.ensures.home ∙ c.loop.invariant.home;
 }
+
+pub unreachable-requires : goal.unreachable-requires
+unreachable-requires g c =
+    let few = looked-few (Goes g.B.Backend.known g.B.Backend.goes) c.args.session.now c.args.number c.args.body.now c.args.backend.now c.loop.counter
+    c.loop.backend c.loop.snaps c.loop.invariant.led in omega arith

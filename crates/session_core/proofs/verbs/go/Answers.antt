@@ -20,13 +20,13 @@ returns-in_err-reply-in-Some-clause-replies g c =
     c.from_residual.result p.0 c.drive.new.backend
     (with_attempt c.args.session.now c.take.new.self) p.1
     (go-err g.B.Backend.known g.B.Backend.goes c.args.session.now c.take.new.self c.take.ensures.after c.in-Some.attempt c.args.backend.now
-    c.drive.new.backend p.0 (sym c.take.ensures.value ∙ c.in-Some.is)
+    c.drive.new.backend p.0 c.drive.new.attempt (sym c.take.ensures.value ∙ c.in-Some.is)
     (subst (λ (e : SessionError). Drives g.B.Backend.known g.B.Backend.goes
-    (with_attempt c.args.session.now c.take.new.self) c.in-Some.attempt c.args.backend.now (Err e) c.drive.new.backend)
+    (with_attempt c.args.session.now c.take.new.self) c.in-Some.attempt c.args.backend.now (Err e) c.drive.new.attempt c.drive.new.backend)
     (sym p.2) c.in_err-reply-in-Some.ensures.drives))
 
 pub returns-in_ok-reply-in-Some-clause-replies : goal.returns-in_ok-reply-in-Some-clause-replies
 returns-in_ok-reply-in-Some-clause-replies g c =
     go-ends g.B.Backend.known g.B.Backend.goes c.args.session.now c.take.new.self c.take.ensures.after c.in-Some.attempt
-    c.in_ok-reply-in-Some.field-0 c.next_seq-session.result c.args.backend.now c.drive.new.backend
+    c.in_ok-reply-in-Some.reply c.drive.new.attempt c.next_seq-session.result c.args.backend.now c.drive.new.backend
     (sym c.take.ensures.value ∙ c.in-Some.is) c.next_seq-session.ensures c.in_ok-reply-in-Some.ensures.drives

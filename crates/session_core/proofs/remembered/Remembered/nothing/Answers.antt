@@ -1,4 +1,3 @@
-use Rattle.session_core.specs.Remembering.{IsKnownOf}
 use Rattle.session_core.proofs.remembered.Remembered.nothing.Goals as goal
 
 pub returns : goal.returns
