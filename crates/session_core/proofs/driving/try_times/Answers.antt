@@ -15,12 +15,14 @@ loop-init g c = record {
 }
 
 pub attempt_once-requires-clause-attends : goal.attempt_once-requires-clause-attends
-attempt_once-requires-clause-attends g c = (tried-holds g.B.Backend.known g.B.Backend.goes c.args.backend.now (Phase.trying c.args.session.now (c.args.tries - 1) c.args.attempt)
+attempt_once-requires-clause-attends g c = (tried-holds g.B.Backend.known g.B.Backend.goes c.args.backend.now
+    (Phase.trying c.args.session.now (c.args.tries - 1) c.args.attempt)
     ((c.loop.counter - 1) * 10021) c.loop.backend c.args.session.now (c.args.tries - c.loop.counter) c.loop.attempt c.loop.invariant.reach
     (c.requires.attends, c.requires.holds)).0
 
 pub attempt_once-requires-clause-holds : goal.attempt_once-requires-clause-holds
-attempt_once-requires-clause-holds g c = (tried-holds g.B.Backend.known g.B.Backend.goes c.args.backend.now (Phase.trying c.args.session.now (c.args.tries - 1) c.args.attempt)
+attempt_once-requires-clause-holds g c = (tried-holds g.B.Backend.known g.B.Backend.goes c.args.backend.now
+    (Phase.trying c.args.session.now (c.args.tries - 1) c.args.attempt)
     ((c.loop.counter - 1) * 10021) c.loop.backend c.args.session.now (c.args.tries - c.loop.counter) c.loop.attempt c.loop.invariant.reach
     (c.requires.attends, c.requires.holds)).1
 
@@ -68,12 +70,14 @@ loop-preserved g c =
     }
 
 pub attempt_once-requires-2-clause-attends : goal.attempt_once-requires-2-clause-attends
-attempt_once-requires-2-clause-attends g c = (tried-holds g.B.Backend.known g.B.Backend.goes c.args.backend.now (Phase.trying c.args.session.now (c.args.tries - 1) c.args.attempt)
+attempt_once-requires-2-clause-attends g c = (tried-holds g.B.Backend.known g.B.Backend.goes c.args.backend.now
+    (Phase.trying c.args.session.now (c.args.tries - 1) c.args.attempt)
     ((c.loop.counter - 1) * 10021) c.loop.backend c.args.session.now (c.args.tries - c.loop.counter) c.loop.attempt c.loop.invariant.reach
     (c.requires.attends, c.requires.holds)).0
 
 pub attempt_once-requires-2-clause-holds : goal.attempt_once-requires-2-clause-holds
-attempt_once-requires-2-clause-holds g c = (tried-holds g.B.Backend.known g.B.Backend.goes c.args.backend.now (Phase.trying c.args.session.now (c.args.tries - 1) c.args.attempt)
+attempt_once-requires-2-clause-holds g c = (tried-holds g.B.Backend.known g.B.Backend.goes c.args.backend.now
+    (Phase.trying c.args.session.now (c.args.tries - 1) c.args.attempt)
     ((c.loop.counter - 1) * 10021) c.loop.backend c.args.session.now (c.args.tries - c.loop.counter) c.loop.attempt c.loop.invariant.reach
     (c.requires.attends, c.requires.holds)).1
 
