@@ -142,7 +142,7 @@ module _ (limit : ℕ) where
   -- what is read is derived, and read again
   digits_taken : (value : ℕ) (ts us : Bytes) (n : ℕ) → Digits value ts n us → Taken (digits limit value) (DigitsRule limit value) ts n us
   digits_taken value ts us n x = record {
-    front = x.front;
+    prefix = x.front;
     cut = x.cut;
     derives = λ vs. record { front = x.front; cut = refl; all = x.all; worth = x.worth; within = x.within };
     again = x.again;
