@@ -13,6 +13,7 @@ use Rattle.predictive_parsing.specs.Fits.{Fits, Taken, any}
 use Rattle.predictive_parsing.proofs.Basic.{bool_cases, both, not_true, ok_pair}
 use Rattle.predictive_parsing.specs.Reads.{made_of}
 use Rattle.predictive_parsing.specs.Bytes.{IsByte, Byte, sees}
+use Rattle.predictive_parsing.specs.Digits.{with_digit}
 use Rattle.predictive_parsing.proofs.Words.{byte_fits, byte_taken, byte_begins}
 use Rattle.predictive_parsing.proofs.Combined.{fits_as, one_fits, onwards, either_fits, seen, narrowed}
 use Rattle.plain_data.specs.Texts.{Bytes}
@@ -20,7 +21,7 @@ use Rattle.dtext.specs.declared.number.TheConstants.{MOST, LEAST}
 use Rattle.dtext.specs.Characters.{is_digit}
 use Rattle.dtext.specs.Follows.{no_digit}
 use Rattle.dtext.specs.Spellings.{NaturalRule, PositiveRule, NumberRule}
-use Rattle.dtext.specs.code.Reading.{leading, with_digit, more, digits, positive, zero_read, natural, negative, number, begins_number}
+use Rattle.dtext.specs.code.Reading.{leading, more, digits, positive, zero_read, natural, negative, number, begins_number}
 use Rattle.dtext.proofs.Digits.{digit_worth, digit_below, digit_of, with_digit_worth, digits_value_after-ge}
 use Rattle.dtext.proofs.Digits.{decimal-value_after, decimal_parts, decimal_zero, decimal_leading}
 
