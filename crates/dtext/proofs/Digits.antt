@@ -8,10 +8,10 @@ use Rattle.std.specs.Char.{digit_value}
 use Rattle.std.specs.Str.Parse.{AllDigits, digits_value_after, digits_value}
 use Rattle.std.proofs.lemmas.Str.{digit_value_digit}
 use Rattle.std.proofs.lemmas.Str.Parse.{digit_from_value}
+use Rattle.predictive_parsing.specs.Digits.{with_digit}
 use Rattle.predictive_parsing.proofs.Basic.{both}
 use Rattle.plain_data.specs.Texts.{Bytes}
 use Rattle.dtext.specs.Characters.{is_digit}
-use Rattle.dtext.specs.code.Reading.{with_digit}
 
 -- a digit's value, and what is a digit
 pub digit_worth : (b : ℕ) → is_digit b ≡ true → digit_value b + 48 ≡ b

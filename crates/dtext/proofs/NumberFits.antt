@@ -13,6 +13,7 @@ use Rattle.predictive_parsing.specs.Fits.{Fits, Taken, any}
 use Rattle.predictive_parsing.proofs.Basic.{bool_cases, both, not_true, ok_pair}
 use Rattle.predictive_parsing.specs.Reads.{made_of}
 use Rattle.predictive_parsing.specs.Bytes.{IsByte, Byte, sees}
+use Rattle.predictive_parsing.specs.Digits.{with_digit}
 use Rattle.predictive_parsing.proofs.Words.{byte_fits, byte_taken, byte_begins}
 use Rattle.predictive_parsing.proofs.Combined.{fits_as, one_fits, onwards, either_fits, seen, narrowed}
 use Rattle.plain_data.specs.Texts.{Bytes}
@@ -20,7 +21,7 @@ use Rattle.dtext.specs.declared.number.TheConstants.{MOST, LEAST}
 use Rattle.dtext.specs.Characters.{is_digit}
 use Rattle.dtext.specs.Follows.{no_digit}
 use Rattle.dtext.specs.Spellings.{NaturalRule, PositiveRule, NumberRule}
-use Rattle.dtext.specs.code.Reading.{leading, with_digit, more, digits, positive, zero_read, natural, negative, number, begins_number}
+use Rattle.dtext.specs.code.Reading.{leading, more, digits, positive, zero_read, natural, negative, number, begins_number}
 use Rattle.dtext.proofs.Digits.{digit_worth, digit_below, digit_of, with_digit_worth, digits_value_after-ge}
 use Rattle.dtext.proofs.Digits.{decimal-value_after, decimal_parts, decimal_zero, decimal_leading}
 
@@ -142,7 +143,7 @@ module _ (limit : ℕ) where
   -- what is read is derived, and read again
   digits_taken : (value : ℕ) (ts us : Bytes) (n : ℕ) → Digits value ts n us → Taken (digits limit value) (DigitsRule limit value) ts n us
   digits_taken value ts us n x = record {
-    front = x.front;
+    prefix = x.front;
     cut = x.cut;
     derives = λ vs. record { front = x.front; cut = refl; all = x.all; worth = x.worth; within = x.within };
     again = x.again;

@@ -1,23 +1,23 @@
--- Outcomes taken apart, and fronts put together.
+-- Outcomes taken apart, and prefixes put together.
 use Rattle.std.proofs.Common.{◌≡◌, Bool, true, false, not, ◌&&◌, ◌⊎◌, List, [], ◌∷◌, ◌++◌, Ok, Err, refl, ap, sym, ◌∙◌, subst, inl, inr, append_assoc}
 use Rattle.predictive_parsing.specs.Reading.{Outcome, Reader, next, and_then}
 use Rattle.predictive_parsing.specs.Rules.{Rule}
 use Rattle.predictive_parsing.specs.Fits.{Taken, Stuck, Completes}
 
--- the item ahead is that of the front, or of what follows an empty one
-pub next_same : {I : Type 0} (front us vs : List I) → next vs ≡ next us → next (front ++ vs) ≡ next (front ++ us)
+-- the item ahead is that of the prefix, or of what follows an empty one
+pub next_same : {I : Type 0} (prefix us vs : List I) → next vs ≡ next us → next (prefix ++ vs) ≡ next (prefix ++ us)
 next_same [] us vs e = e
-next_same (item ∷ front) us vs e = refl
+next_same (item ∷ prefix) us vs e = refl
 
--- what is ahead stays so where what follows the front begins alike
-pub next_kept : {I : Type 0} (ts front us vs : List I) → ts ≡ front ++ us → next vs ≡ next us → next (front ++ vs) ≡ next ts
-next_kept ts front us vs cut e = next_same front us vs e ∙ ap next (sym cut)
+-- what is ahead stays so where what follows the prefix begins alike
+pub next_kept : {I : Type 0} (ts prefix us vs : List I) → ts ≡ prefix ++ us → next vs ≡ next us → next (prefix ++ vs) ≡ next ts
+next_kept ts prefix us vs cut e = next_same prefix us vs e ∙ ap next (sym cut)
 
--- fronts are associative
+-- prefixes are associative
 pub assoc : {I : Type 0} (a b c : List I) → (a ++ b) ++ c ≡ a ++ (b ++ c)
 assoc a b c = append_assoc a b c
 
--- two fronts after one another make one
+-- two prefixes after one another make one
 pub cut_twice : {I : Type 0} (ts us vs a b : List I) → ts ≡ a ++ us → us ≡ b ++ vs → ts ≡ (a ++ b) ++ vs
 cut_twice ts us vs a b e h = e ∙ ap (λ xs. a ++ xs) h ∙ sym (assoc a b vs)
 
@@ -70,30 +70,30 @@ pub sound : {I A : Type 0} (p : Reader I A) (P : Rule I A) (ts us : List I) (a :
 sound p P ts us a x = subst (λ xs. P xs a us) (sym x.cut) (x.derives us)
 
 module _ {I A : Type 0} (p q : Reader I A) (P Q : Rule I A) (wider : (ts us : List I) (a : A) → P ts a us → Q ts a us) where
-  -- the same front for a reader that does the same there, and a rule that derives as much
+  -- the same prefix for a reader that does the same there, and a rule that derives as much
   pub taken_as : (ts us : List I) (a : A) → ((vs : List I) → next vs ≡ next ts → p vs ≡ q vs) → Taken p P ts a us → Taken q Q ts a us
   taken_as ts us a same x = record {
-    front = x.front;
+    prefix = x.prefix;
     cut = x.cut;
-    derives = λ vs. wider (x.front ++ vs) vs a (x.derives vs);
-    again = λ vs h. sym (same (x.front ++ vs) (next_kept ts x.front us vs x.cut h)) ∙ x.again vs h;
+    derives = λ vs. wider (x.prefix ++ vs) vs a (x.derives vs);
+    again = λ vs h. sym (same (x.prefix ++ vs) (next_kept ts x.prefix us vs x.cut h)) ∙ x.again vs h;
   }
 
-  -- what a front goes on to is derived by the wider rule too
-  pub completes_as : (Possible : I → Type 0) (front : List I) → Completes Possible P front → Completes Possible Q front
-  completes_as Possible front x = record {
+  -- what a prefix goes on to is derived by the wider rule too
+  pub completes_as : (Possible : I → Type 0) (prefix : List I) → Completes Possible P prefix → Completes Possible Q prefix
+  completes_as Possible prefix x = record {
     rest = x.rest;
     value = x.value;
     possible = x.possible;
-    derives = λ vs. wider (front ++ (x.rest ++ vs)) vs x.value (x.derives vs);
+    derives = λ vs. wider (prefix ++ (x.rest ++ vs)) vs x.value (x.derives vs);
   }
 
-  -- a reader that does the same there is stuck at the same front, which goes on to the same under the wider rule
+  -- a reader that does the same there is stuck at the same prefix, which goes on to the same under the wider rule
   pub stuck_as : (Possible : I → Type 0) (ts us : List I) → ((vs : List I) → next vs ≡ next ts → p vs ≡ q vs)
       → Stuck Possible p P ts us → Stuck Possible q Q ts us
   stuck_as Possible ts us same x = record {
-    front = x.front;
+    prefix = x.prefix;
     cut = x.cut;
-    again = λ vs h. sym (same (x.front ++ vs) (next_kept ts x.front us vs x.cut h)) ∙ x.again vs h;
-    completes = completes_as Possible x.front x.completes;
+    again = λ vs h. sym (same (x.prefix ++ vs) (next_kept ts x.prefix us vs x.cut h)) ∙ x.again vs h;
+    completes = completes_as Possible x.prefix x.completes;
   }

@@ -30,9 +30,9 @@ shared_more b c w ts e = ap (λ t. cond t (1 + shared w ts) 0) e
 shared_none : (b c : ℕ) (w ts : Bytes) → nat_eq b c ≡ false → shared (b ∷ w) (c ∷ ts) ≡ 0
 shared_none b c w ts e = ap (λ t. cond t (1 + shared w ts) 0) e
 
--- where a word has no more in common than a front, this stays so behind the front as long as the same byte is next
-shared_kept : (w front us vs : Bytes) → shared w (front ++ us) ≤ length front → next vs ≡ next us → shared w (front ++ vs) ≡ shared w (front ++ us)
-shared_kept [] front us vs l h = refl
+-- where a word has no more in common than a prefix, this stays so behind the prefix as long as the same byte is next
+shared_kept : (w prefix us vs : Bytes) → shared w (prefix ++ us) ≤ length prefix → next vs ≡ next us → shared w (prefix ++ vs) ≡ shared w (prefix ++ us)
+shared_kept [] prefix us vs l h = refl
 shared_kept (c ∷ w) [] [] [] l h = refl
 shared_kept (c ∷ w) [] [] (v ∷ vs) l h = absurd (cc)
 shared_kept (c ∷ w) [] (u ∷ us) [] l h = absurd (cc)
@@ -40,11 +40,11 @@ shared_kept (c ∷ w) [] (u ∷ us) (v ∷ vs) l h = elim (bool_cases (nat_eq c 
   | inl e ↦ absurd (omega (arith, shared_more c u w us e))
   | inr e ↦ let k : v ≡ u = cc in shared_none c v w vs (ap (nat_eq c) k ∙ e) ∙ sym (shared_none c u w us e)
 ]
-shared_kept (c ∷ w) (f ∷ front) us vs l h = elim (bool_cases (nat_eq c f)) [
+shared_kept (c ∷ w) (f ∷ prefix) us vs l h = elim (bool_cases (nat_eq c f)) [
   | inl e ↦
-      let k = shared_kept w front us vs (omega (arith, shared_more c f w (front ++ us) e)) h in
-      shared_more c f w (front ++ vs) e ∙ ap (λ n. 1 + n) k ∙ sym (shared_more c f w (front ++ us) e)
-  | inr e ↦ shared_none c f w (front ++ vs) e ∙ sym (shared_none c f w (front ++ us) e)
+      let k = shared_kept w prefix us vs (omega (arith, shared_more c f w (prefix ++ us) e)) h in
+      shared_more c f w (prefix ++ vs) e ∙ ap (λ n. 1 + n) k ∙ sym (shared_more c f w (prefix ++ us) e)
+  | inr e ↦ shared_none c f w (prefix ++ vs) e ∙ sym (shared_none c f w (prefix ++ us) e)
 ]
 
 -- a word has all in common with itself
@@ -217,10 +217,10 @@ module _ {W : Type 0} (spelled : W → Bytes) (first : W) (others : List W) (tab
       let c = closest spelled ts first others in
       let x = (read_fits c).takes ts us a (sym (by_closest ts c refl) ∙ e) in
       record {
-        front = x.front;
+        prefix = x.prefix;
         cut = x.cut;
-        derives = λ vs. spelled_to IsByte spelled (x.front ++ vs) vs a (c, x.derives vs);
-        again = λ vs h. by_closest (x.front ++ vs) c (ahead_closest c a (x.front ++ vs) vs (x.derives vs)) ∙ x.again vs h;
+        derives = λ vs. spelled_to IsByte spelled (x.prefix ++ vs) vs a (c, x.derives vs);
+        again = λ vs h. by_closest (x.prefix ++ vs) c (ahead_closest c a (x.prefix ++ vs) vs (x.derives vs)) ∙ x.again vs h;
       }
 
   -- a word that is ahead is the closest, and so it is the one that is read
@@ -238,34 +238,34 @@ module _ {W : Type 0} (spelled : W → Bytes) (first : W) (others : List W) (tab
       by_outcome (Ok (u, vs)) h r = absurd (cc)
       by_outcome (Err vs) h r = let k : vs ≡ us = cc in ap (λ xs. Err xs) k
 
-  -- no word shares more than the front that was read, so where the same byte is ahead all share as much, and the closest stays
+  -- no word shares more than the prefix that was read, so where the same byte is ahead all share as much, and the closest stays
   one_refuses : (ts us : Bytes) → one_of spelled first others ts ≡ Err us → Stuck IsByte (one_of spelled first others) (SpelledBy spelled) ts us
   one_refuses ts us e =
       let c = closest spelled ts first others in
       let h = sym (by_closest ts c refl) ∙ e in
       let x = (read_fits c).refuses ts us h in
-      let most : shared (spelled c) ts ≤ length x.front =
-      omega (arith, word_shared (spelled c) ts us (refused_word c ts us h), ap length x.cut, length-append x.front us) in
+      let most : shared (spelled c) ts ≤ length x.prefix =
+      omega (arith, word_shared (spelled c) ts us (refused_word c ts us h), ap length x.cut, length-append x.prefix us) in
       record {
-        front = x.front;
+        prefix = x.prefix;
         cut = x.cut;
-        again = λ vs n. by_closest (x.front ++ vs) c (sym (stays vs x.front x.cut most n)) ∙ x.again vs n;
+        again = λ vs n. by_closest (x.prefix ++ vs) c (sym (stays vs x.prefix x.cut most n)) ∙ x.again vs n;
         completes =
             record {
               rest = x.completes.rest;
               value = x.completes.value;
               possible = x.completes.possible;
               derives =
-                  λ vs. spelled_to IsByte spelled (x.front ++ (x.completes.rest ++ vs)) vs x.completes.value (c, x.completes.derives vs);
+                  λ vs. spelled_to IsByte spelled (x.prefix ++ (x.completes.rest ++ vs)) vs x.completes.value (c, x.completes.derives vs);
             };
       }
     where
-      stays : (vs front : Bytes) → ts ≡ front ++ us → shared (spelled (closest spelled ts first others)) ts ≤ length front
-          → next vs ≡ next us → closest spelled ts first others ≡ closest spelled (front ++ vs) first others
-      stays vs front cut most n = closest_same spelled ts (front ++ vs) (λ w.
+      stays : (vs prefix : Bytes) → ts ≡ prefix ++ us → shared (spelled (closest spelled ts first others)) ts ≤ length prefix
+          → next vs ≡ next us → closest spelled ts first others ≡ closest spelled (prefix ++ vs) first others
+      stays vs prefix cut most n = closest_same spelled ts (prefix ++ vs) (λ w.
           let l = closest_most spelled ts first others w (table.all w) in
           let k = ap (shared (spelled w)) cut in
-          k ∙ sym (shared_kept (spelled w) front us vs (omega arith) n)) first others
+          k ∙ sym (shared_kept (spelled w) prefix us vs (omega arith) n)) first others
 
   -- One of the words, whatever follows.
   pub one_of_fits : Fits IsByte (one_of spelled first others) (SpelledBy spelled) any

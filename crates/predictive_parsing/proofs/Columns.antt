@@ -19,7 +19,7 @@ module _ {I A : Type 0} (Possible : I → Type 0) (P : Rule I A) (ts : List I) w
   pub column_no_spelling : (column : ℕ) (a : A) → IsColumn Possible P ts column → Whole P ts a → ⊥
   column_no_spelling column a x r = stopped x.stops.before x.rest x.stops.cut x.stops.no_further a r
 
--- Of two cuts of the same items, the longer front goes on with the item at which the shorter one ends.
+-- Of two cuts of the same items, the longer prefix goes on with the item at which the shorter one ends.
 record Longer {I : Type 0} (before rest longer : List I) : Type 0 where
   item : I
   others : List I
@@ -38,7 +38,7 @@ one_further b c before rest longer e x =
       whole = ap (λ d. d ∷ longer) (sym e) ∙ ap (λ xs. b ∷ xs) x.whole;
     }
 
--- by the items of the shorter front
+-- by the items of the shorter prefix
 longer_cut : {I : Type 0} (before rest longer left : List I) → before ++ rest ≡ longer ++ left → length before < length longer → Longer before rest longer
 longer_cut before rest [] left e l = absurd (omega arith)
 longer_cut [] [] (c ∷ longer) left e l = absurd (cc)

@@ -22,7 +22,7 @@ module _ {I : Type 0} (Possible : I → Type 0) where
     takes =
         λ ts us b e. let k = ok_pair a b ts us e in
         record {
-          front = [];
+          prefix = [];
           cut = k.1;
           derives = λ vs. record { is = sym k.0; here = refl };
           again = λ vs h. ap (λ x. Ok (x, vs)) k.0;
@@ -66,14 +66,14 @@ module _ {I : Type 0} (Possible : I → Type 0) where
     one_ended [] e = refl
     one_ended (v ∷ vs) e = absurd (cc)
 
-    -- the front is the one item: f makes its value again, whatever follows
+    -- the prefix is the one item: f makes its value again, whatever follows
     one_takes : (ts us : List I) (a : A) → one f ts ≡ Ok (a, us) → Taken (one f) (One f) ts a us
     unfolding one
     one_takes [] us a e = absurd (cc)
     one_takes (item ∷ ts) us a e =
         let k = one_ok item ts us a (f item) refl e in
         record {
-          front = item ∷ [];
+          prefix = item ∷ [];
           cut = ap (λ xs. item ∷ xs) k.1;
           derives = λ vs. record { item = item; first = refl; made = k.0 };
           again = λ vs h. one_made item vs a k.0;
@@ -94,10 +94,10 @@ module _ {I : Type 0} (Possible : I → Type 0) where
       unfolding one
       one_stuck [] us e =
           let k : [] ≡ us = err_same {A = A} [] us e in
-          record { front = []; cut = k; again = λ vs h. one_ended vs (h ∙ ap next (sym k)); completes = one_some }
+          record { prefix = []; cut = k; again = λ vs h. one_ended vs (h ∙ ap next (sym k)); completes = one_some }
       one_stuck (item ∷ ts) us e =
           let k = one_err item ts us (f item) refl e in
-          record { front = []; cut = k.1; again = λ vs h. one_refused item vs (h ∙ ap next (sym k.1)) k.0; completes = one_some }
+          record { prefix = []; cut = k.1; again = λ vs h. one_refused item vs (h ∙ ap next (sym k.1)) k.0; completes = one_some }
 
       -- One item says all of itself. An example shows that there is such an item.
       pub one_fits : Fits Possible (one f) (One f) any
@@ -115,26 +115,26 @@ module _ {I : Type 0} (Possible : I → Type 0) where
     abbrev after : Reader I B
     after ts = and_then (p ts) q
 
-    -- the fronts of both, one after the other
+    -- the prefixes of both, one after the other
     pub then_taken : (ts us vs : List I) (a : A) (b : B) → Taken p P ts a us → Taken (q a) (Q a) us b vs → Taken after (Then P Q) ts b vs
     then_taken ts us vs a b x y = record {
-      front = x.front ++ y.front;
-      cut = cut_twice ts us vs x.front y.front x.cut y.cut;
+      prefix = x.prefix ++ y.prefix;
+      cut = cut_twice ts us vs x.prefix y.prefix x.cut y.cut;
       derives = λ ws. record {
         value = a;
-        middle = y.front ++ ws;
-        first = subst (λ xs. P xs a (y.front ++ ws)) (sym (assoc x.front y.front ws)) (x.derives (y.front ++ ws));
+        middle = y.prefix ++ ws;
+        first = subst (λ xs. P xs a (y.prefix ++ ws)) (sym (assoc x.prefix y.prefix ws)) (x.derives (y.prefix ++ ws));
         second = y.derives ws;
       };
       again = λ ws h.
-          ap after (assoc x.front y.front ws)
-          ∙ ap (λ o. and_then o q) (x.again (y.front ++ ws) (next_kept us y.front vs ws y.cut h))
+          ap after (assoc x.prefix y.prefix ws)
+          ∙ ap (λ o. and_then o q) (x.again (y.prefix ++ ws) (next_kept us y.prefix vs ws y.cut h))
           ∙ y.again ws h;
     }
 
     -- what the first goes on to, and then something of the second
-    pub then_completes : (front : List I) → ((a : A) → Completes Possible (Q a) []) → Completes Possible P front → Completes Possible (Then P Q) front
-    then_completes front some x =
+    pub then_completes : (prefix : List I) → ((a : A) → Completes Possible (Q a) []) → Completes Possible P prefix → Completes Possible (Then P Q) prefix
+    then_completes prefix some x =
         let y = some x.value in
         record {
           rest = x.rest ++ y.rest;
@@ -143,28 +143,28 @@ module _ {I : Type 0} (Possible : I → Type 0) where
           derives = λ vs. record {
             value = x.value;
             middle = y.rest ++ vs;
-            first = subst (λ xs. P (front ++ xs) x.value (y.rest ++ vs)) (sym (assoc x.rest y.rest vs)) (x.derives (y.rest ++ vs));
+            first = subst (λ xs. P (prefix ++ xs) x.value (y.rest ++ vs)) (sym (assoc x.rest y.rest vs)) (x.derives (y.rest ++ vs));
             second = y.derives vs;
           };
         }
 
-    -- where the first refuses, both do, and what its front goes on to can be followed by something of the second
+    -- where the first refuses, both do, and what its prefix goes on to can be followed by something of the second
     pub first_stuck : (ts us : List I) → ((a : A) → Completes Possible (Q a) []) → Stuck Possible p P ts us → Stuck Possible after (Then P Q) ts us
     first_stuck ts us some x = record {
-      front = x.front;
+      prefix = x.prefix;
       cut = x.cut;
       again = λ vs h. ap (λ o. and_then o q) (x.again vs h);
-      completes = then_completes x.front some x.completes;
+      completes = then_completes x.prefix some x.completes;
     }
 
-    -- where the first took a front and the second refuses, both are stuck behind the two fronts together
+    -- where the first took a prefix and the second refuses, both are stuck behind the two prefixes together
     pub second_stuck : (ts us vs : List I) (a : A) → Taken p P ts a us → Stuck Possible (q a) (Q a) us vs → Stuck Possible after (Then P Q) ts vs
     second_stuck ts us vs a x y = record {
-      front = x.front ++ y.front;
-      cut = cut_twice ts us vs x.front y.front x.cut y.cut;
+      prefix = x.prefix ++ y.prefix;
+      cut = cut_twice ts us vs x.prefix y.prefix x.cut y.cut;
       again = λ ws h.
-          ap after (assoc x.front y.front ws)
-          ∙ ap (λ o. and_then o q) (x.again (y.front ++ ws) (next_kept us y.front vs ws y.cut h))
+          ap after (assoc x.prefix y.prefix ws)
+          ∙ ap (λ o. and_then o q) (x.again (y.prefix ++ ws) (next_kept us y.prefix vs ws y.cut h))
           ∙ y.again ws h;
       completes = record {
         rest = y.completes.rest;
@@ -174,8 +174,8 @@ module _ {I : Type 0} (Possible : I → Type 0) where
             let left = y.completes.rest ++ ws in
             record {
               value = a;
-              middle = y.front ++ left;
-              first = subst (λ xs. P xs a (y.front ++ left)) (sym (assoc x.front y.front left)) (x.derives (y.front ++ left));
+              middle = y.prefix ++ left;
+              first = subst (λ xs. P xs a (y.prefix ++ left)) (sym (assoc x.prefix y.prefix left)) (x.derives (y.prefix ++ left));
               second = y.completes.derives ws;
             };
       };
@@ -183,7 +183,7 @@ module _ {I : Type 0} (Possible : I → Type 0) where
 
     module _ (between follows : Option I → Bool) (fp : Fits Possible p P between) (fq : (a : A) → Fits Possible (q a) (Q a) follows)
         (meets : (a : A) (us vs : List I) (b : B) → Q a us b vs → follows (next vs) ≡ true → between (next us) ≡ true) where
-      -- the first refused, or it took a front and the second refused
+      -- the first refused, or it took a prefix and the second refused
       then_refuses : (ts vs : List I) → after ts ≡ Err vs → Stuck Possible after (Then P Q) ts vs
       then_refuses ts vs e = elim (bind_err (p ts) q vs e) [
         | inl h ↦ first_stuck ts vs (λ a. (fq a).some) (fp.refuses ts vs h)
@@ -248,7 +248,7 @@ module _ {I : Type 0} (Possible : I → Type 0) where
     chosen : (ts : List I) (b : Bool) → starts (next ts) ≡ b → (vs : List I) → next vs ≡ next ts → cond b (p vs) (q vs) ≡ either starts p q vs
     chosen ts b s vs e = sym (by b vs (ap starts e ∙ s))
 
-    -- the chosen reader takes its front, and is chosen again where the same item is ahead
+    -- the chosen reader takes its prefix, and is chosen again where the same item is ahead
     takes_by : (ts us : List I) (a : A) (b : Bool) → starts (next ts) ≡ b → cond b (p ts) (q ts) ≡ Ok (a, us) → Taken (either starts p q) (Or P Q) ts a us
     takes_by ts us a true s e = taken_as p (either starts p q) P (Or P Q) (λ xs ys c r. inl r) ts us a (chosen ts true s) (fp.takes ts us a e)
     takes_by ts us a false s e = taken_as q (either starts p q) Q (Or P Q) (λ xs ys c r. inr r) ts us a (chosen ts false s) (fq.takes ts us a e)
@@ -349,34 +349,34 @@ module _ {I : Type 0} (Possible : I → Type 0) where
   -- ---- as many items as pass a test
 
   module _ (passes : I → Bool) where
-    -- what is read is a front that passes, with nothing that does behind it
-    run_front : (ts us front : List I) → run passes ts ≡ Ok (front, us) → (ts ≡ front ++ us) × AllPass passes front × (ahead passes (next us) ≡ false)
+    -- what is read is a prefix that passes, with nothing that does behind it
+    run_front : (ts us prefix : List I) → run passes ts ≡ Ok (prefix, us) → (ts ≡ prefix ++ us) × AllPass passes prefix × (ahead passes (next us) ≡ false)
     unfolding run
-    run_front ts us front e =
-        let k = ok_pair (take (prefix_len passes ts) ts) front (drop (prefix_len passes ts) ts) us e in (
+    run_front ts us prefix e =
+        let k = ok_pair (take (prefix_len passes ts) ts) prefix (drop (prefix_len passes ts) ts) us e in (
           sym (take-append-drop (prefix_len passes ts) ts) ∙ ap (λ xs. xs ++ drop (prefix_len passes ts) ts) k.0
-              ∙ ap (λ xs. front ++ xs) k.1,
+              ∙ ap (λ xs. prefix ++ xs) k.1,
           subst (λ xs. AllPass passes xs) k.0 (prefix-passes passes ts),
           ap
               (λ xs. ahead passes (next xs)) (sym k.1) ∙ prefix-stops passes ts,
         )
 
-    -- such a front is read
-    run_reads : (front us : List I) → AllPass passes front → ahead passes (next us) ≡ false → run passes (front ++ us) ≡ Ok (front, us)
+    -- such a prefix is read
+    run_reads : (prefix us : List I) → AllPass passes prefix → ahead passes (next us) ≡ false → run passes (prefix ++ us) ≡ Ok (prefix, us)
     unfolding run
-    run_reads front us all e =
-        ap (λ n. Ok (take n (front ++ us), drop n (front ++ us))) (prefix_len-front passes front us all e)
-        ∙ ap (λ xs. Ok (xs, drop (length front) (front ++ us))) (take-append_seam front us) ∙ ap (λ xs. Ok (front, xs)) (drop-append_seam front us)
+    run_reads prefix us all e =
+        ap (λ n. Ok (take n (prefix ++ us), drop n (prefix ++ us))) (prefix_len-front passes prefix us all e)
+        ∙ ap (λ xs. Ok (xs, drop (length prefix) (prefix ++ us))) (take-append_seam prefix us) ∙ ap (λ xs. Ok (prefix, xs)) (drop-append_seam prefix us)
 
-    -- such a front passes whatever follows it, and is read again where again nothing that passes is ahead
-    run_takes : (ts us front : List I) → run passes ts ≡ Ok (front, us) → Taken (run passes) (Run passes) ts front us
-    run_takes ts us front e =
-        let k = run_front ts us front e in
+    -- such a prefix passes whatever follows it, and is read again where again nothing that passes is ahead
+    run_takes : (ts us prefix : List I) → run passes ts ≡ Ok (prefix, us) → Taken (run passes) (Run passes) ts prefix us
+    run_takes ts us prefix e =
+        let k = run_front ts us prefix e in
         record {
-          front = front;
+          prefix = prefix;
           cut = k.0;
           derives = λ vs. record { cut = refl; pass = k.1 };
-          again = λ vs h. run_reads front vs k.1 (ap (ahead passes) h ∙ k.2);
+          again = λ vs h. run_reads prefix vs k.1 (ap (ahead passes) h ∙ k.2);
         }
 
     -- a run is never refused
@@ -388,7 +388,7 @@ module _ {I : Type 0} (Possible : I → Type 0) where
     pub run_fits : Fits Possible (run passes) (Run passes) (unless (ahead passes) any)
     run_fits = record {
       takes = run_takes;
-      reads = λ ts us front r h. ap (run passes) r.cut ∙ run_reads front us r.pass (not_true (ahead passes (next us)) h);
+      reads = λ ts us prefix r h. ap (run passes) r.cut ∙ run_reads prefix us r.pass (not_true (ahead passes (next us)) h);
       refuses = λ ts us e. absurd (run_reads_all ts us e);
       some = record { rest = []; value = []; possible = All-nil Possible; derives = λ vs. record { cut = refl; pass = All-nil (λ x. passes x ≡ true) } };
     }
@@ -396,18 +396,18 @@ module _ {I : Type 0} (Possible : I → Type 0) where
     -- ---- up to a limit
 
     module _ (limit : ℕ) where
-      -- what is read is such a front, and there was no room for more or there is no more
-      up_to_front : (ts us front : List I) → run_up_to limit passes ts ≡ Ok (front, us)
-          → RunUpTo limit passes ts front us × ((length front ≡ limit) ⊎ (ahead passes (next us) ≡ false))
+      -- what is read is such a prefix, and there was no room for more or there is no more
+      up_to_front : (ts us prefix : List I) → run_up_to limit passes ts ≡ Ok (prefix, us)
+          → RunUpTo limit passes ts prefix us × ((length prefix ≡ limit) ⊎ (ahead passes (next us) ≡ false))
       unfolding run_up_to
-      up_to_front ts us front e =
+      up_to_front ts us prefix e =
           let n = prefix_len passes ts in
           let m = min limit n in
-          let k = ok_pair (take m ts) front (drop m ts) us e in
-          let cut : ts ≡ front ++ us = sym (take-append-drop m ts) ∙ ap (λ xs. xs ++ drop m ts) k.0 ∙ ap (λ xs. front ++ xs) k.1 in
+          let k = ok_pair (take m ts) prefix (drop m ts) us e in
+          let cut : ts ≡ prefix ++ us = sym (take-append-drop m ts) ∙ ap (λ xs. xs ++ drop m ts) k.0 ∙ ap (λ xs. prefix ++ xs) k.1 in
           let l = prefix_len-le-length passes ts in
-          let same : length front ≡ m = ap length (sym k.0) ∙ length-take-le m ts (omega (arith, l)) in
-          let pass : AllPass passes front =
+          let same : length prefix ≡ m = ap length (sym k.0) ∙ length-take-le m ts (omega (arith, l)) in
+          let pass : AllPass passes prefix =
           subst (λ xs. AllPass passes xs) k.0
           (subst (λ xs. AllPass passes xs) (take-shorter m n ts (omega arith))
           (All-take (λ x. passes x ≡ true) m (take n ts) (prefix-passes passes ts))) in (
@@ -418,28 +418,28 @@ module _ {I : Type 0} (Possible : I → Type 0) where
             ],
           )
 
-      -- such a front is read
-      up_to_reads : (front us : List I) → AllPass passes front → length front ≤ limit
-          → (length front ≡ limit) ⊎ (ahead passes (next us) ≡ false) → run_up_to limit passes (front ++ us) ≡ Ok (front, us)
+      -- such a prefix is read
+      up_to_reads : (prefix us : List I) → AllPass passes prefix → length prefix ≤ limit
+          → (length prefix ≡ limit) ⊎ (ahead passes (next us) ≡ false) → run_up_to limit passes (prefix ++ us) ≡ Ok (prefix, us)
       unfolding run_up_to
-      up_to_reads front us all l stop =
-          let k : min limit (prefix_len passes (front ++ us)) ≡ length front = min_is stop in
-          ap (λ n. Ok (take n (front ++ us), drop n (front ++ us))) k
-          ∙ ap (λ xs. Ok (xs, drop (length front) (front ++ us))) (take-append_seam front us) ∙ ap (λ xs. Ok (front, xs)) (drop-append_seam front us)
+      up_to_reads prefix us all l stop =
+          let k : min limit (prefix_len passes (prefix ++ us)) ≡ length prefix = min_is stop in
+          ap (λ n. Ok (take n (prefix ++ us), drop n (prefix ++ us))) k
+          ∙ ap (λ xs. Ok (xs, drop (length prefix) (prefix ++ us))) (take-append_seam prefix us) ∙ ap (λ xs. Ok (prefix, xs)) (drop-append_seam prefix us)
         where
-          min_is : (length front ≡ limit) ⊎ (ahead passes (next us) ≡ false) → min limit (prefix_len passes (front ++ us)) ≡ length front
-          min_is (inl e) = let m = prefix_len-least passes front us all in omega arith
-          min_is (inr e) = let m = prefix_len-front passes front us all e in omega arith
+          min_is : (length prefix ≡ limit) ⊎ (ahead passes (next us) ≡ false) → min limit (prefix_len passes (prefix ++ us)) ≡ length prefix
+          min_is (inl e) = let m = prefix_len-least passes prefix us all in omega arith
+          min_is (inr e) = let m = prefix_len-front passes prefix us all e in omega arith
 
-      -- such a front is read again: there is still no room for more, or again nothing that passes is ahead
-      up_to_takes : (ts us front : List I) → run_up_to limit passes ts ≡ Ok (front, us) → Taken (run_up_to limit passes) (RunUpTo limit passes) ts front us
-      up_to_takes ts us front e =
-          let k = up_to_front ts us front e in
+      -- such a prefix is read again: there is still no room for more, or again nothing that passes is ahead
+      up_to_takes : (ts us prefix : List I) → run_up_to limit passes ts ≡ Ok (prefix, us) → Taken (run_up_to limit passes) (RunUpTo limit passes) ts prefix us
+      up_to_takes ts us prefix e =
+          let k = up_to_front ts us prefix e in
           record {
-            front = front;
+            prefix = prefix;
             cut = k.0.cut;
             derives = λ vs. record { cut = refl; pass = k.0.pass; within = k.0.within };
-            again = λ vs h. up_to_reads front vs k.0.pass k.0.within (elim k.1 [ inl l ↦ inl l | inr n ↦ inr (ap (ahead passes) h ∙ n) ]);
+            again = λ vs h. up_to_reads prefix vs k.0.pass k.0.within (elim k.1 [ inl l ↦ inl l | inr n ↦ inr (ap (ahead passes) h ∙ n) ]);
           }
 
       -- a run is never refused
@@ -451,7 +451,7 @@ module _ {I : Type 0} (Possible : I → Type 0) where
       pub run_up_to_fits : Fits Possible (run_up_to limit passes) (RunUpTo limit passes) (unless (ahead passes) any)
       run_up_to_fits = record {
         takes = up_to_takes;
-        reads = λ ts us front r h. ap (run_up_to limit passes) r.cut ∙ up_to_reads front us r.pass r.within (inr (not_true (ahead passes (next us)) h));
+        reads = λ ts us prefix r h. ap (run_up_to limit passes) r.cut ∙ up_to_reads prefix us r.pass r.within (inr (not_true (ahead passes (next us)) h));
         refuses = λ ts us e. absurd (up_to_reads_all ts us e);
         some =
             record {

@@ -13,14 +13,14 @@ use Rattle.predictive_parsing.proofs.Combined.{pure_fits, then_taken, then_fits,
 module _ {I A : Type 0} (Possible : I → Type 0) (starts : Option I → Bool) (item : Reader I A) (P : Rule I A)
     (between : Option I → Bool) (fi : Fits Possible item P between)
     (begins : (ts us : List I) (a : A) → P ts a us → starts (next ts) ≡ true) (at_end : starts None ≡ false) where
-  -- an empty front would begin at the end, where nothing begins, so the front has an item at least
-  shrinks_by : (ts us front : List I) (a : A) → ts ≡ front ++ us → P (front ++ []) a [] → length us < length ts
+  -- an empty prefix would begin at the end, where nothing begins, so the prefix has an item at least
+  shrinks_by : (ts us prefix : List I) (a : A) → ts ≡ prefix ++ us → P (prefix ++ []) a [] → length us < length ts
   shrinks_by ts us [] a e r = absurd (let k = begins [] [] a r in cc)
-  shrinks_by ts us (t ∷ front) a e r = omega (arith, ap length e, length-append front us)
+  shrinks_by ts us (t ∷ prefix) a e r = omega (arith, ap length e, length-append prefix us)
 
   -- so what is left is shorter behind each that is read
   pub shrinks : (ts us : List I) (a : A) → item ts ≡ Ok (a, us) → length us < length ts
-  shrinks ts us a e = let x = fi.takes ts us a e in shrinks_by ts us x.front a x.cut (x.derives [])
+  shrinks ts us a e = let x = fi.takes ts us a e in shrinks_by ts us x.prefix a x.cut (x.derives [])
 
 module _ {I A : Type 0} (Possible : I → Type 0) (starts : Option I → Bool) (item : Reader I A) (P : Rule I A)
     (between : Option I → Bool) (fi : Fits Possible item P between)
@@ -64,11 +64,11 @@ module _ {I A : Type 0} (Possible : I → Type 0) (starts : Option I → Bool) (
 
   -- ---- what is taken
 
-  -- where none begins the front is empty, and the empty list is read again where the same item is ahead
+  -- where none begins the prefix is empty, and the empty list is read again where the same item is ahead
   none_taken : (ts : List I) → starts (next ts) ≡ false → Taken all (Many P) ts [] ts
-  none_taken ts s = record { front = []; cut = refl; derives = λ vs. none vs; again = λ vs h. all_stop vs (ap starts h ∙ s) }
+  none_taken ts s = record { prefix = []; cut = refl; derives = λ vs. none vs; again = λ vs h. all_stop vs (ap starts h ∙ s) }
 
-  -- the front of one and the front of all the others, after one another, are a front of all
+  -- the prefix of one and the prefix of all the others, after one another, are a prefix of all
   more_taken : (ts us vs : List I) (a : A) (rest : List A) → starts (next ts) ≡ true → item ts ≡ Ok (a, us)
       → Taken all (Many P) us rest vs → Taken all (Many P) ts (a ∷ rest) vs
   unfolding and_all AndAll

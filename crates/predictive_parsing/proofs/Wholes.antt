@@ -48,28 +48,28 @@ module _ {I A : Type 0} (Possible : I → Type 0) (p : Reader I A) (P : Rule I A
   stuck_stops ts us x =
       let c = x.completes in
       record {
-        before = x.front;
+        before = x.prefix;
         cut = x.cut;
         goes_on =
-            (c.rest, c.value, c.possible, subst (λ xs. Whole P (x.front ++ xs) c.value) (append-nil c.rest) (c.derives []));
+            (c.rest, c.value, c.possible, subst (λ xs. Whole P (x.prefix ++ xs) c.value) (append-nil c.rest) (c.derives []));
         no_further = no_more us x.again;
       }
     where
-      no_more : (us : List I) → ((vs : List I) → next vs ≡ next us → p (x.front ++ vs) ≡ Err vs) → NoFurther P x.front us
-      no_more [] again = λ a r. apart a [] [] (p (x.front ++ [])) (ap p (append-nil x.front) ∙ derived x.front a r) (again [] refl)
+      no_more : (us : List I) → ((vs : List I) → next vs ≡ next us → p (x.prefix ++ vs) ≡ Err vs) → NoFurther P x.prefix us
+      no_more [] again = λ a r. apart a [] [] (p (x.prefix ++ [])) (ap p (append-nil x.prefix) ∙ derived x.prefix a r) (again [] refl)
       no_more (t ∷ us) again = λ others a r.
-          apart a [] (t ∷ others) (p (x.front ++ (t ∷ others)))
-          (ap p (sym (assoc x.front (t ∷ []) others)) ∙ derived ((x.front ++ t ∷ []) ++ others) a r) (again (t ∷ others) refl)
+          apart a [] (t ∷ others) (p (x.prefix ++ (t ∷ others)))
+          (ap p (sym (assoc x.prefix (t ∷ []) others)) ∙ derived ((x.prefix ++ t ∷ []) ++ others) a r) (again (t ∷ others) refl)
 
   -- the reader is done, and an item is left
   rest_stops : (ts us : List I) (a : A) (t : I) → Taken p P ts a (t ∷ us) → StopsAt Possible P ts (t ∷ us)
   rest_stops ts us a t x = record {
-    before = x.front;
+    before = x.prefix;
     cut = x.cut;
     goes_on = ([], a, All-nil Possible, x.derives []);
     no_further = λ others b r.
-        past b a t others (p (x.front ++ (t ∷ others)))
-        (ap p (sym (assoc x.front (t ∷ []) others)) ∙ derived ((x.front ++ t ∷ []) ++ others) b r)
+        past b a t others (p (x.prefix ++ (t ∷ others)))
+        (ap p (sym (assoc x.prefix (t ∷ []) others)) ∙ derived ((x.prefix ++ t ∷ []) ++ others) b r)
         (x.again (t ∷ others) refl);
   }
 

@@ -1,5 +1,6 @@
--- A small grammar of bytes: numbers in digits, with commas between them. The tests read it.
-use Rattle.std.specs.Prelude.{◌≡◌, ℕ, ◌-◌, ◌&&◌, Bool, nat_le, if◌then◌else◌, List, [], ◌∷◌, codes, Option, Some, None, Ok, Err, refl}
+-- A small grammar of bytes: numbers in digits, with commas between them. The tests read it; crates above cite `is_digit`
+-- and `with_digit`.
+use Rattle.std.specs.Prelude.{◌≡◌, ℕ, ◌+◌, ◌-◌, ◌*◌, ◌&&◌, Bool, nat_le, if◌then◌else◌, List, [], ◌∷◌, codes, Option, Some, None, Ok, Err, refl}
 use Rattle.predictive_parsing.specs.Reading.{Reader, ◌>>=◌, one, turns, many, run}
 use Rattle.predictive_parsing.specs.Bytes.{byte, sees, word}
 
@@ -10,6 +11,14 @@ is_digit byte = nat_le 48 byte && nat_le byte 57
 -- the value of a digit
 abbrev pub digit : ℕ → Option ℕ
 digit byte = if is_digit byte then Some (byte - 48) else None
+
+-- a value with one digit more
+abbrev pub with_digit : ℕ → ℕ → ℕ
+with_digit value byte = 10 * value + (byte - 48)
+
+-- 12 with a `3` more is 123
+with_digit-example : with_digit 12 51 ≡ 123
+with_digit-example = refl
 
 -- a digit behind a comma
 unfoldable pub another : Reader ℕ ℕ

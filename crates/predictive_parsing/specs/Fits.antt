@@ -5,26 +5,26 @@ use Rattle.std.specs.List.{All}
 use Rattle.predictive_parsing.specs.Reading.{Reader, next}
 use Rattle.predictive_parsing.specs.Rules.{Rule}
 
--- The reader took this front. The rule derives it whatever follows, and it is read again where the same item is ahead.
+-- The reader took this prefix. The rule derives it whatever follows, and it is read again where the same item is ahead.
 pub record Taken {I A : Type 0} (p : Reader I A) (P : Rule I A) (ts : List I) (a : A) (us : List I) : Type 0 where
-  pub front : List I
-  pub cut : ts ≡ front ++ us
-  pub derives : (vs : List I) → P (front ++ vs) a vs
-  pub again : (vs : List I) → next vs ≡ next us → p (front ++ vs) ≡ Ok (a, vs)
+  pub prefix : List I
+  pub cut : ts ≡ prefix ++ us
+  pub derives : (vs : List I) → P (prefix ++ vs) a vs
+  pub again : (vs : List I) → next vs ≡ next us → p (prefix ++ vs) ≡ Ok (a, vs)
 
 -- These items go on to something that the rule derives.
-pub record Completes {I A : Type 0} (Possible : I → Type 0) (P : Rule I A) (front : List I) : Type 0 where
+pub record Completes {I A : Type 0} (Possible : I → Type 0) (P : Rule I A) (prefix : List I) : Type 0 where
   pub rest : List I
   pub value : A
   pub possible : All Possible rest
-  pub derives : (vs : List I) → P (front ++ (rest ++ vs)) value vs
+  pub derives : (vs : List I) → P (prefix ++ (rest ++ vs)) value vs
 
--- The reader took this front and no further: the front goes on to something, and not by the item ahead.
+-- The reader took this prefix and no further: the prefix goes on to something, and not by the item ahead.
 pub record Stuck {I A : Type 0} (Possible : I → Type 0) (p : Reader I A) (P : Rule I A) (ts us : List I) : Type 0 where
-  pub front : List I
-  pub cut : ts ≡ front ++ us
-  pub again : (vs : List I) → next vs ≡ next us → p (front ++ vs) ≡ Err vs
-  pub completes : Completes Possible P front
+  pub prefix : List I
+  pub cut : ts ≡ prefix ++ us
+  pub again : (vs : List I) → next vs ≡ next us → p (prefix ++ vs) ≡ Err vs
+  pub completes : Completes Possible P prefix
 
 -- The reader and the rule agree wherever the item behind the value satisfies `follows`.
 pub record Fits {I A : Type 0} (Possible : I → Type 0) (p : Reader I A) (P : Rule I A) (follows : Option I → Bool) : Type 0 where

@@ -208,7 +208,7 @@ text_front ts us a r =
 longer : (z w us a : Text) → text z ≡ Ok (a, us) → text (z ++ w) ≡ Ok (a, us ++ w)
 longer z w us a e =
     let x = text_fits.takes z us a e in
-    let cut : x.front ++ (us ++ w) ≡ z ++ w = sym (append_assoc x.front us w) ∙ ap (λ ts. ts ++ w) (sym x.cut) in
+    let cut : x.prefix ++ (us ++ w) ≡ z ++ w = sym (append_assoc x.prefix us w) ∙ ap (λ ts. ts ++ w) (sym x.cut) in
     text_fits.reads (z ++ w) (us ++ w) a (subst (λ ts. TextRule ts a (us ++ w)) cut (x.derives (us ++ w))) refl
 
 -- blanks have no quote among them, so no quote ends a front of theirs
@@ -232,10 +232,10 @@ behind_quote (b ∷ z) w (x ∷ front) us all e =
 shorter : (z w us a : Text) → AreBlank w → text (z ++ w) ≡ Ok (a, us) → (rest : Text) × (text z ≡ Ok (a, rest))
 shorter z w us a all e =
     let x = text_fits.takes (z ++ w) us a e in
-    let f = text_front (x.front ++ []) [] a (x.derives []) in
-    let whole : x.front ≡ f.0 ++ 34 ∷ [] = sym (append-nil x.front) ∙ f.1 in
+    let f = text_front (x.prefix ++ []) [] a (x.derives []) in
+    let whole : x.prefix ≡ f.0 ++ 34 ∷ [] = sym (append-nil x.prefix) ∙ f.1 in
     let b = behind_quote z w f.0 us all (x.cut ∙ ap (λ ts. ts ++ us) whole ∙ append_assoc f.0 (34 ∷ []) us) in
-    let cut : z ≡ x.front ++ b.0 = b.1 ∙ sym (append_assoc f.0 (34 ∷ []) b.0) ∙ ap (λ ts. ts ++ b.0) (sym whole) in
+    let cut : z ≡ x.prefix ++ b.0 = b.1 ∙ sym (append_assoc f.0 (34 ∷ []) b.0) ∙ ap (λ ts. ts ++ b.0) (sym whole) in
     (b.0, text_fits.reads z b.0 a (subst (λ ts. TextRule ts a b.0) (sym cut) (x.derives b.0)) refl)
 
 -- it is read with blanks behind it exactly where it is read without them, and is as long; else one byte is taken

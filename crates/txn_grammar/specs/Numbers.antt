@@ -1,11 +1,9 @@
 -- What digits are worth.
-use Rattle.std.specs.Prelude.{◌≡◌, ℕ, ◌+◌, ◌-◌, ◌*◌, ◌&&◌, ◌==◌, if◌then◌else◌, nat_le, nat_lt, length, fold}
+use Rattle.std.specs.Prelude.{◌≡◌, ℕ, ◌&&◌, ◌==◌, if◌then◌else◌, nat_le, nat_lt, length, fold}
 use Rattle.std.specs.Prelude.{slice_index, pos, ℤ, codes, Option, Some, None, refl}
+pub use Rattle.predictive_parsing.specs.Digits.{with_digit}
 use Rattle.dtext.specs.declared.number.TheConstants.{MOST}
 use Rattle.txn_grammar.specs.Characters.{Text}
-
-abbrev pub with_digit : ℕ → ℕ → ℕ
-with_digit value b = 10 * value + (b - 48)
 
 abbrev pub digits_value : Text → ℕ
 digits_value digits = fold with_digit 0 digits

@@ -20,6 +20,7 @@ use Rattle.txn_trees.specs.declared.statement.StmtNode.TheOpen.{StmtNode-F}
 use Rattle.txn_trees.specs.declared.statement.StmtNode.TheFolds.{fold-StmtNode, fold_out-Stmt, fold_out-StmtNode, ind-Stmt}
 use Rattle.txn_trees.specs.declared.statement.StmtNode.TheViews.{out-roll-StmtNode, out-roll-Stmt}
 use Rattle.txn_trees.specs.declared.statement.Body.{Body}
+use Rattle.txn_grammar.specs.Trees.{column_of}
 use Rattle.txn_lang.specs.declared.item_type.Type.{«Type» as ItemType}
 use Rattle.txn_lang.specs.declared.item_type.Type.TheVariants as type
 use Rattle.txn_lang.specs.Types.{Names, type_bound, same, has_length, may_compare, takes, may_begin, written_type, asked_type, answered_type}
@@ -28,7 +29,7 @@ use Rattle.txn_lang.specs.Typing.{chain, read, AreTyped, none, bind, emit, fail,
 use Rattle.txn_lang.specs.Typing.{and_then, unless, told, Typed, all_of, fits, operands_of, may_be_first, named}
 use Rattle.txn_lang.specs.Typing.{judge_node, judge_expr, judge_operand, typed, judged_operand, type_of, expect}
 use Rattle.txn_lang.specs.Typing.{in_order, block, turn, judge_write, judge_step, judge_stmt, names_after, judge}
-use Rattle.txn_lang.specs.Typing.{node_of, step_of, column_of, operator_of, value_of, else_of, TypesAreFound}
+use Rattle.txn_lang.specs.Typing.{node_of, step_of, operator_of, value_of, else_of, TypesAreFound}
 use Rattle.txn_lang.specs.Typing.{BodiesAreJudged}
 use Rattle.txn_lang.specs.Typing as rule
 use Rattle.txn_lang.specs.code.Checking.{Leaves}

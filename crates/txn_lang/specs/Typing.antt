@@ -22,6 +22,7 @@ use Rattle.txn_trees.specs.declared.statement.Stmt.{Stmt, out-Stmt, fold-Stmt}
 use Rattle.txn_trees.specs.declared.statement.StmtNode.{StmtNode, out-StmtNode}
 use Rattle.txn_trees.specs.declared.statement.StmtNode.TheOpen.{StmtNode-F, Stmt-F}
 use Rattle.txn_trees.specs.declared.statement.Body.{Body}
+use Rattle.txn_grammar.specs.Trees.{column_of}
 use Rattle.txn_lang.specs.declared.item_type.Type.{«Type» as ItemType}
 use Rattle.txn_lang.specs.declared.item_type.Type.TheVariants as type
 use Rattle.txn_lang.specs.Types.{Names, type_bound, same, has_length, may_compare, takes, may_begin, written_type, asked_type, answered_type}
@@ -32,9 +33,6 @@ node_of e = out-ExprNode (out-Expr e).node
 
 abbrev pub step_of : Stmt → StmtNode-F StmtNode Stmt
 step_of s = out-StmtNode (out-Stmt s).node
-
-abbrev pub column_of : Expr → ℕ
-column_of e = (out-Expr e).column
 
 abbrev pub operator_of : Operand → Operator
 operator_of o = (out-Operand o).operator

@@ -73,6 +73,7 @@ module _ (side : Reader Spot Expr) (left : Expr) (us : List Spot) where
       ∙ bind_twice (other_side side us) (λ found. pure (Some found)) (λ more. pure (compared left more))
 
 module _ (u : Reader Spot Expr) (ts : List Spot) where
+  -- a product, which is an operand of a sum
   abbrev product_read : Reader Spot Expr
   product_read = chain rank.Product u
 
@@ -84,6 +85,7 @@ module _ (u : Reader Spot Expr) (ts : List Spot) where
       ∙ ap (λ o. and_then o (begun.chain rank.Sum product_read)) (chain_begins rank.Product u ts)
       ∙ bind_twice (u ts) (begun.chain rank.Product u) (begun.chain rank.Sum product_read)
 
+  -- a sum, which is a side of a comparison
   abbrev sum_read : Reader Spot Expr
   sum_read = chain rank.Sum product_read
 
@@ -104,12 +106,15 @@ neither true b e = absurd (cc)
 neither false b e = (refl, e)
 
 module _ (n : ℕ) where
+  -- a conjunction, which is an operand of a disjunction
   abbrev conjunction_read : Reader Spot Expr
   conjunction_read = chain rank.Conjunction (negation n)
 
+  -- the rest of one, behind its first operand
   abbrev conjunction_on : Expr → Reader Spot Expr
   conjunction_on = begun.chain rank.Conjunction (negation n)
 
+  -- the rest of a disjunction, behind its first operand
   abbrev disjunction_on : Expr → Reader Spot Expr
   disjunction_on = begun.chain rank.Disjunction conjunction_read
 

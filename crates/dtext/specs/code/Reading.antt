@@ -2,11 +2,12 @@
 -- proved equal to them. Judge by the rules of specs/Spellings: the law `readers_are_rules` ties each reader to its rule.
 -- Marks stand by their bytes, as in the rules; of the first letters of words 97 is `a`, 98 `b`, 99 `c`, 102 `f`,
 -- 104 `h`, 111 `o`, 112 `p`, 114 `r`, 115 `s`, and 116 `t`.
-use Rattle.std.specs.Prelude.{ℕ, ◌+◌, ◌-◌, ◌*◌, Bool, not, ◌&&◌, ◌||◌, nat_eq, nat_le, if◌then◌else◌, List, [], ◌∷◌, ℤ}
+use Rattle.std.specs.Prelude.{ℕ, ◌-◌, Bool, not, ◌&&◌, ◌||◌, nat_eq, nat_le, if◌then◌else◌, List, [], ◌∷◌, ℤ}
 use Rattle.std.specs.Prelude.{pos, neg_ℤ, codes, Option, Some, None, Ok}
 use Rattle.plain_data.specs.Texts.{Bytes}
 use Rattle.predictive_parsing.specs.Reading.{Reader, ◌>>=◌, pure, ahead, one, either, many, list, optional, of, guided}
 use Rattle.predictive_parsing.specs.Bytes.{byte, sees, word, behind}
+use Rattle.predictive_parsing.specs.Digits.{with_digit}
 use Rattle.rdt_types.specs.declared.address.Kind.{Kind}
 use Rattle.rdt_types.specs.declared.address.Kind.TheVariants as kinds
 use Rattle.rdt_types.specs.declared.address.Address.{Address}
@@ -63,10 +64,6 @@ text = do
 -- a digit of 1 to 9, with which a number other than 0 begins
 abbrev pub leading : ℕ → Option ℕ
 leading byte = if nat_le 49 byte && nat_le byte 57 then Some (byte - 48) else None
-
--- a value with one digit more
-abbrev pub with_digit : ℕ → ℕ → ℕ
-with_digit value byte = 10 * value + (byte - 48)
 
 -- the value with one byte more, where that is a digit and keeps the number within the limit
 abbrev pub more : ℕ → ℕ → ℕ → Option ℕ
