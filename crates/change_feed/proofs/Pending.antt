@@ -1,5 +1,5 @@
 -- What is pending after changes and then others.
-use Rattle.std.proofs.Common.{◌≡◌, Bool, true, false, cond, List, [], ◌∷◌, ◌++◌, map, filter, Option, Some, None, refl, sym, ap, ◌∙◌}
+use Rattle.std.proofs.Common.{◌≡◌, Bool, true, false, cond, List, [], ◌∷◌, ◌++◌, map, Option, Some, None, refl, sym, ap, ◌∙◌}
 use Rattle.std.specs.List.{AllByRecursion}
 use Rattle.std.specs.BTreeMap.{is_at}
 use Rattle.plain_data.proofs.Entries.{equal}
@@ -12,6 +12,7 @@ use Rattle.rdt_types.proofs.Addresses.{address_cmp-equal}
 use Rattle.rdt_types.proofs.OneKind.{kind-compose}
 use Rattle.rdt_types.proofs.Laws.{compositions_associate}
 use Rattle.change_feed.specs.declared.change.Change.{Change}
+use Rattle.change_feed.specs.Changes.{of_address}
 use Rattle.change_feed.specs.Pending.{deltas_at, composed_after, pending}
 use Rattle.change_feed.specs.Feeds.{after_both, AreOfTheirKinds, PendingJoins}
 
@@ -61,10 +62,6 @@ module _ (k : Kind) where
 
 -- ---- deltas at an address
 
--- the changes at an address, and what changes do
-abbrev at : Address → List Change → List Change
-at address changes = filter (λ c. is_at (address_cmp address) c.address) changes
-
 -- the deltas of changes, in order
 abbrev deltas_of : List Change → List Delta
 deltas_of changes = map (λ c. c.delta) changes
@@ -78,10 +75,11 @@ deltas_at-append address before (change ∷ changes) later =
     by before (is_at (address_cmp address) change.address) (λ b. deltas_at-append address b changes later)
   where
     by : (before : Option Delta) (b : Bool)
-        → ((o : Option Delta) → composed_after o (deltas_of (at address (changes ++ later)))
-        ≡ composed_after (composed_after o (deltas_of (at address changes))) (deltas_of (at address later)))
-        → composed_after before (deltas_of (cond b (change ∷ at address (changes ++ later)) (at address (changes ++ later))))
-        ≡ composed_after (composed_after before (deltas_of (cond b (change ∷ at address changes) (at address changes)))) (deltas_of (at address later))
+        → ((o : Option Delta) → composed_after o (deltas_of (of_address address (changes ++ later)))
+        ≡ composed_after (composed_after o (deltas_of (of_address address changes))) (deltas_of (of_address address later)))
+        → composed_after before (deltas_of (cond b (change ∷ of_address address (changes ++ later)) (of_address address (changes ++ later))))
+        ≡ composed_after (composed_after before (deltas_of (cond b (change ∷ of_address address changes) (of_address address changes))))
+        (deltas_of (of_address address later))
     by None true rest = rest (Some change.delta)
     by (Some d) true rest = rest (Some (compose d change.delta))
     by before false rest = rest before
@@ -92,7 +90,7 @@ at-of_kind address [] all = tt
 at-of_kind address (change ∷ changes) all = by (is_at (address_cmp address) change.address) refl (at-of_kind address changes all.1)
   where
     by : (b : Bool) → is_at (address_cmp address) change.address ≡ b → AreOfKind address.kind (deltas_at address changes)
-        → AreOfKind address.kind (deltas_of (cond b (change ∷ at address changes) (at address changes)))
+        → AreOfKind address.kind (deltas_of (cond b (change ∷ of_address address changes) (of_address address changes)))
     by true here rest = (all.0 ∙ ap (λ (a : Address). a.kind) (sym (address_cmp-equal address change.address (equal _ here))), rest)
     by false there rest = rest
 

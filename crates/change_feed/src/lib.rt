@@ -3,7 +3,8 @@
 //! and clients that watch take feeds.
 //!
 //! Read first `specs/Pending.antt` (what is pending at an address after changes) and `specs/Feeds.antt` (what a feed does,
-//! and its laws). `specs/Tails.antt` says what a tail keeps.
+//! and its laws). `specs/Tails.antt` says what a tail keeps, and `specs/Changes.antt` which changes of a list are past a
+//! number or at an address.
 #![tactic(auto)]
 
 mod change;

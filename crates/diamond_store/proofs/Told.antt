@@ -29,7 +29,7 @@ use Rattle.journal_core.specs.Tails.{HasAll}
 use Rattle.journal_core.proofs.ByShard.{changes-up_to, changes-between, numbered-take}
 use Rattle.reactive_registry.specs.Registered.{Kept, Registered, kept_of, with_kept, is_address, is_subscribed, told, emptied, subscribed}
 use Rattle.reactive_registry.specs.Registered.{pending_for, pending_of, empty}
-use Rattle.reactive_registry.specs.Standing.{since, KeptFor, StandsFor}
+use Rattle.reactive_registry.specs.Standing.{KeptFor, StandsFor}
 use Rattle.reactive_registry.proofs.Pairs.{same_address}
 use Rattle.reactive_registry.proofs.Standing.{deltas-chosen, pending_is_since, takes_stand}
 use Rattle.reactive_registry.proofs.GoingOn.{subscribes_stand}
@@ -173,12 +173,12 @@ of-kept P f (Some x) each k e = let same : f x ≡ k = cc in subst P same (each 
 -- what was missed at an address are all changes there past the number taken last
 missed-is : (journal : Journal) (front from : ℕ) (address : Address) (missed : Tail) (k : Kept) → k.taken ≡ from
     → HasAll from front (of_address address (between from front (changes journal))) missed
-    → deltas_at address missed.changes ≡ deltas_at address (since k.taken (up_to front (changes journal)))
+    → deltas_at address missed.changes ≡ deltas_at address (past k.taken (up_to front (changes journal)))
 missed-is journal front from address missed k taken all =
     ap (deltas_at address) all.exact
     ∙ deltas-chosen address (is_at (address_cmp address)) (between from front (changes journal))
     ∙ ap (λ b. cond b (deltas_at address (between from front (changes journal))) []) ((eq_by_cmp_equiv address_laws.total-law).refl address)
-    ∙ ap (λ (n : ℕ). deltas_at address (since n (up_to front (changes journal)))) (sym taken)
+    ∙ ap (λ (n : ℕ). deltas_at address (past n (up_to front (changes journal)))) (sym taken)
 
 module _ (journal : Journal) (old new : Registered) (client taken : ℕ) (address : Address) (tells : Tells journal old)
     (took : taken_of old client ≡ Some taken) (front : new.front ≡ old.front) where

@@ -20,13 +20,13 @@ use Rattle.txn_lang.specs.declared.commit.Commit.{Commit}
 use Rattle.txn_lang.specs.States.{Journal}
 use Rattle.journal_core.specs.Changes.{changes, changes_of, changes_by, past, up_to, between, of_shard, of_address}
 use Rattle.journal_core.specs.Pairs.{AreNumberedFrom}
-use Rattle.journal_core.specs.Logs.{Keeps}
-use Rattle.journal_core.specs.Parts.{MeetsAlike}
+use Rattle.journal_core.specs.code.Logs.{Keeps}
+use Rattle.journal_core.specs.code.Parts.{MeetsAlike}
 use Rattle.journal_core.proofs.Passing.{moved, fails-middle, past-same}
 use Rattle.journal_core.specs.Kinds.{AreOfTheirKinds}
 use Rattle.journal_core.proofs.Rising.{changes-more, numbered-more}
 use Rattle.journal_core.proofs.OfRuns.{kinds-more}
-use Rattle.journal_core.specs.ByShard.{HasAdded}
+use Rattle.journal_core.specs.code.ByShard.{HasAdded}
 
 -- what is at an address is in its shard
 at_address : (address other : Address) (shards : ℕ) → is_at (address_cmp address) other ≡ true → (shard_of other shards == shard_of address shards) ≡ true

@@ -12,7 +12,7 @@ use Rattle.txn_lang.specs.declared.commit.Commit.{Commit}
 use Rattle.txn_lang.specs.States.{Journal}
 use Rattle.journal_core.specs.Changes.{changes_by, changes_of, changes}
 use Rattle.journal_core.specs.Pairs.{hits_from, pairs, AreNumberedFrom, LeastIsFirst}
-use Rattle.journal_core.specs.Rising.{Rises}
+use Rattle.journal_core.specs.code.Rising.{Rises}
 use Rattle.journal_core.proofs.Rising.{rises_lower, one_commit}
 
 -- the number where some change of a commit clashes, else what is found behind it

@@ -7,7 +7,7 @@ use Rattle.change_feed.specs.declared.change.Change.{Change}
 use Rattle.abort_witness.specs.declared.witness.Based.{Based}
 use Rattle.abort_witness.specs.Pairs.{meets, first_clash}
 use Rattle.journal_core.specs.Changes.{past}
-use Rattle.journal_core.specs.Parts.{MeetsAlike}
+use Rattle.journal_core.specs.code.Parts.{MeetsAlike}
 
 -- the observation as if it was made later
 abbrev pub moved : Based → ℕ → Based

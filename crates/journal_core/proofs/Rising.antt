@@ -16,8 +16,8 @@ use Rattle.std.proofs.lemmas.List.{drop-drop, length-drop}
 use Rattle.txn_lang.specs.declared.commit.Commit.{Commit}
 use Rattle.journal_core.specs.Changes.{changes, changes_of, past, up_to}
 use Rattle.journal_core.specs.Pairs.{AreNumberedFrom}
-use Rattle.journal_core.specs.Rising.{Rises}
-use Rattle.journal_core.specs.Parts.{IsPartedAt, IsUpToBefore}
+use Rattle.journal_core.specs.code.Rising.{Rises}
+use Rattle.journal_core.specs.code.Parts.{IsPartedAt, IsUpToBefore}
 
 -- what rises from a number rises from a lesser one
 pub rises_lower : (m n : ℕ) (all : List Change) → m ≤ n → Rises n all → Rises m all

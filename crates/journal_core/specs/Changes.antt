@@ -1,14 +1,13 @@
 -- The changes of a journal's commits: one change is what a commit does at one address.
-use Rattle.std.specs.Prelude.{◌≡◌, ℕ, ◌==◌, nat_lt, nat_le, List, [], ◌∷◌, ◌++◌, map, filter, codes, pos, refl}
-use Rattle.std.specs.BTreeMap.{is_at}
+use Rattle.std.specs.Prelude.{◌≡◌, ℕ, ◌==◌, nat_le, List, [], ◌∷◌, ◌++◌, map, filter, codes, pos, refl}
 use Rattle.rdt_types.specs.declared.address.Kind.TheVariants as kind
 use Rattle.rdt_types.specs.declared.address.Address.{Address}
 use Rattle.rdt_types.specs.declared.delta.Delta.TheVariants as delta
 use Rattle.rdt_types.specs.declared.outcome.Outcome.TheVariants as outcome
-use Rattle.rdt_types.specs.Addresses.{address_cmp}
 use Rattle.rdt_types.specs.DeltaMaps.{Deltas}
 use Rattle.rdt_types.specs.Shards.{shard_of}
 use Rattle.change_feed.specs.declared.change.Change.{Change}
+pub use Rattle.change_feed.specs.Changes.{past, of_address}
 use Rattle.txn_lang.specs.declared.commit.Commit.{Commit}
 use Rattle.txn_lang.specs.States.{Journal}
 
@@ -25,10 +24,6 @@ abbrev pub changes : Journal → List Change
 changes [] = []
 changes (commit ∷ rest) = changes_of commit ++ changes rest
 
--- the changes of commits past a number
-abbrev pub past : ℕ → List Change → List Change
-past from all = filter (λ change. nat_lt from change.number) all
-
 -- the changes of commits up to a number
 abbrev pub up_to : ℕ → List Change → List Change
 up_to to all = filter (λ change. nat_le change.number to) all
@@ -40,10 +35,6 @@ between from to all = past from (up_to to all)
 -- the changes in one of so many shards
 abbrev pub of_shard : ℕ → ℕ → List Change → List Change
 of_shard shards shard all = filter (λ change. shard_of change.address shards == shard) all
-
--- the changes at one address
-abbrev pub of_address : Address → List Change → List Change
-of_address address all = filter (λ change. is_at (address_cmp address) change.address) all
 
 -- ---- worked lines
 

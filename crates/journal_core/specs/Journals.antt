@@ -1,7 +1,12 @@
 -- What stands in a journal, and what an append answers and leaves.
-use Rattle.std.specs.Prelude.{◌≡◌, ◌==◌, ℕ, ◌+◌, ◌-◌, ◌<◌, ◌≤◌, if◌then◌else◌, slice_get, List, [], ◌∷◌, ◌++◌, length, Option, Some, None, refl}
+use Rattle.std.specs.Prelude.{◌≡◌, ◌==◌, ℕ, ◌+◌, ◌-◌, ◌<◌, ◌≤◌, if◌then◌else◌, slice_get, List, [], ◌∷◌, ◌++◌, length, Option, Some, None, codes, refl}
 use Rattle.std.specs.Coded.{Coded, code_by, coded×, coded_list, coded_ℕ}
+use Rattle.std.proofs.Common.{lit<, lit≤}
 use Rattle.dio_core.specs.Counts.{Rose}
+use Rattle.rdt_types.specs.declared.address.Kind.TheVariants as kind
+use Rattle.rdt_types.specs.declared.address.Address.{Address}
+use Rattle.rdt_types.specs.declared.outcome.Outcome.TheVariants as outcome
+use Rattle.conflict_table.specs.declared.observation.Obs.TheVariants as obs
 use Rattle.abort_witness.specs.declared.witness.Found.{Found}
 use Rattle.txn_lang.specs.declared.commit.Commit.{Commit}
 use Rattle.txn_lang.specs.States.{Journal}
@@ -11,6 +16,7 @@ use Rattle.journal_core.specs.declared.ready.Ready.{Ready}
 use Rattle.journal_core.specs.declared.slot.Slot.{Slot}
 use Rattle.journal_core.specs.declared.appended.Appended.{Appended}
 use Rattle.journal_core.specs.declared.appended.Appended.TheVariants as appended
+use Rattle.journal_core.specs.Changes.{adding}
 use Rattle.journal_core.specs.Pairs.{least_pair, past_fronts}
 use Rattle.journal_core.specs.Readies.{IsRunOf, made_of}
 use Rattle.journal_core.specs.Keeping.{IsOfRun, IsNext}
@@ -101,3 +107,42 @@ abbrev pub Adds : Commit → Standing → Appended → Standing → Type 0
 Adds commit old (appended.Number number) new = (number ≡ commit.number) × (new ≡ with_commit old commit)
 Adds commit old (appended.DiskFault before after) new = (before ≡ old.faults) × Rose before after × (new ≡ record old { faults = after })
 Adds commit old _ new = ⊥
+
+-- ---- worked lines
+
+abbrev counter : Address
+counter = record { kind = kind.Counter; key = codes "x" }
+
+-- what client 0 has ready that read the counter x at a base and adds to it, with no shard prepared
+abbrev adder : ℕ → Ready
+adder base = record {
+  client = 0;
+  seq = 1;
+  body = [];
+  run = record {
+    outcome = outcome.Ok [];
+    deltas = (adding 1 (codes "x")).deltas;
+    observations = record { address = counter; obs = obs.CounterIs } ∷ [];
+  };
+  based = record { address = counter; obs = obs.CounterIs; base = base } ∷ [];
+  fronts = [];
+}
+
+-- these commits, of which the journal takes two
+abbrev of_two : Journal → Standing
+of_two commits = record { commits = commits; shards = 4; limit = 2; faults = 0; room = 1 }
+
+-- behind no commit it becomes commit 1, and the journal is that one commit
+Decides-example : Decides (adder 0) (of_two []) (appended.Number 1) (record (of_two []) { commits = adding 1 (codes "x") ∷ []; room = 0 })
+Decides-example = (record { clear = refl; below = lit< tt }, refl, refl)
+
+-- behind a commit that it didn't see it clashes with that, and nothing is added
+Decides-clash :
+    Decides (adder 0) (of_two (adding 1 (codes "x") ∷ [])) (appended.Clash (record { place = 0; number = 1 })) (of_two (adding 1 (codes "x") ∷ []))
+Decides-clash = (refl, refl)
+
+-- behind two that it saw the journal is full
+Decides-full :
+    Decides (adder 2) (of_two (adding 1 (codes "x") ∷ adding 2 (codes "x") ∷ [])) (appended.Full 2)
+    (of_two (adding 1 (codes "x") ∷ adding 2 (codes "x") ∷ []))
+Decides-full = (record { clear = refl; limit_is = refl; reached = lit≤ tt }, refl)

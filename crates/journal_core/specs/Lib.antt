@@ -1,13 +1,10 @@
 pub mod Changes
-pub mod Rising
 pub mod Pairs
-pub mod ByShard
-pub mod Logs
 pub mod Tails
-pub mod Parts
 pub mod Readies
 pub mod Kinds
 pub mod Keeping
 pub mod Limits
 pub mod Journals
 pub mod Witnesses
+pub mod code

@@ -3,7 +3,7 @@
 ghost use Rattle.std.specs.Prelude.{◌≡◌, ◌<◌, ◌≤◌, [], length, IfOk, OnOk};
 ghost use Rattle.rdt_types.specs.declared.limits.TheConstants.{LEAST_SHARDS, MOST_SHARDS};
 ghost use Rattle.journal_core.specs.Changes as spec;
-ghost use Rattle.journal_core.specs.ByShard.{list_at, room_at, HasRoom, AreByShard, HasGrown, HasPut, HasAdded};
+ghost use Rattle.journal_core.specs.code.ByShard.{list_at, room_at, HasRoom, AreByShard, HasGrown, HasPut, HasAdded};
 
 use crate::copying::changes_by;
 use crate::roomy::Roomy;

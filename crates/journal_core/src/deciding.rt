@@ -4,7 +4,7 @@ ghost use Rattle.std.specs.Prelude.{◌≡◌, ◌+◌, ◌<◌, ◌≤◌, ◌^
 ghost use Rattle.abort_witness.specs.Pairs as pairs;
 ghost use Rattle.journal_core.specs.Pairs as spec;
 ghost use Rattle.journal_core.specs.Changes.{changes};
-ghost use Rattle.journal_core.specs.Parts.{MeetsAlike};
+ghost use Rattle.journal_core.specs.code.Parts.{MeetsAlike};
 
 use crate::log::Log;
 use crate::ready::PreparedFront;

@@ -6,9 +6,9 @@ ghost use Rattle.rdt_types.specs.declared.limits.TheConstants.{LEAST_SHARDS, MOS
 ghost use Rattle.abort_witness.specs.Pairs as pairs;
 ghost use Rattle.journal_core.specs.Changes as spec;
 ghost use Rattle.journal_core.specs.Pairs.{past_fronts, most_steps, least_pair, AreNumbered};
-ghost use Rattle.journal_core.specs.Rising.{Rises};
+ghost use Rattle.journal_core.specs.code.Rising.{Rises};
 ghost use Rattle.journal_core.specs.Kinds.{AreOfTheirKinds, HasKinds};
-ghost use Rattle.journal_core.specs.Logs as logs;
+ghost use Rattle.journal_core.specs.code.Logs as logs;
 
 use crate::by_shard::{add_each, in_shard, lists_of, reserve_each};
 use crate::deciding::least_past;
@@ -34,7 +34,7 @@ pub(crate) struct Log {
 }
 
 impl Model for Log {
-    ghost use Rattle.journal_core.specs.Logs as logs;
+    ghost use Rattle.journal_core.specs.code.Logs as logs;
     ghost use Rattle.txn_lang.specs.contracts.commit.Commit as commit;
 
     ghost Value = { logs.Log };

@@ -1,9 +1,9 @@
 //! Parts of a list of changes whose numbers don't fall.
 
 ghost use Rattle.std.specs.Prelude.{◌≡◌};
-ghost use Rattle.journal_core.specs.Rising.{Rises};
+ghost use Rattle.journal_core.specs.code.Rising.{Rises};
 ghost use Rattle.journal_core.specs.Changes as spec;
-ghost use Rattle.journal_core.specs.Parts.{IsPartedAt, IsUpToBefore};
+ghost use Rattle.journal_core.specs.code.Parts.{IsPartedAt, IsUpToBefore};
 
 use change_feed::Change;
 

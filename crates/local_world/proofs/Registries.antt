@@ -27,13 +27,13 @@ use Rattle.change_feed.specs.Pending.{deltas_at, composed_after, pending}
 use Rattle.change_feed.specs.Feeds.{Fed, with_changes}
 use Rattle.change_feed.proofs.Feeds.{feeds_keep_pending}
 use Rattle.txn_lang.specs.States.{Journal}
-use Rattle.journal_core.specs.Changes.{changes_of, changes, up_to, between, of_address}
+use Rattle.journal_core.specs.Changes.{changes_of, changes, past, up_to, between, of_address}
 use Rattle.journal_core.specs.Pairs.{AreNumbered}
 use Rattle.journal_core.specs.Tails.{HasAll}
 use Rattle.journal_core.proofs.ByShard.{changes-up_to, changes-between}
 use Rattle.reactive_registry.specs.Registered.{Kept, Registered, kept_of, with_kept, is_address, is_subscribed, told, emptied, subscribed}
-use Rattle.reactive_registry.specs.Registered.{unsubscribed, changes_at, pending_for, pending_of}
-use Rattle.reactive_registry.specs.Standing.{since, KeptFor, StandsFor}
+use Rattle.reactive_registry.specs.Registered.{unsubscribed, pending_for, pending_of}
+use Rattle.reactive_registry.specs.Standing.{KeptFor, StandsFor}
 use Rattle.reactive_registry.proofs.Pairs.{same_number}
 use Rattle.reactive_registry.proofs.Standing.{deltas-chosen, takes_stand}
 use Rattle.reactive_registry.proofs.GoingOn.{subscribes_stand, unsubscribes_stand}
@@ -258,9 +258,9 @@ module _ (journal : Journal) (registry : Registered) (client : ℕ) (following :
       ap (λ (o : Option Kept). option_and_then (λ k. pending_for k a) o) found
       ∙ ap (composed_after None)
       (stands.deltas a
-      ∙ ap (λ b. cond b (deltas_at a (since kept.taken (up_to registry.front (changes journal)))) []) told
-      ∙ ap (λ (n : ℕ). cond (is_subscribed registry client a) (deltas_at a (since n (up_to registry.front (changes journal)))) []) taken
-      ∙ ap (λ (n : ℕ). cond (is_subscribed registry client a) (deltas_at a (since (taken_by registry client) (up_to n (changes journal)))) []) ended
+      ∙ ap (λ b. cond b (deltas_at a (past kept.taken (up_to registry.front (changes journal)))) []) told
+      ∙ ap (λ (n : ℕ). cond (is_subscribed registry client a) (deltas_at a (past n (up_to registry.front (changes journal)))) []) taken
+      ∙ ap (λ (n : ℕ). cond (is_subscribed registry client a) (deltas_at a (past (taken_by registry client) (up_to n (changes journal)))) []) ended
       ∙ sym (deltas-chosen a (is_subscribed registry client) since_taken))
 
   -- a feed with its addresses in order is determined by what it has at each, and that is what is pending there
@@ -343,12 +343,12 @@ module _ (journal : Journal) (old new : Registered) (client : ℕ) (following : 
 -- what was missed at an address
 missed-is : (journal : Journal) (front from : ℕ) (address : Address) (missed : Tail) (k : Kept) → from ≡ k.taken
     → HasAll from front (of_address address (between from front (changes journal))) missed
-    → deltas_at address missed.changes ≡ deltas_at address (since k.taken (up_to front (changes journal)))
+    → deltas_at address missed.changes ≡ deltas_at address (past k.taken (up_to front (changes journal)))
 missed-is journal front from address missed k taken all =
     ap (deltas_at address) all.exact
     ∙ deltas-chosen address (is_at (address_cmp address)) (between from front (changes journal))
     ∙ ap (λ b. cond b (deltas_at address (between from front (changes journal))) []) ((eq_by_cmp_equiv addresses.total-law).refl address)
-    ∙ ap (λ (n : ℕ). deltas_at address (since n (up_to front (changes journal)))) taken
+    ∙ ap (λ (n : ℕ). deltas_at address (past n (up_to front (changes journal)))) taken
 
 -- by whether it is subscribed already: to subscribe never alters up to where one has taken
 taken-subscribed : (address : Address) (missed : List Change) (k : Kept) → (subscribed address missed k).taken ≡ k.taken
@@ -356,7 +356,7 @@ taken-subscribed address missed k = by (is_address k address)
   where
     by : (b : Bool) → (cond b k (record k {
       addresses = insert_key address_cmp k.addresses address;
-      changes = k.changes ++ changes_at address missed;
+      changes = k.changes ++ of_address address missed;
     })).taken ≡ k.taken
     by true = refl
     by false = refl

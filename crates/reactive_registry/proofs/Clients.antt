@@ -4,14 +4,15 @@ use Rattle.std.specs.List.{AllByRecursion}
 use Rattle.std.specs.Ordering.{nat_cmp}
 use Rattle.std.specs.BTreeMap.{is_at}
 use Rattle.change_feed.specs.declared.change.Change.{Change}
+use Rattle.change_feed.specs.Changes.{past}
 use Rattle.change_feed.specs.Pending.{pending}
 use Rattle.client_cache.proofs.Following.{caches_follow}
 use Rattle.reactive_registry.specs.Registered.{Kept, kept_of, told, pending_for}
-use Rattle.reactive_registry.specs.Standing.{since, KeptFor}
+use Rattle.reactive_registry.specs.Standing.{KeptFor}
 use Rattle.reactive_registry.specs.Laws.{OneStands, AllStand, ClientsFollow}
 use Rattle.reactive_registry.proofs.Pairs.{up_to-append, up_to-tail}
 use Rattle.reactive_registry.proofs.Undone.{up_to-more, past-tail}
-use Rattle.reactive_registry.proofs.Standing.{pending_is_since, follows_stand, since-front, since-append}
+use Rattle.reactive_registry.proofs.Standing.{pending_is_since, follows_stand, past-front, past-append}
 
 -- the one stands by itself, the others as before
 pub one_stands : OneStands
@@ -43,8 +44,8 @@ all_stand changes later old new stands tail is = record {
 -- what is pending is what the changes past the number taken last come to, and these are the later ones
 pub clients_follow : ClientsFollow
 clients_follow before after registry subscriber kept old new feed address kinds stands found is first second holds same advances =
-    let later : since kept.taken (before ++ after) ≡ after =
-    since-append before after kept.taken kept.taken (omega arith) second ∙ ap (λ l. l ++ after) (since-front before kept.taken first)
+    let later : past kept.taken (before ++ after) ≡ after =
+    past-append before after kept.taken kept.taken (omega arith) second ∙ ap (λ l. l ++ after) (past-front before kept.taken first)
     in
     caches_follow old new feed before after address kinds holds
     (same

@@ -14,9 +14,10 @@ use Rattle.rdt_types.specs.Addresses.{address_cmp}
 use Rattle.rdt_types.specs.contracts.address.AddressOrd.TheImpl.Laws as addresses
 use Rattle.rdt_types.proofs.Addresses.{address_cmp-equal}
 use Rattle.change_feed.specs.declared.change.Change.{Change}
+use Rattle.change_feed.specs.Changes.{past, of_address}
 use Rattle.change_feed.specs.Pending.{deltas_at}
-use Rattle.reactive_registry.specs.Registered.{Kept, is_address, unsubscribed, changes_at, changes_elsewhere}
-use Rattle.reactive_registry.specs.Standing.{since, KeptFor}
+use Rattle.reactive_registry.specs.Registered.{Kept, is_address, unsubscribed, changes_elsewhere}
+use Rattle.reactive_registry.specs.Standing.{KeptFor}
 use Rattle.reactive_registry.specs.Laws.{SubscribesStand, UnsubscribesStand}
 use Rattle.reactive_registry.proofs.Pairs.{same_address}
 use Rattle.reactive_registry.proofs.Standing.{deltas-append}
@@ -145,56 +146,56 @@ unsubscribes_stand changes front kept address stands = record {
 }
   where
     there : deltas_at address (changes_elsewhere address kept.changes) ≡ cond (is_address (unsubscribed address kept) address)
-        (deltas_at address (since kept.taken changes)) []
+        (deltas_at address (past kept.taken changes)) []
     there =
         ap of (none-passes (λ c. is_at (address_cmp address) c.address) (λ c. not (is_at (address_cmp address) c.address))
         (λ c e. flipped (is_at (address_cmp address) c.address) true e) kept.changes)
-        ∙ sym (ap (λ b. cond b (deltas_at address (since kept.taken changes)) [])
+        ∙ sym (ap (λ b. cond b (deltas_at address (past kept.taken changes)) [])
         (any-of_none (is_at (address_cmp address)) (λ x. not (is_at (address_cmp address) x))
         (λ x e. flipped (is_at (address_cmp address) x) true e) kept.addresses))
 
     by : (a : Address) (b : Bool) → is_at (address_cmp address) a ≡ b
-        → deltas_at a (changes_elsewhere address kept.changes) ≡ cond (is_address (unsubscribed address kept) a) (deltas_at a (since kept.taken changes)) []
+        → deltas_at a (changes_elsewhere address kept.changes) ≡ cond (is_address (unsubscribed address kept) a) (deltas_at a (past kept.taken changes)) []
     by a true e =
         subst (λ x. deltas_at x (changes_elsewhere address kept.changes) ≡ cond (is_address (unsubscribed address kept) x)
-        (deltas_at x (since kept.taken changes)) [])
+        (deltas_at x (past kept.taken changes)) [])
         (same_address address a e) there
     by a false e =
         ap of (both-pass (λ c. is_at (address_cmp a) c.address) (λ c. not (is_at (address_cmp address) c.address))
         (λ c h. flipped (is_at (address_cmp address) c.address) false (apart a address c.address e h)) kept.changes)
         ∙ stands.deltas a
-        ∙ sym (ap (λ b. cond b (deltas_at a (since kept.taken changes)) [])
+        ∙ sym (ap (λ b. cond b (deltas_at a (past kept.taken changes)) [])
         (any-of_both (is_at (address_cmp a)) (λ x. not (is_at (address_cmp address) x))
         (λ x h. flipped (is_at (address_cmp address) x) false (apart a address x e h)) kept.addresses))
 
 module _ (changes missed : List Change) (front : ℕ) (kept : Kept) (address : Address) (stands : KeptFor changes front kept)
-    (all : deltas_at address missed ≡ deltas_at address (since kept.taken changes)) where
+    (all : deltas_at address missed ≡ deltas_at address (past kept.taken changes)) where
   -- what is kept with the address and with what it missed there
   abbrev more : Kept
-  more = record kept { addresses = insert_key address_cmp kept.addresses address; changes = kept.changes ++ changes_at address missed }
+  more = record kept { addresses = insert_key address_cmp kept.addresses address; changes = kept.changes ++ of_address address missed }
 
   -- at the new address nothing was kept, so what it missed there is all that is past the number taken last
   here : is_address kept address ≡ false → is_at (address_cmp address) address ≡ true
-      → deltas_at address more.changes ≡ cond (is_address more address) (deltas_at address (since kept.taken changes)) []
+      → deltas_at address more.changes ≡ cond (is_address more address) (deltas_at address (past kept.taken changes)) []
   here new self =
-      deltas-append address kept.changes (changes_at address missed)
-      ∙ ap (λ ds. ds ++ deltas_at address (changes_at address missed)) (stands.deltas address
-      ∙ ap (λ b. cond b (deltas_at address (since kept.taken changes)) []) new)
+      deltas-append address kept.changes (of_address address missed)
+      ∙ ap (λ ds. ds ++ deltas_at address (of_address address missed)) (stands.deltas address
+      ∙ ap (λ b. cond b (deltas_at address (past kept.taken changes)) []) new)
       ∙ ap of (both-pass (λ c. is_at (address_cmp address) c.address) (λ c. is_at (address_cmp address) c.address) (λ c e. e) missed)
       ∙ all
-      ∙ sym (ap (λ b. cond b (deltas_at address (since kept.taken changes)) [])
+      ∙ sym (ap (λ b. cond b (deltas_at address (past kept.taken changes)) [])
       (any-inserted address address kept.addresses ∙ ap (λ b. b || is_address kept address) self))
 
   -- at another address neither the missed changes nor the new address count, so it stands as before
   elsewhere : (a : Address) → is_at (address_cmp address) a ≡ false
-      → deltas_at a more.changes ≡ cond (is_address more a) (deltas_at a (since kept.taken changes)) []
+      → deltas_at a more.changes ≡ cond (is_address more a) (deltas_at a (past kept.taken changes)) []
   elsewhere a other =
-      deltas-append a kept.changes (changes_at address missed)
+      deltas-append a kept.changes (of_address address missed)
       ∙ ap (λ ds. deltas_at a kept.changes ++ of ds) (none-passes (λ c. is_at (address_cmp a) c.address) (λ c. is_at (address_cmp address) c.address)
       (λ c h. apart a address c.address other h) missed)
       ∙ nothing (deltas_at a kept.changes)
       ∙ stands.deltas a
-      ∙ sym (ap (λ b. cond b (deltas_at a (since kept.taken changes)) []) (any-inserted a address kept.addresses
+      ∙ sym (ap (λ b. cond b (deltas_at a (past kept.taken changes)) []) (any-inserted a address kept.addresses
       ∙ ap (λ b. b || is_address kept a) ((eq_by_cmp_equiv addresses.total-law).symm a address ∙ other)))
     where
       nothing : (ds : List Delta) → ds ++ [] ≡ ds
@@ -206,10 +207,10 @@ module _ (changes missed : List Change) (front : ℕ) (kept : Kept) (address : A
   one-more new = record { taken = stands.taken; deltas = λ a. by a (is_at (address_cmp address) a) refl }
     where
       by : (a : Address) (b : Bool) → is_at (address_cmp address) a ≡ b → deltas_at a more.changes
-          ≡ cond (is_address more a) (deltas_at a (since kept.taken changes)) []
+          ≡ cond (is_address more a) (deltas_at a (past kept.taken changes)) []
       by a true e =
           let same : address ≡ a = same_address address a e in
-          subst (λ x. deltas_at x more.changes ≡ cond (is_address more x) (deltas_at x (since kept.taken changes)) []) same
+          subst (λ x. deltas_at x more.changes ≡ cond (is_address more x) (deltas_at x (past kept.taken changes)) []) same
           (here new (ap (is_at (address_cmp address)) same ∙ e))
       by a false e = elsewhere a e
 
@@ -220,7 +221,7 @@ subscribes_stand changes missed front kept address stands all = by (is_address k
     by : (b : Bool) → is_address kept address ≡ b
         → KeptFor changes front (cond b kept (record kept {
           addresses = insert_key address_cmp kept.addresses address;
-          changes = kept.changes ++ changes_at address missed;
+          changes = kept.changes ++ of_address address missed;
         }))
     by true e = stands
     by false e = one-more changes missed front kept address stands all e

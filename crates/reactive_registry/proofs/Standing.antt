@@ -6,23 +6,23 @@ use Rattle.rdt_types.specs.declared.address.Address.{Address}
 use Rattle.rdt_types.specs.declared.delta.Delta.{Delta}
 use Rattle.rdt_types.specs.Addresses.{address_cmp}
 use Rattle.change_feed.specs.declared.change.Change.{Change}
+use Rattle.change_feed.specs.Changes.{past}
 use Rattle.change_feed.specs.Pending.{deltas_at, composed_after}
 use Rattle.reactive_registry.specs.Registered.{is_address}
-use Rattle.reactive_registry.specs.Standing.{since}
 use Rattle.reactive_registry.specs.Laws.{PendingIsSince, EntriesStand, TakesStand, FollowsStand}
 use Rattle.reactive_registry.proofs.Pairs.{same_address}
 
 -- at an address of its own the untaken deltas are those past the number taken last, and so their composition is the same
 pub pending_is_since : PendingIsSince
 pending_is_since changes front kept address stands is =
-    ap (composed_after None) (stands.deltas address ∙ ap (λ b. cond b (deltas_at address (since kept.taken changes)) []) is)
+    ap (composed_after None) (stands.deltas address ∙ ap (λ b. cond b (deltas_at address (past kept.taken changes)) []) is)
 
 -- nothing of changes up to a front is past it
-pub since-front : (changes : List Change) (front : ℕ) → AllByRecursion (λ c. c.number ≤ front) changes → since front changes ≡ []
-since-front [] front all = refl
-since-front (c ∷ changes) front all = by (nat_lt front c.number) refl (since-front changes front all.1)
+pub past-front : (changes : List Change) (front : ℕ) → AllByRecursion (λ c. c.number ≤ front) changes → past front changes ≡ []
+past-front [] front all = refl
+past-front (c ∷ changes) front all = by (nat_lt front c.number) refl (past-front changes front all.1)
   where
-    by : (b : Bool) → nat_lt front c.number ≡ b → since front changes ≡ [] → cond b (c ∷ since front changes) (since front changes) ≡ []
+    by : (b : Bool) → nat_lt front c.number ≡ b → past front changes ≡ [] → cond b (c ∷ past front changes) (past front changes) ≡ []
     by true e rest = absurd (grind (arith, all.0))
     by false e rest = rest
 
@@ -39,7 +39,7 @@ entries_stand changes front all = record { taken = omega arith; deltas = λ a. r
 pub takes_stand : TakesStand
 takes_stand changes front kept all = record {
   taken = omega arith;
-  deltas = λ a. either_nothing (is_address kept a) (deltas_at a (since front changes)) (ap (deltas_at a) (since-front changes front all));
+  deltas = λ a. either_nothing (is_address kept a) (deltas_at a (past front changes)) (ap (deltas_at a) (past-front changes front all));
 }
 
 -- the deltas of changes and then of others
@@ -57,18 +57,18 @@ deltas-append a (c ∷ changes) later = by (is_at (address_cmp a) c.address) (de
     by false e = e
 
 -- all later changes are past a number that isn't past the front
-pub since-append : (changes later : List Change) (n front : ℕ) → n ≤ front → AllByRecursion (λ c. front < c.number) later
-    → since n (changes ++ later) ≡ since n changes ++ later
-since-append [] [] n front le all = refl
-since-append [] (c ∷ later) n front le all = by (nat_lt n c.number) refl (since-append [] later n front le all.1)
+pub past-append : (changes later : List Change) (n front : ℕ) → n ≤ front → AllByRecursion (λ c. front < c.number) later
+    → past n (changes ++ later) ≡ past n changes ++ later
+past-append [] [] n front le all = refl
+past-append [] (c ∷ later) n front le all = by (nat_lt n c.number) refl (past-append [] later n front le all.1)
   where
-    by : (b : Bool) → nat_lt n c.number ≡ b → since n later ≡ later → cond b (c ∷ since n later) (since n later) ≡ c ∷ later
+    by : (b : Bool) → nat_lt n c.number ≡ b → past n later ≡ later → cond b (c ∷ past n later) (past n later) ≡ c ∷ later
     by true e rest = ap (λ all. c ∷ all) rest
     by false e rest = absurd (grind (arith, all.0))
-since-append (c ∷ changes) later n front le all = by (nat_lt n c.number) (since-append changes later n front le all)
+past-append (c ∷ changes) later n front le all = by (nat_lt n c.number) (past-append changes later n front le all)
   where
-    by : (b : Bool) → since n (changes ++ later) ≡ since n changes ++ later
-        → cond b (c ∷ since n (changes ++ later)) (since n (changes ++ later)) ≡ cond b (c ∷ since n changes) (since n changes) ++ later
+    by : (b : Bool) → past n (changes ++ later) ≡ past n changes ++ later
+        → cond b (c ∷ past n (changes ++ later)) (past n (changes ++ later)) ≡ cond b (c ∷ past n changes) (past n changes) ++ later
     by true e = ap (λ all. c ∷ all) e
     by false e = e
 
@@ -113,17 +113,17 @@ deltas-chosen a chosen (c ∷ later) = by (chosen c.address) (is_at (address_cmp
 
 -- at each of its addresses the later deltas come behind the kept ones, and all later changes are past what it took
 pub follows_stand : FollowsStand
-follows_stand changes later front to kept le stands past = record {
+follows_stand changes later front to kept le stands behind = record {
   taken = omega (arith, stands.taken);
   deltas = λ a.
       deltas-append a kept.changes (filter (λ c. is_address kept c.address) later)
       ∙ ap (λ ds. ds ++ deltas_at a (filter (λ c. is_address kept c.address) later)) (stands.deltas a)
-      ∙ ap (λ ds. cond (is_address kept a) (deltas_at a (since kept.taken changes)) [] ++ ds) (deltas-chosen a (is_address kept) later)
+      ∙ ap (λ ds. cond (is_address kept a) (deltas_at a (past kept.taken changes)) [] ++ ds) (deltas-chosen a (is_address kept) later)
       ∙ both (is_address kept a) a
-      ∙ ap (λ all. cond (is_address kept a) (deltas_at a all) []) (sym (since-append changes later kept.taken front stands.taken past));
+      ∙ ap (λ all. cond (is_address kept a) (deltas_at a all) []) (sym (past-append changes later kept.taken front stands.taken behind));
 }
   where
-    both : (b : Bool) (a : Address) → cond b (deltas_at a (since kept.taken changes)) [] ++ cond b (deltas_at a later) []
-        ≡ cond b (deltas_at a (since kept.taken changes ++ later)) []
-    both true a = sym (deltas-append a (since kept.taken changes) later)
+    both : (b : Bool) (a : Address) → cond b (deltas_at a (past kept.taken changes)) [] ++ cond b (deltas_at a later) []
+        ≡ cond b (deltas_at a (past kept.taken changes ++ later)) []
+    both true a = sym (deltas-append a (past kept.taken changes) later)
     both false a = refl

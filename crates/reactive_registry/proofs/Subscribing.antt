@@ -6,8 +6,9 @@ use Rattle.std.specs.BTreeSet.{insert_key}
 use Rattle.rdt_types.specs.declared.address.Address.{Address}
 use Rattle.rdt_types.specs.Addresses.{address_cmp}
 use Rattle.change_feed.specs.declared.change.Change.{Change}
+use Rattle.change_feed.specs.Changes.{of_address}
 use Rattle.reactive_registry.specs.declared.places.Places.{Places}
-use Rattle.reactive_registry.specs.Registered.{Kept, kept_in, is_address, changes_at, subscribed}
+use Rattle.reactive_registry.specs.Registered.{Kept, kept_in, is_address, subscribed}
 use Rattle.reactive_registry.specs.Places.{links, AreLinked}
 use Rattle.reactive_registry.proofs.Pairs.{linked_pair, linked_as_before, put_back, UpTo, up_to-filter, up_to-append}
 
@@ -18,10 +19,10 @@ up_to-subscribed front k missed kept old new = by (is_address kept k)
   where
     by : (b : Bool) → UpTo front (cond b kept (record kept {
       addresses = insert_key address_cmp kept.addresses k;
-      changes = kept.changes ++ changes_at k missed;
+      changes = kept.changes ++ of_address k missed;
     })).changes
     by true = old
-    by false = up_to-append front kept.changes (changes_at k missed) old (up_to-filter front (λ c. is_at (address_cmp k) c.address) missed new)
+    by false = up_to-append front kept.changes (of_address k missed) old (up_to-filter front (λ c. is_at (address_cmp k) c.address) missed new)
 
 -- by the answer: Ok puts the pair in both directions and keeps only changes up to the front, an error leaves both as before
 pub linked_subscribed : {E : Type 0} (r : Result (Unit {0}) E) (front : ℕ) (es es' : List (ℕ × Kept)) (p p' : Places) (s : ℕ) (k : Address)

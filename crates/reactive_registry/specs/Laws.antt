@@ -4,6 +4,7 @@ use Rattle.std.specs.List.{AllByRecursion}
 use Rattle.rdt_types.specs.declared.address.Address.{Address}
 use Rattle.change_feed.specs.declared.change.Change.{Change}
 use Rattle.rdt_types.specs.DeltaMaps.{delta_at}
+use Rattle.change_feed.specs.Changes.{past}
 use Rattle.change_feed.specs.Pending.{deltas_at, pending}
 use Rattle.change_feed.specs.Feeds.{Fed, AreOfTheirKinds}
 use Rattle.change_feed.specs.Tails.{IsTail}
@@ -11,12 +12,12 @@ use Rattle.client_cache.specs.Cached.{Cached, Advances}
 use Rattle.client_cache.specs.Laws.{HoldsState}
 use Rattle.reactive_registry.specs.Registered.{Kept, Registered, kept_of, with_kept, entered, subscribed, unsubscribed, emptied, told, is_address}
 use Rattle.reactive_registry.specs.Registered.{pending_for, pending_of}
-use Rattle.reactive_registry.specs.Standing.{since, KeptFor, StandsFor}
+use Rattle.reactive_registry.specs.Standing.{KeptFor, StandsFor}
 
 -- What is pending for one that stands for changes is, at each of its addresses, what those past the number taken last come to.
 abbrev pub PendingIsSince : Type 0
 PendingIsSince = (changes : List Change) (front : ℕ) (kept : Kept) (address : Address) → KeptFor changes front kept
-    → is_address kept address ≡ true → pending_for kept address ≡ pending address (since kept.taken changes)
+    → is_address kept address ≡ true → pending_for kept address ≡ pending address (past kept.taken changes)
 
 -- One that enters at a front has nothing to take of changes up to it.
 abbrev pub EntriesStand : Type 0
@@ -30,7 +31,7 @@ TakesStand = (changes : List Change) (front : ℕ) (kept : Kept) → AllByRecurs
 -- One that subscribes to an address goes on standing, where what it missed there are all changes past the number taken last.
 abbrev pub SubscribesStand : Type 0
 SubscribesStand = (changes missed : List Change) (front : ℕ) (kept : Kept) (address : Address) → KeptFor changes front kept
-    → deltas_at address missed ≡ deltas_at address (since kept.taken changes) → KeptFor changes front (subscribed address missed kept)
+    → deltas_at address missed ≡ deltas_at address (past kept.taken changes) → KeptFor changes front (subscribed address missed kept)
 
 -- One that unsubscribes goes on standing.
 abbrev pub UnsubscribesStand : Type 0

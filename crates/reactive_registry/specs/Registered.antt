@@ -14,6 +14,7 @@ use Rattle.rdt_types.specs.declared.delta.Delta.{Delta}
 use Rattle.rdt_types.specs.declared.delta.Delta.TheVariants as delta
 use Rattle.rdt_types.specs.Addresses.{address_cmp}
 use Rattle.change_feed.specs.declared.change.Change.{Change}
+use Rattle.change_feed.specs.Changes.{of_address}
 use Rattle.change_feed.specs.Pending.{pending}
 
 -- of a subscriber: the number up to which it has taken, its addresses, and the changes there that it hasn't taken yet
@@ -79,17 +80,14 @@ with_subscription registry subscriber address stands s a =
 abbrev pub entered : ℕ → Kept
 entered front = record { taken = front; addresses = []; changes = [] }
 
--- the changes at an address, and those elsewhere
-abbrev pub changes_at : Address → List Change → List Change
-changes_at address changes = filter (λ change. is_at (address_cmp address) change.address) changes
-
+-- the changes elsewhere than at an address
 abbrev pub changes_elsewhere : Address → List Change → List Change
 changes_elsewhere address changes = filter (λ change. not (is_at (address_cmp address) change.address)) changes
 
 -- it has one address more, of which it missed changes: they are to be taken with the others
 abbrev pub with_address : Address → List Change → Kept → Kept
 with_address address missed kept =
-    record kept { addresses = insert_key address_cmp kept.addresses address; changes = kept.changes ++ changes_at address missed }
+    record kept { addresses = insert_key address_cmp kept.addresses address; changes = kept.changes ++ of_address address missed }
 
 -- it subscribes to an address, of which it missed changes. Where it is subscribed, nothing changes
 abbrev pub subscribed : Address → List Change → Kept → Kept

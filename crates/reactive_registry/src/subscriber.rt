@@ -6,8 +6,9 @@ ghost use Rattle.std.specs.BTreeSet.{insert_key, contains};
 ghost use Rattle.rdt_types.specs.declared.address.Address.{Address};
 ghost use Rattle.rdt_types.specs.Addresses.{address_cmp};
 ghost use Rattle.rdt_types.specs.DeltaMaps.{delta_at};
+ghost use Rattle.change_feed.specs.Changes.{of_address};
 ghost use Rattle.change_feed.specs.Pending.{pending};
-ghost use Rattle.reactive_registry.specs.Registered.{is_address, pending_for, entered, emptied, with_address, unsubscribed, changes_at, changes_elsewhere};
+ghost use Rattle.reactive_registry.specs.Registered.{is_address, pending_for, entered, emptied, with_address, unsubscribed, changes_elsewhere};
 
 use change_feed::{Change, Feed};
 use plain_data::copied;
@@ -42,7 +43,7 @@ fn push_at(
     address: &Address,
     missed: &[Change],
 ) -> Result<(), AllocError>
-    ensures ok { OnOk result (changes.new.items ≡ changes.old.items ++ changes_at address.now missed.now) }
+    ensures ok { OnOk result (changes.new.items ≡ changes.old.items ++ of_address address.now missed.now) }
     ensures begun { take (length changes.old.items) changes.new.items ≡ changes.old.items }
 {
     for change in missed {
@@ -178,7 +179,7 @@ fn add_address(
     ensures has { OnOk result ((a : Address) → contains address_cmp addresses.new a
         ≡ (if is_at (address_cmp address.now) a then true else contains address_cmp addresses.old a)) }
     ensures added { OnOk result (addresses.new.keys ≡ insert_key address_cmp addresses.old.keys address.now) }
-    ensures grown { OnOk result (changes.new.items ≡ changes.old.items ++ changes_at address.now missed.now) }
+    ensures grown { OnOk result (changes.new.items ≡ changes.old.items ++ of_address address.now missed.now) }
     ensures err { OnErr result (addresses.new.keys ≡ addresses.old.keys) }
     ensures begun { take (length changes.old.items) changes.new.items ≡ changes.old.items }
 {

@@ -20,7 +20,7 @@ use Rattle.change_feed.specs.declared.change.Change.{Change}
 use Rattle.txn_lang.specs.States.{Journal, apply_maybe, after, state}
 use Rattle.journal_core.specs.Changes.{changes_by, changes_of, changes, past, up_to, between, of_shard, of_address}
 use Rattle.journal_core.specs.Pairs.{AreNumbered}
-use Rattle.journal_core.specs.Rising.{Rises}
+use Rattle.journal_core.specs.code.Rising.{Rises}
 use Rattle.journal_core.proofs.ByShard.{changes-up_to, numbered-take, swapped, of_address-in_shard}
 use Rattle.journal_core.proofs.Rising.{changes-rise}
 use Rattle.version_shard.specs.Standing.{IsReadable}

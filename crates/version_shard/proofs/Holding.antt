@@ -14,7 +14,7 @@ use Rattle.change_feed.specs.declared.change.Change.{Change}
 use Rattle.change_feed.specs.declared.tail.Tail.{Tail}
 use Rattle.txn_lang.specs.States.{Journal, left_by}
 use Rattle.journal_core.specs.Changes.{changes, up_to, between, of_shard, of_address}
-use Rattle.journal_core.specs.Rising.{Rises}
+use Rattle.journal_core.specs.code.Rising.{Rises}
 use Rattle.journal_core.proofs.ByShard.{swapped}
 use Rattle.journal_core.proofs.Each.{each-more, each-filter}
 use Rattle.version_shard.specs.declared.version.Version.{Version}

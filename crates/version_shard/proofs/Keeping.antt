@@ -18,7 +18,7 @@ use Rattle.change_feed.specs.declared.change.Change.{Change}
 use Rattle.change_feed.specs.declared.tail.Tail.{Tail}
 use Rattle.change_feed.specs.Feeds.{AreOfTheirKinds}
 use Rattle.change_feed.specs.Tails.{IsTail}
-use Rattle.journal_core.specs.Rising.{Rises}
+use Rattle.journal_core.specs.code.Rising.{Rises}
 use Rattle.journal_core.proofs.Each.{each-more, each-take, each-filter}
 use Rattle.journal_core.proofs.Rising.{rises-at}
 use Rattle.version_shard.specs.declared.version.Version.{Version}

@@ -17,7 +17,7 @@ use Rattle.rdt_types.proofs.Addresses.{address_cmp-equal}
 use Rattle.change_feed.specs.declared.change.Change.{Change}
 use Rattle.journal_core.specs.Changes as journals
 use Rattle.journal_core.specs.Changes.{of_address}
-use Rattle.journal_core.specs.Rising.{Rises}
+use Rattle.journal_core.specs.code.Rising.{Rises}
 use Rattle.journal_core.proofs.ByShard.{swapped}
 use Rattle.journal_core.proofs.Each.{each-more, each-append}
 use Rattle.version_shard.specs.declared.version.Version.{Version}

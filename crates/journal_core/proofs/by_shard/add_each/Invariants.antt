@@ -1,6 +1,6 @@
 use Rattle.std.proofs.Common.{◌≡◌, ℕ, ◌++◌, length}
 use Rattle.journal_core.specs.Changes.{of_shard}
-use Rattle.journal_core.specs.ByShard.{list_at, HasRoom}
+use Rattle.journal_core.specs.code.ByShard.{list_at, HasRoom}
 use Rattle.journal_core.proofs.by_shard.add_each.Given as goal
 
 -- the changes added so far, and those of the rest, are all; there is memory for the rest

@@ -1,5 +1,5 @@
 use Rattle.std.proofs.Common.{◌≡◌, ℕ, [], length}
-use Rattle.journal_core.specs.ByShard.{list_at}
+use Rattle.journal_core.specs.code.ByShard.{list_at}
 use Rattle.journal_core.proofs.by_shard.empty_lists.Given as goal
 
 -- so many lists, and no change in any

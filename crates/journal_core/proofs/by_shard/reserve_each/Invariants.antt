@@ -1,5 +1,5 @@
 use Rattle.std.proofs.Common.{◌≡◌, ℕ, ◌≤◌, ◌<◌, length}
-use Rattle.journal_core.specs.ByShard.{HasGrown, room_at}
+use Rattle.journal_core.specs.code.ByShard.{HasGrown, room_at}
 use Rattle.journal_core.proofs.by_shard.reserve_each.Given as goal
 
 -- the lists up to a place have memory

@@ -3,7 +3,7 @@ use Rattle.std.proofs.Math.Nat.{le-max_left}
 use Rattle.rdt_types.specs.Shards.{shard_of}
 use Rattle.journal_core.specs.Changes.{changes, of_shard, past}
 use Rattle.journal_core.specs.Pairs.{front_at}
-use Rattle.journal_core.specs.Parts.{MeetsAlike}
+use Rattle.journal_core.specs.code.Parts.{MeetsAlike}
 use Rattle.journal_core.proofs.Passing.{moved, none-alike}
 use Rattle.journal_core.proofs.ByShard.{past-alike, none_past}
 use Rattle.journal_core.proofs.deciding.ahead.Goals as goal

@@ -1,7 +1,7 @@
 use Rattle.std.proofs.Common.{List, sym, subst}
 use Rattle.change_feed.specs.declared.change.Change.{Change}
-use Rattle.journal_core.specs.Rising.{Rises}
-use Rattle.journal_core.specs.Parts.{IsPartedAt}
+use Rattle.journal_core.specs.code.Rising.{Rises}
+use Rattle.journal_core.specs.code.Parts.{IsPartedAt}
 use Rattle.journal_core.proofs.Rising.{rises-drop, all_behind, parted-behind}
 use Rattle.journal_core.proofs.walk.count_up_to.Goals as goal
 

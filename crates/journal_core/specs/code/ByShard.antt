@@ -1,5 +1,6 @@
 -- Changes kept by shard: the list at a place has those in the shard of that number, in the journal's order. What a place
--- past the lists has is nothing. The law `keeps-more` ties them to the changes of a journal.
+-- past the lists has is nothing. `keeps-more` of proofs/ByShard ties the lists to `of_shard` of a journal's `changes`
+-- (specs/Changes), and `first_clash-in_shard` and `of_address-in_shard` there say that the list of a shard is enough.
 use Rattle.std.specs.Prelude.{◌≡◌, ◌≢◌, ℕ, ◌+◌, ◌<◌, ◌≤◌, List, [], ◌∷◌, ◌++◌, length, get_or}
 use Rattle.change_feed.specs.declared.change.Change.{Change}
 use Rattle.journal_core.specs.Changes.{of_shard}

@@ -1,4 +1,6 @@
--- The commits and what is kept beside them, so that no call goes through the journal.
+-- The commits and what is kept beside them, so that no call goes through the journal. The clauses of `Log` in src/log.rt tie
+-- it to the rules: that of `in_shard` to `of_shard` of specs/Changes, and `least` of `least_past`, by `least-is-first` of
+-- proofs/Ordering, to `least_pair` of specs/Pairs. `keeps-more` of proofs/ByShard says that it stays so with one commit more.
 use Rattle.std.specs.Prelude.{ℕ, ◌≤◌, List, refl}
 use Rattle.std.specs.Coded.{Coded, code_by, coded×, coded_list, coded_ℕ}
 use Rattle.rdt_types.specs.declared.limits.TheConstants.{LEAST_SHARDS, MOST_SHARDS}
@@ -8,7 +10,7 @@ use Rattle.txn_lang.specs.States.{Journal}
 use Rattle.journal_core.specs.Changes.{changes}
 use Rattle.journal_core.specs.Kinds.{HasKinds}
 use Rattle.journal_core.specs.Pairs.{AreNumbered}
-use Rattle.journal_core.specs.ByShard.{AreByShard, HasRoom}
+use Rattle.journal_core.specs.code.ByShard.{AreByShard, HasRoom}
 
 -- the commits, by how many shards their changes are kept, and for how many changes of a commit there is memory
 pub record Log : Type 0 where

@@ -1,4 +1,7 @@
--- Where a list of changes is parted by a number, and what an observation meets of it.
+-- Where the code parts a list of changes by a number, and what an observation meets of it. `parted-at` and `parted-behind` of
+-- proofs/Rising give the place, and the clauses of `past` and `up_to` in src/walk.rt tie it to `past` and `up_to` of
+-- specs/Changes. `past-alike` of proofs/ByShard, by the clauses of `clash_past` in src/deciding.rt, ties what is met to the first
+-- clash past the fronts (specs/Pairs) among all changes.
 use Rattle.std.specs.Prelude.{◌≡◌, ℕ, ◌≤◌, List, ◌++◌, filter, length, take, drop}
 use Rattle.change_feed.specs.declared.change.Change.{Change}
 use Rattle.abort_witness.specs.declared.witness.Based.{Based}

@@ -1,4 +1,5 @@
--- Lists of changes in the order of their commits. The law `changes-rise` says that the changes of a journal are one.
+-- Lists of changes in the order of their commits, in which a number is found by halving. `changes-rise` of proofs/Rising says
+-- that the `changes` of a journal (specs/Changes) are one.
 use Rattle.std.specs.Prelude.{ℕ, ◌≤◌, List, [], ◌∷◌}
 use Rattle.change_feed.specs.declared.change.Change.{Change}
 

@@ -1,0 +1,4 @@
+pub mod Rising
+pub mod Parts
+pub mod ByShard
+pub mod Logs
