@@ -60,6 +60,7 @@ as-many (z ∷ seen) = ap suc (as-many seen)
 abbrev cost_of : Watch → ℕ
 cost_of watch = run_calls + length watch.observations
 
+-- so much where a watch is stale, and else nothing
 abbrev if_stale : Bool → ℕ → ℕ
 if_stale true n = n
 if_stale false n = 0

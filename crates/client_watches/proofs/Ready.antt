@@ -38,10 +38,12 @@ abbrev pub IsFreeFor : Goal → Watching → Type 0
 IsFreeFor Goal.current w = Unit {0}
 IsFreeFor (Goal.watch name body) w = watch_of w.watches name ≡ None
 
+-- the name of the watch that is to be made isn't in use while a run goes on
 abbrev pub JobKeeps : Job → Watching → Type 0
 JobKeeps (Job.rerun_for goal) w = IsFreeFor goal w
 JobKeeps (Job.first_of name body) w = watch_of w.watches name ≡ None
 
+-- nor while values are let go
 abbrev pub ThenKeeps : Then → Watching → Type 0
 ThenKeeps Then.ends w = Unit {0}
 ThenKeeps (Then.begins name body) w = watch_of w.watches name ≡ None
@@ -58,6 +60,7 @@ pub record IsDropping (k : Known) (next : Then) (w : Watching) (rest : List Addr
   pub free : ThenKeeps next w
   pub short : AllByRecursion IsShortAddress rest
 
+-- what holds in each phase: what is kept, and what its way on rests on
 abbrev pub PhaseKeeps : Known → Phase → Type 0
 PhaseKeeps k (Phase.taking goal w) = Keeps k w × IsFreeFor goal w
 PhaseKeeps k (Phase.reading job w said address) = IsWanting k job w address

@@ -15,7 +15,7 @@ use Rattle.txn_lang.specs.Execution.{exec}
 use Rattle.journal_core.specs.declared.ready.Ready.{Ready}
 use Rattle.docc_prepare.specs.Calls.{Call}
 use Rattle.docc_prepare.specs.Stores.{Store, front_of, seen_by, witness_past, decided, step, followed, IsSound}
-use Rattle.docc_prepare.specs.Worlds.{Watch, RunsAt, IsReported, with_report}
+use Rattle.docc_prepare.specs.Worlds.{Reported, RunsAt, IsReported, with_run}
 use Rattle.docc_prepare.proofs.Each.{each-more}
 use Rattle.docc_prepare.proofs.Stored.{rises, Grown}
 
@@ -71,13 +71,13 @@ module _ (s t : Store) (d : ℕ) (sound : IsSound s) (grown : Grown s t) (up : s
       }
 
   -- so do those of watches
-  pub reported-on : (watches : List Watch) → AllByRecursion (IsReported s d) watches → AllByRecursion (IsReported t d) watches
+  pub reported-on : (watches : List Reported) → AllByRecursion (IsReported s d) watches → AllByRecursion (IsReported t d) watches
   reported-on watches all = each-more (IsReported s d) (IsReported t d) watches (λ watch runs. runs-on watch.body watch.last watch.run runs) all
 
 -- a report is its body's run where it goes to a watch, and the others are as before
-pub reported-anew : (s : Store) (c : ℕ) (name : Bytes) (n : ℕ) (run : Run) (watches : List Watch) → AllByRecursion (IsReported s c) watches
+pub reported-anew : (s : Store) (c : ℕ) (name : Bytes) (n : ℕ) (run : Run) (watches : List Reported) → AllByRecursion (IsReported s c) watches
     → AllByRecursion (λ watch. bytes_eq name watch.name ≡ true → RunsAt s c watch.body n run) watches
-    → AllByRecursion (IsReported s c) (with_report name n run watches)
+    → AllByRecursion (IsReported s c) (with_run name n run watches)
 reported-anew s c name n run [] all named = tt
 reported-anew s c name n run (watch ∷ watches) all named =
     (by (bytes_eq name watch.name) refl, reported-anew s c name n run watches all.1 named.1)

@@ -34,7 +34,7 @@ use Rattle.docc_prepare.specs.Calls.{Call}
 use Rattle.docc_prepare.specs.Stores as stores
 use Rattle.docc_prepare.specs.Stores.{Store, CLIENTS, first_store, front_of, seen_by, saw, least_base, late_base, validated, followed}
 use Rattle.docc_prepare.specs.Worlds.{World, Event, attempt_of, holding, observed_in, append_of, call_of, taking, called, IsHeld, IsSound}
-use Rattle.docc_prepare.specs.Worlds.{Watch, watches_of, watching, IsReported}
+use Rattle.docc_prepare.specs.Worlds.{Reported, watches_of, watching, IsReported}
 use Rattle.docc_prepare.specs.Worlds.{EventsStaySound, IsOpened, MovesStaySound, FirstIsSound, Turn, first_world, turned, IsTurn, after_turns}
 use Rattle.docc_prepare.specs.Worlds.{AreTurns, EveryWorldIsSound}
 use Rattle.docc_prepare.proofs.Nexts.{needs, appends, prepares}
@@ -278,11 +278,11 @@ holding-sound w c o s h = record {
 }
 
 -- or only its client's watches
-watching-sound : (w : World) (c : ℕ) (watches : List Watch) → IsSound w → AllByRecursion (IsReported w.store c) watches → IsSound (watching w c watches)
+watching-sound : (w : World) (c : ℕ) (watches : List Reported) → IsSound w → AllByRecursion (IsReported w.store c) watches → IsSound (watching w c watches)
 watching-sound w c watches s all = record {
   stored = s.stored;
   held = s.held;
-  reported = λ d. kept-each (λ e (ws : List Watch). AllByRecursion (IsReported w.store e) ws) w.watches c watches [] d all (s.reported d);
+  reported = λ d. kept-each (λ e (ws : List Reported). AllByRecursion (IsReported w.store e) ws) w.watches c watches [] d all (s.reported d);
 }
 
 -- An opened attempt is held, and where none is open none need be. A new watch and a report are bodies' runs, and the watches
@@ -303,7 +303,7 @@ pub first_is_sound : FirstIsSound
 first_is_sound shards window limit some = record {
   stored = first_store_is_sound shards window limit some;
   held = λ c. all_alike (HeldMaybe (first_store shards window limit)) CLIENTS c None tt;
-  reported = λ c. all_alike (λ (ws : List Watch). AllByRecursion (IsReported (first_store shards window limit) c) ws) CLIENTS c [] tt;
+  reported = λ c. all_alike (λ (ws : List Reported). AllByRecursion (IsReported (first_store shards window limit) c) ws) CLIENTS c [] tt;
 }
 
 -- ---- lists of turns

@@ -23,8 +23,8 @@ use Rattle.docc_prepare.specs.Calls.{Call, Answer}
 use Rattle.docc_prepare.specs.Stores as stores
 use Rattle.docc_prepare.specs.Stores.{Store, CLIENTS, first_store, front_of, seen_by, followed}
 
--- a watch: its name, its body, up to which commit it was reported last, and the body's run there
-pub record Watch : Type 0 where
+-- a watch as it was reported last: its name, its body, up to which commit, and the body's run there
+pub record Reported : Type 0 where
   pub name : Bytes
   pub body : Checked
   pub last : ℕ
@@ -34,7 +34,7 @@ pub record Watch : Type 0 where
 pub record World : Type 0 where
   pub store : Store
   pub attempts : List (Option Attempt)
-  pub watches : List (List Watch)
+  pub watches : List (List Reported)
 
 -- nothing was done yet
 abbrev pub first_world : ℕ → ℕ → ℕ → World
@@ -47,11 +47,11 @@ attempt_of w client = get_or w.attempts client None
 abbrev pub holding : World → ℕ → Option Attempt → World
 holding w client attempt = record w { attempts = set w.attempts client attempt }
 
-abbrev pub watches_of : World → ℕ → List Watch
+abbrev pub watches_of : World → ℕ → List Reported
 watches_of w client = get_or w.watches client []
 
 -- a client's watches are these
-abbrev pub watching : World → ℕ → List Watch → World
+abbrev pub watching : World → ℕ → List Reported → World
 watching w client watches = record w { watches = set w.watches client watches }
 
 -- the world of a store that went on
@@ -132,7 +132,7 @@ pub record RunsAt (s : Store) (client : ℕ) (body : Checked) (number : ℕ) (ru
   pub ran : exec body.body (known (state s.journal number)) ≡ done run
 
 -- the last run of a watch is such a run
-abbrev pub IsReported : Store → ℕ → Watch → Type 0
+abbrev pub IsReported : Store → ℕ → Reported → Type 0
 IsReported s client watch = RunsAt s client watch.body watch.last watch.run
 
 -- The store is sound, each open attempt is held, and each watch was reported by its body's run.
@@ -162,11 +162,11 @@ pub record IsOpened (w : World) (attempt : Attempt) : Type 0 where
   pub text : tree attempt.body.source ≡ Some attempt.body.body
 
 -- a new watch is the last
-abbrev pub with_watch : Watch → List Watch → List Watch
-with_watch watch watches = watches ++ watch ∷ []
+abbrev pub with_new : Reported → List Reported → List Reported
+with_new watch watches = watches ++ watch ∷ []
 
 -- the watch of a name is reported at a number, by this run
-abbrev pub report : Bytes → ℕ → Run → Watch → Watch
+abbrev pub report : Bytes → ℕ → Run → Reported → Reported
 report name number run watch = if bytes_eq name watch.name then (record watch { last = number; run = run }) else watch
 
 -- it is its body's run there
@@ -174,22 +174,23 @@ abbrev pub IsReport : World → ℕ → Bytes → ℕ → Run → Type 0
 IsReport w client name number run =
     AllByRecursion (λ watch. bytes_eq name watch.name ≡ true → RunsAt w.store client watch.body number run) (watches_of w client)
 
-abbrev pub with_report : Bytes → ℕ → Run → List Watch → List Watch
-with_report name number run watches = map (report name number run) watches
+-- the watch of a name has that run, and the others are as before
+abbrev pub with_run : Bytes → ℕ → Run → List Reported → List Reported
+with_run name number run watches = map (report name number run) watches
 
 -- the watch of a name is forgotten
-abbrev pub without_watch : Bytes → List Watch → List Watch
-without_watch name watches = filter (λ watch. not (bytes_eq name watch.name)) watches
+abbrev pub without_named : Bytes → List Reported → List Reported
+without_named name watches = filter (λ watch. not (bytes_eq name watch.name)) watches
 
 -- A law: so does each move, which opens or closes an attempt, or makes, reports or forgets a watch.
 pub record MovesStaySound : Type 0 where
   pub opening : (w : World) (client : ℕ) (attempt : Attempt) → IsSound w → IsOpened w attempt → IsSound (holding w client (Some attempt))
   pub closing : (w : World) (client : ℕ) → IsSound w → IsSound (holding w client None)
-  pub making : (w : World) (client : ℕ) (watch : Watch) → IsSound w → IsReported w.store client watch
-      → IsSound (watching w client (with_watch watch (watches_of w client)))
+  pub making : (w : World) (client : ℕ) (watch : Reported) → IsSound w → IsReported w.store client watch
+      → IsSound (watching w client (with_new watch (watches_of w client)))
   pub reporting : (w : World) (client : ℕ) (name : Bytes) (number : ℕ) (run : Run) → IsSound w → IsReport w client name number run
-      → IsSound (watching w client (with_report name number run (watches_of w client)))
-  pub forgetting : (w : World) (client : ℕ) (name : Bytes) → IsSound w → IsSound (watching w client (without_watch name (watches_of w client)))
+      → IsSound (watching w client (with_run name number run (watches_of w client)))
+  pub forgetting : (w : World) (client : ℕ) (name : Bytes) → IsSound w → IsSound (watching w client (without_named name (watches_of w client)))
 
 -- A law: the first world is sound.
 abbrev pub FirstIsSound : Type 0
@@ -202,7 +203,7 @@ pub data Turn : Type 0 where
   event : ℕ → Event → Turn
   opens : ℕ → Attempt → Turn
   closes : ℕ → Turn
-  watches : ℕ → Watch → Turn
+  watches : ℕ → Reported → Turn
   reports : ℕ → Bytes → ℕ → Run → Turn
   forgets : ℕ → Bytes → Turn
 
@@ -211,9 +212,9 @@ abbrev pub turned : World → Turn → World
 turned w (Turn.event client e) = (step w client e).0
 turned w (Turn.opens client attempt) = holding w client (Some attempt)
 turned w (Turn.closes client) = holding w client None
-turned w (Turn.watches client watch) = watching w client (with_watch watch (watches_of w client))
-turned w (Turn.reports client name number run) = watching w client (with_report name number run (watches_of w client))
-turned w (Turn.forgets client name) = watching w client (without_watch name (watches_of w client))
+turned w (Turn.watches client watch) = watching w client (with_new watch (watches_of w client))
+turned w (Turn.reports client name number run) = watching w client (with_run name number run (watches_of w client))
+turned w (Turn.forgets client name) = watching w client (without_named name (watches_of w client))
 
 -- An attempt is opened where its client has none open. A watch is made or reported by its body's run at a number that its
 -- client has seen.
@@ -261,9 +262,9 @@ taking-late : (attempt : Attempt) → taking (Call.prepare 1 []) (Answer.late 2 
 taking-late attempt = refl
 
 -- a report goes to the watch of its name
-report-example : (watch : Watch) (run : Run) → (report (codes "free") 3 run (record watch { name = codes "free" })).last ≡ 3
+report-example : (watch : Reported) (run : Run) → (report (codes "free") 3 run (record watch { name = codes "free" })).last ≡ 3
 report-example watch run = refl
 
 -- and to no other
-report-other : (watch : Watch) (run : Run) → (report (codes "free") 3 run (record watch { name = codes "sales"; last = 2 })).last ≡ 2
+report-other : (watch : Reported) (run : Run) → (report (codes "free") 3 run (record watch { name = codes "sales"; last = 2 })).last ≡ 2
 report-other watch run = refl

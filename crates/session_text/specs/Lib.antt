@@ -7,3 +7,4 @@ pub mod Replies
 pub mod code
 pub mod ReadBack
 pub mod Follows
+pub mod Examples

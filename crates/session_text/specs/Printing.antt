@@ -1,8 +1,12 @@
 -- The printed form of replies, a row a reply: words and numbers with one space between each two. Texts, addresses, outcomes
 -- and parts are printed as data is.
-use Rattle.std.specs.Prelude.{ℕ, ◌++◌, codes}
-use Rattle.std.specs.Fmt.{decimal}
+use Rattle.std.specs.Prelude.{◌≡◌, ℕ, true, [], ◌∷◌, ◌++◌, codes, pos, refl}
+use Rattle.std.specs.Fmt.{decimal, digits}
 use Rattle.plain_data.specs.Texts.{Bytes}
+use Rattle.rdt_types.specs.declared.address.Kind.TheVariants as kind
+use Rattle.rdt_types.specs.declared.operation.WriteOp.TheVariants as op
+use Rattle.rdt_types.specs.declared.outcome.Item.TheVariants as item
+use Rattle.rdt_types.specs.declared.outcome.Outcome.TheVariants as outcome
 use Rattle.rdt_types.specs.Printed.{printed_text, printed_address}
 use Rattle.conflict_table.specs.declared.observation.Obs.{Obs}
 use Rattle.conflict_table.specs.declared.observation.Obs.TheVariants as obs
@@ -90,6 +94,7 @@ printed_witness w =
 abbrev pub worded : ReplyWord → Bytes → Bytes
 worded w rest = word_of w ++ (codes " " ++ rest)
 
+-- the printed form of a reply
 abbrev pub printed_reply : Reply → Bytes
 printed_reply (reply.Commit n outcome) = worded word.Commit (decimal n ++ (codes " " ++ printed_outcome outcome))
 printed_reply (reply.Abort witness) = worded word.Abort (printed_witness witness)
@@ -107,3 +112,46 @@ printed_reply (reply.Full limit) = worded word.Full (decimal limit)
 printed_reply reply.Disk = word_of word.Disk
 printed_reply reply.Dropped = word_of word.Dropped
 printed_reply (reply.Refused reason) = worded word.Refused (printed_why reason)
+
+-- ---- worked rows
+
+-- a commit of a body that emitted two values
+commit-row : printed_reply (reply.Commit 12 (outcome.Ok (item.Int (pos 1) ∷ item.Bool true ∷ []))) ≡ codes "commit 12 ok 1 true"
+unfolding digits
+commit-row = refl
+
+-- an element that was observed at commit 3, and which commit 5 took out
+abort-row :
+    printed_reply (reply.Abort (record {
+      address = record { kind = kind.Set; key = codes "s" };
+      obs = obs.SetHas (codes "a");
+      base = 3;
+      part = op.SetRemove (codes "a");
+      number = 5;
+    })) ≡ codes "abort set(\"s\") has \"a\" base 3 clash remove \"a\" commit 5"
+unfolding digits
+abort-row = refl
+
+-- a shard and its front
+prepared-row : printed_reply (reply.Prepared 3 12) ≡ codes "prepare 3 front 12"
+unfolding digits
+prepared-row = refl
+
+-- a run of a watch that had no ticks left
+ran-row : printed_reply (reply.Ran (codes "free") 10 outcome.Spent) ≡ codes "run free 10 spent"
+unfolding digits
+ran-row = refl
+
+-- nothing was seen yet
+seen-row : printed_reply (reply.Seen 0) ≡ codes "seen 0"
+unfolding digits
+seen-row = refl
+
+-- a word alone
+idle-row : printed_reply reply.Idle ≡ codes "idle"
+idle-row = refl
+
+-- a refusal, with the column of its body
+refused-row : printed_reply (reply.Refused (why.Syntax 7)) ≡ codes "refused syntax 7"
+unfolding digits
+refused-row = refl

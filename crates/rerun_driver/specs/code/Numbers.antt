@@ -1,4 +1,6 @@
--- Numbers in rising order, as the code keeps them.
+-- Numbers in rising order, as the code keeps them. By `among-with` of proofs/Rising a number that is put is there, beside those that
+-- were, and by `among-without` the others stay where one is taken out; `first-place` of proofs/Rolls ties the place of the first stale
+-- number to that of the first stale watch.
 use Rattle.std.specs.Prelude.{◌≡◌, ℕ, ◌<◌, Bool, List, [], ◌∷◌, Option, Some, None, option_map, if◌then◌else◌, nat_eq, nat_lt, suc, refl}
 use Rattle.std.specs.List.{list_any, AllByRecursion}
 

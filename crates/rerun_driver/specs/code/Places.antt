@@ -1,4 +1,5 @@
--- Which watches stand at an address, by their numbers.
+-- Which watches stand at an address, by their numbers. Of proofs/Placed, `observed-there` ties them to `is_observed` of specs/Watches,
+-- and `along-all` those at the addresses of changes to `all_told`.
 use Rattle.std.specs.Prelude.{ℕ, Bool, List, []}
 use Rattle.std.specs.Option.{option_map_or}
 use Rattle.std.specs.BTreeMap.{get}

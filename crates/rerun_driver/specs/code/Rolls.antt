@@ -1,4 +1,6 @@
--- The watches of a client by their numbers: each is given one at its making, above all before it.
+-- The watches of a client by their numbers: each is given one at its making, above all before it. `along-all` of proofs/Placed ties
+-- who is told to `all_told` of specs/Watches, `first-place` of proofs/Rolls and `found_at` of proofs/Shown the stale ones to
+-- `first_stale`, and `named-none` of proofs/Rolls a name without a number to `watch_of`.
 use Rattle.std.specs.Prelude.{◌≡◌, ℕ, zero, suc, ◌<◌, ◌≤◌, Bool, true, false, List, [], ◌∷◌, fold, length, Option, Some, None, Vec, if◌then◌else◌, nat_eq}
 use Rattle.std.specs.declared.alloc.Global.{Global}
 use Rattle.std.specs.List.{AllByRecursion}

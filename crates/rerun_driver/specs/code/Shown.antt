@@ -1,4 +1,5 @@
--- What is kept, as contracts see it.
+-- What is kept, as contracts see it. Of proofs/Shown, `lookup-shown` ties it to `watch_of` of specs/Watches, `shown-append` to
+-- `with_watch`, `shown-remove_entry` to `without_watch`, and `shown-settled` to `with_report`.
 use Rattle.std.specs.Prelude.{ℕ, List, map, Vec}
 use Rattle.std.specs.declared.alloc.Global.{Global}
 use Rattle.rerun_driver.specs.declared.watch.Watch.{Watch}
