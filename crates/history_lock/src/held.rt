@@ -1,6 +1,6 @@
 //! What lies under the lock, and the guard that lends it.
 //!
-//! Only this file takes the value out of its place and puts it back. What is taken out is a `HistoryGuard`, which has no `Drop` and whose parts no other file can take apart: so whoever has one puts it back or lends it, and no other body can drop the value or leave its place empty. What fills a place knows of no `Drop` of the value, so it can't drop it either.
+//! Only this file takes the value out of its place and puts it back. What is taken out is a `HistoryGuard`, which has no `Drop` and a private field: in any other file a pattern that names the field is refused as `private-field`, and what takes a part out without it lets the rest go, which is refused as `linear-value-let-go`. So whoever has a guard puts it back or lends it, and no other body can leave the place empty. Whoever puts another value in the lent one's place owes for it what `leave` asks. What fills a place knows of no `Drop` of the value, so it can't drop it.
 ghost use Rattle.std.specs.Prelude.{◌≡◌, ◌≤◌, IfSome};
 ghost use mathlib.Core.List.{IsPrefix};
 ghost use Rattle.plain_data.specs.Histories.{IsLawful};
