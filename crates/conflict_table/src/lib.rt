@@ -25,7 +25,7 @@ pub use laws::{
 pub use lent::{Part, copy_part};
 pub use naming::part;
 pub use observation::Obs;
-pub use observing::observe;
+pub use observing::{counter_in, has_element, observe};
 pub use read::ReadOp;
 pub use steps::Steps;
 pub use table::clash;

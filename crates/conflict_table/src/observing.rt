@@ -22,8 +22,8 @@ fn bool_in(value: &Value) -> bool
     }
 }
 
-/// The whole of a counter.
-fn counter_in(value: &Value) -> i64
+/// The whole of a counter. Of a value of another kind it is 0.
+pub fn counter_in(value: &Value) -> i64
     ensures { result ≡ values.counter_in value.now }
 {
     match value {
@@ -42,8 +42,8 @@ fn text_in(alloc: Global, value: &Value) -> Result<Text, AllocError>
     }
 }
 
-/// Whether an element is in a set.
-fn has_element(value: &Value, element: &Text) -> bool
+/// Whether an element is in a set. There is none in a value of another kind.
+pub fn has_element(value: &Value, element: &Text) -> bool
     ensures { result ≡ has_text (values.set_in value.now) element.now }
 {
     match value {

@@ -14,7 +14,7 @@ ghost use Rattle.conflict_table.specs.Reads as reads;
 ghost use Rattle.write_buffer.specs.code.Kept.{kept_from};
 
 use crate::keys::{key_set, keys_of, keys_over};
-use conflict_table::ReadOp;
+use conflict_table::{ReadOp, counter_in, has_element};
 use plain_data::{ExactClone, Text, TextSet};
 use rdt_types::{Delta, HashDelta, Item, ListDelta, Mark, SetDelta, TextList, Value};
 use std::alloc::{AllocError, Global};
@@ -29,15 +29,6 @@ fn whole(alloc: Global, value: &Value) -> Result<Item, AllocError>
         Value::Text(text) => Item::Text(text.clone()?),
         _ => Item::Text(Text::new(alloc)),
     })
-}
-
-fn counter_in(value: &Value) -> i64
-    ensures { result ≡ values.counter_in value.now }
-{
-    match value {
-        Value::Counter(n) => *n,
-        _ => 0,
-    }
 }
 
 /// What a `get` answers.
@@ -80,16 +71,6 @@ fn set_has(own: Option<&Delta>, element: &Text, value: &Value) -> bool
             Delta::Set(d) => has_over(d, element, value),
             _ => false,
         },
-    }
-}
-
-/// Whether an element is in a set.
-fn has_element(value: &Value, element: &Text) -> bool
-    ensures { result ≡ has_text (values.set_in value.now) element.now }
-{
-    match value {
-        Value::Set(set) => set.contains(element),
-        _ => false,
     }
 }
 
