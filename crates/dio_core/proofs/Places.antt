@@ -17,6 +17,7 @@ in-list place size short = elim (leb_tells (suc place) size) [
   | inr none ↦ absurd (let n = none.1 in omega (arith, n, short))
 ]
 
+-- and the length itself, behind the last of them, is none
 behind : (size : ℕ) → (if nat_lt size size then Some size else None) ≡ None
 behind size = elim (leb_tells (suc size) size) [
   | inl found ↦ absurd (let f = found.1 in omega (arith, f))
