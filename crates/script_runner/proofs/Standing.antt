@@ -39,7 +39,7 @@ use Rattle.script_runner.specs.Play.{ScriptWorld, first_session, first_sessions,
 use Rattle.script_runner.specs.Play.{follow_line, client_line}
 use Rattle.script_runner.specs.Play.{Done, done, placed, named_line, text_line, answer, Played, nothing_played, one_more, play}
 use Rattle.script_runner.specs.code.Lines.{Answers}
-use Rattle.script_runner.specs.Worlds.{Stands}
+use Rattle.script_runner.specs.Worlds.{Stands, ScriptsStand}
 use Rattle.script_runner.proofs.Places.{set-here, set-elsewhere, at-end, same-or-not}
 use Rattle.script_runner.proofs.Stood.{IsDriven, line-driven}
 
@@ -264,9 +264,13 @@ pub played-stands : (raws : List Text) (p : Played) → Stands p.world → Stand
 played-stands [] p h = h
 played-stands (raw ∷ raws) p h = played-stands raws (one_more p raw) (answer-stands p.world (cut_of raw) h (cut-short raw))
 
+-- so every script leaves a world that stands, as the first one does
+pub scripts_stand : ScriptsStand
+scripts_stand settings bytes = played-stands (lines bytes) (nothing_played settings) (first-stands settings)
+
 -- the journal of a script is legal, as that of every world that stands
 pub play-legal : (settings : Settings) (bytes : Text) → IsLegal 0 (play settings bytes).world.store.journal
-play-legal settings bytes = (played-stands (lines bytes) (nothing_played settings) (first-stands settings)).sound.legal
+play-legal settings bytes = (scripts_stand settings bytes).sound.legal
 
 -- the same of an input that may not be told
 pub played_is_legal : (settings : Settings) (o : Option Text) → IfSome o (λ bytes. IsLegal 0 (play settings bytes).world.store.journal)
