@@ -11,7 +11,7 @@ use journal_core::{Appended, Journal, MemKeep, Ready};
 use std::alloc::AllocError;
 use std::sync::ledger::{Blank, Ledger};
 
-/// Commits what is ready, or says why not. For want of memory all is as before.
+/// Commits what is ready, or says why not. For want of memory the commits are as before; the settings always are.
 pub(crate) fn decide<L: Ledger>(
     blank: Blank,
     journal: &mut Journal<MemKeep>,
