@@ -102,6 +102,13 @@ front-at [] (suc i) s is = absurd (cc)
 front-at (z ∷ shards) zero s is = let same : z ≡ s = cc in ap (λ (x : Sharded). x.front) same
 front-at (z ∷ shards) (suc i) s is = front-at shards i s is
 
+-- the front at a place where a shard was set is that shard's
+front-set : (shards : List Sharded) (i : ℕ) (old new : Sharded) → slice_get shards i ≡ Some old → get_or (fronts_of (set shards i new)) i 0 ≡ new.front
+front-set [] zero old new is = absurd (cc)
+front-set [] (suc i) old new is = absurd (cc)
+front-set (s ∷ shards) zero old new is = refl
+front-set (s ∷ shards) (suc i) old new is = front-set shards i old new is
+
 -- where each shard's front is up to a number so is the front at each place; past the shards it is 0
 fronts-up_to : (n : ℕ) (shards : List Sharded) → ((i : ℕ) (s : Sharded) → slice_get shards i ≡ Some s → s.front ≤ n) →
     (i : ℕ) → get_or (fronts_of shards) i 0 ≤ n
@@ -140,6 +147,13 @@ module _ (journal : Journal) (settings : Settings) (shards : List Sharded) (held
           reached = λ k. kept (λ (n : ℕ). n ≤ length journal) (fronts_of shards) place new.front 0 k now.reached
               (fronts-up_to (length journal) shards (λ j s is. (held.each j s is).reached) k);
         })
+
+    -- the one front is no further than a number, or where it was
+    pub front-within : (to : ℕ) → new.front ≤ max old.front to
+        → get_or (fronts_of (set shards place new)) place 0 ≤ max (get_or (fronts_of shards) place 0) to
+    front-within to within =
+        subst (λ (n : ℕ). n ≤ max (get_or (fronts_of shards) place 0) to) (sym (front-set shards place old new there))
+        (subst (λ (n : ℕ). new.front ≤ max n to) (sym (front-at shards place old there)) within)
 
     -- the one front went to a number, if it was behind that
     pub fronts-moved : (to : ℕ) → new.front ≡ max old.front to

@@ -36,6 +36,7 @@ fn follow_to(
     requires within { to ≤ length journal.now.commits }
     ensures held { IsHeld journal.now.commits settings.now place shard.new }
     ensures never_back { shard.old.front ≤ shard.new.front }
+    ensures within { shard.new.front ≤ max shard.old.front to }
     ensures ok { OnOk result (shard.new.front ≡ max shard.old.front to) }
 {
     let front = shard.front();
@@ -62,6 +63,7 @@ pub(crate) fn follow_at(
     requires within { to ≤ length journal.now.commits }
     ensures held { AreHeld journal.now.commits settings.now shards.new.items }
     ensures risen { HaveRisen journal.now.commits (fronts_of shards.old.items) (fronts_of shards.new.items) }
+    ensures within { get_or (fronts_of shards.new.items) place 0 ≤ max (get_or (fronts_of shards.old.items) place 0) to }
     ensures ok { OnOk result (fronts_of shards.new.items ≡ set (fronts_of shards.old.items) place (max (get_or (fronts_of shards.old.items) place 0) to)) }
 {
     follow_to(journal, settings, &mut shards[place as usize], place, to)
