@@ -1,6 +1,6 @@
 //! What stands behind the lock of a shard: the shard, and a token that has seen at least the commits that it holds.
 
-ghost use Rattle.std.specs.Prelude.{◌≡◌, ◌≤◌, ◌<◌, ℕ, List, length, take, IfOk, OnOk};
+ghost use Rattle.std.specs.Prelude.{◌≡◌, ◌≤◌, ◌<◌, ℕ, List, length, max, take, IfOk, OnOk};
 ghost use Rattle.std.specs.List.{AllByRecursion};
 ghost use Rattle.abort_witness.specs.Kinds.{IsBasedOfOneKind};
 ghost use Rattle.plain_data.specs.Histories.{IsLawful};
@@ -98,6 +98,8 @@ fn follow<K: Keep, N: Naming, R: Wait>(
     requires within { to ≤ length token.old.seen }
     requires replicates { Replicates N.lock.origin token.old.seen place shard.old }
     ensures replicates { Replicates N.lock.origin token.new.seen place shard.new }
+    ensures never_back { shard.old.front ≤ shard.new.front }
+    ensures within { shard.new.front ≤ max shard.old.front to }
     ensures reached { OnOk result (to ≤ shard.new.front) }
 {
     let front = shard.front();
