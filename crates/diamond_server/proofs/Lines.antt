@@ -1,5 +1,5 @@
 -- Lines of a session over a link, one after another, and how they end.
-use Rattle.std.proofs.Common.{◌≡◌, ℕ, ◌+◌, ◌≤◌, ◌<◌, false, List, [], ◌∷◌, ◌++◌, map, length, Option, Some, None, Result, Ok, Err, inl, inr}
+use Rattle.std.proofs.Common.{◌≡◌, ℕ, ◌+◌, ◌≤◌, ◌<◌, ◌⊎◌, Bool, true, false, List, [], ◌∷◌, ◌++◌, map, length, Option, Some, None, Result, Ok, Err, inl, inr}
 use Rattle.std.proofs.Common.{refl, sym, ap, ◌∙◌, subst, arith}
 use Rattle.std.proofs.Common.{append_assoc, length-append}
 use Rattle.std.proofs.lemmas.List.{append-nil, map-append}
@@ -67,10 +67,10 @@ error e = Err e
 same-twice : (x y z : Both) → SameCounts x y → SameCounts y z → SameCounts x z
 same-twice x y z first second = (second.0 ∙ first.0, second.1 ∙ first.1)
 
-module _ {B : Type 0} (known : B → Known) (goes : B → Call → Answer → B → Type 0) where
+module _ {B : Type 0} {known : B → Known} {goes : B → Call → Answer → B → Type 0} where
   -- nothing was read yet
-  pub serves-none : (old : B) (x : Both) → HasServed known goes 0 old x old (first_session (known old)) x
-  serves-none old x = record {
+  first-serves : (old : B) (x : Both) → HasServed known goes 0 old x old (first_session (known old)) x
+  first-serves old x = record {
     tolds = [];
     talks = Talks.silent;
     many = refl;
@@ -80,7 +80,11 @@ module _ {B : Type 0} (known : B → Known) (goes : B → Call → Answer → B 
     counts = (refl, refl);
   }
 
-  module _ (n : ℕ) (old : B) (x : Both) (now : B) (s : Session) (y : Both) (past : HasServed known goes n old x now s y) where
+  -- the same of the session that a new one is
+  pub serves-none : {old : B} {x : Both} {s : Session} → s ≡ first_session (known old) → HasServed known goes 0 old x old s x
+  serves-none {old = old} {x = x} first = subst (λ (s : Session). HasServed known goes 0 old x old s x) (sym first) (first-serves old x)
+
+  module _ {n : ℕ} {old : B} {x : Both} {now : B} {s : Session} {y : Both} (past : HasServed known goes n old x now s y) where
     -- a line more
     talks-on : (new : B) (o : Option Session) (z : Both) (turn : DoesLine known goes now s y new o z)
         → Talks known goes old (first_session (known old)) (past.tolds ++ turn.told ∷ []) new o
@@ -100,8 +104,8 @@ module _ {B : Type 0} (known : B → Known) (goes : B → Call → Answer → B 
         ∙ with_more-with_more x.outwards.taken (output past.tolds) (printed turn.told)
         ∙ ap (with_more x.outwards.taken) (sym (output-more past.tolds turn.told))
 
-    pub serves-more : (new : B) (t : Session) (z : Both) → DoesLine known goes now s y new (Some t) z → HasServed known goes (n + 1) old x new t z
-    serves-more new t z turn = record {
+    does-more : (new : B) (t : Session) (z : Both) → DoesLine known goes now s y new (Some t) z → HasServed known goes (n + 1) old x new t z
+    does-more new t z turn = record {
       tolds = past.tolds ++ turn.told ∷ [];
       talks = talks-on new (Some t) z turn;
       many = many-on new (Some t) z turn;
@@ -110,6 +114,12 @@ module _ {B : Type 0} (known : B → Known) (goes : B → Call → Answer → B 
       flushed = λ passed. turn.passed;
       counts = same-twice x y z past.counts turn.counts;
     }
+
+    -- a turn behind which another may follow
+    pub serves-more : {b : Bool} {new : B} {t : Session} {z : Both} → b ≡ true → Turns known goes (Ok b) now s y new t z
+        → HasServed known goes (n + 1) old x new t z
+    serves-more {new = new} {t = t} {z = z} more turn =
+        does-more new t z (subst (λ (b : Bool). Turns known goes (Ok b) now s y new t z) more turn)
 
     module _ (is : Attends (known old) (first_session (known old))) where
       -- a line ended the session
@@ -189,23 +199,35 @@ module _ {B : Type 0} (known : B → Known) (goes : B → Call → Answer → B 
       ends-stopped new t z (stop.Cause cause.TooManyLines) few turn = absurd turn
 
       -- a turn was the last
-      pub ends-whole : (new : B) (t : Session) (z : Both) → n < MOST_LINES → Turns known goes (Ok false) now s y new t z → Ends known goes (Ok tt) old x new z
-      ends-whole new t z few (inl none) =
+      last-whole : (new : B) (z : Both) → n < MOST_LINES → FindsNone now y new z ⊎ DoesLine known goes now s y new None z
+          → Ends known goes (Ok tt) old x new z
+      last-whole new z few (inl none) =
           (served-ended new z (omega arith) none, (none.reads ∙ past.counts.0, ap (λ (o : Outgoing). o.faults) none.outwards ∙ past.counts.1))
-      ends-whole new t z few (inr turn) = (served-quit new z few turn, same-twice x y z past.counts turn.counts)
+      last-whole new z few (inr turn) = (served-quit new z few turn, same-twice x y z past.counts turn.counts)
+
+      -- the same of its answer
+      pub ends-whole : {b : Bool} {new : B} (t : Session) {z : Both} → n < MOST_LINES → b ≡ false → Turns known goes (Ok b) now s y new t z
+          → Ends known goes (Ok tt) old x new z
+      ends-whole {new = new} t {z = z} few last turn =
+          last-whole new z few (subst (λ (b : Bool). Turns known goes (Ok b) now s y new t z) last turn)
 
       -- the input ended behind the last line that may be read
-      pub ends-at_most : (z : Both) → n ≡ MOST_LINES → z.outwards ≡ y.outwards → z.inwards.faults ≡ y.inwards.faults
-          → TakesLine line.End y.inwards.left z.inwards.left → Ends known goes (Ok tt) old x now z
-      ends-at_most z most outwards reads takes = (
-        served-ended now z (omega arith) (record { left = takes; reads = reads; outwards = outwards; backend = refl }),
+      pub ends-at_most : {l : Line} {z : Both} → n ≡ MOST_LINES → z.outwards ≡ y.outwards → z.inwards.faults ≡ y.inwards.faults → l ≡ line.End
+          → TakesLine l y.inwards.left z.inwards.left → Ends known goes (Ok tt) old x now z
+      ends-at_most {z = z} most outwards reads end takes = (
+        served-ended now z (omega arith) (record {
+          left = subst (λ (l : Line). TakesLine l y.inwards.left z.inwards.left) end takes;
+          reads = reads;
+          outwards = outwards;
+          backend = refl;
+        }),
         (reads ∙ past.counts.0, ap (λ (o : Outgoing). o.faults) outwards ∙ past.counts.1),
       )
 
       -- there is one line more
-      pub ends-over : (z : Both) (l : Line) → n ≡ MOST_LINES → z.outwards ≡ y.outwards → z.inwards.faults ≡ y.inwards.faults → (l ≡ line.End → ⊥)
+      pub ends-over : {l : Line} {z : Both} → n ≡ MOST_LINES → z.outwards ≡ y.outwards → z.inwards.faults ≡ y.inwards.faults → (l ≡ line.End → ⊥)
           → TakesLine l y.inwards.left z.inwards.left → Ends known goes (Err (stop.Cause cause.TooManyLines)) old x now z
-      ends-over z l most outwards reads some takes = (
+      ends-over {l = l} {z = z} most outwards reads some takes = (
         served-so-far now z ReadsOneMore (omega arith) refl outwards (reads-over z.inwards.left l most some takes),
         (reads ∙ past.counts.0, ap (λ (o : Outgoing). o.faults) outwards ∙ past.counts.1),
       )
