@@ -8,7 +8,10 @@ use Rattle.std.proofs.lemmas.List.{length-map, nil_from_length}
 use Rattle.history_lock.proofs.Prefixes.{IsPrefix-trans}
 use Rattle.dio_core.specs.Counts.{Rose}
 use Rattle.dio_core.specs.Links.{Both}
-use Rattle.dio_core.specs.Listeners.{with_first, with_last}
+use Rattle.dio_core.specs.Sources.{with_prefix}
+use Rattle.dio_core.specs.Sinks.{with_more}
+use Rattle.dio_core.proofs.Sources.{with_prefix-append, with_prefix-none}
+use Rattle.dio_core.proofs.Sinks.{with_more-with_more, with_more-nil}
 use Rattle.diamond_store.specs.Answers.{Learns}
 use Rattle.diamond_store.specs.Passes.{Passed, known_of}
 use Rattle.diamond_store.specs.declared.join_error.JoinError.{JoinError}
@@ -16,7 +19,7 @@ use Rattle.diamond_store.specs.declared.join_error.JoinError.TheVariants as join
 use Rattle.session_core.specs.Explained.{setting_of}
 use Rattle.script_runner.specs.declared.status.TheConstants.{WHOLE}
 use Rattle.diamond_server.specs.Accounts.{Account, Seat, seat_of, given_of, status_in, joined_in, link_in, IsServed, Rises, faults_of}
-use Rattle.diamond_server.specs.Accounts.{with_these, and_these, Gatherings, Accepting, ServedAll}
+use Rattle.diamond_server.specs.Accounts.{Gatherings, Accepting, ServedAll}
 use Rattle.diamond_server.specs.code.Settling.{IsNear, IsNearTalk, JoinsNext, Turns, Settling}
 
 -- ---- statuses
@@ -104,30 +107,22 @@ module _ {L : Type 0} where
       record { links = links; links_then = left; given = given; given_then = given_then; faults = before; faults_then = after }
 
   -- what was first of the rest is last of those that were taken
-  links-next : (links rest left : Option (List L)) (xs : List L) (x : L) → links ≡ with_these xs rest → rest ≡ with_first x left
-      → links ≡ with_these (xs ++ x ∷ []) left
-  links-next links rest left xs x p first = p ∙ (ap (with_these xs) first ∙ by left)
-    where
-      by : (o : Option (List L)) → with_these xs (with_first x o) ≡ with_these (xs ++ x ∷ []) o
-      by None = refl
-      by (Some ys) = ap Some (sym (append_assoc xs (x ∷ []) ys))
+  links-next : (links rest left : Option (List L)) (xs : List L) (x : L) → links ≡ with_prefix xs rest → rest ≡ with_prefix (x ∷ []) left
+      → links ≡ with_prefix (xs ++ x ∷ []) left
+  links-next links rest left xs x p first = p ∙ (ap (with_prefix xs) first ∙ sym (with_prefix-append xs (x ∷ []) left))
 
   -- before the first turn nothing was taken
   pub turns-start : (pass : Passed) (low : ℕ) (links : Option (List L)) (n : ℕ) → Turns pass low low 0 links links n n []
-  turns-start pass low links n = record { taken = by links; clients = omega arith; many = refl; count = refl }
-    where
-      by : (o : Option (List L)) → o ≡ with_these [] o
-      by None = refl
-      by (Some xs) = refl
+  turns-start pass low links n = record { taken = sym (with_prefix-none links); clients = omega arith; many = refl; count = refl }
 
   -- a turn accepts the first of the rest, and its client joins behind those before it
   pub turns-next : (j k : Passed) (low high more turns : ℕ) (links rest left : Option (List L)) (before now after : ℕ) (seats grown : List (Seat L))
-      (s : Seat L) (x : L) → Turns j low high turns links rest before now seats → rest ≡ with_first x left → link_in s ≡ x → Learns j k → high ≤ more
+      (s : Seat L) (x : L) → Turns j low high turns links rest before now seats → rest ≡ with_prefix (x ∷ []) left → link_in s ≡ x → Learns j k → high ≤ more
       → JoinsNext k high more (joined_in s) → after ≡ now → grown ≡ seats ++ s ∷ []
       → Turns k low more (turns + 1) links left before after grown
   turns-next j k low high more turns links rest left before now after seats grown s x p first link learns le next same is =
       subst (Turns k low more (turns + 1) links left before after) (sym is) (record {
-        taken = links-next links rest left (map link_in seats) x p.taken first ∙ ap (λ w. with_these w left)
+        taken = links-next links rest left (map link_in seats) x p.taken first ∙ ap (λ w. with_prefix w left)
             (ap (λ y. map link_in seats ++ y ∷ []) (sym link) ∙ sym (map-append link_in seats (s ∷ [])));
         clients = subst (λ w. Rises k low w more) (sym (map-append joined_in seats (s ∷ [])))
             (rises-next j k low high more (map joined_in seats) (joined_in s) p.clients learns le next);
@@ -142,7 +137,7 @@ module _ {L : Type 0} where
       → Accepting pass low high most (telling links left given given_then before after) same true
   turns-failed pass low high most turns links rest left given given_then before now after seats same p le unchanged is rose =
       subst (λ w. Accepting pass low high most (telling links left given given_then before after) w true) (sym is) (record {
-        taken = p.taken ∙ ap (with_these (map link_in seats)) (sym unchanged);
+        taken = p.taken ∙ ap (with_prefix (map link_in seats)) (sym unchanged);
         clients = p.clients;
         few = (let m = p.many in omega (arith, m));
         counted = subst (λ (n : ℕ). Rose n after) p.count rose;
@@ -156,7 +151,7 @@ module _ {L : Type 0} where
       → Accepting pass low high most (telling links left given given_then before after) same false
   turns-none pass low high most turns links rest left given given_then before now after seats same p le none unchanged is counted =
       subst (λ w. Accepting pass low high most (telling links left given given_then before after) w false) (sym is) (record {
-        taken = p.taken ∙ ap (with_these (map link_in seats)) (sym unchanged);
+        taken = p.taken ∙ ap (with_prefix (map link_in seats)) (sym unchanged);
         clients = p.clients;
         few = (let m = p.many in omega (arith, m));
         counted = counted ∙ p.count;
@@ -194,30 +189,22 @@ module _ {L : Type 0} where
   pub settling-start : (told : L → Both) (pass : Passed) (all rest : List (Account L)) (old : Option (List (L × ℕ))) → rest ≡ all → All (IsNear pass) all
       → Settling told pass all rest old old 0
   settling-start told pass all rest old is near =
-      record { done = []; parts = is; given = none old; faulted_is = refl; served = All-nil _; near = subst (All (IsNear pass)) (sym is) near }
-    where
-      none : (o : Option (List (L × ℕ))) → o ≡ and_these o []
-      none None = refl
-      none (Some xs) = ap Some (sym (append-nil xs))
+      record { done = []; parts = is; given = sym (with_more-nil old); faulted_is = refl; served = All-nil _; near = subst (All (IsNear pass)) (sym is) near }
 
   -- the first of the rest is given back behind those before it, and counts by its status
   pub settling-next : (told : L → Both) (pass : Passed) (all rest left : List (Account L)) (a : Account L) (old new more : Option (List (L × ℕ))) (n m : ℕ)
-      → Settling told pass all rest old new n → rest ≡ a ∷ left → more ≡ with_last new (given_of a) → IsServed told pass a
+      → Settling told pass all rest old new n → rest ≡ a ∷ left → more ≡ with_more new (given_of a ∷ []) → IsServed told pass a
       → m ≡ n + (if a.status == WHOLE then 0 else 1) → Settling told pass all left old more m
   settling-next told pass all rest left a old new more n m p first back served counted = record {
     done = p.done ++ a ∷ [];
     parts = append_assoc p.done (a ∷ []) left ∙ (ap (λ w. p.done ++ w) (sym first) ∙ p.parts);
-    given = back ∙ (ap (λ o. with_last o (given_of a)) p.given ∙ (both old (map given_of p.done) (given_of a)
-        ∙ ap (and_these old) (sym (map-append given_of p.done (a ∷ [])))));
+    given = back ∙ (ap (λ o. with_more o (given_of a ∷ [])) p.given ∙ (with_more-with_more old (map given_of p.done) (given_of a ∷ [])
+        ∙ ap (with_more old) (sym (map-append given_of p.done (a ∷ [])))));
     faulted_is = counted ∙ (ap (λ (k : ℕ). k + (if a.status == WHOLE then 0 else 1)) p.faulted_is ∙ (sym (faults-append (map status_in p.done) a.status)
         ∙ ap faults_of (sym (map-append status_in p.done (a ∷ [])))));
     served = All-append (IsServed told pass) p.done (a ∷ []) p.served (All-cons (IsServed told pass) a [] served (All-nil _));
     near = All-rest (IsNear pass) a left rest first p.near;
   }
-    where
-      both : (o : Option (List (L × ℕ))) (xs : List (L × ℕ)) (x : L × ℕ) → with_last (and_these o xs) x ≡ and_these o (xs ++ x ∷ [])
-      both None xs x = refl
-      both (Some ys) xs x = ap Some (append_assoc ys xs (x ∷ []))
 
   -- the next to be settled is near, and the count has room
   pub settling-near : (told : L → Both) (pass : Passed) (all rest left : List (Account L)) (a : Account L) (old new : Option (List (L × ℕ))) (n : ℕ)
@@ -256,7 +243,7 @@ module _ {L : Type 0} where
         accepted = p;
         number = number;
         served = subst (All (IsServed told pass)) whole q.served;
-        given_back = q.given ∙ (ap (λ o. and_these o (map given_of q.done)) same ∙ ap (λ w. and_these g.given (map given_of w)) whole);
+        given_back = q.given ∙ (ap (λ o. with_more o (map given_of q.done)) same ∙ ap (λ w. with_more g.given (map given_of w)) whole);
         faulted = q.faulted_is ∙ ap (λ w. faults_of (map status_in w)) whole;
       }
 

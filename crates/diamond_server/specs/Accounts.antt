@@ -6,6 +6,8 @@ use Rattle.history_lock.specs.declared.limits.TheConstants.{MOST_DRAWS}
 use Rattle.dio_core.specs.declared.listener.Listener.{Ghosts as ListenerTells}
 use Rattle.dio_core.specs.Counts.{IsCounted}
 use Rattle.dio_core.specs.Links.{Both}
+use Rattle.dio_core.specs.Sources.{with_prefix}
+use Rattle.dio_core.specs.Sinks.{with_more}
 use Rattle.txn_grammar.specs.Characters.{Text}
 use Rattle.txn_lang.specs.Journals.{own}
 use Rattle.docc_prepare.specs.Calls.{Known}
@@ -143,20 +145,10 @@ Rises pass low (Ok p ∷ rest) high =
 Rises pass low (Err (join_error.Clients drawn) ∷ rest) high = (MOST_DRAWS ≤ drawn) × (drawn ≤ pass.draws) × Rises pass low rest high
 Rises pass low (Err join_error.NoMemory ∷ rest) high = Rises pass low rest high
 
--- these, and then those that are left
-abbrev pub with_these : {A : Type 0} → List A → Option (List A) → Option (List A)
-with_these xs None = None
-with_these xs (Some rest) = Some (xs ++ rest)
-
--- those before, and then these
-abbrev pub and_these : {A : Type 0} → Option (List A) → List A → Option (List A)
-and_these None xs = None
-and_these (Some before) xs = Some (before ++ xs)
-
 -- What was accepted, of at most so many links: the first that were left. It was fewer only where none was left, or where an accept
 -- failed, which raised the count. Clients drew numbers from `low` to below `high`.
 pub record Accepting {L : Type 0} (pass : Passed) (low high most : ℕ) (g : Gatherings L) (seats : List (Seat L)) (failed : Bool) : Type 0 where
-  pub taken : g.links ≡ with_these (map link_in seats) g.links_then
+  pub taken : g.links ≡ with_prefix (map link_in seats) g.links_then
   pub clients : Rises pass low (map joined_in seats) high
   pub few : length seats ≤ most
   pub counted : IsCounted failed g.faults g.faults_then
@@ -169,7 +161,7 @@ pub record ServedAll {L : Type 0} (told : L → Both) (pass : Passed) (low high 
   pub accepted : Accepting pass low high most g (map seat_of accounts) tally.failed
   pub number : tally.accepted ≡ length accounts
   pub served : All (IsServed told pass) accounts
-  pub given_back : g.given_then ≡ and_these g.given (map given_of accounts)
+  pub given_back : g.given_then ≡ with_more g.given (map given_of accounts)
   pub faulted : tally.faulted ≡ faults_of (map status_in accounts)
 
 -- A serving that begins with one pass and ends with another, which has drawn the numbers of clients since, from the store's first on.

@@ -1,9 +1,10 @@
 //! Where links come in, and are given back when they are done.
 
-ghost use Rattle.std.specs.Prelude.{◌≡◌, ℕ, List, Option, None, OnOk, OnErr};
+ghost use Rattle.std.specs.Prelude.{◌≡◌, ℕ, List, [], ◌∷◌, Option, None, OnOk, OnErr};
 ghost use Rattle.dio_core.specs.Counts.{one_more, IsCounted};
 ghost use Rattle.dio_core.specs.Links.{incoming, outgoing};
-ghost use Rattle.dio_core.specs.Listeners.{Accepts, accept_failed, with_last};
+ghost use Rattle.dio_core.specs.Listeners.{Accepts, accept_failed};
+ghost use Rattle.dio_core.specs.Sinks.{with_more};
 
 use crate::count::Count;
 use crate::memory::MemLink;
@@ -61,7 +62,7 @@ pub trait Listener {
 
     /// Gives a link back that is done with. For want of memory the link is gone.
     fn give_back(&mut self, link: Self::Link, status: u8) -> Result<(), AllocError>
-        ensures ok { OnOk result (given_back self.new ≡ with_last (given_back self.old) (link, status)) }
+        ensures ok { OnOk result (given_back self.new ≡ with_more (given_back self.old) ((link, status) ∷ [])) }
         ensures err { OnErr result (given_back self.new ≡ given_back self.old) }
         ensures same { links self.new ≡ links self.old }
         ensures count { accept_faults self.new ≡ accept_faults self.old };

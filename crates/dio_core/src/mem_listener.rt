@@ -2,7 +2,7 @@
 
 ghost use Rattle.std.specs.Prelude.{◌≡◌, [], ◌∷◌, ◌++◌, OnOk, OnErr, Some};
 ghost use Rattle.dio_core.specs.Counts.{IsCounted};
-ghost use Rattle.dio_core.specs.Listeners.{Accepts, accept_failed, with_last};
+ghost use Rattle.dio_core.specs.Listeners.{Accepts, accept_failed};
 ghost use Rattle.dio_core.specs.Listening.{Hands};
 ghost use Rattle.dio_core.specs.Memory.{plan_of};
 

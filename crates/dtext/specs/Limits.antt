@@ -1,13 +1,9 @@
 -- The limits, by their numbers.
 use Rattle.std.specs.Prelude.{◌≡◌, refl}
 use Rattle.dtext.specs.declared.number.TheConstants.{MOST, LEAST}
-use Rattle.dtext.specs.declared.text.TheConstants.{DELETE}
 
 MOST-is : MOST ≡ 9223372036854775807
 MOST-is = refl
 
 LEAST-is : LEAST ≡ 9223372036854775808
 LEAST-is = refl
-
-DELETE-is : DELETE ≡ 127
-DELETE-is = refl

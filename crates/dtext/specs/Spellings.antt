@@ -19,13 +19,13 @@ use Rattle.rdt_types.specs.declared.outcome.Outcome.TheVariants as outcome
 use Rattle.rdt_types.specs.declared.operation.WriteOp.{WriteOp}
 use Rattle.rdt_types.specs.declared.operation.WriteOp.TheVariants as op
 use Rattle.rdt_types.specs.Printed.{word_of}
-use Rattle.dtext.specs.declared.text.TheConstants.{DELETE}
+use Rattle.rdt_types.specs.declared.printed.TheConstants.{DELETE}
 use Rattle.dtext.specs.Characters.{is_digit}
 use Rattle.dtext.specs.Printing.{printed_bool}
 
 -- ---- texts
 
--- What stands for itself between quotes: all bytes but those below 32, 127, `"` and `\`.
+-- What stands for itself between quotes: all bytes but those below 32, `DELETE`, `"` and `\`.
 abbrev pub is_plain : ℕ → Bool
 is_plain byte = nat_le 32 byte && not (nat_eq byte DELETE) && not (nat_eq byte 34) && not (nat_eq byte 92)
 

@@ -34,7 +34,7 @@ pub use print::{
     push_outcome, push_part, push_text,
 };
 pub use read::{finish, read_address, read_item, read_outcome, read_part, read_text};
-pub use text::{DELETE, next_text};
+pub use text::next_text;
 pub use value::next_address;
 
 #[cfg(test)]

@@ -8,10 +8,8 @@ ghost use Rattle.dtext.specs.Spellings as rule;
 
 use plain_data::{OrNoMemory, Text};
 use predictive_parsing::{Cursor, Reading, Refused, read_many};
+use rdt_types::DELETE;
 use std::alloc::Global;
-
-/// The last control byte, which stands apart from those below the space.
-pub const DELETE: u8 = 127;
 
 /// What stands for itself between quotes.
 fn plain(byte: u8) -> Option<u8>

@@ -4,13 +4,8 @@ use Rattle.std.proofs.lemmas.Grind.{common_steps}
 use Rattle.std.proofs.lemmas.List.{take_at, length-take-le}
 use Rattle.dio_core.specs.Sources.{with_prefix, Gives}
 use Rattle.dio_core.specs.declared.source.Got.TheVariants as got
-use Rattle.dio_core.proofs.Sources.{with_prefix-split}
+use Rattle.dio_core.proofs.Sources.{with_prefix-split, with_prefix-none}
 use Rattle.link_buffer.specs.Ahead.{Ahead, left_of, GivesHeld}
-
--- no bytes before what is left change nothing
-pub with_prefix-none : (rest : Option (List ℕ)) → with_prefix [] rest ≡ rest
-with_prefix-none None = refl
-with_prefix-none (Some rest) = refl
 
 -- what is given of what is held is given of what is left
 pub gives-left : {K : Type 0} (left : K → Option (List ℕ)) (n : ℕ) (buffer filled : List ℕ) (old new : Ahead K)

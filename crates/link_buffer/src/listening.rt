@@ -1,8 +1,9 @@
 //! A listener whose links read ahead.
 
-ghost use Rattle.std.specs.Prelude.{◌≡◌, None, OnOk, OnErr};
+ghost use Rattle.std.specs.Prelude.{◌≡◌, [], ◌∷◌, None, OnOk, OnErr};
 ghost use Rattle.dio_core.specs.Counts.{IsCounted};
-ghost use Rattle.dio_core.specs.Listeners.{accept_failed, with_last};
+ghost use Rattle.dio_core.specs.Listeners.{accept_failed};
+ghost use Rattle.dio_core.specs.Sinks.{with_more};
 ghost use Rattle.link_buffer.specs.Ahead.{AcceptsAhead};
 
 use crate::link::BufferedLink;
@@ -49,7 +50,7 @@ impl<N: Listener> Listener for BufferedListening<N> {
 
     /// Gives the link below back. What was read ahead of it and not given is gone.
     fn give_back(&mut self, link: BufferedLink<N::Link>, status: u8) -> Result<(), AllocError>
-        ensures ok { OnOk result (N.given_back self.new.below ≡ with_last (N.given_back self.old.below) (link.link, status)) }
+        ensures ok { OnOk result (N.given_back self.new.below ≡ with_more (N.given_back self.old.below) ((link.link, status) ∷ [])) }
         ensures err { OnErr result (N.given_back self.new.below ≡ N.given_back self.old.below) }
         ensures same { N.links self.new.below ≡ N.links self.old.below }
         ensures count { N.accept_faults self.new.below ≡ N.accept_faults self.old.below }

@@ -1,6 +1,7 @@
--- The numbers of the limits, so that none changes unseen.
+-- The numbers of the limits, and of the byte that has a name, so that none changes unseen.
 use Rattle.std.specs.Prelude.{◌≡◌, refl}
 use Rattle.rdt_types.specs.declared.limits.TheConstants as limits
+use Rattle.rdt_types.specs.declared.printed.TheConstants.{DELETE}
 
 LEAST_SHARDS-is : limits.LEAST_SHARDS ≡ 1
 LEAST_SHARDS-is = refl
@@ -28,3 +29,6 @@ MOST_COMMITS-is = refl
 
 STANDARD_COMMITS-is : limits.STANDARD_COMMITS ≡ 100000
 STANDARD_COMMITS-is = refl
+
+DELETE-is : DELETE ≡ 127
+DELETE-is = refl

@@ -6,6 +6,7 @@ use Rattle.rdt_types.specs.declared.address.Kind.{Kind}
 use Rattle.rdt_types.specs.declared.address.Kind.TheVariants as kind
 use Rattle.rdt_types.specs.declared.address.Address.{Address}
 use Rattle.rdt_types.specs.declared.printed.Spelling.{Spelling}
+use Rattle.rdt_types.specs.declared.printed.TheConstants.{DELETE}
 use Rattle.rdt_types.specs.declared.printed.Spelling.TheVariants as spelling
 
 -- the word of a kind
@@ -22,12 +23,12 @@ abbrev pub hex_digit : ℕ → ℕ
 hex_digit n = if nat_lt n 10 then 48 + n else 87 + n
 
 -- How a byte of a text stands between the quotes: a quote and a backslash behind a backslash, a newline as `\n`, every
--- other byte below 32 and byte 127 by two hexadecimal digits, and all others as themselves.
+-- other byte below 32, the space, and `DELETE` by two hexadecimal digits, and all others as themselves.
 abbrev pub spelling_of : ℕ → Spelling
 spelling_of byte =
     if nat_eq byte 34 || nat_eq byte 92 then spelling.Escaped byte
     else if nat_eq byte 10 then spelling.Escaped 110
-    else if nat_lt byte 32 || nat_eq byte 127 then spelling.Hexadecimal (hex_digit (byte / 16)) (hex_digit (byte % 16))
+    else if nat_lt byte 32 || nat_eq byte DELETE then spelling.Hexadecimal (hex_digit (byte / 16)) (hex_digit (byte % 16))
     else spelling.Plain byte
 
 -- the bytes of a spelling

@@ -35,7 +35,7 @@ pub use list_delta::ListDelta;
 pub use mark::{Leaves, Mark};
 pub use operation::WriteOp;
 pub use outcome::{Item, ItemList, Outcome};
-pub use printed::{Spelling, spelling_of};
+pub use printed::{DELETE, Spelling, spelling_of};
 pub use settings::Settings;
 pub use shard::shard_of;
 pub use value::{TextList, Value, default_value};

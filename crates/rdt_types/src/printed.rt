@@ -3,6 +3,9 @@
 ghost use Rattle.std.specs.Prelude.{◌≡◌, ◌<◌};
 ghost use Rattle.rdt_types.specs.Printed as spec;
 
+/// The last control byte, which stands apart from those below the space.
+pub const DELETE: u8 = 127;
+
 /// How one byte of a text stands between the quotes.
 #[derive(Clone, Copy, Debug, PartialEq, Eq)]
 pub enum Spelling {
@@ -23,7 +26,7 @@ fn hex_digit(n: u8) -> u8
 }
 
 /// How a byte of a text is spelled: a quote and a backslash behind a backslash, a newline as `\n`, every other byte below
-/// 32 and byte 127 by two hexadecimal digits, and all others as themselves.
+/// the space and `DELETE` by two hexadecimal digits, and all others as themselves.
 pub fn spelling_of(byte: u8) -> Spelling
     ensures { result ≡ spec.spelling_of byte }
 {
@@ -31,7 +34,7 @@ pub fn spelling_of(byte: u8) -> Spelling
         Spelling::Escaped(byte)
     } else if byte == b'\n' {
         Spelling::Escaped(b'n')
-    } else if byte < 32 || byte == 127 {
+    } else if byte < b' ' || byte == DELETE {
         Spelling::Hexadecimal(hex_digit(byte / 16), hex_digit(byte % 16))
     } else {
         Spelling::Plain(byte)

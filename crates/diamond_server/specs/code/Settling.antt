@@ -3,12 +3,14 @@
 use Rattle.std.specs.Prelude.{◌≡◌, ◌≤◌, ◌<◌, ℕ, List, ◌++◌, length, map, All, Option, Result, Ok, Err}
 use mathlib.Core.List.{IsPrefix}
 use Rattle.dio_core.specs.Links.{Both}
+use Rattle.dio_core.specs.Sources.{with_prefix}
+use Rattle.dio_core.specs.Sinks.{with_more}
 use Rattle.diamond_store.specs.Passes.{Passed, known_of}
 use Rattle.diamond_store.specs.declared.join_error.JoinError.{JoinError}
 use Rattle.diamond_store.specs.declared.join_error.JoinError.TheVariants as join_error
 use Rattle.history_lock.specs.declared.limits.TheConstants.{MOST_DRAWS}
 use Rattle.session_core.specs.Explained.{setting_of}
-use Rattle.diamond_server.specs.Accounts.{Account, Seat, IsServed, Rises, given_of, status_in, joined_in, link_in, faults_of, with_these, and_these}
+use Rattle.diamond_server.specs.Accounts.{Account, Seat, IsServed, Rises, given_of, status_in, joined_in, link_in, faults_of}
 
 -- what the client knew at its session's end, if there is one, this pass knows
 abbrev pub IsNearTalk : Passed → Result (Passed × Passed) JoinError → Type 0
@@ -26,7 +28,7 @@ JoinsNext pass mid high (Err join_error.NoMemory) = Unit {0}
 
 -- so many turns were made, each of which accepted a link
 pub record Turns {L : Type 0} (pass : Passed) (low high turns : ℕ) (links rest : Option (List L)) (before after : ℕ) (seats : List (Seat L)) : Type 0 where
-  pub taken : links ≡ with_these (map link_in seats) rest
+  pub taken : links ≡ with_prefix (map link_in seats) rest
   pub clients : Rises pass low (map joined_in seats) high
   pub many : length seats ≡ turns
   pub count : after ≡ before
@@ -35,7 +37,7 @@ pub record Turns {L : Type 0} (pass : Passed) (low high turns : ℕ) (links rest
 pub record Settling {L : Type 0} (told : L → Both) (pass : Passed) (all rest : List (Account L)) (old new : Option (List (L × ℕ))) (faulted : ℕ) : Type 0 where
   pub done : List (Account L)
   pub parts : done ++ rest ≡ all
-  pub given : new ≡ and_these old (map given_of done)
+  pub given : new ≡ with_more old (map given_of done)
   pub faulted_is : faulted ≡ faults_of (map status_in done)
   pub served : All (IsServed told pass) done
   pub near : All (IsNear pass) rest

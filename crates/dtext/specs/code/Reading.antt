@@ -2,7 +2,7 @@
 -- proved equal to them. Judge by the rules of specs/Spellings: the law `readers_are_rules` ties each reader to its rule.
 -- Marks stand by their bytes, as in the rules; of the first letters of words 97 is `a`, 98 `b`, 99 `c`, 102 `f`,
 -- 104 `h`, 111 `o`, 112 `p`, 114 `r`, 115 `s`, and 116 `t`.
-use Rattle.std.specs.Prelude.{ℕ, ◌-◌, Bool, not, ◌&&◌, ◌||◌, nat_eq, nat_le, if◌then◌else◌, List, [], ◌∷◌, ℤ}
+use Rattle.std.specs.Prelude.{ℕ, ◌-◌, Bool, false, not, ◌&&◌, ◌||◌, nat_eq, nat_le, if◌then◌else◌, List, [], ◌∷◌, ℤ}
 use Rattle.std.specs.Prelude.{pos, neg_ℤ, codes, Option, Some, None, Ok}
 use Rattle.plain_data.specs.Texts.{Bytes}
 use Rattle.predictive_parsing.specs.Reading.{Reader, ◌>>=◌, pure, ahead, one, either, many, list, optional, of, guided}
@@ -141,15 +141,19 @@ texts = do
 
 -- ---- what is read as a whole
 
--- the kind whose word the byte begins; where it begins none, any, which is then refused
+-- whether a word begins with the byte
+abbrev pub begins : ℕ → Bytes → Bool
+begins byte [] = false
+begins byte (first ∷ word) = nat_eq byte first
+
+-- the first of these kinds whose word begins with the byte; where none does, a list, which is then refused
+abbrev pub kind_among : List Kind → ℕ → Kind
+kind_among [] byte = kinds.List
+kind_among (kind ∷ kinds) byte = if begins byte (word_of kind) then kind else kind_among kinds byte
+
+-- the kind whose word begins with the byte
 abbrev pub kind_by : ℕ → Kind
-kind_by byte =
-    if nat_eq byte 98 then kinds.Bool
-    else if nat_eq byte 99 then kinds.Counter
-    else if nat_eq byte 116 then kinds.Text
-    else if nat_eq byte 115 then kinds.Set
-    else if nat_eq byte 104 then kinds.Hash
-    else kinds.List
+kind_by = kind_among (kinds.Bool ∷ kinds.Counter ∷ kinds.Text ∷ kinds.Set ∷ kinds.Hash ∷ [])
 
 -- the same of what is ahead
 abbrev pub kind_ahead : Option ℕ → Kind

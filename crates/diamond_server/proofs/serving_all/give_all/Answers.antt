@@ -1,7 +1,7 @@
-use Rattle.std.proofs.Common.{rules, arith, ℕ, ◌+◌, ◌==◌, ◌∙◌, ap, sym, subst, length, refl}
+use Rattle.std.proofs.Common.{rules, arith, ℕ, ◌+◌, ◌==◌, ◌∙◌, ap, sym, subst, length, [], ◌∷◌, refl}
 use Rattle.std.specs.Prelude.{if◌then◌else◌}
 use Rattle.dio_core.specs.Links.{Both}
-use Rattle.dio_core.specs.Listeners.{with_last}
+use Rattle.dio_core.specs.Sinks.{with_more}
 use Rattle.diamond_store.specs.Passes.{Passed}
 use Rattle.script_runner.specs.declared.status.TheConstants.{WHOLE}
 use Rattle.diamond_server.specs.Promises.{sides}
@@ -42,7 +42,7 @@ loop-ended-preserved g c =
       count = c.give_back.ensures.count ∙ was.count;
       len = omega (arith, step.1, was.len, ap length step.0);
       settling = settling-next _ _ _ _ _ _ _ _ _ _ _ was.settling step.0
-          (back.ok ∙ ap (with_last (g.Li.Listener.given_back c.loop-ended.listener)) c.settled-link.ensures.given)
+          (back.ok ∙ ap (λ given. with_more (g.Li.Listener.given_back c.loop-ended.listener) (given ∷ [])) c.settled-link.ensures.given)
           (served-at told c.loop-ended.pass c.args.pass.now c.in-Some.ended was.same c.settled-link.ensures.served)
           (c.with_status-faulted.ensures ∙ ap (λ (k : ℕ). c.loop-ended.faulted + (if k == WHOLE then 0 else 1)) (ap (λ p. p.1) c.settled-link.ensures.given));
     }
