@@ -1,5 +1,5 @@
 -- Pairs of an observation and a commit that clashes with it, and the least of them.
-use Rattle.std.specs.Prelude.{◌≡◌, ℕ, ◌+◌, ◌<◌, ◌≤◌, ◌⊎◌, Bool, true, false, ◌&&◌, if◌then◌else◌, nat_lt, List, [], ◌∷◌, slice_get}
+use Rattle.std.specs.Prelude.{◌≡◌, ℕ, ◌+◌, ◌<◌, ◌≤◌, ◌^◌, ◌⊎◌, length, Bool, true, false, ◌&&◌, if◌then◌else◌, nat_lt, List, [], ◌∷◌, slice_get}
 use Rattle.std.specs.Prelude.{Option, Some, None, option_map, MatchOption, codes, pos, refl}
 use Rattle.std.specs.BTreeMap.{is_at}
 use Rattle.rdt_types.specs.declared.address.Kind.TheVariants as kind
@@ -20,6 +20,10 @@ meets based change = nat_lt based.base change.number && is_at (address_cmp based
 -- A change clashes with an observation where it is of a commit past its base, is at its address, and clashes by the table.
 abbrev pub clashes : Based → Change → Bool
 clashes based change = meets based change && clash based.obs change.delta
+
+-- Each place among these is a number of 32 bits, as that of a pair that is found.
+abbrev pub HavePlaces : List Based → Type 0
+HavePlaces based = length based < 2 ^ 32
 
 -- ---- what the least pair is
 

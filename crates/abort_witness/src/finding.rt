@@ -1,6 +1,6 @@
 //! Where the least clash of observations and changes is.
 
-ghost use Rattle.std.specs.Prelude.{◌≡◌, ◌+◌, ◌*◌, ◌<◌, ◌≤◌, ◌^◌, filter, length};
+ghost use Rattle.std.specs.Prelude.{◌≡◌, ◌+◌, ◌*◌, ◌≤◌, filter, length};
 ghost use Rattle.abort_witness.specs.Pairs as pairs;
 
 use crate::witness::{Based, Found};
@@ -50,7 +50,7 @@ pub fn lesser(found: Option<Found>, place: u32, number: Option<u64>) -> Option<F
 /// The least pair: the least number of a change past the base of an observation of its address with which it clashes, and
 /// then the first such observation. It takes no memory.
 pub fn least<L: Ledger>(based: &[Based], tail: &Tail, steps: &mut Steps<L>) -> Option<Found>
-    requires places { length based.now < 2 ^ 32 }
+    requires places { pairs.HavePlaces based.now }
     ensures least { result ≡ pairs.least based.now tail.now.changes }
     ensures steps { steps.new ≤ steps.old + length based.now * length tail.now.changes }
 {

@@ -1,8 +1,9 @@
--- Some of a list of changes: those past a number, and those at an address.
-use Rattle.std.specs.Prelude.{◌≡◌, ℕ, nat_lt, List, [], ◌∷◌, filter, codes, pos, refl}
+-- Some of a list of changes: those past a number, and those at an address; and what they do.
+use Rattle.std.specs.Prelude.{◌≡◌, ℕ, nat_lt, List, [], ◌∷◌, filter, map, codes, pos, refl}
 use Rattle.std.specs.BTreeMap.{is_at}
 use Rattle.rdt_types.specs.declared.address.Kind.TheVariants as kind
 use Rattle.rdt_types.specs.declared.address.Address.{Address}
+use Rattle.rdt_types.specs.declared.delta.Delta.{Delta}
 use Rattle.rdt_types.specs.declared.delta.Delta.TheVariants as delta
 use Rattle.rdt_types.specs.Addresses.{address_cmp}
 use Rattle.change_feed.specs.declared.change.Change.{Change}
@@ -14,6 +15,10 @@ past from all = filter (λ change. nat_lt from change.number) all
 -- the changes at one address
 abbrev pub of_address : Address → List Change → List Change
 of_address address all = filter (λ change. is_at (address_cmp address) change.address) all
+
+-- what changes do, in order
+abbrev pub deltas_of : List Change → List Delta
+deltas_of changes = map (λ change. change.delta) changes
 
 -- ---- worked lines
 
@@ -31,3 +36,7 @@ past-example = refl
 -- and at the counter x that of the first
 of_address-example : of_address (counter (codes "x")) (adding 1 (codes "x") ∷ adding 2 (codes "y") ∷ []) ≡ adding 1 (codes "x") ∷ []
 of_address-example = refl
+
+-- an addition is what that does
+deltas_of-example : deltas_of (adding 1 (codes "x") ∷ []) ≡ delta.AddCounter (pos 1) ∷ []
+deltas_of-example = refl

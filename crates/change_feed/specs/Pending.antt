@@ -1,16 +1,16 @@
 -- What is pending at an address after changes.
-use Rattle.std.specs.Prelude.{◌≡◌, ℕ, List, [], ◌∷◌, map, fold, Option, Some, None, codes, pos, refl}
+use Rattle.std.specs.Prelude.{◌≡◌, ℕ, List, [], ◌∷◌, fold, Option, Some, None, codes, pos, refl}
 use Rattle.rdt_types.specs.declared.address.Kind.TheVariants as kind
 use Rattle.rdt_types.specs.declared.address.Address.{Address}
 use Rattle.rdt_types.specs.declared.delta.Delta.{Delta}
 use Rattle.rdt_types.specs.declared.delta.Delta.TheVariants as delta
 use Rattle.rdt_types.specs.DeltaMaps.{after_maybe}
 use Rattle.change_feed.specs.declared.change.Change.{Change}
-use Rattle.change_feed.specs.Changes.{of_address}
+use Rattle.change_feed.specs.Changes.{of_address, deltas_of}
 
 -- the deltas at an address, in order
 abbrev pub deltas_at : Address → List Change → List Delta
-deltas_at address changes = map (λ change. change.delta) (of_address address changes)
+deltas_at address changes = deltas_of (of_address address changes)
 
 -- deltas after one that may stand before them, composed in order
 abbrev pub composed_after : Option Delta → List Delta → Option Delta

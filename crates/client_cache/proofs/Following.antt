@@ -13,6 +13,7 @@ use Rattle.rdt_types.specs.DeltaMaps.{delta_at}
 use Rattle.rdt_types.proofs.OneKind.{kind-compose}
 use Rattle.rdt_types.proofs.Laws.{compositions_apply_in_turn}
 use Rattle.change_feed.specs.declared.change.Change.{Change}
+use Rattle.change_feed.specs.Changes.{of_address, deltas_of}
 use Rattle.change_feed.specs.Pending.{deltas_at, composed_after, pending}
 use Rattle.change_feed.specs.Feeds.{AreOfTheirKinds}
 use Rattle.change_feed.proofs.Pending.{at-of_kind}
@@ -39,14 +40,6 @@ module _ (k : Kind) where
 
 -- ---- deltas at an address
 
--- the changes at an address, and what changes do
-abbrev at : Address → List Change → List Change
-at address changes = filter (λ c. is_at (address_cmp address) c.address) changes
-
--- the deltas of changes, in order
-abbrev deltas_of : List Change → List Delta
-deltas_of changes = map (λ c. c.delta) changes
-
 -- what is pending is a composition of deltas of the address's kind, with none before it
 pub pending_applies_in_turn : PendingAppliesInTurn
 pending_applies_in_turn changes address value kinds =
@@ -60,10 +53,10 @@ applied-append address v (change ∷ changes) later =
     by (is_at (address_cmp address) change.address) (λ w. applied-append address w changes later)
   where
     by : (b : Bool)
-        → ((w : Value) → applied (deltas_of (at address (changes ++ later))) w
-        ≡ applied (deltas_of (at address later)) (applied (deltas_of (at address changes)) w))
-        → applied (deltas_of (cond b (change ∷ at address (changes ++ later)) (at address (changes ++ later)))) v
-        ≡ applied (deltas_of (at address later)) (applied (deltas_of (cond b (change ∷ at address changes) (at address changes))) v)
+        → ((w : Value) → applied (deltas_of (of_address address (changes ++ later))) w
+        ≡ applied (deltas_of (of_address address later)) (applied (deltas_of (of_address address changes)) w))
+        → applied (deltas_of (cond b (change ∷ of_address address (changes ++ later)) (of_address address (changes ++ later)))) v
+        ≡ applied (deltas_of (of_address address later)) (applied (deltas_of (cond b (change ∷ of_address address changes) (of_address address changes))) v)
     by true rest = rest (apply change.delta v)
     by false rest = rest v
 

@@ -1,5 +1,6 @@
 -- What a client owes where it hands something to the journal.
-use Rattle.std.specs.Prelude.{◌≡◌, ℕ, ◌+◌, ◌≤◌, ◌<◌, ◌^◌, length, Some}
+use Rattle.std.specs.Prelude.{◌≡◌, ℕ, ◌+◌, ◌≤◌, length, Some}
+use Rattle.abort_witness.specs.Pairs.{HavePlaces}
 use Rattle.txn_lang.specs.States.{Journal}
 use Rattle.txn_lang.specs.Execution.{done}
 use Rattle.txn_lang.specs.Journals.{own}
@@ -19,4 +20,4 @@ pub record IsOwed (shards : ℕ) (journal : Journal) (ready : Ready) : Type 0 wh
   pub fits : Fits journal attempt
   pub next : ready.seq ≡ length (own ready.client journal) + 1
   pub short : length ready.body ≤ LONGEST_BODY
-  pub few : length ready.based < 2 ^ 32
+  pub few : HavePlaces ready.based

@@ -1,10 +1,11 @@
 -- What the journal decides of what is handed to it.
-use Rattle.std.specs.Prelude.{◌≡◌, ℕ, ◌+◌, ◌<◌, ◌≤◌, ◌^◌, [], ◌∷◌, ◌++◌, length, Some, None}
+use Rattle.std.specs.Prelude.{◌≡◌, ℕ, ◌+◌, ◌<◌, ◌≤◌, [], ◌∷◌, ◌++◌, length, Some, None}
 use Rattle.std.specs.List.{AllByRecursion}
 use Rattle.dio_core.specs.Counts.{Rose}
 use Rattle.abort_witness.specs.declared.witness.Found.{Found}
 use Rattle.abort_witness.specs.declared.witness.Witness.{Witness}
 use Rattle.abort_witness.specs.Kinds.{IsBasedOfOneKind, IsOfOneKind}
+use Rattle.abort_witness.specs.Pairs.{HavePlaces}
 use Rattle.txn_lang.specs.States.{Journal}
 use Rattle.txn_lang.specs.Journals.{own}
 use Rattle.journal_core.specs.declared.limits.TheConstants.{LONGEST_BODY}
@@ -60,7 +61,7 @@ pub record CanSettle (ready : Ready) (journal : Journal) : Type 0 where
   pub short : length ready.body ≤ LONGEST_BODY
   pub next : ready.seq ≡ length (own ready.client journal) + 1
   pub kinds : AllByRecursion IsBasedOfOneKind ready.based
-  pub few : length ready.based < 2 ^ 32
+  pub few : HavePlaces ready.based
 
 -- where the answer is that the disk denied it, this holds
 abbrev pub IfDenied : Decision → Type 0 → Type 0

@@ -9,6 +9,7 @@ use Rattle.rdt_types.specs.Deltas.{kind_changed}
 use Rattle.rdt_types.specs.DeltaMaps.{Deltas, delta_at, with_delta}
 use Rattle.rdt_types.proofs.Addresses.{address_cmp-equal}
 use Rattle.change_feed.specs.declared.change.Change.{Change}
+use Rattle.change_feed.specs.Changes.{of_address}
 use Rattle.change_feed.specs.Feeds as feeds
 use Rattle.change_feed.specs.Feeds.{with_changes}
 use Rattle.change_feed.specs.Pending.{deltas_at, composed_after, pending}
@@ -28,7 +29,7 @@ module _ (told : Address → Bool) (a : Address) where
 
   -- the changes at the one address
   abbrev here : List Change → List Change
-  here all = filter (λ change. is_at (address_cmp a) change.address) all
+  here all = of_address a all
 
   -- an address that compares as equal is told alike
   same-address : (b : Address) → is_at (address_cmp a) b ≡ true → told b ≡ told a

@@ -42,6 +42,7 @@ use Rattle.txn_lang.proofs.Determinacy.{runs_are_determined}
 use Rattle.txn_lang.proofs.Observed.{observed_is_there}
 use Rattle.txn_lang.proofs.Journals.{legal-push}
 use Rattle.txn_eval.specs.Running.{values_of}
+use Rattle.journal_core.specs.Changes.{changes_by}
 use Rattle.journal_core.specs.Pairs.{AreNumberedFrom}
 use Rattle.docc_prepare.specs.declared.attempt.Attempt.{Attempt}
 use Rattle.docc_prepare.specs.Attempts.{SnapList, ran, base_in, with_base, based, SnapFits, Fits}
@@ -79,10 +80,6 @@ still-within obs.ListAll v w h e = tt
 
 -- ---- one commit
 
--- the changes of deltas, as those of the commit of a number
-abbrev changes_at : ℕ → Deltas → List Change
-changes_at n ds = map (λ pair. record { number = n; address = pair.0; delta = pair.1 }) ds
-
 -- of three that don't all hold the last fails where the first two hold
 past_test : (b c d : Bool) → b ≡ true → c ≡ true → ((b && c) && d) ≡ false → d ≡ false
 past_test true true d p q e = e
@@ -90,11 +87,11 @@ past_test true false d p q e = absurd (cc)
 past_test false c d p q e = absurd (cc)
 
 -- the delta at the address of an observation that a commit past its base misses is no clash
-unclashed : (b : Based) (n : ℕ) (ds : Deltas) (d : Delta) → b.base < n → list_any (clashes b) (changes_at n ds) ≡ false → delta_at ds b.address ≡ Some d
+unclashed : (b : Based) (n : ℕ) (ds : Deltas) (d : Delta) → b.base < n → list_any (clashes b) (changes_by n ds) ≡ false → delta_at ds b.address ≡ Some d
     → clash b.obs d ≡ false
 unclashed b n [] d past misses e = absurd (cc)
 unclashed b n (pair ∷ ds) d past misses e =
-    let parts = or_parts (clashes b (record { number = n; address = pair.0; delta = pair.1 })) (list_any (clashes b) (changes_at n ds)) misses in
+    let parts = or_parts (clashes b (record { number = n; address = pair.0; delta = pair.1 })) (list_any (clashes b) (changes_by n ds)) misses in
     by (unclashed b n ds d past parts.1) parts.0 (is_eq (address_cmp b.address pair.0)) refl e
   where
     by : (delta_at ds b.address ≡ Some d → clash b.obs d ≡ false) → clashes b (record { number = n; address = pair.0; delta = pair.1 }) ≡ false

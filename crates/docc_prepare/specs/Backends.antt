@@ -1,6 +1,6 @@
 -- What each call of a backend promises, whoever stands behind it: a world of one thread, a pass on a store that threads
 -- share, a link to a server. What is said of the journal is said of those that tell it.
-use Rattle.std.specs.Prelude.{◌≡◌, ℕ, ◌+◌, ◌≤◌, ◌<◌, ◌^◌, ◌||◌, ◌&&◌, not, max, Bool, true, if◌then◌else◌, List, [], ◌∷◌, ◌++◌, length, take}
+use Rattle.std.specs.Prelude.{◌≡◌, ℕ, ◌+◌, ◌≤◌, ◌<◌, ◌||◌, ◌&&◌, not, max, Bool, true, if◌then◌else◌, List, [], ◌∷◌, ◌++◌, length, take}
 use Rattle.std.specs.Prelude.{slice_get, Some, None, IfSome, codes, refl}
 use Rattle.std.specs.List.{AllByRecursion}
 use Rattle.std.specs.BTreeMap.{is_at}
@@ -16,6 +16,7 @@ use Rattle.change_feed.specs.Pending.{pending}
 use Rattle.abort_witness.specs.declared.witness.Based.{Based}
 use Rattle.abort_witness.specs.declared.witness.Witness.{Witness}
 use Rattle.abort_witness.specs.Kinds.{IsBasedOfOneKind, IsOfOneKind}
+use Rattle.abort_witness.specs.Pairs.{HavePlaces}
 use Rattle.txn_lang.specs.declared.snaps.Snap.{Snap}
 use Rattle.txn_lang.specs.States.{Journal, state}
 use Rattle.txn_lang.specs.Journals.{IsLegal, own}
@@ -53,7 +54,7 @@ pub record CanValidate (k : Known) (shard : ℕ) (based : Based) : Type 0 where
 pub record CanPrepare (k : Known) (shard : ℕ) (based : List Based) : Type 0 where
   pub below : shard < k.shards
   pub each : AllByRecursion (CanValidate k shard) based
-  pub few : length based < 2 ^ 32
+  pub few : HavePlaces based
 
 -- What is handed on fits the journal, and its seq is the client's next.
 pub record FitsNext (k : Known) (attempt : Attempt) (ready : Ready) (journal : Journal) : Type 0 where
@@ -72,7 +73,7 @@ pub record CanAppend (k : Known) (ready : Ready) : Type 0 where
   pub fronted : AllByRecursion (λ prepared. k.fronted prepared.shard
       (in_shard k.shards prepared.shard ready.based) prepared.front ≡ true) ready.fronts
   pub each : AllByRecursion (λ based. CanValidate k (shard_of based.address k.shards) based) ready.based
-  pub few : length ready.based < 2 ^ 32
+  pub few : HavePlaces ready.based
   pub told : IfSome k.journal (FitsNext k attempt ready)
 
 -- What a client owes at each call.

@@ -22,6 +22,7 @@ use Rattle.journal_core.specs.Changes.{changes, between, adding}
 use Rattle.journal_core.specs.Pairs.{least_pair, past_fronts}
 use Rattle.journal_core.specs.Readies.{made_of}
 pub use Rattle.version_shard.specs.Bases.{least_base, late_base}
+pub use Rattle.docc_prepare.specs.declared.limits.TheConstants.{CLIENTS}
 use Rattle.docc_prepare.specs.Witnesses.{witness_of, least_witness}
 use Rattle.docc_prepare.specs.Calls.{Known, Call, Answer}
 use Rattle.docc_prepare.specs.Backends.{CanCall, IsAnswered, IsLater, IsSameClient, KeepsGiven}
@@ -37,10 +38,6 @@ pub record Store : Type 0 where
   pub seens : List ℕ
   pub subscribed : ℕ → Address → Bool
   pub taken : ℕ → ℕ
-
--- how many clients there are
-abbrev pub CLIENTS : ℕ
-CLIENTS = 64
 
 -- nothing was done yet
 abbrev pub first_store : ℕ → ℕ → ℕ → Store
@@ -244,6 +241,10 @@ ShardsFollow =
     (s : Store) (client shard : ℕ) → IsSound s → client < CLIENTS → shard < s.shards → IsFollowed s client shard (followed s client shard)
 
 -- ---- worked lines
+
+-- there are 64 clients
+CLIENTS-are : CLIENTS ≡ 64
+CLIENTS-are = refl
 
 -- the counter of a key
 abbrev counter : List ℕ → Address

@@ -9,6 +9,7 @@
 mod attempt;
 mod backend;
 mod laws;
+mod limits;
 mod observed;
 mod order;
 mod stepping;
@@ -22,6 +23,7 @@ pub use laws::{
     events_stay_sound, every_world_is_sound, first_worlds_are_sound, fronts_spare_no_pair,
     legal_journals_are_orderly, moves_stay_sound,
 };
+pub use limits::CLIENTS;
 pub use store_laws::{
     first_stores_are_sound, others_count_as_within, shards_follow, steps_are_answered,
     steps_leave_others, steps_may_be_done, witness_is_named,

@@ -1,6 +1,6 @@
 //! The least clash past what was prepared.
 
-ghost use Rattle.std.specs.Prelude.{◌≡◌, ◌+◌, ◌<◌, ◌≤◌, ◌^◌, filter, length, max};
+ghost use Rattle.std.specs.Prelude.{◌≡◌, ◌+◌, ◌≤◌, filter, length, max};
 ghost use Rattle.abort_witness.specs.Pairs as pairs;
 ghost use Rattle.journal_core.specs.Pairs as spec;
 ghost use Rattle.journal_core.specs.Changes.{changes};
@@ -68,7 +68,7 @@ pub(crate) fn least_past<L: Ledger>(
     fronts: &[PreparedFront],
     steps: &mut Steps<L>,
 ) -> Option<Found>
-    requires places { length based.now < 2 ^ 32 }
+    requires places { pairs.HavePlaces based.now }
     ensures least { result ≡ pairs.least (spec.past_fronts log.now.shards fronts.now based.now) (changes log.now.commits) }
     ensures steps { steps.new ≤ steps.old + spec.most_steps (spec.past_fronts log.now.shards fronts.now based.now) (changes log.now.commits) }
 {

@@ -1,6 +1,6 @@
 //! The journal, and the decision by which a transaction becomes its next commit or is refused.
 
-ghost use Rattle.std.specs.Prelude.{◌≡◌, ◌+◌, ◌<◌, ◌≤◌, ◌^◌, true, length, slice_get, Option, Some, OnErr, IfOk, IfSome};
+ghost use Rattle.std.specs.Prelude.{◌≡◌, ◌+◌, ◌≤◌, true, length, slice_get, Option, Some, OnErr, IfOk, IfSome};
 ghost use Rattle.std.specs.Option.{option_copied};
 ghost use Rattle.rdt_types.specs.declared.settings.Settings.{Settings};
 ghost use Rattle.journal_core.specs.Changes as spec;
@@ -9,6 +9,7 @@ ghost use Rattle.journal_core.specs.Tails.{HasAll, tail_of};
 ghost use Rattle.journal_core.specs.Kinds.{HasKinds};
 ghost use Rattle.journal_core.specs.Witnesses.{AreBasedOfOneKind, IsWitnessOf};
 ghost use Rattle.abort_witness.specs.Kinds.{IsOfOneKind};
+ghost use Rattle.abort_witness.specs.Pairs.{HavePlaces};
 ghost use Rattle.journal_core.specs.Readies as readies;
 ghost use Rattle.journal_core.specs.Journals as journals;
 ghost use Rattle.journal_core.specs.Journals.{CanAppend, Decides, IsSlot, IfDiskFault};
@@ -167,7 +168,7 @@ impl<K: Keep> Journal<K> {
     /// the shards of the observations.
     pub fn append<L: Ledger>(&mut self, ready: &Ready, slot: Slot, steps: &mut Steps<L>) -> Appended
         requires can_append { CanAppend K.bytes_of ready.now slot self.old }
-        requires places { length ready.now.based < 2 ^ 32 }
+        requires places { HavePlaces ready.now.based }
         ensures decides { Decides ready.now self.old result self.new }
         ensures may_fail { IfDiskFault result (K.may_fail ≡ true) }
         ensures steps { steps.new ≤ steps.old + most_steps (past_fronts self.old.shards ready.now.fronts ready.now.based) (spec.changes self.old.commits) }

@@ -1,6 +1,6 @@
 //! The commits, and their changes beside them.
 
-ghost use Rattle.std.specs.Prelude.{◌≡◌, ◌+◌, ◌<◌, ◌≤◌, ◌^◌, [], ◌∷◌, ◌++◌, length, slice_get, OnOk, OnErr, IfOk};
+ghost use Rattle.std.specs.Prelude.{◌≡◌, ◌+◌, ◌<◌, ◌≤◌, [], ◌∷◌, ◌++◌, length, slice_get, OnOk, OnErr, IfOk};
 ghost use Rattle.std.specs.Option.{option_copied};
 ghost use Rattle.rdt_types.specs.declared.limits.TheConstants.{LEAST_SHARDS, MOST_SHARDS};
 ghost use Rattle.abort_witness.specs.Pairs as pairs;
@@ -71,7 +71,7 @@ impl Log {
         fronts: &[PreparedFront],
         steps: &mut Steps<L>,
     ) -> Option<Found>
-        requires places { length based.now < 2 ^ 32 }
+        requires places { pairs.HavePlaces based.now }
         ensures least { result ≡ least_pair (past_fronts self.now.shards fronts.now based.now) self.now.commits }
         ensures steps { steps.new ≤ steps.old + most_steps (past_fronts self.now.shards fronts.now based.now) (spec.changes self.now.commits) }
     {

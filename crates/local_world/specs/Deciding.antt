@@ -1,7 +1,8 @@
 -- What the journal of a world decides, as the store does.
-use Rattle.std.specs.Prelude.{◌≡◌, ℕ, ◌+◌, ◌≤◌, ◌<◌, ◌^◌, length}
+use Rattle.std.specs.Prelude.{◌≡◌, ℕ, ◌+◌, ◌≤◌, length}
 use Rattle.std.specs.List.{AllByRecursion}
 use Rattle.abort_witness.specs.Kinds.{IsBasedOfOneKind}
+use Rattle.abort_witness.specs.Pairs.{HavePlaces}
 use Rattle.txn_lang.specs.States.{Journal}
 use Rattle.txn_lang.specs.Journals.{IsLegal, own}
 use Rattle.journal_core.specs.declared.limits.TheConstants.{LONGEST_BODY}
@@ -21,7 +22,7 @@ pub record MayDecide (ready : Ready) (standing : Standing) : Type 0 where
   -- to look past the fronts is to look at all
   pub spared : found_past ready standing ≡ least_pair ready.based standing.commits
   pub kinds : AllByRecursion IsBasedOfOneKind ready.based
-  pub few : length ready.based < 2 ^ 32
+  pub few : HavePlaces ready.based
 
 -- the store has this journal, and its settings
 pub record HasJournal (s : Store) (standing : Standing) : Type 0 where

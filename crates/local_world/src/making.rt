@@ -1,19 +1,16 @@
 //! The parts of a new world: nothing was done yet.
 
 ghost use Rattle.std.specs.Prelude.{◌≡◌, [], replicate, IfOk};
-ghost use Rattle.docc_prepare.specs.Stores.{CLIENTS};
 ghost use Rattle.local_world.specs.Standing.{AreHeld, fronts_of};
 ghost use Rattle.local_world.specs.Making.{IsEntered};
 
 use change_feed::Tail;
+use docc_prepare::CLIENTS;
 use plain_data::Sequence;
 use rdt_types::Settings;
 use reactive_registry::Registry;
 use std::alloc::{AllocError, Global};
 use version_shard::Shard;
-
-/// How many clients there are, as the store's definition says: the clauses below cite that.
-const CLIENT_COUNT: u32 = 64;
 
 /// The shards of the settings, which have followed nothing.
 pub(crate) fn empty_shards(alloc: Global, settings: &Settings) -> Result<Vec<Shard>, AllocError>
@@ -32,7 +29,7 @@ pub(crate) fn empty_shards(alloc: Global, settings: &Settings) -> Result<Vec<Sha
 pub(crate) fn nothing_seen(alloc: Global) -> Result<Sequence<u64>, AllocError>
     ensures { IfOk result (λ seens. seens ≡ replicate CLIENTS 0) }
 {
-    Ok(Sequence::from_vec(vec![in alloc; 0u64; CLIENT_COUNT as usize]?))
+    Ok(Sequence::from_vec(vec![in alloc; 0u64; CLIENTS as usize]?))
 }
 
 /// A registry in which every client is entered, at the beginning of the journal.
@@ -40,7 +37,7 @@ pub(crate) fn all_entered(alloc: Global) -> Result<Registry, AllocError>
     ensures { IfOk result (λ registry. IsEntered CLIENTS registry) }
 {
     let mut registry = Registry::new(alloc, 0);
-    for client in 0..CLIENT_COUNT {
+    for client in 0..CLIENTS {
         registry.enter(client)?;
     }
     Ok(registry)

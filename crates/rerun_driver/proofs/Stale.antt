@@ -19,6 +19,7 @@ use Rattle.conflict_table.specs.Clashes.{clash}
 use Rattle.conflict_table.proofs.Keys.{or_none}
 use Rattle.conflict_table.proofs.Rows.{compositions_clash_by_parts}
 use Rattle.change_feed.specs.declared.change.Change.{Change}
+use Rattle.change_feed.specs.Changes.{of_address, deltas_of}
 use Rattle.change_feed.specs.Pending.{deltas_at, composed_after, pending}
 use Rattle.change_feed.specs.Feeds.{Fed, AreOfTheirKinds}
 use Rattle.change_feed.proofs.Pending.{AreOfKind, at-of_kind}
@@ -48,21 +49,13 @@ module _ (o : Obs) (k : Kind) where
 
 -- ---- the deltas at the observed address
 
--- the changes at an address
-abbrev at : Address → List Change → List Change
-at address changes = filter (λ c. is_at (address_cmp address) c.address) changes
-
--- what changes do, in order
-abbrev deltas_of : List Change → List Delta
-deltas_of changes = map (λ c. c.delta) changes
-
 -- one of them clashes where a change meets the observation
 clash-deltas_at : (seen : Seen) (changes : List Change) → list_any (clash seen.obs) (deltas_at seen.address changes) ≡ list_any (meets seen) changes
 clash-deltas_at seen [] = refl
 clash-deltas_at seen (change ∷ changes) = by (is_at (address_cmp seen.address) change.address) (clash-deltas_at seen changes)
   where
-    by : (b : Bool) → list_any (clash seen.obs) (deltas_of (at seen.address changes)) ≡ list_any (meets seen) changes
-        → list_any (clash seen.obs) (deltas_of (cond b (change ∷ at seen.address changes) (at seen.address changes)))
+    by : (b : Bool) → list_any (clash seen.obs) (deltas_of (of_address seen.address changes)) ≡ list_any (meets seen) changes
+        → list_any (clash seen.obs) (deltas_of (cond b (change ∷ of_address seen.address changes) (of_address seen.address changes)))
         ≡ ((b && clash seen.obs change.delta) || list_any (meets seen) changes)
     by true rest = ap (λ x. clash seen.obs change.delta || x) rest
     by false rest = rest

@@ -1,5 +1,6 @@
 -- The verb of a line.
 use Rattle.std.proofs.Common.{◌≡◌, ℕ, List, Option, Some, None, Result, Ok, Err, refl, ap}
+use Rattle.std.specs.Result.{result_ok}
 use Rattle.predictive_parsing.specs.Reading.{whole}
 use Rattle.predictive_parsing.specs.Bytes.{IsByte}
 use Rattle.predictive_parsing.proofs.Wholes.{whole_sound, whole_complete}
@@ -9,10 +10,10 @@ use Rattle.session_text.specs.code.Lines.{line}
 use Rattle.session_text.specs.Follows.{at_end}
 use Rattle.session_text.proofs.LineFits.{line_fits}
 use Rattle.txn_grammar.specs.Characters.{Text}
-use Rattle.session_core.specs.Lines.{if_form, asked, VerbsAreForms}
+use Rattle.session_core.specs.Lines.{asked, VerbsAreForms}
 
 -- a verb comes only of a reading that went well, and is the one that was read
-read_by : (r : Result Verb (List ℕ)) (v : Verb) → if_form r ≡ Some v → r ≡ Ok v
+read_by : (r : Result Verb (List ℕ)) (v : Verb) → result_ok r ≡ Some v → r ≡ Ok v
 read_by (Ok found) v e = let k : found ≡ v = cc in ap (λ x. Ok x) k
 read_by (Err rest) v e = absurd (cc)
 
@@ -24,7 +25,7 @@ asked_sound text v e = whole_sound IsByte line VerbRule at_end line_fits refl te
 -- and each form is asked for
 pub asked_complete : (text : Text) (v : Verb) → IsVerb text v → asked text ≡ Some v
 unfolding asked
-asked_complete text v r = ap if_form (whole_complete IsByte line VerbRule at_end line_fits refl text v r)
+asked_complete text v r = ap result_ok (whole_complete IsByte line VerbRule at_end line_fits refl text v r)
 
 -- a verb is asked for exactly where the text is of its form, by the two lemmas above
 pub verbs_are_forms : VerbsAreForms

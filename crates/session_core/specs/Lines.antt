@@ -2,6 +2,7 @@
 -- verb's body is of the grammar; whether it is well typed; and whether it writes where it may only read. The first test that
 -- fails is the refusal.
 use Rattle.std.specs.Prelude.{◌≡◌, ◌↔◌, ℕ, true, false, if◌then◌else◌, List, Option, Some, None, Result, Ok, Err}
+use Rattle.std.specs.Result.{result_ok}
 use Rattle.predictive_parsing.specs.Reading.{whole}
 use Rattle.session_text.specs.declared.reply.Why.{Why}
 use Rattle.session_text.specs.declared.reply.Why.TheVariants as why
@@ -18,13 +19,9 @@ use Rattle.session_core.specs.Bodies.{body_of}
 
 -- ---- the form
 
-abbrev pub if_form : Result Verb (List ℕ) → Option Verb
-if_form (Ok asked) = Some asked
-if_form (Err rest) = None
-
 -- the verb of whose form a text is, if it is of one
 unfoldable pub asked : Text → Option Verb
-asked text = if_form (whole line text)
+asked text = result_ok (whole line text)
 
 -- a law: it is the verb of whose form a text is, and there is one at most
 abbrev pub VerbsAreForms : Type 0

@@ -8,6 +8,7 @@ use Rattle.std.proofs.lemmas.Bool.Decides.{nat_tests}
 use Rattle.std.proofs.lemmas.List.{take-append-le}
 use Rattle.std.proofs.lemmas.List.Elements.{All-nil, All-cons, All-head, All-tail}
 use Rattle.std.proofs.lemmas.List.Sums.{prefix_len-le-length}
+use Rattle.std.specs.Result.{result_ok}
 use Rattle.predictive_parsing.specs.Reading.{Outcome, next, ahead, whole}
 use Rattle.predictive_parsing.specs.Rules.{One, Many}
 use Rattle.predictive_parsing.specs.Bytes.{Byte}
@@ -27,7 +28,7 @@ use Rattle.txn_grammar.specs.Spellings.{marks, spelled_in, mark}
 use Rattle.txn_grammar.specs.Lexer.{lexeme, word_token, word_at, number_token, number_at, quoted_lexeme, text_at}
 use Rattle.txn_grammar.specs.Lexer.{mark_lexeme, mark_at, token_at, spot, is_malformed, lex_from, lex}
 use Rattle.txn_grammar.specs.Numbers.{number_value}
-use Rattle.txn_grammar.specs.Parsed.{if_read, parsed, first_column, refused, syntax_column}
+use Rattle.txn_grammar.specs.Parsed.{parsed, first_column, refused, syntax_column}
 use Rattle.txn_grammar.specs.Blanks.{AreBlank, KeepTokens, KeepBody, KeepColumn, EndBehind}
 use Rattle.txn_grammar.specs.code.Reader.{body}
 use Rattle.txn_grammar.proofs.Cuts.{at_blank}
@@ -297,7 +298,7 @@ keep_tokens z w all = same_from 1 0 z w all
 -- the reader sees the tokens alone, and these are the same
 pub keep_body : KeepBody
 unfolding parsed
-keep_body z w all = ap (λ ts. if_read (whole body ts)) (keep_tokens z w all)
+keep_body z w all = ap (λ ts. result_ok (whole body ts)) (keep_tokens z w all)
 
 -- ---- columns
 

@@ -2,6 +2,7 @@
 use Rattle.std.proofs.Common.{◌≡◌, ℕ, ◌+◌, true, length, List, ◌∷◌, [], ◌++◌, Option, Some, None, Result, Ok, Err, refl}
 use Rattle.std.proofs.Common.{ap, sym, ◌∙◌, subst, drop, arith, append_assoc, append-nil}
 use Rattle.std.proofs.Math.Seq.{drop-append_seam}
+use Rattle.std.specs.Result.{result_ok}
 use Rattle.txn_trees.specs.declared.statement.Body.{Body}
 use Rattle.predictive_parsing.specs.Reading.{whole}
 use Rattle.predictive_parsing.specs.Fits.{unless}
@@ -14,7 +15,7 @@ use Rattle.txn_grammar.specs.Characters.{Text}
 use Rattle.txn_grammar.specs.Spellings.{same_symbol}
 use Rattle.txn_grammar.specs.Lexer.{lex, Spelled}
 use Rattle.txn_grammar.specs.Grammar.{BodyRule, IsBody}
-use Rattle.txn_grammar.specs.Parsed.{if_read, parsed, first_column, IsSyntaxColumn, refused, syntax_column}
+use Rattle.txn_grammar.specs.Parsed.{parsed, first_column, IsSyntaxColumn, refused, syntax_column}
 use Rattle.txn_grammar.specs.code.Reader.{body, begins_statement}
 use Rattle.txn_grammar.proofs.Ends.{statement_end}
 use Rattle.txn_grammar.proofs.StatementFits.{body_fits}
@@ -25,7 +26,7 @@ unfolding same_symbol begins_statement
 ends = refl
 
 -- a body is given only where the reader found it
-read_by : (r : Result Body (List Spot)) (b : Body) → if_read r ≡ Some b → r ≡ Ok b
+read_by : (r : Result Body (List Spot)) (b : Body) → result_ok r ≡ Some b → r ≡ Ok b
 read_by (Ok c) b e = let k : c ≡ b = cc in ap (λ x. Ok x) k
 read_by (Err rest) b e = absurd (cc)
 
@@ -37,7 +38,7 @@ parsed_sound z b e = whole_sound Spelled body BodyRule _ body_fits ends (lex z) 
 -- what is derived is read
 pub parsed_complete : (z : Text) (b : Body) → IsBody (lex z) b → parsed z ≡ Some b
 unfolding parsed
-parsed_complete z b r = ap if_read (whole_complete Spelled body BodyRule _ body_fits ends (lex z) b r)
+parsed_complete z b r = ap result_ok (whole_complete Spelled body BodyRule _ body_fits ends (lex z) b r)
 
 -- tokens are those of one body at most
 pub body_unique : (ts : List Spot) (a b : Body) → IsBody ts a → IsBody ts b → a ≡ b
@@ -58,7 +59,7 @@ pub column_there : (z : Text) → parsed z ≡ None → (column : ℕ) × IsSynt
 unfolding parsed
 column_there z e = there (whole body (lex z)) refl e
   where
-    there : (r : Result Body (List Spot)) → whole body (lex z) ≡ r → if_read r ≡ None → (column : ℕ) × IsSyntaxColumn z column
+    there : (r : Result Body (List Spot)) → whole body (lex z) ≡ r → result_ok r ≡ None → (column : ℕ) × IsSyntaxColumn z column
     there (Ok b) k h = absurd (cc)
     there (Err rest) k h = (first_column (length z + 1) rest, refused_column z rest k)
 
@@ -67,7 +68,7 @@ pub column_computed : (z : Text) → parsed z ≡ None → IsSyntaxColumn z (syn
 unfolding parsed syntax_column
 column_computed z e = at (whole body (lex z)) refl e
   where
-    at : (r : Result Body (List Spot)) → whole body (lex z) ≡ r → if_read r ≡ None → IsSyntaxColumn z (first_column (length z + 1) (refused r))
+    at : (r : Result Body (List Spot)) → whole body (lex z) ≡ r → result_ok r ≡ None → IsSyntaxColumn z (first_column (length z + 1) (refused r))
     at (Ok b) k h = absurd (cc)
     at (Err rest) k h = refused_column z rest k
 

@@ -1,5 +1,6 @@
 -- The body of a text, and the column where there is none.
-use Rattle.std.specs.Prelude.{◌≡◌, ℕ, ◌+◌, List, [], ◌∷◌, length, Option, Some, None, Result, Ok, Err}
+use Rattle.std.specs.Prelude.{◌≡◌, ℕ, ◌+◌, List, [], ◌∷◌, length, Option, Result, Ok, Err}
+use Rattle.std.specs.Result.{result_ok}
 use Rattle.txn_trees.specs.declared.statement.Body.{Body}
 use Rattle.predictive_parsing.specs.Reading.{whole}
 use Rattle.predictive_parsing.specs.Stops.{StopsAt}
@@ -9,13 +10,9 @@ use Rattle.txn_grammar.specs.Lexer.{lex, Spelled}
 use Rattle.txn_grammar.specs.Grammar.{BodyRule}
 use Rattle.txn_grammar.specs.code.Reader.{body}
 
-abbrev pub if_read : Result Body (List Spot) → Option Body
-if_read (Ok found) = Some found
-if_read (Err rest) = None
-
 -- the one body of the grammar that the text is, or none
 unfoldable pub parsed : Text → Option Body
-parsed z = if_read (whole body (lex z))
+parsed z = result_ok (whole body (lex z))
 
 -- the column of the first token, or of the end where there is none
 abbrev pub first_column : ℕ → List Spot → ℕ

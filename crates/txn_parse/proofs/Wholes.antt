@@ -1,6 +1,7 @@
 -- Whole texts, by what the reader of bodies leaves.
 use Rattle.std.proofs.Common.{◌≡◌, ℕ, ◌+◌, ◌==◌, Bool, true, false, cond, List, [], ◌∷◌, length, Some, Result, Ok, Err, IfOk, refl, ap, sym, ◌∙◌, subst, arith}
 use Rattle.std.proofs.lemmas.Bool.Decides.{nat_tests}
+use Rattle.std.specs.Result.{result_ok}
 use Rattle.plain_data.specs.declared.or_no_memory.OrNoMemory.{OrNoMemory}
 use Rattle.plain_data.specs.declared.or_no_memory.OrNoMemory.TheVariants as stop
 use Rattle.predictive_parsing.specs.declared.refused.Refused.{Refused}
@@ -11,7 +12,7 @@ use Rattle.txn_grammar.specs.declared.token.Spot.{Spot}
 use Rattle.txn_grammar.specs.Characters.{Text}
 use Rattle.txn_grammar.specs.Lexer.{lex}
 use Rattle.txn_grammar.specs.Grammar.{IsBody}
-use Rattle.txn_grammar.specs.Parsed.{parsed, if_read, first_column, IsSyntaxColumn}
+use Rattle.txn_grammar.specs.Parsed.{parsed, first_column, IsSyntaxColumn}
 use Rattle.txn_grammar.specs.code.Reader.{body}
 use Rattle.txn_parse.specs.declared.whole.ParseError.{ParseError}
 use Rattle.txn_parse.specs.declared.whole.ParseError.TheVariants as error
@@ -24,8 +25,8 @@ module _ (z : Text) (ts us : List Spot) (cut : ts ≡ lex z) where
   unfolding parsed whole
   whole_tree b e none = by us e none
     where
-      by : (vs : List Spot) → body ts ≡ Ok (b, vs) → length vs ≡ 0 → if_read (whole_of (body (lex z))) ≡ Some b
-      by [] k l = ap (λ xs. if_read (whole_of (body xs))) (sym cut) ∙ ap (λ o. if_read (whole_of o)) k
+      by : (vs : List Spot) → body ts ≡ Ok (b, vs) → length vs ≡ 0 → result_ok (whole_of (body (lex z))) ≡ Some b
+      by [] k l = ap (λ xs. result_ok (whole_of (body xs))) (sym cut) ∙ ap (λ o. result_ok (whole_of o)) k
       by (s ∷ vs) k l = absurd (omega arith)
 
   -- what is the text's body is derived by the grammar, since the reader is sound
