@@ -30,7 +30,9 @@ fn hex_digit(n: u8) -> u8
 pub fn spelling_of(byte: u8) -> Spelling
     ensures { result ≡ spec.spelling_of byte }
 {
-    if byte == b'"' || byte == b'\\' {
+    if byte.is_ascii_alphanumeric() {
+        Spelling::Plain(byte)
+    } else if byte == b'"' || byte == b'\\' {
         Spelling::Escaped(byte)
     } else if byte == b'\n' {
         Spelling::Escaped(b'n')
