@@ -5,7 +5,7 @@ ghost use Rattle.rdt_types.specs.DeltaMaps.{Deltas};
 ghost use Rattle.journal_core.specs.Changes as spec;
 
 use change_feed::{Change, ChangeList};
-use plain_data::copied;
+use plain_data::{Sequence, copied};
 use rdt_types::{Address, Delta};
 use std::alloc::{AllocError, Global};
 use txn_lang::Commit;
@@ -44,15 +44,15 @@ pub(crate) fn changes_by(
 ) -> Result<ChangeList, AllocError>
     ensures { IfOk result (λ list. list ≡ spec.changes_by number deltas.now) }
 {
-    let mut list = ChangeList::new(alloc);
+    let mut changes = Vec::with_capacity(alloc, deltas.len())?;
     for (address, delta) in deltas {
-        list.push(Change {
+        changes.push(Change {
             number,
             address: copied(address)?,
             delta: copied(delta)?,
         })?;
     }
-    Ok(list)
+    Ok(Sequence::from_vec(changes))
 }
 
 /// Copies of the changes of commits.

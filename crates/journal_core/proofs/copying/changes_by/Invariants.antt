@@ -4,4 +4,4 @@ use Rattle.journal_core.proofs.copying.changes_by.Given as goal
 
 -- the changes so far, and those by the rest, are all
 abbrev pub invariant-loop-address : goal.invariant-loop-address
-invariant-loop-address l = l.list ++ changes_by l.number (drop l.address-index l.deltas) ≡ changes_by l.fn.number l.fn.deltas
+invariant-loop-address l = l.changes.items ++ changes_by l.number (drop l.address-index l.deltas) ≡ changes_by l.fn.number l.fn.deltas
