@@ -48,8 +48,20 @@ impl Versions {
         }
     }
 
-    /// The value at a number, found by halving.
+    /// The value at a number. Most that ask want the newest, which is looked at first.
     pub fn at(&self, number: u64) -> &Value
+        ensures { result.now ≡ spec.value_at self.now number }
+    {
+        if let Some(newest) = self.later.back()
+            && newest.number <= number
+        {
+            return &newest.value;
+        }
+        self.halved(number)
+    }
+
+    /// The same, found by halving.
+    fn halved(&self, number: u64) -> &Value
         ensures { result.now ≡ spec.value_at self.now number }
     {
         let place = self

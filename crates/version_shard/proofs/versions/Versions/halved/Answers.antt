@@ -4,7 +4,7 @@ use Rattle.journal_core.proofs.Rising.{filter-front}
 use Rattle.version_shard.specs.declared.version.Version.{Version}
 use Rattle.version_shard.specs.Versions.{value_after, value_at, Versioned}
 use Rattle.version_shard.proofs.Stepping.{value_after-none, value_after-taken}
-use Rattle.version_shard.proofs.versions.Versions.at.Goals as goal
+use Rattle.version_shard.proofs.versions.Versions.halved.Goals as goal
 
 pub returns-then-place-eq0 : goal.returns-then-place-eq0
 returns-then-place-eq0 c =
