@@ -131,6 +131,7 @@ fn told(complaint: Option<u32>, t: Type) -> Result<Type, u32>
 
 /// Expressions that are each to be of one type. The first complaint is kept until all were gone through.
 #[cycle(judged)]
+#[inline(always)]
 fn all_of(
     names: &Environment<Type>,
     wanted: Type,
@@ -200,6 +201,18 @@ fn bound_to(names: &Environment<Type>, name: &Text) -> Option<Type>
     names.get(name).copied()
 }
 
+/// The type of a key, as `type_of` answers it. Most keys are literal texts.
+#[cycle(judged)]
+#[inline(always)]
+fn key_type(names: &Environment<Type>, key: &Expr) -> Result<Type, u32>
+    ensures { result ≡ spec.type_of key.now names.now }
+{
+    match &key.node {
+        ExprNode::Text(_) => Ok(Type::Text),
+        _ => type_of(names, key),
+    }
+}
+
 /// The type of an expression, or the column at which a rule fails first.
 #[cycle(judged)]
 pub(crate) fn type_of(names: &Environment<Type>, expr: &Expr) -> Result<Type, u32>
@@ -238,7 +251,7 @@ pub(crate) fn type_of(names: &Environment<Type>, expr: &Expr) -> Result<Type, u3
             told(complaint, t)
         }
         ExprNode::Read(kind, key, word, arguments) => {
-            let t = type_of(names, key.get())?;
+            let t = key_type(names, key.get())?;
             let first = unless(same(t, Type::Text), key.get().column);
             let complaint = all_of(names, asked_type(*word), first, arguments.as_slice())?;
             told(complaint, answered_type(*kind, *word))
@@ -255,7 +268,7 @@ pub(crate) fn judge_write(
 ) -> Result<(), u32>
     ensures { Fits result names.now (spec.judge_write kind key.now arguments.now names.now) }
 {
-    let t = type_of(names, key)?;
+    let t = key_type(names, key)?;
     let first = unless(same(t, Type::Text), key.column);
     match all_of(names, written_type(kind), first, arguments)? {
         None => Ok(()),
