@@ -108,9 +108,9 @@ fn read(
     sized(run, item)
 }
 
-/// What a read answers with what its arguments give. A single one takes no list.
+/// What a read with arguments answers. A single one takes no list.
 #[cycle(value)]
-fn read_given(
+fn read_with(
     alloc: Global,
     snaps: &Snaps,
     names: &Environment,
@@ -134,6 +134,27 @@ fn read_given(
     }
 }
 
+/// What a read answers with what its arguments give. Most reads have none.
+#[cycle(value)]
+#[inline(always)]
+fn read_given(
+    alloc: Global,
+    snaps: &Snaps,
+    names: &Environment,
+    run: &mut Progress<Kept>,
+    kind: Kind,
+    key: Item,
+    word: ReadWord,
+    arguments: &[Expr],
+) -> Result<Item, Stop>
+    ensures { Answers result run.new (read_run (kept (values_of snaps.now)) kind key word arguments.now names.now run.old) }
+{
+    match arguments {
+        [] => read(alloc, snaps, run, kind, key, word, &[]),
+        _ => read_with(alloc, snaps, names, run, kind, key, word, arguments),
+    }
+}
+
 /// What a number or a bool gives.
 fn constant(run: &mut Progress<Kept>, item: Item) -> Result<Item, Stop>
     ensures { Answers result run.new (charged (steps.pure item) run.old) }
@@ -149,6 +170,24 @@ fn text(run: &mut Progress<Kept>, text: &Text) -> Result<Item, Stop>
     charge(run, 1)?;
     let text = text.clone()?;
     sized(run, Item::Text(text))
+}
+
+/// What a key gives. Most keys are literal texts.
+#[cycle(value)]
+#[inline(always)]
+pub(crate) fn key_of(
+    alloc: Global,
+    snaps: &Snaps,
+    names: &Environment,
+    run: &mut Progress<Kept>,
+    expr: &Expr,
+) -> Result<Item, Stop>
+    ensures { Answers result run.new (rules.expr_run (kept (values_of snaps.now)) expr.now names.now run.old) }
+{
+    match &expr.node {
+        ExprNode::Text(literal) => text(run, literal),
+        _ => value_of(alloc, snaps, names, run, expr),
+    }
 }
 
 /// What a name gives.
@@ -303,7 +342,7 @@ pub fn value_of(
         }
         ExprNode::Read(kind, key, word, arguments) => {
             charge(run, 1)?;
-            let key = value_of(alloc, snaps, names, run, key.get())?;
+            let key = key_of(alloc, snaps, names, run, key.get())?;
             read_given(
                 alloc,
                 snaps,

@@ -35,6 +35,7 @@ fn is_big(item: &Item) -> bool
 }
 
 /// An item that is made, within the limits.
+#[inline(always)]
 pub(crate) fn sized(run: &Progress<Kept>, item: Item) -> Result<Item, Stop>
     ensures { Answers result run.now (rules.sized item run.now) }
 {

@@ -14,7 +14,7 @@ ghost use Rattle.txn_trees.specs.declared.statement.StmtNode.TheOpen.{StmtNode-F
 
 use crate::charging::{carry, charge};
 use crate::environment::Environment;
-use crate::expression::{value_of, values_of};
+use crate::expression::{key_of, value_of, values_of};
 use crate::items::{bool_in, into_text, into_texts};
 use crate::kept::Kept;
 use crate::loads::{emit_size, write_size};
@@ -279,7 +279,7 @@ fn write_value(
 ) -> Result<(), Stop>
     ensures { Leaves result names.now run.new (step_on snaps.now (StmtNode-F.Write kind key.now word arguments.now) names.now run.old) }
 {
-    let key = value_of(alloc, snaps, names, run, key)?;
+    let key = key_of(alloc, snaps, names, run, key)?;
     write_given(alloc, snaps, names, run, kind, key, word, arguments)
 }
 
