@@ -1,5 +1,5 @@
 -- How readers go down the levels, and choose by what is ahead.
-use Rattle.std.proofs.Common.{◌≡◌, ℕ, suc, ◌-◌, ◌<◌, Bool, true, false, ◌||◌, List, [], ◌∷◌, Ok, Option, Some, None, unwrap_or, ap, sym, ◌∙◌, arith, cond}
+use Rattle.std.proofs.Common.{◌≡◌, ℕ, suc, ◌-◌, ◌<◌, Bool, true, false, ◌||◌, List, [], ◌∷◌, ◌++◌, length, Ok, Err, Option, Some, None, unwrap_or, refl, ap, sym, ◌∙◌, arith, cond}
 use Rattle.txn_trees.specs.declared.expression.Expr.{Expr}
 use Rattle.txn_trees.specs.declared.statement.Stmt.{Stmt}
 use Rattle.predictive_parsing.specs.Reading.{Reader, next, begins, is_made, and_then, pure}
@@ -17,8 +17,9 @@ use Rattle.txn_grammar.specs.code.Reader.{a_leaf, leaf_read, opened, opened_read
 use Rattle.txn_grammar.specs.code.Reader.{unary, negation, expression, arguments_read, times, after_comma, simple_stmt}
 use Rattle.txn_grammar.specs.code.Reader.{simple_read, nesting_stmt, nesting_read, statement, begins_simple}
 use Rattle.txn_grammar.specs.code.Reader.{begins_nesting, begins_statement}
-use Rattle.predictive_parsing.specs.Reading.{turns}
-use Rattle.predictive_parsing.proofs.Loops.{with_front, no_front}
+use Rattle.predictive_parsing.specs.Reading.{Outcome, turns, many}
+use Rattle.predictive_parsing.proofs.Loops.{with_front}
+use Rattle.txn_parse.specs.code.Lists.{and_more}
 use Rattle.txn_parse.proofs.Heads.{begins_at}
 
 -- the leaf that is ahead
@@ -61,12 +62,22 @@ pub negation_deeper : (n : ℕ) (ts : List Spot) → 0 < n → negation n ts ≡
 unfolding unary expression
 negation_deeper n ts some = let e : n ≡ suc (n - 1) = omega arith in ap (λ m. negation m ts) e ∙ ap (λ m. negation_of (negation (n - 1)) (unary m) ts) (sym e)
 
--- as a loop over so many turns begins, nothing is found
-pub turns_begin : {I A : Type 0} (starts : Option I → Bool) (item : Reader I A) (found : List A) (n : ℕ) (ts : List I)
-    → found ≡ [] → with_front found (turns starts item (n - 0) ts) ≡ turns starts item n ts
-turns_begin starts item found n ts e =
-    let k : n - 0 ≡ n = omega arith in
-    ap (λ xs. with_front xs (turns starts item (n - 0) ts)) e ∙ no_front (turns starts item (n - 0) ts) ∙ ap (λ m. turns starts item m ts) k
+-- what was found before goes in front of what is read behind it
+in_front : {A : Type 0} (found : List A) (o : Outcome Spot (List A)) → with_front found o ≡ and_then o (λ more. pure (found ++ more))
+in_front found (Ok read) = refl
+in_front found (Err ts) = refl
+
+module _ {A : Type 0} (starts : Option Spot → Bool) (item : Reader Spot A) (found : List A) (ts : List Spot) where
+  -- as a loop over so many turns begins, what was found before is found
+  pub turns_begin : (n : ℕ) → with_front found (turns starts item (n - 0) ts) ≡ and_more found (turns starts item n) ts
+  turns_begin n =
+      let k : n - 0 ≡ n = omega arith in
+      ap (λ m. with_front found (turns starts item m ts)) k ∙ in_front found (turns starts item n ts)
+
+  -- and where as many turns are left as items
+  pub many_begin : with_front found (turns starts item (length ts - 0) ts) ≡ and_more found (many starts item) ts
+  unfolding many
+  many_begin = turns_begin (length ts)
 
 -- no argument, and some
 pub arguments_none : (e : Reader Spot Expr) (n : ℕ) (ts : List Spot) → n ≡ 0 → arguments_read e n ts ≡ Ok ([], ts)

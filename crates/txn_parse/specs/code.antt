@@ -4,4 +4,5 @@ pub mod Closures
 pub mod Ended
 pub mod Found
 pub mod Leveled
+pub mod Lists
 pub mod Nests

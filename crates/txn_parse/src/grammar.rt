@@ -8,6 +8,7 @@ ghost use Rattle.txn_grammar.specs.declared.rank.Rank.TheVariants as rank;
 ghost use Rattle.txn_grammar.specs.declared.symbol.Symbol.TheVariants as symbol;
 ghost use Rattle.txn_grammar.specs.code.Reader as spec;
 ghost use Rattle.txn_parse.specs.code.Begun as begun;
+ghost use Rattle.txn_parse.specs.code.Lists.{and_more};
 ghost use Rattle.txn_parse.specs.code.Nests.{Nests, placed};
 
 use crate::Stop;
@@ -202,13 +203,17 @@ impl<F: Fn(Global, &mut Cursor<'_, Spot>, u8, Place) -> Result<Expr, Stop>> Gram
         })
     }
 
-    /// So many expressions, each behind a comma.
-    fn so_many(&self, cursor: &mut Cursor<Spot>, count: usize) -> Result<ExprList, Stop>
+    /// These expressions, and so many more, each behind a comma.
+    fn and_so_many(
+        &self,
+        cursor: &mut Cursor<Spot>,
+        mut found: ExprList,
+        count: usize,
+    ) -> Result<ExprList, Stop>
         requires nests { Nests self.now.levels (F.pre self.now.inside) (F.post self.now.inside) }
         requires some { 0 < self.now.levels }
-        ensures { Reads (spec.times (spec.after_comma (spec.expression (self.now.levels - 1))) count cursor.old) result cursor.new }
+        ensures { Reads (and_more found (spec.times (spec.after_comma (spec.expression (self.now.levels - 1))) count) cursor.old) result cursor.new }
     {
-        let mut found = Sequence::new(self.alloc);
         for _ in 0..count {
             let next = self.after_comma(cursor)?;
             found.push(next)?;
@@ -223,14 +228,13 @@ impl<F: Fn(Global, &mut Cursor<'_, Spot>, u8, Place) -> Result<Expr, Stop>> Gram
         requires some { 0 < self.now.levels }
         ensures { Reads (spec.arguments_read (spec.expression (self.now.levels - 1)) count cursor.old) result cursor.new }
     {
+        let mut found = Sequence::new(self.alloc);
         if count == 0 {
-            return Ok(Sequence::new(self.alloc));
+            return Ok(found);
         }
         let first = self.inside(cursor, Place::Whole)?;
-        let others = self.so_many(cursor, count - 1);
-        let (first, others) = both(first, others)?;
-        let all = in_front(first, others)?;
-        Ok(all)
+        found.push(first)?;
+        self.and_so_many(cursor, found, count - 1)
     }
 
     /// The same in parentheses, with the column of the opening one.

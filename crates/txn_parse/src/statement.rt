@@ -9,7 +9,7 @@ ghost use Rattle.txn_parse.specs.code.Leveled as leveled;
 
 use crate::Stop;
 use crate::grammar::{Grammar, placed_read};
-use crate::kept::{both, in_front};
+use crate::kept::both;
 use crate::simple::{expression, simple_stmt};
 use crate::token::{ahead, begins, name, sees, word, write};
 use crate::tree::write_stmt;
@@ -63,14 +63,13 @@ impl<F: Fn(Global, &mut Cursor<'_, Spot>, u8) -> Result<Stmt, Stop>> Statements<
         (self.inside)(self.alloc, cursor, self.levels - 1)
     }
 
-    /// As many of them as there are.
+    /// These statements, and as many more as there are.
     #[inline(always)]
-    fn statements(&self, cursor: &mut Cursor<Spot>) -> Result<StmtList, Stop>
+    fn and_more(&self, cursor: &mut Cursor<Spot>, mut found: StmtList) -> Result<StmtList, Stop>
         requires nests { NestsStatements self.now.levels (F.pre self.now.inside) (F.post self.now.inside) }
         requires some { 0 < self.now.levels }
-        ensures { Reads (leveled.statements self.now.levels cursor.old) result cursor.new }
+        ensures { Reads (leveled.and_more self.now.levels found cursor.old) result cursor.new }
     {
-        let mut found = Sequence::new(self.alloc);
         for _ in 0..cursor.len() {
             if !begins_statement(cursor, self.levels - 1) {
                 return Ok(found);
@@ -89,7 +88,7 @@ impl<F: Fn(Global, &mut Cursor<'_, Spot>, u8) -> Result<Stmt, Stop>> Statements<
         ensures { Reads (leveled.block self.now.levels cursor.old) result cursor.new }
     {
         word(cursor, Symbol::OpenBrace)?;
-        let found = self.statements(cursor)?;
+        let found = self.and_more(cursor, Sequence::new(self.alloc))?;
         let (found, _) = both(found, word(cursor, Symbol::CloseBrace))?;
         Ok(found)
     }
@@ -226,13 +225,13 @@ pub(crate) fn body(alloc: Global, cursor: &mut Cursor<Spot>) -> Result<Body, Sto
     ensures { Reads (spec.body cursor.old) result cursor.new }
 {
     let first = statement(alloc, cursor, DEEPEST)?;
+    let mut stmts = Sequence::new(alloc);
+    stmts.push(first)?;
     let outside = Statements {
         alloc,
         levels: DEEPEST + 1,
         inside: statement,
     };
-    let others = outside.statements(cursor);
-    let (first, others) = both(first, others)?;
-    let stmts = in_front(first, others)?;
+    let stmts = outside.and_more(cursor, stmts)?;
     Ok(Body { stmts })
 }

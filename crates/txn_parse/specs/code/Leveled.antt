@@ -7,6 +7,7 @@ use Rattle.txn_grammar.specs.declared.form.Nesting.{Nesting}
 use Rattle.txn_grammar.specs.declared.symbol.Symbol.TheVariants as symbol
 use Rattle.txn_grammar.specs.declared.token.Spot.{Spot}
 use Rattle.txn_grammar.specs.code.Reader as reader
+use Rattle.txn_parse.specs.code.Lists as lists
 
 -- whether a statement begins inside, and the statement
 abbrev pub begins_inside : ℕ → Option Spot → Bool
@@ -15,9 +16,9 @@ begins_inside levels = reader.begins_statement (levels - 1)
 abbrev pub inside : ℕ → Reader Spot Stmt
 inside levels = reader.statement (levels - 1)
 
--- as many statements as there are
-abbrev pub statements : ℕ → Reader Spot (List Stmt)
-statements levels = many (begins_inside levels) (inside levels)
+-- these statements, and as many more as there are
+abbrev pub and_more : ℕ → List Stmt → Reader Spot (List Stmt)
+and_more levels found = lists.and_more found (many (begins_inside levels) (inside levels))
 
 abbrev pub block : ℕ → Reader Spot (List Stmt)
 block levels = reader.block (begins_inside levels) (inside levels)
