@@ -3,6 +3,7 @@ pub mod Begun
 pub mod Closures
 pub mod Ended
 pub mod Found
+pub mod Keys
 pub mod Leveled
 pub mod Lists
 pub mod Nests

@@ -8,6 +8,7 @@ ghost use Rattle.txn_grammar.specs.declared.rank.Rank.TheVariants as rank;
 ghost use Rattle.txn_grammar.specs.declared.symbol.Symbol.TheVariants as symbol;
 ghost use Rattle.txn_grammar.specs.code.Reader as spec;
 ghost use Rattle.txn_parse.specs.code.Begun as begun;
+ghost use Rattle.txn_parse.specs.code.Keys.{key_end};
 ghost use Rattle.txn_parse.specs.code.Lists.{and_more};
 ghost use Rattle.txn_parse.specs.code.Nests.{Nests, placed};
 
@@ -23,6 +24,15 @@ use predictive_parsing::Cursor;
 use std::alloc::Global;
 use txn_grammar::{Opener, Rank, Spot, Symbol, Target, opener_of};
 use txn_trees::{Expr, ExprList, ExprNode};
+
+/// What closes a key, and the dot behind it.
+#[tactic(auto, unfolding(crate::specs::code::Keys::key_end))]
+fn key_end(cursor: &mut Cursor<Spot>) -> Result<u32, Stop>
+    ensures { Reads (key_end cursor.old) result cursor.new }
+{
+    word(cursor, Symbol::CloseParen)?;
+    word(cursor, Symbol::Dot)
+}
 
 /// The rules of expressions with so many levels left, over the reader of what stands inside one.
 #[derive(Drop)]
@@ -254,8 +264,9 @@ impl<F: Fn(Global, &mut Cursor<'_, Spot>, u8, Place) -> Result<Expr, Stop>> Gram
         Ok((column, found))
     }
 
-    /// A kind, and its key in parentheses, up to the dot.
-    #[tactic(auto, unfolding(txn_grammar::specs::code::Reader::targeted))]
+    /// A kind, and its key in parentheses, up to the dot. What closes the key is read with the dot, so that the key is kept
+    /// once.
+    #[tactic(auto, using(crate::proofs::Parts::targeted_parts))]
     #[inline(always)]
     pub(crate) fn targeted(&self, cursor: &mut Cursor<Spot>) -> Result<Target, Stop>
         requires nests { Nests self.now.levels (F.pre self.now.inside) (F.post self.now.inside) }
@@ -263,8 +274,9 @@ impl<F: Fn(Global, &mut Cursor<'_, Spot>, u8, Place) -> Result<Expr, Stop>> Gram
         ensures { Reads (spec.targeted (spec.expression (self.now.levels - 1)) cursor.old) result cursor.new }
     {
         let (column, kind) = kind(cursor)?;
-        let (_, key) = self.in_parens(cursor)?;
-        let (key, _) = both(key, word(cursor, Symbol::Dot))?;
+        word(cursor, Symbol::OpenParen)?;
+        let key = self.inside(cursor, Place::Whole)?;
+        let (key, _) = both(key, key_end(cursor))?;
         Ok(Target { column, kind, key })
     }
 
