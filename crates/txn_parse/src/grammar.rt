@@ -504,12 +504,12 @@ impl<F: Fn(Global, &mut Cursor<'_, Spot>, u8, Place) -> Result<Expr, Stop>> Gram
         if sees(cursor, Symbol::Not) {
             return self.disjunction(cursor);
         }
-        let first = self.unary(cursor)?;
-        if joins(cursor) {
-            self.expression_from(cursor, first)
-        } else {
-            Ok(first)
+        let first = self.unary(cursor);
+        if !joins(cursor) {
+            return first;
         }
+        let first = first?;
+        self.expression_from(cursor, first)
     }
 }
 
