@@ -37,10 +37,12 @@ signs-are = refl
 
 -- ---- names
 
+-- the word of a command
 abbrev pub command_word : CommandName → Word
 command_word command.Run = codes "run"
 command_word command.Serve = codes "serve"
 
+-- the word of an option
 abbrev pub option_word : OptionName → Word
 option_word option.Shards = codes "--shards"
 option_word option.Window = codes "--window"
@@ -75,6 +77,7 @@ pub record Given : Type 0 where
   pub sessions : Option ℕ
   pub address : Option Word
 
+-- no option is given
 abbrev pub nothing_given : Given
 nothing_given = record { shards = None; window = None; limit = None; sessions = None; address = None }
 

@@ -23,6 +23,7 @@ state_at changes address = applied (deltas_at address changes) (default_of addre
 abbrev counter : List ℕ → Address
 counter key = record { kind = kind.Counter; key = key }
 
+-- three changes of two commits
 abbrev example : List Change
 example =
     record { number = 1; address = counter (codes "x"); delta = delta.PutCounter (pos 3) }

@@ -231,10 +231,12 @@ module _ (most : ℕ) where
     pub needed : exec body.body (held w.cache) ≡ need a
     pub fewer : n + run_calls + length w.loose ≤ most + 3 * reads
 
+  -- what is run reads within its bound
   abbrev JobWithin : ℕ → Job → Watching → Address → Type 0
   JobWithin n (Job.rerun_for goal) w a = IsRerunning n goal w a
   JobWithin n (Job.first_of name body) w a = IsRunning n body w a
 
+  -- after n calls no phase is past the most that its line makes
   abbrev Within : ℕ → Phase → Type 0
   Within n (Phase.taking goal w) = AreDistinct w.watches × (n + 1 + length w.watches * run_calls + most_dropped w + goal_calls goal ≤ most)
   Within n (Phase.reading job w said a) = JobWithin n job w a

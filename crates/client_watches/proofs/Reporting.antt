@@ -23,6 +23,7 @@ use Rattle.client_watches.proofs.Stale.{first-among}
 
 -- ---- the first stale watch, in whose place another stands
 
+-- the first watch that stands stale, this one, has the other in its place
 pub data Replaced (e : Bytes × Watch) (v : Watch) : Watches → Watches → Type 0 where
   here : {ws : Watches} → Replaced e v (e ∷ ws) ((e.0, v) ∷ ws)
   behind : {ws vs : Watches} (x : Bytes × Watch) → x.1.stale ≡ false → Replaced e v ws vs → Replaced e v (x ∷ ws) (x ∷ vs)
@@ -99,6 +100,7 @@ module _ (journal : Journal) (n : ℕ) (e : Bytes × Watch) (run : Run) (stale :
   abbrev it : Reply
   it = reply.Ran e.0 n run.outcome
 
+  -- a report is kept in the place of the watch that ran
   abbrev Next : Watches → Watches → Type 0
   Next ws vs = Replaced e (settled n run e.1) ws vs
 

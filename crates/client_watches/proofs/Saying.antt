@@ -28,6 +28,7 @@ module _ (most : ℕ) where
   abbrev pub SaysUpTo : Watching → List Reply → Type 0
   SaysUpTo w said = (w.cache.at ≤ most) × AllByRecursion (IsOfWatches most) said
 
+  -- what a phase has said are reports of one number
   abbrev pub PhaseSays : Phase → Type 0
   PhaseSays (Phase.taking goal w) = Unit {0}
   PhaseSays (Phase.reading job w said address) = SaysUpTo w said

@@ -99,10 +99,12 @@ module _ (window low : ℕ) (goal : Goal) (story : ShownList) where
   IsFree Goal.current w = Unit {0}
   IsFree (Goal.watch name body) w = watch_of w.watches name ≡ None
 
+  -- whose run it is: a touched watch's, or the new one's behind all these
   abbrev pub JobTells : Journal → Job → Watching → List Reply → Type 0
   JobTells journal (Job.rerun_for g) w said = (g ≡ goal) × Going journal w said × IsLeft journal w
   JobTells journal (Job.first_of name body) w said = (goal ≡ Goal.watch name body) × Going journal w said × AllHold journal w.cache.at (shown_of w.watches)
 
+  -- what follows once nothing more is to be let go
   abbrev pub ThenTells : Known → Journal → Then → Watching → List Reply → Type 0
   ThenTells k journal Then.ends w said = Stands journal w × GoalPasses window journal low goal story said (shown_of w.watches)
   ThenTells k journal (Then.begins name body) w said =
@@ -116,6 +118,7 @@ module _ (window low : ℕ) (goal : Goal) (story : ShownList) where
     pub short : IsShortAddress address
     pub tells : JobTells journal job w said
 
+  -- what each phase has told is explained so far
   abbrev pub PhaseTells : Known → Journal → Phase → Type 0
   PhaseTells k journal (Phase.taking g w) =
       (g ≡ goal) × IsReady k w × Stands journal w × (shown_of w.watches ≡ story) × (low ≤ k.seen) × IsFree goal w

@@ -71,6 +71,7 @@ ending w said = drop_idle Phase.over Then.ends (settled w) said w.loose
 
 -- ---- a new watch
 
+-- a new watch's first run: it needs a value, or is reported, and the watch is kept
 abbrev pub first_by : Bytes → Checked → Watching → List Reply → Ran → Phase
 first_by name body w said (need address) = Phase.reading (Job.first_of name body) w said address
 first_by name body w said (done run) = ending (with_first w name body run) (said ++ reply.Ran name w.cache.at run.outcome ∷ [])
@@ -79,6 +80,7 @@ first_by name body w said (done run) = ending (with_first w name body run) (said
 abbrev pub first_run : Bytes → Checked → Watching → List Reply → Phase
 first_run name body w said = first_by name body w said (exec body.body (held w.cache))
 
+-- what follows once all that no watch observes is let go
 abbrev pub then_on : Then → Watching → List Reply → Phase
 then_on Then.ends w said = Phase.over w said
 then_on (Then.begins name body) w said = first_run name body w said
@@ -90,6 +92,7 @@ abbrev pub caught_up : Goal → Watching → List Reply → Phase
 caught_up Goal.current w said = ending w (said ++ reply.Current w.cache.at ∷ [])
 caught_up (Goal.watch name body) w said = drop_idle (first_run name body) (Then.begins name body) (settled w) said w.loose
 
+-- the next run: it needs a value, or is reported and more may follow, or no watch is stale
 abbrev pub rerun_by : (Watching → List Reply → Phase) → Goal → Watching → List Reply → Rerun → Phase
 rerun_by more goal w said (rerun.Need address) = Phase.reading (Job.rerun_for goal) w said address
 rerun_by more goal w said (rerun.Ran name run) = more (with_rerun w name run) (said ++ reply.Ran name w.cache.at run.outcome ∷ [])

@@ -64,6 +64,7 @@ abbrev pub one_if : Bool → ℕ → ℕ
 one_if true n = suc n
 one_if false n = n
 
+-- how many are stale
 abbrev pub stale_count : Watches → ℕ
 stale_count [] = 0
 stale_count (entry ∷ watches) = one_if entry.1.stale (stale_count watches)

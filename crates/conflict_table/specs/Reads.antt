@@ -72,6 +72,7 @@ answer read.HashFields v = item.Texts (map.keys (hash_in v))
 answer (read.ListAt i) v = item.Text (item_at i (list_in v))
 answer read.ListAll v = item.Texts (list_in v)
 
+-- whether a place is before the first
 abbrev pub is_negative : ℤ → Bool
 is_negative (pos i) = false
 is_negative (negsuc i) = true

@@ -84,25 +84,32 @@ IsServed told other a = IsTold (having_met other) (told a.was) (told a.link) a.s
 
 -- ---- parts of accounts
 
+-- how a client joined, without what its session left
 abbrev pub joined_of : Result (Passed × Passed) JoinError → Result Passed JoinError
 joined_of (Ok t) = Ok t.0
 joined_of (Err e) = Err e
 
+-- a link as it was accepted, and how its client joined
 abbrev pub seat : {L : Type 0} → L → Result Passed JoinError → Seat L
 seat was joined = record { was = was; joined = joined }
 
+-- the same of a link that is done with
 abbrev pub seat_of : {L : Type 0} → Account L → Seat L
 seat_of a = seat a.was (joined_of a.talk)
 
+-- the link of a seat
 abbrev pub link_in : {L : Type 0} → Seat L → L
 link_in s = s.was
 
+-- how the client of a seat joined
 abbrev pub joined_in : {L : Type 0} → Seat L → Result Passed JoinError
 joined_in s = s.joined
 
+-- the link as it is given back, and its status
 abbrev pub given_of : {L : Type 0} → Account L → L × ℕ
 given_of a = (a.link, a.status)
 
+-- the status of a link
 abbrev pub status_in : {L : Type 0} → Account L → ℕ
 status_in a = a.status
 

@@ -67,6 +67,7 @@ texts_of [] = []
 texts_of (Told.long ∷ rest) = texts_of rest
 texts_of (Told.answered text said ∷ rest) = text ∷ texts_of rest
 
+-- the turns of the session: a line that is too long is none
 abbrev pub turns_of : List Told → List Turn
 turns_of [] = []
 turns_of (Told.long ∷ rest) = turns_of rest

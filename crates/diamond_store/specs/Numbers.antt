@@ -6,15 +6,19 @@ use Rattle.rdt_types.specs.declared.settings.Settings.{Settings}
 abbrev pub numbers_of : ℕ → ℕ → ℕ → ℕ → List ℕ
 numbers_of faults shards window limit = faults ∷ shards ∷ window ∷ limit ∷ []
 
+-- the keeper's faults as the store was made
 abbrev pub faults_in : List ℕ → ℕ
 faults_in numbers = get_or numbers 0 0
 
+-- how many shards it has
 abbrev pub shards_in : List ℕ → ℕ
 shards_in numbers = get_or numbers 1 0
 
+-- its window
 abbrev pub window_in : List ℕ → ℕ
 window_in numbers = get_or numbers 2 0
 
+-- the limit of its journal
 abbrev pub limit_in : List ℕ → ℕ
 limit_in numbers = get_or numbers 3 0
 

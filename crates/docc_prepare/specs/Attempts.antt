@@ -28,6 +28,7 @@ use Rattle.docc_prepare.specs.declared.attempt.Next.TheVariants as next
 
 -- ---- what it reads, and what it does on that
 
+-- what was read: addresses, each with its value and base
 abbrev pub SnapList : Type 0
 SnapList = List (Address × Snap)
 
@@ -48,6 +49,7 @@ abbrev pub base_in : Option Snap → ℕ
 base_in None = 0
 base_in (Some snap) = snap.base
 
+-- the base of what was read at an address
 abbrev pub base_at : SnapList → Address → ℕ
 base_at snaps address = base_in (lookup (is_at (address_cmp address)) snaps)
 
@@ -65,6 +67,7 @@ in_shard shards shard all = filter (λ b. shard_of b.address shards == shard) al
 
 -- ---- the next event
 
+-- whether a shard has a front
 abbrev pub has_front : List PreparedFront → ℕ → Bool
 has_front fronts shard = list_any (λ prepared. prepared.shard == shard) fronts
 
@@ -85,6 +88,7 @@ abbrev pub next_of_run : Run → Option ℕ → Next
 next_of_run run None = next.Append run
 next_of_run run (Some shard) = next.Prepare shard run
 
+-- the next event by the run: a read of what it needs, or what follows a run that is done
 abbrev pub next_of : ℕ → List PreparedFront → Ran → Next
 next_of shards fronts (need address) = next.Read address
 next_of shards fronts (done run) = next_of_run run (least_unprepared shards fronts run.observations)
@@ -100,9 +104,11 @@ Prepares attempt shard = (run : Run) × (next_event attempt ≡ next.Prepare sha
 
 -- ---- what it takes, and what it hands on
 
+-- the attempt with a value more that was read
 abbrev pub with_snap : Attempt → Address → Snap → Attempt
 with_snap attempt address snap = record attempt { snaps = insert_entry address_cmp attempt.snaps address snap }
 
+-- the attempt with a shard more that is prepared
 abbrev pub with_front : Attempt → ℕ → ℕ → Attempt
 with_front attempt shard front = record attempt { fronts = attempt.fronts ++ record { shard = shard; front = front } ∷ [] }
 

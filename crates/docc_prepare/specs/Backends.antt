@@ -51,6 +51,7 @@ pub record CanValidate (k : Known) (shard : ℕ) (based : Based) : Type 0 where
   pub one_kind : IsBasedOfOneKind based
   pub short : IsShortObservation based.address based.obs
 
+-- a shard that there is, and observations of its addresses alone
 pub record CanPrepare (k : Known) (shard : ℕ) (based : List Based) : Type 0 where
   pub below : shard < k.shards
   pub each : AllByRecursion (CanValidate k shard) based
@@ -170,6 +171,7 @@ pub record SaysOfJournal (k l : Known) (c : Call) (a : Answer) (old new : Journa
 
 -- ---- what answers say whether or not the journal is told
 
+-- what an answer says of what is known behind the call
 abbrev pub Shows : Known → Known → Call → Answer → Type 0
 Shows k l c (Answer.failed by_fault) = Unit {0}
 Shows k l Call.refresh (Answer.number n) = n ≡ l.seen
@@ -202,6 +204,7 @@ pub record KeepsGiven (k l : Known) : Type 0 where
   pub bases : (address : Address) (base : ℕ) → k.gave address base ≡ true → l.gave address base ≡ true
   pub fronts : (shard : ℕ) (based : List Based) (front : ℕ) → k.fronted shard based front ≡ true → l.fronted shard based front ≡ true
 
+-- what was given stays given, but by an append, which ends the attempt
 abbrev pub Keeps : Call → Known → Known → Type 0
 Keeps (Call.append ready) k l = Unit {0}
 Keeps c k l = KeepsGiven k l
@@ -214,15 +217,18 @@ Gives c answer l = Unit {0}
 
 -- ---- what stays, and what counts
 
+-- whether an address is among the subscriptions behind a call
 abbrev pub subscribed_after : Known → Call → Answer → Address → Bool
 subscribed_after k (Call.subscribe address) Answer.done a = is_at (address_cmp address) a || k.subscribed a
 subscribed_after k (Call.unsubscribe address) Answer.done a = not (is_at (address_cmp address) a) && k.subscribed a
 subscribed_after k c answer a = k.subscribed a
 
+-- up to which commit changes were taken behind a call
 abbrev pub taken_after : Known → Call → Answer → ℕ
 taken_after k Call.take (Answer.feed f) = f.to
 taken_after k c answer = k.taken
 
+-- how many appends were denied behind a call
 abbrev pub denied_after : Known → Call → Answer → ℕ
 denied_after k (Call.append ready) Answer.disk = one_more k.denied
 denied_after k c answer = k.denied

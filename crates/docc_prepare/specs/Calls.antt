@@ -37,6 +37,7 @@ pub record Known : Type 0 where
   pub gave : Address → ℕ → Bool  -- whether it gave a base for an address
   pub fronted : ℕ → List Based → ℕ → Bool  -- whether it gave a shard a front for observations with their bases
 
+-- the calls of a client, as data
 pub data Call : Type 0 where
   refresh : Call
   read : Address → Call
@@ -48,6 +49,7 @@ pub data Call : Type 0 where
   take : Call
   wait : Call
 
+-- their answers, as data
 pub data Answer : Type 0 where
   -- how many commits there are, or the number of the commit that was made
   number : ℕ → Answer
@@ -65,26 +67,32 @@ pub data Answer : Type 0 where
 
 -- ---- the results of calls, as answers
 
+-- a failed call: true where it failed by a fault
 abbrev pub store_failed : StoreError → Answer
 store_failed store_error.Fault = Answer.failed true
 store_failed store_error.NoMemory = Answer.failed false
 
+-- what the code answers of a number, as an answer
 abbrev pub number_answered : Result ℕ StoreError → Answer
 number_answered (Ok n) = Answer.number n
 number_answered (Err e) = store_failed e
 
+-- the same of a value with its base
 abbrev pub snap_answered : Result Snap StoreError → Answer
 snap_answered (Ok s) = Answer.snap s
 snap_answered (Err e) = store_failed e
 
+-- the same of a call that gives nothing
 abbrev pub done_answered : Result (Unit {0}) StoreError → Answer
 done_answered (Ok u) = Answer.done
 done_answered (Err e) = store_failed e
 
+-- the same of a feed
 abbrev pub feed_answered : Result Fed StoreError → Answer
 feed_answered (Ok f) = Answer.feed f
 feed_answered (Err e) = store_failed e
 
+-- the same of a preparing
 abbrev pub front_answered : Result Prepared PrepareError → Answer
 front_answered (Ok p) = Answer.prepared p
 front_answered (Err (prepare_error.Late base horizon)) = Answer.late base horizon
@@ -92,6 +100,7 @@ front_answered (Err (prepare_error.Clash w)) = Answer.clash w
 front_answered (Err prepare_error.Fault) = Answer.failed true
 front_answered (Err prepare_error.NoMemory) = Answer.failed false
 
+-- the same of an append
 abbrev pub commit_answered : Result ℕ AppendError → Answer
 commit_answered (Ok n) = Answer.number n
 commit_answered (Err (append_error.Clash w)) = Answer.clash w
@@ -100,6 +109,7 @@ commit_answered (Err append_error.Disk) = Answer.disk
 commit_answered (Err append_error.Fault) = Answer.failed true
 commit_answered (Err append_error.NoMemory) = Answer.failed false
 
+-- the same of a value at a number
 abbrev pub value_answered : Result Value ReadAtError → Answer
 value_answered (Ok v) = Answer.value v
 value_answered (Err (read_at_error.Late n horizon)) = Answer.late n horizon

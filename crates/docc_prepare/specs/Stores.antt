@@ -52,9 +52,11 @@ first_store shards window limit = record {
   taken = λ client. 0;
 }
 
+-- the front of a shard
 abbrev pub front_of : Store → ℕ → ℕ
 front_of s shard = get_or s.fronts shard 0
 
+-- how many commits a client has seen
 abbrev pub seen_by : Store → ℕ → ℕ
 seen_by s client = get_or s.seens client 0
 
@@ -113,6 +115,7 @@ decided s client ready None false = (saw (committed s ready) client (length s.jo
 abbrev pub witness_past : Store → Ready → Option Witness
 witness_past s ready = option_and_then (witness_of ready.based s.journal) (found_past s ready)
 
+-- an append: the least clash past the fronts aborts it, and a full journal refuses it
 abbrev pub append_to : Store → ℕ → Ready → Store × Answer
 append_to s client ready = decided s client ready (witness_past s ready) (nat_le s.limit (length s.journal))
 
@@ -263,6 +266,7 @@ read-refreshed :
     (step (step with_one 5 Call.refresh).0 5 (Call.read (counter (codes "x")))).1 ≡ Answer.snap (record { base = 1; value = value.Counter (pos 1) })
 read-refreshed = refl
 
+-- an observation of x at a base
 abbrev read_at_base : ℕ → Based
 read_at_base base = record { address = counter (codes "x"); obs = obs.CounterIs; base = base }
 

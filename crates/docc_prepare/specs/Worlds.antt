@@ -40,6 +40,7 @@ pub record World : Type 0 where
 abbrev pub first_world : ℕ → ℕ → ℕ → World
 first_world shards window limit = record { store = first_store shards window limit; attempts = replicate CLIENTS None; watches = replicate CLIENTS [] }
 
+-- the open attempt of a client
 abbrev pub attempt_of : World → ℕ → Option Attempt
 attempt_of w client = get_or w.attempts client None
 
@@ -47,6 +48,7 @@ attempt_of w client = get_or w.attempts client None
 abbrev pub holding : World → ℕ → Option Attempt → World
 holding w client attempt = record w { attempts = set w.attempts client attempt }
 
+-- the watches of a client
 abbrev pub watches_of : World → ℕ → List Reported
 watches_of w client = get_or w.watches client []
 
@@ -107,6 +109,7 @@ taking call answer o = o
 abbrev pub answered : World → ℕ → Call → Store × Answer → World × Option Answer
 answered w client call (store, answer) = (holding (over w store) client (taking call answer (attempt_of w client)), Some answer)
 
+-- a call, or none
 abbrev pub called : World → ℕ → Option Call → World × Option Answer
 called w client None = (w, None)
 called w client (Some call) = answered w client call (stores.step w.store client call)

@@ -27,6 +27,7 @@ pub record StandsFor (bytes_of : Commit → List ℕ) (told : Option Journal) (b
   pub of_run : IsOfRun commit
   pub next : IfSome told (λ list. IsNext list commit)
 
+-- bytes that stand for some commit, which may be kept next
 abbrev pub CanKeep : (Commit → List ℕ) → Option Journal → List ℕ → Type 0
 CanKeep bytes_of told bytes = (commit : Commit) × StandsFor bytes_of told bytes commit
 

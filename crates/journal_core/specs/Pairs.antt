@@ -34,6 +34,7 @@ abbrev pub AreNumberedFrom : ℕ → Journal → Type 0
 AreNumberedFrom n [] = Unit {0}
 AreNumberedFrom n (commit ∷ rest) = (commit.number ≡ n + 1) × AreNumberedFrom (n + 1) rest
 
+-- the commits of a journal have the numbers from 1 on
 abbrev pub AreNumbered : Journal → Type 0
 AreNumbered journal = AreNumberedFrom 0 journal
 
@@ -59,6 +60,7 @@ front_at (prepared ∷ rest) shard = if prepared.shard == shard then prepared.fr
 abbrev pub past_front : ℕ → List PreparedFront → Based → Based
 past_front shards fronts based = record based { base = max based.base (front_at fronts (shard_of based.address shards)) }
 
+-- the same of each
 abbrev pub past_fronts : ℕ → List PreparedFront → List Based → List Based
 past_fronts shards fronts based = map (past_front shards fronts) based
 

@@ -37,5 +37,6 @@ validated_by journal shard based =
     validated shard.number shard.front (horizon shard) (late_base (horizon shard) (least_base based))
     (least_witness based (take shard.front journal))
 
+-- a preparing is answered as the shard's journal and window say
 abbrev pub IsValidatedBy : Journal → Sharded → List Based → Result Prepared PrepareError → Type 0
 IsValidatedBy journal shard based answer = front_answered answer ≡ validated_by journal shard based

@@ -33,6 +33,7 @@ pub record AreHeldTo (journal : Journal) (settings : Settings) (count : ℕ) (sh
 abbrev pub AreHeld : Journal → Settings → List Sharded → Type 0
 AreHeld journal settings shards = AreHeldTo journal settings settings.shards shards
 
+-- the fronts of shards
 abbrev pub fronts_of : List Sharded → List ℕ
 fronts_of shards = map (λ shard. shard.front) shards
 

@@ -6,6 +6,7 @@ use Rattle.std.specs.Cmp.Lexicographic.{slice_cmp}
 use Rattle.std.specs.FinMap.{FinMap}
 use Rattle.std.specs.FinMap as map
 
+-- a text, by its bytes
 abbrev pub Bytes : Type 0
 Bytes = List ℕ
 
@@ -25,8 +26,10 @@ SetOfTexts = MapOf (Unit {0})
 abbrev pub with_text : SetOfTexts → Bytes → SetOfTexts
 with_text texts text = map.insert texts text tt
 
+-- a set without a text
 abbrev pub without_text : SetOfTexts → Bytes → SetOfTexts
 without_text texts text = map.remove texts text
 
+-- whether a text is in a set
 abbrev pub has_text : SetOfTexts → Bytes → Bool
 has_text texts text = map.contains_key texts text

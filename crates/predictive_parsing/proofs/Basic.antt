@@ -47,6 +47,7 @@ not_true false e = refl
 
 -- ---- the two steps of a reading that goes on
 
+-- one reader after another goes well where both do, the second on what the first leaves
 pub record Bound {I A B : Type 0} (r : Outcome I A) (q : A → Reader I B) (o : Outcome I B) : Type 0 where
   pub value : A
   pub middle : List I

@@ -8,9 +8,11 @@ use Rattle.std.specs.List.{prefix_len}
 abbrev pub Outcome : Type 0 → Type 0 → Type 0
 Outcome I A = Result (A × List I) (List I)
 
+-- what reads the front of a list of items
 abbrev pub Reader : Type 0 → Type 0 → Type 0
 Reader I A = List I → Outcome I A
 
+-- what goes on with the value that was read, on the items behind it
 abbrev pub and_then : {I A B : Type 0} → Outcome I A → (A → Reader I B) → Outcome I B
 and_then (Ok read) q = q read.0 read.1
 and_then (Err ts) q = Err ts
@@ -23,6 +25,7 @@ infixl 10 ◌>>◌
 abbrev pub ◌>>◌ : {I A B : Type 0} → Reader I A → Reader I B → Reader I B
 p >> q = p >>= (λ _. q)
 
+-- no item, and this value
 abbrev pub pure : {I A : Type 0} → A → Reader I A
 pure a = λ ts. Ok (a, ts)
 
@@ -31,6 +34,7 @@ abbrev pub next : {I : Type 0} → List I → Option I
 next [] = None
 next (item ∷ ts) = Some item
 
+-- whether there is a value
 abbrev pub is_made : {A : Type 0} → Option A → Bool
 is_made (Some a) = true
 is_made None = false
@@ -49,6 +53,7 @@ ahead test (Some item) = test item
 abbrev pub passing : {I : Type 0} → (I → Bool) → I → Option I
 passing test item = if test item then Some item else None
 
+-- the value that was made of an item, or the refusal of it
 abbrev pub on_made : {I A : Type 0} → I → Option A → List I → Outcome I A
 on_made item (Some a) ts = Ok (a, ts)
 on_made item None ts = Err (item ∷ ts)
@@ -103,6 +108,7 @@ run passes ts = Ok (take (prefix_len passes ts) ts, drop (prefix_len passes ts) 
 unfoldable pub run_up_to : {I : Type 0} → ℕ → (I → Bool) → Reader I (List I)
 run_up_to limit passes ts = Ok (take (min limit (prefix_len passes ts)) ts, drop (min limit (prefix_len passes ts)) ts)
 
+-- what was read, where nothing is left behind it
 abbrev pub whole_of : {I A : Type 0} → Outcome I A → Result A (List I)
 whole_of (Ok (a, [])) = Ok a
 whole_of (Ok (a, item ∷ ts)) = Err (item ∷ ts)

@@ -9,6 +9,7 @@ use Rattle.rdt_types.specs.declared.delta.Delta.TheVariants as delta
 use Rattle.rdt_types.specs.Addresses.{address_cmp}
 use Rattle.rdt_types.specs.Deltas.{compose}
 
+-- deltas at addresses
 abbrev pub Deltas : Type 0
 Deltas = List (Address × Delta)
 

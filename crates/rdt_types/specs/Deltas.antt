@@ -69,10 +69,12 @@ abbrev pub set_after : Delta → Keyed Bool → Delta
 set_after (delta.Set d) e = delta.Set (keyed.composed added d e)
 set_after first e = delta.Set e
 
+-- a delta of a hash after another
 abbrev pub hash_after : Delta → Keyed Mark → Delta
 hash_after (delta.Hash d) e = delta.Hash (keyed.composed put_by d e)
 hash_after first e = delta.Hash e
 
+-- a delta of a list after another
 abbrev pub list_after : Delta → Listed → Delta
 list_after (delta.List d) e = delta.List (listed.composed d e)
 list_after first e = delta.List e

@@ -55,22 +55,27 @@ abbrev pub bool_in : Value → Bool
 bool_in (value.Bool b) = b
 bool_in _ = false
 
+-- the number of a counter
 abbrev pub counter_in : Value → ℤ
 counter_in (value.Counter n) = n
 counter_in _ = pos 0
 
+-- the bytes of a text
 abbrev pub text_in : Value → Bytes
 text_in (value.Text t) = t
 text_in _ = []
 
+-- the elements of a set
 abbrev pub set_in : Value → SetOfTexts
 set_in (value.Set s) = s
 set_in _ = map.empty
 
+-- the fields of a hash
 abbrev pub hash_in : Value → MapOf Bytes
 hash_in (value.Hash m) = m
 hash_in _ = map.empty
 
+-- the items of a list
 abbrev pub list_in : Value → List Bytes
 list_in (value.List items) = items
 list_in _ = []

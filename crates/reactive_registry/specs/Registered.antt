@@ -34,6 +34,7 @@ kept_code address change =
     code_by (ℕ × (List Address × List Change)) (coded× coded_ℕ (coded× (coded_list address) (coded_list change)))
     (λ k. (k.taken, (k.addresses, k.changes))) (λ p. record { taken = p.0; addresses = p.1.0; changes = p.1.1 }) (λ _. refl)
 
+-- it is stored as the pair of its fields
 abbrev pub registered_code : Coded Kept → Coded Registered
 registered_code kept =
     code_by (ℕ × List (ℕ × Kept)) (coded× coded_ℕ (coded_list (coded× coded_ℕ kept))) (λ r. (r.front, r.subscribers))
@@ -47,6 +48,7 @@ empty front = record { front = front; subscribers = [] }
 abbrev pub kept_in : List (ℕ × Kept) → ℕ → Option Kept
 kept_in subscribers subscriber = lookup (is_at (nat_cmp subscriber)) subscribers
 
+-- what is kept for a subscriber
 abbrev pub kept_of : Registered → ℕ → Option Kept
 kept_of registry subscriber = kept_in registry.subscribers subscriber
 
@@ -54,6 +56,7 @@ kept_of registry subscriber = kept_in registry.subscribers subscriber
 abbrev pub is_address : Kept → Address → Bool
 is_address kept address = list_any (is_at (address_cmp address)) kept.addresses
 
+-- whether a subscriber has subscribed to an address
 abbrev pub is_in : List (ℕ × Kept) → ℕ → Address → Bool
 is_in subscribers subscriber address = option_map_or (λ kept. is_address kept address) (kept_in subscribers subscriber) false
 
@@ -113,12 +116,14 @@ emptied front kept = record kept { taken = front; changes = [] }
 abbrev pub pending_for : Kept → Address → Option Delta
 pending_for kept address = pending address kept.changes
 
+-- what is pending for a subscriber at an address
 abbrev pub pending_of : Registered → ℕ → Address → Option Delta
 pending_of registry subscriber address = option_and_then (λ kept. pending_for kept address) (kept_of registry subscriber)
 
 abbrev counter : List ℕ → Address
 counter key = record { kind = kind.Counter; key = key }
 
+-- an addition of 2 to x
 abbrev addition : ℕ → Change
 addition n = record { number = n; address = counter (codes "x"); delta = delta.AddCounter (pos 2) }
 

@@ -106,6 +106,7 @@ pub record Did : Type 0 where
   pub session : Option Session
   pub told : Told
 
+-- what a line did: the store, the session and the answer behind it
 abbrev pub did : Store → Option Session → Told → Did
 did store session told = record { store = store; session = session; told = told }
 
@@ -119,9 +120,11 @@ abbrev pub ended_line : ℕ → Store → Session → Asked → Place → Did
 ended_line client store session asked (after, Phase.over next t) = did after (left next t) (Told.answered client asked t)
 ended_line client store session asked (after, p) = did store (Some session) Told.nothing
 
+-- what a line that was read does
 abbrev pub asked_line : ℕ → Store → Session → Asked → Did
 asked_line client store session asked = ended_line client store session asked (line_done client store session asked)
 
+-- what a session's line does
 abbrev pub session_line : ℕ → Store → Session → Text → Did
 session_line client store session text = asked_line client store session (line_of text)
 
@@ -144,6 +147,7 @@ pub record Done : Type 0 where
   pub world : ScriptWorld
   pub told : Told
 
+-- what a line of a script did
 abbrev pub done : ScriptWorld → Told → Done
 done world told = record { world = world; told = told }
 
@@ -160,6 +164,7 @@ named_line world (Some client) text = placed world client (client_line client wo
 abbrev pub text_line : ScriptWorld → Text → Done
 text_line world text = if is_quiet text then done world Told.nothing else named_line world (client_named (first_word text)) (after_word text)
 
+-- what a line of a script does, as it was cut
 abbrev pub answer : ScriptWorld → Line → Done
 answer world (line.Bytes bytes) = text_line world (trimmed_start bytes)
 answer world line.TooLong = done world (Told.nobody why.Long)

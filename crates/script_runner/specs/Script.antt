@@ -118,6 +118,7 @@ TriesFlush w = ((w.faults_then ≡ w.faults) × IsPassedOn w.taken_then w.passed
 
 -- ---- what a run promises
 
+-- ALL PROMISES OF A RUN, by its status.
 pub record KeepsPromises (settings : Settings) (status : ℕ) (r : Reading) (w : Writing) : Type 0 where
   -- there are five statuses
   pub statuses : IsTrue (list_any (λ s. s == status) (WHOLE ∷ READ_FAULT ∷ WRITE_FAULT ∷ NO_MEMORY ∷ TOO_MANY_LINES ∷ []))

@@ -23,6 +23,7 @@ small_number word = None
 
 -- ---- clients
 
+-- a number that is a client's
 abbrev pub if_client : Option ℕ → Option ℕ
 if_client None = None
 if_client (Some n) = if nat_le n LAST_CLIENT then Some n else None
@@ -37,6 +38,7 @@ client_named word = if_client (small_number word)
 abbrev pub is_follow : Text → Bool
 is_follow z = bytes_eq (first_word z) (codes "follow")
 
+-- a number that is a shard's
 abbrev pub if_shard : ℕ → Option ℕ → Option ℕ
 if_shard shards None = None
 if_shard shards (Some n) = if nat_lt n shards then Some n else None

@@ -157,6 +157,7 @@ least-unprepared shards fronts seen shard e = subst (λ o. IfSome o (λ k. has_f
 
 -- ---- an attempt after so many calls
 
+-- an attempt has made so many calls at most: its reads, and its preparings
 pub record HasSpent (a : Attempt) (calls : ℕ) : Type 0 where
   pub reads : ℕ
   pub in_turn : AreReadInTurn a.body.body reads (values_of a.snaps)
@@ -196,6 +197,7 @@ spent-front a calls shard front run e h =
 
 -- ---- a look after so many reads
 
+-- a body has read so many values, each since its run needed it
 pub record HasRead (body : Body) (snaps : SnapList) (reads : ℕ) : Type 0 where
   pub in_turn : AreReadInTurn body reads (values_of snaps)
 
@@ -222,11 +224,13 @@ read-fewer body snaps reads address e h =
 
 -- ---- a line after so many calls, of which there are so many at most
 
+-- an attempt after n calls of its line
 pub record HasDriven (most n left : ℕ) (a : Attempt) : Type 0 where
   pub calls : ℕ
   pub spent : HasSpent a calls
   pub fewer : n + attempt_calls + calls_of_attempts left ≤ most + calls
 
+-- a look after n calls of its line, which needs one value more
 pub record HasLooked (most n : ℕ) (body : Body) (snaps : SnapList) (address : Address) : Type 0 where
   pub reads : ℕ
   pub read : HasRead body snaps reads

@@ -82,6 +82,7 @@ pub data Began (w : Asking) (left since : ℕ) (first : Attempt) : Type 0 where
   at_try : (tries : ℕ) (body : Checked) → w.line ≡ asked.Try tries body → w.attempt ≡ None → since ≡ w.low → first ≡ opened w.set.shards body
       → Began w left since first
 
+-- an attempt of `go`, `do` or `try` on its way: it began at some number, which hides its bases
 pub record IsDriven (w : Asking) (t : Session) (left : ℕ) (a : Attempt) : Type 0 where
   pub session : t ≡ closed w.session
   pub first : Attempt
@@ -91,6 +92,7 @@ pub record IsDriven (w : Asking) (t : Session) (left : ℕ) (a : Attempt) : Type
   pub below : since ≤ w.low
   pub bases : AreFrom since a
 
+-- an attempt of `do` or `try` before its refresh
 pub record IsTried (w : Asking) (t : Session) (a : Attempt) : Type 0 where
   pub session : t ≡ closed w.session
   pub tries : ℕ
@@ -99,11 +101,13 @@ pub record IsTried (w : Asking) (t : Session) (a : Attempt) : Type 0 where
   pub none : w.attempt ≡ None
   pub first : a ≡ opened w.set.shards body
 
+-- the open attempt at a `step`
 pub record IsStepped (w : Asking) (t : Session) (a : Attempt) : Type 0 where
   pub session : t ≡ closed w.session
   pub line : w.line ≡ asked.Step
   pub some : w.attempt ≡ Some a
 
+-- the attempt of a `begin`
 pub record IsBegun (w : Asking) (t : Session) (a : Attempt) : Type 0 where
   pub session : t ≡ closed w.session
   pub body : Checked
@@ -116,6 +120,7 @@ abbrev pub LooksUpTo : Asking → Option ℕ → Checked → Type 0
 LooksUpTo w None body = w.line ≡ asked.Look body
 LooksUpTo w (Some n) body = w.line ≡ asked.At n body
 
+-- a look on what is seen, or at a number that the line names
 pub data LooksAt (w : Asking) (n : ℕ) (body : Checked) : Type 0 where
   at_seen : w.line ≡ asked.Look body → w.low ≤ n → LooksAt w n body
   at_named : w.line ≡ asked.At n body → LooksAt w n body

@@ -363,6 +363,7 @@ asks-own k (Phase.broken f) call h e ready is = absurd (cc)
 
 -- ---- what the disk denied
 
+-- of what was denied, as many replies say so; the last call may have denied one more
 pub record HasDenied (old new : ℕ) (replies : List Reply) : Type 0 where
   pub denied : new ≡ denied_by_all old replies
   pub one : (new ≡ old) ⊎ (new ≡ one_more old)
@@ -391,6 +392,7 @@ denied-says k l first call answer h event = let is = event.goes_on.denied ∙ h 
 
 -- ---- the denials that are known of
 
+-- the denials that are known are no fewer than the replies say
 pub record HasKnown (old new : ℕ) (replies : List Reply) : Type 0 where
   pub known : denied_by_all old replies ≤ new
   pub up : old ≤ new

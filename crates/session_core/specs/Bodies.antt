@@ -22,6 +22,7 @@ abbrev pub Fails : Bool → Type 0
 Fails true = ⊥
 Fails false = Unit {0}
 
+-- false is not true
 abbrev pub not_so : (P : Type 0) → false ≡ true → P
 not_so P h = absurd (subst Fails h tt)
 
@@ -45,6 +46,7 @@ if_pure false source body read (Some column) e = Some (record {
   writes_none = ∣ (λ h. not_so (first_write body ≡ None) h) ∣₁;
 })
 
+-- a text that is a body, checked
 abbrev pub if_tree : (read_only : Bool) (source : Text) (o : Option Body) → tree source ≡ o → Option Checked
 if_tree read_only source None e = None
 if_tree read_only source (Some body) e = if_pure read_only source body e (first_write body) refl
@@ -56,10 +58,12 @@ checked_of read_only text = if_tree read_only (trimmed_end text) (tree (trimmed_
 
 -- ---- why it may not
 
+-- why a body is refused that isn't well typed, or else writes
 abbrev pub ill_typed : Body → Judged Names → Why
 ill_typed body (Err column) = why.BadType column
 ill_typed body (Ok names) = why.Writes (unwrap_or (first_write body) 0)
 
+-- why a text is refused: it is no body, or the body is refused
 abbrev pub unread : Text → Option Body → Why
 unread text None = why.Syntax (syntax_column text)
 unread text (Some body) = ill_typed body (judge body)
@@ -71,6 +75,7 @@ refusal_of text = unread text (parsed text)
 
 -- ---- both
 
+-- the body of a text, or why it is refused
 abbrev pub or_refused : Text → Option Checked → Result Checked Why
 or_refused text (Some checked) = Ok checked
 or_refused text None = Err (refusal_of text)

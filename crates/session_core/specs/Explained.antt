@@ -64,6 +64,7 @@ pub record Story : Type 0 where
 abbrev pub attempting_of : Session → Attempting
 attempting_of s = record { client = s.client; seq = s.seq; attempt = s.attempt }
 
+-- the story of a session as it stands
 abbrev pub story_of : ℕ → ℕ → Session → Story
 story_of low begun s = record { low = low; begun = begun; attempting = attempting_of s; watches = shown_of s.watching.watches }
 
@@ -85,6 +86,7 @@ pub record IsLate (window n horizon : ℕ) (journal : Journal) : Type 0 where
 abbrev pub based_here : Attempt → ℕ → Run → List Based
 based_here a shard run = in_shard a.shards shard (based a.snaps run.observations)
 
+-- all that a run observed, with bases
 abbrev pub based_all : Attempt → Run → List Based
 based_all a run = based a.snaps run.observations
 
@@ -163,6 +165,7 @@ pub record HiddenEnd (set : Setting) (journal : Journal) (y : Story) (first : At
 
 -- ---- one event that is shown, a row a reply
 
+-- WHERE THE REPLY TO A STEP PASSES:
 abbrev pub StepPasses : Setting → Journal → Story → Attempt → Reply → Type 0
 -- the run needs the value at this address, and it was read at a number that may be shown
 StepPasses set journal y a (reply.Read address base) = (next_event a ≡ next.Read address) × IsShown y.low journal base
@@ -211,9 +214,11 @@ abbrev pub IfOpen : Option Attempt → Type 0 → (Attempt → Type 0) → Type 
 IfOpen None P Q = P
 IfOpen (Some a) P Q = Q a
 
+-- the answer where an attempt is open already
 abbrev pub is_busy : Turn
 is_busy = said (reply.Refused why.Busy)
 
+-- the answer where none is open
 abbrev pub none_open : Turn
 none_open = said (reply.Refused why.NoAttempt)
 
@@ -291,11 +296,13 @@ abbrev pub looked_at : ℕ → Reply → ℕ
 looked_at low (reply.At n outcome) = max low n
 looked_at low r = low_by low r
 
+-- the replies of an answer
 abbrev pub replies_in : Turn → List Reply
 replies_in (turn.Replies rs) = rs
 replies_in (turn.Ended rs) = rs
 replies_in t = []
 
+-- the greatest number shown, behind a line
 abbrev pub low_after : ℕ → Line → Turn → ℕ
 low_after low (asked.Look body) t = fold looked_at low (replies_in t)
 low_after low l t = fold low_by low (replies_in t)
@@ -315,10 +322,12 @@ stepped_on journal s a (reply.Read address base) = holding s
 stepped_on journal s a (reply.Prepared shard front) = holding s (Some (with_front a shard front))
 stepped_on journal s a r = ended_by s r
 
+-- what the reply to a line makes of the attempt
 abbrev pub by_reply : (Reply → Attempting) → Attempting → Turn → Attempting
 by_reply f s (turn.Replies (r ∷ rs)) = f r
 by_reply f s t = s
 
+-- what becomes of an open attempt
 abbrev pub if_attempt : Option Attempt → Attempting → (Attempt → Attempting) → Attempting
 if_attempt None s f = s
 if_attempt (Some a) s f = f a
@@ -334,14 +343,17 @@ attempting_after set journal s asked.Drop t = holding s None
 attempting_after set journal s asked.Quit t = holding s None
 attempting_after set journal s l t = s
 
+-- where an attempt is open, its beginning stays
 abbrev pub begun_if : Option Attempt → ℕ → ℕ → ℕ
 begun_if None now before = now
 begun_if (Some a) now before = before
 
+-- at which number the open attempt began, behind a line
 abbrev pub begun_after : Story → Line → Turn → ℕ
 begun_after y (asked.Begin body) t = begun_if y.attempting.attempt (low_after y.low (asked.Begin body) t) y.begun
 begun_after y l t = y.begun
 
+-- the story behind a line, with these watches
 abbrev pub story_after : Setting → Journal → Story → Line → Turn → ShownList → Story
 story_after set journal y l t later = record {
   low = low_after y.low l t;
@@ -365,6 +377,7 @@ Explains set journal y (l ∷ ls) [] = ⊥
 
 -- ---- one line, as a clause
 
+-- the settings of the store, as a client knows them
 abbrev pub setting_of : Known → Setting
 setting_of k = record { shards = k.shards; window = k.window; limit = k.limit }
 

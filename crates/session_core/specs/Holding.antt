@@ -82,6 +82,7 @@ pub record Attends (k : Known) (s : Session) : Type 0 where
   pub attempt : IfSome s.attempt (Holds k)
   pub watches : WatchesAttend k s.watching
 
+-- this holds unless the session is over
 abbrev pub UnlessOver : Option SessionError → Type 0 → Type 0
 UnlessOver None P = P
 UnlessOver (Some error) P = Unit {0}

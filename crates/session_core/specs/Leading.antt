@@ -90,6 +90,7 @@ pub data Tries {B : Type 0} (known : B → Known) (goes : B → Call → Answer 
   made : (answer : Answer) → Goes known goes old (call_of s a) answer new →
       (e ≡ error.StoreFault → answer ≡ Answer.failed true) → Tries known goes s a old e new
 
+-- an event is made, or a call failed
 abbrev pub Makes : {B : Type 0} → (B → Known) → (B → Call → Answer → B → Type 0) → Session → Attempt → B → Result Moved SessionError → B → Type 0
 Makes known goes s a old (Ok m) new = Moves known goes s a old m new
 Makes known goes s a old (Err e) new = Tries known goes s a old e new
@@ -99,11 +100,13 @@ abbrev pub moved_on_read : Address → Attempt → Result ℕ SessionError → R
 moved_on_read address a (Ok base) = Ok (moved.More a (reply.Read address base))
 moved_on_read address a (Err e) = Err e
 
+-- what an answered preparing comes to
 abbrev pub moved_on_prepare : ℕ → Attempt → Result (Result ℕ Reply) SessionError → Result Moved SessionError
 moved_on_prepare shard a (Ok (Ok front)) = Ok (moved.More a (reply.Prepared shard front))
 moved_on_prepare shard a (Ok (Err r)) = Ok (moved.End a r)
 moved_on_prepare shard a (Err e) = Err e
 
+-- what an answered append comes to
 abbrev pub moved_on_append : Attempt → Result Reply SessionError → Result Moved SessionError
 moved_on_append a (Ok r) = Ok (moved.End a r)
 moved_on_append a (Err e) = Err e

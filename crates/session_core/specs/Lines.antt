@@ -38,6 +38,7 @@ with_body f (Err reason) = asks.Refused reason
 abbrev pub of_begin : Text → Line
 of_begin text = with_body asks.Begin (body_of false text)
 
+-- `try` with so many attempts
 abbrev pub of_try : ℕ → Text → Line
 of_try tries text = with_body (asks.Try tries) (body_of false text)
 
@@ -45,9 +46,11 @@ of_try tries text = with_body (asks.Try tries) (body_of false text)
 abbrev pub of_look : Text → Line
 of_look text = with_body asks.Look (body_of true text)
 
+-- `at` a number
 abbrev pub of_at : ℕ → Text → Line
 of_at number text = with_body (asks.At number) (body_of true text)
 
+-- `watch` under a name
 abbrev pub of_watch : Text → Text → Line
 of_watch name text = with_body (asks.Watch name) (body_of true text)
 
@@ -68,6 +71,7 @@ of_verb (verb.Unwatch name) = asks.Unwatch name
 of_verb verb.Sync = asks.Sync
 of_verb verb.Wait = asks.Wait
 
+-- a line of no verb's form is refused
 abbrev pub of_form : Option Verb → Line
 of_form None = asks.Refused why.Verb
 of_form (Some v) = of_verb v

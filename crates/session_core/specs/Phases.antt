@@ -57,6 +57,7 @@ pub data Phase : Type 0 where
 
 -- ---- sessions
 
+-- the session with this attempt open, or none
 abbrev pub with_attempt : Session → Option Attempt → Session
 with_attempt s o = record s { attempt = o }
 
@@ -103,6 +104,7 @@ event_call s a (next.Read address) = read address
 event_call s a (next.Prepare shard run) = prepare shard (in_shard a.shards shard (based a.snaps run.observations))
 event_call s a (next.Append run) = append (ready_of a run s.client s.seq)
 
+-- the call of an attempt's next event
 abbrev pub call_of : Session → Attempt → Call
 call_of s a = event_call s a (next_event a)
 
@@ -118,6 +120,7 @@ moved_at a (next.Append run) (full limit) = Some (moved.End a (reply.Full limit)
 moved_at a (next.Append run) disk = Some (moved.End a reply.Disk)
 moved_at a n answer = None
 
+-- what an answer to it makes of the attempt
 abbrev pub moved_by : Attempt → Answer → Option Moved
 moved_by a answer = moved_at a (next_event a) answer
 
@@ -157,6 +160,7 @@ gone s left by_fault (Some (moved.End a r)) = after_end s left a r
 
 -- ---- looks
 
+-- a look by its run: it needs a value, or is over
 abbrev pub look_by : Session → ℕ → Checked → SnapList → Ran → Phase
 look_by s n body snaps (need address) = Phase.looked s n body snaps address
 look_by s n body snaps (done run) = Phase.over s (said (reply.At n run.outcome))
@@ -220,6 +224,7 @@ after p answer = Phase.broken (is_fault answer)
 abbrev pub unless_open : Session → Phase → Phase
 unless_open s p = elim s.attempt [ None ↦ p | Some a ↦ refused s why.Busy ]
 
+-- what is done with the open attempt, refused where none is
 abbrev pub if_open : Session → (Attempt → Phase) → Phase
 if_open s f = elim s.attempt [ None ↦ refused s why.NoAttempt | Some a ↦ f a ]
 

@@ -30,6 +30,7 @@ use Rattle.session_core.specs.Explained.{Setting, Story, AreReported, story_of, 
 
 -- ---- the client's own commits
 
+-- a commit that may be, as a list
 abbrev pub as_list : Option Commit → List Commit
 as_list None = []
 as_list (Some commit) = commit ∷ []
@@ -62,6 +63,7 @@ abbrev pub denied_by : ℕ → Reply → ℕ
 denied_by count reply.Disk = one_more count
 denied_by count r = count
 
+-- the count of denials behind replies
 abbrev pub denied_by_all : ℕ → List Reply → ℕ
 denied_by_all count replies = fold denied_by count replies
 
@@ -108,6 +110,7 @@ pub data Talks : Known → Session → List Text → List Turn → Known → Ses
       → Finds k here → length text ≤ LONGEST_LINE → Says here s text said l t
       → Talks l t texts turns m u → Talks k s (text ∷ texts) (said ∷ turns) m u
 
+-- the replies of answers, one after another
 abbrev pub all_replies : List Turn → List Reply
 all_replies [] = []
 all_replies (turn ∷ rest) = replies_in turn ++ all_replies rest

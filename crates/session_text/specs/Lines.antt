@@ -57,6 +57,7 @@ Alone asked = do
 
 -- ---- the words, a row a verb
 
+-- the word of a verb
 abbrev pub word_of : VerbWord → Bytes
 word_of word.Do = codes "do"
 word_of word.Try = codes "try"
@@ -75,6 +76,7 @@ word_of word.Unwatch = codes "unwatch"
 
 -- ---- what stands behind the word, a row a verb
 
+-- what stands behind the word of each verb
 abbrev pub Form : VerbWord → Rule ℕ Verb
 Form word.Do = Of verb.Do BodyRule
 Form word.Try = do

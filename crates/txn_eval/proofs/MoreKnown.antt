@@ -31,6 +31,7 @@ module _ (s t : PartialState) (more : Extends s t) where
   abbrev Any : Kept → Type 0
   Any k = Unit {0}
 
+  -- any address may be read
   abbrev Anything : Address → Type 0
   Anything a = Unit {0}
 
@@ -42,6 +43,7 @@ module _ (s t : PartialState) (more : Extends s t) where
   abbrev Both : {A : Type 0} → Stepping Kept A → Stepping Kept A → Type 0
   Both f g = Simulates (λ k l. k ≡ l) Any Nowhere Anything f g
 
+  -- two steps end alike
   abbrev Alike : {A : Type 0} → Step Kept A → Step Kept A → Type 0
   Alike u v = Same (λ k l. k ≡ l) Any Nowhere Anything u v
 

@@ -50,6 +50,7 @@ module _ (stmts : List Stmt) (snaps : List (Address × Snap)) where
   abbrev does : Stmt → Statement Kept
   does = stmt_run (kept (values_of snaps))
 
+  -- statements from the beginning of a run
   abbrev all : List Stmt → Step Kept Names
   all ss = all_steps (map does ss) [] (begun nothing_kept)
 

@@ -23,6 +23,7 @@ use Rattle.txn_grammar.specs.Lexer.{spot, word_at, number_at, text_at, quoted_le
 
 -- ---- a token takes a byte at least, and no more than there are
 
+-- a token takes a byte at least, and none past the end
 pub record Moves (len : ℕ) (z : Text) : Type 0 where
   pub some : 1 ≤ len
   pub within : len ≤ length z

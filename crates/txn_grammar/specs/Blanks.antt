@@ -6,6 +6,7 @@ use Rattle.txn_grammar.specs.Characters.{Text, is_blank}
 use Rattle.txn_grammar.specs.Lexer.{lex}
 use Rattle.txn_grammar.specs.Parsed.{parsed, syntax_column}
 
+-- nothing but blanks
 abbrev pub AreBlank : Text → Type 0
 AreBlank w = AllPass is_blank w
 
@@ -13,6 +14,7 @@ AreBlank w = AllPass is_blank w
 abbrev pub KeepTokens : Type 0
 KeepTokens = (z w : Text) → AreBlank w → lex (z ++ w) ≡ lex z
 
+-- a law: blanks at the end of a text leave its body as it is
 abbrev pub KeepBody : Type 0
 KeepBody = (z w : Text) → AreBlank w → parsed (z ++ w) ≡ parsed z
 

@@ -233,6 +233,7 @@ unfoldable mutual
   Negation zero = ComparisonOf LeafRule
   Negation (suc n) = Or (Not (Negation n)) (ComparisonOf (UnaryOf (Unary n) (ExpressionOf (Negation n))))
 
+-- an expression where so many levels may be opened
 abbrev pub Expression : ℕ → Rule Spot Expr
 Expression n = ExpressionOf (Negation n)
 

@@ -15,9 +15,11 @@ use Rattle.txn_grammar.specs.Characters.{Text}
 use Rattle.txn_grammar.specs.Spellings.{reserved_word, mark}
 use Rattle.txn_grammar.specs.Numbers.{number_value}
 
+-- a token, and how many bytes spell it
 abbrev pub lexeme : Token → ℕ → Lexeme
 lexeme token len = record { token = token; len = len }
 
+-- a reserved word, or else a name
 abbrev pub reserved_or_name : Text → Option Symbol → Token
 reserved_or_name word (Some symbol) = t.Symbol symbol
 reserved_or_name word None = t.Name word
@@ -30,6 +32,7 @@ word_token word = if nat_lt LONGEST_NAME (length word) then t.Malformed else res
 unfoldable pub word_at : Text → Lexeme
 word_at z = let len = prefix_len is_word z in lexeme (word_token (take len z)) len
 
+-- a number, where it is within its bounds
 abbrev pub number_token : Option ℤ → Token
 number_token (Some value) = t.Number value
 number_token None = t.Malformed
@@ -38,6 +41,7 @@ number_token None = t.Malformed
 unfoldable pub number_at : Text → Lexeme
 number_at z = let len = prefix_len is_digit z in lexeme (number_token (number_value (take len z))) len
 
+-- a text in quotes; one that isn't well formed counts as its first byte
 abbrev pub quoted_lexeme : Text → Outcome ℕ Text → Lexeme
 quoted_lexeme z (Ok read) = lexeme (t.Text read.0) (length z - length read.1)
 quoted_lexeme z (Err rest) = lexeme t.Malformed 1
@@ -46,10 +50,12 @@ quoted_lexeme z (Err rest) = lexeme t.Malformed 1
 unfoldable pub text_at : Text → Lexeme
 text_at z = quoted_lexeme z (text z)
 
+-- a mark of one byte, where it is one
 abbrev pub short_lexeme : Option Symbol → Lexeme
 short_lexeme (Some symbol) = lexeme (t.Symbol symbol) 1
 short_lexeme None = lexeme t.Malformed 1
 
+-- the mark of two bytes, else that of one
 abbrev pub mark_lexeme : Option Symbol → Option Symbol → Lexeme
 mark_lexeme (Some symbol) short = lexeme (t.Symbol symbol) 2
 mark_lexeme None short = short_lexeme short
@@ -70,9 +76,11 @@ token_at z =
     else (if slice_index z 0 == 34 then text_at z
     else mark_at z))
 
+-- a token at a column
 abbrev pub spot : ℕ → Token → Spot
 spot column token = record { column = column; token = token }
 
+-- whether a token is none that a rule has
 abbrev pub is_malformed : Token → Bool
 is_malformed t.Malformed = true
 is_malformed other = false

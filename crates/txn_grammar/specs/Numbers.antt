@@ -5,6 +5,7 @@ pub use Rattle.predictive_parsing.specs.Digits.{with_digit}
 use Rattle.dtext.specs.declared.number.TheConstants.{MOST}
 use Rattle.txn_grammar.specs.Characters.{Text}
 
+-- what digits are worth
 abbrev pub digits_value : Text → ℕ
 digits_value digits = fold with_digit 0 digits
 

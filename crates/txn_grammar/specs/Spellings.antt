@@ -13,6 +13,7 @@ use Rattle.txn_grammar.specs.Characters.{Text}
 abbrev pub words : List (Text × Symbol)
 words = map (λ row. (row.0.now, row.1)) WORDS
 
+-- the table of marks, each with its spelling
 abbrev pub marks : List (Text × Symbol)
 marks = map (λ row. (row.0.now, row.1)) MARKS
 

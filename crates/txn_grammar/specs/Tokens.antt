@@ -32,6 +32,7 @@ use Rattle.txn_grammar.specs.Spellings.{same_symbol}
 abbrev pub at : {A : Type 0} → (Token → Option A) → Spot → Option (ℕ × A)
 at f spot = option_map (λ a. (spot.column, a)) (f spot.token)
 
+-- whether a token is this symbol
 abbrev pub is_symbol : Symbol → Token → Bool
 is_symbol symbol (t.Symbol found) = same_symbol found symbol
 is_symbol symbol other = false
@@ -47,14 +48,17 @@ of_symbol f other = None
 
 -- ---- values and names
 
+-- the number of a token, if it is one
 abbrev pub number : Token → Option ℤ
 number (t.Number value) = Some value
 number other = None
 
+-- the text of one
 abbrev pub text : Token → Option Text
 text (t.Text bytes) = Some bytes
 text other = None
 
+-- the name of one
 abbrev pub name : Token → Option Text
 name (t.Name bytes) = Some bytes
 name other = None
@@ -102,6 +106,7 @@ kind_of other = None
 unfoldable pub same_kind : Kind → Kind → Bool
 same_kind = sameb kinds.the_type
 
+-- a word with how many arguments it takes
 abbrev pub operation : {W : Type 0} → W → ℕ → Operation W
 operation word arguments = record { word = word; arguments = arguments }
 
@@ -109,9 +114,11 @@ operation word arguments = record { word = word; arguments = arguments }
 abbrev pub operation_in : {W : Type 0} → List (Kind × Text × W × ℕ) → Kind → Text → Option (Operation W)
 operation_in rows kind spelling = option_map (λ row. operation row.2 row.3) (find (λ row. same_kind row.0 kind && bytes_eq row.1 spelling) rows)
 
+-- the write of a kind that a name is
 unfoldable pub write_named : Kind → Text → Option (Operation WriteWord)
 write_named kind spelling = operation_in (map (λ row. (row.0, row.1.now, row.2, row.3)) WRITES) kind spelling
 
+-- the read of a kind that a name is
 unfoldable pub read_named : Kind → Text → Option (Operation ReadWord)
 read_named kind spelling = operation_in (map (λ row. (row.0, row.1.now, row.2, row.3)) READS) kind spelling
 

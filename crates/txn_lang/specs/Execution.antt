@@ -37,6 +37,7 @@ pub record Own : Type 0 where
   pub operations : Operations
   pub observations : List Seen
 
+-- a body that has done nothing
 abbrev pub nothing_yet : Own
 nothing_yet = record { operations = []; observations = [] }
 
@@ -54,9 +55,11 @@ own_read s r a o =
     if is_decided r (at_address a o.operations) then Some (answer r (replay (at_address a o.operations) (default_of a.kind)), o)
     else own_value r a (s a) o
 
+-- a write is one operation more
 abbrev pub own_write : Address → WriteOp → Own → Own
 own_write a w o = record o { operations = o.operations ++ (a, w) ∷ [] }
 
+-- the memory of a body over a state: its own operations, and what it observed
 abbrev pub own_memory : PartialState → Memory Own
 own_memory s = record { read = own_read s; write = own_write }
 
@@ -66,12 +69,15 @@ own_memory s = record { read = own_read s; write = own_write }
 abbrev saw_all : Seen
 saw_all = record { address = x_at; obs = obs.CounterIs }
 
+-- an addition of 1 to x, behind a look at it
 abbrev added_one : Own
 added_one = record { operations = (x_at, op.AddCounter (pos 1)) ∷ []; observations = saw_all ∷ [] }
 
+-- a run at its beginning
 abbrev pub begun : {M : Type 0} → M → Progress M
 begun m = record { memory = m; emitted = []; ticks = 0; load = 0 }
 
+-- a run that leaves no deltas
 abbrev pub run_with : List Seen → Outcome → Run
 run_with seen how = record { outcome = how; deltas = []; observations = seen }
 
@@ -106,14 +112,17 @@ ended-needs = refl
 abbrev pub own_run : Body → PartialState → Step Own Names
 own_run b s = body_run (own_memory s) b (begun nothing_yet)
 
+-- THE RUN OF A BODY on what is known of a state.
 unfoldable pub exec : Body → PartialState → Ran
 exec b s = ended (own_run b s)
 
 -- ---- one layer, with what its children do in their places
 
+-- an expression that gives this item
 abbrev gives_it : Item → Expression Own
 gives_it i names = pure i
 
+-- this item after so many ticks
 abbrev after_ticks : Item → ℕ → Step Own Item
 after_ticks i n = gives i (record { memory = nothing_yet; emitted = []; ticks = n; load = 0 })
 
@@ -136,6 +145,7 @@ read-needs = refl
 
 -- ---- laws
 
+-- how many ticks were charged
 abbrev pub ticks_of : {M A : Type 0} → Step M A → ℕ
 ticks_of (gives x p) = p.ticks
 ticks_of (stopped s p) = p.ticks

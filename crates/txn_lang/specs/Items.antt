@@ -31,14 +31,17 @@ abbrev pub int_in : Item → ℤ
 int_in (item.Int n) = n
 int_in _ = pos 0
 
+-- the truth value of an item
 abbrev pub bool_in : Item → Bool
 bool_in (item.Bool b) = b
 bool_in _ = false
 
+-- its bytes
 abbrev pub text_in : Item → Bytes
 text_in (item.Text t) = t
 text_in _ = []
 
+-- its texts
 abbrev pub texts_in : Item → List Bytes
 texts_in (item.Texts ts) = ts
 texts_in _ = []
@@ -105,20 +108,24 @@ joined operator.Plus v w = plus v w
 joined operator.Minus v w = item.Int (int_wrapping_sub w64 (int_in v) (int_in w))
 joined operator.Times v w = item.Int (int_wrapping_mul w64 (int_in v) (int_in w))
 
+-- the negative number, in 64 bits
 abbrev pub negated : Item → Item
 negated v = item.Int (int_wrapping_neg w64 (int_in v))
 
+-- how many bytes a text has, or how many texts a list
 abbrev pub length_of : Item → ℕ
 length_of (item.Text t) = length t
 length_of (item.Texts ts) = length ts
 length_of _ = 0
 
+-- whether two items of one type are the same
 abbrev pub equals : Item → Item → Bool
 equals (item.Text a) (item.Text b) = eq_by_cmp text_cmp a b
 equals (item.Bool a) (item.Bool b) = beq a b
 equals (item.Int a) (item.Int b) = int_eq a b
 equals _ _ = false
 
+-- whether a comparison holds
 abbrev pub compares : Relation → Item → Item → Bool
 compares relation.Equal v w = equals v w
 compares relation.Unequal v w = not (equals v w)
@@ -134,6 +141,7 @@ abbrev pub first_text : List Item → Bytes
 first_text (i ∷ _) = text_in i
 first_text [] = []
 
+-- the first argument, as a number
 abbrev pub first_int : List Item → ℤ
 first_int (i ∷ _) = int_in i
 first_int [] = pos 0
@@ -158,11 +166,13 @@ text_write kind.List write_word.Push x = Some (op.ListPush x)
 text_write kind.List write_word.Remove x = Some (op.ListRemove x)
 text_write _ _ x = None
 
+-- the writes of a counter
 abbrev pub counter_write : WriteWord → ℤ → Option WriteOp
 counter_write write_word.Put n = Some (op.PutCounter n)
 counter_write write_word.Add n = Some (op.AddCounter n)
 counter_write _ n = None
 
+-- the clear of a kind that has one
 abbrev pub clear_of : Kind → Option WriteOp
 clear_of kind.Set = Some op.SetClear
 clear_of kind.Hash = Some op.HashClear

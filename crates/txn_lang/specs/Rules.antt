@@ -40,6 +40,7 @@ Expression M = Names → Stepping M Item
 abbrev pub Statement : Type 0 → Type 0
 Statement M = Names → Stepping M Names
 
+-- the address of a kind and a key
 abbrev pub address_of : Kind → Item → Address
 address_of k key = record { kind = k; key = text_in key }
 
@@ -61,9 +62,11 @@ module _ {M : Type 0} where
     j ← e names
     sized (joined o i j)
 
+  -- one operator more: where the item decides, the operand isn't run
   abbrev pub link : Operator → Item → Expression M → Names → Stepping M Item
   link o i e names = λ p. (if decides o i then pure i else joined_with o i e names) p
 
+  -- operators with their operands, from left to right
   abbrev pub chain : Item → List (Operator × Expression M) → Names → Stepping M Item
   chain i [] names = pure i
   chain i (o ∷ os) names = do
@@ -80,9 +83,11 @@ module _ {M : Type 0} where
   abbrev pub of_expr : Expr-F (Expression M) (Expression M) (Operator × Expression M) → Expression M
   of_expr e = e.node
 
+  -- an operator, and how its operand runs
   abbrev pub of_operand : Operand-F (Expression M) (Expression M) (Operator × Expression M) → Operator × Expression M
   of_operand o = (o.operator, o.value)
 
+  -- an item is emitted: it loads its size and 8 more
   abbrev pub emit_item : Item → Stepping M (Unit {0})
   emit_item i = do
     _ ← carry (8 + size_of i)
@@ -95,11 +100,13 @@ module _ {M : Type 0} where
     after ← s names
     all_steps ss after
 
+  -- statements, whose names are forgotten behind them
   abbrev pub block : List (Statement M) → Names → Stepping M Names
   block ss names = do
     after ← all_steps ss names
     pure (take (length names) after)
 
+  -- a block, where there is one
   abbrev pub block_maybe : Option (List (Statement M)) → Names → Stepping M Names
   block_maybe None names = pure names
   block_maybe (Some ss) names = block ss names
@@ -111,6 +118,7 @@ module _ {M : Type 0} where
     after ← all_steps ss (names ++ (x, item.Text t) ∷ [])
     pure (take (length names) after)
 
+  -- a block for each text, which has the name meanwhile
   abbrev pub turns : Bytes → List (Statement M) → List Bytes → Names → Stepping M Names
   turns x ss [] names = pure names
   turns x ss (t ∷ ts) names = do
@@ -179,6 +187,7 @@ module _ {M : Type 0} (m : Memory M) where
     is ← all_values [] es names
     read_with k key word is
 
+  -- how an expression runs, without its column
   abbrev pub node_run : ExprNode → Expression M
   node_run = fold-ExprNode (Expression M) (Expression M) (Operator × Expression M) of_node of_expr of_operand
 
@@ -190,6 +199,7 @@ module _ {M : Type 0} (m : Memory M) where
   abbrev pub operand_run : Operand → Operator × Expression M
   operand_run = fold-Operand (Expression M) (Expression M) (Operator × Expression M) of_node of_expr of_operand
 
+  -- an operation, where the kind has it
   abbrev pub write_maybe : Address → Option WriteOp → Stepping M (Unit {0})
   write_maybe a None = pure tt
   write_maybe a (Some o) = write_at m a o
@@ -224,6 +234,7 @@ module _ {M : Type 0} (m : Memory M) where
     _ ← writes_with k key word is
     pure names
 
+  -- how a statement runs, without its column
   abbrev pub step_run : StmtNode → Statement M
   step_run = fold-StmtNode (Statement M) (Statement M) of_step of_stmt
 

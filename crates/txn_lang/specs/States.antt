@@ -27,6 +27,7 @@ known state address = Some (state address)
 abbrev pub after : Deltas → Address → Value → Value
 after deltas address value = apply_maybe (delta_at deltas address) value
 
+-- commits in their order
 abbrev pub Journal : Type 0
 Journal = List Commit
 

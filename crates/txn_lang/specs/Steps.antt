@@ -19,6 +19,7 @@ pub data Step (M A : Type 0) : Type 0 where
   stopped : Stop → Progress M → Step M A
   gives : A → Progress M → Step M A
 
+-- what goes on from how far a run is
 abbrev pub Stepping : Type 0 → Type 0 → Type 0
 Stepping M A = Progress M → Step M A
 
@@ -38,9 +39,11 @@ module _ {M : Type 0} where
   abbrev pub ◌>>=◌ : {A B : Type 0} → Stepping M A → (A → Stepping M B) → Stepping M B
   s >>= f = λ p. and_then (s p) f
 
+  -- nothing is done, and this is given
   abbrev pub pure : {A : Type 0} → A → Stepping M A
   pure x = λ p. gives x p
 
+  -- the run stops
   abbrev pub stop_by : {A : Type 0} → Stop → Stepping M A
   stop_by s = λ p. stopped s p
 
@@ -52,9 +55,11 @@ module _ {M : Type 0} where
   abbrev pub carry : ℕ → Stepping M (Unit {0})
   carry n = λ p. if nat_le (p.load + n) LOAD_LIMIT then gives tt (record p { load = p.load + n }) else stopped stop.Big p
 
+  -- an item more is emitted
   abbrev pub emit : Item → Stepping M (Unit {0})
   emit i = λ p. gives tt (record p { emitted = p.emitted ++ i ∷ [] })
 
+  -- what a read answered, or the stop where its value isn't known
   abbrev pub answered : {A : Type 0} → Address → Option (A × M) → Stepping M A
   answered a None = λ p. stopped (stop.Need a) p
   answered a (Some x) = λ p. gives x.0 (record p { memory = x.1 })

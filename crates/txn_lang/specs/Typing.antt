@@ -31,12 +31,15 @@ use Rattle.txn_lang.specs.Types.{Names, type_bound, same, has_length, may_compar
 abbrev pub node_of : Expr → ExprNode-F ExprNode Expr Operand
 node_of e = out-ExprNode (out-Expr e).node
 
+-- a statement without its column
 abbrev pub step_of : Stmt → StmtNode-F StmtNode Stmt
 step_of s = out-StmtNode (out-Stmt s).node
 
+-- the operator in front of an operand
 abbrev pub operator_of : Operand → Operator
 operator_of o = (out-Operand o).operator
 
+-- the operand itself
 abbrev pub value_of : Operand → Expr
 value_of o = (out-Operand o).value
 
@@ -69,6 +72,7 @@ pub data HasType (names : Names) : Expr → ItemType → Type 0 where
       → ((i : ℕ) (a : Expr) → slice_get es i ≡ Some a → HasType names a (asked_type word))
       → HasType names e (answered_type k word)
 
+-- the statements of an `else`, none where there is none
 abbrev pub else_of : Option (List Stmt) → List Stmt
 else_of branch = unwrap_or branch []
 
@@ -108,6 +112,7 @@ IsTyped body = AreTyped [] body.stmts
 abbrev pub Judged : Type 0 → Type 0
 Judged A = Result A ℕ
 
+-- what goes on where all is well typed so far
 abbrev pub and_then : {A B : Type 0} → Judged A → (A → Judged B) → Judged B
 and_then (Ok a) f = f a
 and_then (Err column) f = Err column
@@ -138,6 +143,7 @@ all_of wanted complaint (e ∷ es) names = do
   t ← e.judged names
   all_of wanted (option_or complaint (unless (same t wanted) e.column)) es names
 
+-- whether an operator takes two operands: of one type, and one that it takes
 abbrev pub fits : Operator → ItemType → ItemType → Bool
 fits o t u = if same u t then takes o t else false
 
@@ -153,6 +159,7 @@ abbrev pub may_be_first : ItemType → List (Operator × Typed) → Bool
 may_be_first t [] = true
 may_be_first t (o ∷ os) = may_begin o.0 t
 
+-- the type of a name, which has to be bound
 abbrev pub named : ℕ → Option ItemType → Judged ItemType
 named column (Some t) = Ok t
 named column None = Err column
@@ -191,9 +198,11 @@ judge_node (ExprNode-F.Read k key word es) column names = do
   complaint ← all_of (asked_type word) (unless (same t type.Text) key.column) es names
   told complaint (answered_type k word)
 
+-- an expression with its column
 abbrev pub judge_expr : Expr-F (ℕ → Names → Judged ItemType) Typed (Operator × Typed) → Typed
 judge_expr e = record { column = e.column; judged = e.node e.column }
 
+-- an operator, and its operand
 abbrev pub judge_operand : Operand-F (ℕ → Names → Judged ItemType) Typed (Operator × Typed) → Operator × Typed
 judge_operand o = (o.operator, o.value)
 
@@ -261,6 +270,7 @@ judge_step (StmtNode-F.For x e inner) names = do
   turn x inner names
 judge_step (StmtNode-F.Write k key word es) names = judge_write k key es names
 
+-- a statement has no rule beside its node's
 abbrev pub judge_stmt : Stmt-F (Names → Judged Names) (Names → Judged Names) → Names → Judged Names
 judge_stmt s = s.node
 

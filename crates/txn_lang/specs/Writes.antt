@@ -24,6 +24,7 @@ write_in (StmtNode-F.For x e inner) column = first_of inner
 write_in (StmtNode-F.Write k key word es) column = Some column
 write_in _ column = None
 
+-- the column of the first write of a statement
 abbrev pub write_at : Stmt-F (ℕ → Option ℕ) (Option ℕ) → Option ℕ
 write_at s = s.node s.column
 

@@ -114,6 +114,7 @@ opened_within U U' E E' f g =
 
 -- ---- one level more
 
+-- what one level fewer derives, one level more derives too
 record More (n : ℕ) : Type 0 where
   unary : Within (Unary n) (Unary (suc n))
   negation : Within (Negation n) (Negation (suc n))

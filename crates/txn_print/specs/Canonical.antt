@@ -30,10 +30,12 @@ use Rattle.txn_print.specs.Pieces.{Piece, spaced, opening, closing, joining, wor
 
 -- ---- words
 
+-- the word of a truth value
 abbrev pub truth : Bool → Symbol
 truth true = s.True
 truth false = s.False
 
+-- the word or mark of an operator
 abbrev pub sign : Operator → Symbol
 sign operator.Or = s.Or
 sign operator.And = s.And
@@ -41,6 +43,7 @@ sign operator.Plus = s.Plus
 sign operator.Minus = s.Minus
 sign operator.Times = s.Times
 
+-- the mark of a comparison
 abbrev pub comparison : Relation → Symbol
 comparison relation.Equal = s.Equal
 comparison relation.Unequal = s.Unequal
@@ -49,6 +52,7 @@ comparison relation.AtMost = s.AtMost
 comparison relation.Greater = s.Greater
 comparison relation.AtLeast = s.AtLeast
 
+-- the word of a kind
 abbrev pub kind_symbol : Kind → Symbol
 kind_symbol kind.Bool = s.Bool
 kind_symbol kind.Counter = s.Counter
@@ -57,6 +61,7 @@ kind_symbol kind.Set = s.Set
 kind_symbol kind.Hash = s.Hash
 kind_symbol kind.List = s.List
 
+-- the word of a write
 abbrev pub write_name : WriteWord → Bytes
 write_name write.Put = codes "put"
 write_name write.Add = codes "add"
@@ -64,6 +69,7 @@ write_name write.Remove = codes "remove"
 write_name write.Clear = codes "clear"
 write_name write.Push = codes "push"
 
+-- the word of a read
 abbrev pub read_name : ReadWord → Bytes
 read_name read.Get = codes "get"
 read_name read.Has = codes "has"
@@ -81,6 +87,7 @@ grouped inner = opening s.OpenParen ∷ (inner ++ closing s.CloseParen ∷ [])
 abbrev pub given : List Piece → List Piece
 given inner = joining s.OpenParen ∷ (inner ++ closing s.CloseParen ∷ [])
 
+-- a comma in front
 abbrev pub after_comma : List Piece → List Piece
 after_comma pieces = closing s.Comma ∷ pieces
 
@@ -108,6 +115,7 @@ pub record Shown : Type 0 where
   pub rank : Place
   pub pieces : List Piece
 
+-- pieces that may stand in this place without parentheses
 abbrev pub shown_as : Place → List Piece → Shown
 shown_as rank pieces = record { rank = rank; pieces = pieces }
 
@@ -132,6 +140,7 @@ ranks (next ∷ rest) = (chain_place next.0, operand_place next.0)
 abbrev pub chain : Shown → List (Operator × Shown) → Shown
 chain first rest = shown_as (ranks rest).0 (at (ranks rest).1 first ++ flat_map further rest)
 
+-- each expression from its shown parts
 abbrev pub show_node : ExprNode-F Shown Shown (Operator × Shown) → Shown
 show_node (node.Number value) = shown_as place.Unary (spaced (t.Number value) ∷ [])
 show_node (node.Text bytes) = shown_as place.Unary (spaced (t.Text bytes) ∷ [])
@@ -148,6 +157,7 @@ show_node (node.Compare left relation right) =
 show_node (node.Chain first rest) = chain first rest
 show_node (node.Read kind key word arguments) = shown_as place.Unary (operation kind (whole key) (read_name word) (map whole arguments))
 
+-- an expression, shown
 unfoldable pub shown : Expr → Shown
 shown = fold-Expr Shown Shown (Operator × Shown) show_node (λ e. e.node) (λ o. (o.operator, o.value))
 
@@ -155,6 +165,7 @@ shown = fold-Expr Shown Shown (Operator × Shown) show_node (λ e. e.node) (λ o
 abbrev pub shown_operand : Operand → Operator × Shown
 shown_operand o = ((out-Operand o).operator, shown (out-Operand o).value)
 
+-- a chain of operators, shown
 abbrev pub shown_chain : Expr → List Operand → Shown
 shown_chain first rest = chain (shown first) (map shown_operand rest)
 
@@ -172,10 +183,12 @@ ended pieces = pieces ++ closing s.Semicolon ∷ []
 abbrev pub block : List (List Piece) → List Piece
 block stmts = word s.OpenBrace ∷ (flat_map (λ pieces. pieces) stmts ++ word s.CloseBrace ∷ [])
 
+-- `else` and its block, where there is one
 abbrev pub otherwise : Option (List (List Piece)) → List Piece
 otherwise None = []
 otherwise (Some stmts) = word s.Else ∷ block stmts
 
+-- each statement from its shown parts
 abbrev pub show_stmt : StmtNode-F (List Piece) (List Piece) → List Piece
 show_stmt (stmt.Let name value) = word s.Let ∷ spaced (t.Name name) ∷ word s.Assign ∷ ended (expression value)
 show_stmt (stmt.Emit value) = word s.Emit ∷ ended (expression value)
@@ -184,11 +197,13 @@ show_stmt (stmt.If condition holds other) = word s.If ∷ (expression condition 
 show_stmt (stmt.For name texts each) = word s.For ∷ spaced (t.Name name) ∷ word s.In ∷ (expression texts ++ block each)
 show_stmt (stmt.Write kind key word arguments) = ended (operation kind (expression key) (write_name word) (map expression arguments))
 
+-- a statement, shown
 unfoldable pub shown_stmt : Stmt → List Piece
 shown_stmt = fold-Stmt (List Piece) (List Piece) show_stmt (λ x. x.node)
 
 -- ---- bodies
 
+-- a body, shown
 abbrev pub shown_body : Body → List Piece
 shown_body body = flat_map shown_stmt body.stmts
 

@@ -24,9 +24,11 @@ bare_node (open_stmt.If condition holds other) = stmt.If (bare condition) holds 
 bare_node (open_stmt.For name texts each) = stmt.For name (bare texts) each
 bare_node (open_stmt.Write kind key word arguments) = stmt.Write kind (bare key) word (map bare arguments)
 
+-- a statement with all columns 0
 unfoldable pub bare_stmt : Stmt → Stmt
 bare_stmt = fold-Stmt StmtNode Stmt bare_node (λ x. roll-Stmt (record { column = 0; node = x.node }))
 
+-- a body with all columns 0
 abbrev pub without_columns : Body → Body
 without_columns body = record { stmts = map bare_stmt body.stmts }
 

@@ -45,11 +45,13 @@ closing symbol = record { token = t.Symbol symbol; before = false; after = true 
 abbrev pub joining : Symbol → Piece
 joining symbol = record { token = t.Symbol symbol; before = false; after = false }
 
+-- a reserved word, with a space on each side
 abbrev pub word : Symbol → Piece
 word symbol = spaced (t.Symbol symbol)
 
 -- ---- the text
 
+-- a space, or none
 abbrev pub space_if : Bool → Bytes
 space_if true = 32 ∷ []
 space_if false = []
@@ -65,9 +67,11 @@ put line before bytes after = record {
 abbrev pub write : Line → Piece → Line
 write line piece = put line piece.before (printed piece.token) piece.after
 
+-- pieces, one after another
 abbrev pub written : Line → List Piece → Line
 written line pieces = fold write line pieces
 
+-- nothing written yet
 abbrev pub empty : Line
 empty = record { text = []; space = false }
 

@@ -39,6 +39,7 @@ sharded_code address versions =
 abbrev pub horizon_at : ℕ → ℕ → ℕ
 horizon_at window front = front - window
 
+-- the least number at which a shard can be read
 abbrev pub horizon : Sharded → ℕ
 horizon shard = horizon_at shard.window shard.front
 
@@ -69,6 +70,7 @@ pub record SuitsVersion (front : ℕ) (address : Address) (version : Version) : 
   pub reached : version.number ≤ front
   pub of_kind : kind_changed version.delta ≡ address.kind
 
+-- each version is numbered up to the front and of the address's kind
 abbrev pub Suits : ℕ → Address → Versioned → Type 0
 Suits front address versions = AllByRecursion (SuitsVersion front address) versions.later
 

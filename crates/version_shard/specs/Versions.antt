@@ -33,6 +33,7 @@ unversioned base = record { base = base; later = [] }
 abbrev pub value_after : Value → List Version → Value
 value_after base later = fold (λ value version. version.value) base later
 
+-- the value behind all versions
 abbrev pub latest : Versioned → Value
 latest versions = value_after versions.base versions.later
 
@@ -63,6 +64,7 @@ trimmed_from horizon base [] = record { base = base; later = [] }
 trimmed_from horizon base (version ∷ rest) =
     if nat_le version.number horizon then trimmed_from horizon version.value rest else record { base = base; later = version ∷ rest }
 
+-- what is left of versions that no read from the horizon on asks for
 abbrev pub trimmed : ℕ → Versioned → Versioned
 trimmed horizon versions = trimmed_from horizon versions.base versions.later
 
