@@ -67,13 +67,14 @@ fn halved<'a, K: Ord, V>(entries: &'a [(K, V)], key: &K) -> Option<&'a (K, V)>
     }
 }
 
-/// The pair at a key. Where there is one pair alone, its key is looked at once.
+/// The pair at a key. Where there is none, or one alone, nothing is halved.
 fn pair_at<'a, K: Ord, V>(entries: &'a [(K, V)], key: &K) -> Option<&'a (K, V)>
     requires { IsStrictlySortedBy K.cmp (keys_of entries.now) }
     ensures value { option_map (λ pair. pair.1) (option_copied result) ≡ lookup (is_at (K.cmp key.now)) entries.now }
     ensures key { IfSome result (λ pair. K.cmp key.now pair.now.0 ≡ Ordering.Equal) }
 {
     match entries {
+        [] => None,
         [only] => match key.cmp(&only.0) {
             Ordering::Equal => Some(only),
             _ => None,
