@@ -85,13 +85,23 @@ impl<T: Ord> Ord for Sequence<T> {
 /// skips what is equal in groups.
 const COMPARED_SINGLY: usize = 16;
 
+/// The order of what is left of two lists. Where one has ended, no item has to be compared.
+fn ordered_on<T: Ord>(a: &[T], b: &[T]) -> Ordering
+    ensures { result ≡ slice_cmp T.cmp a.now b.now }
+{
+    if a.is_empty() || b.is_empty() {
+        return a.len().cmp(&b.len());
+    }
+    a.cmp(&b)
+}
+
 /// The order of two lists.
 fn ordered<T: Ord>(mut a: &[T], mut b: &[T]) -> Ordering
     ensures { result ≡ slice_cmp T.cmp a.entry.now b.entry.now }
 {
     for _ in 0..COMPARED_SINGLY {
         let ([x, xs @ ..], [y, ys @ ..]) = (a, b) else {
-            return a.cmp(&b);
+            return ordered_on(a, b);
         };
         let found = x.cmp(y);
         if found.is_ne() {
