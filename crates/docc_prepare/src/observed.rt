@@ -21,6 +21,7 @@ fn base_at(snaps: &Snaps, address: &Address) -> u64
 }
 
 /// An observation with the base of its address.
+#[inline(always)]
 fn with_base(snaps: &Snaps, seen: &Seen) -> Result<Based, AllocError>
     ensures { IfOk result (λ based. based ≡ spec.with_base snaps.now seen.now) }
 {
