@@ -57,6 +57,7 @@ impl Attempt {
 
     /// The next event. The run of the body goes on from a pause, and leaves one from which it may go on. For want of memory the
     /// pause is of no use any more: nothing is said of it.
+    #[inline(always)]
     pub fn next_from(&self, alloc: Global, pause: &mut Pause) -> Result<Next, AllocError>
         requires { PausesAt self.now pause.old }
         ensures next { IfOk result (λ next. next ≡ spec.next_event self.now) }
