@@ -54,6 +54,7 @@ fn name_leaf(cursor: &mut Cursor<Spot>) -> Result<Expr, Stop>
 }
 
 /// This leaf.
+#[inline(always)]
 fn leaf_read(cursor: &mut Cursor<Spot>, leaf: Leaf) -> Result<Expr, Stop>
     ensures { Reads (spec.leaf_read leaf cursor.old) result cursor.new }
 {

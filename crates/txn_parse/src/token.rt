@@ -147,6 +147,7 @@ pub(crate) fn relation(cursor: &mut Cursor<Spot>) -> Result<(u32, Relation), OrN
 }
 
 /// Takes the word of a kind, with its column.
+#[inline(always)]
 pub(crate) fn kind(cursor: &mut Cursor<Spot>) -> Result<(u32, Kind), OrNoMemory<Refused>>
     ensures reads { Reads (read.one (spec.at (spec.of_symbol spec.kind_of)) cursor.old) result cursor.new }
     ensures refusal { OnlyRefuses result }
