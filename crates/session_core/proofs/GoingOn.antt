@@ -4,10 +4,7 @@ use Rattle.std.specs.Prelude.{IfSome}
 use Rattle.rdt_types.specs.declared.limits.TheConstants.{LEAST_SHARDS, MOST_SHARDS}
 use Rattle.txn_lang.specs.declared.run.Run.{Run}
 use Rattle.txn_lang.specs.States.{Journal}
-use Rattle.txn_lang.specs.Execution.{done}
 use Rattle.txn_lang.specs.Journals.{own}
-use Rattle.txn_lang.proofs.Few.{observations_are_few}
-use Rattle.txn_eval.specs.Running.{values_of}
 use Rattle.docc_prepare.specs.declared.attempt.Attempt.{Attempt}
 use Rattle.docc_prepare.specs.declared.attempt.Next.{Next}
 use Rattle.docc_prepare.specs.declared.attempt.Next.TheVariants as next
@@ -15,7 +12,6 @@ use Rattle.docc_prepare.specs.Attempts.{ran, next_event, Fits}
 use Rattle.docc_prepare.specs.Calls.{Known, Call}
 use Rattle.docc_prepare.specs.Backends.{CanCall}
 use Rattle.docc_prepare.specs.Stores.{HasFollowed}
-use Rattle.docc_prepare.proofs.Nexts.{appends, prepares}
 use Rattle.txn_grammar.specs.Characters.{Text}
 use Rattle.session_core.specs.declared.session.Session.{Session}
 use Rattle.session_core.specs.Lines.{line_of}
@@ -33,15 +29,11 @@ use Rattle.session_core.proofs.Talked.{attends-later}
 
 -- ---- what a line owes
 
--- a run that is done charged a tick for each observation
-few-observed : (a : Attempt) (run : Run) → ran a ≡ done run → length run.observations < 2 ^ 32
-few-observed a run is = let few = observations_are_few a.body.body (values_of a.snaps) run is in omega arith
-
 -- the next event of an attempt that holds may be made
 event-owed : (k : Known) (s : Session) (a : Attempt) (n : Next) → next_event a ≡ n → Attends k (closed s) → Holds k a → CanCall k (event_call s a n)
 event-owed k s a (next.Read address) e is h = short-need a address e
-event-owed k s a (next.Prepare shard run) e is h = can-prepare k a shard run h (some-shards a) (few-observed a run (prepares a shard run e).ran) e
-event-owed k s a (next.Append run) e is h = can-append k (closed s) a run is h (few-observed a run (appends a run e)) e
+event-owed k s a (next.Prepare shard run) e is h = can-prepare k a shard run h (some-shards a) e
+event-owed k s a (next.Append run) e is h = can-append k (closed s) a run is h e
 
 -- the call that a phase asks for may be made, by what holds at the phase
 phase-owed : (k : Known) (q : Phase) (call : Call) → PhaseHolds k q → asks q ≡ Some call → CanCall k call

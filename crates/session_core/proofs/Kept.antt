@@ -19,6 +19,8 @@ use Rattle.txn_lang.specs.declared.snaps.Snap.{Snap}
 use Rattle.txn_lang.specs.States.{Journal}
 use Rattle.txn_lang.specs.Execution.{Ran, need, done}
 use Rattle.txn_lang.specs.Journals.{own}
+use Rattle.txn_lang.proofs.Few.{observations_are_few}
+use Rattle.txn_eval.specs.Running.{values_of}
 use Rattle.journal_core.specs.declared.ready.Ready.{Ready}
 use Rattle.version_shard.specs.declared.prepared.Prepared.{Prepared}
 use Rattle.docc_prepare.specs.declared.attempt.Attempt.{Attempt}
@@ -55,22 +57,24 @@ fits-on old new a e fits = subst (λ journal. Fits journal a) (grown old new e) 
 pub some-shards : (a : Attempt) → 0 < a.shards
 some-shards a = let h = a.shards_in_range.0 in omega arith
 
+-- a run that is done charged a tick for each observation
+few-observed : (a : Attempt) (run : Run) → ran a ≡ done run → length run.observations < 2 ^ 32
+few-observed a run is = let few = observations_are_few a.body.body (values_of a.snaps) run is in omega arith
+
 -- the shard that is prepared next is one of the store's, and what was observed in it was read at bases that were given
-pub can-prepare : (k : Known) (a : Attempt) (shard : ℕ) (run : Run) → Holds k a → 0 < a.shards → length run.observations < 2 ^ 32
-    → next_event a ≡ next.Prepare shard run
+pub can-prepare : (k : Known) (a : Attempt) (shard : ℕ) (run : Run) → Holds k a → 0 < a.shards → next_event a ≡ next.Prepare shard run
     → CanPrepare k shard (in_shard a.shards shard (based a.snaps run.observations))
-can-prepare k a shard run h some few e = let p = prepares a shard run e in record {
+can-prepare k a shard run h some e = let p = prepares a shard run e in record {
   below = subst (λ (n : ℕ). shard < n) h.shards (least-below a.shards a.fronts run.observations shard some p.least);
   each = validate-here k a.shards shard (based a.snaps run.observations) (may-validate k a run h.shards h.reads p.ran);
   few = let here = few-here a.shards shard (based a.snaps run.observations) in let all : length (based a.snaps run.observations)
-      ≡ length run.observations = length-map run.observations _ in omega arith;
+      ≡ length run.observations = length-map run.observations _ in let observed = few-observed a run p.ran in omega arith;
 }
 
 -- what is handed on is the attempt's, whose bases and fronts were given, and its seq is the client's next
-pub can-append : (k : Known) (s : Session) (a : Attempt) (run : Run) → Attends k s → Holds k a → length run.observations < 2 ^ 32
-    → next_event a ≡ next.Append run
+pub can-append : (k : Known) (s : Session) (a : Attempt) (run : Run) → Attends k s → Holds k a → next_event a ≡ next.Append run
     → CanAppend k (ready_of a run s.client s.seq)
-can-append k s a run is h few e = record {
+can-append k s a run is h e = record {
   attempt = a;
   next = e;
   made = ap (λ (n : ℕ). ready_of a run n s.seq) is.client;
@@ -83,7 +87,7 @@ can-append k s a run is h few e = record {
       (subst (FrontsGiven k a) (appends a run e) h.fronts);
   each = subst (λ (n : ℕ). AllByRecursion (λ b. CanValidate k (shard_of b.address n) b) (based a.snaps run.observations)) h.shards
       (may-validate k a run h.shards h.reads (appends a run e));
-  few = let all : length (based a.snaps run.observations) ≡ length run.observations = length-map run.observations _ in omega arith;
+  few = let all : length (based a.snaps run.observations) ≡ length run.observations = length-map run.observations _ in let observed = few-observed a run (appends a run e) in omega arith;
   told = both k.journal is.counts h.told;
 }
   where

@@ -1,6 +1,6 @@
 //! One event of an attempt: the call that its next event is, and what the answer makes of it.
 
-ghost use Rattle.std.specs.Prelude.{◌≡◌, ◌<◌, ◌^◌, ℕ, length, Some, None, IfOk, IfSome, OnOk, Err};
+ghost use Rattle.std.specs.Prelude.{◌≡◌, ℕ, Some, None, IfOk, IfSome, OnOk, Err};
 ghost use Rattle.txn_lang.specs.declared.run.Run.{Run};
 ghost use Rattle.docc_prepare.specs.declared.attempt.Attempt.{Attempt};
 ghost use Rattle.docc_prepare.specs.Attempts.{in_shard, based, next_event, ready_of, with_front, KeepsPauses, Prepares};
@@ -11,7 +11,6 @@ ghost use Rattle.session_core.specs.Leading.{Turned, Makes, MakesOn, Appends, mo
 ghost use Rattle.session_core.specs.Remembering.{AreAllOf, IsRunOf, IsKnownOf, Remembers};
 
 use crate::error::SessionError;
-use crate::limits::MOST_OBSERVATIONS;
 use crate::moved::Moved;
 use crate::remembered::{Ran, Remembered};
 use crate::session::Session;
@@ -126,7 +125,7 @@ fn read_event<B: Backend>(
     after_read(attempt, address, answer)
 }
 
-/// What a run observed in a shard, with bases, where that isn't too much.
+/// What a run observed in a shard, with bases.
 fn based_here(
     alloc: Global,
     attempt: &Attempt,
@@ -134,12 +133,8 @@ fn based_here(
     shard: u8,
 ) -> Result<BasedList, SessionError>
     ensures ok { IfOk result (λ all. all ≡ in_shard attempt.now.shards shard (based attempt.now.snaps run.now.observations)) }
-    ensures few { IfOk result (λ all. length run.now.observations < 2 ^ 32) }
     ensures err { (e : SessionError) → result ≡ Err e → e ≡ SessionError.NoMemory }
 {
-    if run.observations.len() > MOST_OBSERVATIONS {
-        return Err(SessionError::NoMemory);
-    }
     match attempt.based(alloc, run, shard) {
         Ok(all) => Ok(all),
         Err(AllocError) => Err(SessionError::NoMemory),
@@ -173,7 +168,6 @@ fn prepare_event<B: Backend>(
     requires holds { Holds (B.known backend.old) attempt.old }
     requires next { next_event attempt.old ≡ Next.Prepare shard run.now }
     requires all { all.now ≡ in_shard attempt.old.shards shard (based attempt.old.snaps run.now.observations) }
-    requires few { length run.now.observations < 2 ^ 32 }
     ensures makes { Makes B.known B.goes session.now attempt.old backend.old (moved_on_prepare shard attempt.new result) backend.new }
     ensures pauses { IfOk result (λ front. OnOk front (KeepsPauses attempt.old attempt.new)) }
     ensures front { IfOk result (λ front. IfOk front (λ f. attempt.new ≡ with_front attempt.old shard f)) }
@@ -203,7 +197,7 @@ fn ready_with(
     })
 }
 
-/// What is handed to the journal, where that isn't too much. Observations with bases that are at hand aren't made again.
+/// What is handed to the journal. Observations with bases that are at hand aren't made again.
 fn readied(
     alloc: Global,
     session: &Session,
@@ -214,12 +208,8 @@ fn readied(
     requires next { next_event attempt.now ≡ Next.Append run }
     requires based { AreAllOf attempt.now run based }
     ensures ok { IfOk result (λ ready. ready ≡ ready_of attempt.now run session.now.client session.now.seq) }
-    ensures few { IfOk result (λ ready. length run.observations < 2 ^ 32) }
     ensures err { (e : SessionError) → result ≡ Err e → e ≡ SessionError.NoMemory }
 {
-    if run.observations.len() > MOST_OBSERVATIONS {
-        return Err(SessionError::NoMemory);
-    }
     let ready = match based {
         Some(all) => ready_with(session, attempt, run, all),
         None => attempt.ready(alloc, run, session.client, session.seq),

@@ -25,7 +25,7 @@ append-answer-requires g c =
     let e : c.in_ok-ready.ready ≡ ready_of c.args.attempt.now c.args.run c.args.session.now.client c.args.session.now.seq = c.in_ok-ready.ensures.ok in
     subst (CanAppend (g.B.Backend.known c.args.backend.now)) (sym e)
     (can-append (g.B.Backend.known c.args.backend.now) (closed c.args.session.now) c.args.attempt.now c.args.run c.requires.attends c.requires.holds
-    c.in_ok-ready.ensures.few c.requires.next)
+    c.requires.next)
 
 pub after_append-requires : goal.after_append-requires
 after_append-requires g c = record {

@@ -16,7 +16,7 @@ prepare-answer-requires g c =
     = c.requires.all in
     subst (CanPrepare (g.B.Backend.known c.args.backend.now) c.args.shard) (sym e)
     (can-prepare (g.B.Backend.known c.args.backend.now) c.args.attempt.now c.args.shard c.args.run.now c.requires.holds
-    (some-shards c.args.attempt.now) c.requires.few c.requires.next)
+    (some-shards c.args.attempt.now) c.requires.next)
 
 pub returns-clause-makes : goal.returns-clause-makes
 returns-clause-makes g c =
