@@ -336,29 +336,6 @@ module _ {B : Type 0} (known : B → Known) (goes : B → Call → Answer → B 
   attempt-stops s a b e x c is step left = refresh-stops known goes b (Phase.trying s left a) 0 b (Phase.trying s left a) e x c refl
       (λ f. refl) is Leads.stays step
 
-  module _ (b : B) (p : Phase) (most : ℕ) (c : B) (s : Session) (left : ℕ) (a : Attempt) (reach : Reaches known goes b p most c (Phase.trying s left a)) where
-    -- what holds at first holds of the attempt that it has come to
-    pub tried-holds : PhaseHolds (known b) p → Attends (known c) (closed s) × Holds (known c) a
-    tried-holds h = led-holds known goes b p reach.count c (Phase.trying s left a) h reach.leads
-
-    -- one attempt more, to its end
-    pub tried : (r : Reply) (last : Attempt) (d : B) (q : Phase) → after_end s left last r ≡ q → Attempts known goes s a c (Ok r) last d
-        → Reaches known goes b p (most + (MOST_EVENTS + 1)) d q
-    tried r last d q is attempts = reach-more b p (most + (MOST_EVENTS + 1)) (most + (MOST_EVENTS + 1)) d (after_end s left last r) q (omega arith) is
-        (reaches-on known goes b p reach.count c (Phase.trying s left a) (most + (MOST_EVENTS + 1)) (MOST_EVENTS + 1) d (after_end s left last r)
-        (let few = reach.few in omega arith) reach.leads (attempts left))
-
-    -- or as far as its events have come
-    pub tried-stops : (e : SessionError) (last : Attempt) (d : B) → Attempts known goes s a c (Err e) last d → Stops known goes b p e d
-    tried-stops e last d attempts = stops-on known goes b p reach.count c (Phase.trying s left a) e d reach.leads (attempts left)
-
-    -- where none may follow, what the attempt comes to is what they come to
-    pub tried-last : (result : Result Reply SessionError) (last : Attempt) (d : B) → left ≡ 0 → most + (MOST_EVENTS + 1) ≤ MOST_CALLS
-        → Attempts known goes s a c result last d → Closes known goes s b p result d
-    tried-last (Ok r) last d none few attempts = reach-more b p (most + (MOST_EVENTS + 1)) MOST_CALLS d (Phase.over (ended s r) (said r))
-        (Phase.over (ended s r) (said r)) few refl (tried r last d (Phase.over (ended s r) (said r)) (shown-last s left last r none) attempts)
-    tried-last (Err e) last d none few attempts = tried-stops e last d attempts
-
   -- what holds of an attempt holds after a refresh
   pub refreshed : (b c : B) (s : Session) (a : Attempt) (n : ℕ) → Attends (known b) (closed s) → Holds (known b) a
       → Goes known goes b refresh (Answer.number n) c
@@ -415,3 +392,28 @@ placed-one (x ∷ y ∷ rest) r e = absurd (let h = e in omega arith)
 pub none-else : (o : Option Reply) → ((r : Reply) → o ≡ Some r → ⊥) → o ≡ None
 none-else None h = refl
 none-else (Some r) h = absurd (h r refl)
+
+-- attempts one after another, by what has come to one of them
+module _ {B : Type 0} {known : B → Known} {goes : B → Call → Answer → B → Type 0} {b : B} {p : Phase} {most : ℕ} {c : B} {s : Session} {left : ℕ} {a : Attempt}
+    (reach : Reaches known goes b p most c (Phase.trying s left a)) where
+  -- what holds at first holds of the attempt that it has come to
+  pub tried-holds : PhaseHolds (known b) p → Attends (known c) (closed s) × Holds (known c) a
+  tried-holds h = led-holds known goes b p reach.count c (Phase.trying s left a) h reach.leads
+
+  -- one attempt more, to its end
+  pub tried : (r : Reply) (last : Attempt) (d : B) (q : Phase) → after_end s left last r ≡ q → Attempts known goes s a c (Ok r) last d
+      → Reaches known goes b p (most + (MOST_EVENTS + 1)) d q
+  tried r last d q is attempts = reach-more known goes b p (most + (MOST_EVENTS + 1)) (most + (MOST_EVENTS + 1)) d (after_end s left last r) q (omega arith) is
+      (reaches-on known goes b p reach.count c (Phase.trying s left a) (most + (MOST_EVENTS + 1)) (MOST_EVENTS + 1) d (after_end s left last r)
+      (let few = reach.few in omega arith) reach.leads (attempts left))
+
+  -- or as far as its events have come
+  pub tried-stops : (e : SessionError) (last : Attempt) (d : B) → Attempts known goes s a c (Err e) last d → Stops known goes b p e d
+  tried-stops e last d attempts = stops-on known goes b p reach.count c (Phase.trying s left a) e d reach.leads (attempts left)
+
+  -- where none may follow, what the attempt comes to is what they come to
+  pub tried-last : (result : Result Reply SessionError) (last : Attempt) (d : B) → left ≡ 0 → most + (MOST_EVENTS + 1) ≤ MOST_CALLS
+      → Attempts known goes s a c result last d → Closes known goes s b p result d
+  tried-last (Ok r) last d none few attempts = reach-more known goes b p (most + (MOST_EVENTS + 1)) MOST_CALLS d (Phase.over (ended s r) (said r))
+      (Phase.over (ended s r) (said r)) few refl (tried r last d (Phase.over (ended s r) (said r)) (shown-last s left last r none) attempts)
+  tried-last (Err e) last d none few attempts = tried-stops e last d attempts

@@ -15,25 +15,17 @@ loop-init g c = record {
 }
 
 pub attempt_once-requires-clause-attends : goal.attempt_once-requires-clause-attends
-attempt_once-requires-clause-attends g c = (tried-holds g.B.Backend.known g.B.Backend.goes c.args.backend.now
-    (Phase.trying c.args.session.now (c.args.tries - 1) c.args.attempt)
-    ((c.loop.counter - 1) * 10021) c.loop.backend c.args.session.now (c.args.tries - c.loop.counter) c.loop.attempt c.loop.invariant.reach
-    (c.requires.attends, c.requires.holds)).0
+attempt_once-requires-clause-attends g c = (tried-holds c.loop.invariant.reach (c.requires.attends, c.requires.holds)).0
 
 pub attempt_once-requires-clause-holds : goal.attempt_once-requires-clause-holds
-attempt_once-requires-clause-holds g c = (tried-holds g.B.Backend.known g.B.Backend.goes c.args.backend.now
-    (Phase.trying c.args.session.now (c.args.tries - 1) c.args.attempt)
-    ((c.loop.counter - 1) * 10021) c.loop.backend c.args.session.now (c.args.tries - c.loop.counter) c.loop.attempt c.loop.invariant.reach
-    (c.requires.attends, c.requires.holds)).1
+attempt_once-requires-clause-holds g c = (tried-holds c.loop.invariant.reach (c.requires.attends, c.requires.holds)).1
 
 pub returns-in_err-reply-clause-closes : goal.returns-in_err-reply-clause-closes
 returns-in_err-reply-clause-closes g c =
     let p = err_from_is_err_and c.from_residual.result c.from_residual.ensures.1 in
     closes-err g.B.Backend.known g.B.Backend.goes c.args.session.now c.args.backend.now
     (Phase.trying c.args.session.now (c.args.tries - 1) c.args.attempt) c.from_residual.result p.0 c.attempt_once.new.backend p.1
-    (tried-stops g.B.Backend.known g.B.Backend.goes c.args.backend.now (Phase.trying c.args.session.now (c.args.tries - 1) c.args.attempt)
-    ((c.loop.counter - 1) * 10021) c.loop.backend c.args.session.now (c.args.tries - c.loop.counter) c.loop.attempt c.loop.invariant.reach
-    p.0 c.attempt_once.new.attempt c.attempt_once.new.backend
+    (tried-stops c.loop.invariant.reach p.0 c.attempt_once.new.attempt c.attempt_once.new.backend
     (subst (λ (e : SessionError). Attempts g.B.Backend.known g.B.Backend.goes c.args.session.now c.loop.attempt c.loop.backend (Err e)
     c.attempt_once.new.attempt c.attempt_once.new.backend) (sym p.2) c.in_err-reply.ensures.attempts))
 
@@ -46,9 +38,7 @@ returns-in-Some-clause-closes g c =
     reach-more g.B.Backend.known g.B.Backend.goes c.args.backend.now (Phase.trying c.args.session.now (c.args.tries - 1) c.args.attempt)
     ((c.loop.counter - 1) * 10021 + 10021) MOST_CALLS c.attempt_once.new.backend (followed_by c.args.session.now left last (Some c.in-Some.shown))
     (followed_by c.args.session.now left last (Some c.in-Some.shown)) (omega (arith, few)) refl
-    (tried g.B.Backend.known g.B.Backend.goes c.args.backend.now (Phase.trying c.args.session.now (c.args.tries - 1) c.args.attempt)
-    ((c.loop.counter - 1) * 10021) c.loop.backend c.args.session.now (c.args.tries - c.loop.counter) c.loop.attempt c.loop.invariant.reach
-    c.in_ok-reply.reply last c.attempt_once.new.backend (followed_by c.args.session.now left last (Some c.in-Some.shown)) is c.in_ok-reply.ensures.attempts)
+    (tried c.loop.invariant.reach c.in_ok-reply.reply last c.attempt_once.new.backend (followed_by c.args.session.now left last (Some c.in-Some.shown)) is c.in_ok-reply.ensures.attempts)
 
 pub loop-preserved : goal.loop-preserved
 loop-preserved g c =
@@ -63,27 +53,17 @@ loop-preserved g c =
       few = omega arith;
       reach = subst (λ (n : ℕ). Reaches g.B.Backend.known g.B.Backend.goes c.args.backend.now
           (Phase.trying c.args.session.now (c.args.tries - 1) c.args.attempt) n c.attempt_once.new.backend next) (omega (arith, up))
-          (tried g.B.Backend.known g.B.Backend.goes c.args.backend.now (Phase.trying c.args.session.now (c.args.tries - 1) c.args.attempt)
-          ((c.loop.counter - 1) * 10021) c.loop.backend c.args.session.now (c.args.tries - c.loop.counter) c.loop.attempt c.loop.invariant.reach
-          c.in_ok-reply.reply last c.attempt_once.new.backend next is c.in_ok-reply.ensures.attempts);
+          (tried c.loop.invariant.reach c.in_ok-reply.reply last c.attempt_once.new.backend next is c.in_ok-reply.ensures.attempts);
       home = c.attempt_once.ensures.home ∙ c.loop.invariant.home;
     }
 
 pub attempt_once-requires-2-clause-attends : goal.attempt_once-requires-2-clause-attends
-attempt_once-requires-2-clause-attends g c = (tried-holds g.B.Backend.known g.B.Backend.goes c.args.backend.now
-    (Phase.trying c.args.session.now (c.args.tries - 1) c.args.attempt)
-    ((c.loop.counter - 1) * 10021) c.loop.backend c.args.session.now (c.args.tries - c.loop.counter) c.loop.attempt c.loop.invariant.reach
-    (c.requires.attends, c.requires.holds)).0
+attempt_once-requires-2-clause-attends g c = (tried-holds c.loop.invariant.reach (c.requires.attends, c.requires.holds)).0
 
 pub attempt_once-requires-2-clause-holds : goal.attempt_once-requires-2-clause-holds
-attempt_once-requires-2-clause-holds g c = (tried-holds g.B.Backend.known g.B.Backend.goes c.args.backend.now
-    (Phase.trying c.args.session.now (c.args.tries - 1) c.args.attempt)
-    ((c.loop.counter - 1) * 10021) c.loop.backend c.args.session.now (c.args.tries - c.loop.counter) c.loop.attempt c.loop.invariant.reach
-    (c.requires.attends, c.requires.holds)).1
+attempt_once-requires-2-clause-holds g c = (tried-holds c.loop.invariant.reach (c.requires.attends, c.requires.holds)).1
 
 pub returns-clause-closes : goal.returns-clause-closes
 returns-clause-closes g c =
     let few = c.loop.invariant.few in
-    tried-last g.B.Backend.known g.B.Backend.goes c.args.backend.now (Phase.trying c.args.session.now (c.args.tries - 1) c.args.attempt)
-    ((c.loop.counter - 1) * 10021) c.loop.backend c.args.session.now (c.args.tries - c.loop.counter) c.loop.attempt c.loop.invariant.reach
-    c.attempt_once-2.result c.attempt_once-2.new.attempt c.attempt_once-2.new.backend (omega arith) (omega (arith, few)) c.attempt_once-2.ensures.attempts
+    tried-last c.loop.invariant.reach c.attempt_once-2.result c.attempt_once-2.new.attempt c.attempt_once-2.new.backend (omega arith) (omega (arith, few)) c.attempt_once-2.ensures.attempts
