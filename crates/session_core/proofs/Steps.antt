@@ -1,5 +1,5 @@
 -- Steps put together.
-use Rattle.std.proofs.Common.{◌≡◌, ℕ, zero, suc, ◌+◌, ◌-◌, ◌≤◌, ◌<◌, Bool, true, false, cond, List, [], ◌∷◌, length, set, Option}
+use Rattle.std.proofs.Common.{◌≡◌, ℕ, zero, suc, ◌+◌, ◌-◌, ◌≤◌, ◌<◌, Bool, true, false, cond, [], Option}
 use Rattle.std.proofs.Common.{Some, None, Result, Ok, Err, refl, sym, ap, ◌∙◌, subst, arith}
 use Rattle.std.specs.Prelude.{nat_lt}
 use Rattle.std.proofs.lemmas.Bool.Decides.{nat_tests}
@@ -381,12 +381,6 @@ module _ {B : Type 0} (known : B → Known) (goes : B → Call → Answer → B 
     leads = one-led (Goes known goes) b c (Phase.beginning s a)
         (Phase.over (with_attempt s (Some a)) (said (reply.Seen n))) refresh (Answer.number n) refl step refl;
   }
-
--- a reply in the place of another
-pub placed-one : (place : List Reply) (r : Reply) → length place ≡ 1 → set place 0 r ≡ r ∷ []
-placed-one [] r e = absurd (cc)
-placed-one (x ∷ []) r e = refl
-placed-one (x ∷ y ∷ rest) r e = absurd (let h = e in omega arith)
 
 -- an option in which no reply stands is none: by cases
 pub none-else : (o : Option Reply) → ((r : Reply) → o ≡ Some r → ⊥) → o ≡ None

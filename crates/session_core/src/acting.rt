@@ -1,6 +1,6 @@
 //! What a line does.
 
-ghost use Rattle.std.specs.Prelude.{◌≡◌, ◌≤◌, ◌<◌, ◌-◌, ◌^◌, length, ◌∷◌, [], IfOk};
+ghost use Rattle.std.specs.Prelude.{◌≡◌, ◌≤◌, ◌<◌, ◌-◌, ◌^◌, length, ◌∷◌, [], IfOk, vec_len, vec_capacity};
 ghost use Rattle.session_core.specs.Lines.{line_of};
 ghost use Rattle.session_core.specs.Phases.{start, synced};
 ghost use Rattle.session_core.specs.Holding.{Attends, BodyIsReady};
@@ -21,28 +21,31 @@ use docc_prepare::Backend;
 use session_text::Reply;
 use std::alloc::{AllocError, Global};
 
-/// Memory for one reply, which stands in its place.
-fn place(alloc: Global) -> Result<ReplyList, AllocError>
-    ensures { IfOk result (λ place. length place ≡ 1) }
+/// Memory for one reply.
+fn place(alloc: Global) -> Result<Vec<Reply>, AllocError>
+    ensures none { IfOk result (λ place. place.items ≡ []) }
+    ensures room { IfOk result (λ place. vec_len place < vec_capacity place) }
 {
-    let mut place = ReplyList::new(alloc);
-    place.push(Reply::Idle)?;
-    Ok(place)
+    Vec::with_capacity(alloc, 1)
 }
 
 /// One reply, in the memory that was taken for it.
-fn placed(place: ReplyList, reply: Reply) -> ReplyList
-    requires { length place ≡ 1 }
+#[inline(always)]
+fn placed(place: Vec<Reply>, reply: Reply) -> ReplyList
+    requires none { place.items ≡ [] }
+    requires room { vec_len place < vec_capacity place }
     ensures { result ≡ reply ∷ [] }
 {
     let mut place = place;
-    place.set(0, reply);
-    place
+    let _ = place.push(reply);
+    ReplyList::from_vec(place)
 }
 
 /// The turn of a line with one reply.
-fn said(place: ReplyList, reply: Result<Reply, SessionError>) -> Result<Turn, SessionError>
-    requires { length place ≡ 1 }
+#[inline(always)]
+fn said(place: Vec<Reply>, reply: Result<Reply, SessionError>) -> Result<Turn, SessionError>
+    requires none { place.items ≡ [] }
+    requires room { vec_len place < vec_capacity place }
     ensures { result ≡ turn_of reply }
 {
     match reply {
