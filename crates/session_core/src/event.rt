@@ -24,6 +24,7 @@ use txn_lang::{Run, Snap};
 use version_shard::Prepared;
 
 /// What an answered read makes of an attempt, and the front at which the value was read.
+#[inline(always)]
 fn after_read(
     attempt: &mut Attempt,
     address: Address,
@@ -76,6 +77,7 @@ fn after_prepare(
 }
 
 /// The reply with which an attempt ends at an answered append.
+#[inline(always)]
 fn after_append(
     attempt: &Attempt,
     outcome: Outcome,
@@ -108,6 +110,7 @@ fn copied(address: &Address) -> Result<Address, SessionError>
 }
 
 /// Reads the value that an attempt needs, and answers the front at which it was read.
+#[inline(always)]
 fn read_event<B: Backend>(
     backend: &mut B,
     session: &Session,
@@ -126,6 +129,7 @@ fn read_event<B: Backend>(
 }
 
 /// What a run observed in a shard, with bases.
+#[inline(always)]
 fn based_here(
     alloc: Global,
     attempt: &Attempt,
@@ -178,6 +182,7 @@ fn prepare_event<B: Backend>(
 }
 
 /// What is handed to the journal, where the observations with bases are at hand.
+#[inline(always)]
 fn ready_with(
     session: &Session,
     attempt: &Attempt,
@@ -198,6 +203,7 @@ fn ready_with(
 }
 
 /// What is handed to the journal. Observations with bases that are at hand aren't made again.
+#[inline(always)]
 fn readied(
     alloc: Global,
     session: &Session,
@@ -221,6 +227,7 @@ fn readied(
 }
 
 /// Hands an attempt to the journal, and answers the reply with which it ends.
+#[inline(always)]
 fn append_event<B: Backend>(
     alloc: Global,
     backend: &mut B,
@@ -243,6 +250,7 @@ fn append_event<B: Backend>(
 }
 
 /// The next event of an attempt whose run is known, and what that observed with bases, where it is at hand. The append is next then.
+#[inline(always)]
 fn next_known(attempt: &Attempt, ran: Ran) -> (Next, Option<BasedList>)
     requires { IsRunOf attempt.now ran }
     ensures next { result.0 ≡ next_event attempt.now }
@@ -258,6 +266,7 @@ fn next_known(attempt: &Attempt, ran: Ran) -> (Next, Option<BasedList>)
 
 /// The next event of an attempt, by what is known of its run, and what that observed with bases, where it is at hand. A run that
 /// is known is taken.
+#[inline(always)]
 fn next_of(
     alloc: Global,
     attempt: &Attempt,
