@@ -57,9 +57,11 @@ fits-on old new a e fits = subst (λ journal. Fits journal a) (grown old new e) 
 pub some-shards : (a : Attempt) → 0 < a.shards
 some-shards a = let h = a.shards_in_range.0 in omega arith
 
--- a run that is done charged a tick for each observation
-few-observed : (a : Attempt) (run : Run) → ran a ≡ done run → length run.observations < 2 ^ 32
-few-observed a run is = let few = observations_are_few a.body.body (values_of a.snaps) run is in omega arith
+-- a run that is done charged a tick for each observation, so their places are few
+based-few : (a : Attempt) (run : Run) → ran a ≡ done run → length (based a.snaps run.observations) < 2 ^ 32
+based-few a run is =
+    let few = observations_are_few a.body.body (values_of a.snaps) run is in
+    let all : length (based a.snaps run.observations) ≡ length run.observations = length-map run.observations _ in omega arith
 
 -- the shard that is prepared next is one of the store's, and what was observed in it was read at bases that were given
 pub can-prepare : (k : Known) (a : Attempt) (shard : ℕ) (run : Run) → Holds k a → 0 < a.shards → next_event a ≡ next.Prepare shard run
@@ -67,8 +69,8 @@ pub can-prepare : (k : Known) (a : Attempt) (shard : ℕ) (run : Run) → Holds 
 can-prepare k a shard run h some e = let p = prepares a shard run e in record {
   below = subst (λ (n : ℕ). shard < n) h.shards (least-below a.shards a.fronts run.observations shard some p.least);
   each = validate-here k a.shards shard (based a.snaps run.observations) (may-validate k a run h.shards h.reads p.ran);
-  few = let here = few-here a.shards shard (based a.snaps run.observations) in let all : length (based a.snaps run.observations)
-      ≡ length run.observations = length-map run.observations _ in let observed = few-observed a run p.ran in omega arith;
+  few = (let here = few-here a.shards shard (based a.snaps run.observations) in let all = based-few a run p.ran in
+      let few : length (in_shard a.shards shard (based a.snaps run.observations)) < 2 ^ 32 = omega arith in few);
 }
 
 -- what is handed on is the attempt's, whose bases and fronts were given, and its seq is the client's next
@@ -87,7 +89,7 @@ can-append k s a run is h e = record {
       (subst (FrontsGiven k a) (appends a run e) h.fronts);
   each = subst (λ (n : ℕ). AllByRecursion (λ b. CanValidate k (shard_of b.address n) b) (based a.snaps run.observations)) h.shards
       (may-validate k a run h.shards h.reads (appends a run e));
-  few = let all : length (based a.snaps run.observations) ≡ length run.observations = length-map run.observations _ in let observed = few-observed a run (appends a run e) in omega arith;
+  few = based-few a run (appends a run e);
   told = both k.journal is.counts h.told;
 }
   where
