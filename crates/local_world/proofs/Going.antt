@@ -17,7 +17,8 @@ use Rattle.journal_core.specs.declared.ready.Ready.{Ready}
 use Rattle.reactive_registry.specs.Registered.{Registered, is_subscribed}
 use Rattle.docc_prepare.specs.Calls.{Call, Answer}
 use Rattle.docc_prepare.specs.Backends.{CanCall}
-use Rattle.docc_prepare.specs.Stores.{Store, CLIENTS, saw, moved, telling, validated, prepare_at, decided, append_to}
+use Rattle.docc_prepare.specs.declared.limits.TheConstants.{CLIENTS}
+use Rattle.docc_prepare.specs.Stores.{Store, saw, moved, telling, validated, prepare_at, decided, append_to}
 use Rattle.docc_prepare.specs.Stores.{feed_for, step, HasStalled, Does, IsSound, known_by}
 use Rattle.docc_prepare.proofs.Answered.{steps_are_answered}
 use Rattle.local_world.specs.Stored.{Stored, taken_by, store_of}

@@ -16,7 +16,8 @@ use Rattle.journal_core.specs.Journals.{Standing}
 use Rattle.version_shard.specs.Shards.{Sharded}
 use Rattle.reactive_registry.specs.Registered.{Kept, Registered, entered, is_address, is_subscribed}
 use Rattle.reactive_registry.specs.Standing.{KeptFor}
-use Rattle.docc_prepare.specs.Stores.{Store, CLIENTS, first_store, IsSound}
+use Rattle.docc_prepare.specs.declared.limits.TheConstants.{CLIENTS}
+use Rattle.docc_prepare.specs.Stores.{Store, first_store, IsSound}
 use Rattle.docc_prepare.proofs.Stored.{first_store_is_sound}
 use Rattle.local_world.specs.Stored.{taken_by, store_of}
 use Rattle.local_world.specs.Standing.{IsHeld, AreHeldTo, AreHeld, IsFollowing, IsKept, fronts_of, stored}

@@ -38,7 +38,7 @@ use Rattle.reactive_registry.proofs.Pairs.{same_number}
 use Rattle.reactive_registry.proofs.Standing.{deltas-chosen, takes_stand}
 use Rattle.reactive_registry.proofs.GoingOn.{subscribes_stand, unsubscribes_stand}
 use Rattle.reactive_registry.proofs.Clients.{one_stands, all_stand}
-use Rattle.docc_prepare.specs.Stores.{CLIENTS}
+use Rattle.docc_prepare.specs.declared.limits.TheConstants.{CLIENTS}
 use Rattle.local_world.specs.Stored.{taken_by}
 use Rattle.local_world.specs.Standing.{IsFollowing, IsFedBy}
 use Rattle.local_world.proofs.SamePairs.{same_pairs}

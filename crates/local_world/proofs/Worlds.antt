@@ -31,7 +31,8 @@ use Rattle.docc_prepare.proofs.Each.{each-more}
 use Rattle.docc_prepare.proofs.Growing.{legal_is_orderly}
 use Rattle.docc_prepare.proofs.Stored.{IsOf, one-kinds, found-is, stalled-sound, followed-sound}
 use Rattle.docc_prepare.proofs.Nexts.{appends}
-use Rattle.docc_prepare.specs.Stores.{Store, CLIENTS, least_base, late_base, validated, decided, telling, followed, HasStalled, Does, IsSound, known_by}
+use Rattle.docc_prepare.specs.declared.limits.TheConstants.{CLIENTS}
+use Rattle.docc_prepare.specs.Stores.{Store, least_base, late_base, validated, decided, telling, followed, HasStalled, Does, IsSound, known_by}
 use Rattle.local_world.specs.Stored.{Stored, taken_by, store_of}
 use Rattle.local_world.specs.Standing.{IsHeld, AreHeld, HaveRisen, IsFollowing, IsFedBy, IsKept, fronts_of, stored}
 use Rattle.local_world.specs.Answering.{GoesBy, back_at}

@@ -13,7 +13,8 @@ use Rattle.version_shard.specs.Standing.{Holds}
 use Rattle.change_feed.specs.Feeds.{Fed}
 use Rattle.reactive_registry.specs.Registered.{Registered, kept_of, is_subscribed}
 use Rattle.reactive_registry.specs.Standing.{StandsFor}
-use Rattle.docc_prepare.specs.Stores.{CLIENTS, IsSound, feed_for}
+use Rattle.docc_prepare.specs.declared.limits.TheConstants.{CLIENTS}
+use Rattle.docc_prepare.specs.Stores.{IsSound, feed_for}
 use Rattle.local_world.specs.Stored.{Stored, store_of}
 
 -- A shard has its number and the settings, and holds the journal's commits up to its front.

@@ -4,7 +4,7 @@ ghost use Rattle.std.specs.Prelude.{◌≡◌, ℕ, ◌<◌, ◌≤◌, Some, �
 ghost use Rattle.rdt_types.specs.declared.address.Address.{Address};
 ghost use Rattle.txn_lang.specs.Journals.{IsLegal};
 ghost use Rattle.reactive_registry.specs.Registered.{Kept, kept_of, is_subscribed};
-ghost use Rattle.docc_prepare.specs.Stores.{CLIENTS};
+ghost use Rattle.docc_prepare.specs.declared.limits.TheConstants.{CLIENTS};
 ghost use Rattle.local_world.specs.Stored.{taken_by};
 ghost use Rattle.local_world.specs.Standing.{IsFollowing, IsFedBy, with_told};
 

@@ -1,7 +1,7 @@
 //! One client's view of a world: a backend whose calls go by the step of the store.
 
 ghost use Rattle.std.specs.Prelude.{◌<◌};
-ghost use Rattle.docc_prepare.specs.Stores.{CLIENTS};
+ghost use Rattle.docc_prepare.specs.declared.limits.TheConstants.{CLIENTS};
 
 use crate::world::World;
 use abort_witness::BasedList;

@@ -5,7 +5,8 @@ ghost use Rattle.rdt_types.specs.declared.limits.TheConstants.{LEAST_SHARDS, MOS
 ghost use Rattle.txn_lang.specs.Short.{IsShortAddress};
 ghost use Rattle.docc_prepare.specs.Calls.{Call, Answer, number_answered, snap_answered, front_answered, commit_answered, value_answered, done_answered, feed_answered};
 ghost use Rattle.docc_prepare.specs.Backends.{CanPrepare, CanAppend};
-ghost use Rattle.docc_prepare.specs.Stores.{CLIENTS, IsSound, first_store, followed, seen_by, known_by, HasStalled};
+ghost use Rattle.docc_prepare.specs.declared.limits.TheConstants.{CLIENTS};
+ghost use Rattle.docc_prepare.specs.Stores.{IsSound, first_store, followed, seen_by, known_by, HasStalled};
 ghost use Rattle.local_world.specs.Stored.{store_of};
 ghost use Rattle.local_world.specs.Answering.{GoesBy};
 

@@ -19,7 +19,8 @@ use Rattle.client_watches.specs.Standing.{CanRead}
 use Rattle.client_watches.proofs.Lined.{beginnings_attend}
 use Rattle.session_core.proofs.Grown.{prefix-whole}
 use Rattle.session_core.proofs.Minding.{none-keeps, none-minds}
-use Rattle.docc_prepare.specs.Stores.{Store, CLIENTS, IsSound, known_by, first_store, followed}
+use Rattle.docc_prepare.specs.declared.limits.TheConstants.{CLIENTS}
+use Rattle.docc_prepare.specs.Stores.{Store, IsSound, known_by, first_store, followed}
 use Rattle.docc_prepare.proofs.Stored.{first_store_is_sound}
 use Rattle.docc_prepare.proofs.Elsewhere.{shards_follow}
 use Rattle.session_core.specs.declared.line.Line.{Line as Asked}

@@ -9,7 +9,8 @@ use Rattle.docc_prepare.specs.declared.attempt.Next.TheVariants as next
 use Rattle.docc_prepare.specs.Attempts.{next_event}
 use Rattle.docc_prepare.specs.Calls.{Known, Call, Answer}
 use Rattle.docc_prepare.specs.Backends.{CanCall, IsAnswered}
-use Rattle.docc_prepare.specs.Stores.{Store, CLIENTS, seen_by, step, IsSound, known_by}
+use Rattle.docc_prepare.specs.declared.limits.TheConstants.{CLIENTS}
+use Rattle.docc_prepare.specs.Stores.{Store, seen_by, step, IsSound, known_by}
 use Rattle.docc_prepare.proofs.StepDoes.{steps_may_be_done}
 use Rattle.docc_prepare.proofs.Answered.{steps_are_answered}
 use Rattle.docc_prepare.proofs.Elsewhere.{steps_leave_others}

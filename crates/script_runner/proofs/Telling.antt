@@ -20,7 +20,8 @@ use Rattle.docc_prepare.specs.declared.attempt.Attempt.{Attempt}
 use Rattle.docc_prepare.specs.Attempts.{SnapList}
 use Rattle.docc_prepare.specs.Calls.{Known}
 use Rattle.docc_prepare.specs.Backends.{IsPrefix, IsAnswered}
-use Rattle.docc_prepare.specs.Stores.{Store, CLIENTS, IsSound, known_by, seen_by}
+use Rattle.docc_prepare.specs.declared.limits.TheConstants.{CLIENTS}
+use Rattle.docc_prepare.specs.Stores.{Store, IsSound, known_by, seen_by}
 use Rattle.docc_prepare.proofs.Elsewhere.{shards_follow}
 use Rattle.session_core.specs.declared.line.Line.{Line as Asked}
 use Rattle.session_core.specs.declared.session.Session.{Session}

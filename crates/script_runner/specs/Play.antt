@@ -16,7 +16,8 @@ use Rattle.session_text.specs.declared.reply.Why.{Why}
 use Rattle.session_text.specs.declared.reply.Why.TheVariants as why
 use Rattle.session_text.specs.Printing.{printed_reply}
 use Rattle.txn_grammar.specs.Characters.{Text}
-use Rattle.docc_prepare.specs.Stores.{Store, CLIENTS, first_store, followed}
+use Rattle.docc_prepare.specs.declared.limits.TheConstants.{CLIENTS}
+use Rattle.docc_prepare.specs.Stores.{Store, first_store, followed}
 use Rattle.client_watches.specs.Watching.{none_yet}
 use Rattle.session_core.specs.declared.session.Session.{Session}
 use Rattle.session_core.specs.declared.turn.Turn.{Turn}

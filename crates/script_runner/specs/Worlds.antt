@@ -2,7 +2,8 @@
 use Rattle.std.specs.Prelude.{◌≡◌, ℕ, ◌+◌, length, IfSome, refl}
 use Rattle.rdt_types.specs.declared.settings.Settings.{Settings}
 use Rattle.txn_grammar.specs.Characters.{Text}
-use Rattle.docc_prepare.specs.Stores.{CLIENTS, IsSound, known_by}
+use Rattle.docc_prepare.specs.declared.limits.TheConstants.{CLIENTS}
+use Rattle.docc_prepare.specs.Stores.{IsSound, known_by}
 use Rattle.local_world.specs.Stored.{store_of}
 use Rattle.session_core.specs.Holding.{Attends}
 use Rattle.script_runner.specs.declared.words.TheConstants.{LAST_CLIENT}

@@ -1,7 +1,7 @@
 //! What a script has: the world of one thread, and a session for each client.
 
 ghost use Rattle.std.specs.Prelude.{◌≡◌, IfOk};
-ghost use Rattle.docc_prepare.specs.Stores.{CLIENTS};
+ghost use Rattle.docc_prepare.specs.declared.limits.TheConstants.{CLIENTS};
 ghost use Rattle.script_runner.specs.Play as spec;
 ghost use Rattle.script_runner.specs.Worlds.{world_of, Stands};
 
