@@ -14,6 +14,3 @@ pub use finding::{first_clash, least, lesser};
 pub use laws::least_is_least;
 pub use naming::{name, name_delta};
 pub use witness::{Based, BasedList, Found, FoundList, Witness, WitnessList};
-
-#[cfg(test)]
-mod tests;

@@ -16,6 +16,3 @@ pub use change::{Change, ChangeList};
 pub use feed::Feed;
 pub use laws::{feeds_join, feeds_keep_pending, pending_joins};
 pub use tail::Tail;
-
-#[cfg(test)]
-mod tests;

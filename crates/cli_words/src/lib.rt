@@ -20,6 +20,3 @@ pub use name::{CommandName, OptionName};
 pub use plan::Plan;
 pub use reading::{laws_of_words, read_words};
 pub use refusal::{BadWords, Missing, Why, WordsError};
-
-#[cfg(test)]
-mod tests;

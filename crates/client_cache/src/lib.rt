@@ -10,6 +10,3 @@ mod laws;
 
 pub use cache::Cache;
 pub use laws::{caches_follow, pending_applies_in_turn};
-
-#[cfg(test)]
-mod tests;

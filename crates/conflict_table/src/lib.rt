@@ -29,6 +29,3 @@ pub use observing::{counter_in, has_element, observe};
 pub use read::ReadOp;
 pub use steps::Steps;
 pub use table::clash;
-
-#[cfg(test)]
-mod tests;

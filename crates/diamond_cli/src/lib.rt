@@ -12,34 +12,3 @@ mod top;
 pub use script_runner::{NO_MEMORY, WRITE_FAULT};
 pub use serve::LISTENER_FAULT;
 pub use top::{BAD_WORDS, diamond};
-
-#[cfg(test)]
-mod attempts;
-#[cfg(test)]
-mod crowd;
-#[cfg(test)]
-mod language;
-#[cfg(test)]
-mod looks;
-#[cfg(test)]
-mod order;
-#[cfg(test)]
-mod refusals;
-#[cfg(test)]
-mod rows;
-#[cfg(test)]
-mod schedules;
-#[cfg(test)]
-mod serving;
-#[cfg(test)]
-mod sizes;
-#[cfg(test)]
-mod tests;
-#[cfg(test)]
-mod verbs;
-#[cfg(test)]
-mod watches;
-#[cfg(test)]
-mod windows;
-#[cfg(test)]
-mod witnesses;

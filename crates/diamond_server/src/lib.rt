@@ -19,24 +19,3 @@ mod status;
 pub use serving::serve_session;
 pub use serving_all::{Tally, serve_all};
 pub use status::{NO_CLIENT, STORE_FAULT};
-
-#[cfg(test)]
-mod all_served;
-#[cfg(test)]
-mod meeting;
-#[cfg(test)]
-mod mixed;
-#[cfg(test)]
-mod replay;
-#[cfg(test)]
-mod rival;
-#[cfg(test)]
-mod served_links;
-#[cfg(test)]
-mod talker;
-#[cfg(test)]
-mod tries;
-#[cfg(test)]
-mod two_threads;
-#[cfg(test)]
-mod watched;

@@ -29,6 +29,3 @@ pub use opening::open;
 pub use pass::Pass;
 pub use served::Served;
 pub use store::Store;
-
-#[cfg(test)]
-mod tests;

@@ -29,6 +29,3 @@ pub use store_laws::{
     steps_leave_others, steps_may_be_done, witness_is_named,
 };
 pub use waiter::Waiter;
-
-#[cfg(test)]
-mod tests;

@@ -36,6 +36,3 @@ pub use print::{
 pub use read::{finish, read_address, read_item, read_outcome, read_part, read_text};
 pub use text::next_text;
 pub use value::next_address;
-
-#[cfg(test)]
-mod tests;

@@ -31,6 +31,3 @@ pub use lent::LentTail;
 pub use limits::{FIRST_UNTOLD_CLIENT, LONGEST_BODY};
 pub use ready::{FrontList, PreparedFront, Ready};
 pub use slot::Slot;
-
-#[cfg(test)]
-mod tests;

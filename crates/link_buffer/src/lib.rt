@@ -9,6 +9,3 @@ mod listening;
 
 pub use link::{BufferedLink, READ_AHEAD};
 pub use listening::BufferedListening;
-
-#[cfg(test)]
-mod tests;

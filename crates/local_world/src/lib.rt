@@ -16,6 +16,3 @@ mod world;
 
 pub use view::View;
 pub use world::World;
-
-#[cfg(test)]
-mod tests;

@@ -20,6 +20,3 @@ pub use ordered_map::OrderedMap;
 pub use overlay::Marking;
 pub use sequence::{Sequence, Text};
 pub use text_map::{TextMap, TextSet};
-
-#[cfg(test)]
-mod tests;

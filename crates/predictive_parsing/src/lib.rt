@@ -21,6 +21,3 @@ pub use cursor::Cursor;
 pub use many::{Reading, read_many};
 pub use prefix::prefix_len;
 pub use refused::Refused;
-
-#[cfg(test)]
-mod tests;

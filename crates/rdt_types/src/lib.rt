@@ -39,6 +39,3 @@ pub use printed::{DELETE, Spelling, spelling_of};
 pub use settings::Settings;
 pub use shard::shard_of;
 pub use value::{TextList, Value, default_value};
-
-#[cfg(test)]
-mod tests;

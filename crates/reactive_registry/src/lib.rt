@@ -18,6 +18,3 @@ pub use laws::{
     subscribes_stand, takes_stand, unsubscribes_stand,
 };
 pub use registry::Registry;
-
-#[cfg(test)]
-mod tests;

@@ -22,6 +22,3 @@ pub use driver::Driver;
 pub use laws::stale_is_touched;
 pub use rerun::{Rerun, run_on};
 pub use watch::Watch;
-
-#[cfg(test)]
-mod tests;

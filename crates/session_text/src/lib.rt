@@ -29,6 +29,3 @@ pub use print::{print_reply, push_reply};
 pub use read::{read_reply, read_verb};
 pub use reply::{Reply, Why};
 pub use verb::{Verb, VerbError};
-
-#[cfg(test)]
-mod tests;

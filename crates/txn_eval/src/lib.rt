@@ -27,6 +27,3 @@ pub use laws::pauses_stay;
 pub use pause::Pause;
 pub use running::{Step, go_on, run};
 pub use txn_lang::{Run, Seen, SeenList, Snap, Snaps};
-
-#[cfg(test)]
-mod tests;

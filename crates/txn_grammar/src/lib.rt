@@ -19,8 +19,6 @@ mod rank;
 mod spelling;
 mod symbol;
 mod target;
-#[cfg(test)]
-mod tests;
 mod token;
 
 pub use form::{Leaf, Nesting, Opener, Simple};

@@ -33,6 +33,3 @@ pub use limits::{LOAD_LIMIT, TEXT_LIMIT, TEXTS_LIMIT, TICK_LIMIT};
 pub use progress::{Progress, Stop};
 pub use run::{Run, Seen, SeenList};
 pub use snaps::{Snap, Snaps};
-
-#[cfg(test)]
-mod tests;

@@ -15,8 +15,6 @@ mod leaf;
 mod place;
 mod simple;
 mod statement;
-#[cfg(test)]
-mod tests;
 mod token;
 mod tree;
 mod whole;

@@ -13,8 +13,6 @@ mod line;
 mod place;
 mod spelling;
 mod statement;
-#[cfg(test)]
-mod tests;
 
 pub use laws::{printed_reads_back, same_but_columns_is_equivalence};
 pub use line::Line;

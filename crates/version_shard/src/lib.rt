@@ -21,6 +21,3 @@ pub use at_error::AtError;
 pub use laws::{empty_holds_nothing, legal_journals_are_readable, tails_are_of_their_kinds};
 pub use prepared::{Prepared, Refusal};
 pub use shard::Shard;
-
-#[cfg(test)]
-mod tests;

@@ -13,6 +13,3 @@ mod observing;
 
 pub use asked::Asked;
 pub use buffer::Buffer;
-
-#[cfg(test)]
-mod tests;

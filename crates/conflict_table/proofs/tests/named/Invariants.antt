@@ -1,5 +1,0 @@
-use Rattle.conflict_table.proofs.tests.named.Given as goal
-
--- the ledger that the counter is kept by
-abbrev pub ghosts-clashes : goal.ghosts-clashes
-ghosts-clashes a = record { name = a.blank.name; parts = a.blank.parts }

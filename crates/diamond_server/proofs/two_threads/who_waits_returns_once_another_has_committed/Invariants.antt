@@ -1,5 +1,0 @@
-use Rattle.diamond_server.proofs.two_threads.who_waits_returns_once_another_has_committed.Given as goal
-
--- the lock that was just opened
-abbrev pub ghosts-wait_on_its_own : goal.ghosts-wait_on_its_own
-ghosts-wait_on_its_own g a = record { lock = a.opened.lock }

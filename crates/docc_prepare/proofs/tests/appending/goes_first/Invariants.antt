@@ -1,5 +1,0 @@
-use Rattle.docc_prepare.proofs.tests.appending.goes_first.Given as goal
-
--- the ledger that the counter is kept by
-abbrev pub ghosts-decided : goal.ghosts-decided
-ghosts-decided a = record { name = a.blank.name; parts = a.blank.parts }

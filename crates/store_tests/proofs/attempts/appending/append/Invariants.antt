@@ -1,0 +1,5 @@
+use Rattle.store_tests.proofs.attempts.appending.append.Given as goal
+
+-- the ledger that the counter is kept by
+abbrev pub ghosts-decided : goal.ghosts-decided
+ghosts-decided g a = record { name = a.blank.name; parts = a.blank.parts }

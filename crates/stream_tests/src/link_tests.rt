@@ -1,0 +1,187 @@
+//! Tests of listeners, and of links over connections.
+
+ghost use Rattle.std.specs.Prelude.{Some};
+
+use dio_core::{
+    Accepted, Connection, End, FaultPlan, Got, Line, LineFault, Listener, MemLink, MemLinks,
+    MemListener, Sink, Source, TcpLink, TcpListening, Took, next_line, write_all,
+};
+use std::alloc::{AllocError, Global};
+use std::io;
+use std::io::{ErrorKind, Read, Write};
+use std::net::{OpenListener, TcpStream};
+use std::test::Fail;
+
+/// Whether the next link that is accepted begins with this byte.
+fn accepts<N: Listener>(listener: &mut N, byte: u8) -> bool {
+    let mut buf = [0];
+    match listener.accept() {
+        Accepted::Link(mut link) => {
+            let got = link.read(&mut buf);
+            got == Got::Bytes(1) && buf[0] == byte && listener.give_back(link, byte).is_ok()
+        }
+        _ => false,
+    }
+}
+
+fn ends<N: Listener>(listener: &mut N) -> bool {
+    matches!(listener.accept(), Accepted::NoMore)
+}
+
+fn fails<N: Listener>(listener: &mut N) -> bool {
+    let before = listener.accept_faults();
+    let failed = matches!(listener.accept(), Accepted::Failed);
+    failed && listener.accept_faults() == before.saturating_add(1)
+}
+
+fn two_links(alloc: Global) -> Result<MemLinks, AllocError> {
+    let mut links = MemLinks::new(alloc);
+    links.push(MemLink::new(alloc, b"a", 1, &[], &[])?)?;
+    links.push(MemLink::new(alloc, b"b", 1, &[], &[])?)?;
+    Ok(links)
+}
+
+/// The statuses with which links were given back, in their order, are these.
+fn gave_back(listener: &MemListener, statuses: &[u8]) -> bool {
+    let back = listener.back().as_slice();
+    back.len() == statuses.len()
+        && back
+            .iter()
+            .zip(statuses)
+            .all(|(pair, status)| pair.1 == *status)
+}
+
+#[test]
+fn links_in_memory_come_in_order_and_are_given_back(rt: HostRuntime) -> Result<(), Fail> {
+    let alloc = rt.alloc();
+    let mut listener = MemListener::new(alloc, two_links(alloc)?);
+    assert!(rt; accepts(&mut listener, b'a'));
+    assert!(rt; accepts(&mut listener, b'b'));
+    assert!(rt; ends(&mut listener));
+    assert!(rt; gave_back(&listener, b"ab"));
+    assert_eq!(rt; listener.accept_faults(), 0);
+    Ok(())
+}
+
+#[test]
+fn an_accept_that_is_to_fail_leaves_the_links(rt: HostRuntime) -> Result<(), Fail> {
+    let alloc = rt.alloc();
+    let plan = FaultPlan::new(alloc, &[1])?;
+    let mut listener = MemListener::failing(alloc, two_links(alloc)?, plan);
+    assert!(rt; accepts(&mut listener, b'a'));
+    assert!(rt; fails(&mut listener));
+    assert!(rt; accepts(&mut listener, b'b'));
+    assert!(rt; gave_back(&listener, b"ab"));
+    Ok(())
+}
+
+/// A connection in memory, which tells what it holds.
+impl Connection for MemLink {
+    ghost coming = { λ l. Some l.source.left };
+
+    ghost sent = { λ l. Some l.sink.taken };
+
+    fn receive(&mut self, buf: &mut [u8]) -> io::Result<usize> {
+        match self.read(buf) {
+            Got::Bytes(count) => Ok(count),
+            Got::End => Ok(0),
+            Got::Failed => Err(ErrorKind::BrokenPipe.into()),
+        }
+    }
+
+    fn send(&mut self, bytes: &[u8]) -> io::Result<usize> {
+        if bytes.is_empty() {
+            return Ok(0);
+        }
+        match self.write(bytes) {
+            Took::Bytes(count) => Ok(count),
+            Took::Failed => Err(ErrorKind::BrokenPipe.into()),
+        }
+    }
+}
+
+/// Whether the next line of a source is this.
+fn reads<S: Source>(alloc: Global, source: &mut S, wanted: &[u8]) -> bool {
+    matches!(next_line(alloc, source), Ok(Line::Bytes(bytes)) if bytes.as_slice() == wanted)
+}
+
+fn breaks<S: Source>(alloc: Global, source: &mut S) -> bool {
+    matches!(next_line(alloc, source), Err(LineFault::ReadFault))
+}
+
+#[test]
+fn a_link_over_a_connection_gives_its_bytes_and_counts_its_errors(
+    rt: HostRuntime,
+) -> Result<(), Fail> {
+    let alloc = rt.alloc();
+    let mut link = TcpLink::new(MemLink::new(alloc, b"ab\ncd", 1, &[1], &[])?);
+    assert!(rt; breaks(alloc, &mut link));
+    assert!(rt; reads(alloc, &mut link, b"b"));
+    assert!(rt; reads(alloc, &mut link, b"cd"));
+    assert!(rt; matches!(next_line(alloc, &mut link), Ok(Line::End)));
+    assert_eq!(rt; link.read_faults(), 1);
+    assert_eq!(rt; link.write_faults(), 0);
+    Ok(())
+}
+
+#[test]
+fn a_link_over_a_connection_sends_all_and_counts_its_errors(rt: HostRuntime) -> Result<(), Fail> {
+    let alloc = rt.alloc();
+    let mut link = TcpLink::new(MemLink::new(alloc, b"", 2, &[], &[3])?);
+    assert!(rt; write_all(&mut link, b"abcde") && link.flush());
+    assert!(rt; !write_all(&mut link, b"f"));
+    assert!(rt; write_all(&mut link, b"g"));
+    assert_eq!(rt; link.write_faults(), 1);
+    assert_eq!(rt; link.read_faults(), 0);
+    Ok(())
+}
+
+#[test]
+fn a_link_that_is_ended_fails_and_counts(rt: HostRuntime) -> Result<(), Fail> {
+    let alloc = rt.alloc();
+    let mut link = TcpLink::new(MemLink::new(alloc, b"ab", 1, &[], &[])?);
+    link.end();
+    link.end();
+    assert!(rt; breaks(alloc, &mut link));
+    assert!(rt; !write_all(&mut link, b"a"));
+    assert!(rt; !link.flush());
+    assert_eq!(rt; link.read_faults(), 1);
+    assert_eq!(rt; link.write_faults(), 2);
+    Ok(())
+}
+
+#[test]
+fn an_address_that_can_not_be_bound_fails_at_each_accept(rt: HostRuntime) {
+    let mut listener = TcpListening::bind(&rt, "no port");
+    assert!(rt; listener.address().is_none());
+    assert!(rt; fails(&mut listener));
+    assert!(rt; fails(&mut listener));
+}
+
+/// Whether what a link hears is this line, and it answers with that one and is ended.
+fn answers<K: End>(alloc: Global, link: &mut K, line: &[u8], reply: &[u8]) -> bool {
+    let heard = reads(alloc, link, line) && write_all(link, reply) && link.flush();
+    link.end();
+    heard && link.read_faults() == 0 && link.write_faults() == 0
+}
+
+#[test]
+fn a_link_over_the_loopback_is_heard_and_answered(rt: HostRuntime) -> Result<(), Fail> {
+    let mut listener = TcpListening::bind(&rt, "127.0.0.1:0");
+    let Some(address) = listener.address() else {
+        return Err(io::Error::from(ErrorKind::AddrNotAvailable).into());
+    };
+    let mut client = TcpStream::connect(&rt, address)?;
+    client.write_all(b"seen\n")?;
+    match listener.accept() {
+        Accepted::Link(mut link) => {
+            assert!(rt; answers(rt.alloc(), &mut link, b"seen", b"seen 0\n"));
+            assert!(rt; listener.give_back(link, 0).is_ok());
+        }
+        _ => return Err(io::Error::from(ErrorKind::ConnectionRefused).into()),
+    }
+    let reply = io::read_to_string(rt.alloc(), client)?;
+    assert!(rt; reply.as_str() == "seen 0\n");
+    assert_eq!(rt; listener.accept_faults(), 0);
+    Ok(())
+}

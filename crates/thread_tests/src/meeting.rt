@@ -1,0 +1,88 @@
+//! How clients of a test come, what they are answered, and how a pass learns from them.
+
+ghost use Rattle.std.specs.Prelude.{◌≡◌};
+
+use diamond_server::talker::{Newcomer, Talker, TestPass, TestStore};
+use history_lock::Naming;
+use plain_data::Text;
+use session_core::{SessionError, Turn};
+use session_text::print_reply;
+use std::alloc::{AllocError, Global};
+use std::marker::Model;
+use std::process::Abort;
+use std::sync::Wait;
+
+/// The pass of the first client of a store that was opened with nothing in it. By it others join.
+#[derive(Drop)]
+pub(crate) struct Founder<N: Naming> {
+    pass: TestPass<N>,
+}
+
+impl<N: Naming> Model for Founder<N> {
+    ghost use Rattle.std.specs.Prelude.{◌≡◌, ℕ};
+    ghost use Rattle.std.specs.Coded.{coded_ℕ};
+
+    ghost Value = { ℕ };
+
+    ghost coded = { coded_ℕ };
+
+    ghost view = { λ f. f.pass.client };
+
+    ghost invariant = { λ f. f.pass.trusted ≡ 0 };
+}
+
+impl<N: Naming> Founder<N> {
+    pub(crate) fn new(pass: TestPass<N>) -> Founder<N>
+        requires { pass.trusted ≡ 0 }
+    {
+        Founder { pass }
+    }
+
+    /// A new client.
+    pub(crate) fn joined<R: Abort>(&mut self, rt: &R, store: &TestStore<N>) -> Newcomer<N> {
+        match store.join(&mut self.pass) {
+            Ok(new) => Newcomer::new(new),
+            Err(_) => panic!(rt; "no client's number is left"),
+        }
+    }
+
+    /// What a new client is answered to a line, as text.
+    pub(crate) fn answered<R: Wait + Abort>(
+        &mut self,
+        rt: &R,
+        alloc: Global,
+        store: &TestStore<N>,
+        line: &[u8],
+    ) -> Result<Text, AllocError> {
+        let newcomer = self.joined(rt, store);
+        let mut talker = Talker::new(rt, alloc, store, newcomer);
+        let turn = talker.say(alloc, line);
+        reply_text(rt, alloc, &turn)
+    }
+
+    /// The pass learns what another knows, which goes.
+    pub(crate) fn learn_from(&mut self, store: &TestStore<N>, mut other: TestPass<N>) {
+        let token = store.split(&mut other);
+        store.meet(&mut self.pass, token);
+    }
+
+    pub(crate) fn into_pass(self) -> TestPass<N> {
+        let Founder { pass } = self;
+        pass
+    }
+}
+
+/// A line's one reply, as text.
+pub(crate) fn reply_text(
+    rt: &impl Abort,
+    alloc: Global,
+    turn: &Result<Turn, SessionError>,
+) -> Result<Text, AllocError> {
+    match turn {
+        Ok(Turn::Replies(replies)) => match replies.as_slice() {
+            [reply] => print_reply(alloc, reply),
+            _ => panic!(rt; "not one reply"),
+        },
+        _ => panic!(rt; "the line is not answered"),
+    }
+}

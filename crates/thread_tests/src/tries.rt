@@ -1,0 +1,293 @@
+//! Tries of a client over a store on which a rival is faster, as nobody can be between the events of a script's line.
+
+ghost use Rattle.std.specs.Prelude.{◌≡◌, None};
+ghost use Rattle.diamond_store.specs.Numbers.{HasSettings};
+ghost use Rattle.diamond_store.specs.Passes.{known_of};
+ghost use Rattle.session_core.specs.Holding.{Follows};
+
+use diamond_server::meeting::{Founder, reply_text};
+use diamond_server::rival::{Moment, Plan, Rival};
+use diamond_server::talker::{Talker, TestStore, first_session, said};
+use diamond_store::{Book, Open, Served, open};
+use history_lock::{Naming, Opened};
+use journal_core::MemKeep;
+use rdt_types::Settings;
+use session_core::Session;
+use std::alloc::Global;
+use std::marker::Brand;
+use std::process::Abort;
+use std::sync::Wait;
+use std::test::*;
+use txn_lang::CommitList;
+
+/// How large the store is.
+#[derive(Clone, Copy)]
+enum Size {
+    Standard,
+    WindowOfOne,
+    JournalOfOne,
+}
+
+impl Size {
+    fn settings(self) -> Settings {
+        let (window, limit) = match self {
+            Size::Standard => (4096, 100_000),
+            Size::WindowOfOne => (1, 100_000),
+            Size::JournalOfOne => (4096, 1),
+        };
+        Settings {
+            shards: 4,
+            window,
+            limit,
+        }
+    }
+}
+
+/// A line of a client, what its rival does meanwhile, the reply, and how often the rival would still do so.
+#[derive(Clone, Copy)]
+struct Try {
+    size: Size,
+    plan: Plan,
+    line: &'static [u8],
+    reply: &'static [u8],
+    left: u32,
+}
+
+/// Another client's commit comes in between: it raises the counter.
+const RAISED: &[&[u8]] = &[br#"do counter("x").add(1);"#];
+
+/// It does, and the counter's shard learns of it.
+const RAISED_AND_SEEN: &[&[u8]] = &[
+    br#"do counter("x").add(1);"#,
+    br#"look emit counter("x").get();"#,
+];
+
+/// It raises another counter.
+const OTHER_RAISED: &[&[u8]] = &[br#"do counter("y").add(1);"#];
+
+/// It does so twice, and the shard of the first counter learns of it.
+const OTHER_RAISED_AND_SEEN: &[&[u8]] = &[
+    br#"do counter("y").add(1);"#,
+    br#"do counter("y").add(1);"#,
+    br#"look emit counter("x").get();"#,
+];
+
+/// A try while the rival raises the counter so many times, each time before an append: how often, the line, the reply, and how
+/// often the rival would still do so.
+type Overtaken = (u32, &'static [u8], &'static [u8], u32);
+
+const OVERTAKEN: [Overtaken; 8] = [
+    (
+        0,
+        br#"try 3 counter("x").put(counter("x").get() + 1); emit counter("x").get();"#,
+        b"commit 1 ok 1",
+        0,
+    ),
+    // It succeeds at the last time, by what it has then read.
+    (
+        2,
+        br#"try 3 counter("x").put(counter("x").get() + 1); emit counter("x").get();"#,
+        b"commit 3 ok 3",
+        0,
+    ),
+    (
+        15,
+        br#"try 16 counter("x").put(counter("x").get() + 1); emit counter("x").get();"#,
+        b"commit 16 ok 16",
+        0,
+    ),
+    // It runs out, and its last abort is the answer.
+    (
+        1,
+        br#"try 1 counter("x").put(counter("x").get() + 1);"#,
+        br#"abort counter("x") whole base 0 clash add 1 commit 1"#,
+        0,
+    ),
+    (
+        3,
+        br#"try 3 counter("x").put(counter("x").get() + 1);"#,
+        br#"abort counter("x") whole base 2 clash add 1 commit 3"#,
+        0,
+    ),
+    (
+        5,
+        br#"try 3 counter("x").put(counter("x").get() + 1);"#,
+        br#"abort counter("x") whole base 2 clash add 1 commit 3"#,
+        2,
+    ),
+    (
+        17,
+        br#"try 16 counter("x").put(counter("x").get() + 1);"#,
+        br#"abort counter("x") whole base 15 clash add 1 commit 16"#,
+        1,
+    ),
+    // `do` is one try.
+    (
+        2,
+        br#"do counter("x").put(counter("x").get() + 1);"#,
+        br#"abort counter("x") whole base 0 clash add 1 commit 1"#,
+        1,
+    ),
+];
+
+const OTHERS: [Try; 6] = [
+    // Refused at the preparing, by the shard.
+    Try {
+        size: Size::Standard,
+        plan: Plan {
+            moment: Moment::Prepare,
+            lines: RAISED_AND_SEEN,
+            times: 1,
+        },
+        line: br#"do counter("x").put(counter("x").get() + 1);"#,
+        reply: br#"abort counter("x") whole base 0 clash add 1 commit 1"#,
+        left: 0,
+    },
+    Try {
+        size: Size::Standard,
+        plan: Plan {
+            moment: Moment::Prepare,
+            lines: RAISED_AND_SEEN,
+            times: 1,
+        },
+        line: br#"try 2 counter("x").put(counter("x").get() + 1); emit counter("x").get();"#,
+        reply: b"commit 2 ok 2",
+        left: 0,
+    },
+    // What reads another counter isn't refused.
+    Try {
+        size: Size::Standard,
+        plan: Plan {
+            moment: Moment::Append,
+            lines: OTHER_RAISED,
+            times: 1,
+        },
+        line: br#"try 2 counter("x").put(counter("x").get() + 1); emit counter("x").get();"#,
+        reply: b"commit 2 ok 1",
+        left: 0,
+    },
+    // A try goes on behind an abort alone: not where the base is too far behind,
+    Try {
+        size: Size::WindowOfOne,
+        plan: Plan {
+            moment: Moment::Prepare,
+            lines: OTHER_RAISED_AND_SEEN,
+            times: 2,
+        },
+        line: br#"try 3 counter("x").put(counter("x").get() + 1);"#,
+        reply: b"late 0 1",
+        left: 1,
+    },
+    // and not where the journal is full.
+    Try {
+        size: Size::JournalOfOne,
+        plan: Plan {
+            moment: Moment::Append,
+            lines: OTHER_RAISED,
+            times: 2,
+        },
+        line: br#"try 3 counter("x").put(counter("x").get() + 1);"#,
+        reply: b"full 1",
+        left: 1,
+    },
+    // The first attempt is refused for the clash, though the journal is full; the second finds it full.
+    Try {
+        size: Size::JournalOfOne,
+        plan: Plan {
+            moment: Moment::Append,
+            lines: RAISED,
+            times: 5,
+        },
+        line: br#"try 3 counter("x").put(counter("x").get() + 1);"#,
+        reply: b"full 1",
+        left: 3,
+    },
+];
+
+/// Does a try once. No attempt is left open behind it.
+fn tried_over<N: Naming, R: Wait + Abort>(
+    rt: &R,
+    alloc: Global,
+    session: &mut Session,
+    rival: &mut Rival<'_, N, R>,
+    row: &Try,
+) -> Result<(), Fail>
+    requires { Follows (known_of rival.old.served.pass) session.old }
+{
+    let turn = said(alloc, session, rival, row.line);
+    let reply = reply_text(rt, alloc, &turn)?;
+    assert_eq!(rt; reply.as_slice(), row.reply);
+    assert_eq!(rt; rival.plan.times, row.left);
+    let turn = said(alloc, session, rival, b"step");
+    let reply = reply_text(rt, alloc, &turn)?;
+    assert_eq!(rt; reply.as_slice(), b"refused none".as_slice());
+    Ok(())
+}
+
+/// A client does a try beside a rival.
+fn tried_on<'a, N: Naming, R: Wait + Abort>(
+    rt: &'a R,
+    alloc: Global,
+    store: &'a TestStore<N>,
+    mut first: Founder<N>,
+    row: &Try,
+) -> Result<(), Fail> {
+    let other = Talker::new(rt, alloc, store, first.joined(rt, store));
+    let pass = first.joined(rt, store).into_pass();
+    let mut session = first_session(alloc, &pass);
+    let served = Served { store, pass, rt };
+    let mut rival = Rival {
+        alloc,
+        served,
+        other,
+        plan: row.plan,
+    };
+    tried_over(rt, alloc, &mut session, &mut rival, row)
+}
+
+/// The same on a store of its own.
+fn tried<N: Naming, R: Wait + Abort>(
+    rt: &R,
+    alloc: Global,
+    opened: Opened<Book<MemKeep>>,
+    settings: &Settings,
+    row: &Try,
+) -> Result<(), Fail>
+    requires lock { opened.lock ≡ N.lock }
+    requires settings { HasSettings opened.lock.origin settings.now }
+    requires author { opened.front.author ≡ None }
+    requires empty { opened.lock.base ≡ 0 }
+{
+    let (store, first) = TestStore::<N>::new(alloc, settings, opened, Open)?;
+    tried_on(rt, alloc, &store, Founder::new(first), row)
+}
+
+/// Does a try on a store of its own.
+fn tried_anew<R: Wait + Abort>(rt: &R, alloc: Global, row: &Try) -> Result<(), Fail> {
+    let settings = row.size.settings();
+    let opened = open(alloc, &settings, MemKeep, CommitList::new(alloc))?;
+    tried::<Brand, _>(rt, alloc, opened, &settings, row)
+}
+
+#[test]
+fn tries_go_on_behind_aborts_alone(rt: HostRuntime) -> Result<(), Fail> {
+    for (times, line, reply, left) in OVERTAKEN {
+        let plan = Plan {
+            moment: Moment::Append,
+            lines: RAISED,
+            times,
+        };
+        let row = Try {
+            size: Size::Standard,
+            plan,
+            line,
+            reply,
+            left,
+        };
+        tried_anew(&rt, rt.alloc(), &row)?;
+    }
+    for row in &OTHERS {
+        tried_anew(&rt, rt.alloc(), row)?;
+    }
+    Ok(())
+}

@@ -1,0 +1,225 @@
+//! Sessions of two clients on one store, each in a thread of its own.
+
+ghost use Rattle.std.specs.Prelude.{◌≡◌, None};
+ghost use Rattle.diamond_store.specs.Numbers.{HasSettings};
+
+use diamond_server::meeting::Founder;
+use diamond_server::talker::{Newcomer, Talker, TestPass, TestStore};
+use diamond_store::{Book, Open, open};
+use docc_prepare::StoreError;
+use history_lock::{Naming, Opened};
+use journal_core::MemKeep;
+use plain_data::Text;
+use rdt_types::Settings;
+use session_core::{SessionError, Turn};
+use session_text::Reply;
+use std::alloc::{AllocError, Global};
+use std::marker::Brand;
+use std::process::Abort;
+use std::sync::Wait;
+use std::test::*;
+use std::thread::{Threads, join};
+use txn_lang::CommitList;
+
+/// How many lines were answered by a commit, and how many by an abort.
+#[derive(Clone, Copy)]
+struct Tally {
+    commits: u64,
+    aborts: u64,
+}
+
+impl Tally {
+    /// With one line more.
+    fn with(self, turn: &Turn) -> Tally {
+        let Turn::Replies(replies) = turn else {
+            return self;
+        };
+        match replies.get(0) {
+            Some(Reply::Commit(_, _)) => Tally {
+                commits: self.commits.saturating_add(1),
+                aborts: self.aborts,
+            },
+            Some(Reply::Abort(_)) => Tally {
+                commits: self.commits,
+                aborts: self.aborts.saturating_add(1),
+            },
+            _ => self,
+        }
+    }
+}
+
+/// A client says a line again and again.
+fn repeat<N: Naming, R: Wait>(
+    alloc: Global,
+    talker: &mut Talker<'_, N, R>,
+    line: &[u8],
+    times: u64,
+) -> Result<Tally, SessionError> {
+    let mut tally = Tally {
+        commits: 0,
+        aborts: 0,
+    };
+    for _ in 0..times {
+        let turn = talker.say(alloc, line)?;
+        tally = tally.with(&turn);
+    }
+    Ok(tally)
+}
+
+/// The same, of a new client in a thread of its own. It gives its pass back.
+fn work<N: Naming, R: Wait>(
+    rt: &R,
+    alloc: Global,
+    store: &TestStore<N>,
+    newcomer: Newcomer<N>,
+    line: &[u8],
+    times: u64,
+) -> (TestPass<N>, Result<Tally, SessionError>) {
+    let mut talker = Talker::new(rt, alloc, store, newcomer);
+    let tally = repeat(alloc, &mut talker, line, times);
+    (talker.into_pass(), tally)
+}
+
+/// What two clients were answered that said a line again and again, and what a third sees then.
+#[derive(Drop)]
+struct Done {
+    zero: Tally,
+    one: Tally,
+    seen: Text,
+}
+
+/// Two clients say a line again and again, each in a thread of its own. A third has met both.
+fn both_work<N: Naming + Send + Sync, R: Threads + Wait + Abort + Sync>(
+    rt: &R,
+    alloc: Global,
+    store: &TestStore<N>,
+    mut first: Founder<N>,
+    line: &[u8],
+    times: u64,
+) -> Result<Done, AllocError> {
+    let zero = first.joined(rt, store);
+    let one = first.joined(rt, store);
+    let ((zero, of_zero), (one, of_one)) = join(
+        rt,
+        || work(rt, alloc, store, zero, line, times),
+        || work(rt, alloc, store, one, line, times),
+    );
+    let (Ok(of_zero), Ok(of_one)) = (of_zero, of_one) else {
+        panic!(rt; "a session ended by an error");
+    };
+    first.learn_from(store, zero);
+    first.learn_from(store, one);
+    let look = b"look emit counter(\"x\").get();";
+    let seen = first.answered(rt, alloc, store, look)?;
+    Ok(Done {
+        zero: of_zero,
+        one: of_one,
+        seen,
+    })
+}
+
+/// The same on a store of its own.
+fn in_two_threads<N: Naming + Send + Sync, R: Threads + Wait + Abort + Sync>(
+    rt: &R,
+    alloc: Global,
+    opened: Opened<Book<MemKeep>>,
+    settings: &Settings,
+    line: &[u8],
+    times: u64,
+) -> Result<Done, AllocError>
+    requires lock { opened.lock ≡ N.lock }
+    requires settings { HasSettings opened.lock.origin settings.now }
+    requires author { opened.front.author ≡ None }
+    requires empty { opened.lock.base ≡ 0 }
+{
+    let (store, first) = TestStore::<N>::new(alloc, settings, opened, Open)?;
+    both_work(rt, alloc, &store, Founder::new(first), line, times)
+}
+
+#[test]
+fn additions_of_two_threads_all_count(rt: HostRuntime) -> Result<(), Fail> {
+    let settings = Settings::standard();
+    let opened = open(rt.alloc(), &settings, MemKeep, CommitList::new(rt.alloc()))?;
+    let line = b"do counter(\"x\").add(1);";
+    let done = in_two_threads::<Brand, _>(&rt, rt.alloc(), opened, &settings, line, 200)?;
+    assert_eq!(rt; (done.zero.commits, done.one.commits), (200, 200));
+    assert!(rt; done.seen.as_slice() == b"at 400 ok 400".as_slice());
+    Ok(())
+}
+
+/// The text of a client's view of a counter that so many commits raised by one each.
+fn raised(alloc: Global, commits: u64) -> Result<String, AllocError> {
+    format!(in alloc; "at {commits} ok {commits}")
+}
+
+#[test]
+fn what_two_threads_raise_counts_their_commits(rt: HostRuntime) -> Result<(), Fail> {
+    let settings = Settings::standard();
+    let opened = open(rt.alloc(), &settings, MemKeep, CommitList::new(rt.alloc()))?;
+    let line = b"do counter(\"x\").put(counter(\"x\").get() + 1);";
+    let done = in_two_threads::<Brand, _>(&rt, rt.alloc(), opened, &settings, line, 100)?;
+    let commits = done.zero.commits.saturating_add(done.one.commits);
+    let aborts = done.zero.aborts.saturating_add(done.one.aborts);
+    assert_eq!(rt; commits.saturating_add(aborts), 200);
+    assert!(rt; commits >= 100);
+    let expected = raised(rt.alloc(), commits)?;
+    assert!(rt; done.seen.as_slice() == expected.as_bytes());
+    Ok(())
+}
+
+/// A client that has seen nothing waits for a commit. It answers how many there are then.
+fn awaited<N: Naming, R: Wait>(
+    rt: &R,
+    store: &TestStore<N>,
+    newcomer: Newcomer<N>,
+) -> Result<u64, StoreError> {
+    let mut pass = newcomer.into_pass();
+    store.wait(rt, &mut pass)?;
+    Ok(store.length(&mut pass))
+}
+
+/// One client waits, while another says a line once.
+fn wait_and_work<N: Naming + Send + Sync, R: Threads + Wait + Abort + Sync>(
+    rt: &R,
+    alloc: Global,
+    store: &TestStore<N>,
+    mut first: Founder<N>,
+    line: &[u8],
+) {
+    let waiter = first.joined(rt, store);
+    let writer = first.joined(rt, store);
+    let (waited, (_pass, tally)) = join(
+        rt,
+        || awaited(rt, store, waiter),
+        || work(rt, alloc, store, writer, line, 1),
+    );
+    assert!(rt; tally.is_ok_and(|tally| tally.commits == 1));
+    assert!(rt; waited.is_ok_and(|length| length == 1));
+}
+
+/// The same on a store of its own.
+fn wait_on_its_own<N: Naming + Send + Sync, R: Threads + Wait + Abort + Sync>(
+    rt: &R,
+    alloc: Global,
+    opened: Opened<Book<MemKeep>>,
+    settings: &Settings,
+    line: &[u8],
+) -> Result<(), AllocError>
+    requires lock { opened.lock ≡ N.lock }
+    requires settings { HasSettings opened.lock.origin settings.now }
+    requires author { opened.front.author ≡ None }
+    requires empty { opened.lock.base ≡ 0 }
+{
+    let (store, first) = TestStore::<N>::new(alloc, settings, opened, Open)?;
+    wait_and_work(rt, alloc, &store, Founder::new(first), line);
+    Ok(())
+}
+
+#[test]
+fn who_waits_returns_once_another_has_committed(rt: HostRuntime) -> Result<(), Fail> {
+    let settings = Settings::standard();
+    let opened = open(rt.alloc(), &settings, MemKeep, CommitList::new(rt.alloc()))?;
+    let line = b"do counter(\"x\").add(1);";
+    wait_on_its_own::<Brand, _>(&rt, rt.alloc(), opened, &settings, line)?;
+    Ok(())
+}
