@@ -53,7 +53,7 @@ pub(crate) fn run<R: Threads + Wait + Sync>(
 }
 
 /// How what came differs from what the case says, if it does.
-pub(crate) fn difference<'a>(
+pub(crate) fn find_difference<'a>(
     case: &'a Case,
     status: u8,
     sink: &'a MemSink,
