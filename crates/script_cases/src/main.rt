@@ -10,7 +10,7 @@ mod run;
 
 use case::{Case, CaseError};
 use row::Row;
-use run::{Difference, find_difference, run};
+use run::{find_difference, run};
 use std::alloc::Global;
 use std::io;
 use std::process::ExitCode;
@@ -28,28 +28,12 @@ struct Trial<'a> {
     sound: bool,
 }
 
-/// Says how what came differs from what a case says.
-fn tell(rt: &HostRuntime, name: &str, piece: usize, found: &Difference) -> io::Result<()> {
-    print!(rt; "{name} (in pieces of {piece}): ")?;
-    match found {
-        Difference::Status { wanted, came } => {
-            println!(rt; "the status {wanted} was wanted, and {came} came")
-        }
-        Difference::Reply { wanted, came } => {
-            let wanted = String::from_utf8_lossy(rt.alloc(), wanted)?;
-            let came = String::from_utf8_lossy(rt.alloc(), came)?;
-            println!(rt; "`{wanted}` was wanted, and `{came}` came")
-        }
-        Difference::HeldBack => println!(rt; "what was written was not passed on"),
-    }
-}
-
 /// Whether a case holds, read and answered in pieces of each size. The first difference is told.
 fn holds<R: Threads + Wait + Sync>(rt: &HostRuntime, threads: &R, case: &Case) -> io::Result<bool> {
     for piece in [1, 3, 4096] {
         let (status, sink) = run(threads, rt.alloc(), case, piece)?;
-        if let Some(found) = find_difference(case, status, &sink) {
-            tell(rt, case.name, piece, &found)?;
+        if let Some(found) = find_difference(rt.alloc(), case, status, &sink)? {
+            println!(rt; "{} (in pieces of {piece}): {found}", case.name)?;
             return Ok(false);
         }
     }

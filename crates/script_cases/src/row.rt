@@ -63,17 +63,17 @@ impl<'a> Row<'a> {
     /// Reads what stands behind an `@`.
     fn read_marked(row: &'a str) -> Option<Row<'a>> {
         let (word, rest) = row.split_once(" ").unwrap_or((row, ""));
-        match word {
-            "case" => Some(Row::Case(rest)),
-            "section" => Some(Row::Section),
-            "settings" => Spelled::read(rest).map(Row::Settings),
-            "status" => rest.parse::<u8>().ok().map(Row::Status),
-            "more" => Repeated::read(rest).map(Row::More),
-            "reply" => Repeated::read(rest).map(Row::MoreReply),
-            "unended" => Some(Row::Unended),
-            "ending" => Some(Row::Ending),
-            _ => None,
-        }
+        Some(match word {
+            "case" => Row::Case(rest),
+            "section" => Row::Section,
+            "settings" => Row::Settings(Spelled::read(rest)?),
+            "status" => Row::Status(rest.parse::<u8>().ok()?),
+            "more" => Row::More(Repeated::read(rest)?),
+            "reply" => Row::MoreReply(Repeated::read(rest)?),
+            "unended" => Row::Unended,
+            "ending" => Row::Ending,
+            _ => return None,
+        })
     }
 
     /// Reads a line with its reply, where one stands behind it.

@@ -6,17 +6,32 @@ use crate::case::Case;
 use diamond_cli::diamond;
 use dio_core::{MemSink, MemSource, NEWLINE, NoDisk, NoListener};
 use std::alloc::{AllocError, Global};
+use std::fmt;
 use std::sync::Wait;
 use std::thread::Threads;
 
 /// How what came differs from what was wanted.
-#[derive(Clone, Copy)]
-pub(crate) enum Difference<'a> {
+#[derive(Drop)]
+pub(crate) enum Difference {
     Status { wanted: u8, came: u8 },
     /// The first line of the replies that differs.
-    Reply { wanted: &'a [u8], came: &'a [u8] },
+    Reply { wanted: String, came: String },
     /// The replies are as they are wanted, and were not passed on.
     HeldBack,
+}
+
+impl fmt::Display for Difference {
+    fn fmt<W: fmt::Write>(&self, f: &mut fmt::Formatter<W>) -> fmt::Result {
+        match self {
+            Difference::Status { wanted, came } => {
+                write!(f, "the status {wanted} was wanted, and {came} came")
+            }
+            Difference::Reply { wanted, came } => {
+                write!(f, "`{wanted}` was wanted, and `{came}` came")
+            }
+            Difference::HeldBack => write!(f, "what was written was not passed on"),
+        }
+    }
 }
 
 /// Runs a script, which is read and answered in pieces of this size. It gives the status, and the sink with the replies.
@@ -53,26 +68,27 @@ pub(crate) fn run<R: Threads + Wait + Sync>(
 }
 
 /// How what came differs from what the case says, if it does.
-pub(crate) fn difference<'a>(
-    case: &'a Case,
+pub(crate) fn find_difference(
+    alloc: Global,
+    case: &Case,
     status: u8,
-    sink: &'a MemSink,
-) -> Option<Difference<'a>> {
+    sink: &MemSink,
+) -> Result<Option<Difference>, AllocError> {
     let wanted = case.replies.as_slice();
     let came = compared(case, sink.taken());
     if wanted != came {
-        return Some(first_that_differs(wanted, came));
+        return Ok(Some(first_that_differs(alloc, wanted, came)?));
     }
     if status != case.status {
-        return Some(Difference::Status {
+        return Ok(Some(Difference::Status {
             wanted: case.status,
             came: status,
-        });
+        }));
     }
     if sink.passed() != sink.taken() {
-        return Some(Difference::HeldBack);
+        return Ok(Some(Difference::HeldBack));
     }
-    None
+    Ok(None)
 }
 
 /// What of the replies is compared: all, or as many bytes at the end as the case says.
@@ -84,11 +100,14 @@ fn compared<'a>(case: &Case, replies: &'a [u8]) -> &'a [u8] {
     &replies[before..]
 }
 
-/// The first line that differs, or what stands behind the lines where all others are the same.
-fn first_that_differs<'a>(wanted: &'a [u8], came: &'a [u8]) -> Difference<'a> {
+/// The first line that differs.
+fn first_that_differs(alloc: Global, wanted: &[u8], came: &[u8]) -> Result<Difference, AllocError> {
     let wanted = wanted.split(|byte| *byte == NEWLINE);
     let came = came.split(|byte| *byte == NEWLINE);
     let lines = wanted.zip(came).find(|(wanted, came)| wanted != came);
     let (wanted, came) = lines.unwrap_or((b"", b""));
-    Difference::Reply { wanted, came }
+    Ok(Difference::Reply {
+        wanted: String::from_utf8_lossy(alloc, wanted)?,
+        came: String::from_utf8_lossy(alloc, came)?,
+    })
 }
