@@ -76,13 +76,18 @@ fn an_accept_that_is_to_fail_leaves_the_links(rt: HostRuntime) -> Result<(), Fai
 }
 
 /// A connection in memory, which tells what it holds.
-impl Connection for MemLink {
-    ghost coming = { λ l. Some l.source.left };
+#[derive(Drop)]
+struct Wire {
+    link: MemLink,
+}
 
-    ghost sent = { λ l. Some l.sink.taken };
+impl Connection for Wire {
+    ghost coming = { λ w. Some w.link.source.left };
+
+    ghost sent = { λ w. Some w.link.sink.taken };
 
     fn receive(&mut self, buf: &mut [u8]) -> io::Result<usize> {
-        match self.read(buf) {
+        match self.link.read(buf) {
             Got::Bytes(count) => Ok(count),
             Got::End => Ok(0),
             Got::Failed => Err(ErrorKind::BrokenPipe.into()),
@@ -93,11 +98,25 @@ impl Connection for MemLink {
         if bytes.is_empty() {
             return Ok(0);
         }
-        match self.write(bytes) {
+        match self.link.write(bytes) {
             Took::Bytes(count) => Ok(count),
             Took::Failed => Err(ErrorKind::BrokenPipe.into()),
         }
     }
+}
+
+/// A link over a connection that gives these bytes, so many at a time, and fails at these reads and writes.
+fn wired(
+    alloc: Global,
+    bytes: &[u8],
+    piece: usize,
+    reads: &[u64],
+    writes: &[u64],
+) -> Result<TcpLink<Wire>, AllocError>
+    requires { 0 < piece }
+{
+    let link = MemLink::new(alloc, bytes, piece, reads, writes)?;
+    Ok(TcpLink::new(Wire { link }))
 }
 
 /// Whether the next line of a source is this.
@@ -114,7 +133,7 @@ fn a_link_over_a_connection_gives_its_bytes_and_counts_its_errors(
     rt: HostRuntime,
 ) -> Result<(), Fail> {
     let alloc = rt.alloc();
-    let mut link = TcpLink::new(MemLink::new(alloc, b"ab\ncd", 1, &[1], &[])?);
+    let mut link = wired(alloc, b"ab\ncd", 1, &[1], &[])?;
     assert!(rt; breaks(alloc, &mut link));
     assert!(rt; reads(alloc, &mut link, b"b"));
     assert!(rt; reads(alloc, &mut link, b"cd"));
@@ -127,7 +146,7 @@ fn a_link_over_a_connection_gives_its_bytes_and_counts_its_errors(
 #[test]
 fn a_link_over_a_connection_sends_all_and_counts_its_errors(rt: HostRuntime) -> Result<(), Fail> {
     let alloc = rt.alloc();
-    let mut link = TcpLink::new(MemLink::new(alloc, b"", 2, &[], &[3])?);
+    let mut link = wired(alloc, b"", 2, &[], &[3])?;
     assert!(rt; write_all(&mut link, b"abcde") && link.flush());
     assert!(rt; !write_all(&mut link, b"f"));
     assert!(rt; write_all(&mut link, b"g"));
@@ -139,7 +158,7 @@ fn a_link_over_a_connection_sends_all_and_counts_its_errors(rt: HostRuntime) -> 
 #[test]
 fn a_link_that_is_ended_fails_and_counts(rt: HostRuntime) -> Result<(), Fail> {
     let alloc = rt.alloc();
-    let mut link = TcpLink::new(MemLink::new(alloc, b"ab", 1, &[], &[])?);
+    let mut link = wired(alloc, b"ab", 1, &[], &[])?;
     link.end();
     link.end();
     assert!(rt; breaks(alloc, &mut link));

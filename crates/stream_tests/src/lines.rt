@@ -1,6 +1,6 @@
 //! Tests of lines over sources that see the bytes ahead.
 
-use dio_core::tests::reads;
+use crate::streams::reads;
 use dio_core::{Got, LONGEST_LINE, Line, Source, StdSource, next_line};
 use std::alloc::{AllocError, Global};
 use std::io;
