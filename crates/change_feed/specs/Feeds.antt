@@ -1,11 +1,13 @@
 -- Feeds: what changes come to, by address.
-use Rattle.std.specs.Prelude.{◌≡◌, ℕ, List, [], ◌++◌, fold, Option, Some, None, refl}
+use Rattle.std.specs.Prelude.{◌≡◌, ℕ, List, [], ◌∷◌, ◌++◌, fold, codes, pos, negsuc, Option, Some, None, refl}
 use Rattle.std.specs.Coded.{Coded, code_by, coded×, coded_list, coded_ℕ}
 use Rattle.std.specs.Map.{keys_of}
 use Rattle.std.specs.List.{AllByRecursion}
 use Rattle.std.specs.List.Sorted.{IsStrictlySortedBy}
 use Rattle.rdt_types.specs.declared.address.Address.{Address}
+use Rattle.rdt_types.specs.declared.address.Kind.TheVariants as kind
 use Rattle.rdt_types.specs.declared.delta.Delta.{Delta}
+use Rattle.rdt_types.specs.declared.delta.Delta.TheVariants as delta
 use Rattle.rdt_types.specs.Addresses.{address_cmp}
 use Rattle.rdt_types.specs.Deltas.{kind_changed}
 use Rattle.rdt_types.specs.DeltaMaps.{Deltas, delta_at, after_maybe, with_delta}
@@ -67,3 +69,26 @@ abbrev pub PendingJoins : Type 0
 PendingJoins =
     (changes later : List Change) (address : Address) → AreOfTheirKinds changes → AreOfTheirKinds later
     → pending address (changes ++ later) ≡ after_both (pending address changes) (pending address later)
+
+-- ---- worked lines
+
+-- the counter with this key
+abbrev counter : List ℕ → Address
+counter key = record { kind = kind.Counter; key = key }
+
+-- an addition of 0 is kept, and nothing stands at another address
+addition-of-0-kept : with_change (with_change (begun 2) (counter (codes "x")) (delta.AddCounter (pos 3))) (counter (codes "x")) (delta.AddCounter (negsuc 2))
+    ≡ record { to = 2; changes = (counter (codes "x"), delta.AddCounter (pos 0)) ∷ [] }
+addition-of-0-kept = refl
+
+-- a put of a later feed forgets the addition before it, and its number counts
+later-put : with_feed (with_change (begun 2) (counter (codes "x")) (delta.AddCounter (pos 1))) (with_change (begun 5) (counter (codes "x")) (delta.PutCounter (pos 7)))
+    ≡ record { to = 5; changes = (counter (codes "x"), delta.PutCounter (pos 7)) ∷ [] }
+later-put = refl
+
+-- what a later feed has at another address stands beside it
+later-addition :
+    with_feed (record { to = 5; changes = (counter (codes "x"), delta.PutCounter (pos 7)) ∷ [] })
+    (with_change (begun 6) (counter (codes "y")) (delta.AddCounter (pos 2)))
+    ≡ record { to = 6; changes = (counter (codes "x"), delta.PutCounter (pos 7)) ∷ (counter (codes "y"), delta.AddCounter (pos 2)) ∷ [] }
+later-addition = refl

@@ -1,5 +1,5 @@
 -- The table of clashes: which deltas may change what an observation answers.
-use Rattle.std.specs.Prelude.{◌≡◌, pos, Bool, true, false, not, ◌||◌, length, nat_eq, is_some, codes, refl}
+use Rattle.std.specs.Prelude.{◌≡◌, pos, Bool, true, false, not, ◌||◌, [], length, nat_eq, is_some, codes, refl}
 use Rattle.std.proofs.Common.{ap, ◌∙◌}
 use Rattle.std.specs.FinMap as map
 use Rattle.std.specs.Cmp.Lexicographic.{nat_list_cmp_total}
@@ -7,6 +7,7 @@ use Rattle.plain_data.specs.Texts.{Bytes, MapOf, text_cmp}
 use Rattle.rdt_types.specs.declared.operation.WriteOp.TheVariants as op
 use Rattle.rdt_types.specs.declared.delta.Delta.{Delta}
 use Rattle.rdt_types.specs.declared.delta.Delta.TheVariants as delta
+use Rattle.rdt_types.specs.declared.mark.Mark.TheVariants as mark
 use Rattle.rdt_types.specs.Deltas.{delta_of}
 use Rattle.conflict_table.specs.declared.observation.Obs.{Obs}
 use Rattle.conflict_table.specs.declared.observation.Obs.TheVariants as obs
@@ -62,8 +63,18 @@ clash obs.ListAll d = clears d || removes d || pushes d
 other-element : clash (obs.SetHas (codes "a")) (delta_of (op.SetAdd (codes "b"))) ≡ false
 other-element = ap is_some (map.get-insert nat_list_cmp_total map.empty (codes "b") true (codes "a") ∙ map.get-empty text_cmp (codes "a"))
 
+other-element-removed : clash (obs.SetHas (codes "a")) (delta_of (op.SetRemove (codes "b"))) ≡ false
+other-element-removed = ap is_some (map.get-insert nat_list_cmp_total map.empty (codes "b") false (codes "a") ∙ map.get-empty text_cmp (codes "a"))
+
 cleared-element : clash (obs.SetHas (codes "a")) (delta_of op.SetClear) ≡ true
 cleared-element = refl
+
+-- so it is with fields
+other-field : clash (obs.HashAt (codes "f")) (delta_of (op.HashPut (codes "g") [])) ≡ false
+other-field = ap is_some (map.get-insert nat_list_cmp_total map.empty (codes "g") (mark.Put []) (codes "f") ∙ map.get-empty text_cmp (codes "f"))
+
+other-field-removed : clash (obs.HashAt (codes "f")) (delta_of (op.HashRemove (codes "g"))) ≡ false
+other-field-removed = ap is_some (map.get-insert nat_list_cmp_total map.empty (codes "g") mark.Removed (codes "f") ∙ map.get-empty text_cmp (codes "f"))
 
 -- a push leaves the items before it where they are
 push-behind-a-place : clash (obs.ListAt 0) (delta_of (op.ListPush (codes "p"))) ≡ false

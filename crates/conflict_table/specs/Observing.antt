@@ -1,12 +1,17 @@
 -- Observations: what a read has seen of a value.
-use Rattle.std.specs.Prelude.{◌≡◌, ◌<◌, [], ◌∷◌, length, slice_get, Some, None, codes, refl}
+use Rattle.std.specs.Prelude.{◌≡◌, ◌<◌, pos, true, false, [], ◌∷◌, length, slice_get, Some, None, is_some, codes, refl}
+use Rattle.std.proofs.Common.{ap, ◌∙◌}
 use Rattle.std.specs.FinMap as map
-use Rattle.plain_data.specs.Texts.{has_text}
+use Rattle.std.specs.Cmp.Lexicographic.{nat_list_cmp_total}
+use Rattle.plain_data.specs.Texts.{text_cmp, has_text}
 use Rattle.rdt_types.specs.declared.address.Kind.{Kind}
 use Rattle.rdt_types.specs.declared.address.Kind.TheVariants as kind
 use Rattle.rdt_types.specs.declared.value.Value.{Value}
 use Rattle.rdt_types.specs.declared.value.Value.TheVariants as value
-use Rattle.rdt_types.specs.Values.{bool_in, counter_in, text_in, set_in, hash_in, list_in}
+use Rattle.rdt_types.specs.declared.operation.WriteOp.TheVariants as op
+use Rattle.rdt_types.specs.declared.delta.Delta.TheVariants as delta
+use Rattle.rdt_types.specs.Values.{bool_in, counter_in, text_in, set_in, hash_in, list_in, default_of, write}
+use Rattle.rdt_types.specs.Deltas.{apply}
 use Rattle.conflict_table.specs.declared.observation.Obs.{Obs}
 use Rattle.conflict_table.specs.declared.observation.Obs.TheVariants as obs
 use Rattle.conflict_table.specs.declared.answer.Answer.{Answer}
@@ -48,3 +53,29 @@ first-item = refl
 
 no-third-item : observe (obs.ListAt 2) (value.List (codes "p" ∷ codes "q" ∷ [])) ≡ answer.Maybe None
 no-third-item = refl
+
+-- ---- after one operation on what an address that was never written holds
+
+bool-put : observe obs.BoolIs (write (op.PutBool true) (default_of kind.Bool)) ≡ answer.Bool true
+bool-put = refl
+
+-- an element that was added is there, and no other
+element-added : observe (obs.SetHas (codes "a")) (write (op.SetAdd (codes "a")) (default_of kind.Set)) ≡ answer.Bool true
+element-added = ap (λ o. answer.Bool (is_some o)) (map.get-insert nat_list_cmp_total map.empty (codes "a") tt (codes "a"))
+
+other-added : observe (obs.SetHas (codes "a")) (write (op.SetAdd (codes "b")) (default_of kind.Set)) ≡ answer.Bool false
+other-added = ap (λ o. answer.Bool (is_some o)) (map.get-insert nat_list_cmp_total map.empty (codes "b") tt (codes "a") ∙ map.get-empty text_cmp (codes "a"))
+
+-- a field that was put has its text, and no other has any
+field-put : observe (obs.HashAt (codes "f")) (write (op.HashPut (codes "f") []) (default_of kind.Hash)) ≡ answer.Maybe (Some [])
+field-put = ap answer.Maybe (map.get-insert nat_list_cmp_total map.empty (codes "f") [] (codes "f"))
+
+other-put : observe (obs.HashAt (codes "f")) (write (op.HashPut (codes "g") []) (default_of kind.Hash)) ≡ answer.Maybe None
+other-put = ap answer.Maybe (map.get-insert nat_list_cmp_total map.empty (codes "g") [] (codes "f") ∙ map.get-empty text_cmp (codes "f"))
+
+list-cleared : observe obs.ListAll (write op.ListClear (default_of kind.List)) ≡ answer.List []
+list-cleared = refl
+
+-- an addition of 0 leaves a counter as it was
+addition-of-0 : observe obs.CounterIs (apply (delta.AddCounter (pos 0)) (value.Counter (pos 7))) ≡ answer.Counter (pos 7)
+addition-of-0 = refl

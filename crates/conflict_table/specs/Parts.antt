@@ -1,9 +1,12 @@
 -- The part of a delta that is named where it clashes with an observation.
-use Rattle.std.specs.Prelude.{◌≡◌, Bool, true, false, slice_get, Option, Some, None, option_map, codes, refl}
+use Rattle.std.specs.Prelude.{◌≡◌, pos, Bool, true, false, [], slice_get, Option, Some, None, option_map, codes, refl}
+use Rattle.std.proofs.Common.{ap}
 use Rattle.std.specs.Option.{option_or}
 use Rattle.std.specs.Bool.{then_some}
 use Rattle.std.specs.FinMap as map
+use Rattle.std.specs.Cmp.Lexicographic.{nat_list_cmp_total}
 use Rattle.plain_data.specs.Texts.{Bytes}
+use Rattle.plain_data.proofs.Overlays.{entries-empty, entries-one}
 use Rattle.rdt_types.specs.declared.mark.Mark.{Mark}
 use Rattle.rdt_types.specs.declared.mark.Mark.TheVariants as mark
 use Rattle.rdt_types.specs.declared.operation.WriteOp.{WriteOp}
@@ -96,3 +99,76 @@ shown part.ListClear = op.ListClear
 clear-before-marks : named (obs.HashAt (codes "f")) (compose (delta_of op.HashClear) (delta_of (op.HashPut (codes "f") (codes "v"))))
     ≡ Some op.HashClear
 clear-before-marks = refl
+
+-- ---- One operation: it is the part that is named, and so, by the law `clashes_have_parts`, it clashes. The operations
+-- that clash with no observation of their kind are in Clashes.
+
+-- the whole of a bool, a counter or a text
+bool-put : named obs.BoolIs (delta_of (op.PutBool true)) ≡ Some (op.PutBool true)
+bool-put = refl
+
+counter-put : named obs.CounterIs (delta_of (op.PutCounter (pos 1))) ≡ Some (op.PutCounter (pos 1))
+counter-put = refl
+
+counter-added : named obs.CounterIs (delta_of (op.AddCounter (pos 0))) ≡ Some (op.AddCounter (pos 0))
+counter-added = refl
+
+text-put : named obs.TextIs (delta_of (op.PutText [])) ≡ Some (op.PutText [])
+text-put = refl
+
+-- an element
+element-added : named (obs.SetHas (codes "a")) (delta_of (op.SetAdd (codes "a"))) ≡ Some (op.SetAdd (codes "a"))
+element-added = ap (option_map (set_part (codes "a"))) (map.get-insert nat_list_cmp_total map.empty (codes "a") true (codes "a"))
+
+element-removed : named (obs.SetHas (codes "a")) (delta_of (op.SetRemove (codes "a"))) ≡ Some (op.SetRemove (codes "a"))
+element-removed = ap (option_map (set_part (codes "a"))) (map.get-insert nat_list_cmp_total map.empty (codes "a") false (codes "a"))
+
+element-cleared : named (obs.SetHas (codes "a")) (delta_of op.SetClear) ≡ Some op.SetClear
+element-cleared = refl
+
+-- a set
+set-added : named obs.SetAll (delta_of (op.SetAdd (codes "a"))) ≡ Some (op.SetAdd (codes "a"))
+set-added = ap (λ es. option_map (λ e. set_part e.0 e.1) (slice_get es 0)) (entries-one (codes "a") true)
+
+set-removed : named obs.SetAll (delta_of (op.SetRemove (codes "a"))) ≡ Some (op.SetRemove (codes "a"))
+set-removed = ap (λ es. option_map (λ e. set_part e.0 e.1) (slice_get es 0)) (entries-one (codes "a") false)
+
+set-cleared : named obs.SetAll (delta_of op.SetClear) ≡ Some op.SetClear
+set-cleared = refl
+
+-- a field
+field-put : named (obs.HashAt (codes "f")) (delta_of (op.HashPut (codes "f") [])) ≡ Some (op.HashPut (codes "f") [])
+field-put = ap (option_map (hash_part (codes "f"))) (map.get-insert nat_list_cmp_total map.empty (codes "f") (mark.Put []) (codes "f"))
+
+field-removed : named (obs.HashAt (codes "f")) (delta_of (op.HashRemove (codes "f"))) ≡ Some (op.HashRemove (codes "f"))
+field-removed = ap (option_map (hash_part (codes "f"))) (map.get-insert nat_list_cmp_total map.empty (codes "f") mark.Removed (codes "f"))
+
+field-cleared : named (obs.HashAt (codes "f")) (delta_of op.HashClear) ≡ Some op.HashClear
+field-cleared = refl
+
+-- a hash
+hash-put : named obs.HashAll (delta_of (op.HashPut (codes "f") [])) ≡ Some (op.HashPut (codes "f") [])
+hash-put = ap (λ es. option_map (λ e. hash_part e.0 e.1) (slice_get es 0)) (entries-one (codes "f") (mark.Put []))
+
+hash-removed : named obs.HashAll (delta_of (op.HashRemove (codes "f"))) ≡ Some (op.HashRemove (codes "f"))
+hash-removed = ap (λ es. option_map (λ e. hash_part e.0 e.1) (slice_get es 0)) (entries-one (codes "f") mark.Removed)
+
+hash-cleared : named obs.HashAll (delta_of op.HashClear) ≡ Some op.HashClear
+hash-cleared = refl
+
+-- a place of a list
+place-removed : named (obs.ListAt 0) (delta_of (op.ListRemove (codes "p"))) ≡ Some (op.ListRemove (codes "p"))
+place-removed = ap (λ es. option_map (λ e. op.ListRemove e.0) (slice_get es 0)) (entries-one (codes "p") tt)
+
+place-cleared : named (obs.ListAt 0) (delta_of op.ListClear) ≡ Some op.ListClear
+place-cleared = refl
+
+-- a list
+list-pushed : named obs.ListAll (delta_of (op.ListPush (codes "p"))) ≡ Some (op.ListPush (codes "p"))
+list-pushed = ap (λ es. option_or (option_map (λ e. op.ListRemove e.0) (slice_get es 0)) (Some (op.ListPush (codes "p")))) entries-empty
+
+list-removed : named obs.ListAll (delta_of (op.ListRemove (codes "p"))) ≡ Some (op.ListRemove (codes "p"))
+list-removed = ap (λ es. option_or (option_map (λ e. op.ListRemove e.0) (slice_get es 0)) None) (entries-one (codes "p") tt)
+
+list-cleared : named obs.ListAll (delta_of op.ListClear) ≡ Some op.ListClear
+list-cleared = refl

@@ -18,5 +18,4 @@ pub mod Elsewhere
 pub mod Laters
 pub mod Reported
 pub mod Sound
-pub mod Appending
 pub mod Pauses

@@ -1,6 +1,5 @@
 pub mod Attempts
 pub mod Serial
-pub mod Plain
 pub mod Worlds
 pub mod Witnesses
 pub mod Calls

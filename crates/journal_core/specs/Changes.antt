@@ -1,5 +1,5 @@
 -- The changes of a journal's commits: one change is what a commit does at one address.
-use Rattle.std.specs.Prelude.{◌≡◌, ℕ, ◌==◌, nat_le, List, [], ◌∷◌, ◌++◌, map, filter, codes, pos, refl}
+use Rattle.std.specs.Prelude.{◌≡◌, ℕ, ◌==◌, nat_le, List, [], ◌∷◌, ◌++◌, map, filter, length, codes, pos, refl}
 use Rattle.rdt_types.specs.declared.address.Kind.TheVariants as kind
 use Rattle.rdt_types.specs.declared.address.Address.{Address}
 use Rattle.rdt_types.specs.declared.delta.Delta.TheVariants as delta
@@ -59,3 +59,29 @@ between-example = refl
 -- among four shards, the counter x is in shard 1
 of_shard-example : of_shard 4 1 (changes (adding 1 (codes "x") ∷ [])) ≡ changes_of (adding 1 (codes "x"))
 of_shard-example = refl
+
+-- how many changes in that shard there are past one number and up to another, where the first of three commits and the last
+-- change x, and the second y
+abbrev count_between : ℕ → ℕ → ℕ
+count_between from to =
+    length (of_shard 4 1 (between from to (changes (adding 1 (codes "x") ∷ adding 2 (codes "y") ∷ adding 3 (codes "x") ∷ []))))
+
+-- up to the last
+count-0-3 : count_between 0 3 ≡ 2
+count-0-3 = refl
+
+count-1-3 : count_between 1 3 ≡ 1
+count-1-3 = refl
+
+count-2-3 : count_between 2 3 ≡ 1
+count-2-3 = refl
+
+count-3-3 : count_between 3 3 ≡ 0
+count-3-3 = refl
+
+-- up to the second
+count-0-2 : count_between 0 2 ≡ 1
+count-0-2 = refl
+
+count-1-2 : count_between 1 2 ≡ 0
+count-1-2 = refl

@@ -146,3 +146,15 @@ Decides-full :
     Decides (adder 2) (of_two (adding 1 (codes "x") ∷ adding 2 (codes "x") ∷ [])) (appended.Full 2)
     (of_two (adding 1 (codes "x") ∷ adding 2 (codes "x") ∷ []))
 Decides-full = (record { clear = refl; limit_is = refl; reached = lit≤ tt }, refl)
+
+-- so it is behind three, where it takes two
+Decides-past-full :
+    Decides (adder 3) (of_two (adding 1 (codes "x") ∷ adding 2 (codes "x") ∷ adding 3 (codes "x") ∷ [])) (appended.Full 2)
+    (of_two (adding 1 (codes "x") ∷ adding 2 (codes "x") ∷ adding 3 (codes "x") ∷ []))
+Decides-past-full = (record { clear = refl; limit_is = refl; reached = lit≤ tt }, refl)
+
+-- where it has as many as it takes, a clash comes first
+Decides-clash-first :
+    Decides (adder 1) (of_two (adding 1 (codes "x") ∷ adding 2 (codes "x") ∷ [])) (appended.Clash (record { place = 0; number = 2 }))
+    (of_two (adding 1 (codes "x") ∷ adding 2 (codes "x") ∷ []))
+Decides-clash-first = (refl, refl)

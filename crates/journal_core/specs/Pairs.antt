@@ -1,5 +1,5 @@
 -- Pairs of an observation and a commit of a journal that clashes with it, and the pairs past what was prepared.
-use Rattle.std.specs.Prelude.{◌≡◌, ℕ, ◌+◌, ◌==◌, if◌then◌else◌, List, [], ◌∷◌, ◌++◌, map, filter, max, length, slice_get, Option, MatchOption, codes, refl}
+use Rattle.std.specs.Prelude.{◌≡◌, ℕ, ◌+◌, ◌==◌, if◌then◌else◌, List, [], ◌∷◌, ◌++◌, map, filter, max, length, slice_get, Option, Some, None, MatchOption, codes, refl}
 use Rattle.std.specs.List.{list_any}
 use Rattle.rdt_types.specs.declared.address.Kind.TheVariants as kind
 use Rattle.rdt_types.specs.Shards.{shard_of}
@@ -84,3 +84,64 @@ pairs-example = refl
 -- the counter x is in shard 1 of 4, and so a front of shard 1 counts for it
 past_front-example : past_front 4 (record { shard = 1; front = 2 } ∷ []) (read (codes "x")) ≡ record (read (codes "x")) { base = 2 }
 past_front-example = refl
+
+-- three commits, of which the first and the last add to x, and the second to y
+abbrev three : Journal
+three = adding 1 (codes "x") ∷ adding 2 (codes "y") ∷ adding 3 (codes "x") ∷ []
+
+-- a counter that was read at a base
+abbrev read_at : List ℕ → ℕ → Based
+read_at key base = record (read key) { base = base }
+
+-- the least pair of these observations among the three, where shard 1, which holds x, was prepared at a front
+abbrev least_of_three : List Based → ℕ → Option Found
+least_of_three based front = least_pair (past_fronts 4 (record { shard = 1; front = front } ∷ []) based) three
+
+-- the least number counts, at whichever place
+least-number : least_of_three (read_at (codes "y") 0 ∷ read_at (codes "x") 0 ∷ []) 0 ≡ Some (record { place = 1; number = 1 })
+least-number = refl
+
+least-number-between :
+    least_of_three (read_at (codes "x") 1 ∷ read_at (codes "y") 1 ∷ read_at (codes "x") 2 ∷ []) 0 ≡ Some (record { place = 1; number = 2 })
+least-number-between = refl
+
+-- and of one number the first observation
+first-observation :
+    least_of_three (read_at (codes "y") 2 ∷ read_at (codes "x") 2 ∷ read_at (codes "x") 1 ∷ []) 0 ≡ Some (record { place = 1; number = 3 })
+first-observation = refl
+
+-- where shard 1 was prepared behind commit 1, the observation of x counts from there
+first-front : least_of_three (read_at (codes "y") 2 ∷ read_at (codes "x") 0 ∷ []) 1 ≡ Some (record { place = 1; number = 3 })
+first-front = refl
+
+-- and where it was prepared behind all three, y is left, which is in another shard
+other-shard : least_of_three (read_at (codes "y") 0 ∷ read_at (codes "x") 0 ∷ []) 3 ≡ Some (record { place = 0; number = 2 })
+other-shard = refl
+
+-- the least pair of x alone, by its base and the front
+abbrev least_of_x : ℕ → ℕ → Option Found
+least_of_x base front = least_of_three (read_at (codes "x") base ∷ []) front
+
+-- behind nothing, commit 1 counts
+past-0-and-0 : least_of_x 0 0 ≡ Some (record { place = 0; number = 1 })
+past-0-and-0 = refl
+
+-- past 1 or 2, by the base or by the front, commit 3 does
+past-1-and-0 : least_of_x 1 0 ≡ Some (record { place = 0; number = 3 })
+past-1-and-0 = refl
+
+past-0-and-1 : least_of_x 0 1 ≡ Some (record { place = 0; number = 3 })
+past-0-and-1 = refl
+
+past-2-and-0 : least_of_x 2 0 ≡ Some (record { place = 0; number = 3 })
+past-2-and-0 = refl
+
+past-0-and-2 : least_of_x 0 2 ≡ Some (record { place = 0; number = 3 })
+past-0-and-2 = refl
+
+-- and past 3 none
+past-3-and-0 : least_of_x 3 0 ≡ None
+past-3-and-0 = refl
+
+past-0-and-3 : least_of_x 0 3 ≡ None
+past-0-and-3 = refl

@@ -1,8 +1,9 @@
 -- What the witness of a pair names.
-use Rattle.std.specs.Prelude.{◌≡◌, true, List, [], ◌∷◌, slice_get, Some, codes, refl}
+use Rattle.std.specs.Prelude.{◌≡◌, true, List, [], ◌∷◌, slice_get, Some, codes, pos, refl}
 use Rattle.std.specs.List.{list_any, AllByRecursion}
 use Rattle.rdt_types.specs.declared.address.Kind.TheVariants as kind
 use Rattle.rdt_types.specs.declared.delta.Delta.{Delta}
+use Rattle.rdt_types.specs.declared.operation.WriteOp.TheVariants as op
 use Rattle.rdt_types.specs.DeltaMaps.{delta_at}
 use Rattle.conflict_table.specs.declared.observation.Obs.TheVariants as obs
 use Rattle.abort_witness.specs.declared.witness.Based.{Based}
@@ -44,3 +45,18 @@ hit-example :
     IsHit (record { address = record { kind = kind.Counter; key = codes "x" }; obs = obs.CounterIs; base = 0 } ∷ []) (adding 1 (codes "x") ∷ [])
     (record { place = 0; number = 1 })
 hit-example = record { observation = _; commit = _; placed = refl; numbered = refl; clashing = refl }
+
+-- its witness, which names the addition
+witness-example :
+    IsWitnessOf (record { address = record { kind = kind.Counter; key = codes "x" }; obs = obs.CounterIs; base = 0 } ∷ []) (adding 1 (codes "x") ∷ [])
+    (record { place = 0; number = 1 })
+    (record { address = record { kind = kind.Counter; key = codes "x" }; obs = obs.CounterIs; base = 0; part = op.AddCounter (pos 1); number = 1 })
+witness-example = record {
+  observation = _;
+  commit = _;
+  delta = _;
+  placed = refl;
+  numbered = refl;
+  changed = refl;
+  names = record { address = refl; observed = refl; base = refl; part = refl; number = refl };
+}

@@ -1,5 +1,5 @@
 -- The order of addresses.
-use Rattle.std.specs.Prelude.{◌≡◌, refl}
+use Rattle.std.specs.Prelude.{◌≡◌, codes, refl}
 use Rattle.std.specs.Ordering.{nat_cmp, on, then_cmp}
 use Rattle.std.specs.Cmp.Lexicographic.{slice_cmp}
 use Rattle.std.specs.declared.cmp.Ordering.{Ordering}
@@ -28,3 +28,11 @@ set-below-hash = refl
 
 hash-below-list : kinds.ghosts.cmp kind.Hash kind.List ≡ Less
 hash-below-list = refl
+
+-- ---- addresses: the kind decides, and the key where the kind is the same
+
+bool-z-below-counter-x : address_cmp (record { kind = kind.Bool; key = codes "z" }) (record { kind = kind.Counter; key = codes "x" }) ≡ Less
+bool-z-below-counter-x = refl
+
+counter-x-below-counter-y : address_cmp (record { kind = kind.Counter; key = codes "x" }) (record { kind = kind.Counter; key = codes "y" }) ≡ Less
+counter-x-below-counter-y = refl

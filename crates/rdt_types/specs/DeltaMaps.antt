@@ -39,3 +39,9 @@ with_delta-there = refl
 with_delta-new : with_delta ((counter (codes "x"), delta.PutCounter (pos 7)) ∷ []) (counter (codes "a")) (delta.AddCounter (pos 1))
     ≡ (counter (codes "a"), delta.AddCounter (pos 1)) ∷ (counter (codes "x"), delta.PutCounter (pos 7)) ∷ []
 with_delta-new = refl
+
+-- two additions at one counter are one, also around a put at another
+with_delta-around : with_delta (with_delta (with_delta [] (counter (codes "y")) (delta.AddCounter (pos 1))) (counter (codes "x")) (delta.PutCounter (pos 2)))
+    (counter (codes "y")) (delta.AddCounter (pos 3))
+    ≡ (counter (codes "x"), delta.PutCounter (pos 2)) ∷ (counter (codes "y"), delta.AddCounter (pos 4)) ∷ []
+with_delta-around = refl

@@ -1,5 +1,5 @@
 -- Deltas: what a list of operations at one address comes to.
-use Rattle.std.specs.Prelude.{◌≡◌, ℤ, pos, Bool, true, false, Option, Some, None, refl}
+use Rattle.std.specs.Prelude.{◌≡◌, ℤ, pos, negsuc, [], codes, Bool, true, false, Option, Some, None, refl}
 use Rattle.rdt_types.specs.declared.address.Kind.{Kind}
 use Rattle.rdt_types.specs.declared.address.Kind.TheVariants as kind
 use Rattle.rdt_types.specs.declared.value.Value.{Value}
@@ -107,3 +107,15 @@ CompositionsAssociate =
 -- putting 7 and then adding 1 is putting 8
 put-then-add : compose (delta.PutCounter (pos 7)) (delta.AddCounter (pos 1)) ≡ delta.PutCounter (pos 8)
 put-then-add = refl
+
+-- putting the greatest number and then adding 1 is putting the least
+put-then-add-wraps : compose (delta.PutCounter (pos 9223372036854775807)) (delta.AddCounter (pos 1)) ≡ delta.PutCounter (negsuc 9223372036854775807)
+put-then-add-wraps = refl
+
+-- adding 3 and then taking 3 away is an addition of 0, and no delta of none
+up-then-down : compose (delta.AddCounter (pos 3)) (delta.AddCounter (negsuc 2)) ≡ delta.AddCounter (pos 0)
+up-then-down = refl
+
+-- putting a field and then clearing is clearing
+put-then-clear : compose (delta_of (op.HashPut (codes "f") [])) (delta_of op.HashClear) ≡ delta.Hash keyed.clearing
+put-then-clear = refl

@@ -1,4 +1,5 @@
-//! Attempts stepped through by hand. Shard numbers were worked out apart from the code, by the rule of the printed address.
+//! Attempts stepped through by hand: runs that go on from their pauses, and what is handed to the journal. Shard numbers were
+//! worked out apart from the code, by the rule of the printed address.
 
 ghost use Rattle.std.specs.Prelude.{◌≡◌, ◌≤◌, length, Some, IfOk};
 ghost use Rattle.txn_lang.specs.Tree.{tree};
@@ -9,7 +10,7 @@ use abort_witness::Based;
 use conflict_table::Obs;
 use docc_prepare::{Attempt, Next};
 use journal_core::Ready;
-use plain_data::{Sequence, Text};
+use plain_data::Text;
 use rdt_types::Value;
 use std::alloc::{AllocError, Global};
 use std::test::Fail;
@@ -33,45 +34,6 @@ fn checked(alloc: Global, source: &[u8]) -> Result<Checked, CheckError>
         return Err(CheckError::NoMemory);
     };
     check(alloc, body, text, false)
-}
-
-/// The shards that an attempt prepares, in order. Each address is read as 0, at a base, and each shard is prepared there.
-fn stepped(
-    alloc: Global,
-    body: Checked,
-    shards: u8,
-    base: u64,
-) -> Result<Sequence<u8>, AllocError> {
-    if shards < 1 || shards > 16 {
-        return Err(AllocError);
-    }
-    let mut attempt = Attempt::begin(alloc, body, shards);
-    let mut prepared = Sequence::new(alloc);
-    for _ in 0..40 {
-        match attempt.next(alloc)? {
-            Next::Read(address) => {
-                let value = Value::Counter(0);
-                attempt.take_snap(address, Snap { base, value })?;
-            }
-            Next::Prepare(shard, _) => {
-                prepared.push(shard)?;
-                attempt.take_prepared(Prepared { shard, front: base })?;
-            }
-            Next::Append(_) => return Ok(prepared),
-        }
-    }
-    Err(AllocError)
-}
-
-/// Whether these shards are prepared for a body, in this order.
-fn prepares(alloc: Global, source: &[u8], shards: u8, wanted: &[u8]) -> bool {
-    let Ok(body) = checked(alloc, source) else {
-        return false;
-    };
-    match stepped(alloc, body, shards, 3) {
-        Ok(prepared) => prepared.as_slice() == wanted,
-        Err(_) => false,
-    }
 }
 
 /// The run of an attempt at which each address is read as 5. It goes on from its pauses, or begins anew for each value.
@@ -130,29 +92,6 @@ fn runs_go_on_as_they_would_from_their_start(rt: HostRuntime) {
     for source in PAUSING.as_slice() {
         assert!(rt; goes_on_alike(rt.alloc(), source));
     }
-}
-
-#[test]
-fn shards_are_prepared_in_rising_order(rt: HostRuntime) -> Result<(), Fail> {
-    let alloc = rt.alloc();
-    let update = b"counter(\"x\").put(counter(\"x\").get() + 1);";
-    let skew = b"if counter(\"y\").get() == 0 { counter(\"x\").put(1); }";
-    let mixed = b"emit counter(\"y\").get(); emit counter(\"x\").get();";
-    let blind = b"counter(\"x\").add(2);";
-    assert!(&rt; prepares(alloc, update, 4, &[1]));
-    assert!(&rt; prepares(alloc, skew, 4, &[2]));
-    assert!(&rt; prepares(alloc, mixed, 4, &[1, 2]));
-    assert!(&rt; prepares(alloc, blind, 4, &[]));
-    Ok(())
-}
-
-#[test]
-fn all_shards_are_prepared(rt: HostRuntime) -> Result<(), Fail> {
-    let body =
-        b"for k in [\"a\",\"b\",\"c\",\"d\",\"e\",\"f\",\"g\",\"h\",\"i\",\"j\",\"k\",\"l\",\"m\",\"n\",\"o\",\"p\"] { emit counter(k).get(); }";
-    let all = [0, 1, 2, 3, 4, 5, 6, 7, 8, 9, 10, 11, 12, 13, 14, 15];
-    assert!(&rt; prepares(rt.alloc(), body, 16, &all));
-    Ok(())
 }
 
 /// What an attempt hands on that reads all counters as 0 at a base and is prepared there, with what it observed in a shard.

@@ -1,4 +1,9 @@
-//! Tests of journal_core, version_shard, reactive_registry, txn_eval, rerun_driver, docc_prepare and local_world: what no clause says.
+//! Tests of the crates between the data and the sessions: `journal_core`, `version_shard`, `reactive_registry`, `txn_eval`,
+//! `rerun_driver`, `docc_prepare` and `local_world`. They try what no clause says: that calls find what they need with ample
+//! memory, and worked values. Nothing stands on this crate.
+//!
+//! A module tests one crate: `journals`, `shards`, `subscriptions`, `runs`, `watches`, `attempts` and `worlds`, in that order.
+//! What a script can say of these crates is a case of `script_cases`, and what a definition says is a line beside it.
 #![tactic(auto)]
 
 #[cfg(test)]

@@ -1,5 +1,5 @@
 //! Each call once, with ample memory, over commits that each add 1 to one counter: so its value at a number is that number.
-//! The edges of windows of 1, 2 and 4,096, a tail that changes an address more than once, and what is validated.
+//! A window of 2 and one of 4,096, a tail that changes an address more than once, and what is validated.
 
 ghost use Rattle.std.specs.Prelude.{◌≡◌, ◌≤◌, ◌<◌, IfOk};
 ghost use Rattle.rdt_types.specs.declared.limits.TheConstants.{LEAST_WINDOW, MOST_WINDOW};
@@ -110,16 +110,6 @@ fn at(shard: &Shard, x: &Address, number: u64) -> Result<Result<i64, (u64, u64)>
 }
 
 #[test]
-fn a_window_of_1_reaches_back_by_1(rt: HostRuntime) -> Result<(), Fail> {
-    let x = counter(rt.alloc())?;
-    let shard = following(rt.alloc(), &x, 1, 5)?;
-    assert_eq!(rt; (shard.front(), shard.horizon()), (5, 4));
-    assert_eq!(rt; at(&shard, &x, 4)?, Ok(4));
-    assert_eq!(rt; at(&shard, &x, 3)?, Err((3, 4)));
-    Ok(())
-}
-
-#[test]
 fn a_window_of_2_reaches_back_by_2(rt: HostRuntime) -> Result<(), Fail> {
     let x = counter(rt.alloc())?;
     let shard = following(rt.alloc(), &x, 2, 5)?;
@@ -128,15 +118,6 @@ fn a_window_of_2_reaches_back_by_2(rt: HostRuntime) -> Result<(), Fail> {
     assert_eq!(rt; at(&shard, &x, 0)?, Err((0, 3)));
     let snap = shard.read(&x)?;
     assert_eq!(rt; (snap.base, count(&snap.value)), (5, 5));
-    Ok(())
-}
-
-#[test]
-fn a_long_window_reaches_back_to_the_beginning(rt: HostRuntime) -> Result<(), Fail> {
-    let x = counter(rt.alloc())?;
-    let shard = following(rt.alloc(), &x, 4096, 5)?;
-    assert_eq!(rt; at(&shard, &x, 0)?, Ok(0));
-    assert_eq!(rt; at(&shard, &x, 1)?, Ok(1));
     Ok(())
 }
 

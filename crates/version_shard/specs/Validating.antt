@@ -1,14 +1,19 @@
 -- What a shard answers of a number, and of what a transaction observed in it.
-use Rattle.std.specs.Prelude.{◌≡◌, ℕ, ◌≤◌, ◌<◌, List, Option, Some, None, IsSome, Result, Ok, Err}
+use Rattle.std.specs.Prelude.{◌≡◌, ℕ, ◌≤◌, ◌<◌, List, [], ◌∷◌, Option, Some, None, IsSome, Result, Ok, Err, codes, pos, refl}
+use Rattle.std.proofs.Common.{lit<, lit≤}
+use Rattle.rdt_types.specs.declared.address.Kind.TheVariants as kind
 use Rattle.rdt_types.specs.declared.address.Address.{Address}
+use Rattle.rdt_types.specs.declared.operation.WriteOp.TheVariants as op
 use Rattle.rdt_types.specs.declared.value.Value.{Value}
+use Rattle.rdt_types.specs.declared.value.Value.TheVariants as value
+use Rattle.conflict_table.specs.declared.observation.Obs.TheVariants as obs
 use Rattle.abort_witness.specs.declared.witness.Based.{Based}
 use Rattle.abort_witness.specs.declared.witness.Found.{Found}
 use Rattle.abort_witness.specs.declared.witness.Witness.{Witness}
 use Rattle.abort_witness.specs.Pairs.{IsPair}
 use Rattle.abort_witness.specs.Naming.{Names}
 use Rattle.txn_lang.specs.States.{Journal, state}
-use Rattle.journal_core.specs.Changes.{changes}
+use Rattle.journal_core.specs.Changes.{changes, adding}
 use Rattle.journal_core.specs.Pairs.{least_pair}
 use Rattle.version_shard.specs.declared.at_error.AtError.{AtError}
 use Rattle.version_shard.specs.declared.at_error.AtError.TheVariants as at_error
@@ -46,3 +51,80 @@ Validates journal shard based (Err (refusal.Clash witness)) = (late shard based 
 Validates journal shard based (Err refusal.NoMemory) = (late shard based ≡ None) × IsSome (least_pair based journal)
 Validates journal shard based (Ok prepared) =
     (late shard based ≡ None) × (least_pair based journal ≡ None) × (prepared ≡ record { shard = shard.number; front = shard.front })
+
+-- ---- worked lines
+
+-- the counter x, which is in shard 1 of 4
+abbrev x : Address
+x = record { kind = kind.Counter; key = codes "x" }
+
+-- five commits that each add 1 to it, so that its value at a number is that number
+abbrev five : Journal
+five = adding 1 (codes "x") ∷ adding 2 (codes "x") ∷ adding 3 (codes "x") ∷ adding 4 (codes "x") ∷ adding 5 (codes "x") ∷ []
+
+-- its shard, with a window, at the front 5; what the shard keeps is not asked
+abbrev behind_five : ℕ → Sharded
+behind_five window = record { number = 1; shards = 4; window = window; front = 5; kept = [] }
+
+-- a window of 1 reaches back to 4
+window-1 : ReadsAt five (behind_five 1) x 4 (Ok (value.Counter (pos 4)))
+window-1 = (lit≤ tt, refl)
+
+window-1-late : ReadsAt five (behind_five 1) x 3 (Err (at_error.Late 3 4))
+window-1-late = (lit< tt, refl, refl)
+
+-- a window of 2 reaches back to 3
+window-2 : ReadsAt five (behind_five 2) x 3 (Ok (value.Counter (pos 3)))
+window-2 = (lit≤ tt, refl)
+
+window-2-late : ReadsAt five (behind_five 2) x 2 (Err (at_error.Late 2 3))
+window-2-late = (lit< tt, refl, refl)
+
+window-2-later : ReadsAt five (behind_five 2) x 0 (Err (at_error.Late 0 3))
+window-2-later = (lit< tt, refl, refl)
+
+-- a window of more commits than there are reaches back to the beginning
+window-4096 : ReadsAt five (behind_five 4096) x 1 (Ok (value.Counter (pos 1)))
+window-4096 = (lit≤ tt, refl)
+
+window-4096-begins : ReadsAt five (behind_five 4096) x 0 (Ok (value.Counter (pos 0)))
+window-4096-begins = (lit≤ tt, refl)
+
+-- what was read of x at a base
+abbrev read_at : ℕ → List Based
+read_at base = record { address = x; obs = obs.CounterIs; base = base } ∷ []
+
+-- an addition by the commit of a number, which clashes with that
+abbrev added_by : ℕ → ℕ → Witness
+added_by base number = record { address = x; obs = obs.CounterIs; base = base; part = op.AddCounter (pos 1); number = number }
+
+-- late comes before a clash: the commits past 2 clash, too
+late-first : Validates five (behind_five 2) (read_at 2) (Err (refusal.Late 2 3))
+late-first = (refl, refl)
+
+-- of the two commits past 3 the first is named, and past 4 there is the last alone
+clash-past-3 : Validates five (behind_five 2) (read_at 3) (Err (refusal.Clash (added_by 3 4)))
+clash-past-3 = (
+  refl,
+  record {
+    found = record { place = 0; number = 4 };
+    pair = record { observation = _; change = _; index = 3; placed = refl; among = refl; numbered = refl; clashing = refl };
+    least = refl;
+    names = record { address = refl; observed = refl; base = refl; part = refl; number = refl };
+  },
+)
+
+clash-past-4 : Validates five (behind_five 2) (read_at 4) (Err (refusal.Clash (added_by 4 5)))
+clash-past-4 = (
+  refl,
+  record {
+    found = record { place = 0; number = 5 };
+    pair = record { observation = _; change = _; index = 4; placed = refl; among = refl; numbered = refl; clashing = refl };
+    least = refl;
+    names = record { address = refl; observed = refl; base = refl; part = refl; number = refl };
+  },
+)
+
+-- and past the front nothing clashes
+front-5 : Validates five (behind_five 2) (read_at 5) (Ok (record { shard = 1; front = 5 }))
+front-5 = (refl, refl, refl)

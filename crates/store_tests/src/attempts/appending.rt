@@ -1,12 +1,11 @@
-//! What a journal answers to an append, and what the witness of a clash names. These tests stand here, since what is appended
-//! has to be the run of a text that was parsed and checked. What was observed, and what the commits before it did, is put
-//! together by hand, and what clashes was worked out by the table of clashes: counter `x` is in shard 1 of 4, `y` in 2.
+//! What a journal answers to appends where its keeper fails or tells its list, and where two slots were reserved. What is
+//! appended has to be the run of a text that was parsed and checked; what was observed, and the commits before it, are put
+//! together by hand.
 
 ghost use Rattle.std.specs.Prelude.{◌≡◌, ◌≤◌, ◌<◌, ◌+◌, ◌^◌, ◌==◌, if◌then◌else◌, [], ◌∷◌, length, Some, IfOk, IfSome, OnOk, OnErr};
 ghost use Rattle.std.specs.Bool.{OnTrue, OnFalse};
 ghost use Rattle.std.specs.Option.{option_copied};
 ghost use Rattle.rdt_types.specs.declared.limits.TheConstants.{LEAST_COMMITS, MOST_COMMITS};
-ghost use Rattle.abort_witness.specs.Kinds.{IsBasedOfOneKind};
 ghost use Rattle.txn_lang.specs.Journals.{own};
 ghost use Rattle.journal_core.specs.declared.limits.TheConstants.{LONGEST_BODY};
 ghost use Rattle.journal_core.specs.Journals.{CanAppend, Decides};
@@ -15,69 +14,57 @@ ghost use Rattle.journal_core.specs.Kinds.{AreOfTheirKinds, HasKinds};
 ghost use Rattle.journal_core.specs.Pairs.{AreNumbered};
 ghost use Rattle.journal_core.specs.Readies.{IsRunOf};
 ghost use Rattle.journal_core.specs.Witnesses.{AreBasedOfOneKind};
-ghost use Rattle.docc_prepare.specs.Plain.{plain, plain_bytes};
+ghost use Rattle.store_tests.specs.Plain.{plain, plain_bytes};
 
 use super::checked;
 use abort_witness::{Based, BasedList, Witness};
 use conflict_table::{Obs, Steps};
 use dio_core::Count;
-use journal_core::{
-    Appended, FrontList, Journal, Keep, KeepFault, MemKeep, PreparedFront, Ready, Slot,
-};
+use journal_core::{Appended, FrontList, Journal, Keep, KeepFault, MemKeep, Ready, Slot};
 use plain_data::Text;
-use rdt_types::{Address, DeltaMap, ItemList, Outcome, Settings, WriteOp, delta_of};
+use rdt_types::{Address, Delta, DeltaMap, ItemList, Kind, Outcome, Settings};
 use std::alloc::{AllocError, Global};
 use std::marker::Brand;
 use std::sync::ledger::{Blank, Ledger};
 use std::test::Fail;
 use txn_eval::{Snaps, Step, run};
-use txn_lang::{Commit, CommitList};
+use txn_lang::{Commit, CommitList, Run};
 
 /// A body that adds to the counter `x`, and one that does nothing.
 const ADDS: &[u8] = b"counter(\"x\").add(1);";
 
 const NOTHING: &[u8] = b"let a = 1;";
 
-/// Who appends, the run of which text, and with which front of shard 1.
-#[derive(Clone, Copy)]
-struct Caller<'a> {
-    client: u32,
-    source: &'a [u8],
-    front: u64,
-}
-
-/// A client that adds to the counter `x`.
-fn adder(client: u32, front: u64) -> Caller<'static> {
-    Caller {
-        client,
-        source: ADDS,
-        front,
-    }
-}
-
 /// What came of an append.
-#[derive(Drop)]
-enum Came {
+#[derive(Clone, Copy, PartialEq)]
+enum End {
     Number(u64),
-    Clash(Witness),
+    /// The witness' base and number, where it is of the counter `x`.
+    Clash(u64, u64),
     Full(u32),
     Fault(u64, u64),
+    Other,
 }
 
 // ---- journals
 
-/// The commit of a number, by client 0, that does an operation at a key.
-fn doing(alloc: Global, number: u64, key: &[u8], op: &WriteOp) -> Result<Commit, AllocError>
+/// The counter `x`.
+fn counter(alloc: Global) -> Result<Address, AllocError>
+    ensures { IfOk result (λ address. address.kind ≡ Kind.Counter) }
+{
+    Ok(Address {
+        kind: Kind::Counter,
+        key: Text::from_slice(alloc, b"x")?,
+    })
+}
+
+/// The commit of a number, by client 0, that adds to the counter `x`.
+fn adding(alloc: Global, number: u64) -> Result<Commit, AllocError>
     ensures number { IfOk result (λ commit. commit.number ≡ number) }
     ensures kinds { IfOk result (λ commit. AreOfTheirKinds commit.deltas) }
 {
-    let delta = delta_of(alloc, op)?;
-    let address = Address {
-        kind: delta.kind(),
-        key: Text::from_slice(alloc, key)?,
-    };
     let mut deltas = DeltaMap::new(alloc);
-    deltas.insert(address, delta)?;
+    deltas.insert(counter(alloc)?, Delta::AddCounter(1))?;
     Ok(Commit {
         number,
         client: 0,
@@ -88,15 +75,15 @@ fn doing(alloc: Global, number: u64, key: &[u8], op: &WriteOp) -> Result<Commit,
     })
 }
 
-/// Three commits, of which the first and the last add to the counter `x`, and the second to `y`.
+/// Three commits that add to the counter `x`.
 fn three(alloc: Global) -> Result<CommitList, AllocError>
     ensures numbered { IfOk result AreNumbered }
     ensures kinds { IfOk result HasKinds }
 {
     let mut kept = CommitList::new(alloc);
-    kept.push(doing(alloc, 1, b"x", &WriteOp::AddCounter(1))?)?;
-    kept.push(doing(alloc, 2, b"y", &WriteOp::AddCounter(1))?)?;
-    kept.push(doing(alloc, 3, b"x", &WriteOp::AddCounter(1))?)?;
+    kept.push(adding(alloc, 1)?)?;
+    kept.push(adding(alloc, 2)?)?;
+    kept.push(adding(alloc, 3)?)?;
     Ok(kept)
 }
 
@@ -148,37 +135,58 @@ fn next_seq<K: Keep>(journal: &Journal<K>, client: u32) -> Result<u64, AllocErro
     Ok(seq)
 }
 
-/// What a text does that reads nothing, as it is handed on with observations.
+/// That the counter `x` was read at a base.
+fn read_at(alloc: Global, base: u64) -> Result<BasedList, AllocError>
+    ensures observed { IfOk result AreBasedOfOneKind }
+    ensures few { IfOk result (λ based. length based ≡ 1) }
+{
+    let mut based = BasedList::new(alloc);
+    based.push(Based {
+        address: counter(alloc)?,
+        obs: Obs::CounterIs,
+        base,
+    })?;
+    Ok(based)
+}
+
+/// The run of a text that reads nothing, and the text.
+fn ran(alloc: Global, source: &[u8]) -> Result<(Text, Run), AllocError>
+    ensures run { IfOk result (λ done. IsRunOf done.0 done.1) }
+    ensures short { IfOk result (λ done. length done.0 ≤ LONGEST_BODY) }
+{
+    let Ok(body) = checked(alloc, source) else {
+        return Err(AllocError);
+    };
+    match run(alloc, &body, &Snaps::new(alloc)) {
+        Ok(Step::Done(run)) => Ok((body.source, run)),
+        _ => Err(AllocError),
+    }
+}
+
+/// A text's run, handed on by a client that read the counter `x` at a base.
 fn handed(
     alloc: Global,
-    caller: Caller<'_>,
+    client: u32,
     seq: u64,
-    based: BasedList,
+    source: &[u8],
+    base: u64,
 ) -> Result<Ready, AllocError>
     ensures run { IfOk result (λ ready. IsRunOf ready.body ready.run) }
     ensures short { IfOk result (λ ready. length ready.body ≤ LONGEST_BODY) }
-    ensures client { IfOk result (λ ready. ready.client ≡ caller.entry.client) }
+    ensures client { IfOk result (λ ready. ready.client ≡ client) }
     ensures seq { IfOk result (λ ready. ready.seq ≡ seq) }
-    ensures based { IfOk result (λ ready. ready.based ≡ based) }
+    ensures observed { IfOk result (λ ready. AreBasedOfOneKind ready.based) }
+    ensures few { IfOk result (λ ready. length ready.based ≡ 1) }
 {
-    let Ok(body) = checked(alloc, caller.source) else {
-        return Err(AllocError);
-    };
-    let Step::Done(run) = run(alloc, &body, &Snaps::new(alloc))? else {
-        return Err(AllocError);
-    };
-    let mut fronts = FrontList::new(alloc);
-    fronts.push(PreparedFront {
-        shard: 1,
-        front: caller.front,
-    })?;
+    let based = read_at(alloc, base)?;
+    let (body, run) = ran(alloc, source)?;
     Ok(Ready {
-        client: caller.client,
+        client,
         seq,
-        body: body.source.clone()?,
+        body,
         run,
         based,
-        fronts,
+        fronts: FrontList::new(alloc),
     })
 }
 
@@ -199,8 +207,17 @@ fn decided<L: Ledger, K: Keep>(
     journal.append(ready, slot, &mut Steps::<L>::new(blank))
 }
 
-/// What comes of an append, with the witness of a clash.
-fn append<K: Keep>(journal: &mut Journal<K>, ready: &Ready) -> Result<Came, AllocError>
+/// What a witness says in short.
+fn clash(witness: &Witness) -> End {
+    if witness.address.key.as_slice() == b"x".as_slice() {
+        End::Clash(witness.base, witness.number)
+    } else {
+        End::Other
+    }
+}
+
+/// What comes of an append.
+fn append<K: Keep>(journal: &mut Journal<K>, ready: &Ready) -> Result<End, AllocError>
     requires run { IsRunOf ready.now.body ready.now.run }
     requires short { length ready.now.body ≤ LONGEST_BODY }
     requires next { ready.now.seq ≡ length (own ready.now.client journal.old.commits) + 1 }
@@ -209,219 +226,65 @@ fn append<K: Keep>(journal: &mut Journal<K>, ready: &Ready) -> Result<Came, Allo
 {
     let slot = journal.reserve(ready)?;
     match decided::<Brand, K>(Blank::new(1), journal, ready, slot) {
-        Appended::Number(number) => Ok(Came::Number(number)),
-        Appended::Clash(found) => Ok(Came::Clash(journal.witness(ready, &found)?)),
-        Appended::Full(limit) => Ok(Came::Full(limit)),
-        Appended::DiskFault(before, after) => Ok(Came::Fault(before, after)),
+        Appended::Number(number) => Ok(End::Number(number)),
+        Appended::Clash(found) => Ok(clash(&journal.witness(ready, &found)?)),
+        Appended::Full(limit) => Ok(End::Full(limit)),
+        Appended::DiskFault(before, after) => Ok(End::Fault(before, after)),
     }
 }
 
-/// What comes of a client's append, with what was observed.
-fn tried<K: Keep>(
+/// How the append of a client's text ends that read the counter `x` at a base.
+fn added<K: Keep>(
     alloc: Global,
     journal: &mut Journal<K>,
-    caller: Caller<'_>,
-    based: BasedList,
-) -> Result<Came, AllocError>
-    requires observed { AreBasedOfOneKind based }
-{
-    if based.len() > 9 {
-        return Err(AllocError);
-    }
-    let seq = next_seq(journal, caller.client)?;
-    let ready = handed(alloc, caller, seq, based)?;
+    client: u32,
+    source: &[u8],
+    base: u64,
+) -> Result<End, AllocError> {
+    let seq = next_seq(journal, client)?;
+    let ready = handed(alloc, client, seq, source, base)?;
     append(journal, &ready)
 }
 
-// ---- witnesses
+/// The client and the text of an append, the base at which the counter `x` was read, and the end.
+type Row = (u32, &'static [u8], u64, End);
 
-/// A row of the table: what was observed, what is done, and whether that clashes.
-fn row(alloc: Global, number: u32) -> Result<(Obs, WriteOp, bool), AllocError> {
-    let key = Text::from_slice(alloc, b"e")?;
-    let same = key.clone()?;
-    let other = Text::from_slice(alloc, b"o")?;
-    Ok(match number {
-        0 => (Obs::BoolIs, WriteOp::PutBool(true), true),
-        1 => (Obs::CounterIs, WriteOp::AddCounter(0), true),
-        2 => (Obs::TextIs, WriteOp::PutText(other), true),
-        3 => (Obs::SetHas(key), WriteOp::SetRemove(same), true),
-        4 => (Obs::SetHas(key), WriteOp::SetRemove(other), false),
-        5 => (Obs::SetAll, WriteOp::SetAdd(other), true),
-        6 => (Obs::HashAt(key), WriteOp::HashPut(same, other), true),
-        7 => (Obs::HashAt(key), WriteOp::HashPut(other, same), false),
-        8 => (Obs::HashAll, WriteOp::HashClear, true),
-        9 => (Obs::ListAt(2), WriteOp::ListRemove(other), true),
-        10 => (Obs::ListAt(2), WriteOp::ListPush(other), false),
-        _ => (Obs::ListAll, WriteOp::ListPush(other), true),
-    })
-}
-
-/// The observation of a row, at base 0.
-fn observed(alloc: Global, number: u32) -> Result<BasedList, AllocError>
-    ensures { IfOk result AreBasedOfOneKind }
-{
-    let (obs, _, _) = row(alloc, number)?;
-    let address = Address {
-        kind: obs.kind(),
-        key: Text::from_slice(alloc, b"k")?,
-    };
-    let mut based = BasedList::new(alloc);
-    based.push(Based {
-        address,
-        obs,
-        base: 0,
-    })?;
-    Ok(based)
-}
-
-/// A journal of one commit, which does what a row says.
-fn done(alloc: Global, number: u32) -> Result<Journal<MemKeep>, AllocError> {
-    let (_, op, _) = row(alloc, number)?;
-    let mut kept = CommitList::new(alloc);
-    kept.push(doing(alloc, 1, b"k", &op)?)?;
-    journal_of(alloc, MemKeep, kept, 9)
-}
-
-/// Whether a witness names the observation of a row, and what clashes with it.
-fn names(alloc: Global, number: u32, witness: &Witness) -> Result<bool, AllocError> {
-    let (obs, part, clashes) = row(alloc, number)?;
-    Ok(
-        clashes
-            && witness.address.kind == obs.kind()
-            && witness.address.key.as_slice() == b"k".as_slice()
-            && witness.obs == obs
-            && witness.part == part
-            && (witness.base, witness.number) == (0, 1),
-    )
-}
-
-/// Whether a row clashes as it says, and is named.
-fn holds(alloc: Global, number: u32) -> Result<bool, AllocError> {
-    let mut journal = done(alloc, number)?;
-    let based = observed(alloc, number)?;
-    match tried(alloc, &mut journal, adder(7, 0), based)? {
-        Came::Clash(witness) => names(alloc, number, &witness),
-        Came::Number(2) => Ok(!row(alloc, number)?.2),
-        _ => Ok(false),
+/// Makes appends, and answers how many ended as they should.
+fn play<K: Keep>(alloc: Global, journal: &mut Journal<K>, rows: &[Row]) -> usize {
+    for (place, (client, source, base, end)) in rows.iter().enumerate() {
+        match added(alloc, journal, *client, source, *base) {
+            Ok(found) if found == *end => {}
+            _ => return place,
+        }
     }
+    rows.len()
 }
+
+// ---- two slots
+
+/// Whether of two slots the one that was reserved first is appended.
+fn goes_first(alloc: Global, journal: &mut Journal<MemKeep>) -> Result<bool, AllocError> {
+    let seq = next_seq(journal, 7)?;
+    let first = handed(alloc, 7, seq, ADDS, 3)?;
+    let second = handed(alloc, 8, 1, ADDS, 3)?;
+    let slot = journal.reserve(&first)?;
+    let numbers = (slot.commit.number, journal.reserve(&second)?.commit.number);
+    let answer = decided::<Brand, MemKeep>(Blank::new(1), journal, &first, slot);
+    Ok(numbers == (4, 4) && answer == Appended::Number(4))
+}
+
+/// Behind the commit of the first slot.
+const BEHIND: [Row; 2] = [
+    (8, NOTHING, 3, End::Clash(3, 4)),
+    (8, NOTHING, 4, End::Number(5)),
+];
 
 #[test]
-fn an_observation_of_each_form(rt: HostRuntime) -> Result<(), Fail> {
-    for number in 0..12 {
-        assert!(rt; holds(rt.alloc(), number)?, "row {number}");
-    }
-    Ok(())
-}
-
-// ---- the least pair, the base, the front and the limit
-
-/// The same in short, where counters are observed: of a witness whether it is of `x`, its base and its number.
-#[derive(Clone, Copy, PartialEq)]
-enum End {
-    Number(u64),
-    Clash(bool, u64, u64),
-    Full(u32),
-    Fault(u64, u64),
-}
-
-fn end_of(came: Came) -> End {
-    match came {
-        Came::Number(number) => End::Number(number),
-        Came::Clash(witness) => End::Clash(
-            witness.address.key.as_slice() == b"x".as_slice(),
-            witness.base,
-            witness.number,
-        ),
-        Came::Full(limit) => End::Full(limit),
-        Came::Fault(before, after) => End::Fault(before, after),
-    }
-}
-
-/// The counter `x` or `y`, as it was observed at a base.
-fn read_of(alloc: Global, is_x: bool, base: u64) -> Result<Based, AllocError>
-    ensures { IfOk result IsBasedOfOneKind }
-{
-    let key = if is_x {
-        b"x".as_slice()
-    } else {
-        b"y".as_slice()
-    };
-    let obs = Obs::CounterIs;
-    let address = Address {
-        kind: obs.kind(),
-        key: Text::from_slice(alloc, key)?,
-    };
-    Ok(Based { address, obs, base })
-}
-
-/// Counters that were observed: whether it was `x`, and the base.
-fn reads(alloc: Global, read: &[(bool, u64)]) -> Result<BasedList, AllocError>
-    ensures { IfOk result AreBasedOfOneKind }
-{
-    let mut based = BasedList::new(alloc);
-    for pair in read {
-        based.push(read_of(alloc, pair.0, pair.1)?)?;
-    }
-    Ok(based)
-}
-
-/// How an append to a journal of three commits and a limit ends.
-fn ended(alloc: Global, limit: u32, read: &[(bool, u64)], front: u64) -> Result<End, AllocError> {
-    if limit < 1 || limit > 9 {
-        return Err(AllocError);
-    }
-    let mut journal = journal_of(alloc, MemKeep, three(alloc)?, limit)?;
-    let based = reads(alloc, read)?;
-    Ok(end_of(tried(alloc, &mut journal, adder(7, front), based)?))
-}
-
-#[test]
-fn the_least_number_and_then_the_first_observation(rt: HostRuntime) -> Result<(), Fail> {
+fn two_slots_of_one_number(rt: HostRuntime) -> Result<(), Fail> {
     let alloc = rt.alloc();
-    let (x, y) = (true, false);
-    assert!(rt; ended(alloc, 9, &[(y, 0), (x, 0)], 0)? == End::Clash(x, 0, 1));
-    assert!(rt; ended(alloc, 9, &[(x, 1), (y, 1), (x, 2)], 0)? == End::Clash(y, 1, 2));
-    assert!(rt; ended(alloc, 9, &[(y, 2), (x, 2), (x, 1)], 0)? == End::Clash(x, 2, 3));
-    assert!(rt; ended(alloc, 9, &[(y, 2), (x, 0)], 1)? == End::Clash(x, 0, 3));
-    assert!(rt; ended(alloc, 9, &[(y, 0), (x, 0)], 3)? == End::Clash(y, 0, 2));
-    Ok(())
-}
-
-#[test]
-fn what_is_past_the_base_and_the_front_clashes(rt: HostRuntime) -> Result<(), Fail> {
-    let alloc = rt.alloc();
-    for (base, front, wanted) in [
-        (0, 0, End::Clash(true, 0, 1)),
-        (1, 0, End::Clash(true, 1, 3)),
-        (0, 1, End::Clash(true, 0, 3)),
-        (2, 0, End::Clash(true, 2, 3)),
-        (0, 2, End::Clash(true, 0, 3)),
-        (3, 0, End::Number(4)),
-        (0, 3, End::Number(4)),
-    ] {
-        assert!(rt;
-            ended(alloc, 9, &[(true, base)], front)? == wanted,
-            "{base} {front}"
-        );
-    }
-    Ok(())
-}
-
-#[test]
-fn a_clash_comes_before_the_limit(rt: HostRuntime) -> Result<(), Fail> {
-    let alloc = rt.alloc();
-    for (limit, base, wanted) in [
-        (3, 2, End::Clash(true, 2, 3)),
-        (3, 3, End::Full(3)),
-        (2, 3, End::Full(2)),
-        (4, 3, End::Number(4)),
-    ] {
-        assert!(rt;
-            ended(alloc, limit, &[(true, base)], 0)? == wanted,
-            "{limit} {base}"
-        );
-    }
+    let mut journal = journal_of(alloc, MemKeep, three(alloc)?, 9)?;
+    assert!(rt; goes_first(alloc, &mut journal)?);
+    assert_eq!(rt; play(alloc, &mut journal, &BEHIND), 2);
     Ok(())
 }
 
@@ -464,21 +327,17 @@ impl Keep for Failing {
     }
 }
 
-/// How an append of a client ends that observed the counter `x` at a base.
-fn added<K: Keep>(
-    alloc: Global,
-    journal: &mut Journal<K>,
-    client: u32,
-    base: u64,
-) -> Result<End, AllocError> {
-    let caller = Caller {
-        client,
-        source: NOTHING,
-        front: 0,
-    };
-    let based = reads(alloc, &[(true, base)])?;
-    Ok(end_of(tried(alloc, journal, caller, based)?))
-}
+/// Up to the fault, and behind it.
+const TO_THE_FAULT: [Row; 3] = [
+    (7, NOTHING, 3, End::Number(4)),
+    (8, NOTHING, 2, End::Clash(2, 3)),
+    (8, NOTHING, 3, End::Fault(0, 1)),
+];
+
+const BEHIND_THE_FAULT: [Row; 2] = [
+    (8, NOTHING, 3, End::Number(5)),
+    (8, NOTHING, 3, End::Full(5)),
+];
 
 #[test]
 fn a_keeper_fails_at_its_second_call(rt: HostRuntime) -> Result<(), Fail> {
@@ -488,35 +347,10 @@ fn a_keeper_fails_at_its_second_call(rt: HostRuntime) -> Result<(), Fail> {
         faults: Count::new(),
     };
     let mut journal = journal_of(alloc, keeper, three(alloc)?, 5)?;
-    assert!(rt; added(alloc, &mut journal, 7, 3)? == End::Number(4));
-    assert!(rt; added(alloc, &mut journal, 8, 2)? == End::Clash(true, 2, 3));
-    assert!(rt; added(alloc, &mut journal, 8, 3)? == End::Fault(0, 1));
+    assert_eq!(rt; play(alloc, &mut journal, &TO_THE_FAULT), 3);
     assert!(rt; journal.length() == 4 && journal.commit(5).is_none());
-    assert!(rt; added(alloc, &mut journal, 8, 3)? == End::Number(5));
-    assert!(rt; added(alloc, &mut journal, 8, 3)? == End::Full(5));
+    assert_eq!(rt; play(alloc, &mut journal, &BEHIND_THE_FAULT), 2);
     assert!(rt; journal.close().0.faults.get() == 1);
-    Ok(())
-}
-
-/// Whether of two slots the one that was reserved first is appended.
-fn goes_first(alloc: Global, journal: &mut Journal<MemKeep>) -> Result<bool, AllocError> {
-    let caller = adder(7, 0);
-    let seq = next_seq(journal, caller.client)?;
-    let first = handed(alloc, caller, seq, BasedList::new(alloc))?;
-    let second = handed(alloc, adder(8, 0), 1, BasedList::new(alloc))?;
-    let slot = journal.reserve(&first)?;
-    let numbers = (slot.commit.number, journal.reserve(&second)?.commit.number);
-    let answer = decided::<Brand, MemKeep>(Blank::new(1), journal, &first, slot);
-    Ok(numbers == (4, 4) && answer == Appended::Number(4))
-}
-
-#[test]
-fn two_slots_of_one_number(rt: HostRuntime) -> Result<(), Fail> {
-    let alloc = rt.alloc();
-    let mut journal = journal_of(alloc, MemKeep, three(alloc)?, 9)?;
-    assert!(rt; goes_first(alloc, &mut journal)?);
-    assert!(rt; added(alloc, &mut journal, 8, 3)? == End::Clash(true, 3, 4));
-    assert!(rt; added(alloc, &mut journal, 8, 4)? == End::Number(5));
     Ok(())
 }
 
@@ -594,7 +428,7 @@ fn add_told(alloc: Global, list: &mut CommitList, bytes: &[u8]) -> Result<(), Al
 
 impl Keep for Telling {
     ghost use Rattle.std.specs.Prelude.{Some, true};
-    ghost use Rattle.docc_prepare.specs.Plain.{plain_bytes};
+    ghost use Rattle.store_tests.specs.Plain.{plain_bytes};
 
     ghost kept = { λ keeper. Some keeper.list };
 
@@ -639,6 +473,13 @@ fn has_two(list: &CommitList, client: u32) -> bool {
     }
 }
 
+/// Two commits that do nothing, and one that does something.
+const TOLD: [Row; 3] = [
+    (7, NOTHING, 0, End::Number(1)),
+    (7, NOTHING, 0, End::Number(2)),
+    (8, ADDS, 0, End::Fault(0, 1)),
+];
+
 #[test]
 fn a_keeper_tells_the_commits(rt: HostRuntime) -> Result<(), Fail> {
     let alloc = rt.alloc();
@@ -648,10 +489,7 @@ fn a_keeper_tells_the_commits(rt: HostRuntime) -> Result<(), Fail> {
         faults: Count::new(),
     };
     let mut journal = journal_of(alloc, keeper, CommitList::new(alloc), 9)?;
-    assert!(rt; added(alloc, &mut journal, 7, 0)? == End::Number(1));
-    assert!(rt; added(alloc, &mut journal, 7, 0)? == End::Number(2));
-    let based = BasedList::new(alloc);
-    assert!(rt; end_of(tried(alloc, &mut journal, adder(8, 0), based)?) == End::Fault(0, 1));
+    assert_eq!(rt; play(alloc, &mut journal, &TOLD), 3);
     let (keeper, commits) = journal.close();
     assert!(rt; has_two(&keeper.list, 7) && has_two(&commits, 7));
     Ok(())

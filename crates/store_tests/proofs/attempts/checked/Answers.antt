@@ -1,4 +1,4 @@
-use Rattle.docc_prepare.proofs.Appending.{checked-tree}
+use Rattle.store_tests.proofs.Appending.{checked-tree}
 use Rattle.store_tests.proofs.attempts.checked.Goals as goal
 
 pub returns-clause-read : goal.returns-clause-read

@@ -1,6 +1,6 @@
 use Rattle.std.proofs.Common.{◌+◌, length, ap, sym, ◌∙◌}
 use Rattle.txn_lang.specs.Journals.{own}
-use Rattle.docc_prepare.proofs.Appending.{slot-stays}
+use Rattle.store_tests.proofs.Appending.{slot-stays}
 use Rattle.store_tests.proofs.attempts.appending.goes_first.Goals as goal
 
 -- what was reserved first serves still

@@ -1,5 +1,5 @@
 use Rattle.std.proofs.Common.{◌<◌, length, arith}
-use Rattle.docc_prepare.proofs.Appending.{own-counted}
+use Rattle.store_tests.proofs.Appending.{own-counted}
 use Rattle.store_tests.proofs.attempts.appending.next_seq.Goals as goal
 
 pub loop-number-preserved : goal.loop-number-preserved

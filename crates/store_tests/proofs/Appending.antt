@@ -20,7 +20,7 @@ use Rattle.journal_core.specs.declared.slot.Slot.{Slot}
 use Rattle.journal_core.specs.Journals.{Standing, IsSlot, CanAppend, commit_at}
 use Rattle.journal_core.specs.Readies.{IsRunOf, made_of}
 use Rattle.journal_core.proofs.Witnessed.{commit-there}
-use Rattle.docc_prepare.specs.Plain.{plain}
+use Rattle.store_tests.specs.Plain.{plain}
 
 -- ---- what is appended
 
