@@ -1,12 +1,14 @@
-//! Tests of dio_core and link_buffer: what no clause says.
+//! Tests of the streams: what the clauses of `dio_core` and `link_buffer` leave open, as when a reader of std fails, or that a
+//! call succeeds. They stand apart from the two crates since each test function is proved as any other, and would be proved
+//! with its library each time that one changes.
 #![tactic(auto)]
 
 #[cfg(test)]
-mod buffered;
+mod lines;
 #[cfg(test)]
-mod line_tests;
+mod links;
 #[cfg(test)]
-mod link_tests;
+mod read_ahead;
 #[cfg(test)]
 mod streams;
 #[cfg(test)]

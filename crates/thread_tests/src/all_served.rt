@@ -3,8 +3,7 @@
 ghost use Rattle.std.specs.Prelude.{◌≡◌, None};
 ghost use Rattle.diamond_store.specs.Numbers.{HasSettings};
 
-use diamond_server::serving_all::{Tally, serve_all};
-use diamond_server::status::NO_CLIENT;
+use diamond_server::{NO_CLIENT, Tally, serve_all};
 use diamond_store::{Book, Gate, Open, Store, open};
 use dio_core::{Count, FaultPlan, Listener, MemLink, MemLinks, MemListener};
 use history_lock::{Naming, Opened};
@@ -16,7 +15,7 @@ use std::alloc::{AllocError, Global};
 use std::marker::Brand;
 use std::sync::Wait;
 use std::sync::atomic::{AtomicBool, Ordering};
-use std::test::*;
+use std::test::Fail;
 use std::thread::Threads;
 use txn_lang::{Commit, CommitList};
 

@@ -1,12 +1,14 @@
+//! Each call of a lock, by generic callers, and by two threads at once.
+
 ghost use Rattle.std.specs.Prelude.{◌≡◌, [], ◌∷◌, None};
 ghost use mathlib.Core.List.{IsPrefix};
 
-use super::*;
+use history_lock::{Author, Drawn, Front, HistoryLock, Naming, Opened, Stands};
 use std::alloc::{AllocError, Global};
 use std::marker::Brand;
 use std::process::Abort;
 use std::sync::Wait;
-use std::test::*;
+use std::test::Fail;
 use std::thread::{Threads, join};
 
 /// An author's number, and how many entries the author had added before.

@@ -2,11 +2,11 @@
 
 ghost use Rattle.std.specs.Prelude.{◌≡◌};
 
-use diamond_server::talker::{Newcomer, Talker, TestPass, TestStore};
+use crate::talker::{Newcomer, Talker, TestPass, TestStore};
 use history_lock::Naming;
 use plain_data::Text;
 use session_core::{SessionError, Turn};
-use session_text::print_reply;
+use session_text::{print_reply, push_reply};
 use std::alloc::{AllocError, Global};
 use std::marker::Model;
 use std::process::Abort;
@@ -85,4 +85,16 @@ pub(crate) fn reply_text(
         },
         _ => panic!(rt; "the line is not answered"),
     }
+}
+
+/// The replies of a turn as text, a line each.
+pub(crate) fn turn_text(alloc: Global, turn: &Turn) -> Result<Text, AllocError> {
+    let mut text = Text::new(alloc);
+    if let Turn::Replies(replies) = turn {
+        for reply in replies.as_slice() {
+            push_reply(&mut text, reply)?;
+            text.push(b'\n')?;
+        }
+    }
+    Ok(text)
 }

@@ -3,9 +3,9 @@
 ghost use Rattle.std.specs.Prelude.{◌≡◌, ◌<◌, None};
 ghost use Rattle.diamond_store.specs.Numbers.{HasSettings};
 
-use diamond_server::meeting::Founder;
-use diamond_server::replay::{Script, replies_stand, reply_of};
-use diamond_server::talker::{Newcomer, Talker, TestStore};
+use crate::meeting::Founder;
+use crate::replay::{Script, replies_stand, reply_of};
+use crate::talker::{Newcomer, Talker, TestStore};
 use diamond_store::{Book, Open, open};
 use history_lock::{Naming, Opened};
 use journal_core::MemKeep;
@@ -17,7 +17,7 @@ use std::alloc::{AllocError, Global};
 use std::marker::Brand;
 use std::process::Abort;
 use std::sync::Wait;
-use std::test::*;
+use std::test::Fail;
 use std::thread::{Threads, map_vec};
 use txn_lang::{Commit, CommitList};
 

@@ -2,9 +2,9 @@
 
 ghost use Rattle.std.specs.Prelude.{◌≡◌};
 
+use crate::talker::Talker;
 use abort_witness::BasedList;
 use change_feed::Feed;
-use diamond_server::talker::Talker;
 use diamond_store::{Open, Served};
 use docc_prepare::{AppendError, Backend, PrepareError, ReadAtError, StoreError};
 use history_lock::Naming;

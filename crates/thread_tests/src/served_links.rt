@@ -4,9 +4,8 @@ ghost use Rattle.std.specs.Prelude.{◌≡◌, None, []};
 ghost use Rattle.txn_lang.specs.Journals.{own};
 ghost use Rattle.diamond_store.specs.Numbers.{HasSettings};
 
-use diamond_server::serving::serve_session;
-use diamond_server::status::STORE_FAULT;
-use diamond_server::talker::{TestPass, TestStore};
+use crate::talker::{TestPass, TestStore};
+use diamond_server::{STORE_FAULT, serve_session};
 use diamond_store::{Book, JoinError, Open, Served, open};
 use dio_core::{End, MemLink};
 use history_lock::{Naming, Opened};
@@ -17,7 +16,7 @@ use std::alloc::{AllocError, Global};
 use std::marker::Brand;
 use std::process::Abort;
 use std::sync::Wait;
-use std::test::*;
+use std::test::Fail;
 use std::thread::{Threads, join};
 use txn_lang::CommitList;
 

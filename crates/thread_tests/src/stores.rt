@@ -1,22 +1,20 @@
-//! Each call of a store without commits, by generic callers, and by two threads at once.
+//! Calls of a store without commits.
 
 ghost use Rattle.std.specs.Prelude.{◌≡◌, IfOk, None};
-ghost use mathlib.Core.List.{IsPrefix};
 ghost use Rattle.txn_lang.specs.Short.{IsShortAddress};
 ghost use Rattle.diamond_store.specs.Numbers.{HasSettings};
 
-use super::*;
+use diamond_store::{Book, Open, Served, Store, open};
 use docc_prepare::Backend;
 use history_lock::{Naming, Opened};
-use journal_core::{Keep, MemKeep};
+use journal_core::MemKeep;
 use plain_data::Text;
 use rdt_types::{Address, Kind, Settings};
 use std::alloc::{AllocError, Global};
 use std::marker::Brand;
 use std::process::Abort;
 use std::sync::Wait;
-use std::test::*;
-use std::thread::{Threads, join};
+use std::test::Fail;
 use txn_lang::CommitList;
 
 fn counter(alloc: Global) -> Result<Address, AllocError>

@@ -5,9 +5,9 @@ ghost use Rattle.diamond_store.specs.Numbers.{HasSettings};
 ghost use Rattle.diamond_store.specs.Passes.{known_of};
 ghost use Rattle.session_core.specs.Holding.{Follows};
 
-use diamond_server::meeting::{Founder, reply_text};
-use diamond_server::rival::{Moment, Plan, Rival};
-use diamond_server::talker::{Talker, TestStore, first_session, said};
+use crate::meeting::{Founder, reply_text};
+use crate::rival::{Moment, Plan, Rival};
+use crate::talker::{Talker, TestStore, first_session, said};
 use diamond_store::{Book, Open, Served, open};
 use history_lock::{Naming, Opened};
 use journal_core::MemKeep;
@@ -17,7 +17,7 @@ use std::alloc::Global;
 use std::marker::Brand;
 use std::process::Abort;
 use std::sync::Wait;
-use std::test::*;
+use std::test::Fail;
 use txn_lang::CommitList;
 
 /// How large the store is.

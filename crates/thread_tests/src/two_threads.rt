@@ -3,8 +3,8 @@
 ghost use Rattle.std.specs.Prelude.{◌≡◌, None};
 ghost use Rattle.diamond_store.specs.Numbers.{HasSettings};
 
-use diamond_server::meeting::Founder;
-use diamond_server::talker::{Newcomer, Talker, TestPass, TestStore};
+use crate::meeting::Founder;
+use crate::talker::{Newcomer, Talker, TestPass, TestStore};
 use diamond_store::{Book, Open, open};
 use docc_prepare::StoreError;
 use history_lock::{Naming, Opened};
@@ -17,7 +17,7 @@ use std::alloc::{AllocError, Global};
 use std::marker::Brand;
 use std::process::Abort;
 use std::sync::Wait;
-use std::test::*;
+use std::test::Fail;
 use std::thread::{Threads, join};
 use txn_lang::CommitList;
 

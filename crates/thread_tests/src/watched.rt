@@ -3,9 +3,8 @@
 ghost use Rattle.std.specs.Prelude.{◌≡◌, None};
 ghost use Rattle.diamond_store.specs.Numbers.{HasSettings};
 
-use diamond_server::meeting::Founder;
-use diamond_server::replies::turn_text;
-use diamond_server::talker::{Talker, TestStore};
+use crate::meeting::{Founder, turn_text};
+use crate::talker::{Talker, TestStore};
 use diamond_store::{Book, Open, open};
 use history_lock::{Naming, Opened};
 use journal_core::MemKeep;
@@ -14,7 +13,7 @@ use std::alloc::Global;
 use std::marker::Brand;
 use std::process::Abort;
 use std::sync::Wait;
-use std::test::*;
+use std::test::Fail;
 use txn_lang::CommitList;
 
 /// Who says a line.

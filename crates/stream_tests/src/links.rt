@@ -1,10 +1,12 @@
 //! Tests of listeners, and of links over connections.
 
-ghost use Rattle.std.specs.Prelude.{Some};
+ghost use Rattle.std.specs.Prelude.{◌<◌, Some};
 
+use crate::lines;
+use crate::lines::is_next;
 use dio_core::{
-    Accepted, Connection, End, FaultPlan, Got, Line, LineFault, Listener, MemLink, MemLinks,
-    MemListener, Sink, Source, TcpLink, TcpListening, Took, next_line, write_all,
+    Accepted, Connection, End, FaultPlan, Got, Listener, MemLink, MemLinks, MemListener, Sink,
+    Source, TcpLink, TcpListening, Took, write_all,
 };
 use std::alloc::{AllocError, Global};
 use std::io;
@@ -76,13 +78,18 @@ fn an_accept_that_is_to_fail_leaves_the_links(rt: HostRuntime) -> Result<(), Fai
 }
 
 /// A connection in memory, which tells what it holds.
-impl Connection for MemLink {
-    ghost coming = { λ l. Some l.source.left };
+#[derive(Drop)]
+struct Wire {
+    link: MemLink,
+}
 
-    ghost sent = { λ l. Some l.sink.taken };
+impl Connection for Wire {
+    ghost coming = { λ w. Some w.link.source.left };
+
+    ghost sent = { λ w. Some w.link.sink.taken };
 
     fn receive(&mut self, buf: &mut [u8]) -> io::Result<usize> {
-        match self.read(buf) {
+        match self.link.read(buf) {
             Got::Bytes(count) => Ok(count),
             Got::End => Ok(0),
             Got::Failed => Err(ErrorKind::BrokenPipe.into()),
@@ -93,20 +100,25 @@ impl Connection for MemLink {
         if bytes.is_empty() {
             return Ok(0);
         }
-        match self.write(bytes) {
+        match self.link.write(bytes) {
             Took::Bytes(count) => Ok(count),
             Took::Failed => Err(ErrorKind::BrokenPipe.into()),
         }
     }
 }
 
-/// Whether the next line of a source is this.
-fn reads<S: Source>(alloc: Global, source: &mut S, wanted: &[u8]) -> bool {
-    matches!(next_line(alloc, source), Ok(Line::Bytes(bytes)) if bytes.as_slice() == wanted)
-}
-
-fn breaks<S: Source>(alloc: Global, source: &mut S) -> bool {
-    matches!(next_line(alloc, source), Err(LineFault::ReadFault))
+/// A link over a connection that gives these bytes, so many at a time, and fails at these reads and writes.
+fn wired(
+    alloc: Global,
+    bytes: &[u8],
+    piece: usize,
+    reads: &[u64],
+    writes: &[u64],
+) -> Result<TcpLink<Wire>, AllocError>
+    requires { 0 < piece }
+{
+    let link = MemLink::new(alloc, bytes, piece, reads, writes)?;
+    Ok(TcpLink::new(Wire { link }))
 }
 
 #[test]
@@ -114,11 +126,11 @@ fn a_link_over_a_connection_gives_its_bytes_and_counts_its_errors(
     rt: HostRuntime,
 ) -> Result<(), Fail> {
     let alloc = rt.alloc();
-    let mut link = TcpLink::new(MemLink::new(alloc, b"ab\ncd", 1, &[1], &[])?);
-    assert!(rt; breaks(alloc, &mut link));
-    assert!(rt; reads(alloc, &mut link, b"b"));
-    assert!(rt; reads(alloc, &mut link, b"cd"));
-    assert!(rt; matches!(next_line(alloc, &mut link), Ok(Line::End)));
+    let mut link = wired(alloc, b"ab\ncd", 1, &[1], &[])?;
+    assert!(rt; lines::breaks(alloc, &mut link));
+    assert!(rt; is_next(alloc, &mut link, b"b"));
+    assert!(rt; is_next(alloc, &mut link, b"cd"));
+    assert!(rt; lines::ends(alloc, &mut link));
     assert_eq!(rt; link.read_faults(), 1);
     assert_eq!(rt; link.write_faults(), 0);
     Ok(())
@@ -127,7 +139,7 @@ fn a_link_over_a_connection_gives_its_bytes_and_counts_its_errors(
 #[test]
 fn a_link_over_a_connection_sends_all_and_counts_its_errors(rt: HostRuntime) -> Result<(), Fail> {
     let alloc = rt.alloc();
-    let mut link = TcpLink::new(MemLink::new(alloc, b"", 2, &[], &[3])?);
+    let mut link = wired(alloc, b"", 2, &[], &[3])?;
     assert!(rt; write_all(&mut link, b"abcde") && link.flush());
     assert!(rt; !write_all(&mut link, b"f"));
     assert!(rt; write_all(&mut link, b"g"));
@@ -139,10 +151,10 @@ fn a_link_over_a_connection_sends_all_and_counts_its_errors(rt: HostRuntime) -> 
 #[test]
 fn a_link_that_is_ended_fails_and_counts(rt: HostRuntime) -> Result<(), Fail> {
     let alloc = rt.alloc();
-    let mut link = TcpLink::new(MemLink::new(alloc, b"ab", 1, &[], &[])?);
+    let mut link = wired(alloc, b"ab", 1, &[], &[])?;
     link.end();
     link.end();
-    assert!(rt; breaks(alloc, &mut link));
+    assert!(rt; lines::breaks(alloc, &mut link));
     assert!(rt; !write_all(&mut link, b"a"));
     assert!(rt; !link.flush());
     assert_eq!(rt; link.read_faults(), 1);
@@ -160,7 +172,7 @@ fn an_address_that_can_not_be_bound_fails_at_each_accept(rt: HostRuntime) {
 
 /// Whether what a link hears is this line, and it answers with that one and is ended.
 fn answers<K: End>(alloc: Global, link: &mut K, line: &[u8], reply: &[u8]) -> bool {
-    let heard = reads(alloc, link, line) && write_all(link, reply) && link.flush();
+    let heard = is_next(alloc, link, line) && write_all(link, reply) && link.flush();
     link.end();
     heard && link.read_faults() == 0 && link.write_faults() == 0
 }
