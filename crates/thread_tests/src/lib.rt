@@ -11,10 +11,6 @@
 #[cfg(test)]
 mod all_served;
 #[cfg(test)]
-mod answer_order;
-#[cfg(test)]
-mod commands;
-#[cfg(test)]
 mod locks;
 #[cfg(test)]
 mod meeting;
@@ -24,8 +20,6 @@ mod mixed;
 mod replay;
 #[cfg(test)]
 mod rival;
-#[cfg(test)]
-mod served_commands;
 #[cfg(test)]
 mod served_links;
 #[cfg(test)]
