@@ -1,11 +1,117 @@
-//! Tests of lines over sources that see the bytes ahead.
+//! Tests of lines, and of sources that see the bytes ahead.
 
-use crate::streams::reads;
-use dio_core::{Got, LONGEST_LINE, Line, Source, StdSource, next_line};
+use dio_core::{Got, LONGEST_LINE, Line, LineFault, MemSource, Source, StdSource, next_line};
 use std::alloc::{AllocError, Global};
 use std::io;
 use std::io::Read;
 use std::test::Fail;
+
+/// An answer of `next_line` as a text.
+fn shown(answer: &Result<Line, LineFault>) -> &[u8] {
+    match answer {
+        Ok(Line::Bytes(bytes)) => bytes.as_slice(),
+        Ok(Line::TooLong) => b"too long".as_slice(),
+        Ok(Line::End) => b"end".as_slice(),
+        Err(LineFault::ReadFault) => b"fault".as_slice(),
+        Err(LineFault::NoMemory) => b"no memory".as_slice(),
+    }
+}
+
+/// Whether the source's next lines are these, and it has then counted so many faults.
+pub(crate) fn reads<S: Source + Drop>(
+    alloc: Global,
+    source: Result<S, AllocError>,
+    wanted: &[&[u8]],
+    faults: u64,
+) -> bool {
+    let Ok(mut source) = source else {
+        return false;
+    };
+    for want in wanted {
+        if shown(&next_line(alloc, &mut source)) != *want {
+            return false;
+        }
+    }
+    source.read_faults() == faults
+}
+
+/// Whether an answer of `next_line` is this line.
+fn is_line(answer: &Result<Line, LineFault>, wanted: &[u8]) -> bool {
+    matches!(answer, Ok(Line::Bytes(bytes)) if bytes.as_slice() == wanted)
+}
+
+/// Whether the source's next line is this.
+pub(crate) fn is_next<S: Source>(alloc: Global, source: &mut S, wanted: &[u8]) -> bool {
+    is_line(&next_line(alloc, source), wanted)
+}
+
+/// Whether the source has no more line.
+pub(crate) fn ends<S: Source>(alloc: Global, source: &mut S) -> bool {
+    matches!(next_line(alloc, source), Ok(Line::End))
+}
+
+/// Whether a read of the source fails in its next line.
+pub(crate) fn breaks<S: Source>(alloc: Global, source: &mut S) -> bool {
+    matches!(next_line(alloc, source), Err(LineFault::ReadFault))
+}
+
+#[test]
+fn lines_end_at_newlines_and_at_the_end(rt: HostRuntime) -> Result<(), Fail> {
+    let alloc = rt.alloc();
+    let rows = [
+        (b"".as_slice(), b"end".as_slice(), b"end".as_slice()),
+        (b"ab", b"ab", b"end"),
+        (b"\n", b"", b"end"),
+        (b"ab\n", b"ab", b"end"),
+        (b"ab\ncd", b"ab", b"cd"),
+        (b"\nab", b"", b"ab"),
+    ];
+    for (input, first, second) in rows {
+        let source = MemSource::new(alloc, input, 3, &[]);
+        assert!(rt; reads(alloc, source, &[first, second], 0));
+    }
+    Ok(())
+}
+
+/// Whether this many bytes, given so many at a time, are one line or a part of one, and this is behind it.
+fn cuts(alloc: Global, length: usize, piece: usize, fits: bool, next: &[u8]) -> bool {
+    let mut input = Vec::new(alloc);
+    if input.resize(length, b'a').is_err() {
+        return false;
+    }
+    let whole = input.as_slice();
+    let first = if fits { whole } else { b"too long".as_slice() };
+    let source = MemSource::new(alloc, whole, piece.max(1), &[]);
+    reads(alloc, source, &[first, next], 0)
+}
+
+#[test]
+fn a_line_has_4096_bytes_and_a_run_1048576(rt: HostRuntime) -> Result<(), Fail> {
+    let alloc = rt.alloc();
+    for piece in [1, 3, 4_096] {
+        assert!(rt; cuts(alloc, 4_096, piece, true, b"end"));
+        assert!(rt; cuts(alloc, 4_097, piece, false, b"end"));
+        assert!(rt; cuts(alloc, 1_048_576, piece, false, b"end"));
+        assert!(rt; cuts(alloc, 1_048_577, piece, false, b"a"));
+    }
+    Ok(())
+}
+
+#[test]
+fn a_read_fault_takes_what_was_read(rt: HostRuntime) -> Result<(), Fail> {
+    let alloc = rt.alloc();
+    let rows = [
+        // At the first byte of a line, in a line, and behind a newline.
+        (0, [b"fault".as_slice(), b"ab", b"c"]),
+        (1, [b"fault", b"b", b"c"]),
+        (3, [b"ab", b"fault", b"c"]),
+    ];
+    for (call, wanted) in rows {
+        let source = MemSource::new(alloc, b"ab\nc", 1, &[call]);
+        assert!(rt; reads(alloc, source, &wanted, 1));
+    }
+    Ok(())
+}
 
 /// A reader that gives at most `piece` bytes in a call.
 #[derive(Drop)]
@@ -146,13 +252,16 @@ impl<S: Source> Source for Counted<S> {
     }
 }
 
+/// Whether an answer of `next_line` is a line of this many bytes.
+fn has_length(answer: &Result<Line, LineFault>, length: usize) -> bool {
+    matches!(answer, Ok(Line::Bytes(line)) if line.len() == length)
+}
+
 /// How many reads the next line takes, if it has this many bytes.
 fn reads_of<S: Source>(alloc: Global, source: &mut Counted<S>, length: usize) -> Option<u64> {
     source.reads = 0;
-    match next_line(alloc, source) {
-        Ok(Line::Bytes(line)) if line.len() == length => Some(source.reads),
-        _ => None,
-    }
+    let found = has_length(&next_line(alloc, source), length);
+    found.then_some(source.reads)
 }
 
 #[test]

@@ -1,10 +1,12 @@
 //! Tests of listeners, and of links over connections.
 
-ghost use Rattle.std.specs.Prelude.{Some};
+ghost use Rattle.std.specs.Prelude.{◌<◌, Some};
 
+use crate::lines;
+use crate::lines::is_next;
 use dio_core::{
-    Accepted, Connection, End, FaultPlan, Got, Line, LineFault, Listener, MemLink, MemLinks,
-    MemListener, Sink, Source, TcpLink, TcpListening, Took, next_line, write_all,
+    Accepted, Connection, End, FaultPlan, Got, Listener, MemLink, MemLinks, MemListener, Sink,
+    Source, TcpLink, TcpListening, Took, write_all,
 };
 use std::alloc::{AllocError, Global};
 use std::io;
@@ -119,25 +121,16 @@ fn wired(
     Ok(TcpLink::new(Wire { link }))
 }
 
-/// Whether the next line of a source is this.
-fn reads<S: Source>(alloc: Global, source: &mut S, wanted: &[u8]) -> bool {
-    matches!(next_line(alloc, source), Ok(Line::Bytes(bytes)) if bytes.as_slice() == wanted)
-}
-
-fn breaks<S: Source>(alloc: Global, source: &mut S) -> bool {
-    matches!(next_line(alloc, source), Err(LineFault::ReadFault))
-}
-
 #[test]
 fn a_link_over_a_connection_gives_its_bytes_and_counts_its_errors(
     rt: HostRuntime,
 ) -> Result<(), Fail> {
     let alloc = rt.alloc();
     let mut link = wired(alloc, b"ab\ncd", 1, &[1], &[])?;
-    assert!(rt; breaks(alloc, &mut link));
-    assert!(rt; reads(alloc, &mut link, b"b"));
-    assert!(rt; reads(alloc, &mut link, b"cd"));
-    assert!(rt; matches!(next_line(alloc, &mut link), Ok(Line::End)));
+    assert!(rt; lines::breaks(alloc, &mut link));
+    assert!(rt; is_next(alloc, &mut link, b"b"));
+    assert!(rt; is_next(alloc, &mut link, b"cd"));
+    assert!(rt; lines::ends(alloc, &mut link));
     assert_eq!(rt; link.read_faults(), 1);
     assert_eq!(rt; link.write_faults(), 0);
     Ok(())
@@ -161,7 +154,7 @@ fn a_link_that_is_ended_fails_and_counts(rt: HostRuntime) -> Result<(), Fail> {
     let mut link = wired(alloc, b"ab", 1, &[], &[])?;
     link.end();
     link.end();
-    assert!(rt; breaks(alloc, &mut link));
+    assert!(rt; lines::breaks(alloc, &mut link));
     assert!(rt; !write_all(&mut link, b"a"));
     assert!(rt; !link.flush());
     assert_eq!(rt; link.read_faults(), 1);
@@ -179,7 +172,7 @@ fn an_address_that_can_not_be_bound_fails_at_each_accept(rt: HostRuntime) {
 
 /// Whether what a link hears is this line, and it answers with that one and is ended.
 fn answers<K: End>(alloc: Global, link: &mut K, line: &[u8], reply: &[u8]) -> bool {
-    let heard = reads(alloc, link, line) && write_all(link, reply) && link.flush();
+    let heard = is_next(alloc, link, line) && write_all(link, reply) && link.flush();
     link.end();
     heard && link.read_faults() == 0 && link.write_faults() == 0
 }

@@ -2,9 +2,10 @@
 
 ghost use Rattle.std.specs.Prelude.{◌<◌, length};
 
+use crate::lines::{breaks, ends, is_next};
 use dio_core::{
-    Accepted, End, FaultPlan, Got, Line, LineFault, Listener, MemLink, MemLinks, MemListener, Sink,
-    Source, TcpListening, next_line, write_all,
+    Accepted, End, FaultPlan, Got, Listener, MemLink, MemLinks, MemListener, Sink, Source,
+    TcpListening, write_all,
 };
 use link_buffer::{BufferedLink, BufferedListening, READ_AHEAD};
 use std::alloc::{AllocError, Global};
@@ -12,19 +13,6 @@ use std::io;
 use std::io::{ErrorKind, Write};
 use std::net::{OpenListener, TcpStream};
 use std::test::Fail;
-
-/// Whether the next line of a source is this.
-fn reads<S: Source>(alloc: Global, source: &mut S, wanted: &[u8]) -> bool {
-    matches!(next_line(alloc, source), Ok(Line::Bytes(bytes)) if bytes.as_slice() == wanted)
-}
-
-fn ends<S: Source>(alloc: Global, source: &mut S) -> bool {
-    matches!(next_line(alloc, source), Ok(Line::End))
-}
-
-fn breaks<S: Source>(alloc: Global, source: &mut S) -> bool {
-    matches!(next_line(alloc, source), Err(LineFault::ReadFault))
-}
 
 /// The bytes of a session: short lines, an empty one, one of 2,600 bytes, and one that lacks its newline.
 fn session(alloc: Global) -> Result<Vec<u8>, AllocError> {
@@ -40,11 +28,11 @@ fn session(alloc: Global) -> Result<Vec<u8>, AllocError> {
 fn reads_session<S: Source>(alloc: Global, source: &mut S, bytes: &[u8]) -> bool
     requires { 2606 < length bytes.now }
 {
-    reads(alloc, source, b"open")
-        && reads(alloc, source, b"")
-        && reads(alloc, source, &bytes[6..2606])
-        && reads(alloc, source, b"get a")
-        && reads(alloc, source, b"quit")
+    is_next(alloc, source, b"open")
+        && is_next(alloc, source, b"")
+        && is_next(alloc, source, &bytes[6..2606])
+        && is_next(alloc, source, b"get a")
+        && is_next(alloc, source, b"quit")
         && ends(alloc, source)
         && ends(alloc, source)
         && source.read_faults() == 0
@@ -86,7 +74,7 @@ fn what_is_held_is_given_up_to_a_newline(rt: HostRuntime) -> Result<(), Fail> {
     assert!(rt; ahead.read_through(b'\n', &mut buf) == Got::Bytes(1) && buf[0] == b'\n');
     assert!(rt; ahead.read_through(b'\n', &mut buf) == Got::Bytes(2) && buf == *b"bc");
     assert!(rt; ahead.held() == b"d".as_slice());
-    assert!(rt; reads(alloc, &mut ahead, b"de"));
+    assert!(rt; is_next(alloc, &mut ahead, b"de"));
     assert!(rt; ahead.held() == b"\n".as_slice());
     Ok(())
 }
@@ -95,12 +83,12 @@ fn what_is_held_is_given_up_to_a_newline(rt: HostRuntime) -> Result<(), Fail> {
 fn a_read_fault_is_answered_once_behind_what_is_held(rt: HostRuntime) -> Result<(), Fail> {
     let alloc = rt.alloc();
     let mut ahead = BufferedLink::new(MemLink::new(alloc, b"ab\ncd\n", 4, &[1], &[])?);
-    assert!(rt; reads(alloc, &mut ahead, b"ab"));
+    assert!(rt; is_next(alloc, &mut ahead, b"ab"));
     assert!(rt; ahead.held() == b"c".as_slice());
     assert_eq!(rt; ahead.read_faults(), 0);
     assert!(rt; breaks(alloc, &mut ahead));
     assert_eq!(rt; ahead.read_faults(), 1);
-    assert!(rt; reads(alloc, &mut ahead, b"d"));
+    assert!(rt; is_next(alloc, &mut ahead, b"d"));
     assert!(rt; ends(alloc, &mut ahead));
     assert_eq!(rt; ahead.read_faults(), 1);
     Ok(())
@@ -110,13 +98,13 @@ fn a_read_fault_is_answered_once_behind_what_is_held(rt: HostRuntime) -> Result<
 fn writes_and_their_faults_pass_through(rt: HostRuntime) -> Result<(), Fail> {
     let alloc = rt.alloc();
     let mut ahead = BufferedLink::new(MemLink::new(alloc, b"a\nb\n", 4, &[], &[2])?);
-    assert!(rt; reads(alloc, &mut ahead, b"a"));
+    assert!(rt; is_next(alloc, &mut ahead, b"a"));
     assert!(rt; write_all(&mut ahead, b"done") && ahead.flush());
     assert!(rt; !write_all(&mut ahead, b"lost"));
     assert!(rt; write_all(&mut ahead, b"kept"));
     assert_eq!(rt; ahead.write_faults(), 1);
     ahead.end();
-    assert!(rt; reads(alloc, &mut ahead, b"b"));
+    assert!(rt; is_next(alloc, &mut ahead, b"b"));
     let below = ahead.into_inner();
     assert!(rt; below.sink.taken() == b"donekept".as_slice());
     assert!(rt; below.sink.passed() == b"done".as_slice());
@@ -127,7 +115,7 @@ fn writes_and_their_faults_pass_through(rt: HostRuntime) -> Result<(), Fail> {
 fn serves<N: Listener>(alloc: Global, listener: &mut N, line: &[u8], status: u8) -> bool {
     match listener.accept() {
         Accepted::Link(mut link) => {
-            reads(alloc, &mut link, line)
+            is_next(alloc, &mut link, line)
                 && write_all(&mut link, line)
                 && listener.give_back(link, status).is_ok()
         }
@@ -176,9 +164,9 @@ fn an_accept_that_fails_is_counted_and_leaves_the_links(rt: HostRuntime) -> Resu
 
 /// Whether a link hears both lines of a client, of which the second was read ahead when the link is ended, and then fails.
 fn hears_both<K: End>(alloc: Global, link: &mut K) -> bool {
-    let first = reads(alloc, link, b"one");
+    let first = is_next(alloc, link, b"one");
     link.end();
-    first && reads(alloc, link, b"two") && breaks(alloc, link) && link.read_faults() == 1
+    first && is_next(alloc, link, b"two") && breaks(alloc, link) && link.read_faults() == 1
 }
 
 #[test]

@@ -1,100 +1,14 @@
-//! Tests of the lines and of each object, with expected values from the definitions.
+//! Tests of sources, sinks and links in memory and over std, and of what isn't there.
 
+use crate::lines::{is_next, reads};
 use dio_core::{
-    Accepted, Disk, End, Line, LineFault, Listener, MemLink, MemSink, MemSource, NoDisk,
-    NoListener, Sink, Source, StdSink, StdSource, next_line, write_all,
+    Accepted, Disk, End, Listener, MemLink, MemSink, NoDisk, NoListener, Sink, Source, StdSink,
+    StdSource, write_all,
 };
 use std::alloc::{AllocError, Global};
 use std::io;
 use std::io::{ErrorKind, Read, Write};
 use std::test::Fail;
-
-/// An answer of `next_line` as a text.
-fn shown(answer: &Result<Line, LineFault>) -> &[u8] {
-    match answer {
-        Ok(Line::Bytes(bytes)) => bytes.as_slice(),
-        Ok(Line::TooLong) => b"too long".as_slice(),
-        Ok(Line::End) => b"end".as_slice(),
-        Err(LineFault::ReadFault) => b"fault".as_slice(),
-        Err(LineFault::NoMemory) => b"no memory".as_slice(),
-    }
-}
-
-/// Whether the source's next lines are these, and it has then counted so many faults.
-pub(crate) fn reads<S: Source + Drop>(
-    alloc: Global,
-    source: Result<S, AllocError>,
-    wanted: &[&[u8]],
-    faults: u64,
-) -> bool {
-    let Ok(mut source) = source else {
-        return false;
-    };
-    for want in wanted {
-        if shown(&next_line(alloc, &mut source)) != *want {
-            return false;
-        }
-    }
-    source.read_faults() == faults
-}
-
-#[test]
-fn lines_end_at_newlines_and_at_the_end(rt: HostRuntime) -> Result<(), Fail> {
-    let alloc = rt.alloc();
-    let rows = [
-        (b"".as_slice(), b"end".as_slice(), b"end".as_slice()),
-        (b"ab", b"ab", b"end"),
-        (b"\n", b"", b"end"),
-        (b"ab\n", b"ab", b"end"),
-        (b"ab\ncd", b"ab", b"cd"),
-        (b"\nab", b"", b"ab"),
-    ];
-    for (input, first, second) in rows {
-        let source = MemSource::new(alloc, input, 3, &[]);
-        assert!(rt; reads(alloc, source, &[first, second], 0));
-    }
-    Ok(())
-}
-
-/// Whether this many bytes, given so many at a time, are one line or a part of one, and this is behind it.
-fn cuts(alloc: Global, length: usize, piece: usize, fits: bool, next: &[u8]) -> bool {
-    let mut input = Vec::new(alloc);
-    if input.resize(length, b'a').is_err() {
-        return false;
-    }
-    let whole = input.as_slice();
-    let first = if fits { whole } else { b"too long".as_slice() };
-    let source = MemSource::new(alloc, whole, piece.max(1), &[]);
-    reads(alloc, source, &[first, next], 0)
-}
-
-#[test]
-fn a_line_has_4096_bytes_and_a_run_1048576(rt: HostRuntime) -> Result<(), Fail> {
-    let alloc = rt.alloc();
-    for piece in [1, 3, 4_096] {
-        assert!(rt; cuts(alloc, 4_096, piece, true, b"end"));
-        assert!(rt; cuts(alloc, 4_097, piece, false, b"end"));
-        assert!(rt; cuts(alloc, 1_048_576, piece, false, b"end"));
-        assert!(rt; cuts(alloc, 1_048_577, piece, false, b"a"));
-    }
-    Ok(())
-}
-
-#[test]
-fn a_read_fault_takes_what_was_read(rt: HostRuntime) -> Result<(), Fail> {
-    let alloc = rt.alloc();
-    let rows = [
-        // At the first byte of a line, in a line, and behind a newline.
-        (0, [b"fault".as_slice(), b"ab", b"c"]),
-        (1, [b"fault", b"b", b"c"]),
-        (3, [b"ab", b"fault", b"c"]),
-    ];
-    for (call, wanted) in rows {
-        let source = MemSource::new(alloc, b"ab\nc", 1, &[call]);
-        assert!(rt; reads(alloc, source, &wanted, 1));
-    }
-    Ok(())
-}
 
 /// Whether a write of "abc" to a sink that fails at this call takes these bytes, and whether it and a flush succeed.
 fn takes(sink: Result<MemSink, AllocError>, want: &[u8], all: bool, flushed: bool) -> bool {
@@ -129,7 +43,7 @@ fn exchanges(alloc: Global, link: Result<MemLink, AllocError>) -> bool {
     let Ok(mut link) = link else {
         return false;
     };
-    let read = shown(&next_line(alloc, &mut link)) == b"ab".as_slice();
+    let read = is_next(alloc, &mut link, b"ab");
     let written = write_all(&mut link, b"cd") && link.flush();
     link.end();
     read && written
