@@ -1,33 +1,21 @@
 //! Each call once, with ample memory; a value of each kind through a feed.
 
+use crate::given::{Write, address, delta};
 use change_feed::Feed;
 use client_cache::Cache;
-use plain_data::Text;
-use rdt_types::{Address, Delta, KeyedDelta, Kind, ListDelta, Mark, Value, default_value};
+use rdt_types::{Kind, Value, default_value};
 use std::alloc::{AllocError, Global};
-use std::test::Fail;
 
-fn address(alloc: Global, kind: Kind) -> Result<Address, AllocError> {
-    Ok(Address {
-        kind,
-        key: Text::from_slice(alloc, b"k")?,
-    })
-}
-
-/// A change of the default of a kind.
-fn change_of(alloc: Global, kind: Kind) -> Result<Delta, AllocError> {
-    let text = Text::from_slice(alloc, b"a")?;
-    Ok(match kind {
-        Kind::Bool => Delta::PutBool(true),
-        Kind::Counter => Delta::AddCounter(4),
-        Kind::Text => Delta::PutText(text),
-        Kind::Set => Delta::Set(KeyedDelta::marking(alloc, &text, true)?),
-        Kind::Hash => {
-            let put = Mark::Put(Text::from_slice(alloc, b"b")?);
-            Delta::Hash(KeyedDelta::marking(alloc, &text, put)?)
-        }
-        Kind::List => Delta::List(ListDelta::pushing(alloc, &text)?),
-    })
+/// A write of the default of a kind.
+fn write_of(kind: Kind) -> Write {
+    match kind {
+        Kind::Bool => Write::PutBool(true),
+        Kind::Counter => Write::AddCounter(4),
+        Kind::Text => Write::PutText(b"a"),
+        Kind::Set => Write::SetAdd(b"a"),
+        Kind::Hash => Write::HashPut(b"a", b"b"),
+        Kind::List => Write::ListPush(b"a"),
+    }
 }
 
 /// Whether a value is the default of its kind with that change.
@@ -43,21 +31,41 @@ fn is_changed(value: Option<&Value>) -> bool {
     }
 }
 
-/// A default of a kind that is filled in at 1, and advanced to 2.
-fn advanced(alloc: Global, kind: Kind) -> Result<Cache, AllocError> {
-    let mut cache = Cache::new(alloc, 1);
-    cache.fill(address(alloc, kind)?, default_value(alloc, kind))?;
+/// A feed up to 2 with that change.
+fn fed(alloc: Global, kind: Kind) -> Result<Feed, AllocError> {
     let mut feed = Feed::new(alloc, 2);
-    feed.add(&address(alloc, kind)?, &change_of(alloc, kind)?)?;
+    let address = address(alloc, kind, b"k")?;
+    let delta = delta(alloc, write_of(kind))?;
+    feed.add(&address, &delta)?;
+    Ok(feed)
+}
+
+/// A cache at 1 that holds the default of a kind.
+fn filled(alloc: Global, kind: Kind) -> Result<Cache, AllocError> {
+    let mut cache = Cache::new(alloc, 1);
+    cache.fill(address(alloc, kind, b"k")?, default_value(alloc, kind))?;
+    Ok(cache)
+}
+
+/// That cache, advanced by the feed.
+fn advanced(alloc: Global, kind: Kind) -> Result<Cache, AllocError> {
+    let mut cache = filled(alloc, kind)?;
+    let feed = fed(alloc, kind)?;
     if cache.at() <= feed.to() {
         cache.advance(&feed)?;
     }
     Ok(cache)
 }
 
+/// Whether it is at 2, and holds the changed value.
+fn holds_changed(alloc: Global, kind: Kind) -> Result<bool, AllocError> {
+    let cache = advanced(alloc, kind)?;
+    let address = address(alloc, kind, b"k")?;
+    Ok(cache.at() == 2 && is_changed(cache.get(&address)))
+}
+
 #[test]
-fn a_value_of_each_kind_is_advanced(rt: HostRuntime) -> Result<(), Fail> {
-    let alloc = rt.alloc();
+fn a_value_of_each_kind_is_advanced(rt: HostRuntime) {
     for kind in [
         Kind::Bool,
         Kind::Counter,
@@ -66,20 +74,21 @@ fn a_value_of_each_kind_is_advanced(rt: HostRuntime) -> Result<(), Fail> {
         Kind::Hash,
         Kind::List,
     ] {
-        let cache = advanced(alloc, kind)?;
-        assert_eq!(rt; cache.at(), 2);
-        assert!(rt; is_changed(cache.get(&address(alloc, kind)?)));
+        assert!(rt; matches!(holds_changed(rt.alloc(), kind), Ok(true)));
     }
-    Ok(())
+}
+
+/// Whether a cache of one counter holds nothing at a bool's address, and nothing at the counter's once it is released.
+fn forgets(alloc: Global) -> Result<bool, AllocError> {
+    let bool_address = address(alloc, Kind::Bool, b"k")?;
+    let counter = address(alloc, Kind::Counter, b"k")?;
+    let mut cache = advanced(alloc, Kind::Counter)?;
+    let is_absent = cache.get(&bool_address).is_none();
+    cache.release(&counter);
+    Ok(is_absent && cache.get(&counter).is_none())
 }
 
 #[test]
-fn what_is_not_held_stays_out(rt: HostRuntime) -> Result<(), Fail> {
-    let alloc = rt.alloc();
-    let mut cache = advanced(alloc, Kind::Counter)?;
-    assert!(rt; cache.get(&address(alloc, Kind::Bool)?).is_none());
-    let counter = address(alloc, Kind::Counter)?;
-    cache.release(&counter);
-    assert!(rt; cache.get(&counter).is_none());
-    Ok(())
+fn what_is_not_held_stays_out(rt: HostRuntime) {
+    assert!(rt; matches!(forgets(rt.alloc()), Ok(true)));
 }

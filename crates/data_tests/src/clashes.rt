@@ -1,11 +1,11 @@
-//! Each call once, with ample memory: the table of clashes from both sides, its named parts, and what observations answer.
+//! The part that is named where a composition clashes, what an observation answers, and the size of a counter of steps.
 
 ghost use Rattle.std.specs.Prelude.{◌≡◌};
 ghost use Rattle.conflict_table.specs.Clashes as table;
 
+use crate::given::{Seen, Write, delta, seen, write};
 use conflict_table::{Answer, Obs, Steps, clash, copy_part, observe, part};
-use plain_data::Text;
-use rdt_types::{Delta, TextList, Value, WriteOp, apply, compose, default_value, delta_of};
+use rdt_types::{Delta, Value, WriteOp, apply, compose, default_value};
 use std::alloc::{AllocError, Global};
 use std::marker::Brand;
 use std::mem::size_of;
@@ -31,184 +31,98 @@ fn named(obs: &Obs, delta: &Delta) -> Result<Option<WriteOp>, AllocError> {
     Ok(None)
 }
 
-/// The part that is named where they clash, of what may want memory.
-fn part_of(
-    obs: Result<Obs, AllocError>,
-    delta: Result<Delta, AllocError>,
-) -> Result<Option<WriteOp>, AllocError> {
-    let obs = obs?;
-    named(&obs, &delta?)
+/// The delta of a write and another behind it.
+fn and_then(alloc: Global, first: &Delta, second: Write) -> Result<Delta, AllocError> {
+    let second = delta(alloc, second)?;
+    compose(alloc, first, &second)
 }
 
-/// Whether an operation alone clashes, and is then the part that is named.
-fn alone(
-    alloc: Global,
-    obs: Result<Obs, AllocError>,
-    op: Result<WriteOp, AllocError>,
-) -> Result<bool, AllocError> {
-    let op = op?;
-    let found = part_of(obs, delta_of(alloc, &op))?;
-    Ok(found == Some(op))
-}
-
-/// The delta of an operation that may want memory.
-fn delta(alloc: Global, op: Result<WriteOp, AllocError>) -> Result<Delta, AllocError> {
-    delta_of(alloc, &op?)
-}
-
-/// The delta of two operations in turn.
-fn in_turn(
-    alloc: Global,
-    first: Result<WriteOp, AllocError>,
-    second: Result<WriteOp, AllocError>,
-) -> Result<Delta, AllocError> {
+/// The delta of two writes.
+fn in_turn(alloc: Global, first: Write, second: Write) -> Result<Delta, AllocError> {
     let first = delta(alloc, first)?;
-    compose(alloc, &first, &delta(alloc, second)?)
+    and_then(alloc, &first, second)
 }
 
-/// Whether a delta clashes and this part is named.
+/// Whether the part that is named where they clash is this write.
+fn is_named(alloc: Global, obs: &Obs, delta: &Delta, part: Write) -> Result<bool, AllocError> {
+    let part = write(alloc, part)?;
+    Ok(match named(obs, delta)? {
+        Some(found) => found == part,
+        None => false,
+    })
+}
+
+/// Whether it is the part of two writes in turn.
 fn names(
-    obs: Result<Obs, AllocError>,
-    delta: Result<Delta, AllocError>,
-    part: Result<WriteOp, AllocError>,
+    alloc: Global,
+    obs: Seen,
+    first: Write,
+    second: Write,
+    part: Write,
 ) -> Result<bool, AllocError> {
-    let found = part_of(obs, delta)?;
-    Ok(found == Some(part?))
+    let delta = in_turn(alloc, first, second)?;
+    let obs = seen(alloc, obs)?;
+    is_named(alloc, &obs, &delta, part)
 }
 
-/// What an observation answers of the value that an operation makes of a default.
-fn answer(
-    alloc: Global,
-    obs: Result<Obs, AllocError>,
-    op: Result<WriteOp, AllocError>,
-) -> Result<Answer, AllocError> {
-    let obs = obs?;
-    let value = apply(alloc, &delta(alloc, op)?, &default_value(alloc, obs.kind()))?;
+/// What is observed, two writes of which the first or the second clashes, and the part that is named.
+const COMPOSITIONS: [(Seen, Write, Write, Write); 5] = [
+    (
+        Seen::SetAll,
+        Write::SetAdd(b"b"),
+        Write::SetRemove(b"a"),
+        Write::SetRemove(b"a"),
+    ),
+    (
+        Seen::SetHas(b"b"),
+        Write::SetAdd(b"b"),
+        Write::SetRemove(b"a"),
+        Write::SetAdd(b"b"),
+    ),
+    (
+        Seen::HashAt(b"f"),
+        Write::HashClear,
+        Write::HashPut(b"f", b""),
+        Write::HashClear,
+    ),
+    (
+        Seen::ListAll,
+        Write::ListPush(b"p"),
+        Write::ListRemove(b"q"),
+        Write::ListRemove(b"q"),
+    ),
+    (
+        Seen::ListAll,
+        Write::ListPush(b"q"),
+        Write::ListPush(b"p"),
+        Write::ListPush(b"q"),
+    ),
+];
+
+#[test]
+fn the_part_is_the_one_that_the_rules_name(rt: HostRuntime) {
+    for (obs, first, second, part) in COMPOSITIONS {
+        assert!(rt; matches!(names(rt.alloc(), obs, first, second, part), Ok(true)));
+    }
+}
+
+/// What a write makes of a default.
+fn written(alloc: Global, done: Write) -> Result<Value, AllocError> {
+    let delta = delta(alloc, done)?;
+    apply(alloc, &delta, &default_value(alloc, delta.kind()))
+}
+
+/// What an observation answers of that.
+fn answer(alloc: Global, obs: Seen, done: Write) -> Result<Answer, AllocError> {
+    let value = written(alloc, done)?;
+    let obs = seen(alloc, obs)?;
     observe(alloc, &obs, &value)
 }
 
-fn text(alloc: Global, bytes: &[u8]) -> Result<Text, AllocError> {
-    Text::from_slice(alloc, bytes)
-}
-
-fn has(alloc: Global, element: &[u8]) -> Result<Obs, AllocError> {
-    Ok(Obs::SetHas(text(alloc, element)?))
-}
-
-fn at(alloc: Global, field: &[u8]) -> Result<Obs, AllocError> {
-    Ok(Obs::HashAt(text(alloc, field)?))
-}
-
-fn add(alloc: Global, element: &[u8]) -> Result<WriteOp, AllocError> {
-    Ok(WriteOp::SetAdd(text(alloc, element)?))
-}
-
-fn remove(alloc: Global, element: &[u8]) -> Result<WriteOp, AllocError> {
-    Ok(WriteOp::SetRemove(text(alloc, element)?))
-}
-
-fn put(alloc: Global, field: &[u8]) -> Result<WriteOp, AllocError> {
-    Ok(WriteOp::HashPut(text(alloc, field)?, Text::new(alloc)))
-}
-
-fn drop_field(alloc: Global, field: &[u8]) -> Result<WriteOp, AllocError> {
-    Ok(WriteOp::HashRemove(text(alloc, field)?))
-}
-
-fn push(alloc: Global, item: &[u8]) -> Result<WriteOp, AllocError> {
-    Ok(WriteOp::ListPush(text(alloc, item)?))
-}
-
-fn take_out(alloc: Global, item: &[u8]) -> Result<WriteOp, AllocError> {
-    Ok(WriteOp::ListRemove(text(alloc, item)?))
-}
-
 #[test]
-fn the_whole_clashes_with_every_write(rt: HostRuntime) -> Result<(), Fail> {
-    let alloc = rt.alloc();
-    let put_text = WriteOp::PutText(Text::new(alloc));
-    assert!(rt; alone(alloc, Ok(Obs::TextIs), Ok(put_text))?);
-    assert!(rt; alone(alloc, Ok(Obs::BoolIs), Ok(WriteOp::PutBool(true)))?);
-    assert!(rt; alone(alloc, Ok(Obs::CounterIs), Ok(WriteOp::PutCounter(1)))?);
-    assert!(rt; alone(alloc, Ok(Obs::CounterIs), Ok(WriteOp::AddCounter(0)))?);
-    Ok(())
-}
-
-#[test]
-fn elements_clash_with_what_names_them(rt: HostRuntime) -> Result<(), Fail> {
-    let alloc = rt.alloc();
-    for (key, is_clash) in [(b"a".as_slice(), true), (b"b".as_slice(), false)] {
-        assert!(rt; alone(alloc, has(alloc, b"a"), add(alloc, key))? == is_clash);
-        assert!(rt; alone(alloc, has(alloc, b"a"), remove(alloc, key))? == is_clash);
-        assert!(rt; alone(alloc, Ok(Obs::SetAll), add(alloc, key))?);
-    }
-    assert!(rt; alone(alloc, has(alloc, b"a"), Ok(WriteOp::SetClear))?);
-    assert!(rt; alone(alloc, Ok(Obs::SetAll), Ok(WriteOp::SetClear))?);
-    Ok(())
-}
-
-#[test]
-fn fields_clash_with_what_names_them(rt: HostRuntime) -> Result<(), Fail> {
-    let alloc = rt.alloc();
-    for (key, is_clash) in [(b"f".as_slice(), true), (b"g".as_slice(), false)] {
-        assert!(rt; alone(alloc, at(alloc, b"f"), put(alloc, key))? == is_clash);
-        assert!(rt; alone(alloc, at(alloc, b"f"), drop_field(alloc, key))? == is_clash);
-        assert!(rt; alone(alloc, Ok(Obs::HashAll), put(alloc, key))?);
-    }
-    assert!(rt; alone(alloc, at(alloc, b"f"), Ok(WriteOp::HashClear))?);
-    assert!(rt; alone(alloc, Ok(Obs::HashAll), Ok(WriteOp::HashClear))?);
-    Ok(())
-}
-
-#[test]
-fn a_place_clashes_with_no_push(rt: HostRuntime) -> Result<(), Fail> {
-    let alloc = rt.alloc();
-    assert!(rt; !alone(alloc, Ok(Obs::ListAt(0)), push(alloc, b"p"))?);
-    assert!(rt; alone(alloc, Ok(Obs::ListAt(0)), take_out(alloc, b"p"))?);
-    assert!(rt; alone(alloc, Ok(Obs::ListAt(0)), Ok(WriteOp::ListClear))?);
-    assert!(rt; alone(alloc, Ok(Obs::ListAll), push(alloc, b"p"))?);
-    assert!(rt; alone(alloc, Ok(Obs::ListAll), take_out(alloc, b"p"))?);
-    assert!(rt; alone(alloc, Ok(Obs::ListAll), Ok(WriteOp::ListClear))?);
-    Ok(())
-}
-
-#[test]
-fn the_part_is_the_one_that_the_rules_name(rt: HostRuntime) -> Result<(), Fail> {
-    let alloc = rt.alloc();
-    let both = in_turn(alloc, add(alloc, b"b"), remove(alloc, b"a"));
-    assert!(rt; names(Ok(Obs::SetAll), both, remove(alloc, b"a"))?);
-    let both = in_turn(alloc, add(alloc, b"b"), remove(alloc, b"a"));
-    assert!(rt; names(has(alloc, b"b"), both, add(alloc, b"b"))?);
-    let both = in_turn(alloc, Ok(WriteOp::HashClear), put(alloc, b"f"));
-    assert!(rt; names(at(alloc, b"f"), both, Ok(WriteOp::HashClear))?);
-    let both = in_turn(alloc, push(alloc, b"p"), take_out(alloc, b"q"));
-    assert!(rt; names(Ok(Obs::ListAll), both, take_out(alloc, b"q"))?);
-    let both = in_turn(alloc, push(alloc, b"q"), push(alloc, b"p"));
-    assert!(rt; names(Ok(Obs::ListAll), both, push(alloc, b"q"))?);
-    Ok(())
-}
-
-#[test]
-fn observations_answer(rt: HostRuntime) -> Result<(), Fail> {
-    let alloc = rt.alloc();
-    let put_bool = WriteOp::PutBool(true);
-    assert!(rt; answer(alloc, Ok(Obs::BoolIs), Ok(put_bool))? == Answer::Bool(true));
-    assert!(rt; answer(alloc, has(alloc, b"a"), add(alloc, b"a"))? == Answer::Bool(true));
-    assert!(rt; answer(alloc, has(alloc, b"a"), add(alloc, b"b"))? == Answer::Bool(false));
-    assert!(rt; answer(alloc, at(alloc, b"f"), put(alloc, b"g"))? == Answer::Maybe(None));
-    let put = answer(alloc, at(alloc, b"f"), put(alloc, b"f"))?;
-    assert!(rt; put == Answer::Maybe(Some(Text::new(alloc))));
-    let cleared = answer(alloc, Ok(Obs::ListAll), Ok(WriteOp::ListClear))?;
-    assert!(rt; cleared == Answer::List(TextList::new(alloc)));
-    Ok(())
-}
-
-#[test]
-fn an_addition_of_0_changes_nothing(rt: HostRuntime) -> Result<(), Fail> {
-    let alloc = rt.alloc();
-    let after = apply(alloc, &Delta::AddCounter(0), &Value::Counter(7))?;
-    assert!(rt; observe(alloc, &Obs::CounterIs, &after)? == Answer::Counter(7));
-    Ok(())
+fn observations_answer(rt: HostRuntime) {
+    let found = answer(rt.alloc(), Seen::SetHas(b"a"), Write::SetAdd(b"a"));
+    assert!(rt; matches!(found, Ok(Answer::Bool(true))));
 }
 
 #[test]

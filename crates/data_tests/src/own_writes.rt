@@ -1,287 +1,302 @@
-//! Own writes before reads, one row a case. Of what is written each byte stands for one operation: `+` adds, `-` takes out,
-//! `0` clears, `=` puts. A set, a hash and a list hold `o` and `p` before; `n` is what is added, and `o` is what is taken out.
+//! Own writes before reads, one row a case, where the definition doesn't compute; those of bools, counters and texts, and
+//! the others of lists, are worked lines in `specs/Asking` of write_buffer. Of what is written each byte stands for one
+//! write: `+` adds `n`, `-` takes out `o`, `0` clears. A set and a hash hold `o` and `p` before, with the text `x` at each
+//! field, and a list `o`, `p` and `o`.
 
+use crate::given::{Seen, Write, address, seen, text, texts, write};
 use conflict_table::{Obs, ReadOp};
 use plain_data::{Text, TextMap, TextSet};
-use rdt_types::{Address, Item, Kind, TextList, Value, WriteOp};
+use rdt_types::{Address, Item, Kind, TextList, Value};
 use std::alloc::{AllocError, Global};
-use std::test::Fail;
-use write_buffer::asked::Asked;
-use write_buffer::buffer::Buffer;
+use write_buffer::{Asked, Buffer};
 
-fn text(alloc: Global, byte: u8) -> Result<Text, AllocError> {
-    Text::from_slice(alloc, &[byte])
+/// A read.
+#[derive(Clone, Copy)]
+enum Read {
+    SetHas(&'static [u8]),
+    SetAll,
+    HashHas(&'static [u8]),
+    HashGet(&'static [u8]),
+    HashFields,
+    ListAt(i64),
+    ListAll,
 }
 
-/// The texts of these bytes.
-fn texts(alloc: Global, bytes: &[u8]) -> Result<TextList, AllocError> {
-    let mut list = TextList::new(alloc);
-    for byte in bytes {
-        list.push(text(alloc, *byte)?)?;
-    }
-    Ok(list)
+/// What it answers; of texts each byte is one.
+#[derive(Clone, Copy)]
+enum Told {
+    Bool(bool),
+    Text(&'static [u8]),
+    Texts(&'static [u8]),
 }
 
-fn set(alloc: Global) -> Result<Value, AllocError> {
-    let mut set = TextSet::new(alloc);
-    set.insert(text(alloc, b'o')?, ())?;
-    set.insert(text(alloc, b'p')?, ())?;
-    Ok(Value::Set(set))
-}
+/// What is written, a read, its answer, and what it observes of the value, if anything.
+type Row = (&'static [u8], Read, Told, Option<Seen>);
 
-/// A hash with the text `x` at each field.
-fn hash(alloc: Global) -> Result<Value, AllocError> {
-    let mut hash = TextMap::new(alloc);
-    hash.insert(text(alloc, b'o')?, text(alloc, b'x')?)?;
-    hash.insert(text(alloc, b'p')?, text(alloc, b'x')?)?;
-    Ok(Value::Hash(hash))
-}
+const SET_ROWS: [Row; 10] = [
+    (
+        b"",
+        Read::SetHas(b"o"),
+        Told::Bool(true),
+        Some(Seen::SetHas(b"o")),
+    ),
+    (
+        b"",
+        Read::SetHas(b"n"),
+        Told::Bool(false),
+        Some(Seen::SetHas(b"n")),
+    ),
+    (b"+", Read::SetHas(b"n"), Told::Bool(true), None),
+    (b"-", Read::SetHas(b"o"), Told::Bool(false), None),
+    (
+        b"-",
+        Read::SetHas(b"p"),
+        Told::Bool(true),
+        Some(Seen::SetHas(b"p")),
+    ),
+    (b"0", Read::SetHas(b"p"), Told::Bool(false), None),
+    (b"", Read::SetAll, Told::Texts(b"op"), Some(Seen::SetAll)),
+    (b"+", Read::SetAll, Told::Texts(b"nop"), Some(Seen::SetAll)),
+    (b"-", Read::SetAll, Told::Texts(b"p"), Some(Seen::SetAll)),
+    (b"0+", Read::SetAll, Told::Texts(b"n"), None),
+];
 
-fn list(alloc: Global) -> Result<Value, AllocError> {
-    Ok(Value::List(texts(alloc, b"opo")?))
-}
+const HASH_ROWS: [Row; 11] = [
+    (
+        b"",
+        Read::HashGet(b"o"),
+        Told::Text(b"x"),
+        Some(Seen::HashAt(b"o")),
+    ),
+    (
+        b"",
+        Read::HashGet(b"n"),
+        Told::Text(b""),
+        Some(Seen::HashAt(b"n")),
+    ),
+    (b"+", Read::HashGet(b"n"), Told::Text(b"y"), None),
+    (
+        b"+",
+        Read::HashGet(b"o"),
+        Told::Text(b"x"),
+        Some(Seen::HashAt(b"o")),
+    ),
+    (b"-", Read::HashGet(b"o"), Told::Text(b""), None),
+    (b"0", Read::HashGet(b"o"), Told::Text(b""), None),
+    (
+        b"",
+        Read::HashHas(b"o"),
+        Told::Bool(true),
+        Some(Seen::HashAt(b"o")),
+    ),
+    (b"+", Read::HashHas(b"n"), Told::Bool(true), None),
+    (b"-", Read::HashHas(b"o"), Told::Bool(false), None),
+    (
+        b"-",
+        Read::HashHas(b"p"),
+        Told::Bool(true),
+        Some(Seen::HashAt(b"p")),
+    ),
+    (b"0", Read::HashHas(b"o"), Told::Bool(false), None),
+];
+
+const FIELD_ROWS: [Row; 5] = [
+    (
+        b"",
+        Read::HashFields,
+        Told::Texts(b"op"),
+        Some(Seen::HashAll),
+    ),
+    (
+        b"+",
+        Read::HashFields,
+        Told::Texts(b"nop"),
+        Some(Seen::HashAll),
+    ),
+    (
+        b"-",
+        Read::HashFields,
+        Told::Texts(b"p"),
+        Some(Seen::HashAll),
+    ),
+    (b"0", Read::HashFields, Told::Texts(b""), None),
+    (b"0+", Read::HashFields, Told::Texts(b"n"), None),
+];
+
+const LIST_ROWS: [Row; 5] = [
+    (
+        b"+",
+        Read::ListAt(2),
+        Told::Text(b"o"),
+        Some(Seen::ListAt(2)),
+    ),
+    (b"+", Read::ListAt(3), Told::Text(b"n"), Some(Seen::ListAll)),
+    (b"-", Read::ListAt(0), Told::Text(b"p"), Some(Seen::ListAll)),
+    (b"-", Read::ListAt(1), Told::Text(b""), Some(Seen::ListAll)),
+    (
+        b"-+",
+        Read::ListAll,
+        Told::Texts(b"pn"),
+        Some(Seen::ListAll),
+    ),
+];
 
 /// What a byte stands for at an address of a kind.
-fn operation(alloc: Global, kind: Kind, byte: u8) -> Result<WriteOp, AllocError> {
-    Ok(match (kind, byte) {
-        (Kind::Bool, _) => WriteOp::PutBool(false),
-        (Kind::Text, _) => WriteOp::PutText(text(alloc, b'n')?),
-        (Kind::Counter, b'+') => WriteOp::AddCounter(2),
-        (Kind::Counter, _) => WriteOp::PutCounter(7),
-        (Kind::Set, b'+') => WriteOp::SetAdd(text(alloc, b'n')?),
-        (Kind::Set, b'-') => WriteOp::SetRemove(text(alloc, b'o')?),
-        (Kind::Set, _) => WriteOp::SetClear,
-        (Kind::Hash, b'+') => WriteOp::HashPut(text(alloc, b'n')?, text(alloc, b'y')?),
-        (Kind::Hash, b'-') => WriteOp::HashRemove(text(alloc, b'o')?),
-        (Kind::Hash, _) => WriteOp::HashClear,
-        (Kind::List, b'+') => WriteOp::ListPush(text(alloc, b'n')?),
-        (Kind::List, b'-') => WriteOp::ListRemove(text(alloc, b'o')?),
-        (Kind::List, _) => WriteOp::ListClear,
-    })
+fn write_of(kind: Kind, byte: u8) -> Write {
+    match (kind, byte) {
+        (Kind::Set, b'+') => Write::SetAdd(b"n"),
+        (Kind::Set, b'-') => Write::SetRemove(b"o"),
+        (Kind::Set, _) => Write::SetClear,
+        (Kind::Hash, b'+') => Write::HashPut(b"n", b"y"),
+        (Kind::Hash, b'-') => Write::HashRemove(b"o"),
+        (Kind::Hash, _) => Write::HashClear,
+        (_, b'+') => Write::ListPush(b"n"),
+        (_, b'-') => Write::ListRemove(b"o"),
+        _ => Write::ListClear,
+    }
 }
 
 /// What is written at an address.
 fn wrote(alloc: Global, address: &Address, own: &[u8]) -> Result<Buffer, AllocError> {
     let mut buffer = Buffer::new(alloc);
     for byte in own {
-        buffer.put(alloc, address, &operation(alloc, address.kind, *byte)?)?;
+        let op = write(alloc, write_of(address.kind, *byte))?;
+        buffer.put(alloc, address, &op)?;
     }
     Ok(buffer)
 }
 
-/// Whether a read over own writes and a value answers this, and what it observes. Where it observes, it needs the value,
-/// and else it answers the same without it.
-fn row(
+fn read_of(alloc: Global, read: Read) -> Result<ReadOp, AllocError> {
+    Ok(match read {
+        Read::SetHas(key) => ReadOp::SetHas(text(alloc, key)?),
+        Read::SetAll => ReadOp::SetAll,
+        Read::HashHas(key) => ReadOp::HashHas(text(alloc, key)?),
+        Read::HashGet(key) => ReadOp::HashGet(text(alloc, key)?),
+        Read::HashFields => ReadOp::HashFields,
+        Read::ListAt(place) => ReadOp::ListAt(place),
+        Read::ListAll => ReadOp::ListAll,
+    })
+}
+
+fn set(alloc: Global) -> Result<TextSet, AllocError> {
+    let mut set = TextSet::new(alloc);
+    set.insert(text(alloc, b"o")?, ())?;
+    set.insert(text(alloc, b"p")?, ())?;
+    Ok(set)
+}
+
+fn hash(alloc: Global) -> Result<TextMap<Text>, AllocError> {
+    let mut hash = TextMap::new(alloc);
+    hash.insert(text(alloc, b"o")?, text(alloc, b"x")?)?;
+    hash.insert(text(alloc, b"p")?, text(alloc, b"x")?)?;
+    Ok(hash)
+}
+
+/// The value of a kind before.
+fn value_of(alloc: Global, kind: Kind) -> Result<Value, AllocError> {
+    Ok(match kind {
+        Kind::Set => Value::Set(set(alloc)?),
+        Kind::Hash => Value::Hash(hash(alloc)?),
+        _ => Value::List(texts(alloc, &[b"o", b"p", b"o"])?),
+    })
+}
+
+/// Whether an item is this answer.
+fn is_told(item: &Item, told: Told) -> bool {
+    match (item, told) {
+        (Item::Bool(found), Told::Bool(answer)) => *found == answer,
+        (Item::Text(found), Told::Text(bytes)) => found.as_slice() == bytes,
+        (Item::Texts(found), Told::Texts(bytes)) => are_texts(found, bytes),
+        _ => false,
+    }
+}
+
+/// Whether the texts are those of some bytes, one each.
+fn are_texts(texts: &TextList, bytes: &[u8]) -> bool {
+    for (text, byte) in texts.as_slice().iter().zip(bytes) {
+        if text.as_slice() != [*byte].as_slice() {
+            return false;
+        }
+    }
+    texts.len() == bytes.len()
+}
+
+/// Whether what was observed is this.
+fn is_seen(found: &Option<Obs>, wanted: &Option<Result<Obs, AllocError>>) -> bool {
+    match (found, wanted) {
+        (Some(found), Some(Ok(wanted))) => *found == *wanted,
+        (None, None) => true,
+        _ => false,
+    }
+}
+
+/// Whether a read came to what a row says.
+fn is_answer(alloc: Global, asked: &Result<Asked, AllocError>, row: &Row) -> bool {
+    match asked {
+        Ok(Asked::Answered(item, found)) => {
+            is_told(item, row.2) && is_seen(found, &row.3.map(|obs| seen(alloc, obs)))
+        }
+        _ => false,
+    }
+}
+
+/// Whether it wants the value.
+fn is_need(asked: &Result<Asked, AllocError>) -> bool {
+    matches!(asked, Ok(Asked::Need))
+}
+
+/// Whether a read over own writes answers what a row says. Where it observes, it needs the value, and else it answers the
+/// same without it.
+fn answers(
     alloc: Global,
-    own: &[u8],
-    value: Value,
-    read: ReadOp,
-    answer: Item,
-    seen: Option<Obs>,
+    buffer: &Buffer,
+    address: &Address,
+    value: &Value,
+    row: &Row,
 ) -> Result<bool, AllocError> {
-    let address = Address {
-        kind: value.kind(),
-        key: text(alloc, b'k')?,
+    let read = read_of(alloc, row.1)?;
+    let alone = buffer.ask(alloc, address, &read, None);
+    let is_alone = match row.3 {
+        Some(_) => is_need(&alone),
+        None => is_answer(alloc, &alone, row),
     };
-    let is_needed = seen.is_some();
-    let wanted = Asked::Answered(answer, seen);
-    let buffer = wrote(alloc, &address, own)?;
-    let found = buffer.ask(alloc, &address, &read, Some(&value))?;
-    let alone = buffer.ask(alloc, &address, &read, None)?;
-    Ok(
-        found == wanted
-            && if is_needed {
-                alone == Asked::Need
-            } else {
-                alone == wanted
-            },
-    )
+    Ok(is_alone && is_answer(alloc, &buffer.ask(alloc, address, &read, Some(value)), row))
 }
 
-fn seen_if(is_seen: bool, obs: Obs) -> Option<Obs> {
-    if is_seen { Some(obs) } else { None }
+/// Whether a row holds at an address and a value.
+fn holds(alloc: Global, address: &Address, value: &Value, row: &Row) -> Result<bool, AllocError> {
+    let buffer = wrote(alloc, address, row.0)?;
+    answers(alloc, &buffer, address, value, row)
 }
 
-/// A row of `get`.
-fn get(
-    alloc: Global,
-    own: &[u8],
-    value: Value,
-    answer: Item,
-    seen: Option<Obs>,
-) -> Result<bool, AllocError> {
-    row(alloc, own, value, ReadOp::Get, answer, seen)
-}
-
-/// A row of `get` of a counter that is 40.
-fn counter(alloc: Global, own: &[u8], answer: i64, is_seen: bool) -> Result<bool, AllocError> {
-    let seen = seen_if(is_seen, Obs::CounterIs);
-    get(alloc, own, Value::Counter(40), Item::Int(answer), seen)
-}
-
-/// A row of `has` of an element.
-fn element(
-    alloc: Global,
-    own: &[u8],
-    byte: u8,
-    answer: bool,
-    is_seen: bool,
-) -> Result<bool, AllocError> {
-    let seen = seen_if(is_seen, Obs::SetHas(text(alloc, byte)?));
-    let read = ReadOp::SetHas(text(alloc, byte)?);
-    row(alloc, own, set(alloc)?, read, Item::Bool(answer), seen)
-}
-
-/// A row of `all` of the set.
-fn elements(alloc: Global, own: &[u8], answer: &[u8], is_seen: bool) -> Result<bool, AllocError> {
-    let answer = Item::Texts(texts(alloc, answer)?);
-    let seen = seen_if(is_seen, Obs::SetAll);
-    row(alloc, own, set(alloc)?, ReadOp::SetAll, answer, seen)
-}
-
-/// A row of `has` of a field.
-fn has_field(
-    alloc: Global,
-    own: &[u8],
-    byte: u8,
-    answer: bool,
-    is_seen: bool,
-) -> Result<bool, AllocError> {
-    let seen = seen_if(is_seen, Obs::HashAt(text(alloc, byte)?));
-    let read = ReadOp::HashHas(text(alloc, byte)?);
-    row(alloc, own, hash(alloc)?, read, Item::Bool(answer), seen)
-}
-
-/// A row of `get` of a field.
-fn field(
-    alloc: Global,
-    own: &[u8],
-    byte: u8,
-    answer: &[u8],
-    is_seen: bool,
-) -> Result<bool, AllocError> {
-    let answer = Item::Text(Text::from_slice(alloc, answer)?);
-    let seen = seen_if(is_seen, Obs::HashAt(text(alloc, byte)?));
-    let read = ReadOp::HashGet(text(alloc, byte)?);
-    row(alloc, own, hash(alloc)?, read, answer, seen)
-}
-
-/// A row of `fields`.
-fn fields(alloc: Global, own: &[u8], answer: &[u8], is_seen: bool) -> Result<bool, AllocError> {
-    let answer = Item::Texts(texts(alloc, answer)?);
-    let seen = seen_if(is_seen, Obs::HashAll);
-    row(alloc, own, hash(alloc)?, ReadOp::HashFields, answer, seen)
-}
-
-/// A row of `at`.
-fn item(
-    alloc: Global,
-    own: &[u8],
-    place: i64,
-    answer: &[u8],
-    seen: Option<Obs>,
-) -> Result<bool, AllocError> {
-    let answer = Item::Text(Text::from_slice(alloc, answer)?);
-    row(
-        alloc,
-        own,
-        list(alloc)?,
-        ReadOp::ListAt(place),
-        answer,
-        seen,
-    )
-}
-
-/// A row of `all` of the list.
-fn items(alloc: Global, own: &[u8], answer: &[u8], is_seen: bool) -> Result<bool, AllocError> {
-    let answer = Item::Texts(texts(alloc, answer)?);
-    let seen = seen_if(is_seen, Obs::ListAll);
-    row(alloc, own, list(alloc)?, ReadOp::ListAll, answer, seen)
-}
-
-/// A row of `get` of a bool that is true.
-fn bool_is(alloc: Global, own: &[u8], answer: bool, seen: Option<Obs>) -> Result<bool, AllocError> {
-    get(alloc, own, Value::Bool(true), Item::Bool(answer), seen)
-}
-
-/// A row of `get` of the text `o`.
-fn text_is(alloc: Global, own: &[u8], answer: u8, seen: Option<Obs>) -> Result<bool, AllocError> {
-    let answer = Item::Text(text(alloc, answer)?);
-    get(alloc, own, Value::Text(text(alloc, b'o')?), answer, seen)
+/// Whether each row of a kind holds.
+fn all_hold(alloc: Global, kind: Kind, rows: &[Row]) -> Result<bool, AllocError> {
+    let address = address(alloc, kind, b"k")?;
+    let value = value_of(alloc, kind)?;
+    for row in rows {
+        if !holds(alloc, &address, &value, row)? {
+            return Ok(false);
+        }
+    }
+    Ok(true)
 }
 
 #[test]
-fn wholes(rt: HostRuntime) -> Result<(), Fail> {
-    let alloc = rt.alloc();
-    assert!(rt; bool_is(alloc, b"", true, Some(Obs::BoolIs))?);
-    assert!(rt; bool_is(alloc, b"=", false, None)?);
-    assert!(rt; text_is(alloc, b"", b'o', Some(Obs::TextIs))?);
-    assert!(rt; text_is(alloc, b"=", b'n', None)?);
-    assert!(rt; counter(alloc, b"", 40, true)?);
-    assert!(rt; counter(alloc, b"+", 42, true)?);
-    assert!(rt; counter(alloc, b"=", 7, false)?);
-    assert!(rt; counter(alloc, b"=+", 9, false)?);
-    assert!(rt; counter(alloc, b"+=", 7, false)?);
-    Ok(())
+fn sets(rt: HostRuntime) {
+    assert!(rt; matches!(all_hold(rt.alloc(), Kind::Set, &SET_ROWS), Ok(true)));
 }
 
 #[test]
-fn sets(rt: HostRuntime) -> Result<(), Fail> {
-    let alloc = rt.alloc();
-    assert!(rt; element(alloc, b"", b'o', true, true)?);
-    assert!(rt; element(alloc, b"", b'n', false, true)?);
-    assert!(rt; element(alloc, b"+", b'n', true, false)?);
-    assert!(rt; element(alloc, b"-", b'o', false, false)?);
-    assert!(rt; element(alloc, b"-", b'p', true, true)?);
-    assert!(rt; element(alloc, b"0", b'p', false, false)?);
-    assert!(rt; elements(alloc, b"", b"op", true)?);
-    assert!(rt; elements(alloc, b"+", b"nop", true)?);
-    assert!(rt; elements(alloc, b"-", b"p", true)?);
-    assert!(rt; elements(alloc, b"0+", b"n", false)?);
-    Ok(())
+fn hashes(rt: HostRuntime) {
+    assert!(rt; matches!(all_hold(rt.alloc(), Kind::Hash, &HASH_ROWS), Ok(true)));
 }
 
 #[test]
-fn hashes(rt: HostRuntime) -> Result<(), Fail> {
-    let alloc = rt.alloc();
-    assert!(rt; field(alloc, b"", b'o', b"x", true)?);
-    assert!(rt; field(alloc, b"", b'n', b"", true)?);
-    assert!(rt; field(alloc, b"+", b'n', b"y", false)?);
-    assert!(rt; field(alloc, b"+", b'o', b"x", true)?);
-    assert!(rt; field(alloc, b"-", b'o', b"", false)?);
-    assert!(rt; field(alloc, b"0", b'o', b"", false)?);
-    assert!(rt; has_field(alloc, b"", b'o', true, true)?);
-    assert!(rt; has_field(alloc, b"+", b'n', true, false)?);
-    assert!(rt; has_field(alloc, b"-", b'o', false, false)?);
-    assert!(rt; has_field(alloc, b"-", b'p', true, true)?);
-    assert!(rt; has_field(alloc, b"0", b'o', false, false)?);
-    Ok(())
+fn fields_of_hashes(rt: HostRuntime) {
+    assert!(rt; matches!(all_hold(rt.alloc(), Kind::Hash, &FIELD_ROWS), Ok(true)));
 }
 
 #[test]
-fn fields_of_hashes(rt: HostRuntime) -> Result<(), Fail> {
-    let alloc = rt.alloc();
-    assert!(rt; fields(alloc, b"", b"op", true)?);
-    assert!(rt; fields(alloc, b"+", b"nop", true)?);
-    assert!(rt; fields(alloc, b"-", b"p", true)?);
-    assert!(rt; fields(alloc, b"0", b"", false)?);
-    assert!(rt; fields(alloc, b"0+", b"n", false)?);
-    Ok(())
-}
-
-#[test]
-fn lists(rt: HostRuntime) -> Result<(), Fail> {
-    let alloc = rt.alloc();
-    assert!(rt; item(alloc, b"", 1, b"p", Some(Obs::ListAt(1)))?);
-    assert!(rt; item(alloc, b"", 3, b"", Some(Obs::ListAll))?);
-    assert!(rt; item(alloc, b"", -1, b"", None)?);
-    assert!(rt; item(alloc, b"+", 2, b"o", Some(Obs::ListAt(2)))?);
-    assert!(rt; item(alloc, b"+", 3, b"n", Some(Obs::ListAll))?);
-    assert!(rt; item(alloc, b"-", 0, b"p", Some(Obs::ListAll))?);
-    assert!(rt; item(alloc, b"-", 1, b"", Some(Obs::ListAll))?);
-    assert!(rt; item(alloc, b"0+", 0, b"n", None)?);
-    assert!(rt; items(alloc, b"", b"opo", true)?);
-    assert!(rt; items(alloc, b"-+", b"pn", true)?);
-    assert!(rt; items(alloc, b"0+", b"n", false)?);
-    Ok(())
+fn lists(rt: HostRuntime) {
+    assert!(rt; matches!(all_hold(rt.alloc(), Kind::List, &LIST_ROWS), Ok(true)));
 }

@@ -3,21 +3,19 @@
 
 ghost use Rattle.std.specs.Prelude.{◌≡◌};
 
+use crate::given::{Seen, Write, address, delta, seen, write};
 use abort_witness::{Based, BasedList, Found, Witness, name};
 use change_feed::Change;
 use conflict_table::{Obs, Steps, clash};
-use plain_data::{Text, copied};
-use rdt_types::{Address, Kind, WriteOp, delta_of};
+use plain_data::copied;
+use rdt_types::{Address, Kind, WriteOp};
 use std::alloc::{AllocError, Global};
 use std::marker::Brand;
 use std::sync::ledger::{Blank, Ledger};
 use std::test::Fail;
 
 fn counter(alloc: Global) -> Result<Address, AllocError> {
-    Ok(Address {
-        kind: Kind::Counter,
-        key: Text::from_slice(alloc, b"x")?,
-    })
+    address(alloc, Kind::Counter, b"x")
 }
 
 #[test]
@@ -58,35 +56,32 @@ fn copies_of_finds(rt: HostRuntime) -> Result<(), Fail> {
     Ok(())
 }
 
-/// A row of the table: what was observed, and what clashes with it.
-fn row(alloc: Global, number: u32) -> Result<(Obs, WriteOp), AllocError> {
-    let key = Text::from_slice(alloc, b"e")?;
-    let text = Text::from_slice(alloc, b"t")?;
-    let same = key.clone()?;
-    Ok(match number {
-        0 => (Obs::BoolIs, WriteOp::PutBool(true)),
-        1 => (Obs::CounterIs, WriteOp::PutCounter(2)),
-        2 => (Obs::CounterIs, WriteOp::AddCounter(0)),
-        3 => (Obs::TextIs, WriteOp::PutText(text)),
-        4 => (Obs::SetHas(key), WriteOp::SetAdd(same)),
-        5 => (Obs::SetHas(key), WriteOp::SetRemove(same)),
-        6 => (Obs::SetHas(key), WriteOp::SetClear),
-        7 => (Obs::SetAll, WriteOp::SetAdd(key)),
-        8 => (Obs::SetAll, WriteOp::SetRemove(key)),
-        9 => (Obs::SetAll, WriteOp::SetClear),
-        10 => (Obs::HashAt(key), WriteOp::HashPut(same, text)),
-        11 => (Obs::HashAt(key), WriteOp::HashRemove(same)),
-        12 => (Obs::HashAt(key), WriteOp::HashClear),
-        13 => (Obs::HashAll, WriteOp::HashPut(key, text)),
-        14 => (Obs::HashAll, WriteOp::HashRemove(key)),
-        15 => (Obs::HashAll, WriteOp::HashClear),
-        16 => (Obs::ListAt(0), WriteOp::ListRemove(key)),
-        17 => (Obs::ListAt(0), WriteOp::ListClear),
-        18 => (Obs::ListAll, WriteOp::ListPush(key)),
-        19 => (Obs::ListAll, WriteOp::ListRemove(key)),
-        _ => (Obs::ListAll, WriteOp::ListClear),
-    })
-}
+/// The rows of the table: what was observed, and what clashes with it.
+const ROWS: [(Seen, Write); 23] = [
+    (Seen::BoolIs, Write::PutBool(true)),
+    (Seen::CounterIs, Write::PutCounter(2)),
+    (Seen::CounterIs, Write::AddCounter(0)),
+    (Seen::TextIs, Write::PutText(b"t")),
+    (Seen::SetHas(b"e"), Write::SetAdd(b"e")),
+    (Seen::SetHas(b"e"), Write::SetRemove(b"e")),
+    (Seen::SetHas(b"e"), Write::SetClear),
+    (Seen::SetAll, Write::SetAdd(b"e")),
+    (Seen::SetAll, Write::SetAdd(b"b")),
+    (Seen::SetAll, Write::SetRemove(b"e")),
+    (Seen::SetAll, Write::SetClear),
+    (Seen::HashAt(b"e"), Write::HashPut(b"e", b"t")),
+    (Seen::HashAt(b"e"), Write::HashRemove(b"e")),
+    (Seen::HashAt(b"e"), Write::HashClear),
+    (Seen::HashAll, Write::HashPut(b"e", b"t")),
+    (Seen::HashAll, Write::HashPut(b"g", b"")),
+    (Seen::HashAll, Write::HashRemove(b"e")),
+    (Seen::HashAll, Write::HashClear),
+    (Seen::ListAt(0), Write::ListRemove(b"e")),
+    (Seen::ListAt(0), Write::ListClear),
+    (Seen::ListAll, Write::ListPush(b"e")),
+    (Seen::ListAll, Write::ListRemove(b"e")),
+    (Seen::ListAll, Write::ListClear),
+];
 
 /// The witness of an observation and a change, if they are of one kind and clash.
 fn witness_of<L: Ledger>(
@@ -106,39 +101,58 @@ fn witness_of<L: Ledger>(
     Ok(None)
 }
 
-/// Whether the witness of a row names the observation with its base 3, and the operation with the number 4.
-fn names(alloc: Global, number: u32) -> Result<bool, AllocError> {
-    let (obs, part) = row(alloc, number)?;
-    let address = Address {
-        kind: obs.kind(),
-        key: Text::from_slice(alloc, b"k")?,
-    };
-    let change = Change {
-        number: 4,
-        address: copied(&address)?,
-        delta: delta_of(alloc, &part)?,
-    };
-    let based = Based {
-        address,
+/// An observation as it was after 3 commits.
+fn based_on(alloc: Global, obs: Seen) -> Result<Based, AllocError> {
+    let obs = seen(alloc, obs)?;
+    Ok(Based {
+        address: address(alloc, obs.kind(), b"k")?,
         obs,
         base: 3,
-    };
-    let found = witness_of::<Brand>(Blank::new(1), &based, &change)?;
-    let Based { address, obs, base } = based;
-    let wanted = Witness {
-        address,
-        obs,
-        base,
-        part,
+    })
+}
+
+/// Whether a witness names the observation with its base, and the write with the number 4.
+fn is_named(
+    alloc: Global,
+    witness: &Witness,
+    based: &Based,
+    part: Write,
+) -> Result<bool, AllocError> {
+    let part = write(alloc, part)?;
+    Ok(
+        witness.address == based.address
+            && witness.obs == based.obs
+            && witness.base == based.base
+            && witness.part == part
+            && witness.number == 4,
+    )
+}
+
+/// Whether the witness of an observation and a write names both.
+fn names(alloc: Global, based: &Based, part: Write) -> Result<bool, AllocError> {
+    let change = Change {
         number: 4,
+        address: copied(&based.address)?,
+        delta: delta(alloc, part)?,
     };
-    Ok(found == Some(wanted))
+    match witness_of::<Brand>(Blank::new(1), based, &change)? {
+        Some(witness) => is_named(alloc, &witness, based, part),
+        None => Ok(false),
+    }
+}
+
+/// Whether that of a row does.
+fn holds(alloc: Global, obs: Seen, part: Write) -> Result<bool, AllocError> {
+    let based = based_on(alloc, obs)?;
+    names(alloc, &based, part)
 }
 
 #[test]
-fn a_witness_of_each_row(rt: HostRuntime) -> Result<(), Fail> {
-    for number in 0..21 {
-        assert!(rt; names(rt.alloc(), number)?, "row {number}");
+fn a_witness_of_each_row(rt: HostRuntime) {
+    for (number, (obs, part)) in ROWS.iter().enumerate() {
+        assert!(rt;
+            matches!(holds(rt.alloc(), *obs, *part), Ok(true)),
+            "row {number}"
+        );
     }
-    Ok(())
 }

@@ -2,7 +2,9 @@
 //! worked out apart from the code, by the rule of the printed address.
 
 ghost use Rattle.std.specs.Prelude.{◌≡◌, ◌≤◌, length, Some, IfOk};
+ghost use Rattle.std.specs.Bool.{OnTrue};
 ghost use Rattle.txn_lang.specs.Tree.{tree};
+ghost use Rattle.docc_prepare.specs.Attempts.{PausesAt, KeepsPauses, Prepares, next_event};
 
 mod appending;
 
@@ -11,9 +13,8 @@ use conflict_table::Obs;
 use docc_prepare::{Attempt, Next};
 use journal_core::Ready;
 use plain_data::Text;
-use rdt_types::Value;
+use rdt_types::{Address, Value};
 use std::alloc::{AllocError, Global};
-use std::test::Fail;
 use txn_eval::Pause;
 use txn_lang::{CheckError, Checked, Run, Snap, check};
 use txn_parse::parse;
@@ -36,32 +37,56 @@ fn checked(alloc: Global, source: &[u8]) -> Result<Checked, CheckError>
     check(alloc, body, text, false)
 }
 
-/// The run of an attempt at which each address is read as 5. It goes on from its pauses, or begins anew for each value.
-fn ran(alloc: Global, body: Checked, anew: bool) -> Result<Run, AllocError> {
+/// The counter at an address is read as a number, at a base.
+fn take_read(attempt: &mut Attempt, address: Address, number: i64, base: u64) -> bool
+    requires { next_event attempt.old ≡ Next.Read address }
+    ensures { OnTrue result (KeepsPauses attempt.old attempt.new) }
+{
+    let value = Value::Counter(number);
+    attempt.take_snap(address, Snap { base, value }).is_ok()
+}
+
+/// The next event, where the run goes on from its pause, or begins anew.
+fn next_of(
+    alloc: Global,
+    attempt: &Attempt,
+    pause: &mut Pause,
+    anew: bool,
+) -> Result<Next, AllocError>
+    requires { PausesAt attempt.now pause.old }
+    ensures next { IfOk result (λ next. next ≡ next_event attempt.now) }
+    ensures paused { IfOk result (λ next. PausesAt attempt.now pause.new) }
+{
+    if anew {
+        attempt.next(alloc)
+    } else {
+        attempt.next_from(alloc, pause)
+    }
+}
+
+/// The run of an attempt at which each counter is read as 5.
+fn ran(alloc: Global, body: Checked, anew: bool) -> Option<Run> {
     let mut attempt = Attempt::begin(alloc, body, 1);
     let mut pause = Pause::begun(alloc);
     for _ in 0..40 {
-        let next = if anew {
-            attempt.next(alloc)?
-        } else {
-            attempt.next_from(alloc, &mut pause)?
-        };
-        match next {
-            Next::Read(address) => {
-                let value = Value::Counter(5);
-                attempt.take_snap(address, Snap { base: 0, value })?;
+        match next_of(alloc, &attempt, &mut pause, anew) {
+            Ok(Next::Read(address)) => {
+                if !take_read(&mut attempt, address, 5, 0) {
+                    return None;
+                }
             }
-            Next::Prepare(_, run) => return Ok(run),
-            Next::Append(run) => return Ok(run),
+            Ok(Next::Prepare(_, run)) => return Some(run),
+            Ok(Next::Append(run)) => return Some(run),
+            Err(_) => return None,
         }
     }
-    Err(AllocError)
+    None
 }
 
 /// Whether two runs came to the same.
-fn alike(one: &Result<Run, AllocError>, other: &Result<Run, AllocError>) -> bool {
+fn alike(one: &Option<Run>, other: &Option<Run>) -> bool {
     match (one, other) {
-        (Ok(one), Ok(other)) => {
+        (Some(one), Some(other)) => {
             one.outcome == other.outcome
                 && one.deltas.as_slice() == other.deltas.as_slice()
                 && one.observations.as_slice() == other.observations.as_slice()
@@ -70,89 +95,104 @@ fn alike(one: &Result<Run, AllocError>, other: &Result<Run, AllocError>) -> bool
     }
 }
 
-/// Whether a body's run comes to the same from its pauses as from its start.
-fn goes_on_alike(alloc: Global, source: &[u8]) -> bool {
-    let (Ok(paused), Ok(begun)) = (checked(alloc, source), checked(alloc, source)) else {
-        return false;
-    };
-    alike(&ran(alloc, paused, false), &ran(alloc, begun, true))
+/// The run of a body, if it is read and done.
+fn run_of(alloc: Global, source: &[u8], anew: bool) -> Option<Run> {
+    match checked(alloc, source) {
+        Ok(body) => ran(alloc, body, anew),
+        Err(_) => None,
+    }
 }
 
 /// Bodies whose runs pause: before plain statements, blocks, a failure, and a statement with two reads.
 const PAUSING: [&[u8]; 5] = [
-    b"let a = counter(\"a\").get(); counter(\"b\").add(a); emit counter(\"b\").get(); emit counter(\"c\").get() + a;",
-    b"emit 1; if counter(\"a\").get() == 5 { counter(\"b\").add(1); emit counter(\"b\").get(); } emit counter(\"b\").get();",
-    b"emit 1; for k in [\"a\", \"b\", \"a\"] { counter(k).add(1); emit counter(k).get(); }",
-    b"counter(\"b\").add(1); let a = counter(\"a\").get(); fail str(a + counter(\"b\").get());",
-    b"let n = counter(\"a\").get() + counter(\"b\").get(); counter(\"c\").put(n * counter(\"d\").get()); emit counter(\"c\").get();",
+    br#"let a = counter("a").get(); counter("b").add(a); emit counter("b").get(); emit counter("c").get() + a;"#,
+    br#"emit 1; if counter("a").get() == 5 { counter("b").add(1); emit counter("b").get(); } emit counter("b").get();"#,
+    br#"emit 1; for k in ["a", "b", "a"] { counter(k).add(1); emit counter(k).get(); }"#,
+    br#"counter("b").add(1); let a = counter("a").get(); fail str(a + counter("b").get());"#,
+    br#"let n = counter("a").get() + counter("b").get(); counter("c").put(n * counter("d").get()); emit counter("c").get();"#,
 ];
 
 #[test]
 fn runs_go_on_as_they_would_from_their_start(rt: HostRuntime) {
     for source in PAUSING.as_slice() {
-        assert!(rt; goes_on_alike(rt.alloc(), source));
+        assert!(rt;
+            alike(
+                &run_of(rt.alloc(), source, false),
+                &run_of(rt.alloc(), source, true)
+            )
+        );
     }
 }
 
-/// What an attempt hands on that reads all counters as 0 at a base and is prepared there, with what it observed in a shard.
-fn handed_on(
-    alloc: Global,
-    body: Checked,
-    shard: u8,
-    base: u64,
-) -> Result<(usize, Ready), AllocError> {
-    let mut attempt = Attempt::begin(alloc, body, 4);
-    for _ in 0..40 {
-        match attempt.next(alloc)? {
-            Next::Read(address) => {
-                let value = Value::Counter(0);
-                attempt.take_snap(address, Snap { base, value })?;
-            }
-            Next::Prepare(shard, _) => attempt.take_prepared(Prepared { shard, front: base })?,
-            Next::Append(run) => {
-                let inside = attempt.based(alloc, &run, shard)?.len();
-                let ready = attempt.ready(alloc, run, 7, 1)?;
-                return Ok((inside, ready));
-            }
-        }
-    }
-    Err(AllocError)
-}
-
-/// Whether a counter was observed at a base.
-fn is_read(based: Option<&Based>, key: &[u8], base: u64) -> bool {
+/// Whether a counter was observed at 3.
+fn is_read(based: Option<&Based>, key: &[u8]) -> bool {
     match based {
         Some(found) => {
-            found.obs == Obs::CounterIs && found.address.key.as_slice() == key && found.base == base
+            found.obs == Obs::CounterIs && found.address.key.as_slice() == key && found.base == 3
         }
         None => false,
     }
 }
 
-/// Whether a body hands on, in the order of its run, that it observed y and then x at 3, one of them in shard 1.
-fn hands_on(alloc: Global, source: &[u8]) -> bool {
-    let Ok(body) = checked(alloc, source) else {
-        return false;
-    };
-    match handed_on(alloc, body, 1, 3) {
-        Ok((inside, ready)) => {
+/// Whether what is handed on is a body's of client 7, its first, that observed y and then x at 3, and has two fronts.
+fn is_in_order(ready: &Result<Ready, AllocError>, source: &[u8]) -> bool {
+    match ready {
+        Ok(ready) => {
             let based = ready.based.as_slice();
-            inside == 1
-                && ready.client == 7
+            ready.client == 7
                 && ready.seq == 1
                 && ready.body.as_slice() == source
                 && based.len() == 2
-                && is_read(based.first(), b"y", 3)
-                && is_read(based.last(), b"x", 3)
+                && is_read(based.first(), b"y")
+                && is_read(based.last(), b"x")
                 && ready.fronts.as_slice().len() == 2
         }
         Err(_) => false,
     }
 }
 
+/// Whether a run made one observation in shard 1.
+fn has_one_inside(alloc: Global, attempt: &Attempt, run: &Run) -> bool {
+    match attempt.based(alloc, run, 1) {
+        Ok(inside) => inside.len() == 1,
+        Err(_) => false,
+    }
+}
+
+/// A shard is prepared at 3.
+fn take_front(attempt: &mut Attempt, shard: u8) -> bool
+    requires { Prepares attempt.old shard }
+{
+    attempt.take_prepared(Prepared { shard, front: 3 }).is_ok()
+}
+
+/// Whether the body of an attempt that reads all counters as 0 at 3, and whose shards are prepared there, hands that on.
+fn hands_on(alloc: Global, mut attempt: Attempt, source: &[u8]) -> bool {
+    for _ in 0..40 {
+        let is_taken = match attempt.next(alloc) {
+            Ok(Next::Read(address)) => take_read(&mut attempt, address, 0, 3),
+            Ok(Next::Prepare(shard, _)) => take_front(&mut attempt, shard),
+            Ok(Next::Append(run)) => {
+                return has_one_inside(alloc, &attempt, &run)
+                    && is_in_order(&attempt.ready(alloc, run, 7, 1), source);
+            }
+            Err(_) => false,
+        };
+        if !is_taken {
+            return false;
+        }
+    }
+    false
+}
+
 #[test]
-fn observations_are_handed_on_in_order(rt: HostRuntime) -> Result<(), Fail> {
-    let body = b"emit counter(\"y\").get(); emit counter(\"x\").get();";
-    assert!(&rt; hands_on(rt.alloc(), body));
-    Ok(())
+fn observations_are_handed_on_in_order(rt: HostRuntime) {
+    let source = br#"emit counter("y").get(); emit counter("x").get();"#;
+    match checked(rt.alloc(), source) {
+        Ok(body) => {
+            let attempt = Attempt::begin(rt.alloc(), body, 4);
+            assert!(rt; hands_on(rt.alloc(), attempt, source));
+        }
+        Err(_) => assert!(rt; false),
+    }
 }

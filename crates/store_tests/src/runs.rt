@@ -197,123 +197,123 @@ type Row = (&'static [u8], Base, End);
 const ON_GIVEN: [Row; 25] = [
     // An own addition goes into the value.
     (
-        b"counter(\"k\").add(2); emit counter(\"k\").get();",
+        br#"counter("k").add(2); emit counter("k").get();"#,
         Base::Counter(40),
         End::Int(42),
     ),
     // A text that is read and one that is listed have 1,024 bytes at most. They are observed all the same.
     (
-        b"emit len(text(\"k\").get());",
+        br#"emit len(text("k").get());"#,
         Base::Text(1024),
         End::Int(1024),
     ),
-    (b"emit len(text(\"k\").get());", Base::Text(1025), End::Big),
+    (br#"emit len(text("k").get());"#, Base::Text(1025), End::Big),
     (
-        b"emit len(set(\"k\").all());",
+        br#"emit len(set("k").all());"#,
         Base::Set(0, Some(1024)),
         End::Int(1),
     ),
     (
-        b"emit len(set(\"k\").all());",
+        br#"emit len(set("k").all());"#,
         Base::Set(0, Some(1025)),
         End::Big,
     ),
     (
-        b"emit len(hash(\"k\").fields());",
+        br#"emit len(hash("k").fields());"#,
         Base::Hash(0, Some(1024)),
         End::Int(1),
     ),
     (
-        b"emit len(hash(\"k\").fields());",
+        br#"emit len(hash("k").fields());"#,
         Base::Hash(0, Some(1025)),
         End::Big,
     ),
     // Texts that are read have 65,536 bytes at most, with 1 for each. An empty one is past that.
     (
-        b"emit len(set(\"k\").all());",
+        br#"emit len(set("k").all());"#,
         Base::Set(64, None),
         End::Int(64),
     ),
     (
-        b"emit len(set(\"k\").all());",
+        br#"emit len(set("k").all());"#,
         Base::Set(64, Some(0)),
         End::Big,
     ),
     (
-        b"emit len(hash(\"k\").fields());",
+        br#"emit len(hash("k").fields());"#,
         Base::Hash(64, None),
         End::Int(64),
     ),
     (
-        b"emit len(hash(\"k\").fields());",
+        br#"emit len(hash("k").fields());"#,
         Base::Hash(64, Some(0)),
         End::Big,
     ),
     (
-        b"emit len(list(\"k\").all());",
+        br#"emit len(list("k").all());"#,
         Base::List(64, None),
         End::Int(64),
     ),
     (
-        b"emit len(list(\"k\").all());",
+        br#"emit len(list("k").all());"#,
         Base::List(64, Some(0)),
         End::Big,
     ),
     // What is emitted adds up to 16,384 at most: 8 each, and 8 for an int, 1 for a bool, the bytes of a text.
     (
-        b"emit list(\"k\").all();",
+        br#"emit list("k").all();"#,
         Base::List(15, Some(1015)),
         End::Ok,
     ),
     (
-        b"emit list(\"k\").all();",
+        br#"emit list("k").all();"#,
         Base::List(15, Some(1016)),
         End::Big,
     ),
     (
-        b"emit list(\"k\").all(); emit 0;",
+        br#"emit list("k").all(); emit 0;"#,
         Base::List(15, Some(999)),
         End::Ok,
     ),
     (
-        b"emit list(\"k\").all(); emit 0;",
+        br#"emit list("k").all(); emit 0;"#,
         Base::List(15, Some(1000)),
         End::Big,
     ),
     (
-        b"emit list(\"k\").all(); emit true;",
+        br#"emit list("k").all(); emit true;"#,
         Base::List(15, Some(1006)),
         End::Ok,
     ),
     (
-        b"emit list(\"k\").all(); emit true;",
+        br#"emit list("k").all(); emit true;"#,
         Base::List(15, Some(1007)),
         End::Big,
     ),
     (
-        b"emit list(\"k\").all(); emit \"ab\";",
+        br#"emit list("k").all(); emit "ab";"#,
         Base::List(15, Some(1005)),
         End::Ok,
     ),
     (
-        b"emit list(\"k\").all(); emit \"ab\";",
+        br#"emit list("k").all(); emit "ab";"#,
         Base::List(15, Some(1006)),
         End::Big,
     ),
     // A `for` over n items that it reads charges 3 ticks, n for the items and n for its turns.
-    (b"for a in list(\"k\").all() { }", Base::Empty(0), End::Ok),
+    (br#"for a in list("k").all() { }"#, Base::Empty(0), End::Ok),
     (
-        b"for a in list(\"k\").all() { }",
+        br#"for a in list("k").all() { }"#,
         Base::Empty(4998),
         End::Ok,
     ),
     (
-        b"for a in list(\"k\").all() { }",
+        br#"for a in list("k").all() { }"#,
         Base::Empty(4999),
         End::Spent,
     ),
     (
-        b"for a in list(\"k\").all() { }",
+        br#"for a in list("k").all() { }"#,
         Base::Empty(10_000),
         End::Spent,
     ),
@@ -343,9 +343,9 @@ fn listed(alloc: Global, source: &[u8]) -> Option<usize> {
 #[test]
 fn observations_are_listed_once(rt: HostRuntime) {
     let eight =
-        b"let t = [\"a\",\"b\",\"c\",\"d\",\"e\",\"f\",\"g\",\"h\"]; for x in t { emit set(\"k\").has(x); } for x in t { emit set(\"k\").has(x); }";
+        br#"let t = ["a","b","c","d","e","f","g","h"]; for x in t { emit set("k").has(x); } for x in t { emit set("k").has(x); }"#;
     assert!(rt; listed(rt.alloc(), eight) == Some(8));
     let ten =
-        b"let t = [\"a\",\"b\",\"c\",\"d\",\"e\",\"f\",\"g\",\"h\",\"i\",\"j\"]; for x in t { emit set(\"k\").has(x); } for x in t { emit set(\"k\").has(x); }";
+        br#"let t = ["a","b","c","d","e","f","g","h","i","j"]; for x in t { emit set("k").has(x); } for x in t { emit set("k").has(x); }"#;
     assert!(rt; listed(rt.alloc(), ten) == Some(10));
 }

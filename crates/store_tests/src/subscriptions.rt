@@ -1,175 +1,258 @@
-//! Subscribers that come, take and go at different times, with ample memory.
+//! Subscribers that come, take and go at different times, with ample memory. A test is a list of moves, each of which answers
+//! whether it went as it should.
 
 ghost use Rattle.std.specs.Prelude.{◌≡◌, ◌≤◌, ◌+◌, IfOk};
 
-use change_feed::{Change, ChangeList, Tail};
+use change_feed::{Change, ChangeList, Feed, Tail};
 use plain_data::Text;
 use rdt_types::{Address, Delta, KeyedDelta, Kind};
 use reactive_registry::Registry;
 use std::alloc::{AllocError, Global};
-use std::test::Fail;
 
-fn counter(alloc: Global) -> Result<Address, AllocError> {
+/// What a commit does: to the counter `x` it adds, and in the set `s` it marks an element as there, or clears.
+#[derive(Clone, Copy)]
+enum Write {
+    Add(i64),
+    Mark(&'static [u8]),
+    Clear,
+}
+
+/// What is done with a registry, or seen of it.
+#[derive(Clone, Copy)]
+enum Move {
+    /// A subscriber comes, if it isn't there, and subscribes to the counter or the set.
+    Watch(u32, Kind),
+    Commit(Write),
+    /// A subscriber takes this addition to the counter, or none.
+    Takes(u32, Option<i64>),
+    /// A subscriber takes a clear of the set, and then the addition of this element alone.
+    TakesClearAnd(u32, &'static [u8]),
+    /// Whether a subscriber has the counter.
+    Has(u32, bool),
+    /// Whether the counter was there to be unsubscribed.
+    Unsubscribe(u32, bool),
+    Leave(u32),
+    /// Up to which number a subscriber that is there took last.
+    Taken(u32, Option<u64>),
+    Front(u64),
+}
+
+/// The counter `x` or the set `s`.
+fn address_of(alloc: Global, kind: Kind) -> Result<Address, AllocError> {
+    let key = match kind {
+        Kind::Counter => b"x".as_slice(),
+        _ => b"s".as_slice(),
+    };
     Ok(Address {
-        kind: Kind::Counter,
-        key: Text::from_slice(alloc, b"x")?,
+        kind,
+        key: Text::from_slice(alloc, key)?,
     })
 }
 
-/// A commit behind a number, with one delta.
-fn tail_of(alloc: Global, from: u64, address: Address, delta: Delta) -> Result<Tail, AllocError>
+fn kind_of(write: Write) -> Kind {
+    match write {
+        Write::Add(_) => Kind::Counter,
+        Write::Mark(_) | Write::Clear => Kind::Set,
+    }
+}
+
+fn delta_of(alloc: Global, write: Write) -> Result<Delta, AllocError> {
+    Ok(match write {
+        Write::Add(by) => Delta::AddCounter(by),
+        Write::Mark(element) => {
+            let element = Text::from_slice(alloc, element)?;
+            Delta::Set(KeyedDelta::marking(alloc, &element, true)?)
+        }
+        Write::Clear => Delta::Set(KeyedDelta::clearing(alloc)),
+    })
+}
+
+/// What the commit of a number does.
+fn change_of(alloc: Global, number: u64, write: Write) -> Result<Change, AllocError> {
+    let address = address_of(alloc, kind_of(write))?;
+    Ok(Change {
+        number,
+        address,
+        delta: delta_of(alloc, write)?,
+    })
+}
+
+/// The tail of the commit behind a number.
+fn tail_of(alloc: Global, from: u64, write: Write) -> Result<Tail, AllocError>
     requires { from ≤ 100 }
     ensures { IfOk result (λ tail. tail.from ≡ from) }
 {
     let to = from + 1;
     let mut changes = ChangeList::new(alloc);
-    changes.push(Change {
-        number: to,
-        address,
-        delta,
-    })?;
+    changes.push(change_of(alloc, to, write)?)?;
     Ok(Tail { from, to, changes })
 }
 
-/// A further commit.
-fn commit(
-    registry: &mut Registry,
-    alloc: Global,
-    address: Address,
-    delta: Delta,
-) -> Result<(), AllocError> {
+fn commit(registry: &mut Registry, alloc: Global, write: Write) -> bool {
     let from = registry.front();
     if from > 100 {
-        return Ok(());
+        return false;
     }
-    let tail = tail_of(alloc, from, address, delta)?;
-    registry.follow(&tail)
+    match tail_of(alloc, from, write) {
+        Ok(tail) => registry.follow(&tail).is_ok(),
+        Err(_) => false,
+    }
 }
 
-/// A further commit adds to the counter.
-fn add(registry: &mut Registry, alloc: Global, by: i64) -> Result<(), AllocError> {
-    commit(registry, alloc, counter(alloc)?, Delta::AddCounter(by))
+/// Whether a subscriber is there, or comes.
+fn is_there(registry: &mut Registry, subscriber: u32) -> bool {
+    registry.taken(subscriber).is_some() || registry.enter(subscriber).is_ok()
 }
 
-/// A subscriber comes, if it isn't there, and subscribes to an address.
-fn watch_at(
-    registry: &mut Registry,
-    alloc: Global,
-    subscriber: u32,
-    address: &Address,
-) -> Result<(), AllocError> {
-    if registry.taken(subscriber).is_none() {
-        registry.enter(subscriber)?;
-    }
-    if registry.taken(subscriber).is_none() {
-        return Ok(());
+fn watch(registry: &mut Registry, alloc: Global, subscriber: u32, kind: Kind) -> bool {
+    let Ok(address) = address_of(alloc, kind) else {
+        return false;
+    };
+    if !is_there(registry, subscriber) || registry.taken(subscriber).is_none() {
+        return false;
     }
     let missed = Tail::none(alloc, registry.front());
-    registry.subscribe(subscriber, address, &missed)
+    registry.subscribe(subscriber, &address, &missed).is_ok()
 }
 
-/// It subscribes to the counter.
-fn watch(registry: &mut Registry, alloc: Global, subscriber: u32) -> Result<(), AllocError> {
-    watch_at(registry, alloc, subscriber, &counter(alloc)?)
-}
-
-/// The addition that a subscriber takes, if there is one.
-fn take(
-    registry: &mut Registry,
-    alloc: Global,
-    subscriber: u32,
-) -> Result<Option<i64>, AllocError> {
+/// What a subscriber takes, if it is there.
+fn feed_of(registry: &mut Registry, subscriber: u32) -> Option<Feed> {
     if registry.taken(subscriber).is_none() {
-        return Ok(None);
+        return None;
     }
-    let address = counter(alloc)?;
-    let feed = registry.take(subscriber)?;
-    Ok(match feed.changes().get(&address) {
-        Some(Delta::AddCounter(by)) => Some(*by),
-        _ => None,
-    })
+    registry.take(subscriber).ok()
 }
 
-#[test]
-fn two_take_at_different_times(rt: HostRuntime) -> Result<(), Fail> {
-    let alloc = rt.alloc();
-    let mut registry = Registry::new(alloc, 3);
-    watch(&mut registry, alloc, 1)?;
-    watch(&mut registry, alloc, 2)?;
-    add(&mut registry, alloc, 2)?;
-    assert!(rt; take(&mut registry, alloc, 1)? == Some(2));
-    add(&mut registry, alloc, -2)?;
-    assert!(rt; take(&mut registry, alloc, 1)? == Some(-2));
-    assert!(rt; take(&mut registry, alloc, 2)? == Some(0));
-    assert!(rt; take(&mut registry, alloc, 2)?.is_none());
-    assert_eq!(rt; registry.front(), 5);
-    Ok(())
-}
-
-#[test]
-fn one_comes_between_and_one_comes_again(rt: HostRuntime) -> Result<(), Fail> {
-    let alloc = rt.alloc();
-    let mut registry = Registry::new(alloc, 3);
-    watch(&mut registry, alloc, 1)?;
-    add(&mut registry, alloc, 2)?;
-    watch(&mut registry, alloc, 2)?;
-    add(&mut registry, alloc, 5)?;
-    let x = counter(alloc)?;
-    assert!(rt; registry.has(1, &x) && registry.unsubscribe(1, &x));
-    assert!(rt; !registry.has(1, &x) && !registry.unsubscribe(1, &x));
-    watch(&mut registry, alloc, 1)?;
-    assert!(rt; take(&mut registry, alloc, 1)?.is_none());
-    assert!(rt; take(&mut registry, alloc, 2)? == Some(5));
-    assert_eq!(rt; (registry.taken(1), registry.taken(2)), (Some(5), Some(5)));
-    add(&mut registry, alloc, 7)?;
-    registry.leave(2);
-    assert!(rt; registry.taken(2).is_none());
-    assert!(rt; take(&mut registry, alloc, 1)? == Some(7));
-    Ok(())
-}
-
-fn set(alloc: Global) -> Result<Address, AllocError> {
-    Ok(Address {
-        kind: Kind::Set,
-        key: Text::from_slice(alloc, b"s")?,
-    })
-}
-
-/// A set's delta that adds an element.
-fn adding(alloc: Global, element: &[u8]) -> Result<Delta, AllocError> {
-    let element = Text::from_slice(alloc, element)?;
-    Ok(Delta::Set(KeyedDelta::marking(alloc, &element, true)?))
-}
-
-/// Whether a subscriber takes a clear of the set, and then the addition of this element alone.
-fn takes_clear_and(
-    registry: &mut Registry,
-    alloc: Global,
-    subscriber: u32,
-    element: &[u8],
-) -> Result<bool, AllocError> {
-    if registry.taken(subscriber).is_none() {
-        return Ok(false);
+/// Whether a feed has this addition to the counter, or none.
+fn adds(alloc: Global, feed: &Feed, wanted: Option<i64>) -> bool {
+    let Ok(address) = address_of(alloc, Kind::Counter) else {
+        return false;
+    };
+    match feed.changes().get(&address) {
+        Some(Delta::AddCounter(by)) => wanted == Some(*by),
+        Some(_) => false,
+        None => wanted.is_none(),
     }
-    let feed = registry.take(subscriber)?;
-    let element = Text::from_slice(alloc, element)?;
-    Ok(match feed.changes().get(&set(alloc)?) {
+}
+
+/// Whether a feed has a clear of the set, and then the addition of this element alone.
+fn clears_and_adds(alloc: Global, feed: &Feed, element: &[u8]) -> bool {
+    let (Ok(address), Ok(element)) = (
+        address_of(alloc, Kind::Set),
+        Text::from_slice(alloc, element),
+    ) else {
+        return false;
+    };
+    match feed.changes().get(&address) {
         Some(Delta::Set(d)) => {
             d.cleared() && d.marks().len() == 1 && d.marks().contains(&element)
         }
         _ => false,
-    })
+    }
 }
 
-#[test]
-fn a_clear_between_two_marks_drops_the_first(rt: HostRuntime) -> Result<(), Fail> {
-    let alloc = rt.alloc();
-    let mut registry = Registry::new(alloc, 0);
-    watch_at(&mut registry, alloc, 1, &set(alloc)?)?;
-    let clear = Delta::Set(KeyedDelta::clearing(alloc));
-    for delta in [adding(alloc, b"a")?, clear, adding(alloc, b"b")?] {
-        commit(&mut registry, alloc, set(alloc)?, delta)?;
+fn has(registry: &Registry, alloc: Global, subscriber: u32) -> Option<bool> {
+    match address_of(alloc, Kind::Counter) {
+        Ok(address) => Some(registry.has(subscriber, &address)),
+        Err(_) => None,
     }
-    assert!(rt; takes_clear_and(&mut registry, alloc, 1, b"b")?);
-    Ok(())
+}
+
+fn unsubscribe(registry: &mut Registry, alloc: Global, subscriber: u32) -> Option<bool> {
+    match address_of(alloc, Kind::Counter) {
+        Ok(address) => Some(registry.unsubscribe(subscriber, &address)),
+        Err(_) => None,
+    }
+}
+
+/// Makes one move, and answers whether it went as it should.
+fn goes(registry: &mut Registry, alloc: Global, step: Move) -> bool {
+    match step {
+        Move::Watch(subscriber, kind) => watch(registry, alloc, subscriber, kind),
+        Move::Commit(write) => commit(registry, alloc, write),
+        Move::Takes(subscriber, wanted) => match feed_of(registry, subscriber) {
+            Some(feed) => adds(alloc, &feed, wanted),
+            None => false,
+        },
+        Move::TakesClearAnd(subscriber, element) => match feed_of(registry, subscriber) {
+            Some(feed) => clears_and_adds(alloc, &feed, element),
+            None => false,
+        },
+        Move::Has(subscriber, wanted) => has(registry, alloc, subscriber) == Some(wanted),
+        Move::Unsubscribe(subscriber, wanted) => {
+            unsubscribe(registry, alloc, subscriber) == Some(wanted)
+        }
+        Move::Leave(subscriber) => {
+            registry.leave(subscriber);
+            true
+        }
+        Move::Taken(subscriber, wanted) => registry.taken(subscriber) == wanted,
+        Move::Front(wanted) => registry.front() == wanted,
+    }
+}
+
+/// Makes moves from where nobody has subscribed. It answers how many went as they should.
+fn play(alloc: Global, front: u64, moves: &[Move]) -> usize {
+    let mut registry = Registry::new(alloc, front);
+    for (place, step) in moves.iter().enumerate() {
+        if !goes(&mut registry, alloc, *step) {
+            return place;
+        }
+    }
+    moves.len()
+}
+
+const TWO: [Move; 9] = [
+    Move::Watch(1, Kind::Counter),
+    Move::Watch(2, Kind::Counter),
+    Move::Commit(Write::Add(2)),
+    Move::Takes(1, Some(2)),
+    Move::Commit(Write::Add(-2)),
+    Move::Takes(1, Some(-2)),
+    Move::Takes(2, Some(0)),
+    Move::Takes(2, None),
+    Move::Front(5),
+];
+
+#[test]
+fn two_take_at_different_times(rt: HostRuntime) {
+    assert_eq!(rt; play(rt.alloc(), 3, &TWO), 9);
+}
+
+const AGAIN: [Move; 17] = [
+    Move::Watch(1, Kind::Counter),
+    Move::Commit(Write::Add(2)),
+    Move::Watch(2, Kind::Counter),
+    Move::Commit(Write::Add(5)),
+    Move::Has(1, true),
+    Move::Unsubscribe(1, true),
+    Move::Has(1, false),
+    Move::Unsubscribe(1, false),
+    Move::Watch(1, Kind::Counter),
+    Move::Takes(1, None),
+    Move::Takes(2, Some(5)),
+    Move::Taken(1, Some(5)),
+    Move::Taken(2, Some(5)),
+    Move::Commit(Write::Add(7)),
+    Move::Leave(2),
+    Move::Taken(2, None),
+    Move::Takes(1, Some(7)),
+];
+
+#[test]
+fn one_comes_between_and_one_comes_again(rt: HostRuntime) {
+    assert_eq!(rt; play(rt.alloc(), 3, &AGAIN), 17);
+}
+
+const CLEARED: [Move; 5] = [
+    Move::Watch(1, Kind::Set),
+    Move::Commit(Write::Mark(b"a")),
+    Move::Commit(Write::Clear),
+    Move::Commit(Write::Mark(b"b")),
+    Move::TakesClearAnd(1, b"b"),
+];
+
+#[test]
+fn a_clear_between_two_marks_drops_the_first(rt: HostRuntime) {
+    assert_eq!(rt; play(rt.alloc(), 0, &CLEARED), 5);
 }

@@ -221,9 +221,9 @@ fn play(alloc: Global, moves: &[Move<'_>]) -> usize {
 #[test]
 fn touched_watches_run_in_the_order_of_their_making(rt: HostRuntime) {
     let moves = [
-        Move::Watch(b"b", b"emit counter(\"x\").get() + counter(\"y\").get();"),
+        Move::Watch(b"b", br#"emit counter("x").get() + counter("y").get();"#),
         Move::Watch(b"n", b"emit 5;"),
-        Move::Watch(b"a", b"emit counter(\"x\").get();"),
+        Move::Watch(b"a", br#"emit counter("x").get();"#),
         Move::Current,
         Move::Add(b"y", 0),
         Move::Add(b"x", 10),
@@ -239,7 +239,7 @@ fn touched_watches_run_in_the_order_of_their_making(rt: HostRuntime) {
 
 /// The counter `y` while `x` is 1, and `z` then.
 const BRANCHING: &[u8] =
-    b"if counter(\"x\").get() == 1 { emit counter(\"y\").get(); } else { emit counter(\"z\").get(); }";
+    br#"if counter("x").get() == 1 { emit counter("y").get(); } else { emit counter("z").get(); }"#;
 
 #[test]
 fn a_rerun_observes_other_addresses(rt: HostRuntime) {
@@ -286,11 +286,11 @@ fn a_report_without_memory_is_found_all_the_same(rt: HostRuntime) {
 #[test]
 fn a_forgotten_watch_leaves_its_name(rt: HostRuntime) {
     let moves = [
-        Move::Watch(b"w", b"emit counter(\"x\").get();"),
-        Move::Watch(b"v", b"emit counter(\"x\").get();"),
+        Move::Watch(b"w", br#"emit counter("x").get();"#),
+        Move::Watch(b"v", br#"emit counter("x").get();"#),
         Move::Unwatch(b"w", true),
         Move::Unwatch(b"w", false),
-        Move::Watch(b"w", b"emit counter(\"x\").get() * 2;"),
+        Move::Watch(b"w", br#"emit counter("x").get() * 2;"#),
         Move::Add(b"x", 1),
         Move::Runs(b"v", 2),
         Move::Runs(b"w", 4),

@@ -1,4 +1,4 @@
-//! A small reader of digits and commas, on each of the kit's functions.
+//! Each function of predictive_parsing, by a small reader of digits and commas.
 
 ghost use Rattle.std.specs.Prelude.{◌≡◌};
 ghost use Rattle.predictive_parsing.specs.Bytes as bytes;
@@ -76,14 +76,17 @@ fn prefixes(rt: HostRuntime) {
     assert_eq!(rt; prefix_len(&[1, 2], |item| *item < 5), 2);
 }
 
-/// Two words that begin alike.
-impl Spelled for bool {
+/// One of two words that begin alike: `see` where it is true, and else `set`.
+#[derive(Clone, Copy, Debug, PartialEq, Eq)]
+struct Alike(bool);
+
+impl Spelled for Alike {
     ghost use Rattle.predictive_parsing.specs.Choices.{alike};
 
-    ghost spelled = { alike };
+    ghost spelled = { λ word. alike word.0 };
 
     fn bytes(self) -> &'static [u8] {
-        if self {
+        if self.0 {
             b"see".as_slice()
         } else {
             b"set".as_slice()
@@ -94,7 +97,10 @@ impl Spelled for bool {
 #[test]
 fn one_of_two_words(rt: HostRuntime) {
     let mut cursor = Cursor::new(b"setting".as_slice());
-    assert_eq!(rt; cursor.one_of(true, &[false]), Ok(false));
+    assert_eq!(rt;
+        cursor.one_of(Alike(true), &[Alike(false)]),
+        Ok(Alike(false))
+    );
     assert!(rt; cursor.run_up_to(2, |byte| *byte == b't') == b"t".as_slice());
     assert!(rt; cursor.run_up_to(2, |byte| *byte != b't') == b"in".as_slice());
     assert!(rt; cursor.as_slice() == b"g".as_slice());
@@ -103,6 +109,6 @@ fn one_of_two_words(rt: HostRuntime) {
 #[test]
 fn other_words_are_refused_where_they_differ(rt: HostRuntime) {
     let mut cursor = Cursor::new(b"sew".as_slice());
-    assert!(rt; cursor.one_of(true, &[false]).is_err());
+    assert!(rt; cursor.one_of(Alike(true), &[Alike(false)]).is_err());
     assert!(rt; cursor.as_slice() == b"w".as_slice());
 }

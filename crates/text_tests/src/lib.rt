@@ -1,4 +1,5 @@
-//! Tests of predictive_parsing, dtext, session_text, cli_words, txn_grammar, txn_parse and txn_print: what no clause says.
+//! Tests of the crates of texts: predictive_parsing, dtext, session_text, cli_words, txn_grammar, txn_parse and txn_print. Here
+//! are values that no text shows; the texts themselves, with what each comes to, are rows of crates/text_cases/stdin.
 #![tactic(auto)]
 
 #[cfg(test)]
@@ -6,11 +7,9 @@ mod bodies;
 #[cfg(test)]
 mod cursors;
 #[cfg(test)]
-mod lines;
-#[cfg(test)]
 mod parts;
 #[cfg(test)]
-mod printing;
+mod replies;
 #[cfg(test)]
 mod tokens;
 #[cfg(test)]

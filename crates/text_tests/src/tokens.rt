@@ -1,12 +1,10 @@
-//! Worked tokens. Bodies are read in the tests of `txn_parse`.
+//! Worked tokens.
 
 use std::alloc::Global;
-use txn_grammar::lexer::tokens;
-use txn_grammar::symbol::Symbol;
-use txn_grammar::token::Token;
+use txn_grammar::{Symbol, Token, tokens};
 
-/// No test has a text as long as this.
-const SHORT: usize = 5000;
+/// No text here has as many bytes as this.
+const SHORT: usize = 100;
 
 /// What the one token of a text is to be.
 #[derive(Clone, Copy)]
@@ -43,39 +41,35 @@ fn begins_with(alloc: Global, source: &[u8], wanted: Wanted) -> bool {
     }
 }
 
+/// Texts, each with its one token.
+const TOKENS: [(&[u8], Wanted); 19] = [
+    (b"emit", Wanted::Symbol(Symbol::Emit)),
+    (b"peak", Wanted::Symbol(Symbol::Peak)),
+    (b"peaks", Wanted::Name),
+    (b"==", Wanted::Symbol(Symbol::Equal)),
+    (b"=", Wanted::Symbol(Symbol::Assign)),
+    (b"<=", Wanted::Symbol(Symbol::AtMost)),
+    (b"!", Wanted::Malformed),
+    (b"0", Wanted::Number(0)),
+    (b"01", Wanted::Malformed),
+    (b"9223372036854775807", Wanted::Number(9223372036854775807)),
+    (b"9223372036854775808", Wanted::Malformed),
+    (b"abcdefghijklmnopqrstuvwxyz_12345", Wanted::Name),
+    (b"abcdefghijklmnopqrstuvwxyz_123456", Wanted::Malformed),
+    (
+        b"\"a\\\"\\\\\\n\\x00\\xff\xff\"",
+        Wanted::Text(b"a\"\\\n\x00\xff\xff"),
+    ),
+    (br#""\q""#, Wanted::Malformed),
+    (br#""\x4""#, Wanted::Malformed),
+    (br#""\xAA""#, Wanted::Malformed),
+    (b"\"\x7f\"", Wanted::Malformed),
+    (b"\"a", Wanted::Malformed),
+];
+
 #[test]
 fn each_token(rt: HostRuntime) {
-    let rows = [
-        (b"emit".as_slice(), Wanted::Symbol(Symbol::Emit)),
-        (b"peak".as_slice(), Wanted::Symbol(Symbol::Peak)),
-        (b"peaks".as_slice(), Wanted::Name),
-        (b"==".as_slice(), Wanted::Symbol(Symbol::Equal)),
-        (b"=".as_slice(), Wanted::Symbol(Symbol::Assign)),
-        (b"<=".as_slice(), Wanted::Symbol(Symbol::AtMost)),
-        (b"!".as_slice(), Wanted::Malformed),
-        (b"0".as_slice(), Wanted::Number(0)),
-        (b"01".as_slice(), Wanted::Malformed),
-        (
-            b"9223372036854775807".as_slice(),
-            Wanted::Number(9223372036854775807),
-        ),
-        (b"9223372036854775808".as_slice(), Wanted::Malformed),
-        (b"abcdefghijklmnopqrstuvwxyz_12345".as_slice(), Wanted::Name),
-        (
-            b"abcdefghijklmnopqrstuvwxyz_123456".as_slice(),
-            Wanted::Malformed,
-        ),
-        (
-            b"\"a\\\"\\\\\\n\\x00\\xff\xff\"".as_slice(),
-            Wanted::Text(b"a\"\\\n\x00\xff\xff".as_slice()),
-        ),
-        (b"\"\\q\"".as_slice(), Wanted::Malformed),
-        (b"\"\\x4\"".as_slice(), Wanted::Malformed),
-        (b"\"\\xAA\"".as_slice(), Wanted::Malformed),
-        (b"\"\x7f\"".as_slice(), Wanted::Malformed),
-        (b"\"a".as_slice(), Wanted::Malformed),
-    ];
-    for (source, wanted) in rows {
+    for (source, wanted) in TOKENS {
         assert!(rt; begins_with(rt.alloc(), source, wanted));
     }
 }

@@ -11,6 +11,10 @@
 #[cfg(test)]
 mod all_served;
 #[cfg(test)]
+mod answer_order;
+#[cfg(test)]
+mod commands;
+#[cfg(test)]
 mod locks;
 #[cfg(test)]
 mod meeting;
@@ -20,6 +24,8 @@ mod mixed;
 mod replay;
 #[cfg(test)]
 mod rival;
+#[cfg(test)]
+mod served_commands;
 #[cfg(test)]
 mod served_links;
 #[cfg(test)]

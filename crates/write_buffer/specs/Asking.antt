@@ -1,14 +1,20 @@
 -- What a read of a body answers, over what the body has written.
-use Rattle.std.specs.Prelude.{◌≡◌, if◌then◌else◌, Option, Some, None, pos, codes, refl}
+use Rattle.std.specs.Prelude.{◌≡◌, if◌then◌else◌, List, [], ◌∷◌, fold, true, false, Option, Some, None, pos, negsuc, codes, refl}
+use Rattle.rdt_types.specs.declared.address.Kind.{Kind}
 use Rattle.rdt_types.specs.declared.address.Kind.TheVariants as kind
 use Rattle.rdt_types.specs.declared.address.Address.{Address}
 use Rattle.rdt_types.specs.declared.delta.Delta.{Delta}
 use Rattle.rdt_types.specs.declared.delta.Delta.TheVariants as delta
 use Rattle.rdt_types.specs.declared.value.Value.{Value}
 use Rattle.rdt_types.specs.declared.value.Value.TheVariants as value
+use Rattle.rdt_types.specs.declared.operation.WriteOp.{WriteOp}
+use Rattle.rdt_types.specs.declared.operation.WriteOp.TheVariants as op
+use Rattle.rdt_types.specs.declared.outcome.Item.{Item}
 use Rattle.rdt_types.specs.declared.outcome.Item.TheVariants as item
-use Rattle.rdt_types.specs.Values.{default_of}
-use Rattle.rdt_types.specs.DeltaMaps.{Deltas, delta_at}
+use Rattle.rdt_types.specs.Values.{default_of, kind_of}
+use Rattle.rdt_types.specs.Deltas.{delta_of}
+use Rattle.rdt_types.specs.DeltaMaps.{Deltas, delta_at, with_delta}
+use Rattle.conflict_table.specs.declared.observation.Obs.{Obs}
 use Rattle.conflict_table.specs.declared.observation.Obs.TheVariants as obs
 use Rattle.conflict_table.specs.declared.read.ReadOp.{ReadOp}
 use Rattle.conflict_table.specs.declared.read.ReadOp.TheVariants as read
@@ -45,3 +51,77 @@ added-counter-needs = refl
 added-counter : asked_over (Some (delta.AddCounter (pos 1))) (record { kind = kind.Counter; key = codes "x" }) read.Get (Some (value.Counter (pos 2)))
     ≡ Answered (item.Int (pos 3)) (Some obs.CounterIs)
 added-counter = refl
+
+-- ---- own operations in order, and then a read of a value
+
+-- the address of a kind at the key `k`
+abbrev at_k : Kind → Address
+at_k kind = record { kind = kind; key = codes "k" }
+
+-- what is written there
+abbrev wrote : Kind → List WriteOp → Deltas
+wrote kind own = fold (λ deltas o. with_delta deltas (at_k kind) (delta_of o)) [] own
+
+-- what a read answers there of a value, if it is known
+abbrev read_over : List WriteOp → ReadOp → Kind → Option Value → Asked
+read_over own r kind base = asked (wrote kind own) (at_k kind) r base
+
+-- the read answers this of a value that it observes, and needs it
+abbrev Observes : List WriteOp → ReadOp → Value → Item → Obs → Type 0
+Observes own r v i seen = (read_over own r (kind_of v) (Some v) ≡ Answered i (Some seen)) × (read_over own r (kind_of v) None ≡ Need)
+
+-- the read answers this with the value and without it, and observes nothing
+abbrev Decides : List WriteOp → ReadOp → Value → Item → Type 0
+Decides own r v i = (read_over own r (kind_of v) (Some v) ≡ Answered i None) × (read_over own r (kind_of v) None ≡ Answered i None)
+
+bool-read : Observes [] read.Get (value.Bool true) (item.Bool true) obs.BoolIs
+bool-read = (refl, refl)
+
+bool-put : Decides (op.PutBool false ∷ []) read.Get (value.Bool true) (item.Bool false)
+bool-put = (refl, refl)
+
+text-read : Observes [] read.Get (value.Text (codes "o")) (item.Text (codes "o")) obs.TextIs
+text-read = (refl, refl)
+
+text-put : Decides (op.PutText (codes "n") ∷ []) read.Get (value.Text (codes "o")) (item.Text (codes "n"))
+text-put = (refl, refl)
+
+counter-read : Observes [] read.Get (value.Counter (pos 40)) (item.Int (pos 40)) obs.CounterIs
+counter-read = (refl, refl)
+
+counter-added : Observes (op.AddCounter (pos 2) ∷ []) read.Get (value.Counter (pos 40)) (item.Int (pos 42)) obs.CounterIs
+counter-added = (refl, refl)
+
+counter-put : Decides (op.PutCounter (pos 7) ∷ []) read.Get (value.Counter (pos 40)) (item.Int (pos 7))
+counter-put = (refl, refl)
+
+counter-put-added : Decides (op.PutCounter (pos 7) ∷ op.AddCounter (pos 2) ∷ []) read.Get (value.Counter (pos 40)) (item.Int (pos 9))
+counter-put-added = (refl, refl)
+
+counter-added-put : Decides (op.AddCounter (pos 2) ∷ op.PutCounter (pos 7) ∷ []) read.Get (value.Counter (pos 40)) (item.Int (pos 7))
+counter-added-put = (refl, refl)
+
+-- a list of three items, of which the first and the last are equal
+abbrev o-p-o : Value
+o-p-o = value.List (codes "o" ∷ codes "p" ∷ codes "o" ∷ [])
+
+-- a place within the list is observed alone, and one past its end with the whole
+list-place : Observes [] (read.ListAt (pos 1)) o-p-o (item.Text (codes "p")) (obs.ListAt 1)
+list-place = (refl, refl)
+
+list-past-the-end : Observes [] (read.ListAt (pos 3)) o-p-o (item.Text []) obs.ListAll
+list-past-the-end = (refl, refl)
+
+-- nothing is at a negative place of any list
+list-negative : Decides [] (read.ListAt (negsuc 0)) o-p-o (item.Text [])
+list-negative = (refl, refl)
+
+list-read : Observes [] read.ListAll o-p-o (item.Texts (codes "o" ∷ codes "p" ∷ codes "o" ∷ [])) obs.ListAll
+list-read = (refl, refl)
+
+-- after a clear there is only what was pushed since
+list-cleared-place : Decides (op.ListClear ∷ op.ListPush (codes "n") ∷ []) (read.ListAt (pos 0)) o-p-o (item.Text (codes "n"))
+list-cleared-place = (refl, refl)
+
+list-cleared : Decides (op.ListClear ∷ op.ListPush (codes "n") ∷ []) read.ListAll o-p-o (item.Texts (codes "n" ∷ []))
+list-cleared = (refl, refl)

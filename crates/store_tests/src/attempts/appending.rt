@@ -31,7 +31,7 @@ use txn_eval::{Snaps, Step, run};
 use txn_lang::{Commit, CommitList, Run};
 
 /// A body that adds to the counter `x`, and one that does nothing.
-const ADDS: &[u8] = b"counter(\"x\").add(1);";
+const ADDS: &[u8] = br#"counter("x").add(1);"#;
 
 const NOTHING: &[u8] = b"let a = 1;";
 

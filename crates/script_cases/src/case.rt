@@ -1,0 +1,119 @@
+//! A case: a script, and what is to come of it.
+
+use crate::row::{Repeated, Row, Spelled};
+use dio_core::NEWLINE;
+use dtext::{TextError, read_text};
+use std::alloc::{AllocError, Global};
+use std::io;
+
+/// How many bytes a text in quotes may take in a row.
+const LONGEST_QUOTED: usize = 65_536;
+
+/// Why a case can't be read or tried.
+#[derive(Debug, Drop)]
+pub(crate) enum CaseError {
+    /// A row says nothing that a case can have there.
+    NoForm,
+    /// A read or a write failed, or there was no memory.
+    Fault(io::Error),
+}
+
+impl From<AllocError> for CaseError {
+    fn from(error: AllocError) -> CaseError {
+        CaseError::Fault(io::Error::from(error))
+    }
+}
+
+impl From<io::Error> for CaseError {
+    fn from(error: io::Error) -> CaseError {
+        CaseError::Fault(error)
+    }
+}
+
+impl From<TextError> for CaseError {
+    fn from(error: TextError) -> CaseError {
+        match error {
+            TextError::At(_) => CaseError::NoForm,
+            TextError::NoMemory => CaseError::from(AllocError),
+        }
+    }
+}
+
+/// A script, and what is to come of it.
+#[derive(Drop)]
+pub(crate) struct Case<'a> {
+    pub(crate) name: &'a str,
+    pub(crate) settings: Spelled<'a>,
+    pub(crate) script: Vec<u8>,
+    pub(crate) replies: Vec<u8>,
+    /// Whether these are the last replies, behind others that are not said.
+    pub(crate) are_last: bool,
+    pub(crate) status: u8,
+}
+
+impl<'a> Case<'a> {
+    /// A case of no line, over a store of the standard settings.
+    pub(crate) fn new(alloc: Global, name: &'a str) -> Case<'a> {
+        Case {
+            name,
+            settings: Spelled {
+                shards: "4",
+                window: "4096",
+                limit: "100000",
+            },
+            script: Vec::new(alloc),
+            replies: Vec::new(alloc),
+            are_last: false,
+            status: 0,
+        }
+    }
+
+    /// Adds what a row says.
+    pub(crate) fn add(&mut self, alloc: Global, row: Row<'a>) -> Result<(), CaseError> {
+        match row {
+            Row::Settings(settings) => self.settings = settings,
+            Row::Status(status) => self.status = status,
+            Row::Ending => self.are_last = true,
+            Row::Unended => {
+                self.script.pop();
+            }
+            Row::More(more) => add_more(alloc, &mut self.script, more)?,
+            Row::MoreReply(more) => add_more(alloc, &mut self.replies, more)?,
+            Row::Line(line) | Row::Remark(line) => add_line(&mut self.script, line)?,
+            Row::Reply(reply) => add_line(&mut self.replies, reply)?,
+            Row::Answered { line, reply } => {
+                add_line(&mut self.script, line)?;
+                add_line(&mut self.replies, reply)?;
+            }
+            Row::Blank | Row::Case(_) | Row::Section => return Err(CaseError::NoForm),
+        }
+        Ok(())
+    }
+}
+
+/// Adds a line and its end.
+fn add_line(lines: &mut Vec<u8>, line: &str) -> Result<(), AllocError> {
+    lines.extend_from_slice(line.as_bytes())?;
+    lines.push(NEWLINE)?;
+    Ok(())
+}
+
+/// Adds a text to the last line, as often as a row says.
+fn add_more(alloc: Global, lines: &mut Vec<u8>, more: Repeated) -> Result<(), CaseError> {
+    if more.quoted.len() > LONGEST_QUOTED {
+        return Err(CaseError::NoForm);
+    }
+    let text = read_text(alloc, more.quoted.as_bytes())?;
+    add_times(lines, text.as_slice(), more.count)?;
+    Ok(())
+}
+
+/// Adds a text so many times before the end of the last line. Where there is no line, it begins the first.
+fn add_times(lines: &mut Vec<u8>, text: &[u8], count: u32) -> Result<(), AllocError> {
+    lines.pop();
+    for _ in 0..count {
+        lines.extend_from_slice(text)?;
+    }
+    lines.push(NEWLINE)?;
+    Ok(())
+}
