@@ -2,7 +2,7 @@
 
 use crate::given::{Write, address, delta, is_pair};
 use change_feed::{Change, ChangeList, Feed, Tail};
-use rdt_types::{Address, Delta, Kind};
+use rdt_types::{Address, Delta, Kind, SetDelta};
 use std::alloc::{AllocError, Global};
 
 /// A feed up to a number, with writes at an address.
@@ -27,21 +27,28 @@ fn cleared(alloc: Global) -> Result<Feed, AllocError> {
     feed_of(alloc, 0, &set, &writes)
 }
 
-/// Whether a feed's one change clears a set, and then adds `b` alone.
-fn clears_and_adds(feed: &Feed) -> bool {
+/// Whether a set's delta clears, and then adds `b` alone.
+fn is_b_alone(delta: &SetDelta) -> bool {
+    match delta.marks().as_slice() {
+        [(element, _)] => delta.cleared() && element.as_slice() == b"b".as_slice(),
+        _ => false,
+    }
+}
+
+/// Whether the one change of a feed does so, where there is memory.
+fn clears_and_adds(feed: &Result<Feed, AllocError>) -> bool {
+    let Ok(feed) = feed else {
+        return false;
+    };
     match feed.changes().as_slice() {
-        [(_, Delta::Set(d))] => {
-            d.cleared()
-                && d.marks().len() == 1
-                && d.marks().as_slice()[0].0.as_slice() == b"b".as_slice()
-        }
+        [(_, Delta::Set(delta))] => is_b_alone(delta),
         _ => false,
     }
 }
 
 #[test]
 fn a_clear_between_two_marks_drops_the_first(rt: HostRuntime) {
-    assert!(rt; cleared(rt.alloc()).is_ok_and(|feed| clears_and_adds(&feed)));
+    assert!(rt; clears_and_adds(&cleared(rt.alloc())));
 }
 
 /// A feed up to a number, with a write at a counter.
@@ -70,20 +77,24 @@ fn joined(alloc: Global) -> Result<Feed, AllocError> {
     Ok(feed)
 }
 
-/// Whether a feed up to 6 puts the one counter and adds to the other.
-fn puts_and_adds(feed: &Feed) -> bool {
-    feed.to() == 6
-        && match feed.changes().as_slice() {
-            [x, y] => {
-                is_pair(x, b"x", &Delta::PutCounter(7)) && is_pair(y, b"y", &Delta::AddCounter(2))
-            }
-            _ => false,
+/// Whether a feed up to 6 puts the one counter and adds to the other, where there is memory.
+fn puts_and_adds(feed: &Result<Feed, AllocError>) -> bool {
+    let Ok(feed) = feed else {
+        return false;
+    };
+    match feed.changes().as_slice() {
+        [x, y] => {
+            feed.to() == 6
+                && is_pair(x, b"x", &Delta::PutCounter(7))
+                && is_pair(y, b"y", &Delta::AddCounter(2))
         }
+        _ => false,
+    }
 }
 
 #[test]
 fn a_later_feed_goes_after_the_earlier(rt: HostRuntime) {
-    assert!(rt; joined(rt.alloc()).is_ok_and(|feed| puts_and_adds(&feed)));
+    assert!(rt; puts_and_adds(&joined(rt.alloc())));
 }
 
 /// Whether a list of changes keeps one.
@@ -95,7 +106,7 @@ fn keeps_a_change(alloc: Global) -> Result<bool, AllocError> {
     };
     let mut changes = ChangeList::new(alloc);
     changes.push(change.clone()?)?;
-    Ok(changes.get(0).is_some_and(|first| *first == change))
+    Ok(changes.as_slice() == [change].as_slice())
 }
 
 #[test]

@@ -57,7 +57,7 @@ pub fn address(alloc: Global, kind: Kind, key: &[u8]) -> Result<Address, AllocEr
 }
 
 /// The write of a row.
-pub fn write(alloc: Global, write: Write) -> Result<WriteOp, AllocError> {
+pub fn operation(alloc: Global, write: Write) -> Result<WriteOp, AllocError> {
     Ok(match write {
         Write::PutBool(b) => WriteOp::PutBool(b),
         Write::PutCounter(n) => WriteOp::PutCounter(n),
@@ -77,12 +77,12 @@ pub fn write(alloc: Global, write: Write) -> Result<WriteOp, AllocError> {
 
 /// The delta of a write.
 pub fn delta(alloc: Global, done: Write) -> Result<Delta, AllocError> {
-    let op = write(alloc, done)?;
+    let op = operation(alloc, done)?;
     delta_of(alloc, &op)
 }
 
 /// The observation of a row.
-pub fn seen(alloc: Global, seen: Seen) -> Result<Obs, AllocError> {
+pub fn observation(alloc: Global, seen: Seen) -> Result<Obs, AllocError> {
     Ok(match seen {
         Seen::BoolIs => Obs::BoolIs,
         Seen::CounterIs => Obs::CounterIs,

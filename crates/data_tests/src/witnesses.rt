@@ -3,7 +3,7 @@
 
 ghost use Rattle.std.specs.Prelude.{◌≡◌};
 
-use crate::given::{Seen, Write, address, delta, seen, write};
+use crate::given::{Seen, Write, address, delta, observation, operation};
 use abort_witness::{Based, BasedList, Found, Witness, name};
 use change_feed::Change;
 use conflict_table::{Obs, Steps, clash};
@@ -57,7 +57,7 @@ fn copies_of_finds(rt: HostRuntime) -> Result<(), Fail> {
 }
 
 /// The rows of the table: what was observed, and what clashes with it.
-const ROWS: [(Seen, Write); 23] = [
+static ROWS: [(Seen, Write); 23] = [
     (Seen::BoolIs, Write::PutBool(true)),
     (Seen::CounterIs, Write::PutCounter(2)),
     (Seen::CounterIs, Write::AddCounter(0)),
@@ -83,6 +83,11 @@ const ROWS: [(Seen, Write); 23] = [
     (Seen::ListAll, Write::ListClear),
 ];
 
+/// The table, so that the proof of a test doesn't go through its rows.
+fn rows() -> &'static [(Seen, Write)] {
+    &ROWS
+}
+
 /// The witness of an observation and a change, if they are of one kind and clash.
 fn witness_of<L: Ledger>(
     blank: Blank,
@@ -103,7 +108,7 @@ fn witness_of<L: Ledger>(
 
 /// An observation as it was after 3 commits.
 fn based_on(alloc: Global, obs: Seen) -> Result<Based, AllocError> {
-    let obs = seen(alloc, obs)?;
+    let obs = observation(alloc, obs)?;
     Ok(Based {
         address: address(alloc, obs.kind(), b"k")?,
         obs,
@@ -118,7 +123,7 @@ fn is_named(
     based: &Based,
     part: Write,
 ) -> Result<bool, AllocError> {
-    let part = write(alloc, part)?;
+    let part = operation(alloc, part)?;
     Ok(
         witness.address == based.address
             && witness.obs == based.obs
@@ -149,7 +154,7 @@ fn holds(alloc: Global, obs: Seen, part: Write) -> Result<bool, AllocError> {
 
 #[test]
 fn a_witness_of_each_row(rt: HostRuntime) {
-    for (number, (obs, part)) in ROWS.iter().enumerate() {
+    for (number, (obs, part)) in rows().iter().enumerate() {
         assert!(rt;
             matches!(holds(rt.alloc(), *obs, *part), Ok(true)),
             "row {number}"

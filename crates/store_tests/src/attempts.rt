@@ -112,9 +112,13 @@ const PAUSING: [&[u8]; 5] = [
     br#"let n = counter("a").get() + counter("b").get(); counter("c").put(n * counter("d").get()); emit counter("c").get();"#,
 ];
 
+fn pausing() -> &'static [&'static [u8]] {
+    &PAUSING
+}
+
 #[test]
 fn runs_go_on_as_they_would_from_their_start(rt: HostRuntime) {
-    for source in PAUSING.as_slice() {
+    for source in pausing() {
         assert!(rt;
             alike(
                 &run_of(rt.alloc(), source, false),

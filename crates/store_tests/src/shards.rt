@@ -16,7 +16,7 @@ use rdt_types::{Address, Delta, Kind, Settings, Value, WriteOp, shard_of};
 use std::alloc::{AllocError, Global};
 use std::marker::Brand;
 use std::sync::ledger::{Blank, Ledger};
-use std::test::Fail;
+use txn_lang::Snap;
 use version_shard::{AtError, Prepared, Refusal, Shard};
 
 /// The counter x.
@@ -89,6 +89,33 @@ fn following(alloc: Global, x: &Address, window: u16, to: u64) -> Result<Shard, 
     Shard::new(alloc, number, &settings, &additions(alloc, 0, to)?)
 }
 
+/// What a shard is asked of the counter.
+#[derive(Clone, Copy)]
+enum Ask {
+    Numbers,
+    Read,
+    ReadAt(u64),
+    /// What was observed at a base is validated.
+    Validate(u64),
+}
+
+/// What it says.
+#[derive(Clone, Copy, Debug, PartialEq, Eq)]
+enum Told {
+    /// The front, and the horizon.
+    Numbers(u64, u64),
+    /// The base, and the counter's value.
+    Snap(u64, i64),
+    /// The counter's value.
+    Is(i64),
+    Late(u64, u64),
+    /// The shard, and the front at which it is prepared.
+    Front(u8, u64),
+    /// The witness' base and number, where its part is an addition of 1 to the counter.
+    Clash(u64, u64),
+    Other,
+}
+
 /// The number of a counter, or -1.
 fn count(value: &Value) -> i64 {
     match value {
@@ -97,75 +124,22 @@ fn count(value: &Value) -> i64 {
     }
 }
 
-/// The counter's value at a number, or the number and the horizon for which it is late.
-fn at(shard: &Shard, x: &Address, number: u64) -> Result<Result<i64, (u64, u64)>, AllocError>
-    requires here { IsIn shard.now x.now }
-    requires within { number ≤ shard.now.front }
-{
-    match shard.read_at(x, number) {
-        Ok(value) => Ok(Ok(count(&value))),
-        Err(AtError::Late(asked, horizon)) => Ok(Err((asked, horizon))),
-        Err(AtError::NoMemory) => Err(AllocError),
+fn told_of_snap(snap: &Result<Snap, AllocError>) -> Told {
+    match snap {
+        Ok(snap) => Told::Snap(snap.base, count(&snap.value)),
+        Err(_) => Told::Other,
     }
 }
 
-#[test]
-fn a_window_of_2_reaches_back_by_2(rt: HostRuntime) -> Result<(), Fail> {
-    let x = counter(rt.alloc())?;
-    let shard = following(rt.alloc(), &x, 2, 5)?;
-    assert_eq!(rt; at(&shard, &x, 3)?, Ok(3));
-    assert_eq!(rt; at(&shard, &x, 2)?, Err((2, 3)));
-    assert_eq!(rt; at(&shard, &x, 0)?, Err((0, 3)));
-    let snap = shard.read(&x)?;
-    assert_eq!(rt; (snap.base, count(&snap.value)), (5, 5));
-    Ok(())
+fn told_of_value(value: &Result<Value, AtError>) -> Told {
+    match value {
+        Ok(value) => Told::Is(count(value)),
+        Err(AtError::Late(asked, horizon)) => Told::Late(*asked, *horizon),
+        Err(AtError::NoMemory) => Told::Other,
+    }
 }
 
-#[test]
-fn a_shard_follows_from_far_behind(rt: HostRuntime) -> Result<(), Fail> {
-    let x = counter(rt.alloc())?;
-    let mut shard = following(rt.alloc(), &x, 4096, 2)?;
-    shard.follow(&additions(rt.alloc(), 2, 5000)?)?;
-    assert_eq!(rt; (shard.front(), shard.horizon()), (5000, 904));
-    assert_eq!(rt; at(&shard, &x, 904)?, Ok(904));
-    assert_eq!(rt; at(&shard, &x, 903)?, Err((903, 904)));
-    Ok(())
-}
-
-/// What a shard answers of the counter, observed at a base.
-fn validated<L: Ledger>(
-    blank: Blank,
-    shard: &Shard,
-    x: &Address,
-    base: u64,
-) -> Result<Result<Prepared, Refusal>, AllocError>
-    requires name { blank.name ≡ L.name }
-    requires parts { blank.parts ≡ L.parts }
-    requires one { blank.parts ≡ 1 }
-    requires here { IsIn shard.now x.now }
-    requires kind { x.now.kind ≡ kinds.Counter }
-{
-    let based = Based {
-        address: copied(x)?,
-        obs: Obs::CounterIs,
-        base,
-    };
-    let mut steps = Steps::<L>::new(blank);
-    Ok(shard.validate(&[based], &mut steps))
-}
-
-/// What the counter's validation says.
-#[derive(Clone, Copy, Debug, PartialEq, Eq)]
-enum Told {
-    Front(u8, u64),
-    /// The witness' base and number, where its part is an addition of 1 to the counter.
-    Clash(u64, u64),
-    Late(u64, u64),
-    Other,
-}
-
-/// What is told of an answer.
-fn summary(answer: &Result<Prepared, Refusal>) -> Told {
+fn told_of_answer(answer: &Result<Prepared, Refusal>) -> Told {
     match answer {
         Ok(prepared) => Told::Front(prepared.shard, prepared.front),
         Err(Refusal::Late(base, horizon)) => Told::Late(*base, *horizon),
@@ -177,21 +151,128 @@ fn summary(answer: &Result<Prepared, Refusal>) -> Told {
     }
 }
 
-/// What is told of the counter, observed at a base, with a counter of steps that nobody reads.
-fn told_of(shard: &Shard, x: &Address, base: u64) -> Result<Told, AllocError>
+/// What the validation of the counter says, observed at a base.
+fn validated<L: Ledger>(blank: Blank, shard: &Shard, x: &Address, base: u64) -> Told
+    requires name { blank.name ≡ L.name }
+    requires parts { blank.parts ≡ L.parts }
+    requires one { blank.parts ≡ 1 }
     requires here { IsIn shard.now x.now }
     requires kind { x.now.kind ≡ kinds.Counter }
 {
-    Ok(summary(&validated::<Brand>(Blank::new(1), shard, x, base)?))
+    let Ok(address) = copied(x) else {
+        return Told::Other;
+    };
+    let based = Based {
+        address,
+        obs: Obs::CounterIs,
+        base,
+    };
+    let mut steps = Steps::<L>::new(blank);
+    told_of_answer(&shard.validate(&[based], &mut steps))
+}
+
+/// The same, with a counter of steps that nobody reads.
+fn told_of(shard: &Shard, x: &Address, base: u64) -> Told
+    requires here { IsIn shard.now x.now }
+    requires kind { x.now.kind ≡ kinds.Counter }
+{
+    validated::<Brand>(Blank::new(1), shard, x, base)
+}
+
+/// What a shard says of the counter.
+fn told(shard: &Shard, x: &Address, ask: Ask) -> Told
+    requires here { IsIn shard.now x.now }
+    requires kind { x.now.kind ≡ kinds.Counter }
+{
+    match ask {
+        Ask::Numbers => Told::Numbers(shard.front(), shard.horizon()),
+        Ask::Read => told_of_snap(&shard.read(x)),
+        Ask::ReadAt(number) if number <= shard.front() => {
+            told_of_value(&shard.read_at(x, number))
+        }
+        Ask::ReadAt(_) => Told::Other,
+        Ask::Validate(base) => told_of(shard, x, base),
+    }
+}
+
+/// Whether all is told as it should be.
+fn all_told(shard: &Shard, x: &Address, rows: &[(Ask, Told)]) -> bool
+    requires here { IsIn shard.now x.now }
+    requires kind { x.now.kind ≡ kinds.Counter }
+{
+    for (ask, wanted) in rows {
+        if told(shard, x, *ask) != *wanted {
+            return false;
+        }
+    }
+    true
+}
+
+/// Whether the shard of the counter tells this, with a window of 2 and behind five additions.
+fn tells(alloc: Global, rows: &[(Ask, Told)]) -> bool {
+    let Ok(x) = counter(alloc) else {
+        return false;
+    };
+    match following(alloc, &x, 2, 5) {
+        Ok(shard) => all_told(&shard, &x, rows),
+        Err(_) => false,
+    }
+}
+
+const WINDOW_OF_2: [(Ask, Told); 4] = [
+    (Ask::ReadAt(3), Told::Is(3)),
+    (Ask::ReadAt(2), Told::Late(2, 3)),
+    (Ask::ReadAt(0), Told::Late(0, 3)),
+    (Ask::Read, Told::Snap(5, 5)),
+];
+
+fn window_of_2() -> &'static [(Ask, Told)] {
+    &WINDOW_OF_2
 }
 
 #[test]
-fn late_comes_before_clash_and_clash_before_the_front(rt: HostRuntime) -> Result<(), Fail> {
-    let x = counter(rt.alloc())?;
-    let shard = following(rt.alloc(), &x, 2, 5)?;
-    assert_eq!(rt; told_of(&shard, &x, 2)?, Told::Late(2, 3));
-    assert_eq!(rt; told_of(&shard, &x, 3)?, Told::Clash(3, 4));
-    assert_eq!(rt; told_of(&shard, &x, 4)?, Told::Clash(4, 5));
-    assert_eq!(rt; told_of(&shard, &x, 5)?, Told::Front(1, 5));
-    Ok(())
+fn a_window_of_2_reaches_back_by_2(rt: HostRuntime) {
+    assert!(rt; tells(rt.alloc(), window_of_2()));
+}
+
+const OBSERVED: [(Ask, Told); 4] = [
+    (Ask::Validate(2), Told::Late(2, 3)),
+    (Ask::Validate(3), Told::Clash(3, 4)),
+    (Ask::Validate(4), Told::Clash(4, 5)),
+    (Ask::Validate(5), Told::Front(1, 5)),
+];
+
+fn observed() -> &'static [(Ask, Told)] {
+    &OBSERVED
+}
+
+#[test]
+fn late_comes_before_clash_and_clash_before_the_front(rt: HostRuntime) {
+    assert!(rt; tells(rt.alloc(), observed()));
+}
+
+/// Whether a shard with a window of 4,096 that has followed two additions tells this behind 5,000.
+fn catches_up(alloc: Global, rows: &[(Ask, Told)]) -> bool {
+    let (Ok(x), Ok(more)) = (counter(alloc), additions(alloc, 2, 5000)) else {
+        return false;
+    };
+    match following(alloc, &x, 4096, 2) {
+        Ok(mut shard) => shard.follow(&more).is_ok() && all_told(&shard, &x, rows),
+        Err(_) => false,
+    }
+}
+
+const FAR_BEHIND: [(Ask, Told); 3] = [
+    (Ask::Numbers, Told::Numbers(5000, 904)),
+    (Ask::ReadAt(904), Told::Is(904)),
+    (Ask::ReadAt(903), Told::Late(903, 904)),
+];
+
+fn far_behind() -> &'static [(Ask, Told)] {
+    &FAR_BEHIND
+}
+
+#[test]
+fn a_shard_follows_from_far_behind(rt: HostRuntime) {
+    assert!(rt; catches_up(rt.alloc(), far_behind()));
 }

@@ -20,9 +20,14 @@ enum Write {
 /// What is done with a registry, or seen of it.
 #[derive(Clone, Copy)]
 enum Move {
-    /// A subscriber comes, if it isn't there, and subscribes to the counter or the set.
-    Watch(u32, Kind),
-    Commit(Write),
+    /// A subscriber comes, if it isn't there, and subscribes to the counter.
+    Watch(u32),
+    /// The same to the set.
+    WatchSet(u32),
+    /// A commit adds to the counter, or in the set marks an element, or clears.
+    Add(i64),
+    Mark(&'static [u8]),
+    Clear,
     /// A subscriber takes this addition to the counter, or none.
     Takes(u32, Option<i64>),
     /// A subscriber takes a clear of the set, and then the addition of this element alone.
@@ -168,8 +173,11 @@ fn unsubscribe(registry: &mut Registry, alloc: Global, subscriber: u32) -> Optio
 /// Makes one move, and answers whether it went as it should.
 fn goes(registry: &mut Registry, alloc: Global, step: Move) -> bool {
     match step {
-        Move::Watch(subscriber, kind) => watch(registry, alloc, subscriber, kind),
-        Move::Commit(write) => commit(registry, alloc, write),
+        Move::Watch(subscriber) => watch(registry, alloc, subscriber, Kind::Counter),
+        Move::WatchSet(subscriber) => watch(registry, alloc, subscriber, Kind::Set),
+        Move::Add(by) => commit(registry, alloc, Write::Add(by)),
+        Move::Mark(element) => commit(registry, alloc, Write::Mark(element)),
+        Move::Clear => commit(registry, alloc, Write::Clear),
         Move::Takes(subscriber, wanted) => match feed_of(registry, subscriber) {
             Some(feed) => adds(alloc, &feed, wanted),
             None => false,
@@ -203,56 +211,68 @@ fn play(alloc: Global, front: u64, moves: &[Move]) -> usize {
 }
 
 const TWO: [Move; 9] = [
-    Move::Watch(1, Kind::Counter),
-    Move::Watch(2, Kind::Counter),
-    Move::Commit(Write::Add(2)),
+    Move::Watch(1),
+    Move::Watch(2),
+    Move::Add(2),
     Move::Takes(1, Some(2)),
-    Move::Commit(Write::Add(-2)),
+    Move::Add(-2),
     Move::Takes(1, Some(-2)),
     Move::Takes(2, Some(0)),
     Move::Takes(2, None),
     Move::Front(5),
 ];
 
+fn two() -> &'static [Move] {
+    &TWO
+}
+
 #[test]
 fn two_take_at_different_times(rt: HostRuntime) {
-    assert_eq!(rt; play(rt.alloc(), 3, &TWO), 9);
+    assert_eq!(rt; play(rt.alloc(), 3, two()), 9);
 }
 
 const AGAIN: [Move; 17] = [
-    Move::Watch(1, Kind::Counter),
-    Move::Commit(Write::Add(2)),
-    Move::Watch(2, Kind::Counter),
-    Move::Commit(Write::Add(5)),
+    Move::Watch(1),
+    Move::Add(2),
+    Move::Watch(2),
+    Move::Add(5),
     Move::Has(1, true),
     Move::Unsubscribe(1, true),
     Move::Has(1, false),
     Move::Unsubscribe(1, false),
-    Move::Watch(1, Kind::Counter),
+    Move::Watch(1),
     Move::Takes(1, None),
     Move::Takes(2, Some(5)),
     Move::Taken(1, Some(5)),
     Move::Taken(2, Some(5)),
-    Move::Commit(Write::Add(7)),
+    Move::Add(7),
     Move::Leave(2),
     Move::Taken(2, None),
     Move::Takes(1, Some(7)),
 ];
 
+fn again() -> &'static [Move] {
+    &AGAIN
+}
+
 #[test]
 fn one_comes_between_and_one_comes_again(rt: HostRuntime) {
-    assert_eq!(rt; play(rt.alloc(), 3, &AGAIN), 17);
+    assert_eq!(rt; play(rt.alloc(), 3, again()), 17);
 }
 
 const CLEARED: [Move; 5] = [
-    Move::Watch(1, Kind::Set),
-    Move::Commit(Write::Mark(b"a")),
-    Move::Commit(Write::Clear),
-    Move::Commit(Write::Mark(b"b")),
+    Move::WatchSet(1),
+    Move::Mark(b"a"),
+    Move::Clear,
+    Move::Mark(b"b"),
     Move::TakesClearAnd(1, b"b"),
 ];
 
+fn cleared() -> &'static [Move] {
+    &CLEARED
+}
+
 #[test]
 fn a_clear_between_two_marks_drops_the_first(rt: HostRuntime) {
-    assert_eq!(rt; play(rt.alloc(), 0, &CLEARED), 5);
+    assert_eq!(rt; play(rt.alloc(), 0, cleared()), 5);
 }

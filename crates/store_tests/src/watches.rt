@@ -13,25 +13,25 @@ use txn_parse::parse;
 
 /// What is done with the watches of a driver, or seen of them.
 #[derive(Clone, Copy)]
-enum Move<'a> {
+enum Move {
     /// A watch more, by a name that isn't in use: its body runs for the first time.
-    Watch(&'a [u8], &'a [u8]),
+    Watch(&'static [u8], &'static [u8]),
     /// A counter's value is held.
-    Fill(&'a [u8], i64),
+    Fill(&'static [u8], i64),
     /// An addition to a counter is told.
-    Add(&'a [u8], i64),
+    Add(&'static [u8], i64),
     /// The next rerun is that of a name and gives a number. It is reported, after the memory for that was taken.
-    Runs(&'a [u8], i64),
+    Runs(&'static [u8], i64),
     /// The next rerun is reported, though no memory was taken for that.
     Settles,
     /// The next rerun needs the value of a counter.
-    Needs(&'a [u8]),
+    Needs(&'static [u8]),
     /// No watch is stale.
     Current,
     /// Whether a last run observed a counter.
-    Observes(&'a [u8], bool),
+    Observes(&'static [u8], bool),
     /// Whether a watch of the name was there to be forgotten.
-    Unwatch(&'a [u8], bool),
+    Unwatch(&'static [u8], bool),
 }
 
 /// A body that is read and checked, and writes nothing.
@@ -189,7 +189,7 @@ fn unwatch(driver: &mut Driver, alloc: Global, name: &[u8], wanted: bool) -> boo
 }
 
 /// Makes one move, and answers whether it went as it should.
-fn goes(driver: &mut Driver, alloc: Global, cache: &mut Cache, step: Move<'_>) -> bool {
+fn goes(driver: &mut Driver, alloc: Global, cache: &mut Cache, step: Move) -> bool {
     match step {
         Move::Watch(name, source) => watch(driver, alloc, cache, name, source),
         Move::Fill(key, value) => fill(cache, alloc, key, value),
@@ -204,7 +204,7 @@ fn goes(driver: &mut Driver, alloc: Global, cache: &mut Cache, step: Move<'_>) -
 }
 
 /// Makes moves from where nothing is watched and the counters `x` and `y` are 1 and 2. It answers how many went as they should.
-fn play(alloc: Global, moves: &[Move<'_>]) -> usize {
+fn play(alloc: Global, moves: &[Move]) -> usize {
     let mut cache = Cache::new(alloc, 0);
     let mut driver = Driver::new(alloc);
     if !fill(&mut cache, alloc, b"x", 1) || !fill(&mut cache, alloc, b"y", 2) {
@@ -218,83 +218,103 @@ fn play(alloc: Global, moves: &[Move<'_>]) -> usize {
     moves.len()
 }
 
+const TOUCHED: [Move; 12] = [
+    Move::Watch(b"b", br#"emit counter("x").get() + counter("y").get();"#),
+    Move::Watch(b"n", b"emit 5;"),
+    Move::Watch(b"a", br#"emit counter("x").get();"#),
+    Move::Current,
+    Move::Add(b"y", 0),
+    Move::Add(b"x", 10),
+    Move::Runs(b"b", 13),
+    Move::Runs(b"a", 11),
+    Move::Current,
+    Move::Add(b"y", 0),
+    Move::Runs(b"b", 13),
+    Move::Current,
+];
+
+fn touched() -> &'static [Move] {
+    &TOUCHED
+}
+
 #[test]
 fn touched_watches_run_in_the_order_of_their_making(rt: HostRuntime) {
-    let moves = [
-        Move::Watch(b"b", br#"emit counter("x").get() + counter("y").get();"#),
-        Move::Watch(b"n", b"emit 5;"),
-        Move::Watch(b"a", br#"emit counter("x").get();"#),
-        Move::Current,
-        Move::Add(b"y", 0),
-        Move::Add(b"x", 10),
-        Move::Runs(b"b", 13),
-        Move::Runs(b"a", 11),
-        Move::Current,
-        Move::Add(b"y", 0),
-        Move::Runs(b"b", 13),
-        Move::Current,
-    ];
-    assert_eq!(rt; play(rt.alloc(), &moves), 12);
+    assert_eq!(rt; play(rt.alloc(), touched()), 12);
 }
 
 /// The counter `y` while `x` is 1, and `z` then.
 const BRANCHING: &[u8] =
     br#"if counter("x").get() == 1 { emit counter("y").get(); } else { emit counter("z").get(); }"#;
 
+const OBSERVING: [Move; 13] = [
+    Move::Watch(b"w", BRANCHING),
+    Move::Observes(b"x", true),
+    Move::Observes(b"z", false),
+    Move::Add(b"x", 1),
+    Move::Needs(b"z"),
+    Move::Fill(b"z", 9),
+    Move::Runs(b"w", 9),
+    Move::Observes(b"z", true),
+    Move::Observes(b"y", false),
+    Move::Add(b"y", 1),
+    Move::Current,
+    Move::Add(b"z", 1),
+    Move::Runs(b"w", 10),
+];
+
+fn observing() -> &'static [Move] {
+    &OBSERVING
+}
+
 #[test]
 fn a_rerun_observes_other_addresses(rt: HostRuntime) {
-    let moves = [
-        Move::Watch(b"w", BRANCHING),
-        Move::Observes(b"x", true),
-        Move::Observes(b"z", false),
-        Move::Add(b"x", 1),
-        Move::Needs(b"z"),
-        Move::Fill(b"z", 9),
-        Move::Runs(b"w", 9),
-        Move::Observes(b"z", true),
-        Move::Observes(b"y", false),
-        Move::Add(b"y", 1),
-        Move::Current,
-        Move::Add(b"z", 1),
-        Move::Runs(b"w", 10),
-    ];
-    assert_eq!(rt; play(rt.alloc(), &moves), 13);
+    assert_eq!(rt; play(rt.alloc(), observing()), 13);
+}
+
+const REPORTED: [Move; 15] = [
+    Move::Fill(b"z", 9),
+    Move::Watch(b"w", BRANCHING),
+    Move::Add(b"x", 1),
+    Move::Settles,
+    Move::Observes(b"z", true),
+    Move::Observes(b"x", true),
+    Move::Current,
+    Move::Add(b"y", 1),
+    Move::Current,
+    Move::Add(b"z", 1),
+    Move::Runs(b"w", 10),
+    Move::Add(b"z", 1),
+    Move::Observes(b"z", true),
+    Move::Observes(b"y", false),
+    Move::Runs(b"w", 11),
+];
+
+fn reported() -> &'static [Move] {
+    &REPORTED
 }
 
 #[test]
 fn a_report_without_memory_is_found_all_the_same(rt: HostRuntime) {
-    let moves = [
-        Move::Fill(b"z", 9),
-        Move::Watch(b"w", BRANCHING),
-        Move::Add(b"x", 1),
-        Move::Settles,
-        Move::Observes(b"z", true),
-        Move::Observes(b"x", true),
-        Move::Current,
-        Move::Add(b"y", 1),
-        Move::Current,
-        Move::Add(b"z", 1),
-        Move::Runs(b"w", 10),
-        Move::Add(b"z", 1),
-        Move::Observes(b"z", true),
-        Move::Observes(b"y", false),
-        Move::Runs(b"w", 11),
-    ];
-    assert_eq!(rt; play(rt.alloc(), &moves), 15);
+    assert_eq!(rt; play(rt.alloc(), reported()), 15);
+}
+
+const FORGOTTEN: [Move; 9] = [
+    Move::Watch(b"w", br#"emit counter("x").get();"#),
+    Move::Watch(b"v", br#"emit counter("x").get();"#),
+    Move::Unwatch(b"w", true),
+    Move::Unwatch(b"w", false),
+    Move::Watch(b"w", br#"emit counter("x").get() * 2;"#),
+    Move::Add(b"x", 1),
+    Move::Runs(b"v", 2),
+    Move::Runs(b"w", 4),
+    Move::Current,
+];
+
+fn forgotten() -> &'static [Move] {
+    &FORGOTTEN
 }
 
 #[test]
 fn a_forgotten_watch_leaves_its_name(rt: HostRuntime) {
-    let moves = [
-        Move::Watch(b"w", br#"emit counter("x").get();"#),
-        Move::Watch(b"v", br#"emit counter("x").get();"#),
-        Move::Unwatch(b"w", true),
-        Move::Unwatch(b"w", false),
-        Move::Watch(b"w", br#"emit counter("x").get() * 2;"#),
-        Move::Add(b"x", 1),
-        Move::Runs(b"v", 2),
-        Move::Runs(b"w", 4),
-        Move::Current,
-    ];
-    assert_eq!(rt; play(rt.alloc(), &moves), 9);
+    assert_eq!(rt; play(rt.alloc(), forgotten()), 9);
 }

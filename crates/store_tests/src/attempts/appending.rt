@@ -17,6 +17,7 @@ ghost use Rattle.journal_core.specs.Witnesses.{AreBasedOfOneKind};
 ghost use Rattle.store_tests.specs.Plain.{plain, plain_bytes};
 
 use super::checked;
+use crate::journals::number_of;
 use abort_witness::{Based, BasedList, Witness};
 use conflict_table::{Obs, Steps};
 use dio_core::Count;
@@ -26,7 +27,6 @@ use rdt_types::{Address, Delta, DeltaMap, ItemList, Kind, Outcome, Settings};
 use std::alloc::{AllocError, Global};
 use std::marker::Brand;
 use std::sync::ledger::{Blank, Ledger};
-use std::test::Fail;
 use txn_eval::{Snaps, Step, run};
 use txn_lang::{Commit, CommitList, Run};
 
@@ -137,8 +137,7 @@ fn next_seq<K: Keep>(journal: &Journal<K>, client: u32) -> Result<u64, AllocErro
 
 /// That the counter `x` was read at a base.
 fn read_at(alloc: Global, base: u64) -> Result<BasedList, AllocError>
-    ensures observed { IfOk result AreBasedOfOneKind }
-    ensures few { IfOk result (λ based. length based ≡ 1) }
+    ensures { IfOk result AreBasedOfOneKind }
 {
     let mut based = BasedList::new(alloc);
     based.push(Based {
@@ -176,7 +175,6 @@ fn handed(
     ensures client { IfOk result (λ ready. ready.client ≡ client) }
     ensures seq { IfOk result (λ ready. ready.seq ≡ seq) }
     ensures observed { IfOk result (λ ready. AreBasedOfOneKind ready.based) }
-    ensures few { IfOk result (λ ready. length ready.based ≡ 1) }
 {
     let based = read_at(alloc, base)?;
     let (body, run) = ran(alloc, source)?;
@@ -222,8 +220,10 @@ fn append<K: Keep>(journal: &mut Journal<K>, ready: &Ready) -> Result<End, Alloc
     requires short { length ready.now.body ≤ LONGEST_BODY }
     requires next { ready.now.seq ≡ length (own ready.now.client journal.old.commits) + 1 }
     requires observed { AreBasedOfOneKind ready.now.based }
-    requires few { length ready.now.based < 2 ^ 32 }
 {
+    if ready.based.len() > 9 {
+        return Err(AllocError);
+    }
     let slot = journal.reserve(ready)?;
     match decided::<Brand, K>(Blank::new(1), journal, ready, slot) {
         Appended::Number(number) => Ok(End::Number(number)),
@@ -262,15 +262,38 @@ fn play<K: Keep>(alloc: Global, journal: &mut Journal<K>, rows: &[Row]) -> usize
 
 // ---- two slots
 
-/// Whether of two slots the one that was reserved first is appended.
-fn goes_first(alloc: Global, journal: &mut Journal<MemKeep>) -> Result<bool, AllocError> {
-    let seq = next_seq(journal, 7)?;
-    let first = handed(alloc, 7, seq, ADDS, 3)?;
-    let second = handed(alloc, 8, 1, ADDS, 3)?;
-    let slot = journal.reserve(&first)?;
-    let numbers = (slot.commit.number, journal.reserve(&second)?.commit.number);
-    let answer = decided::<Brand, MemKeep>(Blank::new(1), journal, &first, slot);
-    Ok(numbers == (4, 4) && answer == Appended::Number(4))
+/// Whether the slot that was reserved first is appended, where another was reserved behind it.
+fn goes_first(
+    journal: &mut Journal<MemKeep>,
+    first: &Ready,
+    second: &Ready,
+) -> Result<bool, AllocError>
+    requires run { IsRunOf first.now.body first.now.run }
+    requires short { length first.now.body ≤ LONGEST_BODY }
+    requires next { first.now.seq ≡ length (own first.now.client journal.old.commits) + 1 }
+{
+    if first.based.len() > 9 {
+        return Err(AllocError);
+    }
+    let slot = journal.reserve(first)?;
+    let number = slot.commit.number;
+    let other = number_of(&journal.reserve(second));
+    let answer = decided::<Brand, MemKeep>(Blank::new(1), journal, first, slot);
+    Ok((number, other) == (4, Some(4)) && answer == Appended::Number(4))
+}
+
+/// Whether that is so of two clients that read the counter `x` at 3.
+fn first_of_two(alloc: Global, journal: &mut Journal<MemKeep>) -> bool {
+    let Ok(seq) = next_seq(journal, 7) else {
+        return false;
+    };
+    let Ok(first) = handed(alloc, 7, seq, ADDS, 3) else {
+        return false;
+    };
+    match handed(alloc, 8, 1, ADDS, 3) {
+        Ok(second) => matches!(goes_first(journal, &first, &second), Ok(true)),
+        Err(_) => false,
+    }
 }
 
 /// Behind the commit of the first slot.
@@ -279,13 +302,26 @@ const BEHIND: [Row; 2] = [
     (8, NOTHING, 4, End::Number(5)),
 ];
 
+fn behind() -> &'static [Row] {
+    &BEHIND
+}
+
+/// Whether the other client's append clashes then, until it reads anew.
+fn one_is_added(alloc: Global) -> bool {
+    let Ok(kept) = three(alloc) else {
+        return false;
+    };
+    match journal_of(alloc, MemKeep, kept, 9) {
+        Ok(mut journal) => {
+            first_of_two(alloc, &mut journal) && play(alloc, &mut journal, behind()) == 2
+        }
+        Err(_) => false,
+    }
+}
+
 #[test]
-fn two_slots_of_one_number(rt: HostRuntime) -> Result<(), Fail> {
-    let alloc = rt.alloc();
-    let mut journal = journal_of(alloc, MemKeep, three(alloc)?, 9)?;
-    assert!(rt; goes_first(alloc, &mut journal)?);
-    assert_eq!(rt; play(alloc, &mut journal, &BEHIND), 2);
-    Ok(())
+fn two_slots_of_one_number(rt: HostRuntime) {
+    assert!(rt; one_is_added(rt.alloc()));
 }
 
 // ---- keepers
@@ -334,24 +370,46 @@ const TO_THE_FAULT: [Row; 3] = [
     (8, NOTHING, 3, End::Fault(0, 1)),
 ];
 
+fn to_the_fault() -> &'static [Row] {
+    &TO_THE_FAULT
+}
+
 const BEHIND_THE_FAULT: [Row; 2] = [
     (8, NOTHING, 3, End::Number(5)),
     (8, NOTHING, 3, End::Full(5)),
 ];
 
-#[test]
-fn a_keeper_fails_at_its_second_call(rt: HostRuntime) -> Result<(), Fail> {
-    let alloc = rt.alloc();
+fn behind_the_fault() -> &'static [Row] {
+    &BEHIND_THE_FAULT
+}
+
+/// Whether a journal of three commits goes on so, and counts one fault at the end.
+fn goes_on(alloc: Global, mut journal: Journal<Failing>) -> bool {
+    play(alloc, &mut journal, to_the_fault()) == 3
+        && journal.length() == 4
+        && journal.commit(5).is_none()
+        && play(alloc, &mut journal, behind_the_fault()) == 2
+        && journal.close().0.faults.get() == 1
+}
+
+/// The same, with a keeper that fails at its second call.
+fn fails_once(alloc: Global) -> bool {
+    let Ok(kept) = three(alloc) else {
+        return false;
+    };
     let keeper = Failing {
         before: 1,
         faults: Count::new(),
     };
-    let mut journal = journal_of(alloc, keeper, three(alloc)?, 5)?;
-    assert_eq!(rt; play(alloc, &mut journal, &TO_THE_FAULT), 3);
-    assert!(rt; journal.length() == 4 && journal.commit(5).is_none());
-    assert_eq!(rt; play(alloc, &mut journal, &BEHIND_THE_FAULT), 2);
-    assert!(rt; journal.close().0.faults.get() == 1);
-    Ok(())
+    match journal_of(alloc, keeper, kept, 5) {
+        Ok(journal) => goes_on(alloc, journal),
+        Err(_) => false,
+    }
+}
+
+#[test]
+fn a_keeper_fails_at_its_second_call(rt: HostRuntime) {
+    assert!(rt; fails_once(rt.alloc()));
 }
 
 /// A keeper that tells its list. It keeps commits that did nothing, with numbers below 256, and fails at all others.
@@ -480,17 +538,32 @@ const TOLD: [Row; 3] = [
     (8, ADDS, 0, End::Fault(0, 1)),
 ];
 
-#[test]
-fn a_keeper_tells_the_commits(rt: HostRuntime) -> Result<(), Fail> {
-    let alloc = rt.alloc();
+fn told() -> &'static [Row] {
+    &TOLD
+}
+
+/// Whether the keeper and the journal have the commits at the end.
+fn is_told(alloc: Global, mut journal: Journal<Telling>) -> bool {
+    if play(alloc, &mut journal, told()) != 3 {
+        return false;
+    }
+    let (keeper, commits) = journal.close();
+    has_two(&keeper.list, 7) && has_two(&commits, 7)
+}
+
+fn tells(alloc: Global) -> bool {
     let keeper = Telling {
         alloc,
         list: CommitList::new(alloc),
         faults: Count::new(),
     };
-    let mut journal = journal_of(alloc, keeper, CommitList::new(alloc), 9)?;
-    assert_eq!(rt; play(alloc, &mut journal, &TOLD), 3);
-    let (keeper, commits) = journal.close();
-    assert!(rt; has_two(&keeper.list, 7) && has_two(&commits, 7));
-    Ok(())
+    match journal_of(alloc, keeper, CommitList::new(alloc), 9) {
+        Ok(journal) => is_told(alloc, journal),
+        Err(_) => false,
+    }
+}
+
+#[test]
+fn a_keeper_tells_the_commits(rt: HostRuntime) {
+    assert!(rt; tells(rt.alloc()));
 }
