@@ -1,0 +1,4 @@
+pub mod Programs
+pub mod Safe
+pub mod Counted
+pub mod Played
