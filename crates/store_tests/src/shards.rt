@@ -180,7 +180,7 @@ fn told_of(shard: &Shard, x: &Address, base: u64) -> Told
 }
 
 /// What a shard says of the counter.
-fn told(shard: &Shard, x: &Address, ask: Ask) -> Told
+fn ask_shard(shard: &Shard, x: &Address, ask: Ask) -> Told
     requires here { IsIn shard.now x.now }
     requires kind { x.now.kind ≡ kinds.Counter }
 {
@@ -201,7 +201,7 @@ fn all_told(shard: &Shard, x: &Address, rows: &[(Ask, Told)]) -> bool
     requires kind { x.now.kind ≡ kinds.Counter }
 {
     for (ask, wanted) in rows {
-        if told(shard, x, *ask) != *wanted {
+        if ask_shard(shard, x, *ask) != *wanted {
             return false;
         }
     }
