@@ -175,10 +175,11 @@ fn hands_on(alloc: Global, mut attempt: Attempt, source: &[u8]) -> bool {
     for _ in 0..40 {
         let is_taken = match attempt.next(alloc) {
             Ok(Next::Read(address)) => take_read(&mut attempt, address, 0, 3),
-            Ok(Next::Prepare(shard, _)) => take_front(&mut attempt, shard),
+            Ok(Next::Prepare(shard, _run)) => take_front(&mut attempt, shard),
             Ok(Next::Append(run)) => {
-                return has_one_inside(alloc, &attempt, &run)
-                    && is_in_order(&attempt.ready(alloc, run, 7, 1), source);
+                let is_one = has_one_inside(alloc, &attempt, &run);
+                let ready = attempt.ready(alloc, run, 7, 1);
+                return is_one && is_in_order(&ready, source);
             }
             Err(_) => false,
         };

@@ -73,7 +73,9 @@ fn delta_of(alloc: Global, write: Write) -> Result<Delta, AllocError> {
 }
 
 /// What the commit of a number does.
-fn change_of(alloc: Global, number: u64, write: Write) -> Result<Change, AllocError> {
+fn change_of(alloc: Global, number: u64, write: Write) -> Result<Change, AllocError>
+    ensures { IfOk result (λ change. change.number ≡ number) }
+{
     let address = address_of(alloc, kind_of(write))?;
     Ok(Change {
         number,
