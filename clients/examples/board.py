@@ -51,7 +51,7 @@ def show(host, port):
         screen.watch("board", SHOW, call=draw)
         while len(board) < len(CARDS) or not all(line.endswith(", done") for line in board):
             number = screen.wait()
-            print(f"after {number} commits: {', '.join(board)}", flush=True)
+            print(f"after {number} commits: {'; '.join(board)}", flush=True)
     return board
 
 
@@ -65,4 +65,5 @@ def main(host, port):
     print("\n".join(board))
 
 
-main(*sys.argv[1:])
+if __name__ == "__main__":
+    main(*sys.argv[1:])

@@ -6,8 +6,10 @@
 Each option has a counter, and the set `voters` says who has voted. docs/CLIENTS.md explains it.
 """
 import pathlib
+import random
 import sys
 import threading
+import time
 
 sys.path.insert(0, str(pathlib.Path(__file__).resolve().parents[1] / "python"))
 import diamond
@@ -24,7 +26,8 @@ TOTALS = 'for option in ? { emit option; emit counter("votes for " + option).get
 
 
 def vote(host, port, name, option):
-    """Votes, and tries to vote once more."""
+    """Thinks for a while, votes, and tries to vote once more."""
+    time.sleep(random.random())
     with diamond.connect(host, port) as client:
         first = client.try_(16, VOTE, name, option)
         again = client.try_(16, VOTE, name, option)
@@ -54,4 +57,5 @@ def main(host, port):
         voter.join()
 
 
-main(*sys.argv[1:])
+if __name__ == "__main__":
+    main(*sys.argv[1:])

@@ -45,14 +45,14 @@ async function served(sessions, play, { words = [], faulted = 0 } = {}) {
   }
 }
 
-/** A server that is none: it answers the first line with these bytes, and ends the connection. */
+/** A server that is none: it answers the first line with these bytes, and ends the connection; or with nothing at all. */
 async function answering(reply, play) {
   const listener = net.createServer((link) => {
     link.on("error", nothing);
     if (reply !== null) link.once("data", () => link.end(reply, "latin1"));
   });
   await once(listener.listen(0, "127.0.0.1"), "listening");
-  const client = await connect({ port: listener.address().port, timeout: 200 });
+  const client = await connect({ port: listener.address().port, timeout: reply === null ? 200 : 30_000 });
   try {
     await play(client);
   } finally {
@@ -323,7 +323,8 @@ test("a commit that was sent and not answered is unknown", async () => {
     try {
       const client = await connect({ port });
       assert.equal((await client.do("emit 1;")).number, 1);
-      server.kill("SIGSTOP"); // it reads no line from now on
+      server.kill("SIGSTOP");
+      await sleep(500); // until it has stopped
       const lost = assert.rejects(ask(client), Fault);
       await sleep(200);
       server.kill("SIGKILL");

@@ -211,7 +211,7 @@ class Sessions(unittest.TestCase):
             (lambda client: client.do("  emit y;"), "type", 6),
             (lambda client: client.try_(2, 'emit "\u00e9" + 1;'), "type", 13),
             (lambda client: client.look('emit 1; counter("visits").add(1);'), "writes", 9),
-            (lambda client: client.watch("w", "emit 1; fly", call=print_nothing), "syntax", 12),
+            (lambda client: client.watch("w", "emit 1; fly", call=print_nothing), "syntax", 9),
             (lambda client: client.watch("twice", "emit 1;", call=print_nothing), "name", None),
             (lambda client: client.unwatch("w"), "none", None),
             (lambda client: client.raw("go"), "none", None),
@@ -272,14 +272,13 @@ class Sessions(unittest.TestCase):
         text, quoted = EVERY_BYTE.decode("utf-8", "surrogateescape"), diamond.quote(EVERY_BYTE)
         with served(2) as port, connect(port) as one, connect(port) as two:
             one.raw(f"begin if set({quoted}).has({quoted}) {{ counter({quoted}).add(1); }}")
-            two.do("set(?).add(?);", text, EVERY_BYTE)
             one.raw("step")
-            two.do("set(?).remove(?);", text, EVERY_BYTE)
+            two.do("set(?).add(?);", text, EVERY_BYTE)
             with self.assertRaises(diamond.Aborted) as caught:
                 one.raw("go")
         fault = caught.exception
-        self.assertEqual((fault.address, fault.observation, fault.base), (("set", text), ("has", text), 1))
-        self.assertEqual((fault.part, fault.commit), (("remove", text), 2))
+        self.assertEqual((fault.address, fault.observation, fault.base), (("set", text), ("has", text), 0))
+        self.assertEqual((fault.part, fault.commit), (("add", text), 1))
 
     def test_numbers_of_64_bits_come_back(self):
         numbers = [0, 1, -1, 2**53 + 1, 2**63 - 1, -(2**63)]
@@ -334,11 +333,11 @@ class Sessions(unittest.TestCase):
 
     def test_a_wait_ends_with_a_commit(self):
         seen, ends = [], []
-        with served(2) as port, connect(port) as writer, connect(port, timeout=0.2) as screen:
+        with served(2) as port, connect(port) as writer, connect(port, timeout=2) as screen:
             screen.watch("x", 'emit counter("x").get();', call=seen.append)
             waiting = threading.Thread(target=lambda: ends.append(screen.wait()))
             waiting.start()
-            time.sleep(0.5)
+            time.sleep(2.5)  # a wait has no time limit
             self.assertEqual(ends, [])
             with self.assertRaises(diamond.NotSent):
                 screen.look("emit 1;")
@@ -395,6 +394,7 @@ class Ends(unittest.TestCase):
         self.addCleanup(client.close)
         self.assertEqual(client.do("emit 1;").number, 1)
         server.send_signal(signal.SIGSTOP)
+        os.waitpid(server.pid, os.WUNTRACED)  # until it has stopped
         killing = threading.Timer(0.3, server.kill)
         killing.start()
         try:
