@@ -3,6 +3,7 @@
 use crate::row::{Repeated, Row, Spelled};
 use dio_core::NEWLINE;
 use dtext::{TextError, read_text};
+use plain_data::Text;
 use std::alloc::{AllocError, Global};
 use std::io;
 
@@ -79,6 +80,8 @@ impl<'a> Case<'a> {
             }
             Row::More(more) => add_more(alloc, &mut self.script, more)?,
             Row::MoreReply(more) => add_more(alloc, &mut self.replies, more)?,
+            Row::Each(each) => add_each(alloc, &mut self.script, each)?,
+            Row::EachReply(each) => add_each(alloc, &mut self.replies, each)?,
             Row::Line(line) | Row::Remark(line) => add_line(&mut self.script, line)?,
             Row::Reply(reply) => add_line(&mut self.replies, reply)?,
             Row::Answered { line, reply } => {
@@ -98,12 +101,17 @@ fn add_line(lines: &mut Vec<u8>, line: &str) -> Result<(), AllocError> {
     Ok(())
 }
 
-/// Adds a text to the last line, as often as a row says.
-fn add_more(alloc: Global, lines: &mut Vec<u8>, more: Repeated) -> Result<(), CaseError> {
-    if more.quoted.len() > LONGEST_QUOTED {
+/// The text of a row.
+fn read_quoted(alloc: Global, said: Repeated) -> Result<Text, CaseError> {
+    if said.quoted.len() > LONGEST_QUOTED {
         return Err(CaseError::NoForm);
     }
-    let text = read_text(alloc, more.quoted.as_bytes())?;
+    Ok(read_text(alloc, said.quoted.as_bytes())?)
+}
+
+/// Adds a text to the last line, as often as a row says.
+fn add_more(alloc: Global, lines: &mut Vec<u8>, more: Repeated) -> Result<(), CaseError> {
+    let text = read_quoted(alloc, more)?;
     add_times(lines, text.as_slice(), more.count)?;
     Ok(())
 }
@@ -115,5 +123,39 @@ fn add_times(lines: &mut Vec<u8>, text: &[u8], count: u32) -> Result<(), AllocEr
         lines.extend_from_slice(text)?;
     }
     lines.push(NEWLINE)?;
+    Ok(())
+}
+
+/// Adds a text to the last line for each number from 1 up to that of the row.
+fn add_each(alloc: Global, lines: &mut Vec<u8>, each: Repeated) -> Result<(), CaseError> {
+    let text = read_quoted(alloc, each)?;
+    add_counted(alloc, lines, text.as_slice(), each.count)?;
+    Ok(())
+}
+
+/// Adds a text for each number before the end of the last line.
+fn add_counted(
+    alloc: Global,
+    lines: &mut Vec<u8>,
+    text: &[u8],
+    count: u32,
+) -> Result<(), AllocError> {
+    lines.pop();
+    for before in 0..count {
+        let number = u64::from(before) + 1;
+        add_numbered(lines, text, number.to_string(alloc)?.as_bytes())?;
+    }
+    lines.push(NEWLINE)?;
+    Ok(())
+}
+
+/// Adds a text, with these digits in place of each `#`.
+fn add_numbered(lines: &mut Vec<u8>, text: &[u8], digits: &[u8]) -> Result<(), AllocError> {
+    for byte in text {
+        match *byte {
+            b'#' => lines.extend_from_slice(digits)?,
+            byte => lines.push(byte)?,
+        }
+    }
     Ok(())
 }

@@ -33,6 +33,10 @@ pub(crate) enum Row<'a> {
     More(Repeated<'a>),
     /// More of the last reply.
     MoreReply(Repeated<'a>),
+    /// More of the last line, with a number in each text.
+    Each(Repeated<'a>),
+    /// More of the last reply, with a number in each text.
+    EachReply(Repeated<'a>),
     /// The last line ends with the input, and not by a newline.
     Unended,
     /// Of the replies only the last ones are said.
@@ -70,6 +74,8 @@ impl<'a> Row<'a> {
             "status" => Row::Status(rest.parse::<u8>().ok()?),
             "more" => Row::More(Repeated::read(rest)?),
             "reply" => Row::MoreReply(Repeated::read(rest)?),
+            "each" => Row::Each(Repeated::read(rest)?),
+            "replies" => Row::EachReply(Repeated::read(rest)?),
             "unended" => Row::Unended,
             "ending" => Row::Ending,
             _ => return None,

@@ -1,15 +1,12 @@
-//! Tests of what runs in threads: the lock (`history_lock`), the shared store (`diamond_store`), sessions over it
-//! (`diamond_server`), and the top call (`diamond_cli`). They hold what threads were answered against what one thread is, and
-//! what came of links against what went in, which no clause sees: that calls return and succeed, that two threads stand in two
-//! locks at once, that the text of a talk is the one that was meant.
+//! Tests of what runs in threads: the lock (`history_lock`) and the shared store (`diamond_store`), with sessions over it. They
+//! hold what threads were answered against what one thread is, which no clause sees: that calls return and succeed, and that the
+//! text of a talk is the one that was meant.
 //!
 //! They stand apart from those crates since each test function is proved as any other, and would be proved with its library each
 //! time that one changes, and since many look at several of them at once. `talker` and `meeting` are what most of them share: a
 //! client whose next line may follow, and how clients come to a store.
 #![tactic(auto)]
 
-#[cfg(test)]
-mod all_served;
 #[cfg(test)]
 mod locks;
 #[cfg(test)]
@@ -20,8 +17,6 @@ mod mixed;
 mod replay;
 #[cfg(test)]
 mod rival;
-#[cfg(test)]
-mod served_links;
 #[cfg(test)]
 mod stores;
 #[cfg(test)]

@@ -1,4 +1,4 @@
-use Rattle.thread_tests.proofs.served_links.sessions_wait_for_each_other.Given as goal
+use Rattle.served_tests.proofs.served_links.sessions_wait_for_each_other.Given as goal
 
 -- the lock that was just opened
 abbrev pub ghosts-serve_two : goal.ghosts-serve_two

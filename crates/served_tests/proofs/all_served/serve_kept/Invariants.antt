@@ -1,4 +1,4 @@
-use Rattle.thread_tests.proofs.all_served.serve_kept.Given as goal
+use Rattle.served_tests.proofs.all_served.serve_kept.Given as goal
 
 -- the lock that was just opened
 abbrev pub ghosts-serve_over : goal.ghosts-serve_over

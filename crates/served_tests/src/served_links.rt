@@ -4,9 +4,8 @@ ghost use Rattle.std.specs.Prelude.{◌≡◌, None, []};
 ghost use Rattle.txn_lang.specs.Journals.{own};
 ghost use Rattle.diamond_store.specs.Numbers.{HasSettings};
 
-use crate::talker::{TestPass, TestStore};
 use diamond_server::{STORE_FAULT, serve_session};
-use diamond_store::{Book, JoinError, Open, Served, open};
+use diamond_store::{Book, JoinError, Open, Pass, Served, Store, open};
 use dio_core::{End, MemLink};
 use history_lock::{Naming, Opened};
 use journal_core::MemKeep;
@@ -19,6 +18,12 @@ use std::sync::Wait;
 use std::test::Fail;
 use std::thread::{Threads, join};
 use txn_lang::CommitList;
+
+/// The store of a test: it keeps nothing, and holds nobody up.
+type TestStore<N> = Store<MemKeep, Open, N>;
+
+/// A client's pass on it.
+type TestPass<N> = Pass<MemKeep, N>;
 
 /// Serves a session of a new client.
 fn serve_new<K: End, N: Naming, R: Wait>(

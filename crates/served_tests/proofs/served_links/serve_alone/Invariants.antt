@@ -1,4 +1,4 @@
-use Rattle.thread_tests.proofs.served_links.serve_alone.Given as goal
+use Rattle.served_tests.proofs.served_links.serve_alone.Given as goal
 
 -- the lock that was just opened
 abbrev pub ghosts-serve_first : goal.ghosts-serve_first

@@ -1,5 +1,5 @@
 use Rattle.diamond_server.proofs.Beginning.{pass-is-new}
-use Rattle.thread_tests.proofs.served_links.serve_new.Goals as goal
+use Rattle.served_tests.proofs.served_links.serve_new.Goals as goal
 
 -- the pass's client is new
 pub serve_session-requires : goal.serve_session-requires
