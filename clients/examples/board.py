@@ -3,7 +3,7 @@
     ./diamond serve --address 127.0.0.1:4000 --sessions 3
     python3 clients/examples/board.py 127.0.0.1 4000
 
-The list `cards` has the cards in their order, and the hash `state` what each of them is. docs/CLIENTS.md explains it.
+The list `cards` has the cards in their order, and the hash `state` what each of them is. docs/BOARD.md explains it.
 """
 import pathlib
 import sys

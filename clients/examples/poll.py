@@ -3,7 +3,7 @@
     ./diamond serve --address 127.0.0.1:4000 --sessions 9
     python3 clients/examples/poll.py 127.0.0.1 4000
 
-Each option has a counter, and the set `voters` says who has voted. docs/CLIENTS.md explains it.
+Each option has a counter, and the set `voters` says who has voted. docs/POLL.md explains it.
 """
 import pathlib
 import random

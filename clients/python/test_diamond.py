@@ -9,7 +9,6 @@ import re
 import signal
 import socket
 import subprocess
-import sys
 import threading
 import time
 import unittest
@@ -468,25 +467,6 @@ class Ends(unittest.TestCase):
             self.assertEqual(client.watch("a" * 32, "emit 1;", call=print_nothing).name, "a" * 32)
         with self.assertRaises(diamond.Lost):
             client.do("emit 1;")
-
-
-class Examples(unittest.TestCase):
-    def shown(self, name, sessions):
-        with served(sessions) as port:
-            command = [sys.executable, str(TOP / "clients/examples" / name), "127.0.0.1", str(port)]
-            run = subprocess.run(command, capture_output=True, text=True, timeout=60)
-        self.assertEqual((run.returncode, run.stderr), (0, ""))
-        return run.stdout.splitlines()
-
-    def test_the_board(self):
-        said = self.shown("board.py", 3)
-        for line, card in zip(said[-3:], ["draw the hall", "print the tickets", "sweep the stage"]):
-            self.assertRegex(line, f"^{card}: (ann|bob), done$")
-            self.assertEqual(sum(f"did: {card}" in other for other in said), 1)
-
-    def test_the_poll(self):
-        said = self.shown("poll.py", 9)
-        self.assertEqual(said[-1], "tea 5, coffee 3")
 
 
 if __name__ == "__main__":
