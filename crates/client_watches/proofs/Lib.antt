@@ -2,6 +2,7 @@ pub mod Names
 pub mod Stale
 pub mod Kept
 pub mod Steps
+pub mod Parts
 pub mod Journals
 pub mod Stays
 pub mod Reporting

@@ -1,5 +1,6 @@
 pub mod Errors
 pub mod Watching
+pub mod Lines
 pub mod Phases
 pub mod Keeping
 pub mod Leading
