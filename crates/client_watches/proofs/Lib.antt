@@ -16,3 +16,6 @@ pub mod Unbroken
 pub mod Forgetting
 pub mod Bounds
 pub mod Saying
+pub mod Safe
+pub mod Within
+pub mod Seen

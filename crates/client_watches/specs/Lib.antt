@@ -10,3 +10,4 @@ pub mod Laws
 pub mod GoingOn
 pub mod Bounds
 pub mod Saying
+pub mod LineLaws

@@ -2,6 +2,7 @@
 
 ghost use Rattle.client_watches.specs.Bounds.{LinesAreBounded};
 ghost use Rattle.client_watches.specs.GoingOn.{FailuresAloneBreak, LinesAreReady, LinesGoOn};
+ghost use Rattle.client_watches.specs.LineLaws.{LinesAreSafe, LinesAskFew, LinesSayWhatIsSeen};
 ghost use Rattle.client_watches.specs.Laws.{LinesAreExplained, PassingStays, BeginningsAttend, UnwatchesAreExplained, OthersLeaveStanding};
 ghost use Rattle.client_watches.specs.Saying.{RepliesAreSeen};
 
@@ -54,4 +55,20 @@ pub fn lines_are_bounded()
 /// The law that a line of watches says replies of watches alone, at no number that isn't seen.
 pub fn replies_are_seen()
     ensures { RepliesAreSeen }
+{}
+
+/// The law that a line's program is safe: each call that it asks may be made and is no wait, it is stuck nowhere, and what is kept
+/// goes on being kept to.
+pub fn lines_are_safe()
+    ensures { LinesAreSafe }
+{}
+
+/// The law that a line's program asks no more calls than the watches there are allow.
+pub fn lines_ask_few()
+    ensures { LinesAskFew }
+{}
+
+/// The law that a line's program ends with replies of watches alone, at no number that isn't seen.
+pub fn lines_say_what_is_seen()
+    ensures { LinesSayWhatIsSeen }
 {}
