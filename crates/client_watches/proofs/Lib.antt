@@ -19,3 +19,4 @@ pub mod Saying
 pub mod Safe
 pub mod Within
 pub mod Seen
+pub mod Explaining

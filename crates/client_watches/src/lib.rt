@@ -22,6 +22,7 @@ pub use error::WatchError;
 pub use laws::{
     beginnings_attend, failures_alone_break, lines_are_bounded, lines_are_explained,
     lines_are_ready, lines_are_safe, lines_ask_few, lines_go_on, lines_say_what_is_seen,
-    others_leave_standing, passing_stays, replies_are_seen, unwatches_are_explained,
+    others_leave_standing, passing_stays, replies_are_seen, sync_is_explained,
+    unwatch_is_explained, unwatches_are_explained, watch_is_explained,
 };
 pub use watching::{AddressList, ReplyList, Watching};
