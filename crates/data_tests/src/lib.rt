@@ -1,4 +1,4 @@
-//! Tests of plain_data, rdt_types, conflict_table, write_buffer, change_feed, client_cache and abort_witness: of each public
+//! Tests of plain_data, rdt_types, conflict_table, write_buffer, change_feed, client_cache, abort_witness and edge_slab: of each public
 //! function that it succeeds where there is memory, which no clause says, and the rows that aren't worked lines beside the
 //! definitions. They stand apart from the libraries, since a crate with tests is proved twice, and above all of them, so
 //! that an edit of a test proves this crate alone.
@@ -10,6 +10,8 @@ mod caches;
 mod clashes;
 #[cfg(test)]
 mod containers;
+#[cfg(test)]
+mod edges;
 #[cfg(test)]
 mod feeds;
 #[cfg(test)]

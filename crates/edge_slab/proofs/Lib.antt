@@ -1,0 +1,9 @@
+pub mod Lists
+pub mod Rings
+pub mod Chained
+pub mod Linking
+pub mod Walking
+pub mod Keeping
+pub mod Orders
+pub mod Dropping
+pub mod Membership

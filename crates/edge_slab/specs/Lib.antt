@@ -1,0 +1,4 @@
+pub mod Edges
+pub mod Chains
+pub mod Links
+pub mod Laws

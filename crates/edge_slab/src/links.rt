@@ -1,0 +1,69 @@
+//! Edges in their two lists: that of their place and that of their subscriber.
+
+ghost use Rattle.std.specs.Prelude.{◌≡◌, ℕ, List, [], ◌∷◌, ◌++◌, true, OnOk, IfOk};
+ghost use Rattle.std.specs.List.{list_any};
+ghost use Rattle.edge_slab.specs.Links as spec;
+ghost use Rattle.edge_slab.specs.Links.{Linked, AreLinks, IsReady, linked_as, is_under, but};
+
+use crate::chains::Chains;
+use slab::Slab;
+use std::alloc::{AllocError, Global};
+
+/// A subscriber that is linked to a place.
+#[derive(Clone, Copy)]
+pub(crate) struct Edge {
+    pub(crate) subscriber: u32,
+    pub(crate) place: u32,
+}
+
+/// Edges, each under a key, and the two lists in which its key lies.
+#[derive(Drop)]
+pub(crate) struct Links {
+    pub(crate) edges: Slab<Edge>,
+    pub(crate) at_place: Chains,
+    pub(crate) of_subscriber: Chains,
+}
+
+impl Links {
+    /// No edge is linked. It takes no memory yet.
+    pub fn new(alloc: Global) -> Links
+        ensures { AreLinks result [] }
+    {
+        Links {
+            edges: Slab::new(alloc),
+            at_place: Chains::new(alloc),
+            of_subscriber: Chains::new(alloc),
+        }
+    }
+
+    /// Takes the memory for one more edge, and answers its key. The links stay as they are.
+    pub fn make_room(&mut self, edge: Edge) -> Result<usize, AllocError>
+        ensures ready { IfOk result (λ key. IsReady self.new edge key) }
+        ensures same { (all : List Linked) → AreLinks self.old all → AreLinks self.new all }
+    {
+        self.edges.reserve(1)?;
+        let key = self.edges.vacant_key();
+        self.at_place.make_room(edge.place, key)?;
+        self.of_subscriber.make_room(edge.subscriber, key)?;
+        Ok(key)
+    }
+
+    /// Links an edge under a key for which there is room, last in both lists. It takes no memory.
+    pub fn push(&mut self, edge: Edge, key: usize)
+        requires { IsReady self.old edge key }
+        ensures { (all : List Linked) → AreLinks self.old all → AreLinks self.new (all ++ linked_as edge key ∷ []) }
+    {
+        self.edges.insert_reserved(edge);
+        self.at_place.push(edge.place, key);
+        self.of_subscriber.push(edge.subscriber, key);
+    }
+
+    /// Takes the edge under a key out of both lists. It takes no memory.
+    pub fn remove(&mut self, key: usize)
+        ensures { (all : List Linked) → AreLinks self.old all → list_any (is_under key) all ≡ true → AreLinks self.new (but key all) }
+    {
+        self.edges.try_remove(key);
+        self.at_place.remove(key);
+        self.of_subscriber.remove(key);
+    }
+}
