@@ -164,15 +164,14 @@ impl Disk for ToldDisk {
     }
 
     fn write_at(&mut self, at: u64, bytes: &[u8]) -> Result<(), DiskFault> {
-        if bytes.is_empty() {
-            return Ok(());
-        }
         let at = at as usize;
-        if let Some(end) = at.checked_add(bytes.len())
-            && at <= self.file.len()
-            && self.write(at, end, bytes).is_ok()
-        {
-            return Ok(());
+        if let Some(end) = at.checked_add(bytes.len()) {
+            if bytes.is_empty() {
+                return Ok(());
+            }
+            if at <= self.file.len() && self.write(at, end, bytes).is_ok() {
+                return Ok(());
+            }
         }
         self.faults.add_one();
         Err(DiskFault)
