@@ -80,15 +80,15 @@ commit_at journal number = if number == 0 then None else slice_get journal (numb
 -- ---- what a caller owes
 
 -- A slot of what is ready: its commit is the next, the bytes stand for it, and there is memory for it.
-pub record IsSlot (bytes_of : Commit → List ℕ) (ready : Ready) (standing : Standing) (slot : Slot) : Type 0 where
+pub record IsSlot (stands_for : List ℕ → Commit → Type 0) (ready : Ready) (standing : Standing) (slot : Slot) : Type 0 where
   pub made : slot.commit ≡ made_of standing.commits ready
-  pub bytes : slot.bytes ≡ bytes_of slot.commit
+  pub bytes : stands_for slot.bytes slot.commit
   pub room : length slot.changes < standing.room
 
 -- The slot was made of what is ready at the present length, the run is one of the body, and the seq is the next of the
 -- client.
-pub record CanAppend (bytes_of : Commit → List ℕ) (ready : Ready) (slot : Slot) (standing : Standing) : Type 0 where
-  pub slot_is : IsSlot bytes_of ready standing slot
+pub record CanAppend (stands_for : List ℕ → Commit → Type 0) (ready : Ready) (slot : Slot) (standing : Standing) : Type 0 where
+  pub slot_is : IsSlot stands_for ready standing slot
   pub run : IsRunOf ready.body ready.run
   pub short : length ready.body ≤ LONGEST_BODY
   pub next : ready.seq ≡ length (own ready.client standing.commits) + 1
@@ -96,8 +96,8 @@ pub record CanAppend (bytes_of : Commit → List ℕ) (ready : Ready) (slot : Sl
 -- ---- past the tests
 
 -- the slot's commit may be kept behind these
-pub record CanAdd (bytes_of : Commit → List ℕ) (slot : Slot) (standing : Standing) : Type 0 where
-  pub bytes : slot.bytes ≡ bytes_of slot.commit
+pub record CanAdd (stands_for : List ℕ → Commit → Type 0) (slot : Slot) (standing : Standing) : Type 0 where
+  pub bytes : stands_for slot.bytes slot.commit
   pub room : length slot.changes < standing.room
   pub of_run : IsOfRun slot.commit
   pub next : IsNext standing.commits slot.commit

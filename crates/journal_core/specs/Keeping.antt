@@ -22,14 +22,14 @@ pub record IsOfRun (commit : Commit) : Type 0 where
   pub short : length commit.body ≤ LONGEST_BODY
 
 -- The bytes stand for this commit, which may be kept behind the list that is told.
-pub record StandsFor (bytes_of : Commit → List ℕ) (told : Option Journal) (bytes : List ℕ) (commit : Commit) : Type 0 where
-  pub made : bytes ≡ bytes_of commit
+pub record StandsFor (stands_for : List ℕ → Commit → Type 0) (told : Option Journal) (bytes : List ℕ) (commit : Commit) : Type 0 where
+  pub made : stands_for bytes commit
   pub of_run : IsOfRun commit
   pub next : IfSome told (λ list. IsNext list commit)
 
 -- bytes that stand for some commit, which may be kept next
-abbrev pub CanKeep : (Commit → List ℕ) → Option Journal → List ℕ → Type 0
-CanKeep bytes_of told bytes = (commit : Commit) × StandsFor bytes_of told bytes commit
+abbrev pub CanKeep : (List ℕ → Commit → Type 0) → Option Journal → List ℕ → Type 0
+CanKeep stands_for told bytes = (commit : Commit) × StandsFor stands_for told bytes commit
 
 -- The list with one commit more. It is told only as long as each client in it is below a number.
 abbrev pub kept_after : Option Journal → Commit → Option Journal
@@ -37,8 +37,8 @@ kept_after None commit = None
 kept_after (Some list) commit = if nat_lt commit.client FIRST_UNTOLD_CLIENT then Some (list ++ commit ∷ []) else None
 
 -- what is told goes up by the commit that the bytes stand for
-abbrev pub Keeps : (Commit → List ℕ) → List ℕ → Option Journal → Option Journal → Type 0
-Keeps bytes_of bytes old new = (commit : Commit) → StandsFor bytes_of old bytes commit → new ≡ kept_after old commit
+abbrev pub Keeps : (List ℕ → Commit → Type 0) → List ℕ → Option Journal → Option Journal → Type 0
+Keeps stands_for bytes old new = (commit : Commit) → StandsFor stands_for old bytes commit → new ≡ kept_after old commit
 
 -- a commit of the client 0 is told
 kept_after-example : kept_after (Some []) (adding 1 []) ≡ Some (adding 1 [] ∷ [])

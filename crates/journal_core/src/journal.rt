@@ -146,7 +146,7 @@ impl<K: Keep> Journal<K> {
 
     /// A slot with the commit that is made of what is ready, and memory for it.
     pub fn reserve(&mut self, ready: &Ready) -> Result<Slot, AllocError>
-        ensures slot { IfOk result (IsSlot K.bytes_of ready.now self.new) }
+        ensures slot { IfOk result (IsSlot K.stands_for ready.now self.new) }
         ensures same { self.new ≡ record self.old { room = self.new.room } }
         ensures kept { self.old.room ≤ self.new.room }
         ensures err { OnErr result (self.new ≡ self.old) }
@@ -167,7 +167,7 @@ impl<K: Keep> Journal<K> {
     /// keeper. It takes no memory, and goes through no more than the changes past the fronts in
     /// the shards of the observations.
     pub fn append<L: Ledger>(&mut self, ready: &Ready, slot: Slot, steps: &mut Steps<L>) -> Appended
-        requires can_append { CanAppend K.bytes_of ready.now slot self.old }
+        requires can_append { CanAppend K.stands_for ready.now slot self.old }
         requires places { HavePlaces ready.now.based }
         ensures decides { Decides ready.now self.old result self.new }
         ensures may_fail { IfDiskFault result (K.may_fail ≡ true) }
@@ -197,7 +197,7 @@ impl<K: Keep> Journal<K> {
 
     /// Adds the slot's commit unless the keeper fails.
     fn add(&mut self, slot: Slot) -> Appended
-        requires { journals.CanAdd K.bytes_of slot self.old }
+        requires { journals.CanAdd K.stands_for slot self.old }
         ensures adds { journals.Adds slot.commit self.old result self.new }
         ensures may_fail { IfDiskFault result (K.may_fail ≡ true) }
     {

@@ -25,17 +25,17 @@ pub trait Keep: Drop {
     /// Whether it may fail at all.
     ghost may_fail: { Bool };
 
-    /// The bytes that stand for a commit.
-    ghost bytes_of: { Commit → List ℕ };
+    /// Whether bytes stand for a commit.
+    ghost stands_for: { List ℕ → Commit → Type 0 };
 
     /// The bytes that stand for a commit.
     fn make(&self, alloc: Global, commit: &Commit) -> Result<Text, AllocError>
-        ensures { IfOk result (λ bytes. bytes ≡ bytes_of commit.now) };
+        ensures { IfOk result (λ bytes. stands_for bytes commit.now) };
 
     /// Keeps the commit that the bytes stand for, behind those that are kept. It takes no memory.
     fn keep(&mut self, bytes: &Text) -> Result<(), KeepFault>
-        requires { CanKeep bytes_of (kept self.old) bytes.now }
-        ensures ok { OnOk result (Keeps bytes_of bytes.now (kept self.old) (kept self.new)) }
+        requires { CanKeep stands_for (kept self.old) bytes.now }
+        ensures ok { OnOk result (Keeps stands_for bytes.now (kept self.old) (kept self.new)) }
         ensures err { OnErr result (kept self.new ≡ kept self.old) }
         ensures counted { IsCounted (is_err result) (keep_faults self.old) (keep_faults self.new) }
         ensures may_fail { OnErr result (may_fail ≡ true) };
@@ -56,7 +56,7 @@ impl Keep for MemKeep {
 
     ghost may_fail = { false };
 
-    ghost bytes_of = { λ _. [] };
+    ghost stands_for = { λ bytes _. bytes ≡ [] };
 
     fn make(&self, alloc: Global, _commit: &Commit) -> Result<Text, AllocError> {
         Ok(Text::new(alloc))

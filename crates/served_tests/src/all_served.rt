@@ -300,7 +300,7 @@ impl Keep for Denying {
 
     ghost may_fail = { true };
 
-    ghost bytes_of = { λ _. [] };
+    ghost stands_for = { λ bytes _. bytes ≡ [] };
 
     fn make(&self, alloc: Global, _commit: &Commit) -> Result<Text, AllocError> {
         Ok(Text::new(alloc))

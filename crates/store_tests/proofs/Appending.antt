@@ -57,11 +57,11 @@ own-counted client n m journal None within at is =
 -- ---- slots
 
 -- a slot that was reserved serves though another is reserved behind it: the commits are the same, and there is as much memory
-pub slot-stays : (bytes_of : Commit → List ℕ) (ready : Ready) (slot : Slot) (first second third : Standing)
+pub slot-stays : (stands_for : List ℕ → Commit → Type 0) (ready : Ready) (slot : Slot) (first second third : Standing)
     → second ≡ record first { room = second.room } → third ≡ record second { room = third.room } → second.room ≤ third.room
-    → IsSlot bytes_of ready second slot → IsRunOf ready.body ready.run → length ready.body ≤ LONGEST_BODY
-    → ready.seq ≡ length (own ready.client first.commits) + 1 → CanAppend bytes_of ready slot third
-slot-stays bytes_of ready slot first second third once twice more is run short next =
+    → IsSlot stands_for ready second slot → IsRunOf ready.body ready.run → length ready.body ≤ LONGEST_BODY
+    → ready.seq ≡ length (own ready.client first.commits) + 1 → CanAppend stands_for ready slot third
+slot-stays stands_for ready slot first second third once twice more is run short next =
     let same : third.commits ≡ second.commits = ap (λ s. s.commits) twice in
     let before : third.commits ≡ first.commits = same ∙ ap (λ s. s.commits) once in
     record {

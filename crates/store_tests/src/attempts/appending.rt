@@ -198,7 +198,7 @@ fn decided<L: Ledger, K: Keep>(
     requires name { blank.name ≡ L.name }
     requires parts { blank.parts ≡ L.parts }
     requires one { blank.parts ≡ 1 }
-    requires can { CanAppend K.bytes_of ready.now slot journal.old }
+    requires can { CanAppend K.stands_for ready.now slot journal.old }
     requires few { length ready.now.based < 2 ^ 32 }
     ensures { Decides ready.now journal.old result journal.new }
 {
@@ -342,7 +342,7 @@ impl Keep for Failing {
 
     ghost may_fail = { true };
 
-    ghost bytes_of = { λ _. [] };
+    ghost stands_for = { λ bytes _. bytes ≡ [] };
 
     fn make(&self, alloc: Global, _commit: &Commit) -> Result<Text, AllocError> {
         Ok(Text::new(alloc))
@@ -494,7 +494,7 @@ impl Keep for Telling {
 
     ghost may_fail = { true };
 
-    ghost bytes_of = { plain_bytes };
+    ghost stands_for = { λ bytes commit. bytes ≡ plain_bytes commit };
 
     fn make(&self, alloc: Global, commit: &Commit) -> Result<Text, AllocError> {
         if did_nothing(commit) {
