@@ -16,8 +16,8 @@ import test_diamond
 
 def script_of(page):
     """The lines of a page's script, and its replies: what stands in fences without a word behind them."""
-    blocks = re.findall(r"^```\n(.*?)^```$", page.read_text(encoding="utf-8"), re.M | re.S)
-    rows = [row.rpartition(" => ") for row in "".join(blocks).splitlines()]
+    blocks = re.findall(r"^```(\w*)\n(.*?)^```$", page.read_text(encoding="utf-8"), re.M | re.S)
+    rows = [row.rpartition(" => ") for word, block in blocks if not word for row in block.splitlines()]
     return [line.strip() for line, _, _ in rows if line.strip()], [reply for _, _, reply in rows]
 
 
