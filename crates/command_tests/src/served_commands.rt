@@ -196,7 +196,7 @@ fn the_store_has_the_settings_that_are_asked_for(rt: HostRuntime) -> Result<(), 
 
 #[test]
 fn a_session_over_the_loopback_is_served(rt: HostRuntime) -> Result<(), Fail> {
-    let mut listener = TcpListening::bind(&rt, "127.0.0.1:0");
+    let mut listener = TcpListening::bind(&rt, &rt, "127.0.0.1:0");
     let Some(address) = listener.address() else {
         return Err(io::Error::from(ErrorKind::AddrNotAvailable).into());
     };

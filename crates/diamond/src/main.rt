@@ -69,7 +69,7 @@ fn command_at<R: Threads + Wait + Sync>(
     words: &[&str],
     address: &str,
 ) -> Result<u8, AllocError> {
-    let tcp = TcpListening::bind(rt, address);
+    let tcp = TcpListening::bind(rt, rt, address);
     let _ = match tcp.address() {
         Some(bound) => eprintln!(rt; "diamond: listening at {bound}"),
         None => eprintln!(rt; "diamond: can't listen at `{address}`"),

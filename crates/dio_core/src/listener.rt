@@ -2,6 +2,7 @@
 
 ghost use Rattle.std.specs.Prelude.{◌≡◌, ℕ, List, [], ◌∷◌, Option, None, OnOk, OnErr};
 ghost use Rattle.dio_core.specs.Counts.{one_more, IsCounted};
+ghost use Rattle.dio_core.specs.Lines.{IsLineAhead};
 ghost use Rattle.dio_core.specs.Links.{incoming, outgoing};
 ghost use Rattle.dio_core.specs.Listeners.{Accepts, accept_failed};
 ghost use Rattle.dio_core.specs.Sinks.{with_more};
@@ -22,6 +23,19 @@ pub trait End: Source + Sink {
         ensures passed { Self.passed self.new ≡ Self.passed self.old }
         ensures read_faults { Self.read_faults self.new ≡ Self.read_faults self.old }
         ensures write_faults { Self.write_faults self.new ≡ Self.write_faults self.old };
+
+    /// Takes the next line, if the link has read it ahead with its newline, and it fits into `buf`. So many bytes of it stand at the
+    /// beginning of `buf` then. It asks nobody, so it doesn't wait and doesn't fail. A link that sees no line ahead has none.
+    fn line_ahead(&mut self, buf: &mut [u8]) -> Option<usize>
+        ensures line { IsLineAhead result buf.new (Self.left self.old) (Self.left self.new) }
+        ensures taken { Self.taken self.new ≡ Self.taken self.old }
+        ensures passed { Self.passed self.new ≡ Self.passed self.old }
+        ensures read_faults { Self.read_faults self.new ≡ Self.read_faults self.old }
+        ensures write_faults { Self.write_faults self.new ≡ Self.write_faults self.old }
+    {
+        let _ = buf;
+        None
+    }
 
     // The link is one object: what no read changes is what it tells as a sink, and what no write changes is what it
     // tells as a source.
@@ -70,6 +84,13 @@ pub trait Listener {
     /// How many accepts have failed.
     fn accept_faults(&self) -> u64
         ensures { result ≡ accept_faults self.now };
+
+    /// No more links are to be accepted. What the listener tells and its count stay.
+    fn close(&mut self)
+        ensures links { links self.new ≡ links self.old }
+        ensures given { given_back self.new ≡ given_back self.old }
+        ensures count { accept_faults self.new ≡ accept_faults self.old }
+    {}
 }
 
 /// A listener that isn't there: each accept fails, and is counted.

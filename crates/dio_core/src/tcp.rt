@@ -1,7 +1,9 @@
 //! Links over TCP, or over any connection. They tell what the connection tells, and count each error.
 
 ghost use Rattle.std.specs.Prelude.{◌≡◌};
+ghost use Rattle.dio_core.specs.Counts.{IsCounted};
 ghost use Rattle.dio_core.specs.Links.{incoming, outgoing};
+ghost use Rattle.dio_core.specs.Listeners.{Accepts, accept_failed};
 
 use crate::connection::Connection;
 use crate::count::Count;
@@ -12,6 +14,14 @@ use std::alloc::AllocError;
 use std::marker::Model;
 use std::net::{Net, OpenListener, SocketAddr, TcpListener};
 use std::snapshot::Snapshot;
+use std::thread;
+use std::time::{Clock, Duration};
+
+/// How often an accept is tried, at most.
+const MOST_TRIES: u32 = 600;
+
+/// How many milliseconds lie between two of the tries: a minute by all of them.
+const PAUSE_MILLIS: u64 = 100;
 
 /// A link over a connection, until it is ended. It holds nothing back.
 #[derive(Drop)]
@@ -37,11 +47,12 @@ impl<C: Connection> Model for TcpLink<C> {
 impl<C: Connection> TcpLink<C> {
     ghost use Rattle.std.specs.Prelude.{◌≡◌, None};
 
-    /// A link over this connection.
+    /// A link over this connection, which from now on keeps no small piece back.
     pub fn new(connection: C) -> TcpLink<C>
         ensures inwards { result.inwards ≡ incoming (C.coming connection) 0 }
         ensures outwards { result.outwards ≡ outgoing (C.sent connection) None 0 }
     {
+        connection.hurry();
         TcpLink {
             connection: Ok(connection),
             read_faults: Count::new(),
@@ -120,24 +131,26 @@ impl<C: Connection + Drop> End for TcpLink<C> {
 
     ghost unread_is = { λ x. refl };
 
-    /// Closes the connection. Each read, write and flush after it is a fault.
+    /// Closes the connection, once it has finished. Each read, write and flush after it is a fault.
     fn end(&mut self)
         ensures { self.new ≡ self.old }
     {
         if let Ok(connection) = &self.connection {
+            connection.finish();
             self.connection = Err(Snapshot::of(connection));
         }
     }
 }
 
-/// Listens at an address, and makes links of the connections that come in.
+/// Listens at an address, and makes links of the connections that come in. The clock is what pauses between two tries of an accept.
 #[derive(Drop)]
-pub struct TcpListening<L: OpenListener> {
+pub struct TcpListening<L: OpenListener, T: Clock> {
     listener: Option<L>,
+    clock: T,
     faults: Count,
 }
 
-impl<L: OpenListener> Model for TcpListening<L> {
+impl<L: OpenListener, T: Clock> Model for TcpListening<L, T> {
     ghost use Rattle.std.specs.Prelude.{ℕ};
 
     ghost Value = { ℕ };
@@ -145,13 +158,25 @@ impl<L: OpenListener> Model for TcpListening<L> {
     ghost view = { λ l. l.faults };
 }
 
-impl<L: OpenListener + Drop> TcpListening<L> {
+impl<L: OpenListener + Drop, T: Clock + Drop> TcpListening<L, T> {
+    /// Takes the connections of this listener.
+    pub fn new(listener: L, clock: T) -> TcpListening<L, T>
+        ensures { result ≡ 0 }
+    {
+        TcpListening {
+            listener: Some(listener),
+            clock,
+            faults: Count::new(),
+        }
+    }
+
     /// Listens at this address. Where it can't be bound, each accept fails.
-    pub fn bind<R: Net<Listener = L>>(net: &R, address: &str) -> TcpListening<L>
+    pub fn bind<R: Net<Listener = L>>(net: &R, clock: T, address: &str) -> TcpListening<L, T>
         ensures { result ≡ 0 }
     {
         TcpListening {
             listener: TcpListener::bind(net, address).ok(),
+            clock,
             faults: Count::new(),
         }
     }
@@ -162,7 +187,20 @@ impl<L: OpenListener + Drop> TcpListening<L> {
     }
 }
 
-impl<C: Connection + Send + Drop, L: OpenListener<Stream = C>> Listener for TcpListening<L> {
+/// The next connection of a listener. An accept may fail in passing, as for a connection that was reset before it was taken, or
+/// for want of a file: it is tried again, behind a pause, so many times at most. None is a fault that has stayed.
+fn next_connection<L: OpenListener, T: Clock>(listener: &L, clock: &T) -> Option<L::Stream> {
+    for _ in 0..MOST_TRIES {
+        if let Ok((connection, _)) = listener.accept() {
+            return Some(connection);
+        }
+        thread::sleep(clock, Duration::from_millis(PAUSE_MILLIS));
+    }
+    None
+}
+
+impl<C: Connection + Send + Drop, L: OpenListener<Stream = C> + Drop, T: Clock + Drop> Listener
+    for TcpListening<L, T> {
     ghost use Rattle.std.specs.Prelude.{None};
 
     type Link = TcpLink<C>;
@@ -173,13 +211,18 @@ impl<C: Connection + Send + Drop, L: OpenListener<Stream = C>> Listener for TcpL
 
     ghost accept_faults = { λ l. l };
 
-    fn accept(&mut self) -> Accepted<TcpLink<C>> {
-        let accepted = match &self.listener {
-            Some(listener) => listener.accept().ok(),
+    /// Takes the next link. Others may come at any time, so there are never no more of them.
+    fn accept(&mut self) -> Accepted<TcpLink<C>>
+        ensures accepts { Accepts result None None }
+        ensures counted { IsCounted (accept_failed result) self.old self.new }
+        ensures more { result ≡ Accepted.NoMore → ⊥ }
+    {
+        let connection = match &self.listener {
+            Some(listener) => next_connection(listener, &self.clock),
             None => None,
         };
-        match accepted {
-            Some((connection, _)) => Accepted::Link(TcpLink::new(connection)),
+        match connection {
+            Some(connection) => Accepted::Link(TcpLink::new(connection)),
             None => {
                 self.faults.add_one();
                 Accepted::Failed
@@ -193,5 +236,12 @@ impl<C: Connection + Send + Drop, L: OpenListener<Stream = C>> Listener for TcpL
 
     fn accept_faults(&self) -> u64 {
         self.faults.get()
+    }
+
+    /// Lets go of the address: who asks for a link there is refused at once.
+    fn close(&mut self)
+        ensures { self.new ≡ self.old }
+    {
+        self.listener = None;
     }
 }

@@ -9,7 +9,7 @@ use Rattle.dio_core.specs.Sources.{with_prefix, Gives}
 use Rattle.dio_core.specs.Listeners.{Accepts}
 use Rattle.link_buffer.specs.declared.link.TheConstants.{READ_AHEAD}
 
-READ_AHEAD-is : READ_AHEAD ≡ 1024
+READ_AHEAD-is : READ_AHEAD ≡ 4096
 READ_AHEAD-is = refl
 
 -- The bytes that were read ahead and not given yet, and the link that they were read from.

@@ -1,19 +1,20 @@
 //! A link that reads ahead.
 
-ghost use Rattle.std.specs.Prelude.{◌≡◌, ◌<◌, ◌≤◌, [], length, drop, not};
+ghost use Rattle.std.specs.Prelude.{◌≡◌, ◌+◌, ◌<◌, ◌≤◌, [], ◌∷◌, ◌++◌, length, take, drop, not, IfSome};
 ghost use Rattle.std.specs.Bool.{OnTrue};
 ghost use Rattle.dio_core.specs.Counts.{IsCounted};
 ghost use Rattle.dio_core.specs.Sources.{Gives, read_failed};
 ghost use Rattle.dio_core.specs.Sinks.{Takes, write_failed, PassesOn, IsPassedOn};
+ghost use Rattle.dio_core.specs.Lines.{IsLineAhead};
 ghost use Rattle.dio_core.specs.Links.{incoming};
 ghost use Rattle.dio_core.specs.declared.source.Got.TheVariants.{Bytes};
 ghost use Rattle.link_buffer.specs.Ahead.{left_of, Fills, GivesHeld};
 
-use dio_core::{End, Got, Sink, Source, Took, copy_through};
+use dio_core::{End, Got, NEWLINE, Sink, Source, Took, copy_through};
 use std::marker::Model;
 
 /// How many bytes a [`BufferedLink`] asks of the link below at once.
-pub const READ_AHEAD: usize = 1024;
+pub const READ_AHEAD: usize = 4096;
 
 /// A link over another one, which reads ahead: what it holds is given before the link below is asked again.
 #[derive(Drop)]
@@ -195,5 +196,31 @@ impl<K: End> End for BufferedLink<K> {
         ensures write_faults { K.write_faults self.new.link ≡ K.write_faults self.old.link }
     {
         self.link.end();
+    }
+
+    /// Takes the next line, if it is held with its newline.
+    fn line_ahead(&mut self, buf: &mut [u8]) -> Option<usize>
+        ensures line { IsLineAhead result buf.new (left_of K.left self.old) (left_of K.left self.new) }
+        ensures link { self.new.link ≡ self.old.link }
+    {
+        let held = self.held();
+        let count = copy_through(NEWLINE, held, buf);
+        match length_before_newline(&buf[..count]) {
+            Some(length) => {
+                self.skip(count);
+                Some(length)
+            }
+            None => None,
+        }
+    }
+}
+
+/// How many bytes these are before the newline that they end in. None where they don't end in one.
+fn length_before_newline(bytes: &[u8]) -> Option<usize>
+    ensures { IfSome result (λ n. (length bytes.now ≡ n + 1) × (bytes.now ≡ take n bytes.now ++ NEWLINE ∷ [])) }
+{
+    match bytes.split_last() {
+        Some((&NEWLINE, line)) => Some(line.len()),
+        _ => None,
     }
 }

@@ -61,4 +61,12 @@ impl<N: Listener> Listener for BufferedListening<N> {
     fn accept_faults(&self) -> u64 {
         self.below.accept_faults()
     }
+
+    fn close(&mut self)
+        ensures links { N.links self.new.below ≡ N.links self.old.below }
+        ensures given { N.given_back self.new.below ≡ N.given_back self.old.below }
+        ensures count { N.accept_faults self.new.below ≡ N.accept_faults self.old.below }
+    {
+        self.below.close();
+    }
 }

@@ -9,10 +9,12 @@ use dio_core::{
     Source, TcpLink, TcpListening, Took, write_all,
 };
 use std::alloc::{AllocError, Global};
+use std::cell::Cell;
 use std::io;
 use std::io::{ErrorKind, Read, Write};
-use std::net::{OpenListener, TcpStream};
+use std::net::{IpAddr, Ipv4Addr, OpenListener, Shutdown, SocketAddr, TcpListener, TcpStream};
 use std::test::Fail;
+use std::time::{Clock, Duration};
 
 /// Whether the next link that is accepted begins with this byte.
 fn accepts<N: Listener>(listener: &mut N, byte: u8) -> bool {
@@ -164,10 +166,80 @@ fn a_link_that_is_ended_fails_and_counts(rt: HostRuntime) -> Result<(), Fail> {
 
 #[test]
 fn an_address_that_can_not_be_bound_fails_at_each_accept(rt: HostRuntime) {
-    let mut listener = TcpListening::bind(&rt, "no port");
+    let mut listener = TcpListening::bind(&rt, &rt, "no port");
     assert!(rt; listener.address().is_none());
     assert!(rt; fails(&mut listener));
     assert!(rt; fails(&mut listener));
+}
+
+/// A listener of which so many accepts fail, and then each gives a connection.
+#[derive(Drop)]
+struct Troubled {
+    alloc: Global,
+    troubles: Cell<u64>,
+}
+
+impl OpenListener for Troubled {
+    type Stream = Wire;
+
+    fn accept(&self) -> io::Result<(Wire, SocketAddr)> {
+        let left = self.troubles.get();
+        if left > 0 {
+            self.troubles.set(left - 1);
+            return Err(ErrorKind::ConnectionAborted.into());
+        }
+        let link = MemLink::new(self.alloc, b"a", 1, &[], &[])?;
+        Ok((
+            Wire { link },
+            SocketAddr::new(IpAddr::V4(Ipv4Addr::LOCALHOST), 1),
+        ))
+    }
+}
+
+/// A clock that counts the pauses.
+#[derive(Drop)]
+struct Pauses {
+    taken: Cell<u64>,
+}
+
+impl Clock for Pauses {
+    fn monotonic(&self) -> io::Result<Duration> {
+        Ok(Duration::ZERO)
+    }
+
+    fn since_1970(&self) -> io::Result<Duration> {
+        Ok(Duration::ZERO)
+    }
+
+    fn sleep(&self, _duration: Duration) {
+        self.taken.set(self.taken.get().saturating_add(1));
+    }
+}
+
+#[test]
+fn an_accept_that_fails_in_passing_is_tried_again(rt: HostRuntime) {
+    let rows: [(u64, bool, u64); 4] = [
+        (0, true, 0),
+        (3, true, 3),
+        (599, true, 599),
+        (600, false, 600),
+    ];
+    for (troubles, comes, pauses) in rows {
+        let clock = Pauses {
+            taken: Cell::new(0),
+        };
+        let troubled = Troubled {
+            alloc: rt.alloc(),
+            troubles: Cell::new(troubles),
+        };
+        let mut listener = TcpListening::new(troubled, &clock);
+        let answered = if comes {
+            accepts(&mut listener, b'a')
+        } else {
+            fails(&mut listener)
+        };
+        assert!(rt; answered && clock.taken.get() == pauses);
+    }
 }
 
 /// Whether what a link hears is this line, and it answers with that one and is ended.
@@ -179,7 +251,7 @@ fn answers<K: End>(alloc: Global, link: &mut K, line: &[u8], reply: &[u8]) -> bo
 
 #[test]
 fn a_link_over_the_loopback_is_heard_and_answered(rt: HostRuntime) -> Result<(), Fail> {
-    let mut listener = TcpListening::bind(&rt, "127.0.0.1:0");
+    let mut listener = TcpListening::bind(&rt, &rt, "127.0.0.1:0");
     let Some(address) = listener.address() else {
         return Err(io::Error::from(ErrorKind::AddrNotAvailable).into());
     };
@@ -195,5 +267,56 @@ fn a_link_over_the_loopback_is_heard_and_answered(rt: HostRuntime) -> Result<(),
     let reply = io::read_to_string(rt.alloc(), client)?;
     assert!(rt; reply.as_str() == "seen 0\n");
     assert_eq!(rt; listener.accept_faults(), 0);
+    Ok(())
+}
+
+/// Lines that a client sends at once, of which one alone is read.
+const MANY: usize = 2_000;
+
+#[test]
+fn what_is_unread_at_the_end_cuts_no_reply_off(rt: HostRuntime) -> Result<(), Fail> {
+    let mut listener = TcpListening::bind(&rt, &rt, "127.0.0.1:0");
+    let Some(address) = listener.address() else {
+        return Err(io::Error::from(ErrorKind::AddrNotAvailable).into());
+    };
+    let mut client = TcpStream::connect(&rt, address)?;
+    client.write_all(b"seen\n")?;
+    for _ in 0..MANY {
+        client.write_all(b"another\n")?;
+    }
+    client.shutdown(Shutdown::Write)?;
+    match listener.accept() {
+        Accepted::Link(mut link) => {
+            assert!(rt; answers(rt.alloc(), &mut link, b"seen", b"seen 0\n"));
+        }
+        _ => return Err(io::Error::from(ErrorKind::ConnectionRefused).into()),
+    }
+    let reply = io::read_to_string(rt.alloc(), client)?;
+    assert!(rt; reply.as_str() == "seen 0\n");
+    Ok(())
+}
+
+#[test]
+fn a_link_keeps_no_small_piece_back(rt: HostRuntime) -> Result<(), Fail> {
+    let listener = TcpListener::bind(&rt, "127.0.0.1:0")?;
+    let stream = TcpStream::connect(&rt, listener.local_addr()?)?;
+    let same = stream.try_clone()?;
+    let before = same.nodelay()?;
+    let link = TcpLink::new(stream);
+    let after = same.nodelay()?;
+    assert!(rt; !before && after && link.read_faults() == 0);
+    Ok(())
+}
+
+#[test]
+fn behind_a_listener_that_is_closed_nobody_is_heard(rt: HostRuntime) -> Result<(), Fail> {
+    let mut listener = TcpListening::bind(&rt, &rt, "127.0.0.1:0");
+    let Some(address) = listener.address() else {
+        return Err(io::Error::from(ErrorKind::AddrNotAvailable).into());
+    };
+    listener.close();
+    assert!(rt; TcpStream::connect(&rt, address).is_err());
+    assert!(rt; listener.address().is_none());
+    assert!(rt; fails(&mut listener));
     Ok(())
 }

@@ -14,13 +14,16 @@ use std::io::{ErrorKind, Write};
 use std::net::{OpenListener, TcpStream};
 use std::test::Fail;
 
-/// The bytes of a session: short lines, an empty one, one of 2,600 bytes, and one that lacks its newline.
+/// The bytes of a session: short lines, an empty one, two of 2,600 bytes, and one that lacks its newline.
 fn session(alloc: Global) -> Result<Vec<u8>, AllocError> {
     let mut bytes = Vec::from_slice(alloc, b"open\n\n")?;
-    for _ in 0..200 {
-        bytes.extend_from_slice(b"thirteen byte")?;
+    for _ in 0..2 {
+        for _ in 0..200 {
+            bytes.extend_from_slice(b"thirteen byte")?;
+        }
+        bytes.push(b'\n')?;
     }
-    bytes.extend_from_slice(b"\nget a\nquit")?;
+    bytes.extend_from_slice(b"get a\nquit")?;
     Ok(bytes)
 }
 
@@ -30,6 +33,7 @@ fn reads_session<S: Source>(alloc: Global, source: &mut S, bytes: &[u8]) -> bool
 {
     is_next(alloc, source, b"open")
         && is_next(alloc, source, b"")
+        && is_next(alloc, source, &bytes[6..2606])
         && is_next(alloc, source, &bytes[6..2606])
         && is_next(alloc, source, b"get a")
         && is_next(alloc, source, b"quit")
@@ -42,8 +46,8 @@ fn reads_session<S: Source>(alloc: Global, source: &mut S, bytes: &[u8]) -> bool
 fn the_lines_of_a_session_are_the_same_in_pieces_of_any_size(rt: HostRuntime) -> Result<(), Fail> {
     let alloc = rt.alloc();
     let bytes = session(alloc)?;
-    assert_eq!(rt; bytes.len(), 2617);
-    for piece in [1, 3, READ_AHEAD, 4096] {
+    assert_eq!(rt; bytes.len(), 5218);
+    for piece in [1, 3, 1024, READ_AHEAD] {
         let mut ahead = BufferedLink::new(MemLink::new(alloc, &bytes, piece, &[], &[])?);
         assert!(rt; reads_session(alloc, &mut ahead, &bytes));
     }
@@ -76,6 +80,47 @@ fn what_is_held_is_given_up_to_a_newline(rt: HostRuntime) -> Result<(), Fail> {
     assert!(rt; ahead.held() == b"d".as_slice());
     assert!(rt; is_next(alloc, &mut ahead, b"de"));
     assert!(rt; ahead.held() == b"\n".as_slice());
+    Ok(())
+}
+
+/// Whether the next line of a link is at hand, and is this.
+fn is_ahead<K: End>(link: &mut K, wanted: &[u8]) -> bool {
+    let mut buf = [0; 4];
+    match link.line_ahead(&mut buf) {
+        Some(length) => &buf[..length] == wanted,
+        None => false,
+    }
+}
+
+/// Whether no line of a link is at hand.
+fn none_is_ahead<K: End>(link: &mut K) -> bool {
+    link.line_ahead(&mut [0; 4]).is_none()
+}
+
+#[test]
+fn a_line_is_at_hand_where_its_newline_is_held_and_it_fits(rt: HostRuntime) -> Result<(), Fail> {
+    let alloc = rt.alloc();
+    let bytes = b"a\nbcd\n\nefgh\nij";
+    let mut ahead = BufferedLink::new(MemLink::new(alloc, bytes, 100, &[1], &[])?);
+    assert!(rt; none_is_ahead(&mut ahead));
+    assert!(rt; is_next(alloc, &mut ahead, b"a"));
+    assert!(rt; is_ahead(&mut ahead, b"bcd"));
+    assert!(rt; is_ahead(&mut ahead, b""));
+    assert!(rt; none_is_ahead(&mut ahead));
+    assert!(rt; is_next(alloc, &mut ahead, b"efgh"));
+    assert!(rt; none_is_ahead(&mut ahead));
+    assert!(rt; ahead.held() == b"ij".as_slice());
+    assert_eq!(rt; ahead.read_faults(), 0);
+    Ok(())
+}
+
+#[test]
+fn links_that_read_nothing_ahead_have_no_line_at_hand(rt: HostRuntime) -> Result<(), Fail> {
+    let alloc = rt.alloc();
+    let mut link = MemLink::new(alloc, b"a\nb\n", 100, &[], &[])?;
+    assert!(rt; is_next(alloc, &mut link, b"a"));
+    assert!(rt; none_is_ahead(&mut link));
+    assert!(rt; is_next(alloc, &mut link, b"b"));
     Ok(())
 }
 
@@ -171,7 +216,7 @@ fn hears_both<K: End>(alloc: Global, link: &mut K) -> bool {
 
 #[test]
 fn what_was_read_ahead_over_the_loopback_outlives_the_end(rt: HostRuntime) -> Result<(), Fail> {
-    let tcp = TcpListening::bind(&rt, "127.0.0.1:0");
+    let tcp = TcpListening::bind(&rt, &rt, "127.0.0.1:0");
     let Some(address) = tcp.address() else {
         return Err(io::Error::from(ErrorKind::AddrNotAvailable).into());
     };
