@@ -9,14 +9,12 @@ ghost use Rattle.dio_core.specs.Counts.{one_more};
 
 use crate::count::Count;
 use crate::disk::{Disk, DiskFault};
-use std::fmt;
-use std::fs;
 use std::fs::{File, Files, TryLockError};
-use std::io;
 use std::io::ErrorKind;
 use std::marker::Model;
 use std::os::unix::fs::FileExt;
 use std::path::Path;
+use std::{fmt, fs, io};
 
 /// Why a call on a file failed.
 #[derive(Clone, Copy, Debug, PartialEq, Eq)]
