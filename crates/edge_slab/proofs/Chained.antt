@@ -1,44 +1,17 @@
 -- What the calls of chains leave of their lists.
-use Rattle.std.proofs.Common.{◌≡◌, ℕ, zero, suc, ◌<◌, Bool, true, false, cond, ◌&&◌, ◌||◌, List, [], ◌∷◌, ◌++◌, Option, Some, None, option_map, is_some, slice_get, nat_eq}
-use Rattle.std.proofs.Common.{length, refl, sym, ap, subst, ◌∙◌, arith}
+use Rattle.std.proofs.Common.{◌≡◌, ℕ, Bool, true, false, cond, ◌&&◌, List, Option, Some, None, is_some, slice_get, nat_eq}
+use Rattle.std.proofs.Common.{refl, sym, ap, ◌∙◌}
 use Rattle.std.specs.List.{list_any}
 use Rattle.std.specs.Option.{unwrap_or}
-use Rattle.std.specs.Map.{lookup}
-use Rattle.std.specs.HashMap.{HashMap, get}
-use Rattle.std.proofs.lemmas.Bool.{eqb-true, and_parts}
+use Rattle.std.specs.HashMap.{get}
 use Rattle.edge_slab.specs.declared.chains.Spot.{Spot}
 use Rattle.edge_slab.specs.declared.chains.Spot.TheVariants.{End, Key, Nowhere}
 use Rattle.edge_slab.specs.declared.chains.Ties.{Ties}
 use Rattle.edge_slab.specs.declared.chains.Chains.{Chains}
 use Rattle.edge_slab.specs.Edges.{without}
-use Rattle.edge_slab.specs.Chains.{ties_to, nowhere, ends_of_none, key_ties, end_ties, ties_of, next_of, last_of, is_there, is_same, is_end_of}
-use Rattle.edge_slab.specs.Chains.{Runs, AreChains, IsReadyFor, with_key, IsTied}
+use Rattle.edge_slab.specs.Chains.{ties_to, nowhere, ends_of_none, key_ties, end_ties, ties_of, next_of, last_of, is_there, is_same}
+use Rattle.edge_slab.specs.Chains.{AreChains, IsReadyFor, with_key, IsTied}
 use Rattle.edge_slab.proofs.Rings.{same_spot, same_spot_itself, apart, key_no_end, tied_both, closed, before_apart, same_runs, removed, pushed, Removes, Pushes}
-
--- ---- one tie set
-
--- what is found where a number's ties were set, and whether they are kept there
-module _ {A : Type 0} (old new : ℕ → Option A) (none : ℕ → A) (k : ℕ) (ties : A)
-    (sets : (n : ℕ) → new n ≡ cond (nat_eq k n) (option_map (λ _. ties) (old k)) (old n)) where
-  pub set_at : (n : ℕ) → unwrap_or (new n) (none n) ≡ cond (nat_eq k n && is_some (old k)) ties (unwrap_or (old n) (none n))
-  set_at n = ap (λ o. unwrap_or o (none n)) (sets n) ∙ by (nat_eq k n) refl (old k) refl
-    where
-      by : (b : Bool) → nat_eq k n ≡ b → (o : Option A) → old k ≡ o
-          → unwrap_or (cond b (option_map (λ _. ties) o) (old n)) (none n) ≡ cond (b && is_some o) ties (unwrap_or (old n) (none n))
-      by true e (Some t) f = refl
-      by true e None f = ap (λ o. unwrap_or o (none n)) (sym f ∙ ap old (eqb-true k n e))
-      by false e o f = refl
-
-  pub set_there : (n : ℕ) → is_some (new n) ≡ is_some (old n)
-  set_there n = ap is_some (sets n) ∙ by (nat_eq k n) refl
-    where
-      same : (o : Option A) → is_some (option_map (λ _. ties) o) ≡ is_some o
-      same (Some t) = refl
-      same None = refl
-
-      by : (b : Bool) → nat_eq k n ≡ b → is_some (cond b (option_map (λ _. ties) (old k)) (old n)) ≡ is_some (old n)
-      by true e = same (old k) ∙ ap (λ m. is_some (old m)) (eqb-true k n e)
-      by false e = refl
 
 -- ---- two spots tied
 
@@ -192,104 +165,6 @@ removed_chains old mid new key over same lists list are has n =
       nexts = λ s other. ap (λ t. t.next) (same s) ∙ over.nexts s other;
       lasts = λ s other. ap (λ t. t.last) (same s) ∙ over.lasts s other;
     }
-
--- ---- ends of lists without items
-
--- a key's ties beyond the last are those to nowhere, so one more of these changes none
-pub nowhere_more : (ties : List Ties) (k : ℕ) → key_ties (ties ++ nowhere ∷ []) k ≡ key_ties ties k
-nowhere_more [] zero = refl
-nowhere_more [] (suc k) = refl
-nowhere_more (t ∷ ties) zero = refl
-nowhere_more (t ∷ ties) (suc k) = nowhere_more ties k
-
--- a key below the length has ties
-pub some_below : (ties : List Ties) (k : ℕ) → k < length ties → is_some (slice_get ties k) ≡ true
-some_below [] k below = absurd (omega (arith, below))
-some_below (t ∷ ties) zero below = refl
-some_below (t ∷ ties) (suc k) below = some_below ties k (omega (arith, below))
-
--- a tie to itself on both sides is that of an end without items
-tied_to_itself : (n : ℕ) (t : Ties) → is_end_of n t.next ≡ true → is_end_of n t.last ≡ true → t ≡ ends_of_none n
-tied_to_itself n t next last =
-    let e : t.next ≡ End n = sym (same_spot (End n) t.next next) in
-    let f : t.last ≡ End n = sym (same_spot (End n) t.last last) in
-    ap (λ s. ties_to s t.last) e ∙ ap (ties_to (End n)) f
-
--- the end of a list without items can be forgotten, and made anew
-module _ {S : Type 0} (old new : HashMap ℕ Ties S) (list : ℕ) where
-  pub end_forgotten : (is_end_of list (end_ties old list).next && is_end_of list (end_ties old list).last) ≡ true
-      → ((n : ℕ) → get nat_eq new n ≡ cond (nat_eq list n) None (get nat_eq old n)) → (n : ℕ) → end_ties new n ≡ end_ties old n
-  end_forgotten empty gone n = ap (λ o. unwrap_or o (ends_of_none n)) (gone n) ∙ by (nat_eq list n) refl
-    where
-      parts : (is_end_of list (end_ties old list).next ≡ true) × (is_end_of list (end_ties old list).last ≡ true)
-      parts = and_parts (is_end_of list (end_ties old list).next) (is_end_of list (end_ties old list).last) empty
-
-      by : (b : Bool) → nat_eq list n ≡ b → unwrap_or (cond b None (get nat_eq old n)) (ends_of_none n) ≡ end_ties old n
-      by true e =
-          let same : list ≡ n = eqb-true list n e in
-          subst (λ (m : ℕ). ends_of_none m ≡ end_ties old m) same (sym (tied_to_itself list (end_ties old list) parts.0 parts.1))
-      by false e = refl
-
-  pub end_made : is_some (get nat_eq old list) ≡ false
-      → ((n : ℕ) → get nat_eq new n ≡ cond (nat_eq list n) (Some (ends_of_none list)) (get nat_eq old n)) → (n : ℕ) → end_ties new n ≡ end_ties old n
-  end_made lacks made n = ap (λ o. unwrap_or o (ends_of_none n)) (made n) ∙ by (nat_eq list n) refl
-    where
-      none : (o : Option Ties) → is_some o ≡ false → o ≡ None
-      none None e = refl
-      none (Some t) e = absurd (cc)
-
-      by : (b : Bool) → nat_eq list n ≡ b → unwrap_or (cond b (Some (ends_of_none list)) (get nat_eq old n)) (ends_of_none n) ≡ end_ties old n
-      by true e =
-          let same : list ≡ n = eqb-true list n e in
-          subst (λ (m : ℕ). ends_of_none list ≡ end_ties old m) same
-          (sym (ap (λ o. unwrap_or o (ends_of_none list)) (none (get nat_eq old list) lacks)))
-      by false e = refl
-
--- where no end is kept, no list has a key
-pub no_chains : (c : Chains) → c.ends.entries ≡ [] → AreChains c (λ list. [])
-no_chains c e list =
-    let none : get nat_eq c.ends list ≡ None = ap (lookup (nat_eq list)) e in
-    record {
-      forth = ap (λ (o : Option Ties). (unwrap_or o (ends_of_none list)).next) none;
-      back = ap (λ (o : Option Ties). (unwrap_or o (ends_of_none list)).last) none;
-    }
-
--- ---- ties of one spot set
-
-module _ (old new : Chains) (list : ℕ) (t : Ties)
-    (sets : (n : ℕ) → get nat_eq new.ends n ≡ cond (nat_eq list n) (option_map (λ _. t) (get nat_eq old.ends list)) (get nat_eq old.ends n))
-    (keys : new.ties.items ≡ old.ties.items) where
-  -- those of a list's end
-  pub end_set : (q : Spot) → ties_of new q ≡ cond (is_same (End list) q && is_there old (End list)) t (ties_of old q)
-  end_set (End n) = set_at (get nat_eq old.ends) (get nat_eq new.ends) ends_of_none list t sets n
-  end_set (Key k) = ap (λ l. key_ties l k) keys
-  end_set Nowhere = refl
-
-  pub end_set_there : (q : Spot) → is_there new q ≡ is_there old q
-  end_set_there (End n) = set_there (get nat_eq old.ends) (get nat_eq new.ends) ends_of_none list t sets n
-  end_set_there (Key k) = ap (λ (l : List Ties). is_some (slice_get l k)) keys
-  end_set_there Nowhere = refl
-
-module _ (old new : Chains) (key : ℕ) (t : Ties)
-    (sets : (k : ℕ) → slice_get new.ties.items k
-    ≡ cond (nat_eq key k) (option_map (λ _. t) (slice_get old.ties.items key)) (slice_get old.ties.items k))
-    (ends : (n : ℕ) → get nat_eq new.ends n ≡ get nat_eq old.ends n) where
-  -- those of a key
-  pub key_set : (q : Spot) → ties_of new q ≡ cond (is_same (Key key) q && is_there old (Key key)) t (ties_of old q)
-  key_set (End n) = ap (λ (o : Option Ties). unwrap_or o (ends_of_none n)) (ends n)
-  key_set (Key k) = set_at (slice_get old.ties.items) (slice_get new.ties.items) (λ k. nowhere) key t sets k
-  key_set Nowhere = refl
-
-  pub key_set_there : (q : Spot) → is_there new q ≡ is_there old q
-  key_set_there (End n) = ap is_some (ends n)
-  key_set_there (Key k) = set_there (slice_get old.ties.items) (slice_get new.ties.items) (λ k. nowhere) key t sets k
-  key_set_there Nowhere = refl
-
--- of nowhere nothing is set
-pub none_set : (c : Chains) (t : Ties) (q : Spot) → ties_of c q ≡ cond (is_same Nowhere q && false) t (ties_of c q)
-none_set c t (End n) = refl
-none_set c t (Key k) = refl
-none_set c t Nowhere = refl
 
 -- ---- room made
 

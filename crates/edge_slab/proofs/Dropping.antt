@@ -1,7 +1,6 @@
 -- A subscriber's pairs, taken out one after the other.
 use Rattle.std.proofs.Common.{◌≡◌, ℕ, ◌+◌, ◌≤◌, Bool, true, false, cond, ◌||◌, List, [], ◌∷◌, length, Option, Some, None, IfNone}
 use Rattle.std.proofs.Common.{slice_get, nat_eq, refl, sym, ap, ◌∙◌, arith}
-use Rattle.std.specs.List.{list_any}
 use Rattle.edge_slab.specs.Edges.{Edges, without, is_in, is_linked, subscribers_at, places_of, IsUnlinked, IsDropped}
 use Rattle.edge_slab.proofs.Lists.{without-none, is_in-without, length-less, same_number, same_itself}
 
@@ -40,11 +39,7 @@ pub record DroppedSoFar (old : Edges) (s : ℕ) (now : Edges) : Type 0 where
   pub at_place : (q : ℕ) → without s (subscribers_at now q) ≡ without s (subscribers_at old q)
   pub of_subscriber : (t : ℕ) → nat_eq t s ≡ false → places_of now t ≡ places_of old t
 
--- at first nothing is
-pub dropped_none : (old : Edges) (s : ℕ) → DroppedSoFar old s old
-dropped_none old s = record { at_place = λ q. refl; of_subscriber = λ t e. refl }
-
--- and one pair more
+-- one pair more goes
 pub dropped_more : (old now new : Edges) (s p : ℕ) → DroppedSoFar old s now → IsUnlinked now s p new → DroppedSoFar old s new
 dropped_more old now new s p so gone = record {
   at_place = λ q. ap (without s) (gone.at_place q) ∙ without-again (nat_eq q p) s (subscribers_at now q) ∙ so.at_place q;

@@ -1,5 +1,5 @@
 -- What a slab of edges keeps after a pair came or went.
-use Rattle.std.proofs.Common.{◌≡◌, ℕ, Bool, true, false, not, cond, ◌&&◌, ◌||◌, List, [], ◌∷◌, ◌++◌, Option, Some, None, is_some}
+use Rattle.std.proofs.Common.{◌≡◌, ℕ, Bool, true, false, not, cond, ◌&&◌, List, [], ◌∷◌, ◌++◌, Option, Some, None, is_some}
 use Rattle.std.proofs.Common.{Result, Ok, Err, OnErr, MatchOption, IfNone, nat_eq, refl, sym, ap, subst, ◌∙◌}
 use Rattle.std.specs.List.{AllByRecursion, IsDistinct, list_any}
 use Rattle.std.specs.Cmp.{nat_eq_equiv}
@@ -11,10 +11,10 @@ use Rattle.std.proofs.lemmas.Map.Keys.{IsDistinct-push}
 use Rattle.slab.specs.Slab as slab
 use Rattle.edge_slab.specs.declared.links.Edge.{Edge}
 use Rattle.edge_slab.specs.declared.links.Links.{Links}
-use Rattle.edge_slab.specs.Edges.{Edges, across, without, is_in, is_linked, subscribers_at, places_of, SameEdges, IsLinked, IsUnlinked}
+use Rattle.edge_slab.specs.Edges.{across, without, is_in, is_linked, subscribers_at, places_of, SameEdges, IsLinked, IsUnlinked}
 use Rattle.edge_slab.specs.Links.{Linked, linked_as, edge_from, edge_of, is_under, is_of, but, pair_eq, edges_of, AreLinks, AreEdges}
 use Rattle.edge_slab.proofs.Lists.{each, each_of_some, each_passes, each_both, each_push, one_of, none_of, any_weaker, any_left, any_push, any_last, any_same}
-use Rattle.edge_slab.proofs.Lists.{across-push, across-but, is_in-across, without-none, once-some, same_number, same_itself, turned, and_turned}
+use Rattle.edge_slab.proofs.Lists.{across-push, across-but, is_in-across, without-none, once-some, same_number, same_itself, and_turned}
 use Rattle.edge_slab.proofs.Walking.{subscribers-across, places-across}
 
 -- ---- pairs of numbers

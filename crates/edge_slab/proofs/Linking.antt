@@ -1,5 +1,5 @@
 -- What the links of pairs are after one came or went.
-use Rattle.std.proofs.Common.{◌≡◌, ◌≢◌, ℕ, ◌+◌, ◌≤◌, Bool, true, false, not, cond, List, [], ◌∷◌, ◌++◌, length, Option, Some, None, nat_eq, refl, sym, ap}
+use Rattle.std.proofs.Common.{◌≡◌, ℕ, ◌+◌, true, false, not, List, [], ◌∷◌, ◌++◌, Option, Some, None, nat_eq, sym, ap}
 use Rattle.std.proofs.Common.{subst, ◌∙◌, arith, length-append, is_some, OnSome}
 use Rattle.std.specs.List.{AllByRecursion, list_any}
 use Rattle.std.proofs.lemmas.Bool.{eqb-false, ne_eqb, not-true}
@@ -8,9 +8,9 @@ use Rattle.edge_slab.specs.declared.links.Edge.{Edge}
 use Rattle.edge_slab.specs.declared.links.Links.{Links}
 use Rattle.edge_slab.specs.declared.chains.Chains.{Chains}
 use Rattle.edge_slab.specs.declared.chains.Spot.TheVariants.{End}
-use Rattle.edge_slab.specs.Edges.{across, without, is_in}
+use Rattle.edge_slab.specs.Edges.{without}
 use Rattle.edge_slab.specs.Chains.{AreChains, Runs, next_of, last_of, with_key}
-use Rattle.edge_slab.specs.Links.{Linked, linked_as, edge_of, keys_of, is_under, but, AreLinks, IsReady}
+use Rattle.edge_slab.specs.Links.{Linked, linked_as, edge_of, keys_of, is_under, but, AreLinks}
 use Rattle.edge_slab.proofs.Lists.{each, each_of_some, each_passes, each_both, each_push, across-push, across-but_other, across-lacks, across-has, length-less, same_number, one_of}
 
 -- lists that are equal one by one are the lists of the same chains

@@ -1,8 +1,8 @@
 -- The calls keep the walks those of the pairs that were linked and not unlinked, in the order of linking.
 use Rattle.std.proofs.Common.{◌≡◌, ℕ, Bool, true, false, not, cond, ◌&&◌, List, [], ◌∷◌, ◌++◌, nat_eq, refl, sym, ap, ◌∙◌}
 use Rattle.std.specs.List.{list_any}
-use Rattle.edge_slab.specs.Edges.{Edges, across, without, is_in, is_linked, subscribers_at, places_of, IsLinked, IsUnlinked, IsDropped}
-use Rattle.edge_slab.specs.Laws.{Pair, pair_of, is_pair, AreWalks, with_pair, without_pair, without_subscriber, LinksKeepOrder, UnlinksKeepOrder, DropsKeepOrder}
+use Rattle.edge_slab.specs.Edges.{Edges, across, without, is_in, is_linked, subscribers_at, places_of}
+use Rattle.edge_slab.specs.Laws.{Pair, pair_of, is_pair, AreWalks, with_pair, LinksKeepOrder, UnlinksKeepOrder, DropsKeepOrder}
 use Rattle.edge_slab.proofs.Lists.{always, any_same, across-push, across-but, across-but_other, across-but_side, is_in-across, and_turned}
 
 -- the pairs of a place, and of a subscriber

@@ -1,20 +1,18 @@
 -- What walks over links give.
-use Rattle.std.proofs.Common.{◌≡◌, ℕ, zero, suc, ◌-◌, ◌≤◌, Bool, true, false, cond, List, [], ◌∷◌, map, length, Option, Some, None, nat_eq, refl, sym, ap, subst, ◌∙◌, arith}
-use Rattle.std.specs.List.{AllByRecursion}
+use Rattle.std.proofs.Common.{◌≡◌, ℕ, zero, suc, Bool, true, false, cond, List, [], ◌∷◌, map, Some, None, nat_eq, refl, sym, ap, ◌∙◌, arith}
 use Rattle.std.specs.Option.{unwrap_or, option_map_or}
 use Rattle.std.specs.Map.{lookup}
 use Rattle.std.specs.HashMap.{get}
 use Rattle.std.proofs.lemmas.Bool.{eqb-true}
 use Rattle.slab.specs.Slab as slab
 use Rattle.edge_slab.specs.declared.chains.Ties.{Ties}
-use Rattle.edge_slab.specs.declared.chains.Chains.{Chains}
 use Rattle.edge_slab.specs.declared.chains.Spot.{Spot}
-use Rattle.edge_slab.specs.declared.chains.Spot.TheVariants.{End, Key, Nowhere}
+use Rattle.edge_slab.specs.declared.chains.Spot.TheVariants.{End}
 use Rattle.edge_slab.specs.declared.links.Links.{Links}
 use Rattle.edge_slab.specs.declared.walk.Side.{Side}
 use Rattle.edge_slab.specs.declared.walk.Side.TheVariants.{Subscribers, Places}
 use Rattle.edge_slab.specs.Edges.{across, list_under, subscribers_at, places_of}
-use Rattle.edge_slab.specs.Chains.{ends_of_none, AreChains, next_of, last_of, at_key, walk_from}
+use Rattle.edge_slab.specs.Chains.{ends_of_none, AreChains, next_of, last_of, walk_from}
 use Rattle.edge_slab.specs.Links.{Linked, edge_of, keys_of, AreLinks, side_of, item_of, chains_of, given_from, walk_of, edges_of}
 use Rattle.edge_slab.proofs.Lists.{each, across-map, length-across}
 use Rattle.edge_slab.proofs.Rings.{walked}
@@ -22,19 +20,9 @@ use Rattle.edge_slab.proofs.Rings.{walked}
 -- ---- the lists of all walks
 
 -- nothing is walked from an end
-pub walk_from-end : (next : Spot → Spot) (most n : ℕ) → walk_from next most (End n) ≡ []
+walk_from-end : (next : Spot → Spot) (most n : ℕ) → walk_from next most (End n) ≡ []
 walk_from-end next zero n = refl
 walk_from-end next (suc most) n = refl
-
--- nor from nowhere
-pub walk_from-nowhere : (next : Spot → Spot) (most : ℕ) → walk_from next most Nowhere ≡ []
-walk_from-nowhere next zero = refl
-walk_from-nowhere next (suc most) = refl
-
--- from a key it is walked, and then from the spot behind
-pub walk_from-key : (next : Spot → Spot) (most key : ℕ) → (most ≡ 0 → ⊥) → walk_from next most (Key key) ≡ key ∷ walk_from next (most - 1) (next (Key key))
-walk_from-key next zero key some = absurd (some refl)
-walk_from-key next (suc most) key some = let less : most ≡ suc most - 1 = omega arith in ap (λ m. key ∷ walk_from next m (next (Key key))) less
 
 -- among the lists under the numbers of a map's entries, each number has its list, where one without an entry has none
 under_each : (walk : ℕ → List ℕ) (n : ℕ) (entries : List (ℕ × Ties)) → (lookup (nat_eq n) entries ≡ None → walk n ≡ [])
@@ -85,23 +73,3 @@ module _ (links : Links) (all : List Linked) (are : AreLinks links all) where
   -- and the places of a subscriber
   pub places-across : (subscriber : ℕ) → places_of (edges_of links) subscriber ≡ across (λ (l : Linked). l.subscriber) (λ (l : Linked). l.place) subscriber all
   places-across subscriber = places-walked links subscriber ∙ walk-across Places links all subscriber (λ (l : Linked). l.subscriber) are are.of_subscriber
-
--- ---- a walk, step by step
-
-module _ (side : Side) (links : Links) where
-  -- once no more are to come, nothing is given
-  pub given-done : (most : ℕ) (spot : Spot) → most ≡ 0 → given_from side links most spot ≡ []
-  given-done zero spot e = refl
-  given-done (suc most) spot e = absurd (omega (arith, e))
-
-  -- nor at a list's end, or nowhere
-  pub given-end : (most n : ℕ) → given_from side links most (End n) ≡ []
-  given-end most n = ap (map (item_of side links)) (walk_from-end (next_of (chains_of side links)) most n)
-
-  pub given-nowhere : (most : ℕ) → given_from side links most Nowhere ≡ []
-  given-nowhere most = ap (map (item_of side links)) (walk_from-nowhere (next_of (chains_of side links)) most)
-
-  -- at a key its item is given, and then what comes from the spot behind
-  pub given-key : (most key : ℕ) → (most ≡ 0 → ⊥)
-      → given_from side links most (Key key) ≡ item_of side links key ∷ given_from side links (most - 1) (next_of (chains_of side links) (Key key))
-  given-key most key some = ap (map (item_of side links)) (walk_from-key (next_of (chains_of side links)) most key some)

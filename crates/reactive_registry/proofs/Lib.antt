@@ -1,3 +1,4 @@
+pub mod Giving
 pub mod Links
 pub mod Pairs
 pub mod Subscribing

@@ -1,5 +1,5 @@
 -- What a pair of a subscriber and an address, come or gone, leaves of the two directions.
-use Rattle.std.proofs.Common.{◌≡◌, ℕ, ◌≤◌, Bool, true, false, cond, ◌&&◌, ◌||◌, List, [], ◌∷◌, ◌++◌, filter, Some, refl, sym, ap, subst, ◌∙◌}
+use Rattle.std.proofs.Common.{◌≡◌, ℕ, ◌≤◌, Bool, true, false, cond, ◌&&◌, List, [], ◌∷◌, ◌++◌, filter, Some, None, refl, sym, ap, subst, ◌∙◌}
 use Rattle.std.specs.List.{AllByRecursion}
 use Rattle.std.specs.Option.{option_map_or}
 use Rattle.std.specs.Ordering.{nat_cmp}
@@ -47,16 +47,6 @@ pub come_and_gone : (b : Bool) (x : Bool) → cond b false (cond b true x) ≡ c
 come_and_gone true x = refl
 come_and_gone false x = refl
 
--- one address less of those that are left
-pub one_less : (b c d x : Bool) → cond (c && d) false (cond (b && d) false x) ≡ cond ((b || c) && d) false x
-one_less true true d x = by d
-  where
-    by : (d : Bool) → cond d false (cond d false x) ≡ cond d false x
-    by true = refl
-    by false = refl
-one_less true false d x = refl
-one_less false c d x = refl
-
 -- ---- the two directions
 
 module _ (front : ℕ) (es es' : List (ℕ × Kept)) (p p' : Places) where
@@ -99,6 +89,23 @@ module _ (front : ℕ) (es es' : List (ℕ × Kept)) (p p' : Places) where
       changes : (q : ℕ) (x : Kept) (c : Bool) → cond c (Some kept') (kept_in es q) ≡ Some x → AllByRecursion (λ c. c.number ≤ front) x.changes
       changes q x true e = let is : kept' ≡ x = cc in subst (λ (y : Kept). AllByRecursion (λ c. c.number ≤ front) y.changes) is all
       changes q x false e = old.followed q x e
+
+-- one is gone, from both
+pub linked_left : (front : ℕ) (es es' : List (ℕ × Kept)) (p p' : Places) (s : ℕ) → AreLinked front es p
+    → ((q : ℕ) → kept_in es' q ≡ cond (is_at (nat_cmp s) q) None (kept_in es q))
+    → ((a : Address) (t : ℕ) → links p' a t ≡ cond (is_at (nat_cmp s) t) false (links p a t)) → AreLinked front es' p'
+linked_left front es es' p p' s old gone places = record {
+  both_ways = λ q a. places a q ∙ by q a (is_at (nat_cmp s) q) ∙ sym (ap (λ o. option_map_or (λ k. is_address k a) o false) (gone q));
+  followed = λ q k e. changes q k (is_at (nat_cmp s) q) (sym (gone q) ∙ e);
+}
+  where
+    by : (q : ℕ) (a : Address) (b : Bool) → cond b false (links p a q) ≡ option_map_or (λ k. is_address k a) (cond b None (kept_in es q)) false
+    by q a true = refl
+    by q a false = old.both_ways q a
+
+    changes : (q : ℕ) (k : Kept) (b : Bool) → cond b None (kept_in es q) ≡ Some k → AllByRecursion (λ c. c.number ≤ front) k.changes
+    changes q k true e = absurd (cc)
+    changes q k false e = old.followed q k e
 
 -- what is kept of one is put back as it was
 pub put_back : (es : List (ℕ × Kept)) (s : ℕ) (kept kept' : Kept) → kept_in es s ≡ Some kept → kept' ≡ kept

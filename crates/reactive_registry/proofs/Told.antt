@@ -1,12 +1,12 @@
 -- What subscribers keep, one after another.
-use Rattle.std.proofs.Common.{◌≡◌, ℕ, ◌<◌, nat_le, Bool, true, false, cond, List, [], ◌∷◌, ◌++◌, filter, Option, Some, None, option_map, refl, sym}
+use Rattle.std.proofs.Common.{◌≡◌, ℕ, ◌<◌, nat_le, Bool, true, false, cond, List, [], ◌∷◌, ◌++◌, filter, Option, Some, None, option_map, nat_eq, refl, sym}
 use Rattle.std.proofs.Common.{ap, subst, ◌||◌, ◌∙◌, arith}
-use Rattle.std.specs.List.{AllByRecursion, list_any}
-use Rattle.std.specs.List.Sorted.{IsStrictlySortedBy}
-use Rattle.std.specs.Cmp.{eq_by_cmp_equiv, nat_cmp_total}
-use Rattle.std.specs.Ordering.{nat_cmp, is_eq}
-use Rattle.std.specs.declared.cmp.Ordering.TheVariants.{Less}
+use Rattle.std.specs.List.{AllByRecursion, IsDistinct}
+use Rattle.std.specs.Cmp.{nat_eq_equiv, unsigned_tied}
+use Rattle.std.specs.Ordering.{nat_cmp}
 use Rattle.std.specs.BTreeMap.{is_at}
+use Rattle.std.proofs.lemmas.Map.Keys.{IsDistinct-head, IsDistinct-tail}
+use Rattle.edge_slab.specs.Edges.{is_in}
 use Rattle.change_feed.specs.declared.change.Change.{Change}
 use Rattle.reactive_registry.specs.Registered.{Kept, kept_in}
 use Rattle.reactive_registry.specs.code.Telling.{done_where, pushed, cut}
@@ -30,54 +30,48 @@ done_twice true true does o apart = absurd (let e = apart refl in cc)
 done_twice true false does o apart = refl
 done_twice false c does o apart = refl
 
--- a number below all of some is none of them
-none_of : (s q : ℕ) (rest : List ℕ) → AllByRecursion (λ y. nat_cmp s y ≡ Less) rest → is_at (nat_cmp s) q ≡ true → list_any (is_at (nat_cmp q)) rest ≡ false
-none_of s q [] below e = refl
-none_of s q (y ∷ rest) below e =
-    ap (λ b. b || list_any (is_at (nat_cmp q)) rest) (ap (λ n. is_eq (nat_cmp n y)) (sym (same_number s q e)) ∙ ap is_eq below.0)
-    ∙ none_of s q rest below.1 e
+-- a number that differs from all of some is none of them
+none_of : (s q : ℕ) (rest : List ℕ) → AllByRecursion (λ y. nat_eq s y ≡ false) rest → is_at (nat_cmp s) q ≡ true → is_in q rest ≡ false
+none_of s q [] apart e = refl
+none_of s q (y ∷ rest) apart e =
+    ap (λ b. b || is_in q rest) (ap (λ n. nat_eq n y) (sym (same_number s q e)) ∙ apart.0) ∙ none_of s q rest apart.1 e
 
--- what is done to one, and then to the rest of a rising list, is done to all of it
-pub done_next : (all rest : List ℕ) (s q : ℕ) (does : Kept → Kept) (o o' : Option Kept) → all ≡ s ∷ rest → IsStrictlySortedBy nat_cmp all
-    → o' ≡ done_where (is_at (nat_cmp s) q) does o
-    → done_where (list_any (is_at (nat_cmp q)) rest) does o' ≡ done_where (list_any (is_at (nat_cmp q)) all) does o
-unfolding IsStrictlySortedBy
-done_next all rest s q does o o' split rising is =
-    let sorted = subst (IsStrictlySortedBy nat_cmp) split rising in
-    ap (done_where (list_any (is_at (nat_cmp q)) rest) does) is
-    ∙ done_twice (is_at (nat_cmp s) q) (list_any (is_at (nat_cmp q)) rest) does o (none_of s q rest sorted.0)
-    ∙ ap (λ b. done_where (b || list_any (is_at (nat_cmp q)) rest) does o) ((eq_by_cmp_equiv nat_cmp_total).symm s q)
-    ∙ ap (λ (l : List ℕ). done_where (list_any (is_at (nat_cmp q)) l) does o) (sym split)
+-- the test of a walk is that of a map
+test_turned : (s q : ℕ) → is_at (nat_cmp s) q ≡ nat_eq q s
+test_turned s q = unsigned_tied s q ∙ nat_eq_equiv.symm s q
 
--- what is left of a rising list behind its first number rises
-pub rising_next : (all rest : List ℕ) (s : ℕ) → all ≡ s ∷ rest → IsStrictlySortedBy nat_cmp all → IsStrictlySortedBy nat_cmp rest
-unfolding IsStrictlySortedBy
-rising_next all rest s split rising = (subst (IsStrictlySortedBy nat_cmp) split rising).1
+-- what is done to one, and then to the rest of a list without repeats, is done to all of it
+pub done_next : (all rest : List ℕ) (s q : ℕ) (does : Kept → Kept) (o o' : Option Kept) → all ≡ s ∷ rest → IsDistinct nat_eq all
+    → o' ≡ done_where (is_at (nat_cmp s) q) does o → done_where (is_in q rest) does o' ≡ done_where (is_in q all) does o
+done_next all rest s q does o o' split once is =
+    ap (done_where (is_in q rest) does) is
+    ∙ done_twice (is_at (nat_cmp s) q) (is_in q rest) does o
+    (none_of s q rest (IsDistinct-head nat_eq s rest (subst (IsDistinct nat_eq) split once)))
+    ∙ ap (λ b. done_where (b || is_in q rest) does o) (test_turned s q)
+    ∙ ap (λ (l : List ℕ). done_where (is_in q l) does o) (sym split)
 
--- ---- what a set was told, as far as it was
+-- what is left of such a list behind its first number has no repeats
+pub once_next : (all rest : List ℕ) (s : ℕ) → all ≡ s ∷ rest → IsDistinct nat_eq all → IsDistinct nat_eq rest
+once_next all rest s split once = IsDistinct-tail nat_eq s rest (subst (IsDistinct nat_eq) split once)
 
-module _ (all rest keys : List ℕ) (s q : ℕ) (split : all ≡ s ∷ rest) where
-  -- those that are left are of the set
-  pub within_next : (list_any (is_at (nat_cmp q)) all ≡ true → list_any (is_at (nat_cmp q)) keys ≡ true)
-      → list_any (is_at (nat_cmp q)) rest ≡ true → list_any (is_at (nat_cmp q)) keys ≡ true
-  within_next within e = within (ap (λ (l : List ℕ). list_any (is_at (nat_cmp q)) l) split ∙ ap (λ b. is_at (nat_cmp q) s || b) e ∙ by (is_at (nat_cmp q) s))
+-- ---- what the linked ones were told, as far as it was
+
+module _ (all rest : List ℕ) (s q : ℕ) (linked : Bool) (split : all ≡ s ∷ rest) (within : is_in q all ≡ true → linked ≡ true) where
+  -- those that are left are linked
+  pub within_next : is_in q rest ≡ true → linked ≡ true
+  within_next e = within (ap (is_in q) split ∙ ap (λ b. nat_eq q s || b) e ∙ by (nat_eq q s))
     where
-      by : (b : Bool) → b || true ≡ true
+      by : (b : Bool) → (b || true) ≡ true
       by true = refl
       by false = refl
 
-  -- one that isn't of the set isn't the next
-  pub next_apart : (list_any (is_at (nat_cmp q)) all ≡ true → list_any (is_at (nat_cmp q)) keys ≡ true)
-      → list_any (is_at (nat_cmp q)) keys ≡ false → is_at (nat_cmp s) q ≡ false
-  next_apart within out = by (is_at (nat_cmp s) q) refl
+  -- one that isn't linked isn't the next
+  pub next_apart : linked ≡ false → is_at (nat_cmp s) q ≡ false
+  next_apart out = test_turned s q ∙ by (nat_eq q s) refl
     where
-      by : (b : Bool) → is_at (nat_cmp s) q ≡ b → b ≡ false
+      by : (b : Bool) → nat_eq q s ≡ b → b ≡ false
       by true e =
-          let first : list_any (is_at (nat_cmp q)) all ≡ true =
-          ap (λ (l : List ℕ). list_any (is_at (nat_cmp q)) l) split
-          ∙ ap (λ b. b || list_any (is_at (nat_cmp q)) rest) ((eq_by_cmp_equiv nat_cmp_total).symm q s ∙ e)
-          in
-          let inside = within first in
+          let inside : linked ≡ true = within (ap (is_in q) split ∙ ap (λ b. b || is_in q rest) e) in
           absurd (cc)
       by false e = refl
 

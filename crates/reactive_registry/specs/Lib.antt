@@ -1,4 +1,6 @@
 pub mod Registered
+pub mod Placed
+pub mod Numbers
 pub mod Places
 pub mod Standing
 pub mod Laws

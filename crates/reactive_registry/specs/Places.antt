@@ -3,21 +3,27 @@ use Rattle.std.specs.Prelude.{◌≡◌, ℕ, ◌≤◌, Bool, false, ◌&&◌, 
 use Rattle.std.specs.List.{AllByRecursion}
 use Rattle.std.specs.Option.{option_map_or}
 use Rattle.std.specs.Ordering.{nat_cmp}
-use Rattle.std.specs.BTreeMap.{get, is_at}
-use Rattle.std.specs.BTreeSet.{contains}
+use Rattle.std.specs.BTreeMap.{is_at}
 use Rattle.rdt_types.specs.declared.address.Address.{Address}
 use Rattle.rdt_types.specs.Addresses.{address_cmp}
+use Rattle.edge_slab.specs.Edges.{is_linked}
 use Rattle.reactive_registry.specs.declared.places.Places.{Places}
+use Rattle.reactive_registry.specs.Placed.{number_in}
 use Rattle.reactive_registry.specs.Registered.{Kept, kept_in, is_in}
 
--- whether a subscriber stands at an address
+-- whether a subscriber stands at an address: it is linked to the address's number
 abbrev pub links : Places → Address → ℕ → Bool
-links places address subscriber = option_map_or (λ set. contains nat_cmp set subscriber) (get address_cmp places.sets address) false
+links places address subscriber =
+    option_map_or (λ number. is_linked places.edges subscriber number) (number_in places.numbers address) false
 
 -- who stands where, once that is settled of one subscriber at one address: the other pairs are as before
 abbrev pub with_link : Places → Address → ℕ → Bool → Address → ℕ → Bool
 with_link places address subscriber stands a s =
     if is_at (address_cmp address) a && is_at (nat_cmp subscriber) s then stands else links places a s
+
+-- who stands where without a subscriber
+abbrev pub without_links : Places → ℕ → Address → ℕ → Bool
+without_links places subscriber a s = if is_at (nat_cmp subscriber) s then false else links places a s
 
 -- The two directions have the same pairs, and no kept change is past the front.
 pub record AreLinked (front : ℕ) (subscribers : List (ℕ × Kept)) (places : Places) : Type 0 where

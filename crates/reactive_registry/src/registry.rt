@@ -8,7 +8,6 @@ ghost use Rattle.rdt_types.specs.Addresses.{address_cmp};
 ghost use Rattle.rdt_types.specs.DeltaMaps.{delta_at};
 ghost use Rattle.reactive_registry.specs.Registered as spec;
 ghost use Rattle.reactive_registry.specs.Registered.{is_address, kept_of, kept_after, with_kept, is_subscribed, with_subscription, pending_of};
-ghost use Rattle.std.specs.BTreeSet.{contains};
 ghost use Rattle.reactive_registry.specs.Places.{links, with_link};
 
 use crate::maps::put;
@@ -18,7 +17,7 @@ use crate::telling::tell_or_undo;
 use change_feed::{Change, Feed, Tail};
 use rdt_types::Address;
 use std::alloc::{AllocError, Global};
-use std::collections::{BTreeMap, BTreeSet};
+use std::collections::BTreeMap;
 use std::marker::Model;
 
 /// Who is subscribed to what, and what is pending for whom, up to a front.
@@ -42,16 +41,6 @@ impl Model for Registry {
     ghost view = { λ r. record { front = r.front; subscribers = r.subscribers.entries } };
 
     ghost invariant = { λ r. AreLinked r.front r.subscribers.entries r.places };
-}
-
-/// Takes a subscriber from all of some addresses.
-fn unlink_all(places: &mut Places, addresses: &BTreeSet<Address>, subscriber: u32)
-    ensures { (a : Address) (s : ℕ) → links places.new a s
-        ≡ (if contains address_cmp addresses.now a && is_at (nat_cmp subscriber) s then false else links places.old a s) }
-{
-    for address in addresses {
-        places.unlink(address, subscriber);
-    }
 }
 
 /// Subscribes in both directions. For want of memory neither changes.
@@ -139,7 +128,7 @@ impl Registry {
         ensures gone { (s : ℕ) → kept_of self.new s ≡ with_kept self.old subscriber None s }
     {
         if let Some(gone) = self.subscribers.remove(&subscriber) {
-            unlink_all(&mut self.places, gone.addresses(), subscriber);
+            self.places.drop_subscriber(gone.addresses(), subscriber);
         }
     }
 

@@ -3,7 +3,7 @@
 ghost use Rattle.std.specs.Prelude.{◌≡◌, ℕ, ◌<◌, false, Some, OnOk, OnErr};
 ghost use Rattle.std.specs.Ordering.{nat_cmp};
 ghost use Rattle.std.specs.BTreeMap.{is_at};
-ghost use Rattle.std.specs.BTreeSet.{contains};
+ghost use Rattle.edge_slab.specs.Edges.{is_linked as has_edge};
 ghost use Rattle.reactive_registry.specs.Registered.{Kept, kept_in};
 ghost use Rattle.reactive_registry.specs.Places.{links};
 ghost use Rattle.reactive_registry.specs.code.Telling.{cut, done_where, told_where, told_along, cut_along, is_linked, SameUpTo, ArePast, IsUpTo};
@@ -11,8 +11,9 @@ ghost use Rattle.reactive_registry.specs.code.Telling.{cut, done_where, told_whe
 use crate::places::Places;
 use crate::subscriber::Subscriber;
 use change_feed::Change;
+use edge_slab::EdgeSlab;
 use std::alloc::AllocError;
-use std::collections::{BTreeMap, BTreeSet};
+use std::collections::BTreeMap;
 
 /// Tells one subscriber of a change.
 fn tell_one(
@@ -39,29 +40,35 @@ fn cut_one(subscribers: &mut BTreeMap<u32, Subscriber>, subscriber: u32, front: 
     }
 }
 
-/// Tells each subscriber of a set of a change. For want of memory some may be told and others not.
-fn tell_set(
+/// Tells each subscriber that is linked to a number of a change. For want of memory some may be told and others not.
+fn tell_number(
     subscribers: &mut BTreeMap<u32, Subscriber>,
-    set: &BTreeSet<u32>,
+    edges: &EdgeSlab,
+    number: u32,
     change: &Change,
 ) -> Result<(), AllocError>
     ensures ok { OnOk result ((q : ℕ) → kept_in subscribers.new.entries q
-        ≡ told_where (contains nat_cmp set.now q) change.now (kept_in subscribers.old.entries q)) }
+        ≡ told_where (has_edge edges.now q number) change.now (kept_in subscribers.old.entries q)) }
     ensures behind { (front : ℕ) → front < change.now.number → SameUpTo front subscribers.old.entries subscribers.new.entries }
-    ensures elsewhere { (q : ℕ) → contains nat_cmp set.now q ≡ false → kept_in subscribers.new.entries q ≡ kept_in subscribers.old.entries q }
+    ensures elsewhere { (q : ℕ) → has_edge edges.now q number ≡ false → kept_in subscribers.new.entries q ≡ kept_in subscribers.old.entries q }
 {
-    for subscriber in set {
-        tell_one(subscribers, *subscriber, change)?;
+    for subscriber in edges.walk_address(number) {
+        tell_one(subscribers, subscriber, change)?;
     }
     Ok(())
 }
 
-/// Forgets the changes past a front that the subscribers of a set were told.
-fn cut_set(subscribers: &mut BTreeMap<u32, Subscriber>, set: &BTreeSet<u32>, front: u64)
-    ensures { (q : ℕ) → kept_in subscribers.new.entries q ≡ done_where (contains nat_cmp set.now q) (cut front) (kept_in subscribers.old.entries q) }
+/// Forgets the changes past a front that the subscribers that are linked to a number were told.
+fn cut_number(
+    subscribers: &mut BTreeMap<u32, Subscriber>,
+    edges: &EdgeSlab,
+    number: u32,
+    front: u64,
+)
+    ensures { (q : ℕ) → kept_in subscribers.new.entries q ≡ done_where (has_edge edges.now q number) (cut front) (kept_in subscribers.old.entries q) }
 {
-    for subscriber in set {
-        cut_one(subscribers, *subscriber, front);
+    for subscriber in edges.walk_address(number) {
+        cut_one(subscribers, subscriber, front);
     }
 }
 
@@ -76,8 +83,8 @@ fn tell_linked(
     ensures behind { (front : ℕ) → front < change.now.number → SameUpTo front subscribers.old.entries subscribers.new.entries }
     ensures elsewhere { (q : ℕ) → links places.now change.now.address q ≡ false → kept_in subscribers.new.entries q ≡ kept_in subscribers.old.entries q }
 {
-    match places.at(&change.address) {
-        Some(set) => tell_set(subscribers, set, change),
+    match places.number(&change.address) {
+        Some(number) => tell_number(subscribers, places.edges(), number, change),
         None => Ok(()),
     }
 }
@@ -91,8 +98,8 @@ fn cut_linked(
 )
     ensures { (q : ℕ) → kept_in subscribers.new.entries q ≡ done_where (links places.now change.now.address q) (cut front) (kept_in subscribers.old.entries q) }
 {
-    if let Some(set) = places.at(&change.address) {
-        cut_set(subscribers, set, front);
+    if let Some(number) = places.number(&change.address) {
+        cut_number(subscribers, places.edges(), number, front);
     }
 }
 
