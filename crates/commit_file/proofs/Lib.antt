@@ -1,0 +1,13 @@
+pub mod Runs
+pub mod Frames
+pub mod Images
+pub mod Opening
+pub mod Mended
+pub mod Mending
+pub mod Read
+pub mod Scanned
+pub mod Standings
+pub mod Settled
+pub mod Told
+pub mod Spoilt
+pub mod Sound
