@@ -147,12 +147,23 @@ module _ (m : Meaning) (bytes rest : List ℕ) (before mid : List (List ℕ)) (n
         found_form m false (header One ++ bytes) front last after end long_file
         (ap (λ l. header One ++ l) whole ∙ sym (append_assoc (header One) (frames old) (2 ∷ (frames ps ++ last)))
         ∙ sym (append_assoc (header One ++ frames old) (2 ∷ frames ps) last))
-        (omega (arith, is, length-append (header One ++ frames old) (2 ∷ frames ps), length-append (header One) (frames old), ap length whole,
-        length-append (frames old) (2 ∷ (frames ps ++ last)), length-append (frames ps) last))
-        (Marked old ps, refl, ap (λ l. l ++ ps) old-is ∙ sym then_scanned.taken, record {
-          follow = (follow_old, subst (λ l. Follow m Two l ps) (sym old-is) then_scanned.follow);
-          short = (scanned.short, then_scanned.short);
-        })
+        (omega (
+          arith,
+          is,
+          length-append (header One ++ frames old) (2 ∷ frames ps),
+          length-append (header One) (frames old),
+          ap length whole,
+          length-append (frames old) (2 ∷ (frames ps ++ last)),
+          length-append (frames ps) last,
+        )) (
+          Marked old ps,
+          refl,
+          ap (λ l. l ++ ps) old-is ∙ sym then_scanned.taken,
+          record {
+            follow = (follow_old, subst (λ l. Follow m Two l ps) (sym old-is) then_scanned.follow);
+            short = (scanned.short, then_scanned.short);
+          },
+        )
         then_scanned.none
 
     -- or one that doesn't follow

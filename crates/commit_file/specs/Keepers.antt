@@ -27,7 +27,7 @@ abbrev pub keeper_code : Coded Keeper
 keeper_code =
     code_by (Option DiskState × (List Durable × (ℕ × (ℕ × (ℕ × (Bool × Bool))))))
     (coded× (coded_option state_code) (coded× (coded_list durable_code)
-        (coded× coded_ℕ (coded× coded_ℕ (coded× coded_ℕ (coded× coded_bool coded_bool))))))
+    (coded× coded_ℕ (coded× coded_ℕ (coded× coded_ℕ (coded× coded_bool coded_bool))))))
     (λ k. (k.state, (k.past, (k.faults, (k.home, (k.end, (k.doubtful, k.unsound)))))))
     (λ p. record {
       state = p.0;

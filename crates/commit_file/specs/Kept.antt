@@ -83,8 +83,8 @@ abbrev pub kept : Meaning → List ℕ → Reading
 kept m bytes =
     if nat_lt 13 (length bytes)
     then (if pointwise nat_eq (take 12 bytes) (header Two)
-      then checked m Two [] 12 (payloads (drop 12 bytes))
-      else (if pointwise nat_eq (take 12 bytes) (header One) then checked_old m (drop 12 bytes) else NotJournal 0))
+    then checked m Two [] 12 (payloads (drop 12 bytes))
+    else (if pointwise nat_eq (take 12 bytes) (header One) then checked_old m (drop 12 bytes) else NotJournal 0))
     else Journal []
 
 -- each payload of a version follows those before it
