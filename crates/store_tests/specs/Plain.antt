@@ -14,6 +14,10 @@ where_nothing _ _ bytes = []
 abbrev pub plain_bytes : Commit → List ℕ
 plain_bytes commit = where_nothing commit.outcome commit.deltas (commit.number ∷ commit.client ∷ commit.seq ∷ commit.body)
 
+-- these bytes tell this commit
+abbrev pub IsTold : List ℕ → Commit → Type 0
+IsTold bytes commit = bytes ≡ plain_bytes commit
+
 -- a commit that did nothing
 abbrev pub plain : ℕ → ℕ → ℕ → List ℕ → Commit
 plain number client seq body = record { number = number; client = client; seq = seq; body = body; outcome = outcome.Ok []; deltas = [] }

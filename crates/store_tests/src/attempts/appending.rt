@@ -14,7 +14,7 @@ ghost use Rattle.journal_core.specs.Kinds.{AreOfTheirKinds, HasKinds};
 ghost use Rattle.journal_core.specs.Pairs.{AreNumbered};
 ghost use Rattle.journal_core.specs.Readies.{IsRunOf};
 ghost use Rattle.journal_core.specs.Witnesses.{AreBasedOfOneKind};
-ghost use Rattle.store_tests.specs.Plain.{plain, plain_bytes};
+ghost use Rattle.store_tests.specs.Plain.{IsTold, plain, plain_bytes};
 
 use super::checked;
 use crate::journals::number_of;
@@ -475,7 +475,7 @@ fn plain_of(
 
 /// The commit that bytes tell goes behind a list.
 fn add_told(alloc: Global, list: &mut CommitList, bytes: &[u8]) -> Result<(), AllocError>
-    ensures ok { OnOk result (Keeps plain_bytes bytes.now (Some list.old) (Some list.new)) }
+    ensures ok { OnOk result (Keeps IsTold bytes.now (Some list.old) (Some list.new)) }
     ensures err { OnErr result (list.new ≡ list.old) }
 {
     let [number, client, seq, body @ ..] = bytes else {
@@ -486,7 +486,7 @@ fn add_told(alloc: Global, list: &mut CommitList, bytes: &[u8]) -> Result<(), Al
 
 impl Keep for Telling {
     ghost use Rattle.std.specs.Prelude.{Some, true};
-    ghost use Rattle.store_tests.specs.Plain.{plain_bytes};
+    ghost use Rattle.store_tests.specs.Plain.{IsTold};
 
     ghost kept = { λ keeper. Some keeper.list };
 
@@ -494,7 +494,7 @@ impl Keep for Telling {
 
     ghost may_fail = { true };
 
-    ghost stands_for = { λ bytes commit. bytes ≡ plain_bytes commit };
+    ghost stands_for = { IsTold };
 
     fn make(&self, alloc: Global, commit: &Commit) -> Result<Text, AllocError> {
         if did_nothing(commit) {
