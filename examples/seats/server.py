@@ -203,11 +203,18 @@ class Handler(http.server.BaseHTTPRequestHandler):
         """Says nothing of single requests."""
 
 
+def port(word: str) -> int:
+    """A port, from the command line."""
+    if not re.fullmatch("[0-9]{1,5}", word) or int(word) > 65535:
+        raise argparse.ArgumentTypeError(f"not a port from 0 to 65535: {word!r}")
+    return int(word)
+
+
 def main() -> None:
     words = argparse.ArgumentParser(description="Serves a seat sale to browsers, over a store that `./diamond serve` serves.")
     words.add_argument("host", help="where the store listens")
-    words.add_argument("port", type=int, help="its port")
-    words.add_argument("--web", type=int, default=8000, metavar="PORT", help="the port for browsers [default: 8000; 0: a free one]")
+    words.add_argument("port", type=port, help="its port")
+    words.add_argument("--web", type=port, default=8000, metavar="PORT", help="the port for browsers [default: 8000; 0: a free one]")
     asked = words.parse_args()
     try:
         server = Server(("127.0.0.1", asked.web), (asked.host, asked.port))

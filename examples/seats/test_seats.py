@@ -173,10 +173,16 @@ class Sale(unittest.TestCase):
 
 class Words(unittest.TestCase):
     def test_words_that_do_not_fit_are_named(self):
-        command = [sys.executable, str(pathlib.Path(server.__file__)), "127.0.0.1", "seats"]
-        run = subprocess.run(command, capture_output=True, text=True, timeout=60)
-        self.assertEqual(run.returncode, 2)
-        self.assertIn("argument port: invalid int value: 'seats'", run.stderr)
+        rows = [
+            (["127.0.0.1", "seats"], "argument port: not a port from 0 to 65535: 'seats'"),
+            (["127.0.0.1", "4000", "--web", "65536"], "argument --web: not a port from 0 to 65535: '65536'"),
+            (["127.0.0.1"], "the following arguments are required: port"),
+        ]
+        for words, said in rows:
+            command = [sys.executable, str(pathlib.Path(server.__file__)), *words]
+            run = subprocess.run(command, capture_output=True, text=True, timeout=60)
+            self.assertEqual(run.returncode, 2)
+            self.assertIn(said, run.stderr)
 
 
 if __name__ == "__main__":
