@@ -20,7 +20,7 @@ use Rattle.rdt_types.proofs.Addresses.{address_cmp-equal}
 use Rattle.change_feed.specs.declared.change.Change.{Change}
 use Rattle.change_feed.specs.declared.tail.Tail.{Tail}
 use Rattle.change_feed.specs.Tails.{IsTail}
-use Rattle.change_feed.specs.Feeds.{Fed, with_changes}
+use Rattle.change_feed.specs.Feeds.{Fed, begun, with_changes}
 use Rattle.change_feed.specs.Pending.{deltas_at, pending}
 use Rattle.txn_lang.specs.States.{Journal}
 use Rattle.journal_core.specs.Changes.{changes_of, changes, up_to, past, between, of_address}
@@ -274,6 +274,17 @@ fed-from (Ok feed) journal addresses from to tail all ends is =
     ∙ ap (λ (ds : Deltas). let f : Fed = record { to = to; changes = ds } in f)
     (is ∙ ap (λ (cs : List Change). with_changes [] (filter (λ change. is_in addresses change.address) cs)) all.exact)
 fed-from (Err e) journal addresses from to tail all ends is = tt
+
+-- one without addresses is told of nothing
+none-told : (cs : List Change) → filter (λ change. is_in [] change.address) cs ≡ []
+none-told [] = refl
+none-told (c ∷ cs) = none-told cs
+
+pub fed-none : (journal : Journal) (addresses : List Address) (from to : ℕ) (feed : Fed) → addresses ≡ [] → feed ≡ begun to
+    → feed ≡ feed_between journal addresses from to
+fed-none journal addresses from to feed none is =
+    is ∙ ap (λ (cs : List Change). let f : Fed = record { to = to; changes = with_changes [] cs } in f) (sym (none-told (between from to (changes journal))))
+    ∙ ap (λ (at : List Address). feed_between journal at from to) (sym none)
 
 -- ---- addresses in turn
 

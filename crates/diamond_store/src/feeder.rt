@@ -121,13 +121,24 @@ fn changes_at<K: Keep, N: Naming, R: Wait>(
     tail
 }
 
-/// The registry follows to a number that isn't behind its front. For want of memory it stays there.
+/// The registry begins anew at a number, and nobody has entered. Who had is given by the journal what it missed.
+fn begin_anew(alloc: Global, registry: &mut Registry, at: u64)
+    ensures front { registry.new.front ≡ at }
+    ensures tells { (journal : Journal) → at ≤ length journal → Tells journal registry.new }
+{
+    *registry = Registry::new(alloc, at);
+}
+
+/// The registry follows to a number that isn't behind its front. For want of memory it stays there. Where it is further behind than
+/// a window of commits, whoever has entered is to be let go in any case, and it begins anew: no more is copied to follow.
 fn follow<K: Keep, N: Naming, R: Wait>(
     rt: &R,
+    alloc: Global,
     journal: &HistoryLock<Book<K>, N>,
     token: &mut Front<Book<K>, N>,
     registry: &mut Registry,
     to: u64,
+    window: u16,
 ) -> Result<(), AllocError>
     requires behind { registry.old.front ≤ to }
     requires within { to ≤ length token.old.seen }
@@ -139,6 +150,10 @@ fn follow<K: Keep, N: Naming, R: Wait>(
 {
     let front = registry.front();
     if front == to {
+        return Ok(());
+    }
+    if to.saturating_sub(front) > window as u64 {
+        begin_anew(alloc, registry, to);
         return Ok(());
     }
     let tail = changes_between(rt, journal, token, front, to)?;
@@ -279,7 +294,7 @@ fn let_go(registry: &mut Registry, client: u32, window: u16)
     }
 }
 
-/// What the journal has for one with some addresses past one number and up to another.
+/// What the journal has for one with some addresses past one number and up to another. One without addresses has nothing there.
 fn from_journal<K: Keep, N: Naming, R: Wait>(
     rt: &R,
     alloc: Global,
@@ -295,6 +310,10 @@ fn from_journal<K: Keep, N: Naming, R: Wait>(
     ensures lawful { IsLawful Follows N.lock.base token.new.seen }
     ensures feed { IfOk result (λ feed. feed ≡ feed_between token.new.seen addresses.now.keys from to) }
 {
+    if addresses.is_empty() {
+        let _known = token.count();
+        return Ok(Feed::new(alloc, to));
+    }
     let tail = changes_between(rt, journal, token, from, to)?;
     feed_of(alloc, &tail, addresses)
 }
@@ -357,10 +376,11 @@ impl<K: Keep, N: Naming> Feeder<K, N> {
         ensures took { OnOk result (taken_of self.new client ≡ Some (length token.new.seen)) }
     {
         let (journal, registry, own) = (&store.journal, &mut self.registry, &mut self.token);
+        let (alloc, window) = (store.alloc, store.settings.window);
         let to = learn(journal, own, token);
-        follow(rt, journal, own, registry, to)?;
+        follow(rt, alloc, journal, own, registry, to, window)?;
         let feed = take_followed(rt, store, own, registry, client, taken, addresses)?;
-        let_go(registry, self.hand.turn(client), store.settings.window);
+        let_go(registry, self.hand.turn(client), window);
         let _known = own.count();
         Ok(feed)
     }
