@@ -12,6 +12,7 @@ pub mod Phases
 pub mod Steps
 pub mod Watched
 pub mod Starts
+pub mod Performing
 pub mod Ends
 pub mod Faults
 pub mod Tries

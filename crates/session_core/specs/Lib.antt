@@ -4,6 +4,7 @@ pub mod Words
 pub mod Bodies
 pub mod Lines
 pub mod Phases
+pub mod Verbs
 pub mod Holding
 pub mod Leading
 pub mod Explained

@@ -4,6 +4,7 @@
 //! script and a server cut input into lines, hand each to a session, and print what it answers.
 //!
 //! Read first `specs/Phases` (what a line does, as a machine of phases) and `specs/Leading` (the steps of a line over a backend).
+//! `specs/Verbs` has the verbs of attempts and looks as programs of calls, one a function of the code.
 //! `specs/Explained` says which answers a journal explains, and `specs/Sessions` what that makes of whole sessions.
 #![tactic(auto)]
 

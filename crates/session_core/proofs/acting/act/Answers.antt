@@ -35,7 +35,7 @@ returns-in-Drop-clause-went g c =
     c.give_up.new.session c.said-in-Drop.ensures
     (at-once g.B.Backend.known g.B.Backend.goes c.args.backend.now first (said c.give_up.result) c.give_up.new.session
     (ap (start (g.B.Backend.known c.args.backend.now).shards (g.B.Backend.known c.args.backend.now).seen c.args.session.now) c.in-Drop.is
-    ∙ c.give_up.ensures (g.B.Backend.known c.args.backend.now).shards (g.B.Backend.known c.args.backend.now).seen))
+    ∙ c.give_up.ensures.drops (g.B.Backend.known c.args.backend.now).shards (g.B.Backend.known c.args.backend.now).seen))
 
 pub returns-in-Seen-clause-went : goal.returns-in-Seen-clause-went
 returns-in-Seen-clause-went g c =
