@@ -38,7 +38,7 @@ use Rattle.client_watches.proofs.Telling.{JobTells, ThenTells, PhaseTells, drops
 -- ---- what is subscribed to
 
 -- after a feed
-subscribes-feed : (k l : Known) (w : Watching) (feed : Fed) → IsAnswered k Call.take (Answer.feed feed) l → Subscribes k w → Subscribes l (after_feed w feed)
+pub subscribes-feed : (k l : Known) (w : Watching) (feed : Fed) → IsAnswered k Call.take (Answer.feed feed) l → Subscribes k w → Subscribes l (after_feed w feed)
 subscribes-feed k l w feed event is = record {
   rising = rise-advanced w.cache feed is.rising;
   told = λ a v found. event.goes_on.subscribed a ∙ was a v (held w.cache a) refl (sym (held-advanced w.cache feed a) ∙ found);
@@ -59,7 +59,7 @@ subscribes-on k l w same taken is = record {
 }
 
 -- with one value more
-subscribes-value : (k l : Known) (w : Watching) (address : Address) (value : Value) → IsAnswered k (Call.subscribe address) Answer.done l
+pub subscribes-value : (k l : Known) (w : Watching) (address : Address) (value : Value) → IsAnswered k (Call.subscribe address) Answer.done l
     → k.taken ≡ w.cache.at → Subscribes k w → Subscribes l (with_value w address value)
 subscribes-value k l w address value event taken is = record {
   rising = rise-filled w.cache address value is.rising;
@@ -103,7 +103,7 @@ idle-unobserved w address e = by (is_some (held w.cache address)) (is_observed w
 
 module _ (window low : ℕ) (goal : Goal) (story : ShownList) (old new : Journal) (could : CanRead old) (can : CanRead new) (p : IsPrefix old new) where
   -- reports that were made stay
-  going-stays : (w : Watching) (said : List Reply) → Going window low goal story old w said → Going window low goal story new w said
+  pub going-stays : (w : Watching) (said : List Reply) → Going window low goal story old w said → Going window low goal story new w said
   going-stays w said is = record {
     stands = stands-stay old new could.readable.numbered can.readable.numbered p w is.stands;
     shown_at = is.shown_at;
@@ -114,12 +114,12 @@ module _ (window low : ℕ) (goal : Goal) (story : ShownList) (old new : Journal
   }
 
   -- and that all hold
-  holds-stay : (w : Watching) → Stands old w → AllHold old w.cache.at (shown_of w.watches) → AllHold new w.cache.at (shown_of w.watches)
+  pub holds-stay : (w : Watching) → Stands old w → AllHold old w.cache.at (shown_of w.watches) → AllHold new w.cache.at (shown_of w.watches)
   holds-stay w is all = hold-stay old new could.readable.numbered can.readable.numbered p w.cache.at is.within (shown_of w.watches)
       (all-up-to old w.cache w.watches is.watches) all
 
   -- and that one is left to run
-  left-stays : (w : Watching) → Stands old w → IsLeft window low goal story old w → IsLeft window low goal story new w
+  pub left-stays : (w : Watching) → Stands old w → IsLeft window low goal story old w → IsLeft window low goal story new w
   left-stays w is some all = some (hold-before old new could.readable.numbered can.readable.numbered p w.cache.at is.within (shown_of w.watches)
       (all-up-to old w.cache w.watches is.watches) all)
 
@@ -206,7 +206,7 @@ module _ (window low : ℕ) (goal : Goal) (story : ShownList) (upto : AreUpTo lo
   Tells = PhaseTells window low goal story
 
   -- what is kept, after a call that neither subscribes nor takes
-  ready-on : (w : Watching) (call : Call) (answer : Answer) → IsAnswered k call answer l → ((a : Address) → l.subscribed a ≡ k.subscribed a)
+  pub ready-on : (w : Watching) (call : Call) (answer : Answer) → IsAnswered k call answer l → ((a : Address) → l.subscribed a ≡ k.subscribed a)
       → l.taken ≡ k.taken → IsReady window low goal story k w → IsReady window low goal story l w
   ready-on w call answer event same taken is = record {
     keeps = keeps-on k l w event.goes_on.seen is.keeps;

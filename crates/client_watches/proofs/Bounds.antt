@@ -32,8 +32,8 @@ use Rattle.rerun_driver.specs.Watches.{Watches, watch_of, all_told, settled, fir
 use Rattle.docc_prepare.specs.Calls.{Call, Answer}
 use Rattle.client_watches.specs.declared.watching.Watching.{Watching}
 use Rattle.client_watches.specs.Watching.{addresses_of, observed_by, after_feed, with_value, with_rerun, with_first, without, is_idle, without_value}
-use Rattle.client_watches.specs.Watching.{stale_count}
-use Rattle.client_watches.specs.Phases.{Phase, Goal, Job, Then, asks, after, settled as none_loose, drop_idle, then_on, ending, first_by, first_run}
+use Rattle.client_watches.specs.Watching.{none_loose, stale_count}
+use Rattle.client_watches.specs.Phases.{Phase, Goal, Job, Then, asks, after, drop_idle, then_on, ending, first_by, first_run}
 use Rattle.client_watches.specs.Phases.{caught_up, rerun_by, rerun_up_to, rerun_all, go_on}
 use Rattle.client_watches.specs.Keeping.{AreDistinct}
 use Rattle.client_watches.specs.GoingOn.{WatchLine, start_of}
@@ -45,28 +45,28 @@ use Rattle.client_watches.proofs.Values.{held-filled, at-same}
 -- ---- lengths
 
 -- one list behind another is as long as both
-length-behind : {A : Type 0} (xs ys : List A) → length (xs ++ ys) ≡ length xs + length ys
+pub length-behind : {A : Type 0} (xs ys : List A) → length (xs ++ ys) ≡ length xs + length ys
 length-behind [] ys = omega arith
 length-behind (x ∷ xs) ys = let rest = length-behind xs ys in omega arith
 
 -- each observation has one address
-as-many : (seen : List Seen) → length (addresses_of seen) ≡ length seen
+pub as-many : (seen : List Seen) → length (addresses_of seen) ≡ length seen
 as-many [] = refl
 as-many (z ∷ seen) = ap suc (as-many seen)
 
 -- ---- what the stale watches may cost
 
 -- a run, and what the run before it observed
-abbrev cost_of : Watch → ℕ
+abbrev pub cost_of : Watch → ℕ
 cost_of watch = run_calls + length watch.observations
 
 -- so much where a watch is stale, and else nothing
-abbrev if_stale : Bool → ℕ → ℕ
+abbrev pub if_stale : Bool → ℕ → ℕ
 if_stale true n = n
 if_stale false n = 0
 
 -- THE COST OF ALL THAT ARE STALE
-abbrev cost : Watches → ℕ
+abbrev pub cost : Watches → ℕ
 cost [] = 0
 cost (x ∷ ws) = if_stale x.1.stale (cost_of x.1) + cost ws
 
@@ -98,7 +98,7 @@ cost-behind x ws e fresh other is = record {
 }
 
 -- so it is of the first of them, where names differ
-first-costs : (ws : Watches) (e : Bytes × Watch) → AreDistinct ws → first_stale ws ≡ Some e → CostsLess ws e
+pub first-costs : (ws : Watches) (e : Bytes × Watch) → AreDistinct ws → first_stale ws ≡ Some e → CostsLess ws e
 first-costs [] e all h = absurd (cc)
 first-costs (x ∷ ws) e all h = by x.1.stale refl h (first-costs ws e all.1)
   where
@@ -114,7 +114,7 @@ first-costs (x ∷ ws) e all h = by x.1.stale refl h (first-costs ws e all.1)
     by false fresh f rest = cost-behind x ws e fresh (apart f (bytes_eq e.0 x.0) refl) (rest f)
 
 -- after a feed each is stale at most
-told-costs : (changes : Deltas) (ws : Watches) → cost (all_told changes ws) ≤ length ws * run_calls + all_observed ws
+pub told-costs : (changes : Deltas) (ws : Watches) → cost (all_told changes ws) ≤ length ws * run_calls + all_observed ws
 told-costs changes [] = omega arith
 told-costs changes (x ∷ ws) = by _ (told-costs changes ws)
   where
@@ -124,7 +124,7 @@ told-costs changes (x ∷ ws) = by _ (told-costs changes ws)
     by false rest = omega arith
 
 -- a watch's observations are some of all
-observed-within : (ws : Watches) (name : Bytes) → length (observed_by (watch_of ws name)) ≤ all_observed ws
+pub observed-within : (ws : Watches) (name : Bytes) → length (observed_by (watch_of ws name)) ≤ all_observed ws
 observed-within [] name = omega arith
 observed-within (x ∷ ws) name = by (bytes_eq name x.0) (observed-within ws name)
   where
@@ -151,7 +151,7 @@ filled-next b cache a value needed = record {
     by q v is true e = absurd (no_value (needs_are_missing b (held cache) a needed) (subst (λ x. held cache x ≡ Some v) (at-same q a e) is))
 
 -- where one more is needed, they are fewer than the ticks
-reads-left : (b : Body) (cache : Cached) (a : Address) (reads : ℕ) → exec b (held cache) ≡ need a → AreReadInTurn b reads (held cache) → reads < TICK_LIMIT
+pub reads-left : (b : Body) (cache : Cached) (a : Address) (reads : ℕ) → exec b (held cache) ≡ need a → AreReadInTurn b reads (held cache) → reads < TICK_LIMIT
 reads-left b cache a reads needed turn =
     let value = default_of a.kind in
     let few = reads_are_few b (suc reads) (held (filled cache a value)) (held cache, turn, filled-next b cache a value needed) in omega arith
@@ -187,7 +187,7 @@ rerun-reads-more w a value reads e read =
     (held w.cache, subst (λ o. HasRead o reads (held w.cache)) needs.first read, filled-next needs.entry.1.body.body w.cache a value needs.needed)
 
 -- what was read is paid for by the cost of that watch
-read-paid : (ws : Watches) (reads : ℕ) (state : PartialState) → AreDistinct ws → HasRead (first_stale ws) reads state → 3 * reads ≤ cost ws
+pub read-paid : (ws : Watches) (reads : ℕ) (state : PartialState) → AreDistinct ws → HasRead (first_stale ws) reads state → 3 * reads ≤ cost ws
 read-paid ws reads state all read = by (first_stale ws) refl read
   where
     by : (o : Option (Bytes × Watch)) → first_stale ws ≡ o → HasRead o reads state → 3 * reads ≤ cost ws

@@ -13,8 +13,8 @@ use Rattle.rerun_driver.specs.Watches.{Watches, watch_of, without_watch}
 use Rattle.docc_prepare.specs.Calls.{Known, Call, Answer}
 use Rattle.docc_prepare.specs.Backends.{IsAnswered, SaysOfJournal, HasGrown}
 use Rattle.client_watches.specs.declared.watching.Watching.{Watching}
-use Rattle.client_watches.specs.Watching.{without, is_idle, without_value}
-use Rattle.client_watches.specs.Phases.{Phase, Then, settled as none_loose, drop_idle, ending}
+use Rattle.client_watches.specs.Watching.{none_loose, without, is_idle, without_value}
+use Rattle.client_watches.specs.Phases.{Phase, Then, drop_idle, ending}
 use Rattle.client_watches.specs.Keeping.{AreDistinct, Keeps}
 use Rattle.client_watches.specs.Leading.{Leads}
 use Rattle.client_watches.specs.Standing.{Subscribes, Stands, CanRead}
@@ -30,7 +30,7 @@ use Rattle.client_watches.proofs.Telling.{shown-named}
 -- ---- one watch less
 
 -- it is one less of what is shown
-shown-without : (ws : Watches) (name : Bytes) → shown_of (without_watch ws name) ≡ remove_entry (bytes_eq name) (shown_of ws)
+pub shown-without : (ws : Watches) (name : Bytes) → shown_of (without_watch ws name) ≡ remove_entry (bytes_eq name) (shown_of ws)
 shown-without [] name = refl
 shown-without (x ∷ ws) name = by (bytes_eq name x.0) (shown-without ws name)
   where
@@ -41,7 +41,7 @@ shown-without (x ∷ ws) name = by (bytes_eq name x.0) (shown-without ws name)
     by false rest = ap (λ (later : ShownList). (x.0, record { body = x.1.body; number = x.1.number }) ∷ later) rest
 
 -- where names differ none has the name then
-none-left-named : (ws : Watches) (name : Bytes) → AreDistinct ws → watch_of (without_watch ws name) name ≡ None
+pub none-left-named : (ws : Watches) (name : Bytes) → AreDistinct ws → watch_of (without_watch ws name) name ≡ None
 none-left-named [] name all = refl
 none-left-named (x ∷ ws) name all = by (bytes_eq name x.0) refl (none-left-named ws name all.1)
   where

@@ -21,9 +21,8 @@ use Rattle.rerun_driver.specs.declared.rerun.Rerun.TheVariants as rerun
 use Rattle.rerun_driver.specs.Watches.{Watches, watch_of, all_told, settled, reported, with_report, next_rerun}
 use Rattle.docc_prepare.specs.Calls.{Known}
 use Rattle.client_watches.specs.declared.watching.Watching.{Watching}
-use Rattle.client_watches.specs.Watching.{addresses_of, observed_by, after_feed, with_value, with_rerun, with_first, without}
+use Rattle.client_watches.specs.Watching.{none_loose, addresses_of, observed_by, after_feed, with_value, with_rerun, with_first, without}
 use Rattle.client_watches.specs.Watching.{IsButForValues}
-use Rattle.client_watches.specs.Phases.{settled as none_loose}
 use Rattle.client_watches.specs.Keeping.{AreDistinct, AreShort, Keeps}
 use Rattle.client_watches.proofs.Names.{reported_in, distinct-told, distinct-report, distinct-append, distinct-remove}
 use Rattle.client_watches.proofs.Stale.{has-run}

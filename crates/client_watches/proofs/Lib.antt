@@ -2,6 +2,7 @@ pub mod Names
 pub mod Stale
 pub mod Kept
 pub mod Steps
+pub mod Parts
 pub mod Journals
 pub mod Stays
 pub mod Reporting
@@ -15,3 +16,7 @@ pub mod Unbroken
 pub mod Forgetting
 pub mod Bounds
 pub mod Saying
+pub mod Safe
+pub mod Within
+pub mod Seen
+pub mod Explaining

@@ -22,8 +22,8 @@ use Rattle.client_watches.specs.declared.error.WatchError.{WatchError}
 use Rattle.client_watches.specs.declared.error.WatchError.TheVariants as error
 use Rattle.client_watches.specs.declared.watching.Watching.{Watching}
 use Rattle.client_watches.specs.Errors.{error_of}
-use Rattle.client_watches.specs.Watching.{after_feed, with_value, with_rerun, with_first, stale_count, is_idle, without_value}
-use Rattle.client_watches.specs.Phases.{Phase, Goal, Job, Then, asks, after, settled as none_loose, drop_idle, then_on, ending, first_by, first_run}
+use Rattle.client_watches.specs.Watching.{none_loose, after_feed, with_value, with_rerun, with_first, stale_count, is_idle, without_value}
+use Rattle.client_watches.specs.Phases.{Phase, Goal, Job, Then, asks, after, drop_idle, then_on, ending, first_by, first_run}
 use Rattle.client_watches.specs.Phases.{caught_up, rerun_by, rerun_up_to, rerun_all, go_on}
 use Rattle.client_watches.specs.Keeping.{AreDistinct}
 use Rattle.client_watches.specs.Leading.{Leads, Reaches, Stops, Went, IsLateBy, Takes, HasFetched, WasLate, Fetches, Catches, Reruns, Runs, Drops}

@@ -21,8 +21,8 @@ use Rattle.rerun_driver.specs.declared.rerun.Rerun.TheVariants as rerun
 use Rattle.rerun_driver.specs.Watches.{Watches, watch_of, all_told, settled, reported, first_stale, next_rerun}
 use Rattle.docc_prepare.specs.Calls.{Known}
 use Rattle.client_watches.specs.declared.watching.Watching.{Watching}
-use Rattle.client_watches.specs.Watching.{with_rerun, with_first, is_idle, stale_count}
-use Rattle.client_watches.specs.Phases.{Phase, Goal, Job, Then, settled as none_loose, drop_idle, then_on, ending, first_by, first_run}
+use Rattle.client_watches.specs.Watching.{none_loose, with_rerun, with_first, is_idle, stale_count}
+use Rattle.client_watches.specs.Phases.{Phase, Goal, Job, Then, drop_idle, then_on, ending, first_by, first_run}
 use Rattle.client_watches.specs.Phases.{caught_up, rerun_by, rerun_up_to}
 use Rattle.client_watches.specs.Keeping.{AreDistinct, Keeps}
 use Rattle.client_watches.specs.Standing.{Subscribes, Stands}
@@ -43,7 +43,7 @@ shown-told changes [] = refl
 shown-told changes (x ∷ ws) = ap (λ (rest : ShownList). (x.0, record { body = x.1.body; number = x.1.number }) ∷ rest) (shown-told changes ws)
 
 -- a new watch is the last
-shown-last : (ws : Watches) (e : Bytes × Watch) → shown_of (ws ++ e ∷ []) ≡ shown_of ws ++ (e.0, record { body = e.1.body; number = e.1.number }) ∷ []
+pub shown-last : (ws : Watches) (e : Bytes × Watch) → shown_of (ws ++ e ∷ []) ≡ shown_of ws ++ (e.0, record { body = e.1.body; number = e.1.number }) ∷ []
 shown-last [] e = refl
 shown-last (x ∷ ws) e = ap (λ (rest : ShownList). (x.0, record { body = x.1.body; number = x.1.number }) ∷ rest) (shown-last ws e)
 
@@ -144,7 +144,7 @@ module _ (window low : ℕ) (goal : Goal) (story : ShownList) where
         by false e more = more
 
     -- none is loose then
-    ready-none : (w : Watching) → IsReady k w → IsReady k (none_loose w)
+    pub ready-none : (w : Watching) → IsReady k w → IsReady k (none_loose w)
     ready-none w ready = record {
       keeps = keeps-none_loose k w ready.keeps;
       subscribes = record { rising = ready.subscribes.rising; told = ready.subscribes.told; taken = ready.subscribes.taken };
@@ -152,11 +152,11 @@ module _ (window low : ℕ) (goal : Goal) (story : ShownList) where
     }
 
     -- what stands has nothing to do with what is loose
-    stands-none : (w : Watching) → Stands journal w → Stands journal (none_loose w)
+    pub stands-none : (w : Watching) → Stands journal w → Stands journal (none_loose w)
     stands-none w is = record { within = is.within; values = is.values; watches = is.watches }
 
     -- nor do the reports
-    going-none : (w : Watching) (said : List Reply) → Going journal w said → Going journal (none_loose w) said
+    pub going-none : (w : Watching) (said : List Reply) → Going journal w said → Going journal (none_loose w) said
     going-none w said is = record {
       stands = stands-none w is.stands;
       shown_at = is.shown_at;
@@ -267,7 +267,7 @@ module _ (window low : ℕ) (goal : Goal) (story : ShownList) where
     free-rerun (Goal.watch own body) w name run free = none-report own w.watches name w.cache.at run free
 
     -- the watch that runs next is reported
-    going-on : (w : Watching) (said : List Reply) (name : Bytes) (run : Run) → AreDistinct w.watches → next_rerun (held w.cache) w.watches ≡ rerun.Ran name run
+    pub going-on : (w : Watching) (said : List Reply) (name : Bytes) (run : Run) → AreDistinct w.watches → next_rerun (held w.cache) w.watches ≡ rerun.Ran name run
         → Going journal w said → Going journal (with_rerun w name run) (said ++ reply.Ran name w.cache.at run.outcome ∷ [])
     going-on w said name run distinct e going =
         let h = has-run (held w.cache) w.watches name run e in

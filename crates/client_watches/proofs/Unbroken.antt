@@ -14,8 +14,8 @@ use Rattle.rerun_driver.specs.Watches.{watch_of, next_rerun}
 use Rattle.docc_prepare.specs.Calls.{Known, Call, Answer, is_fault}
 use Rattle.docc_prepare.specs.Backends.{Shows}
 use Rattle.client_watches.specs.declared.watching.Watching.{Watching}
-use Rattle.client_watches.specs.Watching.{after_feed, with_value, with_rerun, with_first, without, is_idle, without_value, stale_count}
-use Rattle.client_watches.specs.Phases.{Phase, Goal, Job, Then, asks, after, settled as none_loose, drop_idle, then_on, ending, first_by, first_run}
+use Rattle.client_watches.specs.Watching.{none_loose, after_feed, with_value, with_rerun, with_first, without, is_idle, without_value, stale_count}
+use Rattle.client_watches.specs.Phases.{Phase, Goal, Job, Then, asks, after, drop_idle, then_on, ending, first_by, first_run}
 use Rattle.client_watches.specs.Phases.{caught_up, rerun_by, rerun_up_to, go_on}
 use Rattle.client_watches.specs.GoingOn.{WatchLine, start_of, has_failed, is_broken, FailuresAloneBreak}
 

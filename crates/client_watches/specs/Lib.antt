@@ -1,5 +1,6 @@
 pub mod Errors
 pub mod Watching
+pub mod Lines
 pub mod Phases
 pub mod Keeping
 pub mod Leading
@@ -9,3 +10,4 @@ pub mod Laws
 pub mod GoingOn
 pub mod Bounds
 pub mod Saying
+pub mod LineLaws

@@ -15,7 +15,7 @@ use Rattle.rerun_driver.specs.declared.rerun.Rerun.TheVariants as rerun
 use Rattle.rerun_driver.specs.Watches.{watch_of, next_rerun}
 use Rattle.docc_prepare.specs.Calls.{Call, Answer, is_fault}
 use Rattle.client_watches.specs.declared.watching.Watching.{Watching}
-use Rattle.client_watches.specs.Watching.{after_feed, with_value, with_rerun, with_first, without, is_idle, without_value, stale_count}
+use Rattle.client_watches.specs.Watching.{none_loose, after_feed, with_value, with_rerun, with_first, without, is_idle, without_value, stale_count}
 
 -- What is done once no watch is stale.
 pub data Goal : Type 0 where
@@ -61,13 +61,9 @@ drop_idle next then_ w said [] = next w said
 drop_idle next then_ w said (address ∷ rest) =
     if is_idle w address then Phase.dropping then_ w said address rest else drop_idle next then_ w said rest
 
--- none is left loose
-abbrev pub settled : Watching → Watching
-settled w = record w { loose = [] }
-
 -- the line ends with these replies
 abbrev pub ending : Watching → List Reply → Phase
-ending w said = drop_idle Phase.over Then.ends (settled w) said w.loose
+ending w said = drop_idle Phase.over Then.ends (none_loose w) said w.loose
 
 -- ---- a new watch
 
@@ -90,7 +86,7 @@ then_on (Then.begins name body) w said = first_run name body w said
 -- no watch is stale
 abbrev pub caught_up : Goal → Watching → List Reply → Phase
 caught_up Goal.current w said = ending w (said ++ reply.Current w.cache.at ∷ [])
-caught_up (Goal.watch name body) w said = drop_idle (first_run name body) (Then.begins name body) (settled w) said w.loose
+caught_up (Goal.watch name body) w said = drop_idle (first_run name body) (Then.begins name body) (none_loose w) said w.loose
 
 -- the next run: it needs a value, or is reported and more may follow, or no watch is stale
 abbrev pub rerun_by : (Watching → List Reply → Phase) → Goal → Watching → List Reply → Rerun → Phase

@@ -59,6 +59,10 @@ is_idle w address = is_some (held w.cache address) && not (is_observed w.watches
 abbrev pub without_value : Watching → Address → Watching
 without_value w address = record w { cache = released w.cache address }
 
+-- No address is left loose.
+abbrev pub none_loose : Watching → Watching
+none_loose w = record w { loose = [] }
+
 -- which watches are stale, as a number
 abbrev pub one_if : Bool → ℕ → ℕ
 one_if true n = suc n

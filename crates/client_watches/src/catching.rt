@@ -7,6 +7,8 @@ ghost use Rattle.client_watches.specs.Watching as spec;
 ghost use Rattle.client_watches.specs.Phases.{Goal};
 ghost use Rattle.client_watches.specs.Keeping.{Keeps};
 ghost use Rattle.client_watches.specs.Leading.{Reruns, Catches};
+ghost use Rattle.client_watches.specs.Lines.{Plays};
+ghost use Rattle.client_watches.specs.Lines as lines;
 
 use crate::error::WatchError;
 use crate::fetching::fetch;
@@ -70,6 +72,8 @@ fn rerun_one<B: Backend>(
     said: &mut ReplyList,
 ) -> Result<Option<bool>, WatchError>
     requires { Keeps (B.known backend.old) watching.old }
+    ensures plays { Plays B.known B.goes backend.old (lines.rerun_one lines.rounds said.old watching.old) result
+        (λ all. (all, watching.new, said.new)) backend.new }
     ensures reruns { (goal : Goal) → Reruns B.known B.goes goal backend.old watching.old said.old result backend.new watching.new said.new }
     ensures keeps { IfOk result (λ all. Keeps (B.known backend.new) watching.new) }
     ensures free { IfOk result (λ all. spec.KeepsFree watching.old watching.new) }
@@ -102,6 +106,8 @@ pub(crate) fn catch_up<B: Backend>(
     said: &mut ReplyList,
 ) -> Result<bool, WatchError>
     requires { Keeps (B.known backend.old) watching.old }
+    ensures plays { Plays B.known B.goes backend.old (lines.catch_up watching.old said.old) result
+        (λ all. (all, watching.new, said.new)) backend.new }
     ensures catches { (goal : Goal) → Catches B.known B.goes goal backend.old watching.old said.old result backend.new watching.new said.new }
     ensures keeps { IfOk result (λ all. Keeps (B.known backend.new) watching.new) }
     ensures free { IfOk result (λ all. spec.KeepsFree watching.old watching.new) }

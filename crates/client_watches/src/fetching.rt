@@ -6,6 +6,8 @@ ghost use Rattle.docc_prepare.specs.Calls.{value_answered};
 ghost use Rattle.client_watches.specs.Watching.{KeepsFree};
 ghost use Rattle.client_watches.specs.Keeping.{Keeps};
 ghost use Rattle.client_watches.specs.Leading.{Takes, Fetches, IsLateBy};
+ghost use Rattle.client_watches.specs.Lines.{Plays};
+ghost use Rattle.client_watches.specs.Lines as lines;
 
 use crate::error::WatchError;
 use crate::watching::Watching;
@@ -17,6 +19,8 @@ use session_text::Reply;
 /// Takes what changed, and tells all watches and values of it.
 pub(crate) fn take<B: Backend>(backend: &mut B, watching: &mut Watching) -> Result<(), WatchError>
     requires { Keeps (B.known backend.old) watching.old }
+    ensures plays { Plays B.known B.goes backend.old (lines.take_feed watching.old) result
+        (λ u. watching.new) backend.new }
     ensures takes { Takes B.known B.goes backend.old watching.old result backend.new watching.new }
     ensures keeps { IfOk result (λ u. Keeps (B.known backend.new) watching.new) }
     ensures free { IfOk result (λ u. KeepsFree watching.old watching.new) }
@@ -48,6 +52,8 @@ pub(crate) fn fetch<B: Backend>(
 ) -> Result<Option<Reply>, WatchError>
     requires seen { watching.old.cache.at ≤ (B.known backend.old).seen }
     requires short { IsShortAddress address }
+    ensures plays { Plays B.known B.goes backend.old (lines.fetch watching.old address) result
+        (λ late. (late, watching.new)) backend.new }
     ensures fetches { Fetches B.known B.goes backend.old watching.old address result backend.new watching.new }
     ensures seen { (B.known backend.old).seen ≤ (B.known backend.new).seen }
     ensures home { B.home backend.new ≡ B.home backend.old }

@@ -2,6 +2,8 @@
 
 ghost use Rattle.client_watches.specs.Bounds.{LinesAreBounded};
 ghost use Rattle.client_watches.specs.GoingOn.{FailuresAloneBreak, LinesAreReady, LinesGoOn};
+ghost use Rattle.client_watches.specs.LineLaws.{LinesAreSafe, LinesAskFew, LinesSayWhatIsSeen};
+ghost use Rattle.client_watches.specs.LineLaws.{SyncIsExplained, WatchIsExplained, UnwatchIsExplained};
 ghost use Rattle.client_watches.specs.Laws.{LinesAreExplained, PassingStays, BeginningsAttend, UnwatchesAreExplained, OthersLeaveStanding};
 ghost use Rattle.client_watches.specs.Saying.{RepliesAreSeen};
 
@@ -54,4 +56,36 @@ pub fn lines_are_bounded()
 /// The law that a line of watches says replies of watches alone, at no number that isn't seen.
 pub fn replies_are_seen()
     ensures { RepliesAreSeen }
+{}
+
+/// The law that a line's program is safe: each call that it asks may be made and is no wait, it is stuck nowhere, and what is kept
+/// goes on being kept to.
+pub fn lines_are_safe()
+    ensures { LinesAreSafe }
+{}
+
+/// The law that a line's program asks no more calls than the watches there are allow.
+pub fn lines_ask_few()
+    ensures { LinesAskFew }
+{}
+
+/// The law that a line's program ends with replies of watches alone, at no number that isn't seen.
+pub fn lines_say_what_is_seen()
+    ensures { LinesSayWhatIsSeen }
+{}
+
+/// The law that the replies with which the program of `sync` ends are explained by the journal.
+pub fn sync_is_explained()
+    ensures { SyncIsExplained }
+{}
+
+/// The law that the replies with which the program of `watch` ends are explained by the journal.
+pub fn watch_is_explained()
+    ensures { WatchIsExplained }
+{}
+
+/// The law that the reply with which the program of `unwatch` ends is explained: the watch of the name is gone, and every other
+/// stands as it was.
+pub fn unwatch_is_explained()
+    ensures { UnwatchIsExplained }
 {}

@@ -1,10 +1,11 @@
 //! A client's watches over any backend: bodies that only read, of which each report stands for one prefix of the journal. They
 //! are brought up to date by what changed, made, and forgotten; each value that they rest on is read once, and its changes are
-//! told from then on. It stands on `rerun_driver` and `client_cache` (what is kept) and on `docc_prepare` (what every backend
-//! promises); a client's session stands on it (`session_core`).
+//! told from then on. It stands on `rerun_driver` and `client_cache` (what is kept), on `docc_prepare` (what every backend
+//! promises) and on `call_programs` (what a client does, as data); a client's session stands on it (`session_core`).
 //!
-//! Read first `specs/Watching` (what is kept) and `specs/Phases` (what a line does, as a machine of phases). `specs/Explained` says
-//! which replies a journal explains, and `specs/Laws` that it explains them.
+//! Read first `specs/Watching` (what is kept) and `specs/Lines` (what a line does, as a program of calls). `specs/Explained` says
+//! which replies a journal explains, and `specs/LineLaws` what every line keeps to. `specs/Phases` and `specs/Leading` say what a
+//! line does once more, as a machine of phases, for the crates above that still speak of one.
 #![tactic(auto)]
 
 mod catching;
@@ -20,7 +21,8 @@ mod watching;
 pub use error::WatchError;
 pub use laws::{
     beginnings_attend, failures_alone_break, lines_are_bounded, lines_are_explained,
-    lines_are_ready, lines_go_on, others_leave_standing, passing_stays, replies_are_seen,
-    unwatches_are_explained,
+    lines_are_ready, lines_are_safe, lines_ask_few, lines_go_on, lines_say_what_is_seen,
+    others_leave_standing, passing_stays, replies_are_seen, sync_is_explained,
+    unwatch_is_explained, unwatches_are_explained, watch_is_explained,
 };
 pub use watching::{AddressList, ReplyList, Watching};

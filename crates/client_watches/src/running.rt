@@ -10,6 +10,8 @@ ghost use Rattle.client_watches.specs.Phases as phases;
 ghost use Rattle.client_watches.specs.Phases.{ending};
 ghost use Rattle.client_watches.specs.Keeping.{Keeps};
 ghost use Rattle.client_watches.specs.Leading.{Continues, Runs};
+ghost use Rattle.client_watches.specs.Lines.{Plays};
+ghost use Rattle.client_watches.specs.Lines as lines;
 
 use crate::error::WatchError;
 use crate::fetching::fetch;
@@ -31,6 +33,8 @@ fn run_body<B: Backend>(
     body: &Checked,
 ) -> Result<Option<Run>, WatchError>
     requires { Keeps (B.known backend.old) watching.old }
+    ensures plays { Plays B.known B.goes backend.old (lines.run_body lines.rounds body.now said.old watching.old) result
+        (λ run. (run, watching.new, said.new)) backend.new }
     ensures runs { Runs B.known B.goes body.now backend.old watching.old said.old result backend.new watching.new said.new }
     ensures keeps { IfOk result (λ run. Keeps (B.known backend.new) watching.new) }
     ensures watches { IfOk result (λ run. watching.new.watches ≡ watching.old.watches) }
@@ -83,6 +87,8 @@ pub(crate) fn first_run<B: Backend>(
 ) -> Result<(), WatchError>
     requires keeps { Keeps (B.known backend.old) watching.old }
     requires free { watch_of watching.old.watches name ≡ None }
+    ensures plays { Plays B.known B.goes backend.old (lines.first_run name body said.old watching.old) result
+        (λ u. (watching.new, said.new)) backend.new }
     ensures continues { Continues B.known B.goes backend.old (phases.first_run name body watching.old said.old)
         (ending watching.new) result backend.new said.new }
     ensures keeps { IfOk result (λ u. Keeps (B.known backend.new) watching.new) }

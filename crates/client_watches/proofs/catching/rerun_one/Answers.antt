@@ -1,25 +1,31 @@
-use Rattle.std.proofs.Common.{◌≡◌, ℕ, ◌+◌, suc, true, false, Option, Some, None, Ok, Err, refl, arith, subst, sym, ap, ◌∙◌}
+use Rattle.std.proofs.Common.{◌≡◌, ℕ, ◌+◌, ◌-◌, suc, true, false, Option, Some, None, Ok, Err, refl, arith, subst, sym, ap, ◌∙◌}
 use Rattle.std.proofs.lemmas.Result.{err_from_is_err_and}
 use Rattle.session_text.specs.declared.reply.Reply.{Reply}
 use Rattle.txn_lang.proofs.Observed.{runs_ask_short}
 use Rattle.client_cache.specs.Cached.{held, filled}
+use Rattle.rerun_driver.specs.declared.rerun.Rerun.TheVariants as rerun
 use Rattle.rerun_driver.specs.Watches.{Watches, watch_of, first_stale}
+use Rattle.call_programs.specs.Programs.{Program}
+use Rattle.call_programs.proofs.Programs.{and_then, in_bind, bound, to_same, here as at_once, stops_in, stops_behind, fails}
 use Rattle.client_watches.specs.Phases.{rerun_all}
 use Rattle.client_watches.specs.declared.error.WatchError.{WatchError}
 use Rattle.client_watches.specs.declared.watching.Watching.{Watching}
 use Rattle.client_watches.specs.Keeping.{Keeps}
 use Rattle.client_watches.specs.Leading.{Fetches, HasFetched}
 use Rattle.client_watches.specs.Watching.{stale_count}
+use Rattle.client_watches.specs.Lines.{rounds, rerun_one, or_late}
 use Rattle.client_watches.proofs.Names.{none-report}
 use Rattle.client_watches.proofs.Stale.{it-needs, is-there, one-fewer}
 use Rattle.client_watches.proofs.Bounds.{HasRead, none-read, reads-few, rerun-reads-more}
 use Rattle.client_watches.proofs.Kept.{keeps-rerun, keeps-value}
 use Rattle.client_watches.proofs.Steps.{rerun-wants, rerun-none, rerun-ran, rerun-unfetched, rerun-fetched, rerun-late, rerun-late-wants, reruns-then}
 use Rattle.client_watches.proofs.Steps.{here, none-else}
+use Rattle.client_watches.proofs.Parts.{wants, no_round_yet, rerun_round}
 use Rattle.client_watches.proofs.catching.rerun_one.Goals as goal
 
 pub loop-init : goal.loop-init
 loop-init g c = record {
+  played = at_once (ap (λ (n : ℕ). rerun_one n c.args.said.now c.args.watching.now) no_round_yet);
   led = λ x. here g.B.Backend.known g.B.Backend.goes c.args.backend.now (rerun_all x c.args.watching.now c.args.said.now)
       (rerun_all x c.args.watching.now c.args.said.now) refl;
   read = none-read (first_stale c.args.watching.now.watches) (held c.args.watching.now.cache);
@@ -27,6 +33,9 @@ loop-init g c = record {
   keeps = c.requires;
   home = refl;
 }
+
+pub returns-in_err-run_next-clause-plays : goal.returns-in_err-run_next-clause-plays
+returns-in_err-run_next-clause-plays g c = fails _ c.from_residual.result c.from_residual.ensures.1 (wants c.loop.invariant.played)
 
 pub returns-in_err-run_next-clause-reruns : goal.returns-in_err-run_next-clause-reruns
 returns-in_err-run_next-clause-reruns g c = λ x.
@@ -41,6 +50,10 @@ report-requires g c = record {
       (sym c.in_ok-run_next.ensures ∙ c.in-Ran.is);
 }
 
+pub returns-in_err-report-in-Ran-clause-plays : goal.returns-in_err-report-in-Ran-clause-plays
+returns-in_err-report-in-Ran-clause-plays g c =
+    fails _ c.from_residual-in_err-report-in-Ran.result c.from_residual-in_err-report-in-Ran.ensures.1 (wants c.loop.invariant.played)
+
 pub returns-in_err-report-in-Ran-clause-reruns : goal.returns-in_err-report-in-Ran-clause-reruns
 returns-in_err-report-in-Ran-clause-reruns g c = λ x.
     let p = err_from_is_err_and c.from_residual-in_err-report-in-Ran.result c.from_residual-in_err-report-in-Ran.ensures.1 in
@@ -54,6 +67,14 @@ fetch-requires-clause-short g c =
     let needs = it-needs (held c.loop.watching.cache) c.loop.watching.watches c.in-Need.address (sym c.in_ok-run_next.ensures ∙ c.in-Need.is) in
     runs_ask_short.needed needs.entry.1.body.body (held c.loop.watching.cache) c.in-Need.address needs.needed
 
+pub returns-in_err-late-in-Need-clause-plays : goal.returns-in_err-late-in-Need-clause-plays
+returns-in_err-late-in-Need-clause-plays g c =
+    let round = rerun_round c.loop.counter c.loop.said c.loop.watching (rerun.Need c.in-Need.address) c.loop-test.true
+    (sym c.in_ok-run_next.ensures ∙ c.in-Need.is) in
+    fails _ c.from_residual-in_err-late-in-Need.result c.from_residual-in_err-late-in-Need.ensures.1
+    (stops_behind (to_same round c.loop.invariant.played)
+    (stops_in (or_late (rerun_one (rounds - (c.loop.counter + 1)) c.loop.said) (Some false) c.loop.said) c.in_err-late-in-Need.ensures.plays))
+
 pub returns-in_err-late-in-Need-clause-reruns : goal.returns-in_err-late-in-Need-clause-reruns
 returns-in_err-late-in-Need-clause-reruns g c = λ x.
     let p = err_from_is_err_and c.from_residual-in_err-late-in-Need.result c.from_residual-in_err-late-in-Need.ensures.1 in
@@ -64,6 +85,14 @@ returns-in_err-late-in-Need-clause-reruns g c = λ x.
     c.fetch.new.watching c.loop.said p.1
     (subst (λ (e : WatchError). Fetches g.B.Backend.known g.B.Backend.goes c.loop.backend c.loop.watching c.in-Need.address
     (Err e) c.fetch.new.backend c.fetch.new.watching) (sym p.2) c.in_err-late-in-Need.ensures.fetches))
+
+pub returns-in_err-push-in-Need-clause-plays : goal.returns-in_err-push-in-Need-clause-plays
+returns-in_err-push-in-Need-clause-plays g c =
+    let round = rerun_round c.loop.counter c.loop.said c.loop.watching (rerun.Need c.in-Need.address) c.loop-test.true
+    (sym c.in_ok-run_next.ensures ∙ c.in-Need.is) in
+    fails _ c.from_residual-in_err-push-in-Need.result c.from_residual-in_err-push-in-Need.ensures.1
+    (wants (and_then (to_same round c.loop.invariant.played)
+    (in_bind (or_late (rerun_one (rounds - (c.loop.counter + 1)) c.loop.said) (Some false) c.loop.said) c.in_ok-late-in-Need.ensures.plays)))
 
 pub returns-in_err-push-in-Need-clause-reruns : goal.returns-in_err-push-in-Need-clause-reruns
 returns-in_err-push-in-Need-clause-reruns g c = λ x.
@@ -76,6 +105,11 @@ returns-in_err-push-in-Need-clause-reruns g c = λ x.
     (subst (λ (o : Option Reply). Fetches g.B.Backend.known g.B.Backend.goes c.loop.backend c.loop.watching c.in-Need.address
     (Ok o) c.fetch.new.backend c.fetch.new.watching) c.in-Some.is c.in_ok-late-in-Need.ensures.fetches))
 
+pub returns-in-NoneLeft-clause-plays : goal.returns-in-NoneLeft-clause-plays
+returns-in-NoneLeft-clause-plays g c =
+    to_same (rerun_round c.loop.counter c.loop.said c.loop.watching rerun.NoneLeft c.loop-test.true (sym c.in_ok-run_next.ensures ∙ c.in-NoneLeft.is))
+    c.loop.invariant.played
+
 pub returns-in-NoneLeft-clause-reruns : goal.returns-in-NoneLeft-clause-reruns
 returns-in-NoneLeft-clause-reruns g c = λ x.
     reruns-then g.B.Backend.known g.B.Backend.goes c.args.backend.now c.args.watching.now c.args.said.now c.loop.backend c.loop.watching c.loop.said x
@@ -84,6 +118,13 @@ returns-in-NoneLeft-clause-reruns g c = λ x.
 
 pub returns-in-NoneLeft-clause-free : goal.returns-in-NoneLeft-clause-free
 returns-in-NoneLeft-clause-free g c = λ name none. ap (λ (ws : Watches). watch_of ws name) c.loop.invariant.watches ∙ none
+
+pub returns-in-Ran-clause-plays : goal.returns-in-Ran-clause-plays
+returns-in-Ran-clause-plays g c =
+    to_same (rerun_round c.loop.counter c.loop.said c.loop.watching (rerun.Ran c.in-Ran.name c.in-Ran.run') c.loop-test.true
+    (sym c.in_ok-run_next.ensures ∙ c.in-Ran.is)
+    ∙ (λ i. Program.ends (None, sym c.in_ok-report-in-Ran.ensures.watching i, sym c.in_ok-report-in-Ran.ensures.said i)))
+    c.loop.invariant.played
 
 pub returns-in-Ran-clause-reruns : goal.returns-in-Ran-clause-reruns
 returns-in-Ran-clause-reruns g c = λ x.
@@ -112,6 +153,15 @@ returns-in-Ran-clause-fewer g c =
     (sym c.in_ok-run_next.ensures ∙ c.in-Ran.is)
     ∙ ap (λ (w : Watching). suc (stale_count w.watches)) (sym c.in_ok-report-in-Ran.ensures.watching)
 
+pub returns-in-Some-clause-plays : goal.returns-in-Some-clause-plays
+returns-in-Some-clause-plays g c =
+    let round = rerun_round c.loop.counter c.loop.said c.loop.watching (rerun.Need c.in-Need.address) c.loop-test.true
+    (sym c.in_ok-run_next.ensures ∙ c.in-Need.is) in
+    let more = or_late (rerun_one (rounds - (c.loop.counter + 1)) c.loop.said) (Some false) c.loop.said in
+    and_then (to_same round c.loop.invariant.played) (bound more c.in_ok-late-in-Need.ensures.plays
+    (at_once (ap (λ o. more (o, c.fetch.new.watching)) c.in-Some.is
+    ∙ ap (λ said. Program.ends (Some false, c.fetch.new.watching, said)) (sym c.in_ok-push-in-Need.ensures.ok))))
+
 pub returns-in-Some-clause-reruns : goal.returns-in-Some-clause-reruns
 returns-in-Some-clause-reruns g c = λ x.
     reruns-then g.B.Backend.known g.B.Backend.goes c.args.backend.now c.args.watching.now c.args.said.now c.loop.backend c.loop.watching c.loop.said x
@@ -130,7 +180,12 @@ loop-preserved g c =
     subst (λ (o : Option Reply). Fetches g.B.Backend.known g.B.Backend.goes c.loop.backend c.loop.watching c.in-Need.address
     (Ok o) c.fetch.new.backend c.fetch.new.watching) (none-else _ c.in_default.not-Some) c.in_ok-late-in-Need.ensures.fetches in
     let up : suc c.loop.counter ≡ c.loop.counter + 1 = omega arith in
+    let round = rerun_round c.loop.counter c.loop.said c.loop.watching (rerun.Need c.in-Need.address) c.loop-test.true e in
+    let more = or_late (rerun_one (rounds - (c.loop.counter + 1)) c.loop.said) (Some false) c.loop.said in
     record {
+      played = and_then (to_same round c.loop.invariant.played)
+          (bound more c.in_ok-late-in-Need.ensures.plays
+          (at_once (ap (λ o. more (o, c.fetch.new.watching)) (none-else _ c.in_default.not-Some))));
       led = λ x. reruns-then g.B.Backend.known g.B.Backend.goes c.args.backend.now c.args.watching.now c.args.said.now c.loop.backend c.loop.watching
           c.loop.said x (Ok None) c.fetch.new.backend c.fetch.new.watching c.loop.said
           (c.loop.invariant.led x)

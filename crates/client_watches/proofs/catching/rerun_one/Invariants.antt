@@ -1,6 +1,9 @@
-use Rattle.std.proofs.Common.{◌≡◌}
+use Rattle.std.proofs.Common.{◌≡◌, ◌-◌}
 use Rattle.client_cache.specs.Cached.{held}
 use Rattle.rerun_driver.specs.Watches.{first_stale}
+use Rattle.docc_prepare.specs.Backends.{Goes}
+use Rattle.call_programs.specs.Programs.{Leads}
+use Rattle.client_watches.specs.Lines.{rounds, rerun_one}
 use Rattle.client_watches.specs.Phases.{Goal, rerun_all}
 use Rattle.client_watches.specs.Keeping.{Keeps}
 use Rattle.client_watches.specs.Leading.{Reaches}
@@ -10,6 +13,8 @@ use Rattle.client_watches.proofs.catching.rerun_one.Given as goal
 -- each round reads one value more for the run of the first stale watch
 abbrev pub invariant-loop : goal.invariant-loop
 invariant-loop g l = record {
+  played : Leads (Goes g.B.Backend.known g.B.Backend.goes) l.fn.backend (rerun_one rounds l.fn.said l.fn.watching) l.backend
+      (rerun_one (rounds - l.counter) l.said l.watching);
   led : (goal : Goal) → Reaches g.B.Backend.known g.B.Backend.goes l.fn.backend (rerun_all goal l.fn.watching l.fn.said) l.backend
       (rerun_all goal l.watching l.said);
   read : HasRead (first_stale l.watching.watches) l.counter (held l.watching.cache);

@@ -2,7 +2,10 @@ use Rattle.std.proofs.Common.{◌∷◌, ◌+◌, drop, Err, refl, subst, sym, a
 use Rattle.std.proofs.lemmas.Result.{err_from_is_err_and}
 use Rattle.std.specs.List.{AllByRecursion}
 use Rattle.txn_lang.specs.Short.{IsShortAddress}
+use Rattle.call_programs.specs.Programs.{Leads}
+use Rattle.call_programs.proofs.Programs.{and_then, bound, to_same, stops_in, stops_behind, fails}
 use Rattle.client_watches.specs.declared.error.WatchError.{WatchError}
+use Rattle.client_watches.specs.Lines.{drop_each}
 use Rattle.client_watches.specs.Phases.{drop_idle, then_on}
 use Rattle.client_watches.specs.Leading.{DropsOne}
 use Rattle.client_watches.proofs.Steps.{here, and-then, to-same, stops-behind, drops-err, next-drop}
@@ -10,6 +13,7 @@ use Rattle.client_watches.proofs.dropping.drop_each.Goals as goal
 
 pub loop-address-init : goal.loop-address-init
 loop-address-init g c = record {
+  played = Leads.stays;
   led = λ next said. here g.B.Backend.known g.B.Backend.goes c.args.backend.now (drop_idle (then_on next) next c.args.watching.now said c.args.loose.now)
       (drop_idle (then_on next) next c.args.watching.now said c.args.loose.now) refl;
   short = c.requires;
@@ -17,6 +21,13 @@ loop-address-init g c = record {
   seen = omega arith;
   home = refl;
 }
+
+pub returns-in_err-drop_one-clause-plays : goal.returns-in_err-drop_one-clause-plays
+returns-in_err-drop_one-clause-plays g c =
+    let split = next-drop c.args.loose.now c.loop-address.address-index c.address-item.result c.loop-address-test.true c.address-item.is in
+    fails _ c.from_residual.result c.from_residual.ensures.1
+    (stops_behind (to_same (ap (λ xs. drop_each xs c.loop-address.watching) split) c.loop-address.invariant.played)
+    (stops_in (drop_each (drop (c.loop-address.address-index + 1) c.args.loose.now)) c.in_err-drop_one.ensures.plays))
 
 pub returns-in_err-drop_one-clause-drops : goal.returns-in_err-drop_one-clause-drops
 returns-in_err-drop_one-clause-drops g c =
@@ -39,6 +50,8 @@ loop-address-preserved g c =
     let rest = drop (c.loop-address.address-index + 1) c.args.loose.now in
     let split = next-drop c.args.loose.now c.loop-address.address-index c.address-item.result c.loop-address-test.true c.address-item.is in
     record {
+      played = and_then (to_same (ap (λ xs. drop_each xs c.loop-address.watching) split) c.loop-address.invariant.played)
+          (bound (drop_each rest) c.in_ok-drop_one.ensures.plays Leads.stays);
       led = λ next said.
           and-then g.B.Backend.known g.B.Backend.goes c.args.backend.now (drop_idle (then_on next) next c.args.watching.now said c.args.loose.now)
           c.loop-address.backend (drop_idle (then_on next) next c.loop-address.watching said (c.address-item.result ∷ rest)) c.drop_one.new.backend

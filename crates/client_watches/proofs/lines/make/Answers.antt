@@ -1,11 +1,46 @@
 use Rattle.std.proofs.Common.{Bool, Ok, Err, subst, sym, ap, ◌∙◌}
 use Rattle.std.proofs.lemmas.Result.{err_from_is_err_and}
 use Rattle.rerun_driver.specs.Watches.{Watches, watch_of}
+use Rattle.call_programs.proofs.Programs.{and_then, in_bind, bound, to_same, here as at_once, stops_in, stops_behind, fails}
 use Rattle.client_watches.specs.declared.error.WatchError.{WatchError}
-use Rattle.client_watches.specs.Phases.{Goal, settled, rerun_all, ending, first_run}
+use Rattle.client_watches.specs.Lines as lines
+use Rattle.client_watches.specs.Watching.{none_loose}
+use Rattle.client_watches.specs.Phases.{Goal, rerun_all, ending, first_run}
 use Rattle.client_watches.specs.Leading.{Catches, Drops, Continues}
 use Rattle.client_watches.proofs.Steps.{and-then, stops-behind, continues-err, line-begins, line-halts}
 use Rattle.client_watches.proofs.lines.make.Goals as goal
+
+pub returns-in_err-all-clause-plays : goal.returns-in_err-all-clause-plays
+returns-in_err-all-clause-plays g c =
+    fails _ c.from_residual.result c.from_residual.ensures.1 (stops_in (lines.then_first c.args.name c.args.body) c.in_err-all.ensures.plays)
+
+pub returns-then-not-all-clause-plays : goal.returns-then-not-all-clause-plays
+returns-then-not-all-clause-plays g c =
+    bound (lines.then_first c.args.name c.args.body) c.in_ok-all.ensures.plays
+    (at_once (ap (λ b. lines.then_first c.args.name c.args.body (b, c.catch_up.new.watching, c.catch_up.new.said)) c.if-not-all.true))
+
+pub returns-in_err-drop_idle-clause-plays : goal.returns-in_err-drop_idle-clause-plays
+returns-in_err-drop_idle-clause-plays g c =
+    let then_ = lines.then_first c.args.name c.args.body in
+    let all = ap (λ b. then_ (b, c.catch_up.new.watching, c.catch_up.new.said)) c.if-not-all.false in
+    fails _ c.from_residual-in_err-drop_idle.result c.from_residual-in_err-drop_idle.ensures.1
+    (stops_behind (to_same all (in_bind then_ c.in_ok-all.ensures.plays))
+    (stops_in (lines.first_run c.args.name c.args.body c.catch_up.new.said) c.in_err-drop_idle.ensures.plays))
+
+pub returns-in_err-first_run-clause-plays : goal.returns-in_err-first_run-clause-plays
+returns-in_err-first_run-clause-plays g c =
+    let then_ = lines.then_first c.args.name c.args.body in
+    let all = ap (λ b. then_ (b, c.catch_up.new.watching, c.catch_up.new.said)) c.if-not-all.false in
+    fails _ c.from_residual-in_err-first_run.result c.from_residual-in_err-first_run.ensures.1
+    (stops_behind (and_then (to_same all (in_bind then_ c.in_ok-all.ensures.plays))
+    (in_bind (lines.first_run c.args.name c.args.body c.catch_up.new.said) c.in_ok-drop_idle.ensures.plays)) c.in_err-first_run.ensures.plays)
+
+pub returns-clause-plays : goal.returns-clause-plays
+returns-clause-plays g c =
+    let then_ = lines.then_first c.args.name c.args.body in
+    let all = ap (λ b. then_ (b, c.catch_up.new.watching, c.catch_up.new.said)) c.if-not-all.false in
+    and_then (to_same all (in_bind then_ c.in_ok-all.ensures.plays))
+    (bound (lines.first_run c.args.name c.args.body c.catch_up.new.said) c.in_ok-drop_idle.ensures.plays c.in_ok-first_run.ensures.plays)
 
 pub returns-in_err-all-clause-continues : goal.returns-in_err-all-clause-continues
 returns-in_err-all-clause-continues g c =
@@ -37,7 +72,7 @@ returns-in_err-drop_idle-clause-continues g c =
     (subst (λ (b : Bool). Catches g.B.Backend.known g.B.Backend.goes (Goal.watch c.args.name c.args.body) c.args.backend.now c.args.watching.now
     c.args.said.now (Ok b) c.catch_up.new.backend c.catch_up.new.watching c.catch_up.new.said) c.if-not-all.false
     (c.in_ok-all.ensures.catches (Goal.watch c.args.name c.args.body)))
-    (subst (λ (e : WatchError). Drops g.B.Backend.known g.B.Backend.goes c.catch_up.new.backend (settled c.catch_up.new.watching)
+    (subst (λ (e : WatchError). Drops g.B.Backend.known g.B.Backend.goes c.catch_up.new.backend (none_loose c.catch_up.new.watching)
     c.catch_up.new.watching.loose (Err e) c.drop_idle.new.backend c.drop_idle.new.watching) (sym p.2) c.in_err-drop_idle.ensures.drops))
 
 pub returns-in_err-first_run-clause-continues : goal.returns-in_err-first_run-clause-continues

@@ -1,12 +1,17 @@
-use Rattle.std.proofs.Common.{◌≡◌, ℕ, suc, ◌+◌, ◌++◌, ◌∷◌, [], List, Option, Ok, Err, refl, arith, subst, sym, ap, ◌∙◌}
+use Rattle.std.proofs.Common.{◌≡◌, ℕ, suc, ◌+◌, ◌-◌, ◌++◌, ◌∷◌, [], List, Option, None, Ok, Err, refl, arith, subst, sym, ap, ◌∙◌}
 use Rattle.std.proofs.lemmas.Result.{err_from_is_err_and}
 use Rattle.session_text.specs.declared.reply.Reply.{Reply}
+use Rattle.txn_lang.specs.declared.run.Run.{Run}
+use Rattle.txn_lang.specs.Execution.{need, done}
 use Rattle.txn_lang.proofs.Observed.{runs_ask_short}
 use Rattle.txn_lang.proofs.Few.{reads_are_few}
 use Rattle.txn_eval.specs.Running.{ran_of}
 use Rattle.client_cache.specs.Cached.{held, filled}
 use Rattle.client_watches.specs.declared.error.WatchError.{WatchError}
 use Rattle.client_watches.specs.declared.watching.Watching.{Watching}
+use Rattle.call_programs.specs.Programs.{Program}
+use Rattle.call_programs.proofs.Programs.{and_then, in_bind, bound, to_same, here as at_once, stops_in, stops_behind, fails}
+use Rattle.client_watches.specs.Lines.{rounds, run_body, or_late}
 use Rattle.client_watches.specs.Phases.{first_run}
 use Rattle.client_watches.specs.Keeping.{Keeps}
 use Rattle.client_watches.specs.Leading.{Fetches, HasFetched}
@@ -14,10 +19,12 @@ use Rattle.client_watches.proofs.Kept.{keeps-value}
 use Rattle.client_watches.proofs.Bounds.{filled-next}
 use Rattle.txn_lang.specs.Few.{AreReadInTurn}
 use Rattle.client_watches.proofs.Steps.{here, run-unfetched, run-fetched, run-late, run-late-wants, none-else}
+use Rattle.client_watches.proofs.Parts.{wants, no_round_yet, run_round}
 use Rattle.client_watches.proofs.running.run_body.Goals as goal
 
 pub loop-init : goal.loop-init
 loop-init g c = record {
+  played = at_once (ap (λ (n : ℕ). run_body n c.args.body.now c.args.said.now c.args.watching.now) no_round_yet);
   led = λ name. here g.B.Backend.known g.B.Backend.goes c.args.backend.now (first_run name c.args.body.now c.args.watching.now c.args.said.now)
       (first_run name c.args.body.now c.args.watching.now c.args.said.now) refl;
   said = refl;
@@ -27,9 +34,20 @@ loop-init g c = record {
   home = refl;
 }
 
+pub returns-in_err-run-clause-plays : goal.returns-in_err-run-clause-plays
+returns-in_err-run-clause-plays g c = fails _ c.from_residual.result c.from_residual.ensures.1 (wants c.loop.invariant.played)
+
 pub fetch-requires-clause-short : goal.fetch-requires-clause-short
 fetch-requires-clause-short g c = runs_ask_short.needed c.args.body.now.body (held c.loop.watching.cache) c.in-Need.address
     (sym c.in_ok-run.ensures ∙ ap ran_of c.in-Need.is)
+
+pub returns-in_err-late-in-Need-clause-plays : goal.returns-in_err-late-in-Need-clause-plays
+returns-in_err-late-in-Need-clause-plays g c =
+    let round = run_round c.loop.counter c.args.body.now c.loop.said c.loop.watching (need c.in-Need.address) c.loop-test.true
+    (sym c.in_ok-run.ensures ∙ ap ran_of c.in-Need.is) in
+    fails _ c.from_residual-in_err-late-in-Need.result c.from_residual-in_err-late-in-Need.ensures.1
+    (stops_behind (to_same round c.loop.invariant.played)
+    (stops_in (or_late (run_body (rounds - (c.loop.counter + 1)) c.args.body.now c.loop.said) None c.loop.said) c.in_err-late-in-Need.ensures.plays))
 
 pub returns-in_err-late-in-Need-clause-runs : goal.returns-in_err-late-in-Need-clause-runs
 returns-in_err-late-in-Need-clause-runs g c =
@@ -40,6 +58,14 @@ returns-in_err-late-in-Need-clause-runs g c =
     (subst (λ (e : WatchError). Fetches g.B.Backend.known g.B.Backend.goes c.loop.backend c.loop.watching c.in-Need.address
     (Err e) c.fetch.new.backend c.fetch.new.watching) (sym p.2) c.in_err-late-in-Need.ensures.fetches)
 
+pub returns-in_err-push-in-Need-clause-plays : goal.returns-in_err-push-in-Need-clause-plays
+returns-in_err-push-in-Need-clause-plays g c =
+    let round = run_round c.loop.counter c.args.body.now c.loop.said c.loop.watching (need c.in-Need.address) c.loop-test.true
+    (sym c.in_ok-run.ensures ∙ ap ran_of c.in-Need.is) in
+    fails _ c.from_residual-in_err-push-in-Need.result c.from_residual-in_err-push-in-Need.ensures.1
+    (wants (and_then (to_same round c.loop.invariant.played)
+    (in_bind (or_late (run_body (rounds - (c.loop.counter + 1)) c.args.body.now c.loop.said) None c.loop.said) c.in_ok-late-in-Need.ensures.plays)))
+
 pub returns-in_err-push-in-Need-clause-runs : goal.returns-in_err-push-in-Need-clause-runs
 returns-in_err-push-in-Need-clause-runs g c =
     let p = err_from_is_err_and c.from_residual-in_err-push-in-Need.result c.from_residual-in_err-push-in-Need.ensures.1 in
@@ -48,6 +74,21 @@ returns-in_err-push-in-Need-clause-runs g c =
     c.fetch.new.backend c.fetch.new.watching c.fetch.new.watching c.in-Some.late c.push.new.self p.1 p.2
     (subst (λ (o : Option Reply). Fetches g.B.Backend.known g.B.Backend.goes c.loop.backend c.loop.watching c.in-Need.address
     (Ok o) c.fetch.new.backend c.fetch.new.watching) c.in-Some.is c.in_ok-late-in-Need.ensures.fetches)
+
+pub returns-in-Done-clause-plays : goal.returns-in-Done-clause-plays
+returns-in-Done-clause-plays g c =
+    to_same (run_round c.loop.counter c.args.body.now c.loop.said c.loop.watching (done c.in-Done.run') c.loop-test.true
+    (sym c.in_ok-run.ensures ∙ ap ran_of c.in-Done.is)) c.loop.invariant.played
+
+pub returns-in-Some-clause-plays : goal.returns-in-Some-clause-plays
+returns-in-Some-clause-plays g c =
+    let round = run_round c.loop.counter c.args.body.now c.loop.said c.loop.watching (need c.in-Need.address) c.loop-test.true
+    (sym c.in_ok-run.ensures ∙ ap ran_of c.in-Need.is) in
+    let none : Option Run = None in
+    let more = or_late (run_body (rounds - (c.loop.counter + 1)) c.args.body.now c.loop.said) none c.loop.said in
+    and_then (to_same round c.loop.invariant.played) (bound more c.in_ok-late-in-Need.ensures.plays
+    (at_once (ap (λ o. more (o, c.fetch.new.watching)) c.in-Some.is
+    ∙ ap (λ said. Program.ends (none, c.fetch.new.watching, said)) (sym c.in_ok-push-in-Need.ensures.ok))))
 
 pub returns-in-Some-clause-runs : goal.returns-in-Some-clause-runs
 returns-in-Some-clause-runs g c = λ name.
@@ -65,7 +106,13 @@ loop-preserved g c =
     subst (λ (o : Option Reply). Fetches g.B.Backend.known g.B.Backend.goes c.loop.backend c.loop.watching c.in-Need.address
     (Ok o) c.fetch.new.backend c.fetch.new.watching) (none-else _ c.in_default.not-Some) c.in_ok-late-in-Need.ensures.fetches in
     let up : suc c.loop.counter ≡ c.loop.counter + 1 = omega arith in
+    let round = run_round c.loop.counter c.args.body.now c.loop.said c.loop.watching (need c.in-Need.address) c.loop-test.true
+    (sym c.in_ok-run.ensures ∙ ap ran_of c.in-Need.is) in
+    let more = or_late (run_body (rounds - (c.loop.counter + 1)) c.args.body.now c.loop.said) None c.loop.said in
     record {
+      played = and_then (to_same round c.loop.invariant.played)
+          (bound more c.in_ok-late-in-Need.ensures.plays
+          (at_once (ap (λ o. more (o, c.fetch.new.watching)) (none-else _ c.in_default.not-Some))));
       led = run-fetched g.B.Backend.known g.B.Backend.goes c.args.body.now c.args.backend.now c.args.watching.now c.args.said.now c.loop.backend
           c.loop.watching c.loop.invariant.led c.in-Need.address (sym c.in_ok-run.ensures ∙ ap ran_of c.in-Need.is) c.fetch.new.backend
           c.fetch.new.watching fetched;

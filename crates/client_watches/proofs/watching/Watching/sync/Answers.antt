@@ -1,10 +1,46 @@
 use Rattle.std.proofs.Common.{[], Err, refl, subst, sym, ap}
 use Rattle.std.proofs.lemmas.Result.{err_from_is_err_and}
+use Rattle.call_programs.specs.Programs.{Program, bind, Leads}
+use Rattle.call_programs.proofs.Programs.{bound, stops_in, stops_after, fails}
 use Rattle.client_watches.specs.declared.error.WatchError.{WatchError}
-use Rattle.client_watches.specs.Phases.{Goal, settled, rerun_all, ending, start_sync}
+use Rattle.client_watches.specs.declared.watching.Watching.{Watching}
+use Rattle.client_watches.specs.Lines as lines
+use Rattle.client_watches.specs.Watching.{none_loose}
+use Rattle.client_watches.specs.Phases.{Goal, rerun_all, ending, start_sync}
 use Rattle.client_watches.specs.Leading.{Takes, Continues, Drops}
 use Rattle.client_watches.proofs.Steps.{here, to-same, and-then, stopped-here, stops-behind, went-err, line-ends, line-breaks}
+use Rattle.client_watches.proofs.Parts.{wants}
 use Rattle.client_watches.proofs.watching.Watching.sync.Goals as goal
+
+-- what follows once what changed was told
+abbrev rest : Watching → Program lines.Told
+rest v = bind (lines.say_current [] v) lines.ending
+
+pub returns-in_err-said-clause-plays : goal.returns-in_err-said-clause-plays
+returns-in_err-said-clause-plays g c = fails _ c.from_residual.result c.from_residual.ensures.1 (wants Leads.stays)
+
+pub returns-in_err-take-clause-plays : goal.returns-in_err-take-clause-plays
+returns-in_err-take-clause-plays g c =
+    fails _ c.from_residual-in_err-take.result c.from_residual-in_err-take.ensures.1 (stops_in rest c.in_err-take.ensures.plays)
+
+pub returns-in_err-say_current-clause-plays : goal.returns-in_err-say_current-clause-plays
+returns-in_err-say_current-clause-plays g c =
+    let said = rw c.in_ok-said.ensures at c.in_err-say_current.ensures.plays in
+    fails _ c.from_residual-in_err-say_current.result c.from_residual-in_err-say_current.ensures.1
+    (stops_after rest c.in_ok-take.ensures.plays (stops_in lines.ending said))
+
+pub returns-in_err-drop_idle-clause-plays : goal.returns-in_err-drop_idle-clause-plays
+returns-in_err-drop_idle-clause-plays g c =
+    let said = rw c.in_ok-said.ensures at c.in_ok-say_current.ensures.plays in
+    fails _ c.from_residual-in_err-drop_idle.result c.from_residual-in_err-drop_idle.ensures.1
+    (stops_after rest c.in_ok-take.ensures.plays (stops_after lines.ending said
+    (stops_in (λ w. Program.ends (w, c.say_current.new.said)) c.in_err-drop_idle.ensures.plays)))
+
+pub returns-clause-plays : goal.returns-clause-plays
+returns-clause-plays g c =
+    let said = rw c.in_ok-said.ensures at c.in_ok-say_current.ensures.plays in
+    bound rest c.in_ok-take.ensures.plays (bound lines.ending said
+    (bound (λ w. Program.ends (w, c.say_current.new.said)) c.in_ok-drop_idle.ensures.plays Leads.stays))
 
 pub returns-in_err-said-clause-went : goal.returns-in_err-said-clause-went
 returns-in_err-said-clause-went g c =
@@ -50,7 +86,7 @@ returns-in_err-drop_idle-clause-went g c =
     (rerun_all Goal.current c.take.new.watching []) (rerun_all Goal.current c.take.new.watching c.in_ok-said.said)
     (ap (rerun_all Goal.current c.take.new.watching) (sym c.in_ok-said.ensures)) (c.in_ok-take.ensures.takes Goal.current))
     c.in_ok-say_current.ensures.continues)
-    (subst (λ (e : WatchError). Drops g.B.Backend.known g.B.Backend.goes c.say_current.new.backend (settled c.say_current.new.watching)
+    (subst (λ (e : WatchError). Drops g.B.Backend.known g.B.Backend.goes c.say_current.new.backend (none_loose c.say_current.new.watching)
     c.say_current.new.watching.loose (Err e) c.drop_idle.new.backend c.drop_idle.new.watching) (sym p.2) c.in_err-drop_idle.ensures.drops))
 
 pub returns-clause-went : goal.returns-clause-went

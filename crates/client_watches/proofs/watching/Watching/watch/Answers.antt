@@ -3,12 +3,56 @@ use Rattle.std.proofs.lemmas.Result.{err_from_is_err_and}
 use Rattle.session_text.specs.declared.reply.Reply.TheVariants as reply
 use Rattle.session_text.specs.declared.reply.Why.TheVariants as why
 use Rattle.rerun_driver.specs.Watches.{watch_of}
+use Rattle.call_programs.specs.Programs.{Program, Leads}
+use Rattle.call_programs.proofs.Programs.{and_then, bound, here as at_once, stops_in, stops_after, stops_behind, fails}
 use Rattle.client_watches.specs.declared.error.WatchError.{WatchError}
-use Rattle.client_watches.specs.Phases.{Phase, Goal, settled, rerun_all, ending, start_watch}
+use Rattle.client_watches.specs.Lines as lines
+use Rattle.client_watches.specs.Watching.{none_loose}
+use Rattle.client_watches.specs.Phases.{Phase, Goal, rerun_all, ending, start_watch}
 use Rattle.client_watches.specs.Leading.{Takes, Continues, Drops}
 use Rattle.client_watches.proofs.Lined.{free-name}
+use Rattle.client_watches.proofs.Parts.{wants, made_after, watch_refused, watch_made}
 use Rattle.client_watches.proofs.Steps.{here, to-same, and-then, stopped-here, stops-behind, went-err, line-ends, line-breaks}
 use Rattle.client_watches.proofs.watching.Watching.watch.Goals as goal
+
+pub returns-in_err-refusal-clause-plays : goal.returns-in_err-refusal-clause-plays
+returns-in_err-refusal-clause-plays g c = fails _ c.from_residual.result c.from_residual.ensures.1 (wants Leads.stays)
+
+pub returns-then-has-clause-plays : goal.returns-then-has-clause-plays
+returns-then-has-clause-plays g c =
+    at_once (watch_refused c.args.self.now c.args.name c.args.body (sym c.has.ensures ∙ c.if-has.true)
+    ∙ ap (λ said. Program.ends (c.args.self.now, said)) (sym c.in_ok-refusal.ensures))
+
+pub returns-in_err-said-clause-plays : goal.returns-in_err-said-clause-plays
+returns-in_err-said-clause-plays g c = fails _ c.from_residual-in_err-said.result c.from_residual-in_err-said.ensures.1 (wants Leads.stays)
+
+pub returns-in_err-take-clause-plays : goal.returns-in_err-take-clause-plays
+returns-in_err-take-clause-plays g c =
+    let begun = at_once (watch_made c.args.self.now c.args.name c.args.body (sym c.has.ensures ∙ c.if-has.false)) in
+    fails _ c.from_residual-in_err-take.result c.from_residual-in_err-take.ensures.1
+    (stops_behind begun (stops_in (made_after c.args.name c.args.body) c.in_err-take.ensures.plays))
+
+pub returns-in_err-make-clause-plays : goal.returns-in_err-make-clause-plays
+returns-in_err-make-clause-plays g c =
+    let begun = at_once (watch_made c.args.self.now c.args.name c.args.body (sym c.has.ensures ∙ c.if-has.false)) in
+    let made = rw c.in_ok-said.ensures at c.in_err-make.ensures.plays in
+    fails _ c.from_residual-in_err-make.result c.from_residual-in_err-make.ensures.1
+    (stops_behind begun (stops_after (made_after c.args.name c.args.body) c.in_ok-take.ensures.plays (stops_in lines.ending made)))
+
+pub returns-in_err-drop_idle-clause-plays : goal.returns-in_err-drop_idle-clause-plays
+returns-in_err-drop_idle-clause-plays g c =
+    let begun = at_once (watch_made c.args.self.now c.args.name c.args.body (sym c.has.ensures ∙ c.if-has.false)) in
+    let made = rw c.in_ok-said.ensures at c.in_ok-make.ensures.plays in
+    fails _ c.from_residual-in_err-drop_idle.result c.from_residual-in_err-drop_idle.ensures.1
+    (stops_behind begun (stops_after (made_after c.args.name c.args.body) c.in_ok-take.ensures.plays (stops_after lines.ending made
+    (stops_in (λ w. Program.ends (w, c.make.new.said)) c.in_err-drop_idle.ensures.plays))))
+
+pub returns-clause-plays : goal.returns-clause-plays
+returns-clause-plays g c =
+    let begun = at_once (watch_made c.args.self.now c.args.name c.args.body (sym c.has.ensures ∙ c.if-has.false)) in
+    let made = rw c.in_ok-said.ensures at c.in_ok-make.ensures.plays in
+    and_then begun (bound (made_after c.args.name c.args.body) c.in_ok-take.ensures.plays (bound lines.ending made
+    (bound (λ w. Program.ends (w, c.make.new.said)) c.in_ok-drop_idle.ensures.plays Leads.stays)))
 
 pub returns-in_err-refusal-clause-went : goal.returns-in_err-refusal-clause-went
 returns-in_err-refusal-clause-went g c =
@@ -92,7 +136,7 @@ returns-in_err-drop_idle-clause-went g c =
     (rerun_all aim c.take.new.watching []) (rerun_all aim c.take.new.watching c.in_ok-said.said)
     (ap (rerun_all aim c.take.new.watching) (sym c.in_ok-said.ensures)) (c.in_ok-take.ensures.takes aim)))
     c.in_ok-make.ensures.continues)
-    (subst (λ (e : WatchError). Drops g.B.Backend.known g.B.Backend.goes c.make.new.backend (settled c.make.new.watching)
+    (subst (λ (e : WatchError). Drops g.B.Backend.known g.B.Backend.goes c.make.new.backend (none_loose c.make.new.watching)
     c.make.new.watching.loose (Err e) c.drop_idle.new.backend c.drop_idle.new.watching) (sym p.2) c.in_err-drop_idle.ensures.drops))
 
 pub returns-clause-went : goal.returns-clause-went

@@ -1,0 +1,110 @@
+-- What functions owe that perform parts of a line, and what these parts come to.
+use Rattle.std.proofs.Common.{◌≡◌, ℕ, suc, ◌+◌, ◌-◌, ◌<◌, true, false, cond, List, [], ◌∷◌, Option, Some, None, is_some}
+use Rattle.std.proofs.Common.{Ok, refl, sym, ap, ◌∙◌, arith}
+use Rattle.plain_data.specs.Texts.{Bytes}
+use Rattle.rdt_types.specs.declared.address.Address.{Address}
+use Rattle.rdt_types.specs.declared.value.Value.{Value}
+use Rattle.session_text.specs.declared.reply.Reply.{Reply}
+use Rattle.session_text.specs.declared.reply.Reply.TheVariants as reply
+use Rattle.session_text.specs.declared.reply.Why.TheVariants as why
+use Rattle.txn_lang.specs.declared.checked.Checked.{Checked}
+use Rattle.txn_lang.specs.declared.limits.TheConstants.{TICK_LIMIT}
+use Rattle.txn_lang.specs.Execution.{Ran, exec}
+use Rattle.client_cache.specs.Cached.{held}
+use Rattle.rerun_driver.specs.declared.rerun.Rerun.{Rerun}
+use Rattle.rerun_driver.specs.Watches.{watch_of, next_rerun}
+use Rattle.docc_prepare.specs.declared.backend.StoreError.{StoreError}
+use Rattle.docc_prepare.specs.declared.backend.StoreError.TheVariants as store_error
+use Rattle.docc_prepare.specs.Calls.{Call, Answer, store_failed}
+use Rattle.call_programs.specs.Programs.{Program, bind, Leads, Stops, Succeeds}
+use Rattle.call_programs.proofs.Programs.{call_failed}
+use Rattle.client_watches.specs.declared.error.WatchError.TheVariants as error
+use Rattle.client_watches.specs.declared.watching.Watching.{Watching}
+use Rattle.client_watches.specs.Errors.{error_of}
+use Rattle.client_watches.specs.Leading.{IsLateBy}
+use Rattle.client_watches.specs.Watching.{with_value, without}
+use Rattle.client_watches.specs.Lines.{Told, rounds, read, rerun_by, rerun_one, run_by, run_body, take_feed, make, ending, watch, unwatch}
+
+-- ---- what stops
+
+-- memory is wanting somewhere, and that is no fault
+pub wants : {S A : Type 0} {goes : S → Call → Answer → S → Type 0} {s t : S} {p q : Program A} → Leads goes s p t q
+    → Stops goes s p (error.NoMemory ≡ error.StoreFault) t
+wants led = Stops.wants led (λ is. cc)
+
+-- only a fault of the store is told as one
+told_fault : (x : StoreError) → error_of x ≡ error.StoreFault → x ≡ store_error.Fault
+told_fault store_error.Fault is = refl
+told_fault store_error.NoMemory is = absurd (cc)
+
+-- a call has failed, and its error is handed on
+pub failed : {S A : Type 0} {goes : S → Call → Answer → S → Type 0} {s t : S} {call : Call} {next : Answer → Program A} (x : StoreError)
+    → goes s call (store_failed x) t → Stops goes s (Program.asks call next) (error_of x ≡ error.StoreFault) t
+failed x step = call_failed x step (told_fault x)
+
+-- ---- rounds
+
+-- of those that are left this is one
+one_round : (i : ℕ) → i < TICK_LIMIT + 1 → rounds - i ≡ suc (rounds - (i + 1))
+unfolding rounds
+one_round i within = omega arith
+
+-- all are left at first
+pub no_round_yet : rounds ≡ rounds - 0
+no_round_yet = omega arith
+
+-- a round of a rerun does what runs next
+pub rerun_round : (i : ℕ) (said : List Reply) (w : Watching) (r : Rerun) → i < TICK_LIMIT + 1 → next_rerun (held w.cache) w.watches ≡ r
+    → rerun_one (rounds - i) said w ≡ rerun_by (rerun_one (rounds - (i + 1)) said) w said r
+rerun_round i said w r within next =
+    ap (λ (n : ℕ). rerun_one n said w) (one_round i within) ∙ ap (rerun_by (rerun_one (rounds - (i + 1)) said) w said) next
+
+-- a round of a first run does what its body comes to
+pub run_round : (i : ℕ) (body : Checked) (said : List Reply) (w : Watching) (r : Ran) → i < TICK_LIMIT + 1 → exec body.body (held w.cache) ≡ r
+    → run_body (rounds - i) body said w ≡ run_by (run_body (rounds - (i + 1)) body said) w said r
+run_round i body said w r within next =
+    ap (λ (n : ℕ). run_body n body said w) (one_round i within) ∙ ap (run_by (run_body (rounds - (i + 1)) body said) w said) next
+
+-- ---- values
+
+-- where a value was late, that is the reply
+pub read_late : (w : Watching) (address : Address) (late : Reply) (answer : Answer) → IsLateBy answer (Ok late)
+    → read w address answer ≡ Program.ends (Some late, w)
+read_late w address late (Answer.late n horizon) is = ap (λ (r : Reply). Program.ends (Some r, w)) (sym is)
+read_late w address late answer is = absurd is
+
+-- and its call hasn't failed
+pub late_succeeds : (late : Reply) (answer : Answer) → IsLateBy answer (Ok late) → Succeeds answer
+late_succeeds late (Answer.late n horizon) is = tt
+late_succeeds late answer is = absurd is
+
+-- what a value that was asked for comes to: it is held, or it was late and nothing is another
+abbrev pub IsFetched : Watching → Address → Option Reply → Watching → Type 0
+IsFetched w address None v = (value : Value) × (v ≡ with_value w address value)
+IsFetched w address (Some late) v = v ≡ w
+
+-- ---- lines
+
+-- what follows once what changed was told, where a new watch is to be made
+abbrev pub made_after : Bytes → Checked → Watching → Program Told
+made_after name body v = bind (make name body [] v) ending
+
+-- a name that is in use is refused
+pub watch_refused : (w : Watching) (name : Bytes) (body : Checked) → is_some (watch_of w.watches name) ≡ true
+    → watch w name body ≡ Program.ends (w, reply.Refused why.Name ∷ [])
+watch_refused w name body e = ap (λ b. cond b (Program.ends (w, reply.Refused why.Name ∷ [])) (bind (take_feed w) (made_after name body))) e
+
+-- a name that is free is watched
+pub watch_made : (w : Watching) (name : Bytes) (body : Checked) → is_some (watch_of w.watches name) ≡ false
+    → watch w name body ≡ bind (take_feed w) (made_after name body)
+watch_made w name body e = ap (λ b. cond b (Program.ends (w, reply.Refused why.Name ∷ [])) (bind (take_feed w) (made_after name body))) e
+
+-- a name that no watch has is refused
+pub unwatch_refused : (w : Watching) (name : Bytes) → is_some (watch_of w.watches name) ≡ false
+    → unwatch w name ≡ Program.ends (w, reply.Refused why.NoAttempt ∷ [])
+unwatch_refused w name e = ap (λ b. cond b (ending (without w name, reply.Dropped ∷ [])) (Program.ends (w, reply.Refused why.NoAttempt ∷ []))) e
+
+-- the watch of a name is forgotten
+pub unwatch_named : (w : Watching) (name : Bytes) → is_some (watch_of w.watches name) ≡ true
+    → unwatch w name ≡ ending (without w name, reply.Dropped ∷ [])
+unwatch_named w name e = ap (λ b. cond b (ending (without w name, reply.Dropped ∷ [])) (Program.ends (w, reply.Refused why.NoAttempt ∷ []))) e
