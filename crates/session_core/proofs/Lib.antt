@@ -13,6 +13,7 @@ pub mod Steps
 pub mod Watched
 pub mod Starts
 pub mod Performing
+pub mod LinePerforming
 pub mod Ends
 pub mod Faults
 pub mod Tries

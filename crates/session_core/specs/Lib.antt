@@ -5,6 +5,7 @@ pub mod Bodies
 pub mod Lines
 pub mod Phases
 pub mod Verbs
+pub mod LinePrograms
 pub mod Holding
 pub mod Leading
 pub mod Explained

@@ -1,4 +1,5 @@
-use Rattle.std.proofs.Common.{inr}
+use Rattle.std.proofs.Common.{◌≡◌, Some, None, inr, sym, ◌∙◌}
+use Rattle.session_core.proofs.LinePerforming.{performs_err}
 use Rattle.session_core.specs.Lines.{line_of}
 use Rattle.session_core.proofs.Faults.{went-fault}
 use Rattle.session_core.specs.Holding.{Attends}
@@ -35,3 +36,12 @@ returns-in-Err-clause-denied g c = c.turn-turn.ensures.accounted.denied
 
 pub returns-in-Err-clause-knows : goal.returns-in-Err-clause-knows
 returns-in-Err-clause-knows g c = c.turn-turn.ensures.accounted.knows
+
+pub returns-in-Some-clause-plays : goal.returns-in-Some-clause-plays
+returns-in-Some-clause-plays g c = λ none. let both : Some c.in-Some.error ≡ None = sym c.in-Some.is ∙ none in absurd (cc)
+
+pub returns-in-Err-clause-plays : goal.returns-in-Err-clause-plays
+returns-in-Err-clause-plays g c = λ none. performs_err _ _ _ _ _ _ _ c.turn-turn.result c.in-Err.is c.turn-turn.ensures.plays
+
+pub returns-in_default-turn-clause-plays : goal.returns-in_default-turn-clause-plays
+returns-in_default-turn-clause-plays g c = λ none. c.turn-turn.ensures.plays

@@ -1,4 +1,5 @@
-use Rattle.std.proofs.Common.{inr}
+use Rattle.std.proofs.Common.{◌≡◌, Some, None, inr, sym, ◌∙◌}
+use Rattle.session_core.proofs.LinePerforming.{performs_err}
 use Rattle.session_core.specs.declared.line.Line.TheVariants as asked
 use Rattle.session_core.proofs.Faults.{went-fault}
 use Rattle.session_core.proofs.session.Session.waited.Goals as goal
@@ -7,3 +8,12 @@ pub returns-in-Err-clause-fault : goal.returns-in-Err-clause-fault
 returns-in-Err-clause-fault g c = λ h. inr (went-fault g.B.Backend.known g.B.Backend.goes c.args.backend.now c.args.self.now
     asked.Sync c.sync_turn-turn.result c.sync_turn-turn.new.backend c.sync_turn-turn.new.session
     c.sync_turn-turn.ensures.went h)
+
+pub returns-in-Some-clause-plays : goal.returns-in-Some-clause-plays
+returns-in-Some-clause-plays g c = λ none. let both : Some c.in-Some.error ≡ None = sym c.in-Some.is ∙ none in absurd (cc)
+
+pub returns-in-Err-clause-plays : goal.returns-in-Err-clause-plays
+returns-in-Err-clause-plays g c = λ none. performs_err _ _ _ _ _ _ _ c.sync_turn-turn.result c.in-Err.is c.sync_turn-turn.ensures.plays
+
+pub returns-in_default-turn-clause-plays : goal.returns-in_default-turn-clause-plays
+returns-in_default-turn-clause-plays g c = λ none. c.sync_turn-turn.ensures.plays
