@@ -19,4 +19,7 @@ pub mod Saying
 pub mod Safe
 pub mod Within
 pub mod Seen
+pub mod Hearing
 pub mod Explaining
+pub mod Making
+pub mod Forgotten
