@@ -1,5 +1,5 @@
 -- What functions of a session perform, put together: events, attempts, looks, and the verbs that are made of them.
-use Rattle.std.proofs.Common.{◌≡◌, ℕ, suc, ◌+◌, ◌-◌, ◌<◌, ◌≤◌, Bool, true, false, cond, Option, Some, None, Result, Ok, Err}
+use Rattle.std.proofs.Common.{◌≡◌, ℕ, suc, ◌+◌, ◌-◌, ◌<◌, ◌≤◌, true, false, cond, Option, Some, None, Result, Ok, Err}
 use Rattle.std.proofs.Common.{refl, sym, ap, ◌∙◌, subst, arith}
 use Rattle.std.specs.Prelude.{nat_lt}
 use Rattle.std.specs.Option.{is_some}
@@ -19,7 +19,7 @@ use Rattle.docc_prepare.specs.Attempts.{SnapList, next_event}
 use Rattle.docc_prepare.specs.Calls.{Known, Call, Answer}
 use Rattle.docc_prepare.specs.Backends.{Goes}
 use Rattle.call_programs.specs.Programs.{Program, bind, Leads, Stops, Performs, Succeeds}
-use Rattle.call_programs.proofs.Programs.{and_then, in_bind, bound, one_call, stops_in, stops_behind, call_broken}
+use Rattle.call_programs.proofs.Programs.{and_then, bound, one_call, stops_in, stops_behind, call_broken}
 use Rattle.session_core.specs.declared.limits.TheConstants.{MOST_EVENTS}
 use Rattle.session_core.specs.declared.error.SessionError.{SessionError}
 use Rattle.session_core.specs.declared.error.SessionError.TheVariants as error

@@ -1,6 +1,6 @@
 -- What a line of a session does, as a program of calls: a row a form of line. Those of watches stand on the programs of
 -- client_watches, and the others on `specs/Verbs`.
-use Rattle.std.specs.Prelude.{◌≡◌, ℕ, nat_lt, if◌then◌else◌, [], ◌∷◌, Option, Some, None, refl}
+use Rattle.std.specs.Prelude.{◌≡◌, ℕ, nat_lt, if◌then◌else◌, [], ◌∷◌, Some, None, refl}
 use Rattle.plain_data.specs.Texts.{Bytes}
 use Rattle.session_text.specs.declared.reply.Reply.TheVariants as reply
 use Rattle.txn_lang.specs.declared.checked.Checked.{Checked}

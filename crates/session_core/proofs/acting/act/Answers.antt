@@ -3,10 +3,9 @@ use Rattle.std.proofs.lemmas.Result.{err_from_is_err_and}
 use Rattle.session_text.specs.declared.reply.Reply.TheVariants as reply
 use Rattle.session_core.specs.declared.turn.Turn.TheVariants as turn
 use Rattle.session_core.specs.Phases.{Phase, closed, said, start}
-use Rattle.session_text.specs.declared.reply.Reply.{Reply}
 use Rattle.call_programs.specs.Programs.{Program, Leads, Stops}
 use Rattle.call_programs.proofs.Programs.{here, fails}
-use Rattle.session_core.specs.Verbs.{says, begin, commit, step, go, give_up, look}
+use Rattle.session_core.specs.Verbs.{says, begin, commit, step, go, give_up}
 use Rattle.session_core.specs.LinePrograms.{line_over}
 use Rattle.session_core.proofs.Performing.{no_fault, performs_behind, performs_made}
 use Rattle.session_core.proofs.LinePerforming.{said_plays}
