@@ -32,3 +32,5 @@ pub mod Talked
 pub mod GoingOn
 pub mod Unbroken
 pub mod Went
+pub mod Within
+pub mod AskingFew

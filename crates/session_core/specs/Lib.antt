@@ -12,5 +12,6 @@ pub mod Explained
 pub mod Bounds
 pub mod GoingOn
 pub mod Sessions
+pub mod LineLaws
 pub mod Remembering
 pub mod code

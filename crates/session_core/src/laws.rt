@@ -2,6 +2,7 @@
 
 ghost use Rattle.session_core.specs.Bounds.{LinesAreBounded, TriesAreFew, CallsSuffice};
 ghost use Rattle.session_core.specs.GoingOn.{FailuresAloneBreak, LinesAreReady, SessionsGoOn};
+ghost use Rattle.session_core.specs.LineLaws.{LinesAskFew, MostCallsAreEnough};
 ghost use Rattle.session_core.specs.Lines.{VerbsAreForms};
 ghost use Rattle.session_core.specs.Sessions.{ExplainsStays, SessionsAreExplained};
 
@@ -49,4 +50,14 @@ pub fn sessions_go_on()
 /// The law that only a failed call breaks a line.
 pub fn failures_alone_break()
     ensures { FailuresAloneBreak }
+{}
+
+/// The law that a line asks no more calls than its form allows, whatever it is answered: as a fact of its program.
+pub fn lines_ask_few()
+    ensures { LinesAskFew }
+{}
+
+/// The law that a line without watches which was read asks no more than `MOST_CALLS` calls.
+pub fn most_calls_are_enough()
+    ensures { MostCallsAreEnough }
 {}
