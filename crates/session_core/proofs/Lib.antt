@@ -34,3 +34,7 @@ pub mod Unbroken
 pub mod Went
 pub mod Within
 pub mod AskingFew
+pub mod Safe
+pub mod WatchCalls
+pub mod WatchesBehind
+pub mod LinesSafe

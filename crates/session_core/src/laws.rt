@@ -2,7 +2,7 @@
 
 ghost use Rattle.session_core.specs.Bounds.{LinesAreBounded, TriesAreFew, CallsSuffice};
 ghost use Rattle.session_core.specs.GoingOn.{FailuresAloneBreak, LinesAreReady, SessionsGoOn};
-ghost use Rattle.session_core.specs.LineLaws.{LinesAskFew, MostCallsAreEnough};
+ghost use Rattle.session_core.specs.LineLaws.{LinesAskFew, MostCallsAreEnough, LinesAreSafe};
 ghost use Rattle.session_core.specs.Lines.{VerbsAreForms};
 ghost use Rattle.session_core.specs.Sessions.{ExplainsStays, SessionsAreExplained};
 
@@ -60,4 +60,9 @@ pub fn lines_ask_few()
 /// The law that a line without watches which was read asks no more than `MOST_CALLS` calls.
 pub fn most_calls_are_enough()
     ensures { MostCallsAreEnough }
+{}
+
+/// The law that each call of a line may be made, that its program is stuck nowhere, and that the session goes on behind it.
+pub fn lines_are_safe()
+    ensures { LinesAreSafe }
 {}
