@@ -38,3 +38,5 @@ pub mod Safe
 pub mod WatchCalls
 pub mod WatchesBehind
 pub mod LinesSafe
+pub mod Telling
+pub mod LinesTell

@@ -2,7 +2,7 @@
 
 ghost use Rattle.session_core.specs.Bounds.{LinesAreBounded, TriesAreFew, CallsSuffice};
 ghost use Rattle.session_core.specs.GoingOn.{FailuresAloneBreak, LinesAreReady, SessionsGoOn};
-ghost use Rattle.session_core.specs.LineLaws.{LinesAskFew, MostCallsAreEnough, LinesAreSafe};
+ghost use Rattle.session_core.specs.LineLaws.{LinesAskFew, MostCallsAreEnough, LinesAreSafe, LinesAnswerForThemselves};
 ghost use Rattle.session_core.specs.Lines.{VerbsAreForms};
 ghost use Rattle.session_core.specs.Sessions.{ExplainsStays, SessionsAreExplained};
 
@@ -65,4 +65,9 @@ pub fn most_calls_are_enough()
 /// The law that each call of a line may be made, that its program is stuck nowhere, and that the session goes on behind it.
 pub fn lines_are_safe()
     ensures { LinesAreSafe }
+{}
+
+/// The law that a line answers for all that it does: the client's commits and denials.
+pub fn lines_answer_for_themselves()
+    ensures { LinesAnswerForThemselves }
 {}
