@@ -40,3 +40,5 @@ pub mod WatchesBehind
 pub mod LinesSafe
 pub mod Telling
 pub mod LinesTell
+pub mod AttemptsExplained
+pub mod LinesExplained

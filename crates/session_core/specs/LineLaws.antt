@@ -1,12 +1,12 @@
 -- What lines of a session keep to, whatever they are answered: laws of their programs.
-use Rattle.std.specs.Prelude.{◌≡◌, ◌≤◌, ℕ, List, []}
+use Rattle.std.specs.Prelude.{◌≡◌, ◌≤◌, ℕ, List, [], Ok}
 use Rattle.dio_core.specs.Told.{WhereTold}
 use Rattle.session_text.specs.declared.reply.Reply.{Reply}
 use Rattle.txn_grammar.specs.Characters.{Text}
 use Rattle.docc_prepare.specs.Calls.{Known}
 use Rattle.docc_prepare.specs.Backends.{IsAnswered}
 use Rattle.call_programs.specs.Programs.{Always}
-use Rattle.call_programs.specs.Safe.{IsSafe, IsWithin}
+use Rattle.call_programs.specs.Safe.{IsSafe, AlwaysEnds, IsWithin}
 use Rattle.client_watches.specs.Keeping.{AreDistinct}
 use Rattle.session_core.specs.declared.limits.TheConstants.{MOST_CALLS}
 use Rattle.session_core.specs.declared.line.Line.{Line}
@@ -14,7 +14,7 @@ use Rattle.session_core.specs.declared.session.Session.{Session}
 use Rattle.session_core.specs.Bounds.{most_calls, IsPlain}
 use Rattle.session_core.specs.Lines.{line_of}
 use Rattle.session_core.specs.Holding.{BodyIsReady, Attends}
-use Rattle.session_core.specs.Explained.{replies_in}
+use Rattle.session_core.specs.Explained.{replies_in, IsExplained}
 use Rattle.session_core.specs.Sessions.{OwnsAnswered, denied_by_all}
 use Rattle.session_core.specs.LinePrograms.{line, line_over}
 
@@ -54,3 +54,12 @@ abbrev pub LinesAnswerForThemselves : Type 0
 LinesAnswerForThemselves =
     (k : Known) (s : Session) (asked : Line) → Attends k s
     → Always (λ l call. AnswersFor k l []) IsAnswered (Unit {0}) k (line_over k s asked) (λ l end. AnswersFor k l (replies_in end.1))
+
+-- ---- what explains answers
+
+-- A law: whatever a backend answers by the clause of every call, a line ends with an answer that passes, whatever was shown before, where
+-- the journal is told.
+abbrev pub LinesAreExplained : Type 0
+LinesAreExplained =
+    (k : Known) (s : Session) (asked : Line) → Attends k s → BodyIsReady asked
+    → AlwaysEnds k (line_over k s asked) (λ l end. IsExplained k l s asked (Ok end.1) end.0)

@@ -2,7 +2,7 @@
 
 ghost use Rattle.session_core.specs.Bounds.{LinesAreBounded, TriesAreFew, CallsSuffice};
 ghost use Rattle.session_core.specs.GoingOn.{FailuresAloneBreak, LinesAreReady, SessionsGoOn};
-ghost use Rattle.session_core.specs.LineLaws.{LinesAskFew, MostCallsAreEnough, LinesAreSafe, LinesAnswerForThemselves};
+ghost use Rattle.session_core.specs.LineLaws.{LinesAskFew, MostCallsAreEnough, LinesAreSafe, LinesAnswerForThemselves, LinesAreExplained};
 ghost use Rattle.session_core.specs.Lines.{VerbsAreForms};
 ghost use Rattle.session_core.specs.Sessions.{ExplainsStays, SessionsAreExplained};
 
@@ -70,4 +70,9 @@ pub fn lines_are_safe()
 /// The law that a line answers for all that it does: the client's commits and denials.
 pub fn lines_answer_for_themselves()
     ensures { LinesAnswerForThemselves }
+{}
+
+/// The law that a line ends with an answer that the journal explains, whatever was shown before.
+pub fn lines_are_explained()
+    ensures { LinesAreExplained }
 {}
