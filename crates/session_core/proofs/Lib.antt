@@ -42,3 +42,5 @@ pub mod Telling
 pub mod LinesTell
 pub mod AttemptsExplained
 pub mod LinesExplained
+pub mod Done
+pub mod AllDone

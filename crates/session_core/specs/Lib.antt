@@ -13,5 +13,6 @@ pub mod Bounds
 pub mod GoingOn
 pub mod Sessions
 pub mod LineLaws
+pub mod LineTalks
 pub mod Remembering
 pub mod code

@@ -3,6 +3,7 @@
 ghost use Rattle.session_core.specs.Bounds.{LinesAreBounded, TriesAreFew, CallsSuffice};
 ghost use Rattle.session_core.specs.GoingOn.{FailuresAloneBreak, LinesAreReady, SessionsGoOn};
 ghost use Rattle.session_core.specs.LineLaws.{LinesAskFew, MostCallsAreEnough, LinesAreSafe, LinesAnswerForThemselves, LinesAreExplained};
+ghost use Rattle.session_core.specs.LineTalks.{DoneLinesAreExplained};
 ghost use Rattle.session_core.specs.Lines.{VerbsAreForms};
 ghost use Rattle.session_core.specs.Sessions.{ExplainsStays, SessionsAreExplained};
 
@@ -75,4 +76,9 @@ pub fn lines_answer_for_themselves()
 /// The law that a line ends with an answer that the journal explains, whatever was shown before.
 pub fn lines_are_explained()
     ensures { LinesAreExplained }
+{}
+
+/// The law that all answers of a session are explained by the journal at its end: along the programs of its lines.
+pub fn done_lines_are_explained()
+    ensures { DoneLinesAreExplained }
 {}
