@@ -3,8 +3,10 @@ use Rattle.std.proofs.Common.{◌≡◌, ℕ, ◌<◌, ◌≤◌, true, false, c
 use Rattle.std.specs.Prelude.{nat_lt}
 use Rattle.std.proofs.lemmas.Bool.Decides.{nat_tests}
 use Rattle.session_text.specs.declared.reply.Reply.{Reply}
+use Rattle.dio_core.specs.Counts.{Rose}
 use Rattle.docc_prepare.specs.Calls.{Known, Call, Answer}
 use Rattle.call_programs.specs.Programs.{Program, Leads, Stops, Performs}
+use Rattle.call_programs.proofs.Counted.{counts_over}
 use Rattle.call_programs.proofs.Programs.{bound, stops_in}
 use Rattle.client_watches.specs.declared.error.WatchError.{WatchError}
 use Rattle.client_watches.specs.declared.error.WatchError.TheVariants as watch
@@ -70,3 +72,12 @@ waited_for s seen n more = let test : nat_lt seen n ≡ true = grind (arith, nat
 pub none_to_wait_for : (s : Session) (seen n : ℕ) → n ≤ seen → wait_for s seen n ≡ Program.ends (s, turn.WaitWanted)
 none_to_wait_for s seen n few =
     let test : nat_lt seen n ≡ false = grind (arith, nat_tests) in ap (λ b. cond b (sync s) (Program.ends (s, turn.WaitWanted))) test
+
+-- ---- faults
+
+-- where a fault of the store is told, it was counted
+pub fault_counted : {B A T : Type 0} (known : B → Known) (goes : B → Call → Answer → B → Type 0) (b c : B) (p : Program A) (give : T → A)
+    (r : Result T SessionError) → r ≡ Err error.StoreFault → Plays known goes b p r give c → Rose (known b).faults (known c).faults
+fault_counted known goes b c p give (Ok x) is plays = absurd (cc)
+fault_counted known goes b c p give (Err e) is plays =
+    counts_over known goes b c error.StoreFault p (Err e) give plays (let same : e ≡ error.StoreFault = cc in same)

@@ -1,7 +1,7 @@
 use Rattle.std.proofs.Common.{◌≡◌, Some, None, inr, sym, ◌∙◌}
-use Rattle.session_core.proofs.LinePerforming.{performs_err}
+use Rattle.session_core.specs.LinePrograms.{line_over}
+use Rattle.session_core.proofs.LinePerforming.{performs_err, fault_counted}
 use Rattle.session_core.specs.Lines.{line_of}
-use Rattle.session_core.proofs.Faults.{went-fault}
 use Rattle.session_core.specs.Holding.{Attends}
 use Rattle.session_core.proofs.Ends.{follows-on, where-ok}
 use Rattle.session_core.proofs.session.Session.line.Goals as goal
@@ -12,9 +12,8 @@ returns-in_default-turn-clause-follows g c = follows-on (g.B.Backend.known c.tur
     c.turn-turn.ensures.attends)
 
 pub returns-in-Err-clause-fault : goal.returns-in-Err-clause-fault
-returns-in-Err-clause-fault g c = λ h. inr (went-fault g.B.Backend.known g.B.Backend.goes c.args.backend.now c.args.self.now
-    (line_of c.args.bytes.now) c.turn-turn.result c.turn-turn.new.backend c.turn-turn.new.session
-    c.turn-turn.ensures.went h)
+returns-in-Err-clause-fault g c = λ h. inr (fault_counted g.B.Backend.known g.B.Backend.goes c.args.backend.now c.turn-turn.new.backend
+    (line_over (g.B.Backend.known c.args.backend.now) c.args.self.now (line_of c.args.bytes.now)) (λ turn. (c.turn-turn.new.session, turn)) c.turn-turn.result h c.turn-turn.ensures.plays)
 
 pub returns-in_default-turn-clause-explained : goal.returns-in_default-turn-clause-explained
 returns-in_default-turn-clause-explained g c = c.turn-turn.ensures.accounted.explained
