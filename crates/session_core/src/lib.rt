@@ -3,8 +3,8 @@
 //! language (`txn_parse`, `txn_lang`), on `docc_prepare` (attempts, and what every backend promises) and on `client_watches`; a
 //! script and a server cut input into lines, hand each to a session, and print what it answers.
 //!
-//! Read first `specs/Phases` (what a line does, as a machine of phases) and `specs/Leading` (the steps of a line over a backend).
-//! `specs/Verbs` has the verbs of attempts and looks as programs of calls, one a function of the code.
+//! Read first `specs/LinePrograms` (what a line does, as a program of calls) and `specs/Verbs`, of which that is made; `specs/LineLaws`
+//! says what lines keep to. `specs/Phases` and `specs/Leading` tell a line once more, as a machine of phases and its steps.
 //! `specs/Explained` says which answers a journal explains, and `specs/Sessions` what that makes of whole sessions.
 #![tactic(auto)]
 
