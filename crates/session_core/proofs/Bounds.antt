@@ -164,17 +164,17 @@ pub record HasSpent (a : Attempt) (calls : ℕ) : Type 0 where
   pub all : calls ≤ reads + prepared_below a.fronts a.shards
 
 -- nothing was read, and fronts don't count against an attempt
-none-spent : (a : Attempt) → HasSpent a 0
+pub none-spent : (a : Attempt) → HasSpent a 0
 none-spent a = record { reads = 0; in_turn = tt; all = omega arith }
 
 -- they are no more than the ticks and the shards
-spent-few : (a : Attempt) (calls : ℕ) → HasSpent a calls → calls ≤ TICK_LIMIT + MOST_SHARDS
+pub spent-few : (a : Attempt) (calls : ℕ) → HasSpent a calls → calls ≤ TICK_LIMIT + MOST_SHARDS
 spent-few a calls h =
     let reads = reads_are_few a.body.body h.reads (values_of a.snaps) h.in_turn in
     let fronts = below-all a.fronts a.shards in let all = h.all in let most = a.shards_in_range.1 in omega arith
 
 -- a read is given to the run that needs it, so it is one more read in turn
-spent-read : (a : Attempt) (calls : ℕ) (address : Address) (s : Snap) → next_event a ≡ next.Read address → HasSpent a calls
+pub spent-read : (a : Attempt) (calls : ℕ) (address : Address) (s : Snap) → next_event a ≡ next.Read address → HasSpent a calls
     → HasSpent (with_snap a address s) (calls + 1)
 spent-read a calls address s e h = record {
   reads = suc h.reads;
@@ -183,7 +183,7 @@ spent-read a calls address s e h = record {
 }
 
 -- the shard that is prepared has no front, so one more has one then
-spent-front : (a : Attempt) (calls shard front : ℕ) (run : Run) → next_event a ≡ next.Prepare shard run → HasSpent a calls
+pub spent-front : (a : Attempt) (calls shard front : ℕ) (run : Run) → next_event a ≡ next.Prepare shard run → HasSpent a calls
     → HasSpent (with_front a shard front) (calls + 1)
 spent-front a calls shard front run e h =
     let p = prepares a shard run e in
@@ -202,21 +202,21 @@ pub record HasRead (body : Body) (snaps : SnapList) (reads : ℕ) : Type 0 where
   pub in_turn : AreReadInTurn body reads (values_of snaps)
 
 -- nothing was read
-none-read : (body : Body) (snaps : SnapList) → HasRead body snaps 0
+pub none-read : (body : Body) (snaps : SnapList) → HasRead body snaps 0
 none-read body snaps = record { in_turn = tt }
 
 -- what is read in turn is no more than the ticks
-read-few : (body : Body) (snaps : SnapList) (reads : ℕ) → HasRead body snaps reads → reads ≤ TICK_LIMIT
+pub read-few : (body : Body) (snaps : SnapList) (reads : ℕ) → HasRead body snaps reads → reads ≤ TICK_LIMIT
 read-few body snaps reads h = reads_are_few body reads (values_of snaps) h.in_turn
 
 -- the value goes to the run that needs it
-read-more : (body : Body) (snaps : SnapList) (reads : ℕ) (address : Address) (s : Snap) → exec body (values_of snaps) ≡ need address
+pub read-more : (body : Body) (snaps : SnapList) (reads : ℕ) (address : Address) (s : Snap) → exec body (values_of snaps) ≡ need address
     → HasRead body snaps reads
     → HasRead body (insert_entry address_cmp snaps address s) (suc reads)
 read-more body snaps reads address s e h = record { in_turn = (values_of snaps, h.in_turn, read_next snaps address s body e) }
 
 -- where one more is needed, they are fewer
-read-fewer : (body : Body) (snaps : SnapList) (reads : ℕ) (address : Address) → exec body (values_of snaps) ≡ need address → HasRead body snaps reads
+pub read-fewer : (body : Body) (snaps : SnapList) (reads : ℕ) (address : Address) → exec body (values_of snaps) ≡ need address → HasRead body snaps reads
     → reads < TICK_LIMIT
 read-fewer body snaps reads address e h =
     let s : Snap = record { base = 0; value = default_of address.kind } in
@@ -472,7 +472,7 @@ lines_are_bounded shards seen s l n q distinct comes =
     bounded (most_calls s l) n q (comes-within (most_calls s l) (start shards seen s l) n q (begins-within shards seen s s.attempt l distinct) comes)
 
 -- a line that was read makes few calls
-few-calls : (s : Session) (l : Line) → IsPlain l → ((tries : ℕ) (body : Checked) → l ≡ asked.Try tries body → tries ≤ MOST_ATTEMPTS)
+pub few-calls : (s : Session) (l : Line) → IsPlain l → ((tries : ℕ) (body : Checked) → l ≡ asked.Try tries body → tries ≤ MOST_ATTEMPTS)
     → most_calls s l ≤ MOST_CALLS
 few-calls s (asked.Try tries body) plain few = let h = few tries body refl in omega arith
 few-calls s (asked.Begin body) plain few = omega arith

@@ -99,7 +99,7 @@ module _ (w : Asking) (k : Known) (p : Phase) (holds : PhaseHolds k p) (set : se
 -- ---- a line
 
 -- a line of a session over a backend, and what was shown before it
-abbrev asking : Known → ℕ → ℕ → Session → Option Attempt → Line → Asking
+abbrev pub asking : Known → ℕ → ℕ → Session → Option Attempt → Line → Asking
 asking k low begun s o l = record { set = setting_of k; low = low; begun = begun; session = s; attempt = o; line = l }
 
 -- the first phase of a line that isn't of watches is explained
@@ -133,7 +133,7 @@ begins-explained k low begun s o asked.Seen journal plain below before bases the
 begins-explained k low begun s o asked.Quit journal plain below before bases there = record { passes = refl; session = refl; shown = below }
 
 -- what passes, and leaves the watches as they were, passes for the line
-plain-passes : (set : Setting) (journal : Journal) (y : Story) (l : Line) (t : Turn) (later : ShownList) → PlainPasses set journal y l t → later ≡ y.watches
+pub plain-passes : (set : Setting) (journal : Journal) (y : Story) (l : Line) (t : Turn) (later : ShownList) → PlainPasses set journal y l t → later ≡ y.watches
     → Passes set journal y l t later
 plain-passes set journal y asked.Quiet t later h same = (h, same)
 plain-passes set journal y (asked.Refused reason) t later h same = (h, same)

@@ -257,7 +257,7 @@ outcome-at journal n body snaps run all e = record {
 
 module _ (w : Asking) (journal : Journal) (seen : ℕ) (below : w.low ≤ seen) where
   -- its run is done, so its outcome is that on the prefix
-  look-over : (t : Session) (n : ℕ) (body : Checked) (snaps : SnapList) (run : Run) → IsLooked w journal seen t n body snaps
+  pub look-over : (t : Session) (n : ℕ) (body : Checked) (snaps : SnapList) (run : Run) → IsLooked w journal seen t n body snaps
       → exec body.body (values_of snaps) ≡ done run
       → IsOver w journal seen t (said (reply.At n run.outcome))
   look-over t n body snaps run h e = by h.at
@@ -381,7 +381,7 @@ module _ (w : Asking) (k l : Known) (old new : Journal) (is : setting_of k ≡ w
     shown : (t : Session) (r : Reply) → IsOver (record w { attempt = Some a; line = asked.Step }) new l.seen t (said r) → Shows t r
     shown t r h = over-is w (Some a) asked.Step new l.seen t (said r) eo el h
 
-    step-explained : (e : Next) (answer : Answer) → next_event a ≡ e → IsAnswered k (event_call here a e) answer l
+    pub step-explained : (e : Next) (answer : Answer) → next_event a ≡ e → IsAnswered k (event_call here a e) answer l
         → SaysOfJournal k l (event_call here a e) answer old new
         → ((shard : ℕ) (run : Run) (front : ℕ) → e ≡ next.Prepare shard run → answer ≡ prepared (record { shard = shard; front = front })
         → Fits new (with_front a shard front))
@@ -464,7 +464,7 @@ module _ (w : Asking) (k l : Known) (old new : Journal) (is : setting_of k ≡ w
         by zero e r over = over
         by (suc m) e r over = over
 
-    go-explained : (e : Next) (answer : Answer) → next_event a ≡ e → IsAnswered k (event_call here a e) answer l
+    pub go-explained : (e : Next) (answer : Answer) → next_event a ≡ e → IsAnswered k (event_call here a e) answer l
         → SaysOfJournal k l (event_call here a e) answer old new
         → Explaining w new l.seen (gone here left (is_fault answer) (moved_at a e answer))
     go-explained (next.Read address) (snap s) e event says =
@@ -506,7 +506,7 @@ module _ (w : Asking) (k l : Known) (old new : Journal) (is : setting_of k ≡ w
     go-explained e answer is_next event says = tt
 
   -- a look's late number
-  late-over : (t : Session) (n : ℕ) (body : Checked) (snaps : SnapList) (m horizon : ℕ) → IsLooked w old k.seen t n body snaps → m ≡ n → m < horizon
+  pub late-over : (t : Session) (n : ℕ) (body : Checked) (snaps : SnapList) (m horizon : ℕ) → IsLooked w old k.seen t n body snaps → m ≡ n → m < horizon
       → horizon + k.window ≤ length new
       → IsPrefix old new → k.seen ≤ l.seen → IsOver w new l.seen t (said (reply.Late m horizon))
   late-over t n body snaps m horizon h same under behind grows up = by h.at

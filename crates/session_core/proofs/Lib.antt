@@ -12,6 +12,8 @@ pub mod Phases
 pub mod Steps
 pub mod Watched
 pub mod Starts
+pub mod Performing
+pub mod LinePerforming
 pub mod Ends
 pub mod Faults
 pub mod Tries
@@ -30,3 +32,15 @@ pub mod Talked
 pub mod GoingOn
 pub mod Unbroken
 pub mod Went
+pub mod Within
+pub mod AskingFew
+pub mod Safe
+pub mod WatchCalls
+pub mod WatchesBehind
+pub mod LinesSafe
+pub mod Telling
+pub mod LinesTell
+pub mod AttemptsExplained
+pub mod LinesExplained
+pub mod Done
+pub mod AllDone

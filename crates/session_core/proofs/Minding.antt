@@ -34,7 +34,7 @@ use Rattle.session_core.proofs.Grown.{prefix-again}
 -- ---- journals that can be read
 
 -- a journal that has grown can be read, however it grows
-can-read-on : (trusted trusts : ℕ) (old new : Journal) → trusts ≡ trusted → IsPrefix old new → CanReadOn trusted old → CanReadOn trusts new
+pub can-read-on : (trusted trusts : ℕ) (old new : Journal) → trusts ≡ trusted → IsPrefix old new → CanReadOn trusted old → CanReadOn trusts new
 can-read-on trusted trusts old new same grows on later more legal =
     on later (prefix-again old new later grows more) (subst (λ (n : ℕ). IsLegal n later) same legal)
 
@@ -111,7 +111,7 @@ same-watched k p i l r (Leads.by_step {n = n} {c = c} {q = q} call answer led as
     }
 
 -- what isn't told isn't told later
-untold-on : (k l : Known) (c : Call) (answer : Answer) → IsAnswered k c answer l → k.journal ≡ None → l.journal ≡ None
+pub untold-on : (k l : Known) (c : Call) (answer : Answer) → IsAnswered k c answer l → k.journal ≡ None → l.journal ≡ None
 untold-on k l c answer event none = by k.journal l.journal none event.told
   where
     by : (x y : Option Journal) → x ≡ None → WhereTold (SaysOfJournal k l c answer) x y → y ≡ None

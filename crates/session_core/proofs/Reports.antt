@@ -43,7 +43,7 @@ use Rattle.session_core.proofs.Watched.{over-of, led-of}
 -- ---- numbers
 
 -- replies of watches show no number above one, where none was shown before
-shown-up : (most low : ℕ) (replies : List Reply) → low ≤ most → AllByRecursion (IsOfWatches most) replies → fold low_by low replies ≤ most
+pub shown-up : (most low : ℕ) (replies : List Reply) → low ≤ most → AllByRecursion (IsOfWatches most) replies → fold low_by low replies ≤ most
 shown-up most low [] few all = few
 shown-up most low (r ∷ replies) few all = shown-up most (low_by low r) replies (one r all.0) all.1
   where
@@ -100,7 +100,7 @@ told-on P k m none some = by k.journal refl
     by (Some old) e = let there = some old e in subst (WhereTold P (Some old)) (sym there.1.0) there.1.1
 
 -- what is minded of a journal that is told
-minded : (k : Known) (s : Session) (old : Journal) → Attends k s → k.journal ≡ Some old → Minds k s.watching old
+pub minded : (k : Known) (s : Session) (old : Journal) → Attends k s → k.journal ≡ Some old → Minds k s.watching old
 minded k s old is e = by k.journal e is.watches.told
   where
     by : (o : Option Journal) → o ≡ Some old → IfSome o (Minds k s.watching) → Minds k s.watching old

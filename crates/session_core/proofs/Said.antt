@@ -290,7 +290,7 @@ none-there journal (r ∷ replies) all = one r all.0 (none-there journal replies
     one r is rest = rest
 
 -- plain replies leave the client's own commits as they are, since they name none
-own-plains : (client : ℕ) (old new : Journal) (replies : List Reply) → ArePlain replies → HasOwn client old new [] → HasOwn client old new replies
+pub own-plains : (client : ℕ) (old new : Journal) (replies : List Reply) → ArePlain replies → HasOwn client old new [] → HasOwn client old new replies
 own-plains client old new replies all h = let none = none-named new replies all in record {
   grows = h.grows;
   own_is = h.own_is ∙ ap (λ named. own client old ++ named) (sym none);
@@ -319,7 +319,7 @@ module _ (k l : Known) (first old new : Journal) (h : HasOwn k.client first old 
   own-same grows same = record { grows = prefix-again first old new h.grows grows; own_is = same ∙ h.own_is; there = tt; few = omega arith }
 
   -- only an append that answers a number adds one of the client's
-  own-says : (call : Call) (answer : Answer) → ((ready : Ready) → call ≡ append ready → ready.client ≡ k.client)
+  pub own-says : (call : Call) (answer : Answer) → ((ready : Ready) → call ≡ append ready → ready.client ≡ k.client)
       → SaysOfJournal k l call answer old new → Says (HasOwn k.client first new) call answer
   own-says (append ready) (number n) mine says = λ outcome.
       own-committed k.client n first old says.row.1.before new (made_of says.row.1.before ready) outcome h
@@ -329,7 +329,7 @@ module _ (k l : Known) (first old new : Journal) (h : HasOwn k.client first old 
   own-says call answer mine says = own-same says.grows says.same_own
 
 -- an append is made of the session's own number
-event-own : (k : Known) (s : Session) (a : Attempt) (e : Next) (ready : Ready) → event_call s a e ≡ append ready → s.client ≡ k.client
+pub event-own : (k : Known) (s : Session) (a : Attempt) (e : Next) (ready : Ready) → event_call s a e ≡ append ready → s.client ≡ k.client
     → ready.client ≡ k.client
 event-own k s a (next.Read address) ready is mine = absurd (cc)
 event-own k s a (next.Prepare shard run) ready is mine = absurd (cc)
@@ -378,11 +378,11 @@ none-denied count (r ∷ replies) all = ap (λ (n : ℕ). denied_by_all n replie
     by r is = refl
 
 -- and the count of denials, since none of them is one
-denied-plains : (old new : ℕ) (replies : List Reply) → ArePlain replies → HasDenied old new [] → HasDenied old new replies
+pub denied-plains : (old new : ℕ) (replies : List Reply) → ArePlain replies → HasDenied old new [] → HasDenied old new replies
 denied-plains old new replies all h = record { denied = h.denied ∙ sym (none-denied old replies all); one = h.one }
 
 -- only an append that the disk denied is counted
-denied-says : (k l : Known) (first : ℕ) (call : Call) (answer : Answer) → k.denied ≡ first → IsAnswered k call answer l
+pub denied-says : (k l : Known) (first : ℕ) (call : Call) (answer : Answer) → k.denied ≡ first → IsAnswered k call answer l
     → Says (HasDenied first l.denied) call answer
 denied-says k l first (append ready) disk h event =
     let is = event.goes_on.denied ∙ ap one_more h in record { denied = is; one = inr is }
@@ -419,7 +419,7 @@ rose-more first old new up (inl more) = let few = one-more-few first in omega ar
 rose-more first old new up (inr last) = let was = last.0 in let is = last.1 in let few = one-more-last first (omega arith) in omega arith
 
 -- plain replies are no denials
-known-plains : (old new : ℕ) (replies : List Reply) → ArePlain replies → HasKnown old new [] → HasKnown old new replies
+pub known-plains : (old new : ℕ) (replies : List Reply) → ArePlain replies → HasKnown old new [] → HasKnown old new replies
 known-plains old new replies all h = record { known = subst (λ (n : ℕ). n ≤ new) (sym (none-denied old replies all)) h.known; up = h.up }
 
 -- one more is no less
@@ -431,7 +431,7 @@ one-more-up n = by (n == last_count) refl
     by false e = omega arith
 
 -- a denied append is one of the denials that are known then, and no call takes one away
-known-says : (k l : Known) (first : ℕ) (call : Call) (answer : Answer) → first ≤ k.denials → IsAnswered k call answer l
+pub known-says : (k l : Known) (first : ℕ) (call : Call) (answer : Answer) → first ≤ k.denials → IsAnswered k call answer l
     → Says (HasKnown first l.denials) call answer
 known-says k l first (append ready) disk h event =
     let rose = rose-more first k.denials l.denials h event.goes_on.denials in let up = one-more-up first in record { known = rose; up = omega arith }
@@ -442,7 +442,7 @@ known-says k l first call answer h event = let up = event.goes_on.denials in rec
 -- ---- what lines of watches say
 
 -- a reply of watches is plain
-watch-plain : (most : ℕ) (replies : List Reply) → AllByRecursion (IsOfWatches most) replies → ArePlain replies
+pub watch-plain : (most : ℕ) (replies : List Reply) → AllByRecursion (IsOfWatches most) replies → ArePlain replies
 watch-plain most [] all = tt
 watch-plain most (r ∷ replies) all = (one r all.0, watch-plain most replies all.1)
   where

@@ -122,7 +122,7 @@ talks-more k s texts turns l t m u text said
 -- ---- the client's commits
 
 -- others' commits, then the line's, then those of the lines behind it
-owned-on : (client : ℕ) (old mid there new : Journal) (first rest : List Reply) → IsPrefix old mid × (own client mid ≡ own client old)
+pub owned-on : (client : ℕ) (old mid there new : Journal) (first rest : List Reply) → IsPrefix old mid × (own client mid ≡ own client old)
     → HasOwned client first mid there → HasOwned client rest there new
     → HasOwned client (first ++ rest) old new
 owned-on client old mid there new first rest same one more = record {
@@ -167,7 +167,7 @@ talks-owned k s texts turns l u is
 -- ---- what the disk denied
 
 -- reply by reply
-denied-append : (count : ℕ) (xs ys : List Reply) → denied_by_all count (xs ++ ys) ≡ denied_by_all (denied_by_all count xs) ys
+pub denied-append : (count : ℕ) (xs ys : List Reply) → denied_by_all count (xs ++ ys) ≡ denied_by_all (denied_by_all count xs) ys
 denied-append count [] ys = refl
 denied-append count (r ∷ xs) ys = denied-append (denied_by count r) xs ys
 
@@ -201,11 +201,11 @@ talks-known k s texts turns l u is
 -- ---- explained, line after line
 
 -- a journal that a session's watches stand for can be read
-can-read : (k : Known) (s : Session) (journal : Journal) → Attends k s → k.journal ≡ Some journal → CanRead journal
+pub can-read : (k : Known) (s : Session) (journal : Journal) → Attends k s → k.journal ≡ Some journal → CanRead journal
 can-read k s journal is told = (if-told (Minds k s.watching) k.journal journal told is.watches.told).can
 
 -- a line that passes, and then lines that are explained
-explains-more : (set : Setting) (y : Story) (t : Session) (text : Text) (x : Turn) (texts : List Text) (turns : List Turn) (there new : Journal)
+pub explains-more : (set : Setting) (y : Story) (t : Session) (text : Text) (x : Turn) (texts : List Text) (turns : List Turn) (there new : Journal)
     → CanRead there → CanRead new → AreReported y → Passes set there y (line_of text) x (shown_of t.watching.watches)
     → attempting_of t ≡ attempting_after set there y.attempting (line_of text) x → IsPrefix there new
     → Explains set new (story_of (low_after y.low (line_of text) x) (begun_after y (line_of text) x) t) (map line_of texts) turns
@@ -223,7 +223,7 @@ explains-more set y t text x texts turns there new could can reported passes is 
 }
 
 -- behind a line that passes the story is one that may be told
-story-behind : (k m : Known) (set : Setting) (y : Story) (t : Session) (l : Line) (x : Turn) (there : Journal) → MayBeTold k y
+pub story-behind : (k m : Known) (set : Setting) (y : Story) (t : Session) (l : Line) (x : Turn) (there : Journal) → MayBeTold k y
     → Passes set there y l x (shown_of t.watching.watches) → attempting_of t ≡ attempting_after set there y.attempting l x
     → low_after y.low l x ≤ m.seen → MayBeTold m (story_of (low_after y.low l x) (begun_after y l x) t)
 story-behind k m set y t l x there may passes is seen = record {

@@ -78,7 +78,7 @@ waits-alone set journal y asked.Sync u h is = absurd h
 -- ---- a line at once, or one that was woken
 
 -- one client of one store, by three steps
-same-thrice : (k l m n : Known) → IsSameClient k l → IsSameClient l m → IsSameClient m n → IsSameClient k n
+pub same-thrice : (k l m n : Known) → IsSameClient k l → IsSameClient l m → IsSameClient m n → IsSameClient k n
 same-thrice k l m n first second third = record {
   client = third.client ∙ (second.client ∙ first.client);
   trusted = third.trusted ∙ (second.trusted ∙ first.trusted);
@@ -88,7 +88,7 @@ same-thrice k l m n first second third = record {
 }
 
 -- commits are named once more, where nothing but others' came before
-owned-behind : (client : ℕ) (old there woke new : Journal) (replies : List Reply) → HasOwned client [] old there → IsPrefix there woke
+pub owned-behind : (client : ℕ) (old there woke new : Journal) (replies : List Reply) → HasOwned client [] old there → IsPrefix there woke
     → own client woke ≡ own client there → HasOwned client replies woke new → HasOwned client replies old new
 owned-behind client old there woke new replies first grows same last = record {
   grows = prefix-again old there new first.grows (prefix-again there woke new grows last.grows);

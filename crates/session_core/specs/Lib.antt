@@ -4,11 +4,15 @@ pub mod Words
 pub mod Bodies
 pub mod Lines
 pub mod Phases
+pub mod Verbs
+pub mod LinePrograms
 pub mod Holding
 pub mod Leading
 pub mod Explained
 pub mod Bounds
 pub mod GoingOn
 pub mod Sessions
+pub mod LineLaws
+pub mod LineTalks
 pub mod Remembering
 pub mod code

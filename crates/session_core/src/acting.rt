@@ -6,6 +6,8 @@ ghost use Rattle.session_core.specs.Phases.{start, synced};
 ghost use Rattle.session_core.specs.Holding.{Attends, BodyIsReady};
 ghost use Rattle.session_core.specs.Leading.{Went, turn_of};
 ghost use Rattle.session_core.specs.Sessions.{IsAccounted};
+ghost use Rattle.session_core.specs.LinePrograms as programs;
+ghost use Rattle.session_core.specs.Verbs.{Plays};
 
 use crate::error::SessionError;
 use crate::line::Line;
@@ -67,6 +69,8 @@ fn act<B: Backend>(
     ensures went { Went B.known B.goes backend.old
         (start (B.known backend.old).shards (B.known backend.old).seen session.old line)
         result backend.new session.new }
+    ensures plays { Plays B.known B.goes backend.old (programs.line_over (B.known backend.old) session.old line) result
+        (λ turn. (session.new, turn)) backend.new }
     ensures home { B.home backend.new ≡ B.home backend.old }
 {
     let place = place(alloc)?;
@@ -104,6 +108,8 @@ pub fn turn<B: Backend>(
     ensures went { Went B.known B.goes backend.old
         (start (B.known backend.old).shards (B.known backend.old).seen session.old (line_of bytes.now))
         result backend.new session.new }
+    ensures plays { Plays B.known B.goes backend.old
+        (programs.line_over (B.known backend.old) session.old (line_of bytes.now)) result (λ turn. (session.new, turn)) backend.new }
     ensures accounted { IsAccounted (B.known backend.old) (B.known backend.new) session.old (line_of bytes.now) result session.new }
     ensures attends { IfOk result (λ turn. Attends (B.known backend.new) session.new) }
     ensures home { B.home backend.new ≡ B.home backend.old }
@@ -123,6 +129,8 @@ pub fn sync_turn<B: Backend>(
 ) -> Result<Turn, SessionError>
     requires attends { Attends (B.known backend.old) session.old }
     ensures went { Went B.known B.goes backend.old (synced session.old) result backend.new session.new }
+    ensures plays { Plays B.known B.goes backend.old (programs.sync session.old) result
+        (λ turn. (session.new, turn)) backend.new }
     ensures accounted { IsAccounted (B.known backend.old) (B.known backend.new) session.old Line.Sync result session.new }
     ensures attends { IfOk result (λ turn. Attends (B.known backend.new) session.new) }
     ensures home { B.home backend.new ≡ B.home backend.old }

@@ -6,6 +6,8 @@ ghost use Rattle.session_core.specs.Phases as spec;
 ghost use Rattle.session_core.specs.Phases.{Phase, closed, after_end};
 ghost use Rattle.session_core.specs.Holding.{Attends, Holds};
 ghost use Rattle.session_core.specs.Leading.{Drives, Attempts, Closes, followed_by};
+ghost use Rattle.session_core.specs.Verbs as verbs;
+ghost use Rattle.session_core.specs.Verbs.{Plays};
 
 use crate::error::SessionError;
 use crate::event::event_on;
@@ -26,6 +28,8 @@ pub fn drive<B: Backend>(
     requires attends { Attends (B.known backend.old) (closed session.now) }
     requires holds { Holds (B.known backend.old) attempt.old }
     ensures drives { Drives B.known B.goes session.now attempt.old backend.old result attempt.new backend.new }
+    ensures plays { Plays B.known B.goes backend.old (verbs.drive session.now attempt.old) result
+        (λ reply. (attempt.new, reply)) backend.new }
     ensures home { B.home backend.new ≡ B.home backend.old }
 {
     let mut known = Remembered::nothing(alloc);
@@ -49,6 +53,8 @@ fn attempt_once<B: Backend>(
     requires attends { Attends (B.known backend.old) (closed session.now) }
     requires holds { Holds (B.known backend.old) attempt.old }
     ensures attempts { Attempts B.known B.goes session.now attempt.old backend.old result attempt.new backend.new }
+    ensures plays { Plays B.known B.goes backend.old (verbs.attempt_once session.now attempt.old) result
+        (λ reply. (attempt.new, reply)) backend.new }
     ensures home { B.home backend.new ≡ B.home backend.old }
 {
     backend.refresh()?;
@@ -75,7 +81,8 @@ fn is_abort(reply: &Reply) -> bool
 
 /// The reply with which an attempt ends, unless it is an abort: behind that another attempt may follow.
 fn unless_abort(reply: Reply) -> Option<Reply>
-    ensures { (s : Session) (left : ℕ) (a : Attempt) → 0 < left → after_end s left a reply ≡ followed_by s left a result }
+    ensures follows { (s : Session) (left : ℕ) (a : Attempt) → 0 < left → after_end s left a reply ≡ followed_by s left a result }
+    ensures shows { result ≡ verbs.unless_abort reply }
 {
     if is_abort(&reply) {
         return None;
@@ -94,6 +101,8 @@ pub fn try_times<B: Backend>(
     requires attends { Attends (B.known backend.old) (closed session.now) }
     requires holds { Holds (B.known backend.old) attempt }
     ensures closes { Closes B.known B.goes session.now backend.old (Phase.trying session.now (tries - 1) attempt) result backend.new }
+    ensures plays { Plays B.known B.goes backend.old (verbs.try_times (tries - 1) session.now attempt) result
+        (λ reply. reply) backend.new }
     ensures home { B.home backend.new ≡ B.home backend.old }
 {
     let mut attempt = attempt;

@@ -9,6 +9,8 @@ ghost use Rattle.session_core.specs.Phases.{closed};
 ghost use Rattle.session_core.specs.Holding.{Attends, Holds};
 ghost use Rattle.session_core.specs.Leading.{Turned, Makes, MakesOn, Appends, moved_on_read, moved_on_prepare, moved_on_append};
 ghost use Rattle.session_core.specs.Remembering.{AreAllOf, IsRunOf, IsKnownOf, Remembers};
+ghost use Rattle.session_core.specs.Verbs as verbs;
+ghost use Rattle.session_core.specs.Verbs.{Plays, was_read, was_prepared};
 
 use crate::error::SessionError;
 use crate::moved::Moved;
@@ -121,6 +123,8 @@ fn read_event<B: Backend>(
     requires holds { Holds (B.known backend.old) attempt.old }
     requires next { next_event attempt.old ≡ Next.Read address }
     ensures makes { Makes B.known B.goes session.now attempt.old backend.old (moved_on_read address attempt.new result) backend.new }
+    ensures plays { Plays B.known B.goes backend.old (verbs.event session.now attempt.old) result
+        (was_read address attempt.new) backend.new }
     ensures pauses { OnOk result (KeepsPauses attempt.old attempt.new) }
     ensures home { B.home backend.new ≡ B.home backend.old }
 {
@@ -173,6 +177,8 @@ fn prepare_event<B: Backend>(
     requires next { next_event attempt.old ≡ Next.Prepare shard run.now }
     requires all { all.now ≡ in_shard attempt.old.shards shard (based attempt.old.snaps run.now.observations) }
     ensures makes { Makes B.known B.goes session.now attempt.old backend.old (moved_on_prepare shard attempt.new result) backend.new }
+    ensures plays { Plays B.known B.goes backend.old (verbs.event session.now attempt.old) result
+        (was_prepared shard attempt.new) backend.new }
     ensures pauses { IfOk result (λ front. OnOk front (KeepsPauses attempt.old attempt.new)) }
     ensures front { IfOk result (λ front. IfOk front (λ f. attempt.new ≡ with_front attempt.old shard f)) }
     ensures home { B.home backend.new ≡ B.home backend.old }
@@ -241,6 +247,8 @@ fn append_event<B: Backend>(
     requires next { next_event attempt.now ≡ Next.Append run }
     requires based { AreAllOf attempt.now run based }
     ensures makes { Makes B.known B.goes session.now attempt.now backend.old (moved_on_append attempt.now result) backend.new }
+    ensures plays { Plays B.known B.goes backend.old (verbs.event session.now attempt.now) result
+        (Moved.End attempt.now) backend.new }
     ensures home { B.home backend.new ≡ B.home backend.old }
 {
     let ready = readied(alloc, session, attempt, run, based)?;
@@ -313,6 +321,8 @@ pub fn event_on<B: Backend>(
     requires holds { Holds (B.known backend.old) attempt.old }
     requires known { IsKnownOf attempt.old known.old }
     ensures makes { MakesOn B.known B.goes session.now attempt.old backend.old result attempt.new backend.new }
+    ensures plays { Plays B.known B.goes backend.old (verbs.event_on session.now attempt.old) result
+        (λ end. (attempt.new, end)) backend.new }
     ensures known { IfOk result (λ end. Remembers attempt.new end known.new) }
     ensures home { B.home backend.new ≡ B.home backend.old }
 {
@@ -350,6 +360,7 @@ pub fn event<B: Backend>(
     requires attends { Attends (B.known backend.old) (closed session.now) }
     requires holds { Holds (B.known backend.old) attempt }
     ensures makes { Makes B.known B.goes session.now attempt backend.old result backend.new }
+    ensures plays { Plays B.known B.goes backend.old (verbs.event session.now attempt) result (λ moved. moved) backend.new }
     ensures home { B.home backend.new ≡ B.home backend.old }
 {
     let mut attempt = attempt;

@@ -2,6 +2,8 @@
 
 ghost use Rattle.session_core.specs.Bounds.{LinesAreBounded, TriesAreFew, CallsSuffice};
 ghost use Rattle.session_core.specs.GoingOn.{FailuresAloneBreak, LinesAreReady, SessionsGoOn};
+ghost use Rattle.session_core.specs.LineLaws.{LinesAskFew, MostCallsAreEnough, LinesAreSafe, LinesAnswerForThemselves, LinesAreExplained};
+ghost use Rattle.session_core.specs.LineTalks.{DoneLinesAreExplained};
 ghost use Rattle.session_core.specs.Lines.{VerbsAreForms};
 ghost use Rattle.session_core.specs.Sessions.{ExplainsStays, SessionsAreExplained};
 
@@ -49,4 +51,34 @@ pub fn sessions_go_on()
 /// The law that only a failed call breaks a line.
 pub fn failures_alone_break()
     ensures { FailuresAloneBreak }
+{}
+
+/// The law that a line asks no more calls than its form allows, whatever it is answered: as a fact of its program.
+pub fn lines_ask_few()
+    ensures { LinesAskFew }
+{}
+
+/// The law that a line without watches which was read asks no more than `MOST_CALLS` calls.
+pub fn most_calls_are_enough()
+    ensures { MostCallsAreEnough }
+{}
+
+/// The law that each call of a line may be made, that its program is stuck nowhere, and that the session goes on behind it.
+pub fn lines_are_safe()
+    ensures { LinesAreSafe }
+{}
+
+/// The law that a line answers for all that it does: the client's commits and denials.
+pub fn lines_answer_for_themselves()
+    ensures { LinesAnswerForThemselves }
+{}
+
+/// The law that a line ends with an answer that the journal explains, whatever was shown before.
+pub fn lines_are_explained()
+    ensures { LinesAreExplained }
+{}
+
+/// The law that all answers of a session are explained by the journal at its end: along the programs of its lines.
+pub fn done_lines_are_explained()
+    ensures { DoneLinesAreExplained }
 {}

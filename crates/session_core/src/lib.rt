@@ -4,6 +4,7 @@
 //! script and a server cut input into lines, hand each to a session, and print what it answers.
 //!
 //! Read first `specs/Phases` (what a line does, as a machine of phases) and `specs/Leading` (the steps of a line over a backend).
+//! `specs/Verbs` has the verbs of attempts and looks as programs of calls, one a function of the code.
 //! `specs/Explained` says which answers a journal explains, and `specs/Sessions` what that makes of whole sessions.
 #![tactic(auto)]
 
@@ -30,8 +31,10 @@ mod words;
 pub use client_watches::ReplyList;
 pub use error::SessionError;
 pub use laws::{
-    calls_suffice, explained_stays, failures_alone_break, lines_are_bounded, lines_are_ready,
-    sessions_are_explained, sessions_go_on, tries_are_few, verbs_are_forms,
+    calls_suffice, done_lines_are_explained, explained_stays, failures_alone_break,
+    lines_answer_for_themselves, lines_are_bounded, lines_are_explained, lines_are_ready,
+    lines_are_safe, lines_ask_few, most_calls_are_enough, sessions_are_explained, sessions_go_on,
+    tries_are_few, verbs_are_forms,
 };
 pub use limits::{MOST_CALLS, MOST_EVENTS};
 pub use line::Line;

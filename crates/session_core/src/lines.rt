@@ -6,6 +6,8 @@ ghost use Rattle.session_core.specs.Lines.{line_of};
 ghost use Rattle.session_core.specs.Holding.{Follows};
 ghost use Rattle.session_core.specs.Leading.{Went, start_over, AnswersAgain};
 ghost use Rattle.session_core.specs.Explained.{IsExplained};
+ghost use Rattle.session_core.specs.LinePrograms as programs;
+ghost use Rattle.session_core.specs.Verbs.{Plays};
 ghost use Rattle.session_core.specs.Sessions.{OwnGrows, CountsDenied, CountsKnown, CountsFault};
 
 use crate::acting::turn;
@@ -45,6 +47,10 @@ impl Session {
         // It goes the way of the machine of phases, by steps of the backend's relation, and answers what stands at its end.
         ensures went { self.old.over ≡ None → Went B.known B.goes backend.old
             (start_over (B.known backend.old) self.old (line_of bytes.now)) result backend.new self.new }
+
+        // It performs the program of the line: that ends with the session after it, and with what it is answered.
+        ensures plays { self.old.over ≡ None → Plays B.known B.goes backend.old
+            (programs.line_over (B.known backend.old) self.old (line_of bytes.now)) result (λ turn. (self.new, turn)) backend.new }
 
         // Its answer is explained by the journal, where the backend tells that, whatever was shown before.
         ensures explained { IsExplained (B.known backend.old) (B.known backend.new) self.old (line_of bytes.now) result self.new }

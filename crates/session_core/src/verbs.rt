@@ -2,9 +2,12 @@
 
 ghost use Rattle.std.specs.Prelude.{◌≡◌, ◌<◌, ◌^◌, ◌-◌};
 ghost use Rattle.session_core.specs.Phases as spec;
-ghost use Rattle.session_core.specs.Phases.{start, seq_after};
+ghost use Rattle.session_core.specs.Phases.{start, seq_after, said};
 ghost use Rattle.session_core.specs.Holding.{Attends, IsReady};
 ghost use Rattle.session_core.specs.Leading.{Replies, Drops};
+ghost use Rattle.session_core.specs.Verbs as verbs;
+ghost use Rattle.session_core.specs.Verbs.{Plays};
+ghost use Rattle.call_programs.specs.Programs.{Program};
 
 use crate::driving::{drive, try_times};
 use crate::error::SessionError;
@@ -47,6 +50,8 @@ pub fn begin<B: Backend>(
     ensures replies { Replies B.known B.goes backend.old
         (start (B.known backend.old).shards (B.known backend.old).seen session.old (Line.Begin body))
         result backend.new session.new }
+    ensures plays { Plays B.known B.goes backend.old (verbs.begin (B.known backend.old).shards session.old body) result
+        (λ reply. (session.new, said reply)) backend.new }
     ensures home { B.home backend.new ≡ B.home backend.old }
 {
     if session.attempt.is_some() {
@@ -72,6 +77,8 @@ pub fn commit<B: Backend>(
     ensures replies { Replies B.known B.goes backend.old
         (start (B.known backend.old).shards (B.known backend.old).seen session.old (Line.Try tries body))
         result backend.new session.new }
+    ensures plays { Plays B.known B.goes backend.old (verbs.commit (B.known backend.old).shards tries session.old body) result
+        (λ reply. (session.new, said reply)) backend.new }
     ensures home { B.home backend.new ≡ B.home backend.old }
 {
     if session.attempt.is_some() {
@@ -94,6 +101,8 @@ pub fn step<B: Backend>(
     ensures replies { Replies B.known B.goes backend.old
         (start (B.known backend.old).shards (B.known backend.old).seen session.old Line.Step)
         result backend.new session.new }
+    ensures plays { Plays B.known B.goes backend.old (verbs.step session.old) result
+        (λ reply. (session.new, said reply)) backend.new }
     ensures home { B.home backend.new ≡ B.home backend.old }
 {
     match session.attempt.take() {
@@ -122,6 +131,8 @@ pub fn go<B: Backend>(
     ensures replies { Replies B.known B.goes backend.old
         (start (B.known backend.old).shards (B.known backend.old).seen session.old Line.Go)
         result backend.new session.new }
+    ensures plays { Plays B.known B.goes backend.old (verbs.go session.old) result
+        (λ reply. (session.new, said reply)) backend.new }
     ensures home { B.home backend.new ≡ B.home backend.old }
 {
     match session.attempt.take() {
@@ -137,7 +148,8 @@ pub fn go<B: Backend>(
 
 /// `drop`: the open attempt is given up.
 pub fn give_up(session: &mut Session) -> Reply
-    ensures { Drops session.old result session.new }
+    ensures drops { Drops session.old result session.new }
+    ensures plays { verbs.give_up session.old ≡ Program.ends (session.new, said result) }
 {
     match session.attempt.take() {
         None => Reply::Refused(Why::NoAttempt),

@@ -4,6 +4,8 @@ ghost use Rattle.std.specs.Prelude.{◌≡◌, None, Some, Err};
 ghost use Rattle.session_core.specs.Phases.{synced};
 ghost use Rattle.session_core.specs.Holding.{Follows};
 ghost use Rattle.session_core.specs.Leading.{Went, AnswersAgain};
+ghost use Rattle.session_core.specs.LinePrograms as programs;
+ghost use Rattle.session_core.specs.Verbs.{Plays};
 ghost use Rattle.session_core.specs.Sessions.{IsAccounted, CountsFault};
 
 use crate::acting::sync_turn;
@@ -24,6 +26,8 @@ impl Session {
     ) -> Result<Turn, SessionError>
         requires follows { Follows (B.known backend.old) self.old }
         ensures went { self.old.over ≡ None → Went B.known B.goes backend.old (synced self.old) result backend.new self.new }
+        ensures plays { self.old.over ≡ None → Plays B.known B.goes backend.old (programs.sync self.old) result
+            (λ turn. (self.new, turn)) backend.new }
 
         // Its answer is explained by the journal, adds no commit of the client's, and no denial.
         ensures accounted { IsAccounted (B.known backend.old) (B.known backend.new) self.old Line.Sync result self.new }

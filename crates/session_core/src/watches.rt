@@ -4,6 +4,8 @@ ghost use Rattle.std.specs.Prelude.{◌≡◌};
 ghost use Rattle.session_core.specs.Phases.{start, synced};
 ghost use Rattle.session_core.specs.Holding.{Attends};
 ghost use Rattle.session_core.specs.Leading.{Went, watch_turn};
+ghost use Rattle.session_core.specs.LinePrograms as programs;
+ghost use Rattle.session_core.specs.Verbs.{Plays};
 
 use crate::error::SessionError;
 use crate::line::Line;
@@ -38,6 +40,8 @@ pub fn watch<B: Backend>(
     ensures went { Went B.known B.goes backend.old
         (start (B.known backend.old).shards (B.known backend.old).seen session.old (Line.Watch name body))
         result backend.new session.new }
+    ensures plays { Plays B.known B.goes backend.old (programs.watch session.old name body) result
+        (λ turn. (session.new, turn)) backend.new }
     ensures home { B.home backend.new ≡ B.home backend.old }
 {
     turned(session.watching.watch(alloc, backend, name, body))
@@ -54,6 +58,8 @@ pub fn unwatch<B: Backend>(
     ensures went { Went B.known B.goes backend.old
         (start (B.known backend.old).shards (B.known backend.old).seen session.old (Line.Unwatch name.now))
         result backend.new session.new }
+    ensures plays { Plays B.known B.goes backend.old (programs.unwatch session.old name.now) result
+        (λ turn. (session.new, turn)) backend.new }
     ensures home { B.home backend.new ≡ B.home backend.old }
 {
     turned(session.watching.unwatch(alloc, backend, name))
@@ -67,6 +73,8 @@ pub fn sync<B: Backend>(
 ) -> Result<Turn, SessionError>
     requires { Attends (B.known backend.old) session.old }
     ensures went { Went B.known B.goes backend.old (synced session.old) result backend.new session.new }
+    ensures plays { Plays B.known B.goes backend.old (programs.sync session.old) result
+        (λ turn. (session.new, turn)) backend.new }
     ensures home { B.home backend.new ≡ B.home backend.old }
 {
     turned(session.watching.sync(alloc, backend))
@@ -82,6 +90,8 @@ pub fn wait<B: Backend>(
     ensures went { Went B.known B.goes backend.old
         (start (B.known backend.old).shards (B.known backend.old).seen session.old Line.Wait)
         result backend.new session.new }
+    ensures plays { Plays B.known B.goes backend.old (programs.wait (B.known backend.old).seen session.old) result
+        (λ turn. (session.new, turn)) backend.new }
     ensures home { B.home backend.new ≡ B.home backend.old }
 {
     let seen = backend.seen();

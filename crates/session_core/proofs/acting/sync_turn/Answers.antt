@@ -10,3 +10,6 @@ returns-clause-accounted g c = went-accounted g.B.Backend.known g.B.Backend.goes
 pub returns-clause-attends : goal.returns-clause-attends
 returns-clause-attends g c = went-attends g.B.Backend.known g.B.Backend.goes c.args.backend.now c.args.session.now asked.Sync c.sync.result
     c.sync.new.backend c.sync.new.session c.requires.attends tt c.sync.ensures.went
+
+pub returns-clause-plays : goal.returns-clause-plays
+returns-clause-plays g c = c.sync.ensures.plays

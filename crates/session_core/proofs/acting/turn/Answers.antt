@@ -1,4 +1,4 @@
-use Rattle.std.proofs.Common.{Err, refl, sym, subst}
+use Rattle.std.proofs.Common.{Err, refl, sym, ap, subst}
 use Rattle.std.proofs.lemmas.Result.{err_from_is_err_and}
 use Rattle.session_core.specs.declared.error.SessionError.TheVariants as error
 use Rattle.session_core.specs.declared.line.Line.{Line}
@@ -6,6 +6,10 @@ use Rattle.session_core.specs.Lines.{line_of}
 use Rattle.session_core.specs.Sessions.{IsAccounted}
 use Rattle.session_core.specs.Phases.{start}
 use Rattle.session_core.specs.Holding.{Attends}
+use Rattle.call_programs.specs.Programs.{Leads, Stops}
+use Rattle.call_programs.proofs.Programs.{here, fails}
+use Rattle.session_core.specs.LinePrograms.{line_over}
+use Rattle.session_core.proofs.Performing.{no_fault, performs_behind}
 use Rattle.session_core.proofs.Steps.{none-done, went-err}
 use Rattle.session_core.proofs.Ends.{went-attends, none-attends}
 use Rattle.session_core.proofs.Ready.{line-ready}
@@ -50,3 +54,13 @@ returns-clause-accounted g c =
     l c.act.result c.act.new.session) (sym c.in_ok-line.ensures.line_is)
     (went-accounted g.B.Backend.known g.B.Backend.goes c.args.backend.now c.act.new.backend c.args.session.now c.act.new.session c.in_ok-line.line
     c.requires.attends c.in_ok-line.ensures.ready c.act.result c.act.ensures.went)
+
+pub returns-then-session-clause-plays : goal.returns-then-session-clause-plays
+returns-then-session-clause-plays g c = Stops.wants Leads.stays (no_fault refl)
+
+pub returns-in_err-line-clause-plays : goal.returns-in_err-line-clause-plays
+returns-in_err-line-clause-plays g c = fails _ c.from_residual.result c.from_residual.ensures.1 (Stops.wants Leads.stays (no_fault refl))
+
+pub returns-clause-plays : goal.returns-clause-plays
+returns-clause-plays g c =
+    performs_behind _ _ _ c.act.result (here (ap (line_over (g.B.Backend.known c.args.backend.now) c.args.session.now) c.in_ok-line.ensures.line_is)) c.act.ensures.plays

@@ -1,4 +1,8 @@
+use Rattle.std.proofs.Common.{refl}
 use Rattle.std.proofs.lemmas.Result.{err_from_is_err_and}
+use Rattle.docc_prepare.specs.Calls.{Answer}
+use Rattle.call_programs.proofs.Programs.{one_call, call_failed, fails}
+use Rattle.session_core.proofs.Performing.{fault_is, performs_behind}
 use Rattle.session_core.proofs.Steps.{attempts-err, attempt-stops, attempted, refreshed}
 use Rattle.session_core.proofs.driving.attempt_once.Goals as goal
 
@@ -22,3 +26,12 @@ pub returns-clause-attempts : goal.returns-clause-attempts
 returns-clause-attempts g c =
     attempted g.B.Backend.known g.B.Backend.goes c.args.session.now c.args.attempt.now c.in_ok-refresh.field-0 c.args.backend.now c.refresh.new.self
     c.drive.result c.drive.new.attempt c.drive.new.backend c.in_ok-refresh.ensures.goes c.drive.ensures.drives
+
+pub returns-in_err-refresh-clause-plays : goal.returns-in_err-refresh-clause-plays
+returns-in_err-refresh-clause-plays g c =
+    fails _ c.from_residual.result c.from_residual.ensures.1
+    (call_failed c.in_err-refresh.field-0.0 c.in_err-refresh.ensures.goes (fault_is c.in_err-refresh.field-0.0))
+
+pub returns-clause-plays : goal.returns-clause-plays
+returns-clause-plays g c =
+    performs_behind _ _ _ c.drive.result (one_call (Answer.number c.in_ok-refresh.field-0) c.in_ok-refresh.ensures.goes tt refl) c.drive.ensures.plays

@@ -6,9 +6,12 @@ use Rattle.docc_prepare.specs.Calls.Call.{append}
 use Rattle.docc_prepare.specs.Calls.{commit_answered}
 use Rattle.docc_prepare.specs.Backends.{CanAppend, Goes}
 use Rattle.docc_prepare.specs.declared.attempt.Next.TheVariants as next
+use Rattle.call_programs.specs.Programs.{Leads, Stops}
+use Rattle.call_programs.proofs.Programs.{fails}
 use Rattle.session_core.specs.Phases.{closed}
 use Rattle.session_core.specs.Leading.{moved_on_append}
 use Rattle.session_core.proofs.Kept.{can-append}
+use Rattle.session_core.proofs.Performing.{no_fault, append_plays}
 use Rattle.session_core.proofs.Steps.{answered, unmade}
 use Rattle.session_core.proofs.event.append_event.Goals as goal
 
@@ -43,3 +46,16 @@ returns-clause-makes g c =
     (subst (λ (r : Ready). Goes g.B.Backend.known g.B.Backend.goes c.args.backend.now (append r)
     (commit_answered c.append-answer.result) c.append-answer.new.self) e c.append-answer.ensures.goes)
     c.after_append.ensures
+
+pub returns-in_err-ready-clause-plays : goal.returns-in_err-ready-clause-plays
+returns-in_err-ready-clause-plays g c =
+    fails _ c.from_residual.result c.from_residual.ensures.1
+    (Stops.wants Leads.stays (no_fault (c.in_err-ready.ensures.err c.in_err-ready.field-0.0 refl)))
+
+pub returns-clause-plays : goal.returns-clause-plays
+returns-clause-plays g c =
+    let e : c.in_ok-ready.ready ≡ ready_of c.args.attempt.now c.args.run c.args.session.now.client c.args.session.now.seq = c.in_ok-ready.ensures.ok in
+    append_plays c.args.session.now c.args.attempt.now (next.Append c.args.run) c.requires.next
+    (subst (λ (r : Ready). Goes g.B.Backend.known g.B.Backend.goes c.args.backend.now (append r)
+    (commit_answered c.append-answer.result) c.append-answer.new.self) e c.append-answer.ensures.goes)
+    c.after_append.result c.after_append.ensures

@@ -1,6 +1,7 @@
-use Rattle.std.proofs.Common.{inr}
+use Rattle.std.proofs.Common.{◌≡◌, Some, None, inr, sym, ◌∙◌}
+use Rattle.session_core.specs.LinePrograms.{line_over}
+use Rattle.session_core.proofs.LinePerforming.{performs_err, fault_counted}
 use Rattle.session_core.specs.Lines.{line_of}
-use Rattle.session_core.proofs.Faults.{went-fault}
 use Rattle.session_core.specs.Holding.{Attends}
 use Rattle.session_core.proofs.Ends.{follows-on, where-ok}
 use Rattle.session_core.proofs.session.Session.line.Goals as goal
@@ -11,9 +12,8 @@ returns-in_default-turn-clause-follows g c = follows-on (g.B.Backend.known c.tur
     c.turn-turn.ensures.attends)
 
 pub returns-in-Err-clause-fault : goal.returns-in-Err-clause-fault
-returns-in-Err-clause-fault g c = λ h. inr (went-fault g.B.Backend.known g.B.Backend.goes c.args.backend.now c.args.self.now
-    (line_of c.args.bytes.now) c.turn-turn.result c.turn-turn.new.backend c.turn-turn.new.session
-    c.turn-turn.ensures.went h)
+returns-in-Err-clause-fault g c = λ h. inr (fault_counted g.B.Backend.known g.B.Backend.goes c.args.backend.now c.turn-turn.new.backend
+    (line_over (g.B.Backend.known c.args.backend.now) c.args.self.now (line_of c.args.bytes.now)) (λ turn. (c.turn-turn.new.session, turn)) c.turn-turn.result h c.turn-turn.ensures.plays)
 
 pub returns-in_default-turn-clause-explained : goal.returns-in_default-turn-clause-explained
 returns-in_default-turn-clause-explained g c = c.turn-turn.ensures.accounted.explained
@@ -35,3 +35,12 @@ returns-in-Err-clause-denied g c = c.turn-turn.ensures.accounted.denied
 
 pub returns-in-Err-clause-knows : goal.returns-in-Err-clause-knows
 returns-in-Err-clause-knows g c = c.turn-turn.ensures.accounted.knows
+
+pub returns-in-Some-clause-plays : goal.returns-in-Some-clause-plays
+returns-in-Some-clause-plays g c = λ none. let both : Some c.in-Some.error ≡ None = sym c.in-Some.is ∙ none in absurd (cc)
+
+pub returns-in-Err-clause-plays : goal.returns-in-Err-clause-plays
+returns-in-Err-clause-plays g c = λ none. performs_err _ _ _ _ _ _ _ c.turn-turn.result c.in-Err.is c.turn-turn.ensures.plays
+
+pub returns-in_default-turn-clause-plays : goal.returns-in_default-turn-clause-plays
+returns-in_default-turn-clause-plays g c = λ none. c.turn-turn.ensures.plays
