@@ -37,10 +37,12 @@ pub enum Seen {
     ListAll,
 }
 
+/// A text of these bytes.
 pub fn text(alloc: Global, bytes: &[u8]) -> Result<Text, AllocError> {
     Text::from_slice(alloc, bytes)
 }
 
+/// A list of these texts.
 pub fn texts(alloc: Global, items: &[&[u8]]) -> Result<TextList, AllocError> {
     let mut list = TextList::new(alloc);
     for item in items {
@@ -49,6 +51,7 @@ pub fn texts(alloc: Global, items: &[&[u8]]) -> Result<TextList, AllocError> {
     Ok(list)
 }
 
+/// The address of a kind and a key.
 pub fn address(alloc: Global, kind: Kind, key: &[u8]) -> Result<Address, AllocError> {
     Ok(Address {
         kind,
