@@ -11,3 +11,4 @@ pub mod Followed
 pub mod Validated
 pub mod Waited
 pub mod Told
+pub mod First

@@ -1,0 +1,10 @@
+use Rattle.std.proofs.Common.{ap, sym, ◌∙◌}
+use Rattle.diamond_store.proofs.First.{drawn-first}
+use Rattle.diamond_store.proofs.store.Store.new.Goals as goal
+
+pub returns : goal.returns
+returns g c = record {
+  pass = drawn-first c.args.opened.lock.base _ _ _ _ c.args.opened.front _ _ _ c.args.settings.now (ap (λ lock. lock.base) (sym c.requires.lock))
+      (c.split.ensures.unchanged ∙ c.in_ok-shards.ensures.same ∙ c.named-journal.ensures.front) c.in-Author.ensures.author c.entries-seen.ensures
+      c.new-4.ensures.empty;
+}
