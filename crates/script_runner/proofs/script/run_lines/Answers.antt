@@ -1,11 +1,44 @@
-use Rattle.std.proofs.Common.{Bool, Ok, Err, inr, refl, ap, subst, arith}
+use Rattle.std.proofs.Common.{Bool, Ok, Err, inl, inr, refl, ap, subst, arith}
 use Rattle.std.proofs.lemmas.Grind.{common_steps}
 use Rattle.std.proofs.lemmas.Result.{err_from_is_err_and}
+use Rattle.dio_core.specs.declared.line.Line.{Line}
+use Rattle.dio_core.specs.Lines.{TakesLine}
 use Rattle.script_runner.specs.Script.{writing}
 use Rattle.script_runner.specs.Worlds.{world_of}
 use Rattle.script_runner.specs.code.Turns.{moment, Turns}
-use Rattle.script_runner.proofs.Plays.{plays-more, plays-stopped, plays-unread, plays-too_many, cut_unread, stops-between, unread-between}
+use Rattle.script_runner.proofs.Plays.{plays-none, plays-more, plays-ended, plays-stopped, plays-unread, plays-too_many, cut_unread, stops-between, unread-between}
 use Rattle.script_runner.proofs.script.run_lines.Goals as goal
+
+-- no line was played yet
+pub loop-init : goal.loop-init
+loop-init g c = record {
+  stands = c.in_ok-script.ensures.stands;
+  plays = plays-none c.args.settings.now (g.S.Source.left c.args.source.now) (g.W.Sink.taken c.args.sink.now) (world_of c.in_ok-script.script)
+      c.in_ok-script.ensures.first;
+  passed = inl refl;
+  reads = refl;
+  writes = refl;
+}
+
+-- a turn found no line
+pub returns-then-not-branch-clause-ran : goal.returns-then-not-branch-clause-ran
+returns-then-not-branch-clause-ran g c =
+    let left = g.S.Source.left in
+    let taken = g.W.Sink.taken in
+    let now = moment (world_of c.loop.script) (left c.loop.source) (taken c.loop.sink) in
+    let then = moment (world_of c.turn.new.script) (left c.turn.new.source) (taken c.turn.new.sink) in
+    plays-ended c.args.settings.now c.loop.counter (left c.args.source.now) (taken c.args.sink.now) now then (omega arith) c.loop.invariant.plays
+    (subst (λ (b : Bool). Turns (Ok b) now then) c.if-not-branch.true c.in_ok-turn.ensures.turns)
+
+-- behind the last line that may be read there is none
+pub returns-in-End-clause-ran : goal.returns-in-End-clause-ran
+returns-in-End-clause-ran g c =
+    let left = g.S.Source.left in
+    let taken = g.W.Sink.taken in
+    let now = moment (world_of c.loop.script) (left c.loop.source) (taken c.loop.sink) in
+    let then = moment (world_of c.loop.script) (left c.read_line.new.source) (taken c.loop.sink) in
+    plays-ended c.args.settings.now c.loop.counter (left c.args.source.now) (taken c.args.sink.now) now then (omega arith) c.loop.invariant.plays
+    (subst (λ (l : Line). TakesLine l now.left then.left) c.in-End.is c.in_ok-read_line.ensures.line, refl)
 
 -- a turn stopped
 pub returns-in_err-turn-clause-ran : goal.returns-in_err-turn-clause-ran
