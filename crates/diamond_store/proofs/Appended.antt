@@ -49,7 +49,7 @@ owed-by p ready can = record {
   all_shards = can.all_shards;
   fits = can.told.fits;
   next = can.told.seq ∙ ap (λ (c : ℕ). length (own c p.journal) + 1) (sym mine);
-  short = can.short;
+  body_text = can.body_text;
   few = can.few;
 }
   where

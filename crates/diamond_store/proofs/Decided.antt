@@ -44,6 +44,7 @@ module _ (ready : Ready) (old mid : Standing) (same : mid ≡ record old { room 
     limit = ap (λ (s : Standing). s.limit) all;
     commits = ap (λ (s : Standing). s.commits) all;
     faults = ap (λ (s : Standing). s.faults) all;
+    home = ap (λ (s : Standing). s.home) all;
   }
 
   -- the commit was added
@@ -51,6 +52,7 @@ module _ (ready : Ready) (old mid : Standing) (same : mid ≡ record old { room 
   by-number n new d = record {
     shards = ap (λ (s : Standing). s.shards) d.2 ∙ ap (λ (s : Standing). s.shards) same;
     limit = ap (λ (s : Standing). s.limit) d.2 ∙ ap (λ (s : Standing). s.limit) same;
+    home = ap (λ (s : Standing). s.home) d.2 ∙ ap (λ (s : Standing). s.home) same;
     settles = (
       found-same ∙ d.0.clear,
       d.1 ∙ ap (λ (s : Standing). length s.commits + 1) same,
@@ -66,6 +68,7 @@ module _ (ready : Ready) (old mid : Standing) (same : mid ≡ record old { room 
   by-clash found w new d names kinds = let whole = as-before new d.1 in record {
     shards = whole.shards;
     limit = whole.limit;
+    home = whole.home;
     settles = (
       record {
         found = found;
@@ -83,6 +86,7 @@ module _ (ready : Ready) (old mid : Standing) (same : mid ≡ record old { room 
   by-full limit new d = let whole = as-before new d.1 in record {
     shards = whole.shards;
     limit = whole.limit;
+    home = whole.home;
     settles = (
       found-same ∙ d.0.clear,
       d.0.limit_is ∙ ap (λ (s : Standing). s.limit) same,
@@ -98,6 +102,7 @@ module _ (ready : Ready) (old mid : Standing) (same : mid ≡ record old { room 
   by-fault first second new d = record {
     shards = ap (λ (s : Standing). s.shards) d.3 ∙ ap (λ (s : Standing). s.shards) same;
     limit = ap (λ (s : Standing). s.limit) d.3 ∙ ap (λ (s : Standing). s.limit) same;
+    home = ap (λ (s : Standing). s.home) d.3 ∙ ap (λ (s : Standing). s.home) same;
     settles = (found-same ∙ d.0.clear, ap (λ (s : Standing). s.commits) d.3 ∙ ap (λ (s : Standing). s.commits) same, room-same d.0.below);
     counts =
         subst (λ (n : ℕ). Rose old.faults n) (sym (ap (λ (s : Standing). s.faults) d.3))

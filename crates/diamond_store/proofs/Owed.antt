@@ -41,7 +41,7 @@ owed-later shards journal later ready owed more same = record {
   all_shards = owed.all_shards;
   fits = subst (λ (j : Journal). Fits j owed.attempt) more.1 (fits_stays journal more.0 owed.attempt owed.fits);
   next = owed.next ∙ ap (λ (mine : Journal). length mine + 1) (sym same);
-  short = owed.short;
+  body_text = owed.body_text;
   few = owed.few;
 }
 
@@ -90,7 +90,7 @@ module _ (m shards : ℕ) (journal : Journal) (ready : Ready) (owed : IsOwed sha
 
   -- so the journal may decide on it
   pub can-settle : CanSettle ready journal
-  can-settle = record { run = run-owed; short = owed.short; next = owed.next; kinds = kinds-owed; few = owed.few }
+  can-settle = record { run = run-owed; body_text = owed.body_text; next = owed.next; kinds = kinds-owed; few = owed.few }
 
   -- without a clash its commit may follow: its body runs on what the journal leaves as it ran
   pub follows : IsClear shards ready journal → IsStrictlySortedBy address_cmp (keys_of ready.run.deltas) → Follows m journal (made_of journal ready)

@@ -22,7 +22,7 @@ booked_code standing =
 
 -- the numbers that it keeps for good
 abbrev pub numbers : Booked → List ℕ
-numbers b = numbers_of b.first b.journal.shards b.window b.journal.limit
+numbers b = numbers_of b.first b.journal.shards b.window b.journal.limit b.journal.home
 
 -- No more was denied than the keeper's count rose by, unless that has come to its last value.
 abbrev pub IsAtMostRise : ℕ → ℕ → ℕ → Type 0

@@ -1,10 +1,10 @@
--- The numbers that a store keeps for good: its keeper's count of faults when it was made, and its settings.
+-- The numbers that a store keeps for good: its keeper's count of faults when it was made, its settings, and its keeper's home.
 use Rattle.std.specs.Prelude.{◌≡◌, ℕ, List, [], ◌∷◌, get_or, refl}
 use Rattle.rdt_types.specs.declared.settings.Settings.{Settings}
 
 -- these numbers, as the value under a lock keeps them
-abbrev pub numbers_of : ℕ → ℕ → ℕ → ℕ → List ℕ
-numbers_of faults shards window limit = faults ∷ shards ∷ window ∷ limit ∷ []
+abbrev pub numbers_of : ℕ → ℕ → ℕ → ℕ → ℕ → List ℕ
+numbers_of faults shards window limit home = faults ∷ shards ∷ window ∷ limit ∷ home ∷ []
 
 -- the keeper's faults as the store was made
 abbrev pub faults_in : List ℕ → ℕ
@@ -22,6 +22,10 @@ window_in numbers = get_or numbers 2 0
 abbrev pub limit_in : List ℕ → ℕ
 limit_in numbers = get_or numbers 3 0
 
+-- where what its keeper borrows is lent from
+abbrev pub home_in : List ℕ → ℕ
+home_in numbers = get_or numbers 4 0
+
 -- these are the settings among the numbers
 pub record HasSettings (numbers : List ℕ) (settings : Settings) : Type 0 where
   pub shards : settings.shards ≡ shards_in numbers
@@ -29,5 +33,9 @@ pub record HasSettings (numbers : List ℕ) (settings : Settings) : Type 0 where
   pub limit : settings.limit ≡ limit_in numbers
 
 -- of a store of 4 shards, a window of 2 and a limit of 9 the limit is 9
-limit_in-example : limit_in (numbers_of 0 4 2 9) ≡ 9
+limit_in-example : limit_in (numbers_of 0 4 2 9 7) ≡ 9
 limit_in-example = refl
+
+-- and of one whose keeper borrows from 7 the home is 7
+home_in-example : home_in (numbers_of 0 4 2 9 7) ≡ 7
+home_in-example = refl

@@ -8,8 +8,8 @@ use Rattle.abort_witness.specs.Kinds.{IsBasedOfOneKind, IsOfOneKind}
 use Rattle.abort_witness.specs.Pairs.{HavePlaces}
 use Rattle.txn_lang.specs.States.{Journal}
 use Rattle.txn_lang.specs.Journals.{own}
-use Rattle.journal_core.specs.declared.limits.TheConstants.{LONGEST_BODY}
 use Rattle.journal_core.specs.declared.ready.Ready.{Ready}
+use Rattle.journal_core.specs.Bodies.{IsBodyText}
 use Rattle.journal_core.specs.Journals.{Standing}
 use Rattle.journal_core.specs.Pairs.{least_pair, past_fronts}
 use Rattle.journal_core.specs.Readies.{IsRunOf, made_of}
@@ -41,10 +41,11 @@ abbrev pub CountsFaults : Decision → ℕ → ℕ → Type 0
 CountsFaults decision.Denied old new = Rose old new
 CountsFaults other old new = new ≡ old
 
--- The journal decided so, and has its settings still.
+-- The journal decided so, and has its settings and its home still.
 pub record HasSettled (ready : Ready) (old : Standing) (decision : Decision) (new : Standing) : Type 0 where
   pub shards : new.shards ≡ old.shards
   pub limit : new.limit ≡ old.limit
+  pub home : new.home ≡ old.home
   pub settles : Settles old.shards old.limit ready old.commits decision new.commits
   pub counts : CountsFaults decision old.faults new.faults
 
@@ -54,11 +55,13 @@ pub record IsAsBefore (old new : Standing) : Type 0 where
   pub limit : new.limit ≡ old.limit
   pub commits : new.commits ≡ old.commits
   pub faults : new.faults ≡ old.faults
+  pub home : new.home ≡ old.home
 
--- What is handed on is a run's, with a short body, as the next of its client, and each observation is of its address' kind.
+-- What is handed on is a run's, with its body's text as it is kept, as the next of its client, and each observation is of its
+-- address' kind.
 pub record CanSettle (ready : Ready) (journal : Journal) : Type 0 where
   pub run : IsRunOf ready.body ready.run
-  pub short : length ready.body ≤ LONGEST_BODY
+  pub body_text : IsBodyText ready.body
   pub next : ready.seq ≡ length (own ready.client journal) + 1
   pub kinds : AllByRecursion IsBasedOfOneKind ready.based
   pub few : HavePlaces ready.based

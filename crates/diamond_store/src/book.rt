@@ -116,7 +116,7 @@ impl<K: Keep> Book<K> {
         requires told { IfSome (K.kept keeper) (λ list. list ≡ kept) }
         ensures commits { IfOk result (λ book. book.journal.commits ≡ kept) }
         ensures denials { IfOk result (λ book. book.denials ≡ 0) }
-        ensures numbers { IfOk result (λ book. numbers book ≡ numbers_of (K.keep_faults keeper) settings.now.shards settings.now.window settings.now.limit) }
+        ensures numbers { IfOk result (λ book. numbers book ≡ numbers_of (K.keep_faults keeper) settings.now.shards settings.now.window settings.now.limit (K.home keeper)) }
     {
         let first_faults = keeper.keep_faults();
         let journal = Journal::new(alloc, settings, keeper, kept)?;
@@ -179,6 +179,7 @@ impl<K: Keep> Book<K> {
         ensures commits { result.1 ≡ self.journal.commits }
         ensures kept { IfSome (K.kept result.0) (λ list. list ≡ self.journal.commits) }
         ensures counted { IsAtMostRise self.first self.denials (K.keep_faults result.0) }
+        ensures home { K.home result.0 ≡ self.journal.home }
     {
         let Book { journal, .. } = self;
         journal.close()

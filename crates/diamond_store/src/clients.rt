@@ -5,7 +5,7 @@ ghost use mathlib.Core.List.{IsPrefix};
 ghost use Rattle.txn_lang.specs.Journals.{IsLegal};
 ghost use Rattle.diamond_store.specs.Answers.{Learns, Meets, Joins, AllDrawn};
 ghost use Rattle.diamond_store.specs.Books.{IsAtMostRise};
-ghost use Rattle.diamond_store.specs.Numbers.{faults_in};
+ghost use Rattle.diamond_store.specs.Numbers.{faults_in, home_in};
 
 use crate::book::Book;
 use crate::gate::Gate;
@@ -86,6 +86,7 @@ impl<K: Keep, G: Gate + Drop, N: Naming> Store<K, G, N> {
         ensures legal { IsLegal pass.trusted result.commits }
         ensures kept { IfSome (K.kept result.keeper) (λ list. list ≡ result.commits) }
         ensures counted { IsAtMostRise (faults_in N.lock.origin) pass.denials (K.keep_faults result.keeper) }
+        ensures home { K.home result.keeper ≡ home_in N.lock.origin }
     {
         let Store { journal, .. } = self;
         let Pass { front, .. } = pass;

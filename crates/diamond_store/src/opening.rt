@@ -1,13 +1,14 @@
 //! A store's journal before its lock has a name.
 
-ghost use Rattle.std.specs.Prelude.{◌≡◌, ◌<◌, ◌≤◌, length, IfOk, IfSome};
+ghost use Rattle.std.specs.Prelude.{◌≡◌, ◌+◌, ◌<◌, ◌≤◌, max, length, IfOk, IfSome};
 ghost use Rattle.history_lock.specs.declared.limits.TheConstants.{LAST_FIRST};
 ghost use Rattle.history_lock.specs.Entries.{NamesBelow};
 ghost use Rattle.history_lock.specs.Tokens.{newborn};
 ghost use Rattle.plain_data.specs.Histories.{IsLawful};
 ghost use Rattle.diamond_store.specs.Appending.{client_of};
 ghost use Rattle.diamond_store.specs.Following.{Follows};
-ghost use Rattle.diamond_store.specs.Numbers.{faults_in, HasSettings};
+ghost use Rattle.diamond_store.specs.Numbers.{faults_in, home_in, HasSettings};
+ghost use Rattle.diamond_store.specs.Opening as opening;
 ghost use Rattle.diamond_store.specs.Opening.{AreClients};
 
 use crate::book::Book;
@@ -21,6 +22,7 @@ use txn_lang::{Commit, CommitList};
 fn past_both(past: u32, client: u32) -> u32
     requires room { client < LAST_FIRST }
     requires small { past ≤ LAST_FIRST }
+    ensures greater { result ≡ max past (client + 1) }
     ensures past { past ≤ result }
     ensures client { client < result }
     ensures small { result ≤ LAST_FIRST }
@@ -31,6 +33,7 @@ fn past_both(past: u32, client: u32) -> u32
 /// The number past the clients of some commits, or 0.
 fn past_clients(kept: &[Commit]) -> u32
     requires { AreClients kept.now }
+    ensures greatest { result ≡ opening.past_clients kept.now }
     ensures below { NamesBelow client_of result kept.now }
     ensures small { result ≤ LAST_FIRST }
 {
@@ -56,6 +59,8 @@ pub fn open<K: Keep>(
     ensures base { IfOk result (λ opened. opened.lock.base ≡ length kept) }
     ensures settings { IfOk result (λ opened. HasSettings opened.lock.origin settings.now) }
     ensures faults { IfOk result (λ opened. faults_in opened.lock.origin ≡ K.keep_faults keeper) }
+    ensures home { IfOk result (λ opened. home_in opened.lock.origin ≡ K.home keeper) }
+    ensures first { IfOk result (λ opened. opened.lock.first ≡ opening.past_clients kept) }
     ensures clients { IfOk result (λ opened. NamesBelow client_of opened.lock.first kept) }
 {
     let first = past_clients(kept.as_slice());

@@ -22,8 +22,8 @@ use Rattle.txn_lang.specs.States.{Journal, state}
 use Rattle.txn_lang.specs.Journals.{IsLegal, own}
 use Rattle.txn_lang.specs.Short.{IsShortAddress, IsShortObservation}
 use Rattle.txn_lang.specs.Tree.{tree}
-use Rattle.journal_core.specs.declared.limits.TheConstants.{LONGEST_BODY}
 use Rattle.journal_core.specs.declared.ready.Ready.{Ready}
+use Rattle.journal_core.specs.Bodies.{IsBodyText}
 use Rattle.journal_core.specs.Changes.{changes, between, adding}
 use Rattle.journal_core.specs.Pairs.{pairs}
 use Rattle.journal_core.specs.Readies.{made_of}
@@ -62,13 +62,14 @@ pub record FitsNext (k : Known) (attempt : Attempt) (ready : Ready) (journal : J
   pub fits : Fits journal attempt
   pub seq : ready.seq ≡ length (own k.client journal) + 1
 
--- What is handed on is that of an attempt whose next event is its append, with bases and fronts that the backend gave.
+-- What is handed on is that of an attempt whose next event is its append, with its body's text as it is kept, and with bases
+-- and fronts that the backend gave.
 pub record CanAppend (k : Known) (ready : Ready) : Type 0 where
   pub attempt : Attempt
   pub next : next_event attempt ≡ next.Append ready.run
   pub made : ready ≡ ready_of attempt ready.run k.client ready.seq
   pub text : tree attempt.body.source ≡ Some attempt.body.body
-  pub short : length ready.body ≤ LONGEST_BODY
+  pub body_text : IsBodyText ready.body
   pub all_shards : attempt.shards ≡ k.shards
   pub given : AllByRecursion (λ (read : Address × Snap). IsGiven k read.0 read.1.base) attempt.snaps
   pub fronted : AllByRecursion (λ prepared. k.fronted prepared.shard

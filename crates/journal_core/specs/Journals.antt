@@ -11,31 +11,35 @@ use Rattle.abort_witness.specs.declared.witness.Found.{Found}
 use Rattle.txn_lang.specs.declared.commit.Commit.{Commit}
 use Rattle.txn_lang.specs.States.{Journal}
 use Rattle.txn_lang.specs.Journals.{own}
-use Rattle.journal_core.specs.declared.limits.TheConstants.{LONGEST_BODY}
 use Rattle.journal_core.specs.declared.ready.Ready.{Ready}
 use Rattle.journal_core.specs.declared.slot.Slot.{Slot}
 use Rattle.journal_core.specs.declared.appended.Appended.{Appended}
 use Rattle.journal_core.specs.declared.appended.Appended.TheVariants as appended
+use Rattle.journal_core.specs.Bodies.{IsBodyText}
 use Rattle.journal_core.specs.Changes.{adding}
 use Rattle.journal_core.specs.Pairs.{least_pair, past_fronts}
 use Rattle.journal_core.specs.Readies.{IsRunOf, made_of}
 use Rattle.journal_core.specs.Keeping.{IsOfRun, IsNext}
 
--- what callers see of a journal: its commits, the settings it goes by, and its keeper's count of faults
+-- what callers see of a journal: its commits, the settings it goes by, its keeper's count of faults and its keeper's home
 pub record Standing : Type 0 where
   pub commits : Journal
   pub shards : ℕ
   pub limit : ℕ
   pub faults : ℕ
+  -- where what the keeper borrows is lent from
+  pub home : ℕ
   -- for how many changes of a commit there is memory
   pub room : ℕ
 
 -- it is stored as the tuple of its fields
 abbrev pub standing_code : Coded Commit → Coded Standing
 standing_code commit =
-    code_by (Journal × (ℕ × (ℕ × (ℕ × ℕ)))) (coded× (coded_list commit) (coded× coded_ℕ (coded× coded_ℕ (coded× coded_ℕ coded_ℕ))))
-    (λ s. (s.commits, (s.shards, (s.limit, (s.faults, s.room)))))
-    (λ p. record { commits = p.0; shards = p.1.0; limit = p.1.1.0; faults = p.1.1.1.0; room = p.1.1.1.1 }) (λ _. refl)
+    code_by (Journal × (ℕ × (ℕ × (ℕ × (ℕ × ℕ)))))
+    (coded× (coded_list commit) (coded× coded_ℕ (coded× coded_ℕ (coded× coded_ℕ (coded× coded_ℕ coded_ℕ)))))
+    (λ s. (s.commits, (s.shards, (s.limit, (s.faults, (s.home, s.room))))))
+    (λ p. record { commits = p.0; shards = p.1.0; limit = p.1.1.0; faults = p.1.1.1.0; home = p.1.1.1.1.0; room = p.1.1.1.1.1 })
+    (λ _. refl)
 
 -- ---- the decision
 
@@ -85,12 +89,12 @@ pub record IsSlot (stands_for : List ℕ → Commit → Type 0) (ready : Ready) 
   pub bytes : stands_for slot.bytes slot.commit
   pub room : length slot.changes < standing.room
 
--- The slot was made of what is ready at the present length, the run is one of the body, and the seq is the next of the
--- client.
+-- The slot was made of what is ready at the present length, the run is one of the body, whose text is as it is kept, and the
+-- seq is the next of the client.
 pub record CanAppend (stands_for : List ℕ → Commit → Type 0) (ready : Ready) (slot : Slot) (standing : Standing) : Type 0 where
   pub slot_is : IsSlot stands_for ready standing slot
   pub run : IsRunOf ready.body ready.run
-  pub short : length ready.body ≤ LONGEST_BODY
+  pub body_text : IsBodyText ready.body
   pub next : ready.seq ≡ length (own ready.client standing.commits) + 1
 
 -- ---- past the tests
@@ -130,7 +134,7 @@ adder base = record {
 
 -- these commits, of which the journal takes two
 abbrev of_two : Journal → Standing
-of_two commits = record { commits = commits; shards = 4; limit = 2; faults = 0; room = 1 }
+of_two commits = record { commits = commits; shards = 4; limit = 2; faults = 0; home = 0; room = 1 }
 
 -- behind no commit it becomes commit 1, and the journal is that one commit
 Decides-example : Decides (adder 0) (of_two []) (appended.Number 1) (record (of_two []) { commits = adding 1 (codes "x") ∷ []; room = 0 })

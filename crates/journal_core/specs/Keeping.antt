@@ -1,10 +1,11 @@
 -- What a keeper keeps: a list of commits, which it may tell or not.
-use Rattle.std.specs.Prelude.{◌≡◌, ℕ, ◌+◌, ◌≤◌, if◌then◌else◌, nat_lt, List, [], ◌∷◌, ◌++◌, length, Option, Some, None, IfSome, refl}
+use Rattle.std.specs.Prelude.{◌≡◌, ℕ, ◌+◌, if◌then◌else◌, nat_lt, List, [], ◌∷◌, ◌++◌, length, Option, Some, None, IfSome, refl}
 use Rattle.txn_lang.specs.declared.commit.Commit.{Commit}
 use Rattle.txn_lang.specs.declared.run.Run.{Run}
 use Rattle.txn_lang.specs.States.{Journal}
 use Rattle.txn_lang.specs.Journals.{own}
-use Rattle.journal_core.specs.declared.limits.TheConstants.{LONGEST_BODY, FIRST_UNTOLD_CLIENT}
+use Rattle.journal_core.specs.declared.limits.TheConstants.{FIRST_UNTOLD_CLIENT}
+use Rattle.journal_core.specs.Bodies.{IsBodyText}
 use Rattle.journal_core.specs.Changes.{adding}
 use Rattle.journal_core.specs.Readies.{IsRunOf}
 
@@ -13,13 +14,13 @@ pub record IsNext (before : Journal) (commit : Commit) : Type 0 where
   pub number : commit.number ≡ length before + 1
   pub seq : commit.seq ≡ length (own commit.client before) + 1
 
--- the commit is one of a run, with a body of no more bytes than a line has
+-- the commit is one of a run, with the body's text as it is kept
 pub record IsOfRun (commit : Commit) : Type 0 where
   pub run : Run
   pub ran : IsRunOf commit.body run
   pub outcome : commit.outcome ≡ run.outcome
   pub deltas : commit.deltas ≡ run.deltas
-  pub short : length commit.body ≤ LONGEST_BODY
+  pub body_text : IsBodyText commit.body
 
 -- The bytes stand for this commit, which may be kept behind the list that is told.
 pub record StandsFor (stands_for : List ℕ → Commit → Type 0) (told : Option Journal) (bytes : List ℕ) (commit : Commit) : Type 0 where

@@ -3,6 +3,7 @@ pub mod Pairs
 pub mod Tails
 pub mod Readies
 pub mod Kinds
+pub mod Bodies
 pub mod Keeping
 pub mod Limits
 pub mod Journals

@@ -51,7 +51,7 @@ impl<K: Keep> Model for Journal<K> {
 
     ghost coded = { journals.standing_code commit.the_row.coded };
 
-    ghost view = { λ j. record { commits = j.log.commits; shards = j.log.shards; limit = j.settings.limit; faults = K.keep_faults j.keeper; room = j.log.room } };
+    ghost view = { λ j. record { commits = j.log.commits; shards = j.log.shards; limit = j.settings.limit; faults = K.keep_faults j.keeper; home = K.home j.keeper; room = j.log.room } };
 
     ghost invariant = { λ j. IfSome (K.kept j.keeper) (λ list. list ≡ j.log.commits) };
 }
@@ -71,6 +71,7 @@ impl<K: Keep> Journal<K> {
         ensures shards { IfOk result (λ journal. journal.shards ≡ settings.now.shards) }
         ensures limit { IfOk result (λ journal. journal.limit ≡ settings.now.limit) }
         ensures faults { IfOk result (λ journal. journal.faults ≡ K.keep_faults keeper) }
+        ensures home { IfOk result (λ journal. journal.home ≡ K.home keeper) }
     {
         let log = Log::of(alloc, kept, settings.shards)?;
         Ok(Journal {
@@ -102,6 +103,7 @@ impl<K: Keep> Journal<K> {
     pub fn close(self) -> (K, CommitList)
         ensures commits { result.1 ≡ self.commits }
         ensures faults { K.keep_faults result.0 ≡ self.faults }
+        ensures home { K.home result.0 ≡ self.home }
         ensures kept { IfSome (K.kept result.0) (λ list. list ≡ self.commits) }
     {
         let Journal { keeper, log, .. } = self;

@@ -22,6 +22,9 @@ pub trait Keep: Drop {
     /// How many calls of `keep` have failed, up to the last value of a u64.
     ghost keep_faults: { Self → ℕ };
 
+    /// Where what it borrows is lent from, or 0 where it borrows nothing.
+    ghost home: { Self → ℕ };
+
     /// Whether it may fail at all.
     ghost may_fail: { Bool };
 
@@ -38,6 +41,7 @@ pub trait Keep: Drop {
         ensures ok { OnOk result (Keeps stands_for bytes.now (kept self.old) (kept self.new)) }
         ensures err { OnErr result (kept self.new ≡ kept self.old) }
         ensures counted { IsCounted (is_err result) (keep_faults self.old) (keep_faults self.new) }
+        ensures home { home self.new ≡ home self.old }
         ensures may_fail { OnErr result (may_fail ≡ true) };
 
     /// How many calls of `keep` have failed.
@@ -53,6 +57,8 @@ impl Keep for MemKeep {
     ghost kept = { λ _. None };
 
     ghost keep_faults = { λ _. 0 };
+
+    ghost home = { λ _. 0 };
 
     ghost may_fail = { false };
 

@@ -202,7 +202,7 @@ module _ (settings : Settings) (standing : Standing) (shards : List Sharded) (se
         read = ap (λ (r : Ready). tree r.body) of.made ∙ of.text;
         ran = of.runs;
       };
-      short = can.short;
+      body_text = can.body_text;
       next = of.next ∙ ap (λ (n : ℕ). length (own n standing.commits) + 1) (sym (ap (λ (r : Ready). r.client) of.made));
       spared =
           ap (λ (n : ℕ). least_pair (past_fronts n ready.fronts ready.based) standing.commits) kept.all_shards

@@ -1,23 +1,24 @@
 -- What the journal of a world decides, as the store does.
-use Rattle.std.specs.Prelude.{◌≡◌, ℕ, ◌+◌, ◌≤◌, length}
+use Rattle.std.specs.Prelude.{◌≡◌, ℕ, ◌+◌, length}
 use Rattle.std.specs.List.{AllByRecursion}
 use Rattle.abort_witness.specs.Kinds.{IsBasedOfOneKind}
 use Rattle.abort_witness.specs.Pairs.{HavePlaces}
 use Rattle.txn_lang.specs.States.{Journal}
 use Rattle.txn_lang.specs.Journals.{IsLegal, own}
-use Rattle.journal_core.specs.declared.limits.TheConstants.{LONGEST_BODY}
 use Rattle.journal_core.specs.declared.ready.Ready.{Ready}
+use Rattle.journal_core.specs.Bodies.{IsBodyText}
 use Rattle.journal_core.specs.Journals.{Standing, found_past}
 use Rattle.journal_core.specs.Pairs.{least_pair}
 use Rattle.journal_core.specs.Readies.{IsRunOf}
 use Rattle.docc_prepare.specs.Calls.{Answer}
 use Rattle.docc_prepare.specs.Stores.{Store, append_to}
 
--- What is handed on may be decided: the journal is legal, and what is handed on is a run's, as the next of its client.
+-- What is handed on may be decided: the journal is legal, and what is handed on is a run's, with its body's text as it is kept,
+-- as the next of its client.
 pub record MayDecide (ready : Ready) (standing : Standing) : Type 0 where
   pub legal : IsLegal 0 standing.commits
   pub run : IsRunOf ready.body ready.run
-  pub short : length ready.body ≤ LONGEST_BODY
+  pub body_text : IsBodyText ready.body
   pub next : ready.seq ≡ length (own ready.client standing.commits) + 1
   -- to look past the fronts is to look at all
   pub spared : found_past ready standing ≡ least_pair ready.based standing.commits

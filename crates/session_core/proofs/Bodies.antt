@@ -23,9 +23,10 @@ use Rattle.session_core.specs.declared.line.Line.TheVariants as asks
 use Rattle.session_core.specs.Lines.{with_body}
 use Rattle.session_core.specs.code.Reading.{ReadsBody}
 use Rattle.journal_core.specs.declared.limits.TheConstants.{LONGEST_BODY}
+use Rattle.journal_core.specs.Bodies.{ends_in_blank}
 use Rattle.session_core.specs.Holding.{IsReady}
 use Rattle.session_core.proofs.Same.{checked_same}
-use Rattle.session_core.proofs.Trims.{parsed_trimmed}
+use Rattle.session_core.proofs.Trims.{parsed_trimmed, trimmed_end-trimmed}
 
 -- the text that is kept is read as the text that came
 pub kept_reads : (text source : Text) (body : Body) → source ≡ trimmed_end text → parsed text ≡ Some body → parsed source ≡ Some body
@@ -163,7 +164,7 @@ module _ (read_only : Bool) (text : Text) (body : Body) (c : Checked) (b : c.bod
   pub is-ready : length c.source ≤ LONGEST_BODY → IsReady c
   is-ready short = record {
     text = tree_of_typed c.source c.body (ap parsed trimmed ∙ (parsed_trimmed text ∙ (read ∙ ap (λ x. Some x) (sym b)))) (subst IsTyped (sym b) typed);
-    short = short;
+    body_text = record { short = short; trimmed = ap ends_in_blank trimmed ∙ trimmed_end-trimmed text };
   }
 
 -- what a verb with a body asks for, by what is read

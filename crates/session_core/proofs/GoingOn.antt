@@ -68,7 +68,7 @@ module _ (k here : Known) (followed : HasFollowed k here) where
   holds-followed a h = record {
     shards = h.shards ∙ sym followed.client.shards;
     text = h.text;
-    short = h.short;
+    body_text = h.body_text;
     reads = reads-on k here a followed.seen followed.keeps h.reads;
     fronts = fronts-on k here a (ran a) followed.keeps h.fronts;
     told = subst (λ (o : Option Journal). IfSome o (λ journal. Fits journal a)) (sym followed.journal) h.told;

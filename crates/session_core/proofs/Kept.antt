@@ -81,7 +81,7 @@ can-append k s a run is h e = record {
   next = e;
   made = ap (λ (n : ℕ). ready_of a run n s.seq) is.client;
   text = h.text;
-  short = h.short;
+  body_text = h.body_text;
   all_shards = h.shards;
   given = each-more (IsRead k) (λ (read : Address × Snap). IsGiven k read.0 read.1.base) a.snaps (λ read r. r.given) h.reads;
   fronted = subst (λ (n : ℕ). AllByRecursion (λ prepared. k.fronted prepared.shard
@@ -137,7 +137,7 @@ pub holds-on : (k l : Known) (a : Attempt) (c : Call) (answer : Answer) → IsAn
 holds-on k l a c answer event keeps h = record {
   shards = h.shards ∙ sym event.client.shards;
   text = h.text;
-  short = h.short;
+  body_text = h.body_text;
   reads = reads-on k l a event.goes_on.seen keeps h.reads;
   fronts = fronts-on k l a (ran a) keeps h.fronts;
   told = told-on k l a c answer event.told h.told;
@@ -275,7 +275,7 @@ pub afresh-holds : (k : Known) (a : Attempt) → Holds k a → Holds k (afresh a
 afresh-holds k a h = record {
   shards = h.shards;
   text = h.text;
-  short = h.short;
+  body_text = h.body_text;
   reads = tt;
   fronts = unread-fronts k (afresh a) (ran (afresh a)) refl;
   told = maybe-unread k.journal (afresh a) refl refl;
@@ -299,7 +299,7 @@ module _ (k l : Known) (a : Attempt) (h : Holds k a) where
   read-holds address s e event = record {
     shards = h.shards ∙ sym event.client.shards;
     text = h.text;
-    short = h.short;
+    body_text = h.body_text;
     reads = each-inserted (IsRead l) a.snaps address s (record { given = (let b = event.shows.0 in omega arith, event.gives); kind = event.shows.1 })
         (reads-on k l a event.goes_on.seen event.keeps h.reads);
     fronts = unread-fronts l (with_snap a address s) (ran (with_snap a address s)) (subst (FrontsGiven k a) (needs a address e) h.fronts);
@@ -333,7 +333,7 @@ module _ (k l : Known) (a : Attempt) (h : Holds k a) where
   prepare-holds shard run p e event = let is = (prepares a shard run e).ran in record {
     shards = h.shards ∙ sym event.client.shards;
     text = h.text;
-    short = h.short;
+    body_text = h.body_text;
     reads = reads-on k l a event.goes_on.seen event.keeps h.reads;
     fronts = front-given shard p.front run (ran a) is (fronts-on k l a (ran a) event.keeps h.fronts) event.gives;
     told = IfSome-WhereTold (SaysOfJournal k l (Call.prepare shard (in_shard a.shards shard (based a.snaps run.observations))) (Answer.prepared p))
@@ -351,7 +351,7 @@ pub anew-holds : (k l : Known) (a : Attempt) (c : Call) (answer : Answer) → Is
 anew-holds k l a c answer event h = record {
   shards = h.shards ∙ sym event.client.shards;
   text = h.text;
-  short = h.short;
+  body_text = h.body_text;
   reads = tt;
   fronts = unread-fronts l (afresh a) (ran (afresh a)) refl;
   told = maybe-unread l.journal (afresh a) refl refl;
@@ -377,7 +377,7 @@ pub opened-holds : (k : Known) (s : Session) (body : Checked) → Attends k s �
 opened-holds k s body is ready = record {
   shards = within-is k.shards is.shards.0 is.shards.1;
   text = ready.text;
-  short = ready.short;
+  body_text = ready.body_text;
   reads = tt;
   fronts = unread-fronts k (opened k.shards body) (ran (opened k.shards body)) refl;
   told = maybe-unread k.journal (opened k.shards body) refl refl;

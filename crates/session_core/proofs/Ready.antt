@@ -1,4 +1,5 @@
--- A line that is short enough has a body that is ready: it is that of its text, which is no longer than the line.
+-- A line that is short enough has a body that is ready: it is that of its text, which is no longer than the line, and which is
+-- without the blanks at its end.
 use Rattle.std.proofs.Common.{◌≡◌, ℕ, ◌≤◌, Bool, true, false, cond, [], ◌∷◌, length, Option, Some, None, Result, Ok, Err, refl, sym, ap, subst, arith}
 use Rattle.dio_core.specs.declared.line.TheConstants.{LONGEST_LINE}
 use Rattle.session_text.specs.declared.reply.Why.{Why}
@@ -11,7 +12,7 @@ use Rattle.txn_grammar.specs.Characters.{Text, is_blank}
 use Rattle.txn_lang.specs.declared.checked.Checked.{Checked}
 use Rattle.txn_lang.specs.Tree.{tree}
 use Rattle.txn_lang.specs.Writes.{first_write}
-use Rattle.journal_core.specs.declared.limits.TheConstants.{LONGEST_BODY}
+use Rattle.journal_core.specs.Bodies.{IsBodyText}
 use Rattle.session_core.specs.declared.line.Line.{Line}
 use Rattle.session_core.specs.declared.line.Line.TheVariants as asks
 use Rattle.session_core.specs.Words.{trimmed_start, trimmed_end, unless_last_blank, is_quiet}
@@ -20,6 +21,7 @@ use Rattle.session_core.specs.Lines.{asked, with_body, of_verb, of_form, line_of
 use Rattle.session_core.specs.Holding.{IsReady, BodyIsReady}
 use Rattle.session_core.proofs.Asked.{line-quiet, line-asks}
 use Rattle.session_core.proofs.Forms.{verbs_are_forms}
+use Rattle.session_core.proofs.Trims.{trimmed_end-trimmed}
 
 -- what is left of a text is no longer
 trimmed-shorter : (z : Text) → length (trimmed_end z) ≤ length z
@@ -34,6 +36,10 @@ trimmed-shorter (b ∷ z) = by (trimmed_end z) (trimmed-shorter z)
     by [] h = last (is_blank b)
     by (c ∷ left) h = omega arith
 
+-- so what is left of a line is a text as it is kept
+trimmed-kept : (text : Text) → length text ≤ LONGEST_LINE → IsBodyText (trimmed_end text)
+trimmed-kept text short = record { short = let less = trimmed-shorter text in omega arith; trimmed = trimmed_end-trimmed text }
+
 -- ---- bodies
 
 -- a body that may be there is ready
@@ -41,13 +47,13 @@ abbrev ReadyIf : Option Checked → Type 0
 ReadyIf None = Unit {0}
 ReadyIf (Some c) = IsReady c
 
-module _ (source : Text) (short : length source ≤ LONGEST_BODY) where
+module _ (source : Text) (kept : IsBodyText source) where
   -- what is made of a tree has that tree's text
   ready-pure : (read_only : Bool) (body : Body) (e : tree source ≡ Some body) (o : Option ℕ) (w : first_write body ≡ o) (c : Checked)
       → if_pure read_only source body e o w ≡ Some c → IsReady c
-  ready-pure read_only body e None w c is = subst ReadyIf is (record { text = e; short = short })
+  ready-pure read_only body e None w c is = subst ReadyIf is (record { text = e; body_text = kept })
   ready-pure true body e (Some column) w c is = absurd (cc)
-  ready-pure false body e (Some column) w c is = subst ReadyIf is (record { text = e; short = short })
+  ready-pure false body e (Some column) w c is = subst ReadyIf is (record { text = e; body_text = kept })
 
   -- a body is made where there is a tree
   ready-tree : (read_only : Bool) (o : Option Body) (e : tree source ≡ o) (c : Checked) → if_tree read_only source o e ≡ Some c → IsReady c
@@ -57,7 +63,7 @@ module _ (source : Text) (short : length source ≤ LONGEST_BODY) where
 -- the body of a text is made of the text without the blanks at its end
 body-ready : (read_only : Bool) (text : Text) (c : Checked) → length text ≤ LONGEST_LINE → body_of read_only text ≡ Ok c → IsReady c
 unfolding checked_of
-body-ready read_only text c short e = ready-tree (trimmed_end text) (let less = trimmed-shorter text in omega arith) read_only
+body-ready read_only text c short e = ready-tree (trimmed_end text) (trimmed-kept text short) read_only
     (tree (trimmed_end text)) refl c (by (checked_of read_only text) e)
   where
     by : (o : Option Checked) → or_refused text o ≡ Ok c → o ≡ Some c

@@ -43,7 +43,7 @@ module _ (k here : Known) (later : IsLater k here) where
   holds-later a h = record {
     shards = h.shards ∙ sym later.client.shards;
     text = h.text;
-    short = h.short;
+    body_text = h.body_text;
     reads = reads-on k here a (let same = later.seen in omega arith) later.keeps h.reads;
     fronts = fronts-on k here a (ran a) later.keeps h.fronts;
     told = IfSome-WhereTold (HasGrown k) (λ journal. Fits journal a) (λ journal. Fits journal a) k.journal here.journal

@@ -8,6 +8,7 @@ use Rattle.txn_grammar.specs.Characters.{is_blank}
 use Rattle.txn_grammar.specs.Parsed.{parsed}
 use Rattle.txn_grammar.specs.Blanks.{AreBlank}
 use Rattle.txn_grammar.proofs.Blanks.{keep_body}
+use Rattle.journal_core.specs.Bodies.{ends_in_blank}
 use Rattle.session_core.specs.Words.{trimmed_end, unless_last_blank}
 
 -- a blank at the end goes
@@ -41,6 +42,19 @@ trimmed_end-take-blank z n some within blank = ap trimmed_end (take-last z n som
 pub trimmed_end-take-solid : (z : List ℕ) (n : ℕ) → 0 < n → n ≤ length z → is_blank (get_or z (n - 1) 0) ≡ false → trimmed_end (take n z) ≡ take n z
 trimmed_end-take-solid z n some within solid =
     ap trimmed_end (take-last z n some within) ∙ (trimmed_end-solid (take (n - 1) z) _ solid ∙ sym (take-last z n some within))
+
+-- what is left doesn't end in a blank, since a byte that is left at the end is none
+pub trimmed_end-trimmed : (z : List ℕ) → ends_in_blank (trimmed_end z) ≡ false
+trimmed_end-trimmed [] = refl
+trimmed_end-trimmed (b ∷ z) = by (trimmed_end z) (trimmed_end-trimmed z)
+  where
+    last : (x : Bool) → is_blank b ≡ x → ends_in_blank (if x then [] else b ∷ []) ≡ false
+    last true e = refl
+    last false e = e
+
+    by : (left : List ℕ) → ends_in_blank left ≡ false → ends_in_blank (unless_last_blank b left) ≡ false
+    by [] h = last (is_blank b) refl
+    by (c ∷ left) h = h
 
 -- ---- a text is what is left of it, and blanks
 

@@ -10,7 +10,7 @@ use Rattle.txn_lang.specs.States.{Journal}
 use Rattle.txn_lang.specs.Execution.{Ran, need, done}
 use Rattle.txn_lang.specs.Journals.{own}
 use Rattle.txn_lang.specs.Tree.{tree}
-use Rattle.journal_core.specs.declared.limits.TheConstants.{LONGEST_BODY}
+use Rattle.journal_core.specs.Bodies.{IsBodyText}
 use Rattle.docc_prepare.specs.declared.attempt.Attempt.{Attempt}
 use Rattle.docc_prepare.specs.Attempts.{ran, based, in_shard, Fits}
 use Rattle.docc_prepare.specs.Calls.{Known}
@@ -34,20 +34,20 @@ FrontsGiven k a (need address) = a.fronts ≡ []
 FrontsGiven k a (done run) =
     AllByRecursion (λ prepared. k.fronted prepared.shard (in_shard a.shards prepared.shard (based a.snaps run.observations)) prepared.front ≡ true) a.fronts
 
--- An open attempt holds: its body is that of its text, which is short enough; the backend gave its bases and fronts; and where
+-- An open attempt holds: its body is that of its text, which is as it is kept; the backend gave its bases and fronts; and where
 -- the journal is told, it fits that.
 pub record Holds (k : Known) (a : Attempt) : Type 0 where
   pub shards : a.shards ≡ k.shards
   pub text : tree a.body.source ≡ Some a.body.body
-  pub short : length a.body.source ≤ LONGEST_BODY
+  pub body_text : IsBodyText a.body.source
   pub reads : AllByRecursion (IsRead k) a.snaps
   pub fronts : FrontsGiven k a (ran a)
   pub told : IfSome k.journal (λ journal. Fits journal a)
 
--- a body that was read: it is that of its text, which is short enough
+-- a body that was read: it is that of its text, which is as it is kept
 pub record IsReady (body : Checked) : Type 0 where
   pub text : tree body.source ≡ Some body.body
-  pub short : length body.source ≤ LONGEST_BODY
+  pub body_text : IsBodyText body.source
 
 -- the body that a line is to commit
 abbrev pub BodyIsReady : Line → Type 0

@@ -14,9 +14,9 @@ use Rattle.txn_lang.specs.Typing.{IsTyped}
 use Rattle.txn_lang.proofs.Trees.{tree_of_typed}
 use Rattle.txn_lang.specs.States.{Journal}
 use Rattle.txn_lang.specs.Journals.{own}
-use Rattle.journal_core.specs.declared.limits.TheConstants.{LONGEST_BODY}
 use Rattle.journal_core.specs.declared.ready.Ready.{Ready}
 use Rattle.journal_core.specs.declared.slot.Slot.{Slot}
+use Rattle.journal_core.specs.Bodies.{IsBodyText}
 use Rattle.journal_core.specs.Journals.{Standing, IsSlot, CanAppend, commit_at}
 use Rattle.journal_core.specs.Readies.{IsRunOf, made_of}
 use Rattle.journal_core.proofs.Witnessed.{commit-there}
@@ -59,9 +59,9 @@ own-counted client n m journal None within at is =
 -- a slot that was reserved serves though another is reserved behind it: the commits are the same, and there is as much memory
 pub slot-stays : (stands_for : List ℕ → Commit → Type 0) (ready : Ready) (slot : Slot) (first second third : Standing)
     → second ≡ record first { room = second.room } → third ≡ record second { room = third.room } → second.room ≤ third.room
-    → IsSlot stands_for ready second slot → IsRunOf ready.body ready.run → length ready.body ≤ LONGEST_BODY
+    → IsSlot stands_for ready second slot → IsRunOf ready.body ready.run → IsBodyText ready.body
     → ready.seq ≡ length (own ready.client first.commits) + 1 → CanAppend stands_for ready slot third
-slot-stays stands_for ready slot first second third once twice more is run short next =
+slot-stays stands_for ready slot first second third once twice more is run kept next =
     let same : third.commits ≡ second.commits = ap (λ s. s.commits) twice in
     let before : third.commits ≡ first.commits = same ∙ ap (λ s. s.commits) once in
     record {
@@ -71,6 +71,6 @@ slot-stays stands_for ready slot first second third once twice more is run short
         room = omega (arith, is.room, more);
       };
       run = run;
-      short = short;
+      body_text = kept;
       next = next ∙ ap (λ commits. length (own ready.client commits) + 1) (sym before);
     }

@@ -1,9 +1,11 @@
 //! Attempts stepped through by hand: runs that go on from their pauses, and what is handed to the journal. Shard numbers were
 //! worked out apart from the code, by the rule of the printed address.
 
-ghost use Rattle.std.specs.Prelude.{◌≡◌, ◌≤◌, length, Some, IfOk};
+ghost use Rattle.std.specs.Prelude.{◌≡◌, Some, IfOk};
 ghost use Rattle.std.specs.Bool.{OnTrue};
 ghost use Rattle.txn_lang.specs.Tree.{tree};
+ghost use Rattle.journal_core.specs.Bodies.{IsBodyText};
+ghost use Rattle.journal_core.specs.Bodies as bodies;
 ghost use Rattle.docc_prepare.specs.Attempts.{PausesAt, KeepsPauses, Prepares, next_event};
 
 mod appending;
@@ -11,6 +13,7 @@ mod appending;
 use abort_witness::Based;
 use conflict_table::Obs;
 use docc_prepare::{Attempt, Next};
+use dtext::is_blank;
 use journal_core::Ready;
 use plain_data::Text;
 use rdt_types::{Address, Value};
@@ -20,12 +23,30 @@ use txn_lang::{CheckError, Checked, Run, Snap, check};
 use txn_parse::parse;
 use version_shard::Prepared;
 
+/// Whether a text's last byte is a blank.
+fn ends_in_blank(text: &[u8]) -> bool
+    ensures { result ≡ bodies.ends_in_blank text.now }
+{
+    match text {
+        [] => false,
+        [last] => is_blank(*last),
+        [_, rest @ ..] => ends_in_blank(rest),
+    }
+}
+
+/// Whether a text may be kept as a body's: it is short, and has no blank at its end.
+fn is_body_text(text: &[u8]) -> bool
+    ensures { OnTrue result (IsBodyText text.now) }
+{
+    text.len() <= 4096 && !ends_in_blank(text)
+}
+
 /// A body that is read and checked.
 fn checked(alloc: Global, source: &[u8]) -> Result<Checked, CheckError>
     ensures read { IfOk result (λ body. tree body.source ≡ Some body.body) }
-    ensures short { IfOk result (λ body. length body.source ≤ 4096) }
+    ensures body_text { IfOk result (λ body. IsBodyText body.source) }
 {
-    if source.len() > 4096 {
+    if !is_body_text(source) {
         return Err(CheckError::NoMemory);
     }
     let Ok(body) = parse(alloc, source) else {

@@ -7,7 +7,7 @@ ghost use Rattle.std.specs.Bool.{OnTrue, OnFalse};
 ghost use Rattle.std.specs.Option.{option_copied};
 ghost use Rattle.rdt_types.specs.declared.limits.TheConstants.{LEAST_COMMITS, MOST_COMMITS};
 ghost use Rattle.txn_lang.specs.Journals.{own};
-ghost use Rattle.journal_core.specs.declared.limits.TheConstants.{LONGEST_BODY};
+ghost use Rattle.journal_core.specs.Bodies.{IsBodyText};
 ghost use Rattle.journal_core.specs.Journals.{CanAppend, Decides};
 ghost use Rattle.journal_core.specs.Keeping.{Keeps};
 ghost use Rattle.journal_core.specs.Kinds.{AreOfTheirKinds, HasKinds};
@@ -151,7 +151,7 @@ fn read_at(alloc: Global, base: u64) -> Result<BasedList, AllocError>
 /// The run of a text that reads nothing, and the text.
 fn ran(alloc: Global, source: &[u8]) -> Result<(Text, Run), AllocError>
     ensures run { IfOk result (λ done. IsRunOf done.0 done.1) }
-    ensures short { IfOk result (λ done. length done.0 ≤ LONGEST_BODY) }
+    ensures body_text { IfOk result (λ done. IsBodyText done.0) }
 {
     let Ok(body) = checked(alloc, source) else {
         return Err(AllocError);
@@ -171,7 +171,7 @@ fn handed(
     base: u64,
 ) -> Result<Ready, AllocError>
     ensures run { IfOk result (λ ready. IsRunOf ready.body ready.run) }
-    ensures short { IfOk result (λ ready. length ready.body ≤ LONGEST_BODY) }
+    ensures body_text { IfOk result (λ ready. IsBodyText ready.body) }
     ensures client { IfOk result (λ ready. ready.client ≡ client) }
     ensures seq { IfOk result (λ ready. ready.seq ≡ seq) }
     ensures observed { IfOk result (λ ready. AreBasedOfOneKind ready.based) }
@@ -217,7 +217,7 @@ fn clash(witness: &Witness) -> End {
 /// What comes of an append.
 fn append<K: Keep>(journal: &mut Journal<K>, ready: &Ready) -> Result<End, AllocError>
     requires run { IsRunOf ready.now.body ready.now.run }
-    requires short { length ready.now.body ≤ LONGEST_BODY }
+    requires body_text { IsBodyText ready.now.body }
     requires next { ready.now.seq ≡ length (own ready.now.client journal.old.commits) + 1 }
     requires observed { AreBasedOfOneKind ready.now.based }
 {
@@ -269,7 +269,7 @@ fn goes_first(
     second: &Ready,
 ) -> Result<bool, AllocError>
     requires run { IsRunOf first.now.body first.now.run }
-    requires short { length first.now.body ≤ LONGEST_BODY }
+    requires body_text { IsBodyText first.now.body }
     requires next { first.now.seq ≡ length (own first.now.client journal.old.commits) + 1 }
 {
     if first.based.len() > 9 {
@@ -339,6 +339,8 @@ impl Keep for Failing {
     ghost kept = { λ _. None };
 
     ghost keep_faults = { λ keeper. keeper.faults };
+
+    ghost home = { λ _. 0 };
 
     ghost may_fail = { true };
 
@@ -491,6 +493,8 @@ impl Keep for Telling {
     ghost kept = { λ keeper. Some keeper.list };
 
     ghost keep_faults = { λ keeper. keeper.faults };
+
+    ghost home = { λ _. 0 };
 
     ghost may_fail = { true };
 

@@ -8,7 +8,7 @@ pub append-requires-clause-can_append : goal.append-requires-clause-can_append
 append-requires-clause-can_append g c = record {
   slot_is = c.in_ok-slot.ensures.slot;
   run = c.requires.can.run;
-  short = c.requires.can.short;
+  body_text = c.requires.can.body_text;
   next = c.requires.can.next ∙ ap (λ (s : Standing). length (own c.args.ready.now.client s.commits) + 1) (sym c.reserve.ensures.same);
 }
 

@@ -9,7 +9,7 @@ pub append-requires-clause-can_append : goal.append-requires-clause-can_append
 append-requires-clause-can_append g c = record {
   slot_is = c.in_ok-slot.ensures.slot;
   run = c.requires.may.run;
-  short = c.requires.may.short;
+  body_text = c.requires.may.body_text;
   next = c.requires.may.next ∙ ap (λ (s : Standing). length (own c.args.ready.now.client s.commits) + 1) (sym c.reserve.ensures.same);
 }
 

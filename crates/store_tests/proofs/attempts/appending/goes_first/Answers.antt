@@ -5,4 +5,4 @@ use Rattle.store_tests.proofs.attempts.appending.goes_first.Goals as goal
 pub decided-answer-requires-clause-can : goal.decided-answer-requires-clause-can
 decided-answer-requires-clause-can c =
     slot-stays _ c.args.first.now c.in_ok-slot.slot c.args.journal.now c.reserve.new.self c.reserve-2.new.self c.in_ok-slot.ensures.same
-    c.reserve-2.ensures.same c.reserve-2.ensures.kept c.in_ok-slot.ensures.slot c.requires.run c.requires.short c.requires.next
+    c.reserve-2.ensures.same c.reserve-2.ensures.kept c.in_ok-slot.ensures.slot c.requires.run c.requires.body_text c.requires.next
