@@ -2,25 +2,20 @@
 use Rattle.std.proofs.Common.{◌≡◌, ℕ, ◌≤◌, [], length, None, sym, ap, ◌∙◌, subst}
 use Rattle.rdt_types.specs.declared.limits.TheConstants.{LEAST_SHARDS, MOST_SHARDS}
 use Rattle.txn_lang.specs.Journals.{IsLegal, own}
-use Rattle.client_watches.specs.Standing.{CanReadOn}
 use Rattle.client_watches.specs.Watching.{none_yet}
-use Rattle.client_watches.proofs.Lined.{beginnings_attend}
 use Rattle.diamond_store.specs.Passes.{Passed, known_of}
 use Rattle.session_core.specs.declared.session.Session.{Session}
 use Rattle.session_core.specs.Holding.{Follows}
 use Rattle.session_core.proofs.Grown.{prefix-whole}
 use Rattle.diamond_server.specs.Promises.{IsNew}
+use Rattle.diamond_server.specs.Readable.{StaysReadable}
 use Rattle.diamond_server.proofs.Talked.{new-attends}
 
--- where nothing is taken on trust, and the client has no commit
-pub pass-is-new : (p : Passed) → own p.client p.journal ≡ [] → p.trusted ≡ 0 → p.seen ≤ length p.journal → IsLegal p.trusted p.journal
+-- where the client has no commit, and what the pass knows stays readable
+pub pass-is-new : (p : Passed) → own p.client p.journal ≡ [] → StaysReadable p → p.seen ≤ length p.journal → IsLegal p.trusted p.journal
     → IsNew (known_of p)
-pass-is-new p none trusted within legal = record {
-  none = none;
-  within = within;
-  can = beginnings_attend.readable p.journal p.journal (prefix-whole p.journal) (subst (λ (n : ℕ). IsLegal n p.journal) trusted legal);
-  can_on = subst (λ (n : ℕ). CanReadOn n p.journal) (sym trusted) (beginnings_attend.readable p.journal);
-}
+pass-is-new p none readable within legal =
+    record { none = none; within = within; can = readable.on p.journal (prefix-whole p.journal) legal; can_on = readable.on }
 
 -- the session that begins
 abbrev pub begins : ℕ → ℕ → Session

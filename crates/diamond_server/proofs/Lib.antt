@@ -2,5 +2,6 @@ pub mod Talked
 pub mod Lines
 pub mod Promises
 pub mod Beginning
+pub mod Readable
 pub mod Settled
 pub mod Listing

@@ -23,6 +23,7 @@ use Rattle.diamond_server.specs.declared.status.TheConstants.{NO_CLIENT}
 use Rattle.diamond_server.specs.declared.serving_all.Tally.{Tally}
 use Rattle.diamond_server.specs.Talking.{Told, first_session, texts_of, turns_of}
 use Rattle.diamond_server.specs.Promises.{IsAccounted, IsHeard, Promises}
+use Rattle.diamond_server.specs.Readable.{StaysReadable}
 
 -- ---- one link
 
@@ -39,10 +40,10 @@ pub record Seat (L : Type 0) : Type 0 where
   pub was : L
   pub joined : Result Passed JoinError
 
--- a new client: it has no commit, and the store took none on trust
+-- a new client: it has no commit in the journal that it knows, and that can be read however legally it grows
 pub record IsNewcomer (pass : Passed) : Type 0 where
   pub none : own pass.client pass.journal ≡ []
-  pub trusted : pass.trusted ≡ 0
+  pub readable : StaysReadable pass
 
 -- the status of a link that isn't read
 abbrev pub unread : JoinError → ℕ

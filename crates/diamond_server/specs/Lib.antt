@@ -1,4 +1,5 @@
 pub mod Talking
 pub mod Promises
+pub mod Readable
 pub mod Accounts
 pub mod code

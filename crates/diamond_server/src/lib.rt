@@ -10,12 +10,14 @@
 mod answering;
 mod begun;
 mod ended;
+mod laws;
 mod link;
 mod replies;
 mod serving;
 mod serving_all;
 mod status;
 
+pub use laws::trusted_journals_stay_readable;
 pub use serving::serve_session;
 pub use serving_all::{Tally, serve_all};
 pub use status::{NO_CLIENT, STORE_FAULT};

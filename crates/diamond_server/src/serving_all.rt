@@ -5,6 +5,7 @@ ghost use Rattle.diamond_store.specs.Answers.{Learns};
 ghost use Rattle.script_runner.specs.declared.status.TheConstants.{WHOLE};
 ghost use Rattle.diamond_server.specs.Accounts.{seat_of, joined_in, link_in, gatherings, Accepting, ServedSince};
 ghost use Rattle.diamond_server.specs.Promises.{sides};
+ghost use Rattle.diamond_server.specs.Readable.{StaysReadable};
 ghost use Rattle.diamond_server.specs.code.Settling.{IsNear, JoinsNext, Settling};
 
 use crate::begun::{Begun, begin};
@@ -50,7 +51,7 @@ pub fn serve_all<
     pass: &mut Pass<K, N>,
     sessions: u32,
 ) -> Result<Tally, AllocError>
-    requires trusted { pass.old.trusted ≡ 0 }
+    requires readable { StaysReadable pass.old }
     ensures learns { Learns pass.old pass.new }
     ensures served { IfOk result (ServedSince (sides Li.Link.Source Li.Link.Sink) N.lock.first pass.old pass.new sessions
         (gatherings Li.Listener listener.old listener.new)) }
@@ -81,7 +82,7 @@ fn run_scoped<
     pass: &mut Pass<K, N>,
     sessions: u32,
 ) -> Result<(Vec<Ended<Li::Link, K, N>>, bool), AllocError>
-    requires trusted { pass.old.trusted ≡ 0 }
+    requires readable { StaysReadable pass.old }
     ensures learns { Learns pass.old pass.new }
     ensures given { Li.given_back listener.new ≡ Li.given_back listener.old }
     ensures accepted { IfOk result (λ r. Accepting pass.new (N.lock.first + pass.old.draws) (N.lock.first + pass.new.draws) sessions
@@ -92,7 +93,7 @@ fn run_scoped<
         thread::scope_env(),
         rt,
         move |scope|
-            requires trusted { pass.now.trusted ≡ 0 }
+            requires readable { StaysReadable pass.now }
         {
             let ran = run_all(scope, rt, alloc, listener, store, pass, sessions);
             (ran, listener, pass)
@@ -127,7 +128,7 @@ fn run_all<
     pass: &mut Pass<K, N>,
     sessions: u32,
 ) -> Result<(Vec<Ended<Li::Link, K, N>>, bool), AllocError>
-    requires trusted { pass.old.trusted ≡ 0 }
+    requires readable { StaysReadable pass.old }
     ensures learns { Learns pass.old pass.new }
     ensures given { Li.given_back listener.new ≡ Li.given_back listener.old }
     ensures accepted { IfOk result (λ r. Accepting pass.new (N.lock.first + pass.old.draws) (N.lock.first + pass.new.draws) sessions
@@ -156,7 +157,7 @@ fn accept_all<
     pass: &mut Pass<K, N>,
     sessions: u32,
 ) -> Result<(Vec<Begun<Li::Link, K, N>>, bool), AllocError>
-    requires trusted { pass.old.trusted ≡ 0 }
+    requires readable { StaysReadable pass.old }
     ensures learns { Learns pass.old pass.new }
     ensures given { Li.given_back listener.new ≡ Li.given_back listener.old }
     ensures accepted { IfOk result (λ r. Accepting pass.new (N.lock.first + pass.old.draws) (N.lock.first + pass.new.draws) sessions
@@ -194,7 +195,7 @@ fn begin_next<
     pass: &mut Pass<K, N>,
     link: L,
 ) -> Begun<L, K, N>
-    requires trusted { pass.old.trusted ≡ 0 }
+    requires readable { StaysReadable pass.old }
     ensures learns { Learns pass.old pass.new }
     ensures link { link_in result ≡ link }
     ensures joined { JoinsNext pass.new (N.lock.first + pass.old.draws) (N.lock.first + pass.new.draws) (joined_in result) }

@@ -298,6 +298,8 @@ impl Keep for Denying {
 
     ghost keep_faults = { λ keeper. keeper.faults };
 
+    ghost home = { λ _. 0 };
+
     ghost may_fail = { true };
 
     ghost stands_for = { λ bytes _. bytes ≡ [] };

@@ -12,14 +12,14 @@ use Rattle.diamond_server.proofs.ended.serve.Goals as goal
 -- the pass's client is new
 pub serve_session-status-requires : goal.serve_session-status-requires
 serve_session-status-requires g c = record {
-  new = pass-is-new c.args.pass c.requires.newcomer.none c.requires.newcomer.trusted c.seen-seen.ensures.within c.seen-seen.ensures.legal;
+  new = pass-is-new c.args.pass c.requires.newcomer.none c.requires.newcomer.readable c.seen-seen.ensures.within c.seen-seen.ensures.legal;
 }
 
 -- the session is explained by what the pass knows at its end
 pub returns : goal.returns
 returns g c =
     let told = sides g.L.Source g.L.Sink in
-    let new = pass-is-new c.args.pass c.requires.newcomer.none c.requires.newcomer.trusted c.seen-seen.ensures.within c.seen-seen.ensures.legal in
+    let new = pass-is-new c.args.pass c.requires.newcomer.none c.requires.newcomer.readable c.seen-seen.ensures.within c.seen-seen.ensures.legal in
     let range = subst (λ (n : ℕ). (LEAST_SHARDS ≤ n) × (n ≤ MOST_SHARDS)) c.shards-shards.ensures.shards c.shards-shards.ensures.in_range in
     let begins = new-attends (known_of c.args.pass) range new in
     let ends = sides-same g.L.Source g.L.Sink c.end.new.self
