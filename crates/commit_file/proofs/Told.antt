@@ -7,12 +7,11 @@ use Rattle.dio_core.specs.Moments.{LeavesOnly, AtAnyMoment}
 use Rattle.commit_file.specs.declared.gate.Outcome.{Outcome}
 use Rattle.commit_file.specs.declared.gate.Outcome.TheVariants.{Done, Behind, AtGate}
 use Rattle.commit_file.specs.declared.keeper.Trouble.{Trouble}
-use Rattle.commit_file.specs.Files.{Contents, all_of, with_payload}
+use Rattle.commit_file.specs.Files.{Contents, with_payload}
 use Rattle.commit_file.specs.Kept.{Meaning, IsProper, IsBeforeOrAfter}
 use Rattle.commit_file.specs.Standing.{SetsGate, gate_moments}
 use Rattle.commit_file.specs.Through.{PassesAmong}
-use Rattle.commit_file.specs.Keepers.{Stands, IsHeld, IsSpelled, FollowsToo, is_doubtful, kept_by, doubtful_by, held_where, payloads_of, doubt_where, mend_moments, Mends, added, RunsInTurn}
-use Rattle.commit_file.proofs.Frames.{all_of-with}
+use Rattle.commit_file.specs.Keepers.{Stands, IsHeld, IsSpelled, FollowsToo, is_doubtful, kept_by, doubtful_by, held_where, doubt_where, mend_moments, Mends, grown, RunsInTurn}
 use Rattle.commit_file.proofs.Runs.{AtAnyMoment-among}
 use Rattle.commit_file.proofs.Standings.{mend_held, mend_done, mend_failed, keep_held, keep_stands, StandsAfter, held_now, reads_now}
 
@@ -65,11 +64,11 @@ keep-throughout m end (Some s) new a b bytes p stands passes next = λ follow.
 abbrev pub KeptTold : Outcome → ℕ → List ℕ → List ℕ → Option DiskState → Option DiskState → Type 0
 KeptTold Done end bytes p old new =
     IfSome new (Stands false (end + length bytes))
-    × (payloads_of (held_where (end + length bytes) new) ≡ added (payloads_of (held_where end old)) p)
+    × (held_where (end + length bytes) new ≡ grown (held_where end old) p)
 KeptTold Behind end bytes p old new =
-    IfSome new (Stands false end) × (payloads_of (held_where end new) ≡ payloads_of (held_where end old))
+    IfSome new (Stands false end) × (held_where end new ≡ held_where end old)
 KeptTold AtGate end bytes p old new =
-    IfSome new (Stands true end) × (payloads_of (held_where end new) ≡ payloads_of (held_where end old))
+    IfSome new (Stands true end) × (held_where end new ≡ held_where end old)
     × IfSome new (λ u. doubtful_by end u ≡ p)
 
 pub keep-stands : (r : Outcome) (end : ℕ) (bytes p : List ℕ) (old new : Option DiskState) → IfSome old (Stands false end)
@@ -82,9 +81,9 @@ keep-stands r end bytes p (Some s) None stands next keeps = absurd keeps
 keep-stands r end bytes p (Some s) (Some u) stands next keeps = told r (keep_stands r end s bytes p u stands next keeps)
   where
     told : (r : Outcome) → StandsAfter r end s bytes p u → KeptTold r end bytes p (Some s) (Some u)
-    told Done all = (all.0, ap (λ c. Some (all_of c)) all.1 ∙ ap Some (all_of-with (kept_by end s) p))
-    told Behind all = (all.0, ap (λ c. Some (all_of c)) all.1)
-    told AtGate all = (all.0, ap (λ c. Some (all_of c)) all.1, all.2)
+    told Done all = (all.0, ap Some all.1)
+    told Behind all = (all.0, ap Some all.1)
+    told AtGate all = (all.0, ap Some all.1, all.2)
 
 -- between two calls
 pub sure_now : (m : Meaning) (b : Bool) (end : ℕ) (state : Option DiskState) → IfSome state (Stands b end)

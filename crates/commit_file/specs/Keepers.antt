@@ -142,14 +142,6 @@ held_where end (Some s) = Some (kept_by end s)
 abbrev pub held_of : Keeper → Option Contents
 held_of k = held_where k.end k.state
 
-abbrev pub payloads_of : Option Contents → Option (List (List ℕ))
-payloads_of None = None
-payloads_of (Some c) = Some (all_of c)
-
--- their payloads
-abbrev pub kept_of : Keeper → Option (List (List ℕ))
-kept_of k = payloads_of (held_of k)
-
 -- the payload that a crash may leave behind them besides, where there is one
 abbrev pub doubt_where : Bool → ℕ → Option DiskState → Option (List ℕ)
 doubt_where false end state = None
@@ -159,15 +151,15 @@ doubt_where true end (Some s) = Some (doubtful_by end s)
 abbrev pub doubt_of : Keeper → Option (List ℕ)
 doubt_of k = doubt_where k.doubtful k.end k.state
 
--- the list with a payload more, where it is told
-abbrev pub added : Option (List (List ℕ)) → List ℕ → Option (List (List ℕ))
-added None p = None
-added (Some ps) p = Some (ps ++ p ∷ [])
+-- the contents with a payload more, where they are told
+abbrev pub grown : Option Contents → List ℕ → Option Contents
+grown None p = None
+grown (Some c) p = Some (with_payload c p)
 
 -- the payload that these bytes stand for is kept behind the others, and none is doubtful
 abbrev pub Keeps : List ℕ → Keeper → Keeper → Type 0
 Keeps bytes old new =
-    (new.doubtful ≡ false) × ((p : List ℕ) → IsSpelled bytes p → kept_of new ≡ added (kept_of old) p)
+    (new.doubtful ≡ false) × ((p : List ℕ) → IsSpelled bytes p → held_of new ≡ grown (held_of old) p)
 
 -- what is doubtful then is what was before, or the payload that these bytes stand for
 abbrev pub Doubts : List ℕ → Keeper → Keeper → Type 0

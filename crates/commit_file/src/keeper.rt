@@ -5,7 +5,7 @@ ghost use Rattle.dio_core.specs.Counts.{IsCounted};
 ghost use Rattle.dio_core.specs.Told.{WhereTold};
 ghost use Rattle.commit_file.specs.Kept.{Meaning};
 ghost use Rattle.commit_file.specs.Through.{PassesAmong};
-ghost use Rattle.commit_file.specs.Keepers.{Stands, MayHold, Mends, mend_moments, IsJournal, IsSpelled, IsSpelling, MayFollow, MayHoldNext, held_of, kept_of, doubt_of, doubtful_by, Keeps, Doubts, IsSound, Throughout, KeepsSafe, IsSure};
+ghost use Rattle.commit_file.specs.Keepers.{Stands, MayHold, Mends, mend_moments, IsJournal, IsSpelled, IsSpelling, MayFollow, MayHoldNext, held_of, doubt_of, doubtful_by, Keeps, Doubts, IsSound, Throughout, KeepsSafe, IsSure};
 
 use crate::gate::{CLOSED, OPEN, Outcome, set_gate};
 use crate::through::write_through;
@@ -108,7 +108,7 @@ impl<'a, D: Disk> FileKeeper<'a, D> {
         requires sound { IsSound self.old }
         requires next { IsSpelling bytes.now }
         ensures ok { OnOk result (Keeps bytes.now self.old self.new) }
-        ensures err { OnErr result (kept_of self.new ≡ kept_of self.old) }
+        ensures err { OnErr result (held_of self.new ≡ held_of self.old) }
         ensures doubt { OnErr result ((p : List ℕ) → IsSpelled bytes.now p → self.new.doubtful ≡ true
             → IfSome self.new.state (λ u. doubtful_by self.new.end u ≡ p)) }
         ensures any_moment { (m : Meaning) (p : List ℕ) → IsSpelled bytes.now p
@@ -137,8 +137,7 @@ impl<'a, D: Disk> FileKeeper<'a, D> {
         ensures ok { OnOk result (IsSound self.new) }
         ensures err { OnErr result ((self.new.doubtful ≡ self.old.doubtful) × (self.new.unsound ≡ self.old.unsound)
             × (doubt_of self.new ≡ doubt_of self.old)) }
-        ensures kept { kept_of self.new ≡ kept_of self.old }
-        ensures held { held_of self.new ≡ held_of self.old }
+        ensures kept { held_of self.new ≡ held_of self.old }
 
         // A crash at any moment leaves the payloads, or these and the doubtful one.
         ensures any_moment { (m : Meaning) → Throughout (IsJournal m self.old) (MayHold m self.old) self.old self.new }
@@ -156,7 +155,7 @@ impl<'a, D: Disk> FileKeeper<'a, D> {
     pub fn keep(&mut self, bytes: &[u8]) -> Result<(), KeepFault>
         requires next { IsSpelling bytes.now }
         ensures ok { OnOk result (Keeps bytes.now self.old self.new) }
-        ensures err { OnErr result (kept_of self.new ≡ kept_of self.old) }
+        ensures err { OnErr result (held_of self.new ≡ held_of self.old) }
         ensures doubt { OnErr result (Doubts bytes.now self.old self.new) }
 
         // A crash leaves what it might have left before, up to some moment, and then the payloads, or these and this one.

@@ -21,7 +21,7 @@ returns-clause-any_moment g c = λ m p next.
     let old = c.args.self.now in
     let mid = c.mend.new.self in
     let new = c.keep_next.new.self in
-    turns m old.doubtful old.end mid.end p old.state mid.state new.state old.past mid.past new.past c.mend.ensures.held (c.mend.ensures.any_moment m)
+    turns m old.doubtful old.end mid.end p old.state mid.state new.state old.past mid.past new.past c.mend.ensures.kept (c.mend.ensures.any_moment m)
     (c.keep_next.ensures.any_moment m p next)
 
 pub returns-in_err-mend-clause-doubt : goal.returns-in_err-mend-clause-doubt

@@ -3,7 +3,7 @@ use Rattle.dio_core.specs.Disks.{DiskState}
 use Rattle.dio_core.specs.Moments.{AtAnyMoment}
 use Rattle.commit_file.specs.declared.gate.Outcome.TheVariants.{Done, Behind, AtGate}
 use Rattle.commit_file.specs.Kept.{Meaning}
-use Rattle.commit_file.specs.Keepers.{Keeper, Stands, IsSpelled, MayFollow, MayHoldNext, added, is_doubtful, kept_by, kept_of}
+use Rattle.commit_file.specs.Keepers.{Keeper, Stands, IsSpelled, MayFollow, MayHoldNext, grown, held_of, is_doubtful, kept_by}
 use Rattle.commit_file.proofs.Told.{keep-throughout, keep-stands, KeptTold}
 use Rattle.commit_file.proofs.keeper.FileKeeper.keep_next.Given as given
 use Rattle.commit_file.proofs.keeper.FileKeeper.keep_next.Goals.{After-set_gate}
@@ -54,18 +54,18 @@ returns-in-Done-clause-ok g c =
       shut g a,
       λ p is.
           let told = rw c.in-Done.is at (after g a p is) in
-          told.1 ∙ ap (λ (k : Keeper). added (kept_of k) p) c.self.view_is,
+          told.1 ∙ ap (λ (k : Keeper). grown (held_of k) p) c.self.view_is,
     )
 
 pub returns-in-Behind-clause-err : goal.returns-in-Behind-clause-err
 returns-in-Behind-clause-err g c =
     let told = rw c.in-Behind.is at (after g (goal.at.returns-in-Behind-clause-err g c).After-set_gate c.requires.next.0 c.requires.next.1) in
-    told.1 ∙ ap (λ (k : Keeper). kept_of k) c.self.view_is
+    told.1 ∙ ap (λ (k : Keeper). held_of k) c.self.view_is
 
 pub returns-in-AtGate-clause-err : goal.returns-in-AtGate-clause-err
 returns-in-AtGate-clause-err g c =
     let told = rw c.in-AtGate.is at (after g (goal.at.returns-in-AtGate-clause-err g c).After-set_gate c.requires.next.0 c.requires.next.1) in
-    told.1 ∙ ap (λ (k : Keeper). kept_of k) c.self.view_is
+    told.1 ∙ ap (λ (k : Keeper). held_of k) c.self.view_is
 
 pub returns-in-Done-clause-any_moment : goal.returns-in-Done-clause-any_moment
 returns-in-Done-clause-any_moment g c = throughout g (goal.at.returns-in-Done-clause-any_moment g c).After-set_gate

@@ -1,0 +1,14 @@
+pub mod LeftDeltas
+pub mod LeftWords
+pub mod LeftSteps
+pub mod Left
+pub mod Loop
+pub mod Maps
+pub mod Codes
+pub mod OutcomeCodes
+pub mod DeltaCodes
+pub mod KindsTold
+pub mod Commits
+pub mod Bodies
+pub mod Rising
+pub mod Answered

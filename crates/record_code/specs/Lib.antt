@@ -1,0 +1,9 @@
+pub mod Spelling
+pub mod Fields
+pub mod Reading
+pub mod Room
+pub mod Forms
+pub mod Payloads
+pub mod Laws
+pub mod Examples
+pub mod code

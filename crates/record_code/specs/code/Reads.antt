@@ -1,0 +1,36 @@
+-- What the readers of the code answer: the value that a definition reads and the bytes behind it, or that nothing is
+-- read, want of memory aside.
+use Rattle.std.specs.Prelude.{◌≡◌, ◌⊎◌, ℕ, Bool, true, false, Option, Some, None, Result, Ok, Err}
+use Rattle.record_code.specs.declared.field_error.FieldError.{FieldError}
+use Rattle.record_code.specs.declared.field_error.FieldError.TheVariants as errors
+use Rattle.record_code.specs.declared.decode_error.DecodeError.{DecodeError}
+use Rattle.record_code.specs.declared.decode_error.DecodeError.TheVariants as decode_errors
+
+-- nothing is read where the field is malformed
+abbrev pub Refuses : {A : Type 0} → FieldError → Option A → Type 0
+Refuses errors.Malformed read = read ≡ None
+Refuses errors.NoMemory read = Unit {0}
+
+-- `seen` is what contracts see of what the code answers
+abbrev pub Reads : {A B : Type 0} → (A → B) → Result A FieldError → Option B → Type 0
+Reads seen (Ok x) read = read ≡ Some (seen x)
+Reads seen (Err error) read = Refuses error read
+
+-- the value that passes a test comes back, want of memory aside
+abbrev pub Tells : {A : Type 0} → Result A FieldError → A → Bool → Type 0
+Tells (Ok x) value passes = (x ≡ value) × (passes ≡ true)
+Tells (Err errors.Malformed) value passes = passes ≡ false
+Tells (Err errors.NoMemory) value passes = Unit {0}
+
+-- a field of a payload is read as a definition reads it, or the place of the field is named, want of memory aside
+abbrev pub Decodes : {A B : Type 0} → (A → B) → Result A DecodeError → Result B ℕ → Type 0
+Decodes seen (Ok x) read = read ≡ Ok (seen x)
+Decodes seen (Err (decode_errors.BadRecord place)) read = read ≡ Err place
+Decodes seen (Err decode_errors.NoMemory) read = Unit {0}
+
+-- what was read goes on, and where nothing was read its place is named, want of memory aside
+abbrev pub Placed : {A : Type 0} → ℕ → Result A FieldError → Result A DecodeError → Type 0
+Placed place (Ok x) answer = answer ≡ Ok x
+Placed place (Err errors.Malformed) answer =
+    (answer ≡ Err (decode_errors.BadRecord place)) ⊎ (answer ≡ Err decode_errors.NoMemory)
+Placed place (Err errors.NoMemory) answer = answer ≡ Err decode_errors.NoMemory
