@@ -1,0 +1,10 @@
+use Rattle.std.proofs.Common.{◌≡◌, map, Some, subst}
+use Rattle.txn_lang.specs.States.{Journal}
+use Rattle.record_code.specs.Payloads.{payload}
+use Rattle.journal_file.specs.Commits.{commits_of}
+use Rattle.journal_file.proofs.Chained.{continued-read}
+use Rattle.journal_file.proofs.chain.CommitChain.is_read.Goals as goal
+
+pub returns : goal.returns
+returns c =
+    subst (λ (j : Journal). commits_of (map payload j) ≡ Some j) c.self.view_is (continued-read c.self.inside.commits c.self.invariant.continued)

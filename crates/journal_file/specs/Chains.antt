@@ -1,0 +1,35 @@
+-- Commits that were taken one behind another: what is known of each, and how many each client has.
+use Rattle.std.specs.Prelude.{◌≡◌, ℕ, List, length, Option, Some, None}
+use Rattle.std.specs.Map.{lookup}
+use Rattle.std.specs.BTreeMap.{is_at}
+use Rattle.std.specs.Ordering.{nat_cmp}
+use Rattle.plain_data.specs.Histories.{IsLawful}
+use Rattle.txn_lang.specs.declared.commit.Commit.{Commit}
+use Rattle.txn_lang.specs.States.{Journal}
+use Rattle.txn_lang.specs.Journals.{own}
+use Rattle.journal_core.specs.Keeping.{IsNext}
+use Rattle.commit_file.specs.declared.version.Version.TheVariants.{Two}
+use Rattle.record_code.specs.Payloads.{IsRecorded}
+
+-- The commit may stand behind these: it has a payload, the next number, and the next seq of its client.
+pub record Continues (before : Journal) (commit : Commit) : Type 0 where
+  pub recorded : IsRecorded Two commit
+  pub next : IsNext before commit
+
+-- each commit may stand behind those before it
+abbrev pub AreContinued : Journal → Type 0
+AreContinued journal = IsLawful (λ base before commit. Continues before commit) 0 journal
+
+-- how many there are, or 0
+abbrev pub or_zero : Option ℕ → ℕ
+or_zero None = 0
+or_zero (Some n) = n
+
+-- how many commits of a client were counted
+abbrev pub counted : List (ℕ × ℕ) → ℕ → ℕ
+counted seqs client = or_zero (lookup (is_at (nat_cmp client)) seqs)
+
+-- The commits are continued, and each client's are counted.
+pub record IsChain (seqs : List (ℕ × ℕ)) (commits : Journal) : Type 0 where
+  pub continued : AreContinued commits
+  pub counts : (client : ℕ) → counted seqs client ≡ length (own client commits)

@@ -1,0 +1,13 @@
+//! The journal in a file: commits, written as payloads one behind another. It says of any bytes which commits they are
+//! kept as, brings a file that a crash has left to rest, and keeps commits in it for a journal.
+//!
+//! Read `specs/Commits.antt` first, for what a file is kept as, then `specs/Keepers.antt`, for what a keeper promises.
+#![tactic(auto)]
+
+mod chain;
+mod coded;
+mod keeper;
+mod recovering;
+
+pub use keeper::CommitKeeper;
+pub use recovering::{Recovered, read_kept, recover};
