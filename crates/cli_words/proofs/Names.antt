@@ -35,6 +35,7 @@ option_named-complete option.Window = refl
 option_named-complete option.Limit = refl
 option_named-complete option.Sessions = refl
 option_named-complete option.Address = refl
+option_named-complete option.File = refl
 
 -- the same of commands
 pub command_named-sound : (w : Word) (c : CommandName) → command_named w ≡ Some c → w ≡ command_word c
@@ -53,6 +54,7 @@ takes-sound command.Run option.Window h = tt
 takes-sound command.Run option.Limit h = tt
 takes-sound command.Run option.Sessions h = absurd (cc)
 takes-sound command.Run option.Address h = absurd (cc)
+takes-sound command.Run option.File h = absurd (cc)
 
 -- and what the form lets a command take passes the test
 pub takes-complete : (c : CommandName) (o : OptionName) → Takes c o → takes c o ≡ true
@@ -62,6 +64,7 @@ takes-complete command.Run option.Window h = refl
 takes-complete command.Run option.Limit h = refl
 takes-complete command.Run option.Sessions h = absurd h
 takes-complete command.Run option.Address h = absurd h
+takes-complete command.Run option.File h = absurd h
 
 -- ---- a name and a value in one word
 
@@ -82,6 +85,7 @@ name-alone option.Window = refl
 name-alone option.Limit = refl
 name-alone option.Sessions = refl
 name-alone option.Address = refl
+name-alone option.File = refl
 
 -- so none has a value
 pub value-alone : (o : OptionName) → has_value (option_word o) ≡ false
@@ -90,6 +94,7 @@ value-alone option.Window = refl
 value-alone option.Limit = refl
 value-alone option.Sessions = refl
 value-alone option.Address = refl
+value-alone option.File = refl
 
 -- and where `=` stands behind it, that is the first
 pub name-joined : (o : OptionName) (value : Word) → name_part (option_word o ++ EQUALS ∷ value) ≡ option_word o
@@ -98,6 +103,7 @@ name-joined option.Window value = refl
 name-joined option.Limit value = refl
 name-joined option.Sessions value = refl
 name-joined option.Address value = refl
+name-joined option.File value = refl
 
 -- what stands behind is the value
 pub value-joined : (o : OptionName) (value : Word) → value_part (option_word o ++ EQUALS ∷ value) ≡ value
@@ -106,6 +112,7 @@ value-joined option.Window value = refl
 value-joined option.Limit value = refl
 value-joined option.Sessions value = refl
 value-joined option.Address value = refl
+value-joined option.File value = refl
 
 -- as the place of `=` is within the word
 pub has_value-joined : (o : OptionName) (value : Word) → has_value (option_word o ++ EQUALS ∷ value) ≡ true
@@ -114,3 +121,4 @@ has_value-joined option.Window value = lt-ltb 8 (length (option_word option.Wind
 has_value-joined option.Limit value = lt-ltb 7 (length (option_word option.Limit ++ EQUALS ∷ value)) (omega arith)
 has_value-joined option.Sessions value = lt-ltb 10 (length (option_word option.Sessions ++ EQUALS ∷ value)) (omega arith)
 has_value-joined option.Address value = lt-ltb 9 (length (option_word option.Address ++ EQUALS ∷ value)) (omega arith)
+has_value-joined option.File value = lt-ltb 6 (length (option_word option.File ++ EQUALS ∷ value)) (omega arith)

@@ -98,6 +98,7 @@ completes (reading.Waiting c given option.Window) = value_completes c given (rec
 completes (reading.Waiting c given option.Limit) = value_completes c given (record given { limit = Some 1 }) option.Limit (codes "1") refl
 completes (reading.Waiting c given option.Sessions) = value_completes c given (record given { sessions = Some 1 }) option.Sessions (codes "1") refl
 completes (reading.Waiting c given option.Address) = value_completes c given (record given { address = Some (codes "a") }) option.Address (codes "a") refl
+completes (reading.Waiting c given option.File) = value_completes c given (record given { file = Some (codes "f") }) option.File (codes "f") refl
 
 -- so the words that were read do, and what is read is of a form
 pub goes_on : (words : List Word) (r : Reading) → after words reading.Start ≡ Ok r → GoesOn words
@@ -135,7 +136,7 @@ cut_short words r m e missing = record {
 plan-whole : (c : CommandName) (given : Given) (p : Plan) → IsPlan c given p → IsWhole c given
 plan-whole command.Run given p h = tt
 plan-whole command.Serve given (plan.Run settings) h = absurd h
-plan-whole command.Serve given (plan.Serve settings address sessions) h = ap is_some h.1
+plan-whole command.Serve given (plan.Serve settings address sessions file) h = ap is_some h.1
 
 -- at the end a plan is made of a command and its options alone, which are of a form
 pub spelled : (words : List Word) (r : Reading) (p : Plan) → after words reading.Start ≡ Ok r → Finishes r (Ok p) → Spells words p

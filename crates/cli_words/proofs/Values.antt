@@ -1,14 +1,15 @@
 -- What a value gives, as it is read, is what the forms say.
-use Rattle.std.proofs.Common.{◌≡◌, ◌<◌, ◌^◌, ℕ, Bool, true, false, not, cond, nat_eq, [], ◌∷◌, refl, ap, sym, ◌∙◌, arith}
-use Rattle.std.specs.Prelude.{Option, Some, None, is_some, Ok, Err}
+use Rattle.std.proofs.Common.{◌≡◌, ◌<◌, ◌^◌, ℕ, Bool, true, false, not, nat_eq, [], ◌∷◌, refl, ap, sym, ◌∙◌, arith}
+use Rattle.std.specs.Prelude.{Option, Some, None, is_some, Ok}
 use Rattle.std.proofs.lemmas.Bool.{eqb-false, ne_eqb, not-true}
 use Rattle.rdt_types.specs.declared.limits.TheConstants.{LEAST_SHARDS, MOST_SHARDS, LEAST_WINDOW, MOST_WINDOW, LEAST_COMMITS, MOST_COMMITS}
 use Rattle.cli_words.specs.declared.limits.TheConstants.{LEAST_SESSIONS, MOST_SESSIONS}
 use Rattle.cli_words.specs.declared.name.OptionName.{OptionName}
 use Rattle.cli_words.specs.declared.name.OptionName.TheVariants as option
+use Rattle.cli_words.specs.declared.refusal.Why.{Why}
 use Rattle.cli_words.specs.declared.refusal.Why.TheVariants as why
-use Rattle.cli_words.specs.Forms.{Word, HYPHEN, IsNumber, IsAddress, Given, Gives}
-use Rattle.cli_words.specs.code.Reading.{number_within, is_given, put_number, is_address, with_value}
+use Rattle.cli_words.specs.Forms.{Word, HYPHEN, IsNumber, IsPlace, Given, Gives}
+use Rattle.cli_words.specs.code.Reading.{number_within, is_given, put_number, is_place, put_place, with_value}
 use Rattle.cli_words.proofs.Numbers.{number-sound, number-complete}
 
 -- nothing is there
@@ -39,20 +40,20 @@ put-complete : (least most : ℕ) (word : Word) (put : ℕ → Given) (next : Gi
 put-complete least most word put next n small is e =
     ap (put_number least most put) (number-complete least most word n small is) ∙ ap Ok (sym e)
 
--- the test of an address is that it doesn't begin with `-`
-address-sound : (word : Word) → is_address word ≡ true → IsAddress word
-address-sound [] h = absurd (cc)
-address-sound (b ∷ word) h = eqb-false b HYPHEN (not-true (nat_eq b HYPHEN) h)
+-- the test of an address or a path is that it doesn't begin with `-`
+place-sound : (word : Word) → is_place word ≡ true → IsPlace word
+place-sound [] h = absurd (cc)
+place-sound (b ∷ word) h = eqb-false b HYPHEN (not-true (nat_eq b HYPHEN) h)
 
 -- and so the other way round
-address-complete : (word : Word) → IsAddress word → is_address word ≡ true
-address-complete [] h = absurd h
-address-complete (b ∷ word) h = ap not (ne_eqb b HYPHEN h)
+place-complete : (word : Word) → IsPlace word → is_place word ≡ true
+place-complete [] h = absurd h
+place-complete (b ∷ word) h = ap not (ne_eqb b HYPHEN h)
 
--- an address is given only where the test is passed
-address_by : (t : Bool) (x next : Given) → cond t (Ok x) (Err why.NotAnAddress) ≡ Ok next → (t ≡ true) × (next ≡ x)
-address_by true x next h = (refl, cc)
-address_by false x next h = absurd (cc)
+-- it is given only where the test is passed
+place_by : (w : Why) (t : Bool) (x next : Given) → put_place w x t ≡ Ok next → (t ≡ true) × (next ≡ x)
+place_by w true x next h = (refl, cc)
+place_by w false x next h = absurd (cc)
 
 -- option by option: what is read is what the form gives
 pub value-sound : (o : OptionName) (word : Word) (given next : Given) → is_given o given ≡ false → with_value o word given ≡ Ok next → Gives o word given next
@@ -69,8 +70,11 @@ value-sound option.Sessions word given next free h =
     let k = put-sound LEAST_SESSIONS MOST_SESSIONS word (λ n. record given { sessions = Some n }) next h in
     (not_there given.sessions free, k.number, k.is, k.puts)
 value-sound option.Address word given next free h =
-    let k = address_by (is_address word) (record given { address = Some word }) next h in
-    (not_there given.address free, address-sound word k.0, k.1)
+    let k = place_by why.NotAnAddress (is_place word) (record given { address = Some word }) next h in
+    (not_there given.address free, place-sound word k.0, k.1)
+value-sound option.File word given next free h =
+    let k = place_by why.NotAPath (is_place word) (record given { file = Some word }) next h in
+    (not_there given.file free, place-sound word k.0, k.1)
 
 -- an option that is given had not been, and its value is read
 pub free-complete : (o : OptionName) (word : Word) (given next : Given) → Gives o word given next → is_given o given ≡ false
@@ -79,6 +83,7 @@ free-complete option.Window word given next h = ap is_some h.0
 free-complete option.Limit word given next h = ap is_some h.0
 free-complete option.Sessions word given next h = ap is_some h.0
 free-complete option.Address word given next h = ap is_some h.0
+free-complete option.File word given next h = ap is_some h.0
 
 -- and what the form gives is read
 pub value-complete : (o : OptionName) (word : Word) (given next : Given) → Gives o word given next → with_value o word given ≡ Ok next
@@ -91,4 +96,6 @@ value-complete option.Limit word given next h =
 value-complete option.Sessions word given next h =
     put-complete LEAST_SESSIONS MOST_SESSIONS word (λ n. record given { sessions = Some n }) next h.1 (omega arith) h.2 h.3
 value-complete option.Address word given next h =
-    ap (λ t. cond t (Ok (record given { address = Some word })) (Err why.NotAnAddress)) (address-complete word h.1) ∙ ap Ok (sym h.2)
+    ap (put_place why.NotAnAddress (record given { address = Some word })) (place-complete word h.1) ∙ ap Ok (sym h.2)
+value-complete option.File word given next h =
+    ap (put_place why.NotAPath (record given { file = Some word })) (place-complete word h.1) ∙ ap Ok (sym h.2)

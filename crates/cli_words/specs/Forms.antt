@@ -24,7 +24,7 @@ Word = List ℕ
 abbrev pub texts : List (Bor Word) → List Word
 texts words = map (λ (word : Bor Word). word.now) words
 
--- `-`, with which no address begins
+-- `-`, with which no address and no path begins
 abbrev pub HYPHEN : ℕ
 HYPHEN = 45
 
@@ -49,11 +49,13 @@ option_word option.Window = codes "--window"
 option_word option.Limit = codes "--limit"
 option_word option.Sessions = codes "--sessions"
 option_word option.Address = codes "--address"
+option_word option.File = codes "--file"
 
 -- Which options a command takes: `run` takes the settings of a store alone.
 abbrev pub Takes : CommandName → OptionName → Type 0
 Takes command.Run option.Sessions = ⊥
 Takes command.Run option.Address = ⊥
+Takes command.Run option.File = ⊥
 Takes c o = Unit {0}
 
 -- ---- values
@@ -62,10 +64,10 @@ Takes c o = Unit {0}
 abbrev pub IsNumber : ℕ → ℕ → Word → ℕ → Type 0
 IsNumber least most word n = (word ≡ decimal n) × (least ≤ n) × (n ≤ most)
 
--- an address is not empty, and doesn't begin with `-`
-abbrev pub IsAddress : Word → Type 0
-IsAddress [] = ⊥
-IsAddress (b ∷ word) = b ≢ HYPHEN
+-- an address or a path is not empty, and doesn't begin with `-`
+abbrev pub IsPlace : Word → Type 0
+IsPlace [] = ⊥
+IsPlace (b ∷ word) = b ≢ HYPHEN
 
 -- ---- what options give
 
@@ -76,10 +78,11 @@ pub record Given : Type 0 where
   pub limit : Option ℕ
   pub sessions : Option ℕ
   pub address : Option Word
+  pub file : Option Word
 
 -- no option is given
 abbrev pub nothing_given : Given
-nothing_given = record { shards = None; window = None; limit = None; sessions = None; address = None }
+nothing_given = record { shards = None; window = None; limit = None; sessions = None; address = None; file = None }
 
 -- An option is given that had not been, and its value is of its form.
 abbrev pub Gives : OptionName → Word → Given → Given → Type 0
@@ -87,7 +90,8 @@ Gives option.Shards word old new = (old.shards ≡ None) × (n : ℕ) × IsNumbe
 Gives option.Window word old new = (old.window ≡ None) × (n : ℕ) × IsNumber LEAST_WINDOW MOST_WINDOW word n × (new ≡ record old { window = Some n })
 Gives option.Limit word old new = (old.limit ≡ None) × (n : ℕ) × IsNumber LEAST_COMMITS MOST_COMMITS word n × (new ≡ record old { limit = Some n })
 Gives option.Sessions word old new = (old.sessions ≡ None) × (n : ℕ) × IsNumber LEAST_SESSIONS MOST_SESSIONS word n × (new ≡ record old { sessions = Some n })
-Gives option.Address word old new = (old.address ≡ None) × IsAddress word × (new ≡ record old { address = Some word })
+Gives option.Address word old new = (old.address ≡ None) × IsPlace word × (new ≡ record old { address = Some word })
+Gives option.File word old new = (old.file ≡ None) × IsPlace word × (new ≡ record old { file = Some word })
 
 -- An option is spelled by two words, its name and its value, or by one, with `=` between them.
 abbrev pub SpellsOption : OptionName → Word → List Word → List Word → Type 0
@@ -134,8 +138,8 @@ pub record HasSettings (given : Given) (settings : Settings) : Type 0 where
 -- what a command is to do, by what was given
 abbrev pub IsPlan : CommandName → Given → Plan → Type 0
 IsPlan command.Run given (plan.Run settings) = HasSettings given settings
-IsPlan command.Serve given (plan.Serve settings address sessions) =
-    HasSettings given settings × (given.address ≡ Some address) × (sessions ≡ unwrap_or given.sessions STANDARD_SESSIONS)
+IsPlan command.Serve given (plan.Serve settings address sessions file) =
+    HasSettings given settings × (given.address ≡ Some address) × (sessions ≡ unwrap_or given.sessions STANDARD_SESSIONS) × (file ≡ given.file)
 IsPlan c given p = ⊥
 
 -- The plan that words spell.

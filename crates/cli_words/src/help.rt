@@ -28,13 +28,24 @@ pub fn asked(words: &[&str]) -> Option<Question>
     }
 }
 
-/// How the program is used: its commands, and the options of each.
+/// Commands as they are typed.
+const EXAMPLES: [&str; 4] = [
+    "\nExamples:\n",
+    "  diamond run < sale.txt\n",
+    "  diamond serve --address 127.0.0.1:4000 --sessions 100\n",
+    "  diamond serve --address 127.0.0.1:4000 --sessions 100 --file sale.journal\n",
+];
+
+/// How the program is used: its commands, the options of each, and examples.
 pub fn help_text(alloc: Global) -> Result<String, AllocError> {
     let mut text = program(alloc)?.render_help()?;
     text.push_str("\n")?;
     text.push_str(run(alloc)?.render_help()?.as_str())?;
     text.push_str("\n")?;
     text.push_str(serve(alloc)?.render_help()?.as_str())?;
+    for line in EXAMPLES {
+        text.push_str(line)?;
+    }
     Ok(text)
 }
 
@@ -117,6 +128,12 @@ fn serve<'a>(alloc: Global) -> Result<Command<'a>, AllocError> {
             "sessions",
             "S",
             "How many sessions to serve, from 1 to 1000 [default: 1]",
+        ))?
+        .arg(option(
+            alloc,
+            "file",
+            "P",
+            "The file in which commits are kept [default: in memory]",
         ))?;
     with_settings(alloc, command)
 }

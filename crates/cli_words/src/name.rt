@@ -19,18 +19,20 @@ pub enum OptionName {
     Limit,
     Sessions,
     Address,
+    File,
 }
 
 /// All commands.
 pub(crate) const COMMANDS: [CommandName; 2] = [CommandName::Run, CommandName::Serve];
 
 /// All options.
-pub(crate) const OPTIONS: [OptionName; 5] = [
+pub(crate) const OPTIONS: [OptionName; 6] = [
     OptionName::Shards,
     OptionName::Window,
     OptionName::Limit,
     OptionName::Sessions,
     OptionName::Address,
+    OptionName::File,
 ];
 
 impl CommandName {
@@ -59,7 +61,9 @@ impl CommandName {
         ensures { result ≡ spec.takes self option }
     {
         match option {
-            OptionName::Sessions | OptionName::Address => self == CommandName::Serve,
+            OptionName::Sessions | OptionName::Address | OptionName::File => {
+                self == CommandName::Serve
+            }
             _ => true,
         }
     }
@@ -76,6 +80,7 @@ impl OptionName {
             OptionName::Limit => "--limit",
             OptionName::Sessions => "--sessions",
             OptionName::Address => "--address",
+            OptionName::File => "--file",
         }
     }
 

@@ -25,6 +25,7 @@ pub(crate) struct Options {
     limit: Option<u32>,
     pub(crate) sessions: Option<u32>,
     pub(crate) address: Option<Text>,
+    pub(crate) file: Option<Text>,
 }
 
 impl Model for Options {
@@ -35,7 +36,14 @@ impl Model for Options {
 
     ghost Value = { Given };
 
-    ghost view = { λ o. record { shards = o.shards; window = o.window; limit = o.limit; sessions = o.sessions; address = o.address } };
+    ghost view = { λ o. record {
+      shards = o.shards;
+      window = o.window;
+      limit = o.limit;
+      sessions = o.sessions;
+      address = o.address;
+      file = o.file;
+    } };
 
     ghost invariant = { λ o.
         ForSome o.shards (λ n. (LEAST_SHARDS ≤ n) × (n ≤ MOST_SHARDS))
@@ -54,6 +62,7 @@ impl Options {
             limit: None,
             sessions: None,
             address: None,
+            file: None,
         }
     }
 
@@ -67,6 +76,7 @@ impl Options {
             OptionName::Limit => self.limit.is_some(),
             OptionName::Sessions => self.sessions.is_some(),
             OptionName::Address => self.address.is_some(),
+            OptionName::File => self.file.is_some(),
         }
     }
 
@@ -85,6 +95,7 @@ impl Options {
             OptionName::Limit => self.with_limit(value),
             OptionName::Sessions => self.with_sessions(value),
             OptionName::Address => self.with_address(alloc, value),
+            OptionName::File => self.with_file(alloc, value),
         }
     }
 
@@ -139,10 +150,20 @@ impl Options {
     fn with_address(mut self, alloc: Global, value: &str) -> Result<Options, OrNoMemory<Why>>
         ensures { Makes result (spec.with_value OptionName.Address value.now self) }
     {
-        if !is_address(value) {
+        if !is_place(value) {
             return Err(OrNoMemory::Cause(Why::NotAnAddress));
         }
         self.address = Some(Text::from_slice(alloc, value.as_bytes())?);
+        Ok(self)
+    }
+
+    fn with_file(mut self, alloc: Global, value: &str) -> Result<Options, OrNoMemory<Why>>
+        ensures { Makes result (spec.with_value OptionName.File value.now self) }
+    {
+        if !is_place(value) {
+            return Err(OrNoMemory::Cause(Why::NotAPath));
+        }
+        self.file = Some(Text::from_slice(alloc, value.as_bytes())?);
         Ok(self)
     }
 
@@ -168,9 +189,9 @@ fn number_between(least: u32, most: u32, word: &str) -> Result<u32, Why>
     }
 }
 
-/// Whether a word can be an address.
-fn is_address(word: &str) -> bool
-    ensures { result ≡ spec.is_address word.now }
+/// Whether a word can be an address or a path.
+fn is_place(word: &str) -> bool
+    ensures { result ≡ spec.is_place word.now }
 {
     match word.as_bytes() {
         [] => false,

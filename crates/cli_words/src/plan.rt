@@ -8,10 +8,12 @@ use rdt_types::Settings;
 pub enum Plan {
     /// Run a script, over a store with these settings.
     Run(Settings),
-    /// Serve so many sessions at an address, over a store with these settings.
+    /// Serve so many sessions at an address, over a store with these settings, whose commits are kept in the file at a path, if one
+    /// is given.
     Serve {
         settings: Settings,
         address: Text,
         sessions: u32,
+        file: Option<Text>,
     },
 }

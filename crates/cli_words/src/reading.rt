@@ -93,12 +93,18 @@ fn serving(options: Options) -> Result<Plan, Missing>
     ensures { Finishes (Reading.Ready CommandName.Serve options) result }
 {
     let settings = options.settings();
-    let sessions = options.sessions.unwrap_or(STANDARD_SESSIONS);
-    match options.address {
+    let Options {
+        sessions,
+        address,
+        file,
+        ..
+    } = options;
+    match address {
         Some(address) => Ok(Plan::Serve {
             settings,
             address,
-            sessions,
+            sessions: sessions.unwrap_or(STANDARD_SESSIONS),
+            file,
         }),
         None => Err(Missing::Option(OptionName::Address)),
     }

@@ -17,6 +17,8 @@ pub enum Why {
     NotANumber(u32, u32),
     #[error("this is no address")]
     NotAnAddress,
+    #[error("this is no path")]
+    NotAPath,
 }
 
 /// What is missing where the words end too early.

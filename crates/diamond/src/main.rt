@@ -3,10 +3,15 @@
 //! The program makes the real objects of the outside and calls `diamond_cli::diamond`, whose contract says what it does.
 #![tactic(auto)]
 
+ghost use Rattle.dio_core.specs.Disks.{NothingPending};
+
 use cli_words::{Plan, Question, VERSION, WordsError, asked, help_text, read_words};
-use diamond_cli::{BAD_WORDS, NO_MEMORY, WRITE_FAULT, diamond};
-use dio_core::{Listener, NoDisk, NoListener, StdSink, StdSource, TcpListening};
+use commit_file::RecoverError;
+use diamond_cli::{BAD_WORDS, NO_MEMORY, NOT_JOURNAL, WRITE_FAULT, diamond};
+use dio_core::{Disk, FileDisk, Listener, NoDisk, NoListener, StdSink, StdSource, TcpListening};
+use journal_file::read_kept;
 use link_buffer::BufferedListening;
+use plain_data::Text;
 use std::alloc::{AllocError, Global};
 use std::io::{BufWriter, ErrorKind, Write};
 use std::process::ExitCode;
@@ -40,14 +45,17 @@ fn held_back<W: Write + Drop>(alloc: Global, writer: W) -> Result<BufWriter<W>, 
     }
 }
 
-/// Runs the command over the process's streams and a listener, and answers its status. `threads` is the runtime too, as
+/// Runs the command over the process's streams, a disk and a listener, and answers its status. `threads` is the runtime too, as
 /// what starts threads and waits.
-fn command<R: Threads + Wait + Sync, N: Listener>(
+fn command<R: Threads + Wait + Sync, D: Disk + Send, N: Listener>(
     rt: &HostRuntime,
     threads: &R,
     words: &[&str],
+    disk: &mut D,
     listener: &mut N,
-) -> Result<u8, AllocError> {
+) -> Result<u8, AllocError>
+    requires { NothingPending (D.state disk.old) }
+{
     let mut source = StdSource::new(rt.alloc(), rt.reader())?;
     let mut sink = StdSink::new(held_back(rt.alloc(), io::writer(rt))?);
     Ok(diamond(
@@ -56,25 +64,84 @@ fn command<R: Threads + Wait + Sync, N: Listener>(
         words,
         &mut source,
         &mut sink,
-        &mut NoDisk::new(),
+        disk,
         listener,
     ))
 }
 
 /// Runs the command over what listens at this address, and reads ahead of each connection. Where it listens is told on the
 /// standard error, since a port of 0 stands for one that is free.
-fn command_at<R: Threads + Wait + Sync>(
+fn command_at<R: Threads + Wait + Sync, D: Disk + Send>(
     rt: &HostRuntime,
     threads: &R,
     words: &[&str],
+    disk: &mut D,
     address: &str,
-) -> Result<u8, AllocError> {
+) -> Result<u8, AllocError>
+    requires { NothingPending (D.state disk.old) }
+{
     let tcp = TcpListening::bind(rt, rt, address);
     let _ = match tcp.address() {
         Some(bound) => eprintln!(rt; "diamond: listening at {bound}"),
         None => eprintln!(rt; "diamond: can't listen at `{address}`"),
     };
-    command(rt, threads, words, &mut BufferedListening::new(tcp))
+    command(rt, threads, words, disk, &mut BufferedListening::new(tcp))
+}
+
+/// From which byte on the file of a disk is no journal. It is read once more, since a status has no room for that.
+fn refused_at(alloc: Global, disk: &mut FileDisk) -> Option<u64> {
+    match read_kept(alloc, disk) {
+        Err(RecoverError::NotJournal(at)) => Some(at),
+        _ => None,
+    }
+}
+
+/// Says on the standard error what is wrong with a file.
+fn name_fault(rt: &HostRuntime, path: &str, disk: &mut FileDisk, status: u8) {
+    if status == NOT_JOURNAL {
+        let _ = match refused_at(rt.alloc(), disk) {
+            Some(at) => eprintln!(rt; "diamond: the file `{path}`: no journal from byte {at} on"),
+            None => eprintln!(rt; "diamond: the file `{path}`: no journal"),
+        };
+    }
+    let _ = match disk.last_fault() {
+        Some(fault) => eprintln!(rt; "diamond: the file `{path}`: {fault}"),
+        None => Ok(()),
+    };
+}
+
+/// Runs the command over the file at this path, too. What is wrong with it is told on the standard error.
+fn command_in<R: Threads + Wait + Sync>(
+    rt: &HostRuntime,
+    threads: &R,
+    words: &[&str],
+    path: &str,
+    address: &str,
+) -> Result<u8, AllocError> {
+    let mut disk = FileDisk::open(rt, path);
+    let status = command_at(rt, threads, words, &mut disk, address)?;
+    name_fault(rt, path, &mut disk, status);
+    Ok(status)
+}
+
+/// Serves at an address, and keeps commits in the file at a path, where one is given.
+fn serve<R: Threads + Wait + Sync>(
+    rt: &HostRuntime,
+    threads: &R,
+    words: &[&str],
+    address: &Text,
+    file: &Option<Text>,
+) -> Result<u8, AllocError> {
+    let Ok(address) = str::from_utf8(address.as_slice()) else {
+        return Ok(BAD_WORDS);
+    };
+    let Some(path) = file else {
+        return command_at(rt, threads, words, &mut NoDisk::new(), address);
+    };
+    match str::from_utf8(path.as_slice()) {
+        Ok(path) => command_in(rt, threads, words, path, address),
+        Err(_) => Ok(BAD_WORDS),
+    }
 }
 
 /// Does what the words ask for, and answers the status.
@@ -92,11 +159,16 @@ fn run<R: Threads + Wait + Sync>(
         return answer(rt, question);
     }
     match read_words(rt.alloc(), texts) {
-        Ok(Plan::Run(_)) => command(rt, threads, texts, &mut NoListener::new()),
-        Ok(Plan::Serve { address, .. }) => match str::from_utf8(address.as_slice()) {
-            Ok(address) => command_at(rt, threads, texts, address),
-            Err(_) => Ok(BAD_WORDS),
-        },
+        Ok(Plan::Run(_)) => {
+            command(
+                rt,
+                threads,
+                texts,
+                &mut NoDisk::new(),
+                &mut NoListener::new(),
+            )
+        }
+        Ok(Plan::Serve { address, file, .. }) => serve(rt, threads, texts, &address, &file),
         Err(WordsError::NoMemory) => Ok(NO_MEMORY),
         Err(WordsError::BadWords(bad)) => {
             let _ = eprintln!(rt; "diamond: {bad}; diamond --help shows what may be said");

@@ -1,5 +1,5 @@
 -- Words that ask to run a script are of one form, and ask for nothing else.
-use Rattle.std.proofs.Common.{◌≡◌, ℕ, List, subst}
+use Rattle.std.proofs.Common.{◌≡◌, ℕ, List, Option, Some, None, sym, ap, ◌∙◌, subst}
 use denote.Bor.{Bor}
 use Rattle.rdt_types.specs.declared.settings.Settings.{Settings}
 use Rattle.cli_words.specs.declared.name.CommandName.{CommandName}
@@ -24,11 +24,22 @@ pub runs-something : (words : List (Bor Word)) (p : Plan) (settings : Settings) 
     → AsksNothing words → ⊥
 runs-something words p settings spells is nothing = nothing.0 (settings, plan-asks (texts words) p (plan.Run settings) spells is)
 
--- and so with a plan to serve
+-- and so with a plan to serve in memory
 pub serves-something : (words : List (Bor Word)) (p : Plan) (settings : Settings) (address : Word) (sessions : ℕ) → Spells (texts words) p
-    → p ≡ plan.Serve settings address sessions → AsksNothing words → ⊥
+    → p ≡ plan.Serve settings address sessions None → AsksNothing words → ⊥
 serves-something words p settings address sessions spells is nothing =
-    nothing.1 (settings, address, sessions, plan-asks (texts words) p (plan.Serve settings address sessions) spells is)
+    nothing.1 (settings, address, sessions, plan-asks (texts words) p (plan.Serve settings address sessions None) spells is)
+
+-- or in a file
+pub files-something : (words : List (Bor Word)) (p : Plan) (settings : Settings) (address : Word) (sessions : ℕ) (path : Word)
+    → Spells (texts words) p → p ≡ plan.Serve settings address sessions (Some path) → AsksNothing words → ⊥
+files-something words p settings address sessions path spells is nothing =
+    nothing.2 (settings, address, sessions, path, plan-asks (texts words) p (plan.Serve settings address sessions (Some path)) spells is)
+
+-- a plan whose file is another's by name
+pub with-file : (p : Plan) (settings : Settings) (address : Word) (sessions : ℕ) (file other : Option Word)
+    → p ≡ plan.Serve settings address sessions file → file ≡ other → p ≡ plan.Serve settings address sessions other
+with-file p settings address sessions file other is same = is ∙ ap (plan.Serve settings address sessions) same
 
 -- words that were refused are of no form
 no-form : (words : List Word) (bad : BadWords) → Refuses words (words_error.BadWords bad) → IsNoForm words
@@ -42,13 +53,27 @@ refused-no-plan words error bad p refuses is spells =
     no-form words bad (subst (Refuses words) is refuses) spells.name spells.given spells.form
 
 -- words that ask to serve don't ask to run a script
-pub serve-no-run : (words : List Word) (settings own : Settings) (address : Word) (sessions : ℕ)
-    → Spells words (plan.Serve settings address sessions) → Spells words (plan.Run own) → ⊥
-serve-no-run words settings own address sessions serves runs =
+pub serve-no-run : (words : List Word) (settings own : Settings) (address : Word) (sessions : ℕ) (file : Option Word)
+    → Spells words (plan.Serve settings address sessions file) → Spells words (plan.Run own) → ⊥
+serve-no-run words settings own address sessions file serves runs =
     by serves.name runs.name serves.given runs.given serves.plan runs.plan
     (one_form words serves.name runs.name serves.given runs.given serves.form runs.form).0
   where
-    by : (c d : CommandName) (g h : Given) → IsPlan c g (plan.Serve settings address sessions) → IsPlan d h (plan.Run own) → c ≡ d → ⊥
+    by : (c d : CommandName) (g h : Given) → IsPlan c g (plan.Serve settings address sessions file) → IsPlan d h (plan.Run own) → c ≡ d → ⊥
     by command.Run d g h serve run e = serve
     by command.Serve command.Serve g h serve run e = run
     by command.Serve command.Run g h serve run e = cc
+
+-- nor do words that ask to serve in memory ask to serve in a file
+pub memory-no-file : (words : List Word) (settings own : Settings) (address there : Word) (sessions many : ℕ) (path : Word)
+    → Spells words (plan.Serve settings address sessions None) → Spells words (plan.Serve own there many (Some path)) → ⊥
+memory-no-file words settings own address there sessions many path memory files =
+    by memory.name files.name memory.given files.given memory.plan files.plan
+    (one_form words memory.name files.name memory.given files.given memory.form files.form).1
+  where
+    by : (c d : CommandName) (g h : Given) → IsPlan c g (plan.Serve settings address sessions None) → IsPlan d h (plan.Serve own there many (Some path))
+        → g ≡ h → ⊥
+    by command.Run d g h one two e = one
+    by command.Serve command.Run g h one two e = two
+    by command.Serve command.Serve g h one two e =
+        let no : ◌≡◌ {A = Option Word} None (Some path) = one.3 ∙ ap (λ (x : Given). x.file) e ∙ sym two.3 in absurd (cc no)

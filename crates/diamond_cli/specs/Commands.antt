@@ -8,10 +8,11 @@ use Rattle.rdt_types.specs.declared.settings.Settings.{Settings}
 use Rattle.cli_words.specs.Forms.{Word}
 use Rattle.script_runner.specs.Script.{Reading, Writing, KeepsPromises}
 use Rattle.diamond_cli.specs.declared.top.TheConstants.{BAD_WORDS}
-use Rattle.diamond_cli.specs.Words.{AsksRunWith, AsksServeWith}
+use Rattle.diamond_cli.specs.Words.{AsksRunWith, AsksServeWith, AsksServeFileWith}
 use Rattle.diamond_server.specs.Accounts.{Gatherings}
 use Rattle.diamond_server.specs.Promises.{sides}
 use Rattle.diamond_cli.specs.Serving.{ServesLinks}
+use Rattle.diamond_cli.specs.Filed.{Storing, ServesFile}
 
 BAD_WORDS-is : BAD_WORDS ≡ 1
 BAD_WORDS-is = refl
@@ -35,3 +36,13 @@ pub record Serves {L : Type 0} (words : List (Bor Word)) (source : SourceTells L
   pub sessions : ℕ
   pub asked : AsksServeWith words settings address sessions
   pub promises : ServesLinks (sides source sink) settings sessions g status w
+
+-- The same over the file of a disk, at the path that the words say.
+pub record Files {L : Type 0} (words : List (Bor Word)) (source : SourceTells L) (sink : SinkTells L) (g : Gatherings L) (d : Storing) (status : ℕ)
+    (w : Writing) : Type 0 where
+  pub settings : Settings
+  pub address : Word
+  pub sessions : ℕ
+  pub path : Word
+  pub asked : AsksServeFileWith words settings address sessions path
+  pub promises : ServesFile (sides source sink) settings sessions g d status w

@@ -1,5 +1,5 @@
 -- What `serve` promises: what came of the links of a listener, and the line that it writes at its end.
-use Rattle.std.specs.Prelude.{◌≡◌, ◌≢◌, ◌⊎◌, ℕ, ◌==◌, Bool, true, false, [], ◌∷◌, ◌++◌, length, IsTrue, if◌then◌else◌, codes, refl}
+use Rattle.std.specs.Prelude.{◌≡◌, ◌≢◌, ◌⊎◌, ℕ, ◌<◌, ◌==◌, Bool, true, false, List, [], ◌∷◌, ◌++◌, length, All, IsTrue, if◌then◌else◌, codes, refl}
 use Rattle.std.specs.List.{list_any}
 use Rattle.std.specs.Fmt.{decimal}
 use mathlib.Core.List.{IsPrefix}
@@ -11,29 +11,41 @@ use Rattle.rdt_types.specs.declared.settings.Settings.{Settings}
 use Rattle.txn_grammar.specs.Characters.{Text}
 use Rattle.txn_lang.specs.Journals.{IsLegal}
 use Rattle.txn_lang.specs.States.{Journal}
+use Rattle.diamond_store.specs.Books.{IsAtMostRise}
 use Rattle.diamond_store.specs.Passes.{Passed, known_of}
 use Rattle.session_core.specs.Explained.{setting_of}
 use Rattle.script_runner.specs.Script.{Writing}
 use Rattle.script_runner.specs.declared.status.TheConstants.{WHOLE, WRITE_FAULT, NO_MEMORY}
 use Rattle.diamond_server.specs.Accounts.{Gatherings, ServedAll}
 use Rattle.diamond_server.specs.declared.serving_all.Tally.{Tally}
-use Rattle.diamond_cli.specs.declared.serve.TheConstants.{LISTENER_FAULT}
+use Rattle.diamond_cli.specs.declared.line.TheConstants.{LISTENER_FAULT}
 
 statuses-are : WHOLE ∷ WRITE_FAULT ∷ NO_MEMORY ∷ LISTENER_FAULT ∷ [] ≡ 0 ∷ 4 ∷ 5 ∷ 8 ∷ []
 statuses-are = refl
 
+-- a status is among these
+abbrev pub IsAmong : List ℕ → ℕ → Type 0
+IsAmong statuses status = IsTrue (list_any (λ s. s == status) statuses)
+
 -- ---- the links
 
--- WHAT CAME OF THE LINKS: the store's journal at its end is legal, with nothing taken on trust; and one prefix of it explains the
--- sessions of all links, under these settings.
-pub record HasServed {L : Type 0} (told : L → Both) (settings : Settings) (sessions : ℕ) (g : Gatherings L) (tally : Tally) (journal : Journal) : Type 0 where
+-- WHAT CAME OF THE LINKS, of a store that began with the commits `kept`: its journal at its end begins with them and is legal, with
+-- nothing but them taken on trust; and one prefix of it explains the sessions of all links, under these settings. The keeper's count of
+-- faults was `before` when the store was made, and is `after` at its end.
+pub record HasServed {L : Type 0} (told : L → Both) (settings : Settings) (sessions : ℕ) (g : Gatherings L) (kept : Journal) (before after : ℕ)
+    (tally : Tally) (journal : Journal) : Type 0 where
   pub pass : Passed  -- what was known of the store when all sessions had ended
-  pub low : ℕ
+  pub low : ℕ  -- the links' clients have numbers from `low` to below `high`
   pub high : ℕ
   pub set : setting_of (known_of pass) ≡ record { shards = settings.shards; window = settings.window; limit = settings.limit }
   pub served : ServedAll told pass low high sessions g tally
+  pub knows : IsPrefix kept pass.journal
   pub begins : IsPrefix pass.journal journal
-  pub legal : IsLegal 0 journal
+  pub legal : IsLegal (length kept) journal
+  -- those of the commits that were kept have lower ones
+  pub others : All (λ commit. commit.client < low) kept
+  -- no more was denied than the keeper failed, unless its count has come to its last value; so no link has more replies `disk`
+  pub denied : IsAtMostRise before pass.denials after
 
 -- ---- the line
 
@@ -56,23 +68,28 @@ ending failed done = if failed then LISTENER_FAULT else (if done then WHOLE else
 ending-example : ending true false ≡ 8
 ending-example = refl
 
--- ---- the whole
-
--- all sessions ended, and the line was tried
-pub record IsEnded {L : Type 0} (told : L → Both) (settings : Settings) (sessions : ℕ) (g : Gatherings L) (status : ℕ) (w : Writing) : Type 0 where
-  pub tally : Tally
-  pub journal : Journal
-  pub served : HasServed told settings sessions g tally journal
+-- the line of these links and this journal was tried, and so is the status
+pub record IsSaid (tally : Tally) (journal : Journal) (status : ℕ) (w : Writing) : Type 0 where
   pub done : Bool
   pub tried : IsTried (served_line tally.accepted tally.faulted (length journal)) done w
   pub status_is : status ≡ ending tally.failed done
 
--- WHAT `serve` PROMISES, from the listener and the sink before it to both after it.
+-- ---- the whole
+
+-- all sessions ended, and the line was tried
+pub record IsEnded {L : Type 0} (told : L → Both) (settings : Settings) (sessions : ℕ) (g : Gatherings L) (kept : Journal) (before after : ℕ)
+    (status : ℕ) (w : Writing) : Type 0 where
+  pub tally : Tally
+  pub journal : Journal
+  pub served : HasServed told settings sessions g kept before after tally journal
+  pub said : IsSaid tally journal status w
+
+-- WHAT `serve` PROMISES OF A STORE IN MEMORY, from the listener and the sink before it to both after it.
 pub record ServesLinks {L : Type 0} (told : L → Both) (settings : Settings) (sessions : ℕ) (g : Gatherings L) (status : ℕ) (w : Writing) : Type 0 where
   -- there are four statuses
-  pub statuses : IsTrue (list_any (λ s. s == status) (WHOLE ∷ WRITE_FAULT ∷ NO_MEMORY ∷ LISTENER_FAULT ∷ []))
-  -- memory aside, all sessions ended, and the line was tried
-  pub ended : status ≢ NO_MEMORY → IsEnded told settings sessions g status w
+  pub statuses : IsAmong (WHOLE ∷ WRITE_FAULT ∷ NO_MEMORY ∷ LISTENER_FAULT ∷ []) status
+  -- memory aside, all sessions ended, and the line was tried; the store began with no commit, and denied none
+  pub ended : status ≢ NO_MEMORY → IsEnded told settings sessions g [] 0 0 status w
   -- for want of memory nothing is written
   pub unwritten : status ≡ NO_MEMORY → (w.taken_then ≡ w.taken) × (w.faults_then ≡ w.faults)
   -- at 8 an accept failed

@@ -1,5 +1,5 @@
 -- What the words of a command ask for. Their forms are those of cli_words.
-use Rattle.std.specs.Prelude.{ℕ, List, [], ◌∷◌, codes, refl}
+use Rattle.std.specs.Prelude.{ℕ, List, [], ◌∷◌, Some, None, codes, refl}
 use denote.Bor.{Bor}
 use Rattle.rdt_types.specs.declared.settings.Settings.{Settings}
 use Rattle.cli_words.specs.declared.name.CommandName.TheVariants as command
@@ -14,17 +14,26 @@ AsksRunWith words settings = Spells (texts words) (plan.Run settings)
 abbrev pub AsksRun : List (Bor Word) → Type 0
 AsksRun words = (settings : Settings) × AsksRunWith words settings
 
--- they ask to serve over a store with these settings, at an address, at most so many sessions
+-- they ask to serve over a store with these settings, in memory, at an address, at most so many sessions
 abbrev pub AsksServeWith : List (Bor Word) → Settings → Word → ℕ → Type 0
-AsksServeWith words settings address sessions = Spells (texts words) (plan.Serve settings address sessions)
+AsksServeWith words settings address sessions = Spells (texts words) (plan.Serve settings address sessions None)
 
--- they ask to serve
+-- they ask to serve over a store in memory
 abbrev pub AsksServe : List (Bor Word) → Type 0
 AsksServe words = (settings : Settings) × (address : Word) × (sessions : ℕ) × AsksServeWith words settings address sessions
 
+-- they ask the same of a store whose commits are kept in the file at a path
+abbrev pub AsksServeFileWith : List (Bor Word) → Settings → Word → ℕ → Word → Type 0
+AsksServeFileWith words settings address sessions path = Spells (texts words) (plan.Serve settings address sessions (Some path))
+
+-- they ask to serve over a store whose commits are kept in a file
+abbrev pub AsksServeFile : List (Bor Word) → Type 0
+AsksServeFile words =
+    (settings : Settings) × (address : Word) × (sessions : ℕ) × (path : Word) × AsksServeFileWith words settings address sessions path
+
 -- they ask for nothing
 abbrev pub AsksNothing : List (Bor Word) → Type 0
-AsksNothing words = (AsksRun words → ⊥) × (AsksServe words → ⊥)
+AsksNothing words = (AsksRun words → ⊥) × (AsksServe words → ⊥) × (AsksServeFile words → ⊥)
 
 -- `run` alone asks for a run, over a store with the standard settings
 run-spells : (settings : Settings) → HasSettings nothing_given settings → Spells (codes "run" ∷ []) (plan.Run settings)

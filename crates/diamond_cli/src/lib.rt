@@ -6,9 +6,13 @@
 //! `script_runner`, and `Journals` of `txn_lang`.
 #![tactic(auto)]
 
+mod file;
+mod line;
 mod serve;
+mod sessions;
 mod top;
 
+pub use file::{DISK_FAULT, NOT_JOURNAL};
+pub use line::LISTENER_FAULT;
 pub use script_runner::{NO_MEMORY, WRITE_FAULT};
-pub use serve::LISTENER_FAULT;
 pub use top::{BAD_WORDS, diamond};

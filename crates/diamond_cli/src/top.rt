@@ -1,12 +1,15 @@
 //! The top call.
 
 ghost use Rattle.std.specs.Prelude.{◌≡◌, ◌⊎◌};
+ghost use Rattle.dio_core.specs.Disks.{NothingPending};
 ghost use Rattle.script_runner.specs.Script.{reading, writing};
 ghost use Rattle.script_runner.specs.declared.status.TheConstants.{NO_MEMORY};
 ghost use Rattle.diamond_server.specs.Accounts.{gatherings};
-ghost use Rattle.diamond_cli.specs.Words.{AsksRun, AsksServe, AsksNothing};
-ghost use Rattle.diamond_cli.specs.Commands.{RunsScript, Serves};
+ghost use Rattle.diamond_cli.specs.Words.{AsksRun, AsksServe, AsksServeFile, AsksNothing};
+ghost use Rattle.diamond_cli.specs.Filed.{storing};
+ghost use Rattle.diamond_cli.specs.Commands.{RunsScript, Serves, Files};
 
+use crate::file::serve_file;
 use crate::serve::serve;
 use cli_words::{Plan, WordsError, read_words};
 use dio_core::{Disk, Listener, Sink, Source};
@@ -26,11 +29,13 @@ pub const BAD_WORDS: u8 = 1;
 /// 3 where a read failed, 4 where a write or the flush at the end failed, 5 for want of memory, and 9 where there is
 /// a line behind the last one that may be read.
 ///
-/// `serve` serves the sessions of the listener's links over one store in memory, each in a thread of its own, and writes
-/// what came of them to the sink. The address is the listener's affair. It uses neither source nor disk. The statuses
-/// are 0 where all sessions ended and the line was written, 4 where that failed, 5 for want of memory, and 8 where an
-/// accept failed.
-pub fn diamond<R: Threads + Wait + Sync, S: Source, W: Sink, D: Disk, N: Listener>(
+/// `serve` serves the sessions of the listener's links over one store, each in a thread of its own, and writes what came of
+/// them to the sink. The address is the listener's affair. It doesn't use the source. Without a file the store is in memory,
+/// and the disk isn't used. With one the store begins with the commits that the disk's file is kept as, and keeps all others
+/// there; the path is the disk's affair. The statuses are 0 where all sessions ended and the line was written, 4 where that
+/// failed, 5 for want of memory, 6 where the disk failed while its file was recovered, 7 where that is none of a journal,
+/// and 8 where an accept failed.
+pub fn diamond<R: Threads + Wait + Sync, S: Source, W: Sink, D: Disk + Send, N: Listener>(
     rt: &R,
     alloc: Global,
     words: &[&str],
@@ -39,6 +44,9 @@ pub fn diamond<R: Threads + Wait + Sync, S: Source, W: Sink, D: Disk, N: Listene
     disk: &mut D,
     listener: &mut N,
 ) -> u8
+    // When the program begins, a crash leaves the disk's file as it reads.
+    requires pending { NothingPending (D.state disk.old) }
+
     // 1 comes where the words ask for nothing, memory aside, and only there; and there all is as before.
     ensures form { result ≡ BAD_WORDS → AsksNothing words.now }
     ensures other { AsksNothing words.now → (result ≡ BAD_WORDS) ⊎ (result ≡ NO_MEMORY) }
@@ -50,10 +58,13 @@ pub fn diamond<R: Threads + Wait + Sync, S: Source, W: Sink, D: Disk, N: Listene
         (writing W.Sink sink.old sink.new) }
     ensures unused_by_run { AsksRun words.now → (disk.new ≡ disk.old) × (listener.new ≡ listener.old) }
 
-    // `serve` keeps what it promises of its sessions, and doesn't use the source or the disk.
+    // `serve` keeps what it promises of its sessions. It doesn't use the source, nor, without a file, the disk.
     ensures serve { AsksServe words.now → Serves words.now N.Link.Source N.Link.Sink
         (gatherings N.Listener listener.old listener.new) result (writing W.Sink sink.old sink.new) }
     ensures unused_by_serve { AsksServe words.now → (source.new ≡ source.old) × (disk.new ≡ disk.old) }
+    ensures files { AsksServeFile words.now → Files words.now N.Link.Source N.Link.Sink (gatherings N.Listener listener.old listener.new)
+        (storing D.Disk disk.old disk.new) result (writing W.Sink sink.old sink.new) }
+    ensures unused_by_files { AsksServeFile words.now → source.new ≡ source.old }
 {
     match read_words(alloc, words) {
         Ok(Plan::Run(settings)) => run_script(alloc, &settings, source, sink),
@@ -61,9 +72,13 @@ pub fn diamond<R: Threads + Wait + Sync, S: Source, W: Sink, D: Disk, N: Listene
             Plan::Serve {
                 settings,
                 sessions,
+                file,
                 ..
             },
-        ) => serve(rt, alloc, &settings, sessions, sink, listener),
+        ) => match file {
+            None => serve(rt, alloc, &settings, sessions, sink, listener),
+            Some(_) => serve_file(rt, alloc, &settings, sessions, sink, disk, listener),
+        },
         Err(WordsError::BadWords(_)) => BAD_WORDS,
         Err(WordsError::NoMemory) => NO_MEMORY,
     }

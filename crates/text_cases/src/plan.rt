@@ -18,6 +18,15 @@ fn push_settings(out: &mut Text, settings: &Settings) -> Result<(), AllocError> 
     push_option(out, b" --limit ", u64::from(settings.limit))
 }
 
+/// Adds the path of a file, where one is given.
+fn push_file(out: &mut Text, file: &Option<Text>) -> Result<(), AllocError> {
+    if let Some(path) = file {
+        out.extend_from_slice(b" --file ")?;
+        out.extend_from_slice(path.as_slice())?;
+    }
+    Ok(())
+}
+
 fn push_plan(out: &mut Text, plan: &Plan) -> Result<(), AllocError> {
     match plan {
         Plan::Run(settings) => {
@@ -28,10 +37,12 @@ fn push_plan(out: &mut Text, plan: &Plan) -> Result<(), AllocError> {
             settings,
             address,
             sessions,
+            file,
         } => {
             out.extend_from_slice(b"serve --address ")?;
             out.extend_from_slice(address.as_slice())?;
             push_option(out, b" --sessions ", u64::from(*sessions))?;
+            push_file(out, file)?;
             push_settings(out, settings)
         }
     }

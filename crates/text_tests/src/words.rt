@@ -30,6 +30,7 @@ fn help_names_each_command_and_option(rt: HostRuntime) -> Result<(), Fail> {
         OptionName::Limit,
         OptionName::Sessions,
         OptionName::Address,
+        OptionName::File,
     ] {
         assert!(rt; helps(text.as_str(), option.word()));
     }

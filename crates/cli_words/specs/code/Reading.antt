@@ -32,6 +32,7 @@ option_named word = find (λ o. bytes_eq (option_word o) word) OPTIONS
 abbrev pub takes : CommandName → OptionName → Bool
 takes command.Run option.Sessions = false
 takes command.Run option.Address = false
+takes command.Run option.File = false
 takes c o = true
 
 -- ---- numbers
@@ -64,15 +65,20 @@ is_given option.Window given = is_some given.window
 is_given option.Limit given = is_some given.limit
 is_given option.Sessions given = is_some given.sessions
 is_given option.Address given = is_some given.address
+is_given option.File given = is_some given.file
 
 -- a number is put in its place, or is none within the limits
 abbrev pub put_number : ℕ → ℕ → (ℕ → Given) → Option ℕ → Result Given Why
 put_number least most put None = Err (why.NotANumber least most)
 put_number least most put (Some n) = Ok (put n)
 
-abbrev pub is_address : Word → Bool
-is_address [] = false
-is_address (b ∷ word) = not (nat_eq b HYPHEN)
+abbrev pub is_place : Word → Bool
+is_place [] = false
+is_place (b ∷ word) = not (nat_eq b HYPHEN)
+
+-- a word is put in its place, or can be none
+abbrev pub put_place : Why → Given → Bool → Result Given Why
+put_place w given can = if can then Ok given else Err w
 
 -- what is given with a value
 abbrev pub with_value : OptionName → Word → Given → Result Given Why
@@ -84,8 +90,8 @@ with_value option.Limit word given =
     put_number LEAST_COMMITS MOST_COMMITS (λ n. record given { limit = Some n }) (number_within LEAST_COMMITS MOST_COMMITS word)
 with_value option.Sessions word given =
     put_number LEAST_SESSIONS MOST_SESSIONS (λ n. record given { sessions = Some n }) (number_within LEAST_SESSIONS MOST_SESSIONS word)
-with_value option.Address word given =
-    if is_address word then Ok (record given { address = Some word }) else Err why.NotAnAddress
+with_value option.Address word given = put_place why.NotAnAddress (record given { address = Some word }) (is_place word)
+with_value option.File word given = put_place why.NotAPath (record given { file = Some word }) (is_place word)
 
 -- ---- words
 

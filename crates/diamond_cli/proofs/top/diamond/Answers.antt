@@ -1,8 +1,11 @@
 use Rattle.std.proofs.Common.{refl}
+use Rattle.std.specs.Prelude.{None, Some}
 use Rattle.cli_words.specs.Forms.{texts}
 use Rattle.script_runner.proofs.Promises.{unstarted}
-use Rattle.diamond_cli.proofs.Asked.{plan-asks, runs-something, serves-something, refused-no-plan, serve-no-run}
+use Rattle.diamond_cli.proofs.Asked.{plan-asks, runs-something, serves-something, files-something, with-file, refused-no-plan, serve-no-run, memory-no-file}
+use Rattle.diamond_cli.proofs.Recovered.{refused-serves}
 use Rattle.diamond_cli.proofs.Served.{unended-serves}
+use Rattle.commit_file.specs.declared.recover_error.RecoverError.TheVariants as error
 use Rattle.diamond_cli.proofs.top.diamond.Goals as goal
 
 -- ---- a run
@@ -24,44 +27,80 @@ returns-in-Ok-Run-clause-run g c = λ asks. record {
 }
 
 pub returns-in-Ok-Run-clause-serve : goal.returns-in-Ok-Run-clause-serve
-returns-in-Ok-Run-clause-serve g c = λ asks. absurd (serve-no-run (texts c.args.words.now) asks.0 c.in-Ok-Run.settings asks.1 asks.2 asks.3
-    (plan-asks (texts c.args.words.now) _ _ c.in-Ok-Run.ensures.plan c.in-Ok-Run.field-0-is))
+returns-in-Ok-Run-clause-serve g c = λ asks. absurd (serve-no-run (texts c.args.words.now) asks.0 c.in-Ok-Run.settings asks.1 asks.2 None asks.3 (plan-asks (texts c.args.words.now) _ _ c.in-Ok-Run.ensures.plan c.in-Ok-Run.field-0-is))
 
 pub returns-in-Ok-Run-clause-unused_by_serve : goal.returns-in-Ok-Run-clause-unused_by_serve
-returns-in-Ok-Run-clause-unused_by_serve g c = λ asks. absurd (serve-no-run (texts c.args.words.now) asks.0 c.in-Ok-Run.settings asks.1 asks.2 asks.3
-    (plan-asks (texts c.args.words.now) _ _ c.in-Ok-Run.ensures.plan c.in-Ok-Run.field-0-is))
+returns-in-Ok-Run-clause-unused_by_serve g c = λ asks. absurd (serve-no-run (texts c.args.words.now) asks.0 c.in-Ok-Run.settings asks.1 asks.2 None asks.3 (plan-asks (texts c.args.words.now) _ _ c.in-Ok-Run.ensures.plan c.in-Ok-Run.field-0-is))
 
--- ---- serving
+pub returns-in-Ok-Run-clause-files : goal.returns-in-Ok-Run-clause-files
+returns-in-Ok-Run-clause-files g c = λ asks. absurd (serve-no-run (texts c.args.words.now) asks.0 c.in-Ok-Run.settings asks.1 asks.2 (Some asks.3) asks.4 (plan-asks (texts c.args.words.now) _ _ c.in-Ok-Run.ensures.plan c.in-Ok-Run.field-0-is))
 
-pub returns-in-Ok-Serve-clause-other : goal.returns-in-Ok-Serve-clause-other
-returns-in-Ok-Serve-clause-other g c =
-    λ no. absurd (serves-something c.args.words.now _ _ _ _ c.in-Ok-Serve.ensures.plan c.in-Ok-Serve.field-0-is no)
+pub returns-in-Ok-Run-clause-unused_by_files : goal.returns-in-Ok-Run-clause-unused_by_files
+returns-in-Ok-Run-clause-unused_by_files g c = λ asks. absurd (serve-no-run (texts c.args.words.now) asks.0 c.in-Ok-Run.settings asks.1 asks.2 (Some asks.3) asks.4 (plan-asks (texts c.args.words.now) _ _ c.in-Ok-Run.ensures.plan c.in-Ok-Run.field-0-is))
 
-pub returns-in-Ok-Serve-clause-unread : goal.returns-in-Ok-Serve-clause-unread
-returns-in-Ok-Serve-clause-unread g c =
-    λ no. absurd (serves-something c.args.words.now _ _ _ _ c.in-Ok-Serve.ensures.plan c.in-Ok-Serve.field-0-is no)
+-- ---- serving in memory
 
-pub returns-in-Ok-Serve-clause-unwritten : goal.returns-in-Ok-Serve-clause-unwritten
-returns-in-Ok-Serve-clause-unwritten g c =
-    λ no. absurd (serves-something c.args.words.now _ _ _ _ c.in-Ok-Serve.ensures.plan c.in-Ok-Serve.field-0-is no)
+pub returns-in-None-clause-other : goal.returns-in-None-clause-other
+returns-in-None-clause-other g c = λ no. absurd (serves-something c.args.words.now _ _ _ _ c.in-Ok-Serve.ensures.plan (with-file _ _ _ _ _ None c.in-Ok-Serve.field-0-is c.in-None.is) no)
 
-pub returns-in-Ok-Serve-clause-run : goal.returns-in-Ok-Serve-clause-run
-returns-in-Ok-Serve-clause-run g c = λ asks. absurd (serve-no-run (texts c.args.words.now) c.in-Ok-Serve.settings asks.0
-    c.in-Ok-Serve.field-0-1 c.in-Ok-Serve.sessions
-    (plan-asks (texts c.args.words.now) _ _ c.in-Ok-Serve.ensures.plan c.in-Ok-Serve.field-0-is) asks.1)
+pub returns-in-None-clause-unread : goal.returns-in-None-clause-unread
+returns-in-None-clause-unread g c = λ no. absurd (serves-something c.args.words.now _ _ _ _ c.in-Ok-Serve.ensures.plan (with-file _ _ _ _ _ None c.in-Ok-Serve.field-0-is c.in-None.is) no)
 
-pub returns-in-Ok-Serve-clause-unused_by_run : goal.returns-in-Ok-Serve-clause-unused_by_run
-returns-in-Ok-Serve-clause-unused_by_run g c = λ asks. absurd (serve-no-run (texts c.args.words.now) c.in-Ok-Serve.settings asks.0
-    c.in-Ok-Serve.field-0-1 c.in-Ok-Serve.sessions
-    (plan-asks (texts c.args.words.now) _ _ c.in-Ok-Serve.ensures.plan c.in-Ok-Serve.field-0-is) asks.1)
+pub returns-in-None-clause-unwritten : goal.returns-in-None-clause-unwritten
+returns-in-None-clause-unwritten g c = λ no. absurd (serves-something c.args.words.now _ _ _ _ c.in-Ok-Serve.ensures.plan (with-file _ _ _ _ _ None c.in-Ok-Serve.field-0-is c.in-None.is) no)
 
-pub returns-in-Ok-Serve-clause-serve : goal.returns-in-Ok-Serve-clause-serve
-returns-in-Ok-Serve-clause-serve g c = λ asks. record {
+pub returns-in-None-clause-run : goal.returns-in-None-clause-run
+returns-in-None-clause-run g c = λ asks. absurd (serve-no-run (texts c.args.words.now) _ asks.0 _ _ None (plan-asks (texts c.args.words.now) _ _ c.in-Ok-Serve.ensures.plan (with-file _ _ _ _ _ None c.in-Ok-Serve.field-0-is c.in-None.is)) asks.1)
+
+pub returns-in-None-clause-unused_by_run : goal.returns-in-None-clause-unused_by_run
+returns-in-None-clause-unused_by_run g c = λ asks. absurd (serve-no-run (texts c.args.words.now) _ asks.0 _ _ None (plan-asks (texts c.args.words.now) _ _ c.in-Ok-Serve.ensures.plan (with-file _ _ _ _ _ None c.in-Ok-Serve.field-0-is c.in-None.is)) asks.1)
+
+pub returns-in-None-clause-serve : goal.returns-in-None-clause-serve
+returns-in-None-clause-serve g c = λ asks. record {
   settings = c.in-Ok-Serve.settings;
   address = c.in-Ok-Serve.field-0-1;
   sessions = c.in-Ok-Serve.sessions;
-  asked = plan-asks (texts c.args.words.now) _ _ c.in-Ok-Serve.ensures.plan c.in-Ok-Serve.field-0-is;
+  asked = plan-asks (texts c.args.words.now) _ _ c.in-Ok-Serve.ensures.plan (with-file _ _ _ _ _ None c.in-Ok-Serve.field-0-is c.in-None.is);
   promises = c.serve.ensures;
+}
+
+pub returns-in-None-clause-files : goal.returns-in-None-clause-files
+returns-in-None-clause-files g c = λ asks. absurd (memory-no-file (texts c.args.words.now) _ asks.0 _ asks.1 _ asks.2 asks.3 (plan-asks (texts c.args.words.now) _ _ c.in-Ok-Serve.ensures.plan (with-file _ _ _ _ _ None c.in-Ok-Serve.field-0-is c.in-None.is)) asks.4)
+
+pub returns-in-None-clause-unused_by_files : goal.returns-in-None-clause-unused_by_files
+returns-in-None-clause-unused_by_files g c = λ asks. absurd (memory-no-file (texts c.args.words.now) _ asks.0 _ asks.1 _ asks.2 asks.3 (plan-asks (texts c.args.words.now) _ _ c.in-Ok-Serve.ensures.plan (with-file _ _ _ _ _ None c.in-Ok-Serve.field-0-is c.in-None.is)) asks.4)
+
+-- ---- serving in a file
+
+pub returns-in-Ok-Serve-clause-other : goal.returns-in-Ok-Serve-clause-other
+returns-in-Ok-Serve-clause-other g c = λ no. absurd (files-something c.args.words.now _ _ _ _ _ c.in-Ok-Serve.ensures.plan (with-file _ _ _ _ _ _ c.in-Ok-Serve.field-0-is c.in-Some.is) no)
+
+pub returns-in-Ok-Serve-clause-unread : goal.returns-in-Ok-Serve-clause-unread
+returns-in-Ok-Serve-clause-unread g c = λ no. absurd (files-something c.args.words.now _ _ _ _ _ c.in-Ok-Serve.ensures.plan (with-file _ _ _ _ _ _ c.in-Ok-Serve.field-0-is c.in-Some.is) no)
+
+pub returns-in-Ok-Serve-clause-unwritten : goal.returns-in-Ok-Serve-clause-unwritten
+returns-in-Ok-Serve-clause-unwritten g c = λ no. absurd (files-something c.args.words.now _ _ _ _ _ c.in-Ok-Serve.ensures.plan (with-file _ _ _ _ _ _ c.in-Ok-Serve.field-0-is c.in-Some.is) no)
+
+pub returns-in-Ok-Serve-clause-run : goal.returns-in-Ok-Serve-clause-run
+returns-in-Ok-Serve-clause-run g c = λ asks. absurd (serve-no-run (texts c.args.words.now) _ asks.0 _ _ _ (plan-asks (texts c.args.words.now) _ _ c.in-Ok-Serve.ensures.plan (with-file _ _ _ _ _ _ c.in-Ok-Serve.field-0-is c.in-Some.is)) asks.1)
+
+pub returns-in-Ok-Serve-clause-unused_by_run : goal.returns-in-Ok-Serve-clause-unused_by_run
+returns-in-Ok-Serve-clause-unused_by_run g c = λ asks. absurd (serve-no-run (texts c.args.words.now) _ asks.0 _ _ _ (plan-asks (texts c.args.words.now) _ _ c.in-Ok-Serve.ensures.plan (with-file _ _ _ _ _ _ c.in-Ok-Serve.field-0-is c.in-Some.is)) asks.1)
+
+pub returns-in-Ok-Serve-clause-serve : goal.returns-in-Ok-Serve-clause-serve
+returns-in-Ok-Serve-clause-serve g c = λ asks. absurd (memory-no-file (texts c.args.words.now) asks.0 _ asks.1 _ asks.2 _ _ asks.3 (plan-asks (texts c.args.words.now) _ _ c.in-Ok-Serve.ensures.plan (with-file _ _ _ _ _ _ c.in-Ok-Serve.field-0-is c.in-Some.is)))
+
+pub returns-in-Ok-Serve-clause-unused_by_serve : goal.returns-in-Ok-Serve-clause-unused_by_serve
+returns-in-Ok-Serve-clause-unused_by_serve g c = λ asks. absurd (memory-no-file (texts c.args.words.now) asks.0 _ asks.1 _ asks.2 _ _ asks.3 (plan-asks (texts c.args.words.now) _ _ c.in-Ok-Serve.ensures.plan (with-file _ _ _ _ _ _ c.in-Ok-Serve.field-0-is c.in-Some.is)))
+
+pub returns-in-Ok-Serve-clause-files : goal.returns-in-Ok-Serve-clause-files
+returns-in-Ok-Serve-clause-files g c = λ asks. record {
+  settings = c.in-Ok-Serve.settings;
+  address = c.in-Ok-Serve.field-0-1;
+  sessions = c.in-Ok-Serve.sessions;
+  path = c.in-Some.field-0;
+  asked = plan-asks (texts c.args.words.now) _ _ c.in-Ok-Serve.ensures.plan (with-file _ _ _ _ _ _ c.in-Ok-Serve.field-0-is c.in-Some.is);
+  promises = c.serve_file.ensures;
 }
 
 -- ---- words of no form
@@ -70,6 +109,7 @@ pub returns-in-Err-BadWords-clause-form : goal.returns-in-Err-BadWords-clause-fo
 returns-in-Err-BadWords-clause-form g c = λ one. (
   λ asks. refused-no-plan (texts c.args.words.now) _ c.in-Err-BadWords.field-0-0 _ c.in-Err-BadWords.ensures.refused c.in-Err-BadWords.field-0-is asks.1,
   λ asks. refused-no-plan (texts c.args.words.now) _ c.in-Err-BadWords.field-0-0 _ c.in-Err-BadWords.ensures.refused c.in-Err-BadWords.field-0-is asks.3,
+  λ asks. refused-no-plan (texts c.args.words.now) _ c.in-Err-BadWords.field-0-0 _ c.in-Err-BadWords.ensures.refused c.in-Err-BadWords.field-0-is asks.4,
 )
 
 pub returns-in-Err-BadWords-clause-run : goal.returns-in-Err-BadWords-clause-run
@@ -79,6 +119,10 @@ returns-in-Err-BadWords-clause-run g c = λ asks. absurd
 pub returns-in-Err-BadWords-clause-serve : goal.returns-in-Err-BadWords-clause-serve
 returns-in-Err-BadWords-clause-serve g c = λ asks. absurd
     (refused-no-plan (texts c.args.words.now) _ c.in-Err-BadWords.field-0-0 _ c.in-Err-BadWords.ensures.refused c.in-Err-BadWords.field-0-is asks.3)
+
+pub returns-in-Err-BadWords-clause-files : goal.returns-in-Err-BadWords-clause-files
+returns-in-Err-BadWords-clause-files g c = λ asks. absurd
+    (refused-no-plan (texts c.args.words.now) _ c.in-Err-BadWords.field-0-0 _ c.in-Err-BadWords.ensures.refused c.in-Err-BadWords.field-0-is asks.4)
 
 -- ---- no memory for the words
 
@@ -97,4 +141,14 @@ returns-clause-serve g c = λ asks. record {
   sessions = asks.2;
   asked = asks.3;
   promises = unended-serves _ asks.0 asks.2 _ _ refl refl;
+}
+
+pub returns-clause-files : goal.returns-clause-files
+returns-clause-files g c = λ asks. record {
+  settings = asks.0;
+  address = asks.1;
+  sessions = asks.2;
+  path = asks.3;
+  asked = asks.4;
+  promises = refused-serves _ asks.0 asks.2 _ _ _ error.NoMemory (refl, refl);
 }

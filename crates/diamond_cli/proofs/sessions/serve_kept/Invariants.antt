@@ -1,4 +1,4 @@
-use Rattle.diamond_cli.proofs.serve.serve_links.Given as goal
+use Rattle.diamond_cli.proofs.sessions.serve_kept.Given as goal
 
 -- the lock that was just made
 abbrev pub ghosts-serve_over : goal.ghosts-serve_over

@@ -1,0 +1,127 @@
+//! `serve` over a store whose commits are kept in the file of a disk.
+
+ghost use Rattle.std.specs.Prelude.{◌≡◌, ◌+◌, ◌<◌, ◌^◌, length, IfOk, IfErr, IfSome};
+ghost use Rattle.dio_core.specs.Disks.{NothingPending};
+ghost use Rattle.plain_data.specs.Histories.{IsLawful};
+ghost use Rattle.script_runner.specs.Script.{writing};
+ghost use Rattle.journal_file.specs.Keepers.{Holds};
+ghost use Rattle.diamond_store.specs.Following.{Follows};
+ghost use Rattle.diamond_store.specs.Opening.{AreClients};
+ghost use Rattle.diamond_server.specs.Promises.{sides};
+ghost use Rattle.diamond_server.specs.Accounts.{gatherings};
+ghost use Rattle.diamond_cli.specs.Serving.{HasServed};
+ghost use Rattle.diamond_cli.specs.Filed.{storing, refusal, HoldsJournal, IsFiled, IsRefused, ServesFile};
+
+use crate::line::say;
+use crate::sessions::{Served, serve_kept};
+use commit_file::RecoverError;
+use diamond_server::Tally;
+use dio_core::{Disk, Listener, Sink};
+use journal_file::{CommitKeeper, Recovered, recover};
+use rdt_types::Settings;
+use script_runner::NO_MEMORY;
+use std::alloc::{AllocError, Global};
+use std::sync::Wait;
+use std::thread::Threads;
+use txn_lang::CommitList;
+
+/// The disk failed while its file was recovered.
+pub const DISK_FAULT: u8 = 6;
+
+/// The file is none of a journal.
+pub const NOT_JOURNAL: u8 = 7;
+
+/// What came of the links, and the store's commits.
+#[derive(Drop)]
+struct Filed {
+    tally: Tally,
+    commits: CommitList,
+}
+
+/// Serves over a file that was recovered, and gives its disk back.
+fn serve_recovered<D: Disk + Send, Li: Listener, R: Threads + Wait + Sync>(
+    rt: &R,
+    alloc: Global,
+    settings: &Settings,
+    sessions: u32,
+    recovered: Recovered,
+    disk: &mut D,
+    listener: &mut Li,
+) -> Result<Filed, AllocError>
+    requires lawful { IsLawful Follows (length recovered.commits) recovered.commits }
+    requires clients { AreClients recovered.commits }
+    requires holds { IfSome (D.state disk.old) (Holds recovered.commits recovered.end) }
+    requires room { recovered.end + 1 < 2 ^ 64 }
+    ensures served { IfOk result (λ filed. HasServed (sides Li.Link.Source Li.Link.Sink) settings.now sessions
+        (gatherings Li.Listener listener.old listener.new) recovered.commits (D.disk_faults disk.old) (D.disk_faults disk.new)
+        filed.tally filed.commits) }
+    ensures reads { IfOk result (λ filed. HoldsJournal filed.commits (D.state disk.new)) }
+{
+    let Recovered { commits, end } = recovered;
+    let keeper = CommitKeeper::new(disk, end);
+    let served = serve_kept(rt, alloc, settings, keeper, commits, listener, sessions)?;
+    let Served {
+        tally,
+        keeper,
+        commits,
+    } = served;
+    let _disk = keeper.release();
+    Ok(Filed { tally, commits })
+}
+
+/// Recovers the file, serves, and answers the status. Where an error comes, nothing was written.
+fn serve_links<W: Sink, D: Disk + Send, Li: Listener, R: Threads + Wait + Sync>(
+    rt: &R,
+    alloc: Global,
+    settings: &Settings,
+    sessions: u32,
+    sink: &mut W,
+    disk: &mut D,
+    listener: &mut Li,
+) -> Result<u8, RecoverError>
+    requires pending { NothingPending (D.state disk.old) }
+    ensures filed { IfOk result (λ status. IsFiled (sides Li.Link.Source Li.Link.Sink) settings.now sessions
+        (gatherings Li.Listener listener.old listener.new) (storing D.Disk disk.old disk.new) status (writing W.Sink sink.old sink.new)) }
+    ensures refused { IfErr result (IsRefused (gatherings Li.Listener listener.old listener.new) (storing D.Disk disk.old disk.new)
+        (writing W.Sink sink.old sink.new)) }
+{
+    let recovered = recover(alloc, disk)?;
+    let filed = serve_recovered(rt, alloc, settings, sessions, recovered, disk, listener)?;
+    Ok(say(alloc, filed.tally, &filed.commits, sink)?)
+}
+
+/// The status by which it is said that a file was not recovered.
+fn status_of(error: RecoverError) -> u8
+    ensures { result ≡ refusal error }
+{
+    match error {
+        RecoverError::NotJournal(_) => NOT_JOURNAL,
+        RecoverError::DiskFault => DISK_FAULT,
+        RecoverError::NoMemory => NO_MEMORY,
+    }
+}
+
+/// Recovers the file of a disk, and serves the sessions of at most so many links over one store, each in a thread of its own. The
+/// store begins with the file's commits, and keeps all others there. What came of them is written to the sink. It answers a status.
+///
+/// 0: all sessions have ended, and the line was written and passed on. 4: a write or the flush failed. 5: there was no memory.
+/// 6: the disk failed while the file was recovered. 7: the file is none of a journal. 8: an accept failed; the running sessions
+/// ended first, and the line was tried.
+pub(crate) fn serve_file<W: Sink, D: Disk + Send, Li: Listener, R: Threads + Wait + Sync>(
+    rt: &R,
+    alloc: Global,
+    settings: &Settings,
+    sessions: u32,
+    sink: &mut W,
+    disk: &mut D,
+    listener: &mut Li,
+) -> u8
+    requires pending { NothingPending (D.state disk.old) }
+    ensures { ServesFile (sides Li.Link.Source Li.Link.Sink) settings.now sessions (gatherings Li.Listener listener.old listener.new)
+        (storing D.Disk disk.old disk.new) result (writing W.Sink sink.old sink.new) }
+{
+    match serve_links(rt, alloc, settings, sessions, sink, disk, listener) {
+        Ok(status) => status,
+        Err(error) => status_of(error),
+    }
+}
