@@ -150,7 +150,7 @@ module _ (b : Based) (kind : kind_observed b.obs ≡ b.address.kind) where
 -- ---- an attempt
 
 -- the snap of an address is what the journal leaves there at its base
-snap-at : (journal : Journal) (snaps : SnapList) (a : Address) (snap : Snap) → AllByRecursion (SnapFits journal) snaps
+pub snap-at : (journal : Journal) (snaps : SnapList) (a : Address) (snap : Snap) → AllByRecursion (SnapFits journal) snaps
     → lookup (is_at (address_cmp a)) snaps ≡ Some snap
     → snap.value ≡ state journal snap.base a
 snap-at journal [] a snap all e = absurd (cc)
@@ -219,7 +219,7 @@ agrees journal snaps z orderly fit there misses = record {
         )
 
 -- so does each observation of the run
-agree : (journal : Journal) (snaps : SnapList) (seen : List Seen) → IsOrderly journal → AllByRecursion (SnapFits journal) snaps
+pub agree : (journal : Journal) (snaps : SnapList) (seen : List Seen) → IsOrderly journal → AllByRecursion (SnapFits journal) snaps
     → AllByRecursion (IsThere (values_of snaps)) seen
     → AllByRecursion (λ b. AllByRecursion (Misses b) journal) (based snaps seen) → Agree (values_of snaps) (known (left_by journal)) seen
 agree journal snaps [] orderly fit there misses = tt
