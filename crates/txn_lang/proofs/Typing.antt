@@ -90,7 +90,7 @@ fits_is o t u e = by_same (same u t) (same_is u t) e
 -- ---- one layer of the checker
 
 -- a node, with what the checker makes of the expressions in it
-abbrev deep : ExprNode-F ExprNode Expr Operand → ExprNode-F (ℕ → Names → Judged ItemType) Typed (Operator × Typed)
+abbrev pub deep : ExprNode-F ExprNode Expr Operand → ExprNode-F (ℕ → Names → Judged ItemType) Typed (Operator × Typed)
 deep =
     map-ExprNode ExprNode Expr Operand (ℕ → Names → Judged ItemType) Typed (Operator × Typed)
     (fold-ExprNode (ℕ → Names → Judged ItemType) Typed (Operator × Typed) judge_node judge_expr judge_operand) typed
@@ -104,7 +104,7 @@ typed_is e =
     (fold_out-ExprNode (ℕ → Names → Judged ItemType) Typed (Operator × Typed) judge_node judge_expr judge_operand (out-Expr e).node)
 
 -- an operand is judged by its operator and its value: the equation of the fold
-operand_is : (o : Operand) → judged_operand o ≡ (operator_of o, typed (value_of o))
+pub operand_is : (o : Operand) → judged_operand o ≡ (operator_of o, typed (value_of o))
 operand_is o = fold_out-Operand (ℕ → Names → Judged ItemType) Typed (Operator × Typed) judge_node judge_expr judge_operand o
 
 -- an expression's type is what its layer makes of the types in it
@@ -366,13 +366,13 @@ types_are_found names e t = (type_sound names e t, type_found names e t)
 -- ---- statements
 
 -- a statement's node, with what the checker makes of the statements in it
-abbrev deep_step : StmtNode-F StmtNode Stmt → StmtNode-F (Names → Judged Names) (Names → Judged Names)
+abbrev pub deep_step : StmtNode-F StmtNode Stmt → StmtNode-F (Names → Judged Names) (Names → Judged Names)
 deep_step =
     map-StmtNode StmtNode Stmt (Names → Judged Names) (Names → Judged Names)
     (fold-StmtNode (Names → Judged Names) (Names → Judged Names) judge_step judge_stmt) names_after
 
 -- a statement is judged by what it is
-names_by : (names : Names) (s : Stmt) (n : StmtNode-F StmtNode Stmt) → step_of s ≡ n → names_after s names ≡ judge_step (deep_step n) names
+pub names_by : (names : Names) (s : Stmt) (n : StmtNode-F StmtNode Stmt) → step_of s ≡ n → names_after s names ≡ judge_step (deep_step n) names
 names_by names s n is =
     ap (λ f. f names) (fold_out-Stmt (Names → Judged Names) (Names → Judged Names) judge_step judge_stmt s
     ∙ fold_out-StmtNode (Names → Judged Names) (Names → Judged Names) judge_step judge_stmt (out-Stmt s).node)
@@ -392,7 +392,7 @@ expect_found wanted e names h =
     ∙ ap (λ b. told (unless b (column_of e)) wanted) (same_self wanted)
 
 -- if the checker leaves names behind it, and statements behind it are typed there, they are typed with it in front
-abbrev StmtSound : Stmt → Type 0
+abbrev pub StmtSound : Stmt → Type 0
 StmtSound s = (names after : Names) (ss : List Stmt) → names_after s names ≡ Ok after → AreTyped after ss → AreTyped names (s ∷ ss)
 
 -- expression by expression: without a complaint each has the type that is wanted
@@ -488,20 +488,20 @@ abbrev NodeSound' : StmtNode → Type 0
 NodeSound' n = (s : Stmt) → (out-Stmt s).node ≡ n → StmtSound s
 
 -- by induction over statements: a layer is sound where the statements in it are
-stmt_sound : (s : Stmt) → StmtSound s
+pub stmt_sound : (s : Stmt) → StmtSound s
 stmt_sound = ind-Stmt NodeSound' StmtSound
     (λ x y is s at. step_sound (λ c. c.0) (λ c. c.0) (λ c. c.1) y s (ap out-StmtNode at ∙ out-roll-StmtNode x ∙ sym is))
     (λ x y is. (subst (λ z. NodeSound' z.node) is y.node.1) (roll-Stmt x) (ap (λ z. z.node) (out-roll-Stmt x)))
 
 -- statement by statement: each is sound, so it stands in front of those that are typed behind it
-body_sound : (ss : List Stmt) (names after : Names) → in_order (map names_after ss) names ≡ Ok after → AreTyped names ss
+pub body_sound : (ss : List Stmt) (names after : Names) → in_order (map names_after ss) names ≡ Ok after → AreTyped names ss
 body_sound [] names after ok = none names
 body_sound (s ∷ ss) names after ok =
     let z = then_ok (names_after s names) (in_order (map names_after ss)) after ok in
     stmt_sound s names z.0 ss z.1.0 (body_sound ss z.0 after z.1.1)
 
 -- the checker comes to an end behind these statements
-abbrev Ends : Names → List Stmt → Type 0
+abbrev pub Ends : Names → List Stmt → Type 0
 Ends names ss = (after : Names) × (in_order (map names_after ss) names ≡ Ok after)
 
 -- one more statement in front, which leaves these names
@@ -513,7 +513,7 @@ block_found : (ss : List Stmt) (names : Names) → Ends names ss → block (map 
 block_found ss names ends = then_found (in_order (map names_after ss) names) ends.0 (λ t. Ok names) ends.1
 
 -- rule by rule: what the rule asks passes the checker's tests, and it goes on to the statements behind
-order_found : (names : Names) (ss : List Stmt) → AreTyped names ss → Ends names ss
+pub order_found : (names : Names) (ss : List Stmt) → AreTyped names ss → Ends names ss
 order_found _ _ (none names) = (names, refl)
 order_found _ _ (bind names s ss x e t is h more) =
     one_more names (names ++ (x, t) ∷ []) s ss
