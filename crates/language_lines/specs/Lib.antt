@@ -1,0 +1,11 @@
+pub mod Tables
+pub mod Kinds
+pub mod Words
+pub mod Printing
+pub mod Operations
+pub mod Forms
+pub mod Meanings
+pub mod Typing
+pub mod Operators
+pub mod Limits
+pub mod Answers

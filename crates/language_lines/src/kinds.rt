@@ -1,0 +1,10 @@
+//! The kinds.
+
+ghost use Rattle.language_lines.specs.Kinds.{KindsRise, KindsHaveWords, KindsHaveDefaults};
+
+/// The six kinds.
+pub fn kinds_are_as_written()
+    ensures order { KindsRise }
+    ensures words { KindsHaveWords }
+    ensures defaults { KindsHaveDefaults }
+{}

@@ -1,0 +1,2 @@
+mod Serial
+mod Growing

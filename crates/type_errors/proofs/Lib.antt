@@ -1,0 +1,4 @@
+mod Gone
+mod Nodes
+mod Expressions
+mod Statements
