@@ -1,10 +1,10 @@
 -- The count of faults along a program: it rises where a call fails by a fault, and nowhere else.
-use Rattle.std.proofs.Common.{◌≡◌, ℕ, Bool, true, false, Result, Ok, Err, refl, ◌∙◌, subst}
+use Rattle.std.proofs.Common.{◌≡◌, ℕ, true, false, Result, Ok, Err, refl, ◌∙◌, subst}
 use Rattle.dio_core.specs.Counts.{Rose, IsCounted}
 use Rattle.docc_prepare.specs.Calls.{Known, Call, Answer, is_fault}
 use Rattle.docc_prepare.specs.Backends.{IsAnswered, Goes}
 use Rattle.call_programs.specs.Programs.{Program, Leads, Stops, Performs, Succeeds}
-use Rattle.call_programs.specs.Safe.{CountsFault, FaultsAreCounted}
+use Rattle.call_programs.specs.Safe.{RisesWhere, CountsFault, FaultsAreCounted}
 use Rattle.call_programs.proofs.Programs.{known_leads, known_stops}
 
 -- an answer that hasn't failed is no fault
@@ -17,11 +17,17 @@ same_along : {A : Type 0} {k l : Known} {p q : Program A} → Leads IsAnswered k
 same_along Leads.stays = refl
 same_along {k} (Leads.by_call {m} answer step ok rest) = same_along rest ∙ no_fault answer k.faults m.faults ok step.goes_on.faults
 
--- and has risen where a call has failed by a fault
-risen : {A : Type 0} {k l : Known} {p : Program A} {X : Type 0} → Stops IsAnswered k p X l → X → Rose k.faults l.faults
-risen (Stops.wants led want) x = absurd (want x)
-risen {l} (Stops.fails {m} by_fault led step cause) x =
-    subst (λ (n : ℕ). Rose n l.faults) (same_along led) (subst (λ b. IsCounted b m.faults l.faults) (cause x) step.goes_on.faults)
+-- and has risen exactly where a call has failed by a fault
+risen : {A : Type 0} {k l : Known} {p : Program A} {X : Type 0} → Stops IsAnswered k p X l → RisesWhere X k.faults l.faults
+risen (Stops.wants led want) = record { rises = λ x. absurd (want x); stays = λ no. same_along led }
+risen {l} (Stops.fails true led step cause) = record {
+  rises = λ x. subst (λ (n : ℕ). Rose n l.faults) (same_along led) step.goes_on.faults;
+  stays = λ no. absurd (no (cause.1 refl));
+}
+risen (Stops.fails false led step cause) = record {
+  rises = λ x. absurd (let is = cause.0 x in cc);
+  stays = λ no. step.goes_on.faults ∙ same_along led;
+}
 
 -- whatever the function answers
 pub faults_are_counted : {A T E : Type 0} → FaultsAreCounted A T E

@@ -1,5 +1,5 @@
 -- Programs put together: what leads through one leads through it and what follows, and what stops one stops the whole.
-use Rattle.std.proofs.Common.{◌≡◌, Bool, true, false, Result, Ok, Err, refl, sym, subst}
+use Rattle.std.proofs.Common.{◌≡◌, ◌↔◌, true, false, Result, refl, sym, ap, subst}
 use Rattle.std.specs.Prelude.{IsErrAnd}
 use Rattle.std.proofs.lemmas.Result.{err_from_is_err_and}
 use Rattle.docc_prepare.specs.declared.backend.StoreError.{StoreError}
@@ -59,17 +59,18 @@ pub stops_after : {S A C : Type 0} {goes : S → Call → Answer → S → Type 
     → Leads goes s p m (Program.ends a) → Stops goes m (f a) X t → Stops goes s (bind p f) X t
 stops_after f first stop = stops_behind (in_bind f first) stop
 
--- at a call that has failed
+-- at a call that has failed: the error is said to be a fault exactly where that is one
 pub call_failed : {S A : Type 0} {goes : S → Call → Answer → S → Type 0} {s t : S} {call : Call} {next : Answer → Program A} {X : Type 0} (e : StoreError)
-    → goes s call (store_failed e) t → (X → e ≡ store_error.Fault) → Stops goes s (Program.asks call next) X t
-call_failed store_error.Fault step cause = Stops.fails true Leads.stays step (λ x. refl)
-call_failed store_error.NoMemory step cause = Stops.fails false Leads.stays step (λ x. let is = cause x in absurd (cc))
+    → goes s call (store_failed e) t → X ↔ (e ≡ store_error.Fault) → Stops goes s (Program.asks call next) X t
+call_failed store_error.Fault step cause = Stops.fails true Leads.stays step (λ x. refl, λ is. cause.1 refl)
+call_failed store_error.NoMemory step cause = Stops.fails false Leads.stays step (λ x. let is = cause.0 x in absurd (cc), λ is. absurd (cc))
 
--- at a call of which so much is known: where the error is said to be a fault, it has failed by one
+-- at a call of which so much is known: the error is said to be a fault exactly where it has failed by one
 pub call_broken : {S A : Type 0} {goes : S → Call → Answer → S → Type 0} {s t : S} {call : Call} {next : Answer → Program A} {X : Type 0} (answer : Answer)
-    → goes s call answer t → (X → answer ≡ Answer.failed true) → Stops goes s (Program.asks call next) X t
-call_broken (Answer.failed by_fault) step cause = Stops.fails by_fault Leads.stays step (λ x. let is = cause x in cc)
-call_broken answer step cause = Stops.wants (Leads.by_call answer step tt Leads.stays) (λ x. let is = cause x in cc)
+    → goes s call answer t → X ↔ (answer ≡ Answer.failed true) → Stops goes s (Program.asks call next) X t
+call_broken (Answer.failed by_fault) step cause =
+    Stops.fails by_fault Leads.stays step (λ x. let is = cause.0 x in cc, λ is. cause.1 (ap Answer.failed is))
+call_broken answer step cause = Stops.wants (Leads.by_call answer step tt Leads.stays) (λ x. let is = cause.0 x in cc)
 
 -- what a function owes that answers an error
 pub fails : {S A T E : Type 0} {goes : S → Call → Answer → S → Type 0} {fault : E} {s t : S} {p : Program A} {x : E} (give : T → A) (r : Result T E)

@@ -1,6 +1,6 @@
 -- Programs: which calls a client makes of a backend, and what it does with each answer, as plain data. There is no journal in them,
 -- and no store.
-use Rattle.std.specs.Prelude.{◌≡◌, ℕ, ◌+◌, Bool, true, Result, Ok, Err, refl}
+use Rattle.std.specs.Prelude.{◌≡◌, ◌↔◌, ℕ, ◌+◌, Bool, true, false, Result, Ok, Err, refl}
 use Rattle.docc_prepare.specs.Calls.{Call, Answer}
 
 -- A PROGRAM ends with a value, or asks a call and goes on with its answer. It is stuck where there is nothing to do: no store gives
@@ -29,12 +29,12 @@ pub data Leads {S A : Type 0} (goes : S → Call → Answer → S → Type 0) : 
   by_call : {s m t : S} {call : Call} {next : Answer → Program A} {q : Program A} (answer : Answer) → goes s call answer m → Succeeds answer
       → Leads goes m (next answer) t q → Leads goes s (Program.asks call next) t q
 
--- IT STOPS somewhere on its way: memory is wanting there, or a call fails. Where the error is said to be a fault of the store, a call
--- has failed by one.
+-- IT STOPS somewhere on its way: memory is wanting there, and the error is said to be no fault of the store; or a call fails, and the
+-- error is said to be a fault exactly where the call has failed by one.
 pub data Stops {S A : Type 0} (goes : S → Call → Answer → S → Type 0) (s : S) (p : Program A) (is_fault : Type 0) (t : S) : Type 0 where
   wants : {rest : Program A} → Leads goes s p t rest → (is_fault → ⊥) → Stops goes s p is_fault t
   fails : {m : S} {call : Call} {next : Answer → Program A} (by_fault : Bool) → Leads goes s p m (Program.asks call next)
-      → goes m call (Answer.failed by_fault) t → (is_fault → by_fault ≡ true) → Stops goes s p is_fault t
+      → goes m call (Answer.failed by_fault) t → is_fault ↔ (by_fault ≡ true) → Stops goes s p is_fault t
 
 -- WHAT A FUNCTION DOES: it performs the program, which ends with what is made of the function's result; or, after an error, it has
 -- stopped on the way.
@@ -81,13 +81,18 @@ leads-example :
     {S : Type 0} {goes : S → Call → Answer → S → Type 0} {s t : S} → goes s Call.refresh (Answer.number 3) t → Leads goes s ask_length t (Program.ends 3)
 leads-example step = Leads.by_call (Answer.number 3) step tt Leads.stays
 
--- a fault stops it, and may be told as one
+-- a fault stops it, and is told as one
 stops-example :
     {S : Type 0} {goes : S → Call → Answer → S → Type 0} {s t : S} → goes s Call.refresh (Answer.failed true) t
     → Stops goes s ask_length (Unit {0}) t
-stops-example step = Stops.fails true Leads.stays step (λ h. refl)
+stops-example step = Stops.fails true Leads.stays step (λ h. refl, λ is. tt)
 
--- want of memory stops it, too, and may not be told as a fault
+-- want of memory stops it, too, and is told as no fault: the store's,
+stops-failing :
+    {S : Type 0} {goes : S → Call → Answer → S → Type 0} {s t : S} → goes s Call.refresh (Answer.failed false) t → Stops goes s ask_length ⊥ t
+stops-failing step = Stops.fails false Leads.stays step (λ h. absurd h, λ is. cc)
+
+-- and the client's own
 stops-wanting : {S : Type 0} {goes : S → Call → Answer → S → Type 0} (s : S) → Stops goes s ask_length ⊥ s
 stops-wanting s = Stops.wants Leads.stays (λ h. h)
 

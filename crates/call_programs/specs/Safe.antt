@@ -43,12 +43,17 @@ IsWithin most p holds = Always CanSpend Spends (Unit {0}) most p holds
 
 -- ---- faults
 
--- a count has stayed, but for an error that is said to be a fault of the store: there it has risen
+-- a count has risen where something is so, and has stayed where it isn't
+pub record RisesWhere (so : Type 0) (old new : ℕ) : Type 0 where
+  pub rises : so → Rose old new
+  pub stays : (so → ⊥) → new ≡ old
+
+-- A count has stayed, but for an error that is the fault of the store: exactly there it has risen.
 abbrev pub CountsFault : {T E : Type 0} → E → Result T E → ℕ → ℕ → Type 0
 CountsFault fault (Ok x) old new = new ≡ old
-CountsFault fault (Err e) old new = e ≡ fault → Rose old new
+CountsFault fault (Err e) old new = RisesWhere (e ≡ fault) old new
 
--- A law of every program: a function that performs it over a backend counts its faults, and nothing else.
+-- A law of every program: over a backend, a function that performs it has raised the count of faults exactly where it tells one.
 abbrev pub FaultsAreCounted : Type 0 → Type 0 → Type 0 → Type 0
 FaultsAreCounted A T E =
     (k l : Known) (fault : E) (p : Program A) (result : Result T E) (give : T → A) → Performs IsAnswered fault k p result give l
@@ -72,3 +77,7 @@ within-example most some = (some, elim [ Answer.number n ↦ (λ left spent ok. 
 -- where a function has a value no fault was counted
 counts-example : (fault n : ℕ) → CountsFault fault (Ok n) 2 2
 counts-example fault n = refl
+
+-- nor where it has another error
+counts-other : (fault e n : ℕ) → (e ≡ fault → ⊥) → CountsFault {T = ℕ} fault (Err e) 2 n → n ≡ 2
+counts-other fault e n other is = is.stays other

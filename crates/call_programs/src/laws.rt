@@ -3,7 +3,7 @@
 ghost use Rattle.call_programs.specs.Played.{ProgramsArePlayed, SafeProgramsEnd};
 ghost use Rattle.call_programs.specs.Safe.{FaultsAreCounted};
 
-/// The law that a function which performs a program counts the faults of the store, and nothing else.
+/// The law that a function which performs a program has raised the count of faults exactly where it tells a fault of the store.
 pub fn faults_are_counted<A, T, E>()
     ensures { FaultsAreCounted A T E }
 {}

@@ -19,7 +19,7 @@ use Rattle.call_programs.specs.Safe.{AsksAny}
 use Rattle.call_programs.proofs.Programs.{always_more}
 use Rattle.client_watches.specs.declared.watching.Watching.{Watching}
 use Rattle.client_watches.specs.Watching.{none_loose, with_value, stale_count}
-use Rattle.client_watches.specs.Phases.{Goal}
+use Rattle.client_watches.specs.Goals.{Goal}
 use Rattle.client_watches.specs.Explained.{ShownList, shown_of, Reports, AllHold, IsCutShort, GoalPasses}
 use Rattle.client_watches.specs.Laws.{Passes}
 use Rattle.client_watches.specs.LineLaws.{SyncIsExplained}
@@ -42,7 +42,7 @@ use Rattle.client_watches.proofs.Hearing.{attends_so, begins_so}
 module _ (window low : ℕ) (goal : Goal) (story : ShownList) (upto : AreUpTo low story) where
   -- the reports so far
   abbrev pub Goes : Sees → Watching → List Reply → Type 0
-  Goes s w said = Going window low goal story s.journal w said
+  Goes s w said = Going low goal story s.journal w said
 
   -- what changed was taken
   pub record Taken (t : Sees) (w : Watching) : Type 0 where
@@ -50,7 +50,7 @@ module _ (window low : ℕ) (goal : Goal) (story : ShownList) (upto : AreUpTo lo
     pub goes : Goes t w []
 
   pub take_so : (s : Sees) (w : Watching) → StandsSo s w → s.known.window ≡ window → shown_of w.watches ≡ story → low ≤ s.known.seen
-      → IsNew window low goal story goal → AlwaysTold s (take_feed w) Taken
+      → IsNew story goal → AlwaysTold s (take_feed w) Taken
   take_so s w is same shown below new = (tt, by)
     where
       by : (answer : Answer) (t : Sees) → IsToldSo s Call.take answer t → Succeeds answer → AlwaysTold t (fed w answer) Taken
@@ -86,7 +86,7 @@ module _ (window low : ℕ) (goal : Goal) (story : ShownList) (upto : AreUpTo lo
 
   -- of a journal that has grown
   pub goes_later : (s t : Sees) (w : Watching) (said : List Reply) → IsPrefix s.journal t.journal → Goes s w said → Goes t w said
-  goes_later s t w said grows goes = going-stays window low goal story s.journal t.journal s.can t.can grows w said goes
+  goes_later s t w said grows goes = going-stays s.journal t.journal s.can t.can grows low goal story w said goes
 
   -- ---- cut short
 
@@ -129,7 +129,7 @@ module _ (window low : ℕ) (goal : Goal) (story : ShownList) (upto : AreUpTo lo
   -- all are current, or a value was late while a watch was left to run
   abbrev pub Caught : Sees → Bool → Watching → List Reply → Type 0
   Caught t true v told = Goes t v told × AllHold t.journal v.cache.at (shown_of v.watches)
-  Caught t false v told = IsCut t v told × IsLeft window low goal story t.journal v
+  Caught t false v told = IsCut t v told × IsLeft t.journal v
 
   -- or more may follow
   abbrev pub Reran : Sees → Option Bool → Watching → List Reply → Type 0
@@ -157,14 +157,14 @@ module _ (window low : ℕ) (goal : Goal) (story : ShownList) (upto : AreUpTo lo
           on t v here (subst (λ (v : Watching). Goes t v said) (sym is.1.0) (goes_value t w address is.0 said is.1.1 (goes_later s t w said grows goes)))
       more address next on t (Some late) v grows here is =
           let needs = it-needs (held w.cache) w.watches address next in
-          let left : IsLeft window low goal story t.journal w =
-          left-stays window low goal story s.journal t.journal s.can t.can grows w goes.stands
+          let left : IsLeft t.journal w =
+          left-stays s.journal t.journal s.can t.can grows w goes.stands
           (some-touched s.journal w.cache.at w.watches needs.entry (all-tell s.journal w.cache w.watches goes.stands.watches) needs.first) in
           record {
             ready = here;
             is = (
               cut_so s t w v late said grows is goes,
-              subst (λ (v : Watching). IsLeft window low goal story t.journal v) (sym is.same) left,
+              subst (λ (v : Watching). IsLeft t.journal v) (sym is.same) left,
             );
           }
 
@@ -183,7 +183,7 @@ module _ (window low : ℕ) (goal : Goal) (story : ShownList) (upto : AreUpTo lo
           window_is = ready.window_is;
           taken = ready.taken;
         };
-        is = going-on window low goal story s.known s.journal w said name run ready.keeps.names next goes;
+        is = going-on low goal story s.journal w said name run ready.keeps.names next goes;
       }
       by rerun.NoneLeft next on = record {
         ready = ready;

@@ -1,17 +1,20 @@
 -- The reply to `unwatch` passes: what no watch observes any longer is let go, and that is all.
-use Rattle.std.proofs.Common.{◌≡◌, inl, inr, Bool, true, false, cond, [], ◌∷◌}
-use Rattle.std.proofs.Common.{is_some, refl, sym, ap, ◌∙◌}
+use Rattle.std.proofs.Common.{◌≡◌, inl, inr, Bool, true, false, cond, [], ◌∷◌, Some, None, is_some, refl, sym, ap, ◌∙◌}
+use Rattle.std.specs.Map.{remove_entry}
+use Rattle.std.specs.Str.{bytes_eq}
+use Rattle.plain_data.specs.Texts.{Bytes}
 use Rattle.std.proofs.Math.Seq.{take-length}
 use Rattle.session_text.specs.declared.reply.Reply.TheVariants as reply
 use Rattle.session_text.specs.declared.reply.Why.TheVariants as why
-use Rattle.rerun_driver.specs.Watches.{Watches, watch_of}
+use Rattle.rerun_driver.specs.Watches.{Watches, watch_of, without_watch}
 use Rattle.docc_prepare.specs.Calls.{Known}
 use Rattle.docc_prepare.specs.Backends.{IsAnswered}
 use Rattle.call_programs.specs.Programs.{Program}
 use Rattle.call_programs.specs.Safe.{AsksAny, AlwaysEnds}
 use Rattle.call_programs.proofs.Programs.{always_more}
 use Rattle.client_watches.specs.Watching.{none_loose, without}
-use Rattle.client_watches.specs.Explained.{shown_of}
+use Rattle.client_watches.specs.Keeping.{AreDistinct}
+use Rattle.client_watches.specs.Explained.{ShownList, shown_of}
 use Rattle.client_watches.specs.Laws.{Forgets}
 use Rattle.client_watches.specs.LineLaws.{UnwatchIsExplained}
 use Rattle.client_watches.specs.Lines.{Told}
@@ -19,9 +22,34 @@ use Rattle.client_watches.specs.Lines.{drop_idle, ending}
 use Rattle.client_watches.proofs.Kept.{keeps-without}
 use Rattle.client_watches.proofs.Moving.{stands-without}
 use Rattle.client_watches.proofs.Telling.{shown-named}
-use Rattle.client_watches.proofs.Forgetting.{shown-without, none-left-named}
+use Rattle.client_watches.proofs.Names.{same_name}
 use Rattle.client_watches.proofs.Hearing.{Sees, AlwaysTold, then_told, IsToldAt, told_always, StandsSo, Dropped, idle_so}
 use Rattle.client_watches.proofs.Hearing.{attends_so}
+
+-- ---- one watch less
+
+-- it is one less of what is shown
+shown-without : (ws : Watches) (name : Bytes) → shown_of (without_watch ws name) ≡ remove_entry (bytes_eq name) (shown_of ws)
+shown-without [] name = refl
+shown-without (x ∷ ws) name = by (bytes_eq name x.0) (shown-without ws name)
+  where
+    by : (b : Bool) → shown_of (without_watch ws name) ≡ remove_entry (bytes_eq name) (shown_of ws)
+        → shown_of (cond b ws (x ∷ without_watch ws name))
+        ≡ cond b (shown_of ws) ((x.0, record { body = x.1.body; number = x.1.number }) ∷ remove_entry (bytes_eq name) (shown_of ws))
+    by true rest = refl
+    by false rest = ap (λ (later : ShownList). (x.0, record { body = x.1.body; number = x.1.number }) ∷ later) rest
+
+-- where names differ none has the name then
+none-left-named : (ws : Watches) (name : Bytes) → AreDistinct ws → watch_of (without_watch ws name) name ≡ None
+none-left-named [] name all = refl
+none-left-named (x ∷ ws) name all = by (bytes_eq name x.0) refl (none-left-named ws name all.1)
+  where
+    by : (b : Bool) → bytes_eq name x.0 ≡ b → watch_of (without_watch ws name) name ≡ None
+        → watch_of (cond b ws (x ∷ without_watch ws name)) name ≡ None
+    by true e rest = ap (watch_of ws) (same_name name x.0 e) ∙ all.0
+    by false e rest = ap (λ b. cond b (Some x.1) (watch_of (without_watch ws name) name)) e ∙ rest
+
+-- ---- the line
 
 -- what is kept stands, with the watches and the replies with which the line came to its end
 pub record Ended (told : Told) (t : Sees) (end : Told) : Type 0 where

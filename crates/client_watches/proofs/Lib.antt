@@ -1,7 +1,6 @@
 pub mod Names
 pub mod Stale
 pub mod Kept
-pub mod Steps
 pub mod Parts
 pub mod Journals
 pub mod Stays
@@ -11,11 +10,7 @@ pub mod Moving
 pub mod Telling
 pub mod Answering
 pub mod Lined
-pub mod Ready
-pub mod Unbroken
-pub mod Forgetting
 pub mod Bounds
-pub mod Saying
 pub mod Safe
 pub mod Within
 pub mod Seen
@@ -23,3 +18,4 @@ pub mod Hearing
 pub mod Explaining
 pub mod Making
 pub mod Forgotten
+pub mod InUse

@@ -22,7 +22,7 @@ use Rattle.call_programs.specs.Safe.{AsksAny, AlwaysEnds}
 use Rattle.call_programs.proofs.Programs.{always_more}
 use Rattle.client_watches.specs.declared.watching.Watching.{Watching}
 use Rattle.client_watches.specs.Watching.{none_loose}
-use Rattle.client_watches.specs.Phases.{Goal}
+use Rattle.client_watches.specs.Goals.{Goal}
 use Rattle.client_watches.specs.Explained.{ShownList, shown_of, reported_at, Reports, AllHold, IsUnknown}
 use Rattle.client_watches.specs.Laws.{Passes}
 use Rattle.client_watches.specs.LineLaws.{WatchIsExplained}
@@ -70,7 +70,7 @@ module _ (window low : ℕ) (name : Bytes) (body : Checked) (story : ShownList) 
   holds_later : (s t : Sees) (w : Watching) (said : List Reply) → IsPrefix s.journal t.journal → Holds s w said → Holds t w said
   holds_later s t w said grows is = record {
     goes = goes_later window low aim story upto s t w said grows is.goes;
-    all = holds-stay window low aim story s.journal t.journal s.can t.can grows w is.goes.stands is.all;
+    all = holds-stay s.journal t.journal s.can t.can grows w is.goes.stands is.all;
   }
 
   -- and once values are let go

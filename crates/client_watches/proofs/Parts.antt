@@ -1,6 +1,7 @@
 -- What functions owe that perform parts of a line, and what these parts come to.
-use Rattle.std.proofs.Common.{◌≡◌, ℕ, suc, ◌+◌, ◌-◌, ◌<◌, true, false, cond, List, [], ◌∷◌, Option, Some, None, is_some}
-use Rattle.std.proofs.Common.{Ok, refl, sym, ap, ◌∙◌, arith}
+use Rattle.std.proofs.Common.{◌≡◌, ◌↔◌, ℕ, suc, ◌+◌, ◌-◌, ◌<◌, true, false, cond, List, [], ◌∷◌, length, get_or, drop, Option, Some, None, is_some}
+use Rattle.std.proofs.Common.{Ok, Err, refl, sym, ap, ◌∙◌, arith, add-one}
+use Rattle.std.proofs.Math.Seq.{drop-cons}
 use Rattle.plain_data.specs.Texts.{Bytes}
 use Rattle.rdt_types.specs.declared.address.Address.{Address}
 use Rattle.rdt_types.specs.declared.value.Value.{Value}
@@ -15,15 +16,18 @@ use Rattle.rerun_driver.specs.declared.rerun.Rerun.{Rerun}
 use Rattle.rerun_driver.specs.Watches.{watch_of, next_rerun}
 use Rattle.docc_prepare.specs.declared.backend.StoreError.{StoreError}
 use Rattle.docc_prepare.specs.declared.backend.StoreError.TheVariants as store_error
-use Rattle.docc_prepare.specs.Calls.{Call, Answer, store_failed}
-use Rattle.call_programs.specs.Programs.{Program, bind, Leads, Stops, Succeeds}
-use Rattle.call_programs.proofs.Programs.{call_failed}
+use Rattle.docc_prepare.specs.declared.backend.ReadAtError.{ReadAtError}
+use Rattle.docc_prepare.specs.declared.backend.ReadAtError.TheVariants as read_at_error
+use Rattle.docc_prepare.specs.Calls.{Call, Answer, store_failed, value_answered}
+use Rattle.call_programs.specs.Programs.{Program, bind, Leads, Stops, Always, Succeeds}
+use Rattle.call_programs.specs.Safe.{AsksAny}
+use Rattle.call_programs.proofs.Programs.{call_failed, along}
+use Rattle.client_watches.specs.declared.error.WatchError.{WatchError}
 use Rattle.client_watches.specs.declared.error.WatchError.TheVariants as error
 use Rattle.client_watches.specs.declared.watching.Watching.{Watching}
-use Rattle.client_watches.specs.Errors.{error_of}
-use Rattle.client_watches.specs.Leading.{IsLateBy}
+use Rattle.client_watches.specs.Errors.{error_of, reply_of}
 use Rattle.client_watches.specs.Watching.{with_value, without}
-use Rattle.client_watches.specs.Lines.{Told, rounds, read, rerun_by, rerun_one, run_by, run_body, take_feed, make, ending, watch, unwatch}
+use Rattle.client_watches.specs.Lines.{Told, rounds, kept, read, fetch, rerun_by, rerun_one, run_by, run_body, take_feed, make, ending, watch, unwatch}
 
 -- ---- what stops
 
@@ -32,15 +36,32 @@ pub wants : {S A : Type 0} {goes : S → Call → Answer → S → Type 0} {s t 
     → Stops goes s p (error.NoMemory ≡ error.StoreFault) t
 wants led = Stops.wants led (λ is. cc)
 
--- only a fault of the store is told as one
-told_fault : (x : StoreError) → error_of x ≡ error.StoreFault → x ≡ store_error.Fault
-told_fault store_error.Fault is = refl
-told_fault store_error.NoMemory is = absurd (cc)
+-- a fault of the store is told as one, and nothing else is
+told_fault : (x : StoreError) → (error_of x ≡ error.StoreFault) ↔ (x ≡ store_error.Fault)
+told_fault store_error.Fault = (λ is. refl, λ is. refl)
+told_fault store_error.NoMemory = (λ is. absurd (cc), λ is. absurd (cc))
 
 -- a call has failed, and its error is handed on
 pub failed : {S A : Type 0} {goes : S → Call → Answer → S → Type 0} {s t : S} {call : Call} {next : Answer → Program A} (x : StoreError)
     → goes s call (store_failed x) t → Stops goes s (Program.asks call next) (error_of x ≡ error.StoreFault) t
 failed x step = call_failed x step (told_fault x)
+
+-- so it is of a read at a number
+pub read_broken : (x : ReadAtError) (e : WatchError) → Err e ≡ reply_of x → (e ≡ error.StoreFault) ↔ (value_answered (Err x) ≡ Answer.failed true)
+read_broken (read_at_error.Late n horizon) e is = absurd (cc)
+read_broken read_at_error.Fault e is = (λ h. refl, λ h. let same : e ≡ error.StoreFault = cc in same)
+read_broken read_at_error.NoMemory e is = (λ h. absurd (let same : e ≡ error.NoMemory = cc in cc), λ h. absurd (cc))
+
+-- ---- items
+
+-- an option in which nothing stands is none
+pub none-else : {A : Type 0} (o : Option A) → ((x : A) → o ≡ Some x → ⊥) → o ≡ None
+none-else None h = refl
+none-else (Some x) h = absurd (h x refl)
+
+-- the next of some items, and the rest
+pub next-drop : {A : Type 0} (xs : List A) (i : ℕ) (x : A) → i < length xs → x ≡ get_or xs i x → drop i xs ≡ x ∷ drop (i + 1) xs
+next-drop xs i x within e = drop-cons xs i x within ∙ (λ j. sym e j ∷ drop (sym (add-one i) j) xs)
 
 -- ---- rounds
 
@@ -68,20 +89,45 @@ run_round i body said w r within next =
 -- ---- values
 
 -- where a value was late, that is the reply
-pub read_late : (w : Watching) (address : Address) (late : Reply) (answer : Answer) → IsLateBy answer (Ok late)
-    → read w address answer ≡ Program.ends (Some late, w)
-read_late w address late (Answer.late n horizon) is = ap (λ (r : Reply). Program.ends (Some r, w)) (sym is)
-read_late w address late answer is = absurd is
+pub read_late : (w : Watching) (address : Address) (late : Reply) (x : ReadAtError) → Ok late ≡ reply_of x
+    → read w address (value_answered (Err x)) ≡ Program.ends (Some late, w)
+read_late w address late (read_at_error.Late n horizon) is =
+    ap (λ (r : Reply). Program.ends (Some r, w)) (let same : reply.Late n horizon ≡ late = cc in same)
+read_late w address late read_at_error.Fault is = absurd (cc)
+read_late w address late read_at_error.NoMemory is = absurd (cc)
 
 -- and its call hasn't failed
-pub late_succeeds : (late : Reply) (answer : Answer) → IsLateBy answer (Ok late) → Succeeds answer
-late_succeeds late (Answer.late n horizon) is = tt
-late_succeeds late answer is = absurd is
+pub late_succeeds : (late : Reply) (x : ReadAtError) → Ok late ≡ reply_of x → Succeeds (value_answered (Err x))
+late_succeeds late (read_at_error.Late n horizon) is = tt
+late_succeeds late read_at_error.Fault is = absurd (cc)
+late_succeeds late read_at_error.NoMemory is = absurd (cc)
 
 -- what a value that was asked for comes to: it is held, or it was late and nothing is another
 abbrev pub IsFetched : Watching → Address → Option Reply → Watching → Type 0
 IsFetched w address None v = (value : Value) × (v ≡ with_value w address value)
 IsFetched w address (Some late) v = v ≡ w
+
+-- whatever is answered
+fetches : {S : Type 0} (goes : S → Call → Answer → S → Type 0) (s : S) (w : Watching) (address : Address)
+    → Always AsksAny goes (Unit {0}) s (fetch w address) (λ t (r : Option Reply × Watching). IsFetched w address r.0 r.1)
+fetches {S} goes s w address = (tt, λ answer t step ok. by answer t)
+  where
+    told : (value : Value) (answer : Answer) (t : S)
+        → Always AsksAny goes (Unit {0}) t (kept w address value answer) (λ t (r : Option Reply × Watching). IsFetched w address r.0 r.1)
+    told value Answer.done t = (value, refl)
+    told value answer t = tt
+
+    by : (answer : Answer) (t : S)
+        → Always AsksAny goes (Unit {0}) t (read w address answer) (λ t (r : Option Reply × Watching). IsFetched w address r.0 r.1)
+    by (Answer.value value) t = (tt, λ answer u step ok. told value answer u)
+    by (Answer.late n horizon) t = refl
+    by answer t = tt
+
+-- so it is where it was asked for
+pub is_fetched : {S : Type 0} {goes : S → Call → Answer → S → Type 0} {s t : S} {w : Watching} {address : Address} {r : Option Reply × Watching}
+    → Leads goes s (fetch w address) t (Program.ends r) → IsFetched w address r.0 r.1
+is_fetched {goes} {s} {w} {address} led =
+    along AsksAny (Unit {0}) (λ t (r : Option Reply × Watching). IsFetched w address r.0 r.1) led (fetches goes s w address)
 
 -- ---- lines
 

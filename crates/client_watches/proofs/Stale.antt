@@ -1,5 +1,5 @@
 -- The first stale watch: it is the one of its name, and once it takes a report one less is stale.
-use Rattle.std.proofs.Common.{◌≡◌, ℕ, suc, Bool, true, false, cond, [], ◌∷◌, Option, Some, None, is_some, IsSome, refl, sym, ap, ◌∙◌, subst, arith}
+use Rattle.std.proofs.Common.{◌≡◌, ℕ, suc, Bool, true, false, cond, [], ◌∷◌, Option, Some, None, is_some, IsSome, refl, sym, ap, ◌∙◌, subst}
 use Rattle.std.specs.Map.{set_value}
 use Rattle.std.specs.Option.{option_map_or}
 use Rattle.std.specs.Str.{bytes_eq}
@@ -106,16 +106,6 @@ it-needs state ws address e = by (first_stale ws) refl e
     by None f h = absurd (cc)
     by (Some x) f h = one x (exec x.1.body.body state) f refl h
 
--- where a watch is stale, some are
-pub some-stale : (ws : Watches) (e : Bytes × Watch) → first_stale ws ≡ Some e → (m : ℕ) × (stale_count ws ≡ suc m)
-some-stale [] e h = absurd (cc)
-some-stale (x ∷ ws) e h = by x.1.stale refl h (some-stale ws e)
-  where
-    by : (b : Bool) → x.1.stale ≡ b → cond b (Some x) (first_stale ws) ≡ Some e
-        → (first_stale ws ≡ Some e → (m : ℕ) × (stale_count ws ≡ suc m)) → (m : ℕ) × (one_if x.1.stale (stale_count ws) ≡ suc m)
-    by true is f rest = (stale_count ws, ap (λ b. one_if b (stale_count ws)) is)
-    by false is f rest = let r = rest f in (r.0, ap (λ b. one_if b (stale_count ws)) is ∙ r.1)
-
 -- the watch that has run takes its report, and one less is stale
 pub one-fewer : (state : PartialState) (ws : Watches) (name : Bytes) (n : ℕ) (run : Run) → AreDistinct ws → next_rerun state ws ≡ rerun.Ran name run
     → stale_count ws ≡ suc (stale_count (with_report ws name n run))
@@ -131,16 +121,7 @@ is-there state ws name run all e =
     let h = has-run state ws name run e in
     ap is_some (first-among ws (name, h.watch) all h.first).found
 
--- where none counts as stale, none is the first
-pub none-if-zero : (ws : Watches) → stale_count ws ≡ 0 → first_stale ws ≡ None
-none-if-zero [] e = refl
-none-if-zero (x ∷ ws) e = by x.1.stale e (none-if-zero ws)
-  where
-    by : (b : Bool) → one_if b (stale_count ws) ≡ 0 → (stale_count ws ≡ 0 → first_stale ws ≡ None) → cond b (Some x) (first_stale ws) ≡ None
-    by true h rest = absurd (omega arith)
-    by false h rest = rest h
-
--- so it is where nothing is left to run
+-- where nothing is left to run none is stale
 pub none-if-left : (state : PartialState) (ws : Watches) → next_rerun state ws ≡ rerun.NoneLeft → first_stale ws ≡ None
 none-if-left state ws e = by (first_stale ws) refl e
   where

@@ -1,20 +1,10 @@
 -- How many calls a line of watches makes at most, whatever it is answered.
-use Rattle.std.specs.Prelude.{◌≡◌, ℕ, ◌+◌, ◌*◌, ◌≤◌, ◌<◌, [], ◌∷◌, length, Some, codes, refl}
+use Rattle.std.specs.Prelude.{◌≡◌, ℕ, ◌+◌, ◌*◌, [], ◌∷◌, length, codes, refl}
 use Rattle.txn_lang.specs.declared.limits.TheConstants.{TICK_LIMIT}
 use Rattle.rerun_driver.specs.Watches.{Watches}
-use Rattle.docc_prepare.specs.Calls.{Call, Answer}
 use Rattle.client_watches.specs.declared.watching.Watching.{Watching}
 use Rattle.client_watches.specs.Watching.{none_yet}
-use Rattle.client_watches.specs.Phases.{Phase, asks, after}
-use Rattle.client_watches.specs.Keeping.{AreDistinct}
-use Rattle.client_watches.specs.GoingOn.{WatchLine, start_of}
-
--- From one phase to another by so many answers, each to the call that is asked for. They may be any answers.
-pub data Comes (p : Phase) : ℕ → Phase → Type 0 where
-  stays : Comes p 0 p
-  by_answer : {n : ℕ} {q : Phase} (call : Call) (answer : Answer) → Comes p n q → asks q ≡ Some call → Comes p (n + 1) (after q answer)
-
--- ---- the bounds
+use Rattle.client_watches.specs.GoingOn.{WatchLine}
 
 -- A run reads a value for each tick that it has, at most. With each read changes are asked for; and the value may be let go when
 -- the line ends.
@@ -35,18 +25,6 @@ abbrev pub most_calls : WatchLine → Watching → ℕ
 most_calls WatchLine.sync w = 1 + length w.watches * run_calls + most_dropped w
 most_calls (WatchLine.watch name body) w = 1 + (length w.watches + 1) * run_calls + most_dropped w
 most_calls (WatchLine.unwatch name) w = most_dropped w
-
--- so many calls were made, and where one more is asked for, fewer than the most
-pub record IsBounded (most n : ℕ) (q : Phase) : Type 0 where
-  pub within : n ≤ most
-  pub more : (call : Call) → asks q ≡ Some call → n < most
-
--- ---- the law
-
--- Whatever a line is answered, it makes no more calls.
-abbrev pub LinesAreBounded : Type 0
-LinesAreBounded =
-    (w : Watching) (line : WatchLine) (n : ℕ) (q : Phase) → AreDistinct w.watches → Comes (start_of line w) n q → IsBounded (most_calls line w) n q
 
 -- ---- worked lines
 

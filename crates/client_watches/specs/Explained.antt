@@ -19,7 +19,7 @@ use Rattle.txn_lang.specs.Execution.{Ran, need, done, exec}
 use Rattle.journal_core.specs.Changes.{changes}
 use Rattle.rerun_driver.specs.Touched.{is_touched}
 use Rattle.rerun_driver.specs.Watches.{Watches}
-use Rattle.client_watches.specs.Phases.{Goal}
+use Rattle.client_watches.specs.Goals.{Goal}
 
 -- ---- what replies have shown of watches
 

@@ -1,17 +1,16 @@
--- Lines of watches are explained by the journal: theorems over the definitions, whatever backend stands behind the calls.
+-- What a line leaves where the journal is told: its replies pass, and what is kept stands for the journal again.
 use Rattle.std.specs.Prelude.{◌≡◌, ℕ, ◌≤◌, List, length, Some}
 use Rattle.plain_data.specs.Texts.{Bytes}
 use Rattle.std.specs.List.{AllByRecursion}
 use Rattle.session_text.specs.declared.reply.Reply.{Reply}
 use Rattle.txn_lang.specs.States.{Journal}
 use Rattle.docc_prepare.specs.Calls.{Known}
-use Rattle.docc_prepare.specs.Backends.{IsPrefix, IsAnswered, IsLater}
+use Rattle.docc_prepare.specs.Backends.{IsPrefix, IsLater}
 use Rattle.client_watches.specs.declared.watching.Watching.{Watching}
 use Rattle.client_watches.specs.Watching.{none_yet}
-use Rattle.client_watches.specs.Phases.{Phase, Goal, start_sync, start_watch, start_unwatch}
 use Rattle.client_watches.specs.Keeping.{Keeps}
-use Rattle.client_watches.specs.Leading.{Leads}
 use Rattle.client_watches.specs.Standing.{Subscribes, Stands, CanRead, CanReadOn}
+use Rattle.client_watches.specs.Goals.{Goal}
 use Rattle.client_watches.specs.Explained.{Shown, ShownList, shown_of, GoalPasses, UnwatchPasses}
 
 -- what is kept stands for the journal that the backend tells
@@ -38,18 +37,6 @@ pub record Passes (k l : Known) (w v : Watching) (low : ℕ) (goal : Goal) (said
   pub goes_on : GoesOn k l v old new
   pub passes : GoalPasses k.window new low goal (shown_of w.watches) said (shown_of v.watches)
 
--- how a line that is to come to a goal begins
-abbrev pub starts_for : Goal → Watching → Phase
-starts_for Goal.current w = start_sync w
-starts_for (Goal.watch name body) w = start_watch w name body
-
--- `sync` and `watch`: whatever the store answers by the clause of every call, the reports are those of the touched watches, in
--- order, each its body's outcome on one prefix, which isn't below what was shown.
-abbrev pub LinesAreExplained : Type 0
-LinesAreExplained =
-    (k l : Known) (w v : Watching) (low calls : ℕ) (goal : Goal) (said : List Reply) (old : Journal) → Attends k w old → CanReadOn k.trusted old
-    → MayBeShown k w low → Leads IsAnswered k (starts_for goal w) calls l (Phase.over v said) → Passes k l w v low goal said old
-
 -- Replies that pass stay passing when the journal grows, where no watch was reported past what was shown.
 abbrev pub PassingStays : Type 0
 PassingStays =
@@ -68,13 +55,6 @@ pub record Forgets (k l : Known) (w v : Watching) (name : Bytes) (said : List Re
   pub new : Journal
   pub goes_on : GoesOn k l v old new
   pub passes : UnwatchPasses name (shown_of w.watches) said (shown_of v.watches)
-
--- `unwatch`: whatever the store answers by the clause of every call, `dropped` is said exactly where a watch has the name. It is
--- gone then, every other stands as it was, and what is kept stands for the journal again.
-abbrev pub UnwatchesAreExplained : Type 0
-UnwatchesAreExplained =
-    (k l : Known) (w v : Watching) (name : Bytes) (calls : ℕ) (said : List Reply) (old : Journal) → Attends k w old → CanReadOn k.trusted old
-    → Leads IsAnswered k (start_unwatch w name) calls l (Phase.over v said) → Forgets k l w v name said old
 
 -- What others do between lines leaves what is kept standing for the journal.
 abbrev pub OthersLeaveStanding : Type 0

@@ -1,13 +1,13 @@
 pub mod Errors
 pub mod Watching
 pub mod Lines
-pub mod Phases
 pub mod Keeping
-pub mod Leading
 pub mod Standing
+pub mod Goals
 pub mod Explained
 pub mod Laws
 pub mod GoingOn
 pub mod Bounds
 pub mod Saying
 pub mod LineLaws
+pub mod InUse

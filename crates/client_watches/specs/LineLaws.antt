@@ -10,10 +10,10 @@ use Rattle.call_programs.specs.Safe.{IsSafe, AlwaysEnds, IsWithin}
 use Rattle.client_watches.specs.declared.watching.Watching.{Watching}
 use Rattle.client_watches.specs.Keeping.{AreDistinct, Keeps}
 use Rattle.client_watches.specs.GoingOn.{WatchLine}
-use Rattle.client_watches.specs.Phases.{Goal}
 use Rattle.client_watches.specs.Standing.{CanReadOn}
 use Rattle.client_watches.specs.Bounds.{most_calls}
 use Rattle.client_watches.specs.Saying.{IsOfWatches}
+use Rattle.client_watches.specs.Goals.{Goal}
 use Rattle.client_watches.specs.Laws.{Attends, MayBeShown, Passes, Forgets}
 use Rattle.client_watches.specs.Lines.{Told, sync, watch, unwatch}
 

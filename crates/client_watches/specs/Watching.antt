@@ -4,10 +4,13 @@ use Rattle.plain_data.specs.Texts.{Bytes}
 use Rattle.rdt_types.specs.declared.address.Address.{Address}
 use Rattle.rdt_types.specs.declared.value.Value.{Value}
 use Rattle.change_feed.specs.Feeds.{Fed}
+use Rattle.session_text.specs.declared.reply.Reply.{Reply}
+use Rattle.session_text.specs.declared.reply.Reply.TheVariants as reply
 use Rattle.client_cache.specs.Cached.{empty, held, filled, released, advanced}
 use Rattle.txn_lang.specs.declared.checked.Checked.{Checked}
 use Rattle.txn_lang.specs.declared.run.Run.{Run}
 use Rattle.txn_lang.specs.declared.run.Seen.{Seen}
+use Rattle.txn_lang.specs.Execution.{done, exec}
 use Rattle.rerun_driver.specs.declared.watch.Watch.{Watch}
 use Rattle.rerun_driver.specs.Watches.{Watches, watch_of, with_watch, without_watch, reported, with_report, all_told, is_observed}
 use Rattle.client_watches.specs.declared.watching.Watching.{Watching}
@@ -72,6 +75,20 @@ one_if false n = n
 abbrev pub stale_count : Watches → ℕ
 stale_count [] = 0
 stale_count (entry ∷ watches) = one_if entry.1.stale (stale_count watches)
+
+-- one less is stale
+abbrev pub IsOneFewer : Watching → Watching → Type 0
+IsOneFewer old new = stale_count old.watches ≡ suc (stale_count new.watches)
+
+-- ---- runs
+
+-- a body's run on the values that are held is done
+abbrev pub HasRun : Checked → Watching → Run → Type 0
+HasRun body w run = exec body.body (held w.cache) ≡ done run
+
+-- the report of a run: its outcome, at the number of the values
+abbrev pub report_of : Watching → Bytes → Run → Reply
+report_of w name run = reply.Ran name w.cache.at run.outcome
 
 -- ---- what stays
 

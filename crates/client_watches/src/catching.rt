@@ -1,12 +1,9 @@
 //! Watches are brought up to date: the stale ones run anew, in the order of their making.
 
-ghost use Rattle.std.specs.Prelude.{◌≡◌, suc, ◌∷◌, [], ◌++◌, IfOk, OnOk, IfNone, IsSome};
-ghost use Rattle.session_text.specs.declared.reply.Reply.TheVariants as reply;
+ghost use Rattle.std.specs.Prelude.{◌≡◌, ◌∷◌, [], ◌++◌, IfOk, OnOk, IfNone, IsSome};
 ghost use Rattle.rerun_driver.specs.Watches.{watch_of};
 ghost use Rattle.client_watches.specs.Watching as spec;
-ghost use Rattle.client_watches.specs.Phases.{Goal};
 ghost use Rattle.client_watches.specs.Keeping.{Keeps};
-ghost use Rattle.client_watches.specs.Leading.{Reruns, Catches};
 ghost use Rattle.client_watches.specs.Lines.{Plays};
 ghost use Rattle.client_watches.specs.Lines as lines;
 
@@ -37,7 +34,8 @@ pub(crate) fn loosen(
     loose: &mut AddressList,
     name: &Text,
 ) -> Result<(), AllocError>
-    ensures { OnOk result (loose.new ≡ loose.old ++ spec.observed_by (watch_of watches.now name.now)) }
+    ensures { OnOk result
+        (loose.new ≡ loose.old ++ spec.observed_by (watch_of watches.now name.now)) }
 {
     match watches.get(name) {
         Some(watch) => add_addresses(loose, watch.observations.as_slice()),
@@ -54,7 +52,7 @@ fn report(
 ) -> Result<(), AllocError>
     requires there { IsSome (watch_of watching.old.watches name) }
     ensures watching { OnOk result (watching.new ≡ spec.with_rerun watching.old name run) }
-    ensures said { OnOk result (said.new ≡ said.old ++ reply.Ran name watching.old.cache.at run.outcome ∷ []) }
+    ensures said { OnOk result (said.new ≡ said.old ++ spec.report_of watching.old name run ∷ []) }
 {
     let number = watching.cache.at();
     let outcome = copied(&run.outcome)?;
@@ -72,12 +70,12 @@ fn rerun_one<B: Backend>(
     said: &mut ReplyList,
 ) -> Result<Option<bool>, WatchError>
     requires { Keeps (B.known backend.old) watching.old }
-    ensures plays { Plays B.known B.goes backend.old (lines.rerun_one lines.rounds said.old watching.old) result
-        (λ all. (all, watching.new, said.new)) backend.new }
-    ensures reruns { (goal : Goal) → Reruns B.known B.goes goal backend.old watching.old said.old result backend.new watching.new said.new }
+    ensures plays { Plays B.known B.goes backend.old
+        (lines.rerun_one lines.rounds said.old watching.old)
+        result (λ all. (all, watching.new, said.new)) backend.new }
     ensures keeps { IfOk result (λ all. Keeps (B.known backend.new) watching.new) }
     ensures free { IfOk result (λ all. spec.KeepsFree watching.old watching.new) }
-    ensures fewer { IfOk result (λ all. IfNone all (spec.stale_count watching.old.watches ≡ suc (spec.stale_count watching.new.watches))) }
+    ensures fewer { IfOk result (λ all. IfNone all (spec.IsOneFewer watching.old watching.new)) }
     ensures home { B.home backend.new ≡ B.home backend.old }
 {
     for _ in 0..TICK_LIMIT + 1 {
@@ -108,7 +106,6 @@ pub(crate) fn catch_up<B: Backend>(
     requires { Keeps (B.known backend.old) watching.old }
     ensures plays { Plays B.known B.goes backend.old (lines.catch_up watching.old said.old) result
         (λ all. (all, watching.new, said.new)) backend.new }
-    ensures catches { (goal : Goal) → Catches B.known B.goes goal backend.old watching.old said.old result backend.new watching.new said.new }
     ensures keeps { IfOk result (λ all. Keeps (B.known backend.new) watching.new) }
     ensures free { IfOk result (λ all. spec.KeepsFree watching.old watching.new) }
     ensures home { B.home backend.new ≡ B.home backend.old }

@@ -5,7 +5,6 @@ ghost use Rattle.std.specs.List.{AllByRecursion};
 ghost use Rattle.txn_lang.specs.Short.{IsShortAddress};
 ghost use Rattle.client_watches.specs.Watching as spec;
 ghost use Rattle.client_watches.specs.Keeping.{Keeps};
-ghost use Rattle.client_watches.specs.Leading.{Drops, DropsOne};
 ghost use Rattle.client_watches.specs.Lines.{Plays};
 ghost use Rattle.client_watches.specs.Lines as lines;
 
@@ -30,9 +29,8 @@ fn drop_one<B: Backend>(
     address: &Address,
 ) -> Result<(), WatchError>
     requires { IsShortAddress address.now }
-    ensures plays { Plays B.known B.goes backend.old (lines.drop_one watching.old address.now) result
-        (λ u. watching.new) backend.new }
-    ensures drops { (rest : List Address) → DropsOne B.known B.goes backend.old watching.old address.now rest result backend.new watching.new }
+    ensures plays { Plays B.known B.goes backend.old (lines.drop_one watching.old address.now)
+        result (λ u. watching.new) backend.new }
     ensures values { IfOk result (λ u. spec.IsButForValues watching.old watching.new) }
     ensures seen { (B.known backend.old).seen ≤ (B.known backend.new).seen }
     ensures home { B.home backend.new ≡ B.home backend.old }
@@ -54,7 +52,6 @@ fn drop_each<B: Backend>(
     requires { AllByRecursion IsShortAddress loose.now }
     ensures plays { Plays B.known B.goes backend.old (lines.drop_each loose.now watching.old) result
         (λ u. watching.new) backend.new }
-    ensures drops { Drops B.known B.goes backend.old watching.old loose.now result backend.new watching.new }
     ensures values { IfOk result (λ u. spec.IsButForValues watching.old watching.new) }
     ensures seen { (B.known backend.old).seen ≤ (B.known backend.new).seen }
     ensures home { B.home backend.new ≡ B.home backend.old }
@@ -74,7 +71,6 @@ pub(crate) fn drop_idle<B: Backend>(
     requires { Keeps (B.known backend.old) watching.old }
     ensures plays { Plays B.known B.goes backend.old (lines.drop_idle watching.old) result
         (λ u. watching.new) backend.new }
-    ensures drops { Drops B.known B.goes backend.old (spec.none_loose watching.old) watching.old.loose result backend.new watching.new }
     ensures keeps { IfOk result (λ u. Keeps (B.known backend.new) watching.new) }
     ensures watches { IfOk result (λ u. watching.new.watches ≡ watching.old.watches) }
     ensures home { B.home backend.new ≡ B.home backend.old }

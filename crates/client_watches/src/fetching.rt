@@ -1,11 +1,10 @@
 //! What is asked of the backend: changes, and values.
 
-ghost use Rattle.std.specs.Prelude.{◌≡◌, ◌≤◌, IfOk, Err};
+ghost use Rattle.std.specs.Prelude.{◌≡◌, ◌≤◌, IfOk};
 ghost use Rattle.txn_lang.specs.Short.{IsShortAddress};
-ghost use Rattle.docc_prepare.specs.Calls.{value_answered};
+ghost use Rattle.client_watches.specs.Errors as errors;
 ghost use Rattle.client_watches.specs.Watching.{KeepsFree};
 ghost use Rattle.client_watches.specs.Keeping.{Keeps};
-ghost use Rattle.client_watches.specs.Leading.{Takes, Fetches, IsLateBy};
 ghost use Rattle.client_watches.specs.Lines.{Plays};
 ghost use Rattle.client_watches.specs.Lines as lines;
 
@@ -21,7 +20,6 @@ pub(crate) fn take<B: Backend>(backend: &mut B, watching: &mut Watching) -> Resu
     requires { Keeps (B.known backend.old) watching.old }
     ensures plays { Plays B.known B.goes backend.old (lines.take_feed watching.old) result
         (λ u. watching.new) backend.new }
-    ensures takes { Takes B.known B.goes backend.old watching.old result backend.new watching.new }
     ensures keeps { IfOk result (λ u. Keeps (B.known backend.new) watching.new) }
     ensures free { IfOk result (λ u. KeepsFree watching.old watching.new) }
     ensures home { B.home backend.new ≡ B.home backend.old }
@@ -32,9 +30,9 @@ pub(crate) fn take<B: Backend>(backend: &mut B, watching: &mut Watching) -> Resu
     Ok(())
 }
 
-/// What a failed read at a number comes to: the line ends with a reply, or with an error.
-fn late(error: ReadAtError) -> Result<Reply, WatchError>
-    ensures { IsLateBy (value_answered (Err error)) result }
+/// What a read at a number comes to that gave no value: a reply where it is late, or an error.
+fn reply_of(error: ReadAtError) -> Result<Reply, WatchError>
+    ensures { result ≡ errors.reply_of error }
 {
     match error {
         ReadAtError::Late(number, horizon) => Ok(Reply::Late(number, horizon)),
@@ -54,14 +52,13 @@ pub(crate) fn fetch<B: Backend>(
     requires short { IsShortAddress address }
     ensures plays { Plays B.known B.goes backend.old (lines.fetch watching.old address) result
         (λ late. (late, watching.new)) backend.new }
-    ensures fetches { Fetches B.known B.goes backend.old watching.old address result backend.new watching.new }
     ensures seen { (B.known backend.old).seen ≤ (B.known backend.new).seen }
     ensures home { B.home backend.new ≡ B.home backend.old }
 {
     let asked = copied(&address)?;
     let value = match backend.read_at(&address, watching.cache.at()) {
         Ok(value) => value,
-        Err(error) => return Ok(Some(late(error)?)),
+        Err(error) => return Ok(Some(reply_of(error)?)),
     };
     backend.subscribe(&address)?;
     watching.cache.fill(address, value)?;

@@ -1,67 +1,20 @@
 //! The laws of lines of watches: functions that do nothing, whose contracts are theorems over the definitions.
 
-ghost use Rattle.client_watches.specs.Bounds.{LinesAreBounded};
-ghost use Rattle.client_watches.specs.GoingOn.{FailuresAloneBreak, LinesAreReady, LinesGoOn};
+ghost use Rattle.client_watches.specs.GoingOn.{LinesGoOn};
+ghost use Rattle.client_watches.specs.InUse.{LinesLetGo};
+ghost use Rattle.client_watches.specs.Laws.{PassingStays, BeginningsAttend, OthersLeaveStanding};
 ghost use Rattle.client_watches.specs.LineLaws.{LinesAreSafe, LinesAskFew, LinesSayWhatIsSeen};
 ghost use Rattle.client_watches.specs.LineLaws.{SyncIsExplained, WatchIsExplained, UnwatchIsExplained};
-ghost use Rattle.client_watches.specs.Laws.{LinesAreExplained, PassingStays, BeginningsAttend, UnwatchesAreExplained, OthersLeaveStanding};
-ghost use Rattle.client_watches.specs.Saying.{RepliesAreSeen};
-
-/// The law that the replies to `sync` and `watch` are explained by the journal: the reports are those of the touched watches, in
-/// their order, each its body's outcome on one prefix, which isn't below what was shown.
-pub fn lines_are_explained()
-    ensures { LinesAreExplained }
-{}
-
-/// The law that what a journal explains, every longer one explains.
-pub fn passing_stays()
-    ensures { PassingStays }
-{}
-
-/// The law that a client without watches meets the condition of the first.
-pub fn beginnings_attend()
-    ensures { BeginningsAttend }
-{}
-
-/// The law that each call which a line asks for may be made, by whatever answers it came there.
-pub fn lines_are_ready()
-    ensures { LinesAreReady }
-{}
-
-/// The law that what is kept goes on being kept to: behind a line, behind what others do, and where a shard was let follow.
-pub fn lines_go_on()
-    ensures { LinesGoOn }
-{}
-
-/// The law that only a failed call breaks a line.
-pub fn failures_alone_break()
-    ensures { FailuresAloneBreak }
-{}
-
-/// The law that the reply to `unwatch` is explained: the watch of the name is gone, and every other stands as it was.
-pub fn unwatches_are_explained()
-    ensures { UnwatchesAreExplained }
-{}
-
-/// The law that what others do between lines leaves what is kept standing for the journal.
-pub fn others_leave_standing()
-    ensures { OthersLeaveStanding }
-{}
-
-/// The law that a line makes no more calls than the watches there are allow, whatever it is answered.
-pub fn lines_are_bounded()
-    ensures { LinesAreBounded }
-{}
-
-/// The law that a line of watches says replies of watches alone, at no number that isn't seen.
-pub fn replies_are_seen()
-    ensures { RepliesAreSeen }
-{}
 
 /// The law that a line's program is safe: each call that it asks may be made and is no wait, it is stuck nowhere, and what is kept
 /// goes on being kept to.
 pub fn lines_are_safe()
     ensures { LinesAreSafe }
+{}
+
+/// The law that what is kept goes on being kept to behind what others do, and where a shard was let follow.
+pub fn lines_go_on()
+    ensures { LinesGoOn }
 {}
 
 /// The law that a line's program asks no more calls than the watches there are allow.
@@ -74,7 +27,13 @@ pub fn lines_say_what_is_seen()
     ensures { LinesSayWhatIsSeen }
 {}
 
-/// The law that the replies with which the program of `sync` ends are explained by the journal.
+/// The law that at a line's end a value is held exactly where some watch observes it, and changes are told exactly there.
+pub fn lines_let_go()
+    ensures { LinesLetGo }
+{}
+
+/// The law that the replies with which the program of `sync` ends are explained by the journal: the reports are those of the
+/// touched watches, in their order, each its body's outcome on one prefix, which isn't below what was shown.
 pub fn sync_is_explained()
     ensures { SyncIsExplained }
 {}
@@ -88,4 +47,19 @@ pub fn watch_is_explained()
 /// stands as it was.
 pub fn unwatch_is_explained()
     ensures { UnwatchIsExplained }
+{}
+
+/// The law that a client without watches meets the condition of these three.
+pub fn beginnings_attend()
+    ensures { BeginningsAttend }
+{}
+
+/// The law that what others do between lines leaves what is kept standing for the journal.
+pub fn others_leave_standing()
+    ensures { OthersLeaveStanding }
+{}
+
+/// The law that what a journal explains, every longer one explains.
+pub fn passing_stays()
+    ensures { PassingStays }
 {}

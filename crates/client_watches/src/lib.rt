@@ -4,8 +4,7 @@
 //! promises) and on `call_programs` (what a client does, as data); a client's session stands on it (`session_core`).
 //!
 //! Read first `specs/Watching` (what is kept) and `specs/Lines` (what a line does, as a program of calls). `specs/Explained` says
-//! which replies a journal explains, and `specs/LineLaws` what every line keeps to. `specs/Phases` and `specs/Leading` say what a
-//! line does once more, as a machine of phases, for the crates above that still speak of one.
+//! which replies a journal explains, and `specs/LineLaws` what every line keeps to.
 #![tactic(auto)]
 
 mod catching;
@@ -20,9 +19,8 @@ mod watching;
 
 pub use error::WatchError;
 pub use laws::{
-    beginnings_attend, failures_alone_break, lines_are_bounded, lines_are_explained,
-    lines_are_ready, lines_are_safe, lines_ask_few, lines_go_on, lines_say_what_is_seen,
-    others_leave_standing, passing_stays, replies_are_seen, sync_is_explained,
-    unwatch_is_explained, unwatches_are_explained, watch_is_explained,
+    beginnings_attend, lines_are_safe, lines_ask_few, lines_go_on, lines_let_go,
+    lines_say_what_is_seen, others_leave_standing, passing_stays, sync_is_explained,
+    unwatch_is_explained, watch_is_explained,
 };
 pub use watching::{AddressList, ReplyList, Watching};

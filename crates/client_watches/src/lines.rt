@@ -2,9 +2,7 @@
 
 ghost use Rattle.std.specs.Prelude.{◌≡◌, ◌≤◌, ◌∷◌, [], None, IfOk, OnOk};
 ghost use Rattle.rerun_driver.specs.Watches.{watch_of};
-ghost use Rattle.client_watches.specs.Phases.{Goal, rerun_all, ending, start_sync, start_watch, start_unwatch};
 ghost use Rattle.client_watches.specs.Keeping.{Keeps};
-ghost use Rattle.client_watches.specs.Leading.{Continues, Went};
 ghost use Rattle.client_watches.specs.Lines.{Plays};
 ghost use Rattle.client_watches.specs.Lines as lines;
 ghost use Rattle.client_watches.specs.Watching as spec;
@@ -49,9 +47,8 @@ fn say_current<B: Backend>(
     said: &mut ReplyList,
 ) -> Result<(), WatchError>
     requires { Keeps (B.known backend.old) watching.old }
-    ensures plays { Plays B.known B.goes backend.old (lines.say_current said.old watching.old) result
-        (λ u. (watching.new, said.new)) backend.new }
-    ensures continues { Continues B.known B.goes backend.old (rerun_all Goal.current watching.old said.old) (ending watching.new) result backend.new said.new }
+    ensures plays { Plays B.known B.goes backend.old (lines.say_current said.old watching.old)
+        result (λ u. (watching.new, said.new)) backend.new }
     ensures keeps { IfOk result (λ u. Keeps (B.known backend.new) watching.new) }
     ensures home { B.home backend.new ≡ B.home backend.old }
 {
@@ -74,10 +71,8 @@ fn make<B: Backend>(
 ) -> Result<(), WatchError>
     requires keeps { Keeps (B.known backend.old) watching.old }
     requires free { watch_of watching.old.watches name ≡ None }
-    ensures plays { Plays B.known B.goes backend.old (lines.make name body said.old watching.old) result
-        (λ u. (watching.new, said.new)) backend.new }
-    ensures continues { Continues B.known B.goes backend.old (rerun_all (Goal.watch name body) watching.old said.old)
-        (ending watching.new) result backend.new said.new }
+    ensures plays { Plays B.known B.goes backend.old (lines.make name body said.old watching.old)
+        result (λ u. (watching.new, said.new)) backend.new }
     ensures keeps { IfOk result (λ u. Keeps (B.known backend.new) watching.new) }
     ensures home { B.home backend.new ≡ B.home backend.old }
 {
@@ -111,7 +106,6 @@ impl Watching {
         requires { Keeps (B.known backend.old) self.old }
         ensures plays { Plays B.known B.goes backend.old (lines.sync self.old) result
             (λ said. (self.new, said)) backend.new }
-        ensures went { Went B.known B.goes backend.old (start_sync self.old) result backend.new self.new }
         ensures keeps { IfOk result (λ said. Keeps (B.known backend.new) self.new) }
         ensures home { B.home backend.new ≡ B.home backend.old }
     {
@@ -133,7 +127,6 @@ impl Watching {
         requires { Keeps (B.known backend.old) self.old }
         ensures plays { Plays B.known B.goes backend.old (lines.watch self.old name body) result
             (λ said. (self.new, said)) backend.new }
-        ensures went { Went B.known B.goes backend.old (start_watch self.old name body) result backend.new self.new }
         ensures keeps { IfOk result (λ said. Keeps (B.known backend.new) self.new) }
         ensures home { B.home backend.new ≡ B.home backend.old }
     {
@@ -158,7 +151,6 @@ impl Watching {
         requires { Keeps (B.known backend.old) self.old }
         ensures plays { Plays B.known B.goes backend.old (lines.unwatch self.old name.now) result
             (λ said. (self.new, said)) backend.new }
-        ensures went { Went B.known B.goes backend.old (start_unwatch self.old name.now) result backend.new self.new }
         ensures keeps { IfOk result (λ said. Keeps (B.known backend.new) self.new) }
         ensures home { B.home backend.new ≡ B.home backend.old }
     {

@@ -1,15 +1,9 @@
 //! A new watch: its first run, and that it is kept then.
 
 ghost use Rattle.std.specs.Prelude.{◌≡◌, ◌∷◌, [], ◌++◌, None, IfSome, IfOk, OnOk};
-ghost use Rattle.session_text.specs.declared.reply.Reply.TheVariants as reply;
-ghost use Rattle.txn_lang.specs.Execution.{exec, done};
-ghost use Rattle.client_cache.specs.Cached.{held};
 ghost use Rattle.rerun_driver.specs.Watches.{watch_of};
 ghost use Rattle.client_watches.specs.Watching as spec;
-ghost use Rattle.client_watches.specs.Phases as phases;
-ghost use Rattle.client_watches.specs.Phases.{ending};
 ghost use Rattle.client_watches.specs.Keeping.{Keeps};
-ghost use Rattle.client_watches.specs.Leading.{Continues, Runs};
 ghost use Rattle.client_watches.specs.Lines.{Plays};
 ghost use Rattle.client_watches.specs.Lines as lines;
 
@@ -33,12 +27,12 @@ fn run_body<B: Backend>(
     body: &Checked,
 ) -> Result<Option<Run>, WatchError>
     requires { Keeps (B.known backend.old) watching.old }
-    ensures plays { Plays B.known B.goes backend.old (lines.run_body lines.rounds body.now said.old watching.old) result
-        (λ run. (run, watching.new, said.new)) backend.new }
-    ensures runs { Runs B.known B.goes body.now backend.old watching.old said.old result backend.new watching.new said.new }
+    ensures plays { Plays B.known B.goes backend.old
+        (lines.run_body lines.rounds body.now said.old watching.old)
+        result (λ run. (run, watching.new, said.new)) backend.new }
     ensures keeps { IfOk result (λ run. Keeps (B.known backend.new) watching.new) }
     ensures watches { IfOk result (λ run. watching.new.watches ≡ watching.old.watches) }
-    ensures done { IfOk result (λ run. IfSome run (λ run. exec body.now.body (held watching.new.cache) ≡ done run)) }
+    ensures done { IfOk result (λ run. IfSome run (spec.HasRun body.now watching.new)) }
     ensures home { B.home backend.new ≡ B.home backend.old }
 {
     for _ in 0..TICK_LIMIT + 1 {
@@ -66,7 +60,7 @@ fn keep(
 ) -> Result<(), AllocError>
     requires free { watch_of watching.old.watches name ≡ None }
     ensures watching { OnOk result (watching.new ≡ spec.with_first watching.old name body run) }
-    ensures said { OnOk result (said.new ≡ said.old ++ reply.Ran name watching.old.cache.at run.outcome ∷ []) }
+    ensures said { OnOk result (said.new ≡ said.old ++ spec.report_of watching.old name run ∷ []) }
 {
     let number = watching.cache.at();
     let outcome = copied(&run.outcome)?;
@@ -87,10 +81,8 @@ pub(crate) fn first_run<B: Backend>(
 ) -> Result<(), WatchError>
     requires keeps { Keeps (B.known backend.old) watching.old }
     requires free { watch_of watching.old.watches name ≡ None }
-    ensures plays { Plays B.known B.goes backend.old (lines.first_run name body said.old watching.old) result
-        (λ u. (watching.new, said.new)) backend.new }
-    ensures continues { Continues B.known B.goes backend.old (phases.first_run name body watching.old said.old)
-        (ending watching.new) result backend.new said.new }
+    ensures plays { Plays B.known B.goes backend.old (lines.first_run name body said.old watching.old)
+        result (λ u. (watching.new, said.new)) backend.new }
     ensures keeps { IfOk result (λ u. Keeps (B.known backend.new) watching.new) }
     ensures home { B.home backend.new ≡ B.home backend.old }
 {

@@ -1,4 +1,5 @@
 pub mod Talked
+pub mod Held
 pub mod Lines
 pub mod Promises
 pub mod Beginning

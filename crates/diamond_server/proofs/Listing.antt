@@ -6,7 +6,8 @@ use mathlib.Core.List.{IsPrefix, map-append}
 use Rattle.std.proofs.lemmas.List.Elements.{All-nil, All-cons, All-append, All-rest}
 use Rattle.std.proofs.lemmas.List.{length-map, nil_from_length}
 use Rattle.history_lock.proofs.Prefixes.{IsPrefix-trans}
-use Rattle.dio_core.specs.Counts.{Rose}
+use Rattle.dio_core.specs.Counts.{Rose, IsCounted}
+use Rattle.dio_core.specs.declared.listener.Listener.{Ghosts as ListenerTells}
 use Rattle.dio_core.specs.Links.{Both}
 use Rattle.dio_core.specs.Sources.{with_prefix}
 use Rattle.dio_core.specs.Sinks.{with_more}
@@ -19,7 +20,7 @@ use Rattle.diamond_store.specs.declared.join_error.JoinError.TheVariants as join
 use Rattle.session_core.specs.Explained.{setting_of}
 use Rattle.script_runner.specs.declared.status.TheConstants.{WHOLE}
 use Rattle.diamond_server.specs.Accounts.{Account, Seat, seat_of, given_of, status_in, joined_in, link_in, IsServed, Rises, faults_of}
-use Rattle.diamond_server.specs.Accounts.{Gatherings, Accepting, ServedAll}
+use Rattle.diamond_server.specs.Accounts.{Gatherings, gatherings, Accepting, ServedAll}
 use Rattle.diamond_server.specs.code.Settling.{IsNear, IsNearTalk, JoinsNext, Turns, Settling}
 
 -- ---- statuses
@@ -182,6 +183,19 @@ module _ {L : Type 0} where
         counted = p.counted;
         less = p.less;
       })
+
+  -- one that tells the same, as where it was closed
+  pub accepting-same : {N : Type 0} (told : ListenerTells N L) (pass : Passed) (low high most : ℕ) (old mid new : N) (seats : List (Seat L)) (failed : Bool)
+      → told.links new ≡ told.links mid → told.given_back new ≡ told.given_back mid → told.accept_faults new ≡ told.accept_faults mid
+      → Accepting pass low high most (gatherings told old mid) seats failed → Accepting pass low high most (gatherings told old new) seats failed
+  accepting-same told pass low high most old mid new seats failed links given faults p =
+      record {
+        taken = p.taken ∙ ap (with_prefix (map link_in seats)) (sym links);
+        clients = p.clients;
+        few = p.few;
+        counted = subst (IsCounted failed (told.accept_faults old)) (sym faults) p.counted;
+        less = λ ended fewer. subst (λ o. IfSome o (λ xs. xs ≡ [])) (sym links) (p.less ended fewer);
+      }
 
   -- ---- links given back
 

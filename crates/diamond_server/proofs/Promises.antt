@@ -11,7 +11,6 @@ use Rattle.dio_core.specs.Lines.{lines, line_of as cut_of}
 use Rattle.dio_core.specs.Links.{Both}
 use Rattle.txn_grammar.specs.Characters.{Text}
 use Rattle.docc_prepare.specs.Calls.{Known, Call, Answer}
-use Rattle.session_core.specs.declared.session.Session.{Session}
 use Rattle.script_runner.specs.declared.status.TheConstants.{WHOLE, READ_FAULT, WRITE_FAULT, NO_MEMORY, TOO_MANY_LINES}
 use Rattle.script_runner.specs.declared.stop.TheConstants.{MOST_LINES}
 use Rattle.diamond_server.specs.declared.status.TheConstants.{STORE_FAULT}
@@ -26,8 +25,8 @@ Choice true A B = A
 Choice false A B = B
 
 -- an input of which one line more was read has more lines than may be read
-over-most : (tolds : List Told) (o : Option Session) (all rest : Text) → ReadsOneMore tolds o all rest → length (lines all) ≤ MOST_LINES → ⊥
-over-most tolds o all rest over few =
+over-most : (tolds : List Told) (all rest : Text) → ReadsOneMore tolds all rest → length (lines all) ≤ MOST_LINES → ⊥
+over-most tolds all rest over few =
     omega (
       arith,
       ap length over.read.read,
@@ -40,13 +39,13 @@ over-most tolds o all rest over few =
     )
 
 -- the same of a link that may not tell
-told-over-most : (tolds : List Told) (o : Option Session) (left left_then : Option Text) → WhereTold (ReadsOneMore tolds o) left left_then
+told-over-most : (tolds : List Told) (left left_then : Option Text) → WhereTold (ReadsOneMore tolds) left left_then
     → (all : Text) → left ≡ Some all → length (lines all) ≤ MOST_LINES → ⊥
-told-over-most tolds o None left_then over all is few = absurd (let no : ⊥ = cc in no)
-told-over-most tolds o (Some bytes) None over all is few = absurd over
-told-over-most tolds o (Some bytes) (Some rest) over all is few =
+told-over-most tolds None left_then over all is few = absurd (let no : ⊥ = cc in no)
+told-over-most tolds (Some bytes) None over all is few = absurd over
+told-over-most tolds (Some bytes) (Some rest) over all is few =
     let same : bytes ≡ all = cc in
-    over-most tolds o bytes rest over (subst (λ (b : Text). length (lines b) ≤ MOST_LINES) (sym same) few)
+    over-most tolds bytes rest over (subst (λ (b : Text). length (lines b) ≤ MOST_LINES) (sym same) few)
 
 module _ {B : Type 0} (known : B → Known) (goes : B → Call → Answer → B → Type 0) (old new : B) (x y : Both) where
   -- what a status says, counts of the link aside
@@ -94,4 +93,4 @@ module _ {B : Type 0} (known : B → Known) (goes : B → Call → Answer → B 
       promises STORE_FAULT refl ends.1 ends.0.0 ends.0.1 (λ all is few well written kept. absurd (kept ends.1))
   keeps_promises (Err (stop.Cause cause.TooManyLines)) ends =
       promises TOO_MANY_LINES refl ends.0 ends.1.0 ends.1.1 (λ all is few well written kept.
-      absurd (told-over-most ends.0.tolds ends.0.session x.inwards.left y.inwards.left ends.0.heard.reads all is few))
+      absurd (told-over-most ends.0.tolds x.inwards.left y.inwards.left ends.0.heard.reads all is few))

@@ -19,12 +19,14 @@ use Rattle.session_core.specs.declared.session.Session.{Session}
 use Rattle.session_core.specs.declared.turn.Turn.{Turn}
 use Rattle.session_core.specs.Explained.{setting_of, story_of}
 use Rattle.session_core.specs.Holding.{Attends}
-use Rattle.session_core.specs.Sessions.{Talks as SessionTalks, all_replies}
+use Rattle.session_core.specs.LineTalks.{AreDone}
+use Rattle.session_core.specs.Sessions.{all_replies}
+use Rattle.session_core.proofs.AllDone.{done_attends, done_owned}
+use Rattle.session_core.proofs.Done.{has_done}
 use Rattle.session_core.proofs.Grown.{prefix-again}
 use Rattle.session_core.proofs.Said.{named-stays}
 use Rattle.session_core.proofs.Stays.{explains_stays}
-use Rattle.session_core.proofs.Talked.{finds, talks-attends, talks-owned}
-use Rattle.session_core.proofs.Woken.{says-attends, says-client}
+use Rattle.session_core.proofs.Talked.{finds}
 use Rattle.diamond_server.specs.Accounts.{IsExplained, IsTold, having_met}
 use Rattle.diamond_server.specs.Promises.{sides, IsAccounted, IsServed, Promises}
 use Rattle.diamond_server.specs.code.Settling.{IsNearTalk}
@@ -34,8 +36,8 @@ use Rattle.diamond_server.proofs.Talked.{talk-is}
 -- ---- promises
 
 -- whatever is told of a talk, so is what follows from it
-pub promises-map : (Held Other : (List Told → Option Session → Text → Text → Type 0) → Type 0) (k l : Known) (status : ℕ) (x y : Both)
-    → ((Reads : List Told → Option Session → Text → Text → Type 0) → Held Reads → Other Reads) → Promises Held k l status x y
+pub promises-map : (Held Other : (List Told → Text → Text → Type 0) → Type 0) (k l : Known) (status : ℕ) (x y : Both)
+    → ((Reads : List Told → Text → Text → Type 0) → Held Reads → Other Reads) → Promises Held k l status x y
     → Promises Other k l status x y
 promises-map Held Other k l status x y f p = record {
   statuses = p.statuses;
@@ -50,15 +52,14 @@ promises-map Held Other k l status x y f p = record {
 
 -- a session that was served is explained by what its client knows at its end
 pub served-explained : {B : Type 0} (known : B → Known) (goes : B → Call → Answer → B → Type 0) (old new : B) (x y : Both)
-    (Reads : List Told → Option Session → Text → Text → Type 0) → Attends (known old) (first_session (known old))
+    (Reads : List Told → Text → Text → Type 0) → Attends (known old) (first_session (known old))
     → IsServed known goes old new x y Reads → IsExplained (known old) (known new) (known new) x y Reads
 served-explained known goes old new x y Reads begins p =
     let h = talk-is known goes old (first_session (known old)) p.tolds new p.session p.talks in record {
       tolds = p.tolds;
-      session = p.session;
       last = h.session;
       begins = begins;
-      talks = h.talks;
+      done = h.done;
       accounted = p.accounted;
       heard = p.heard;
     }
@@ -73,19 +74,19 @@ sides-same source sink a b same_left same_taken same_passed same_reads same_writ
 -- ---- a longer journal
 
 -- no line changes the client
-talks-client : (k : Known) (s : Session) (texts : List Text) (turns : List Turn) (l : Known) (u : Session) → Attends k s
-    → SessionTalks k s texts turns l u → l.client ≡ k.client
-talks-client k s texts turns l u is SessionTalks.silent = refl
-talks-client k s texts turns l u is
-    (SessionTalks.says {here = here} {l = m} {t = t} {text = text} {said = x} {texts = rest} {turns = more} found_it short said talks) =
+done-client : (k : Known) (s : Session) (texts : List Text) (turns : List Turn) (l : Known) (u : Session) → Attends k s
+    → AreDone k s texts turns l u → l.client ≡ k.client
+done-client k s texts turns l u is AreDone.silent = refl
+done-client k s texts turns l u is
+    (AreDone.done {here = here} {l = m} {t = t} {text = text} {said = x} {texts = rest} {turns = more} found_it short said talks) =
     let it = finds k here s is found_it in
-    talks-client m t rest more l u (says-attends here m s t text x it.attends short said) talks
-    ∙ ((says-client here m s t text x it.attends short said).client ∙ it.client.client)
+    let h = has_done here m s t text x it.attends short said in
+    done-client m t rest more l u h.attends talks ∙ (h.client.client ∙ it.client.client)
 
 -- What a journal explains, a longer one explains that has no more commits of the client.
 module _ (p has : Passed) (journal : Journal) (denials : ℕ) (tolds : List Told) (last : Session)
     (begins : Attends (known_of p) (first_session (known_of p)))
-    (talks : SessionTalks (known_of p) (first_session (known_of p)) (texts_of tolds) (turns_of tolds) (known_of has) last)
+    (all : AreDone (known_of p) (first_session (known_of p)) (texts_of tolds) (turns_of tolds) (known_of has) last)
     (grows : IsPrefix has.journal journal) (legal : IsLegal has.trusted journal) (same : own has.client journal ≡ own has.client has.journal)
     (more : has.denials ≤ denials) where
   -- the session is the same one, so each of its answers is explained by the longer journal
@@ -95,11 +96,11 @@ module _ (p has : Passed) (journal : Journal) (denials : ℕ) (tolds : List Told
       let first = first_session (known_of p) in
       let texts = texts_of tolds in
       let turns = turns_of tolds in
-      let on = talks-attends (known_of p) first texts turns (known_of has) last begins talks in
+      let on = done_attends (known_of p) first texts turns (known_of has) last begins all in
       let minds = on.watches.told in
       let begun = front-of has.journal journal grows in
-      let owned = talks-owned (known_of p) first texts turns (known_of has) last begins talks in
-      let client : has.client ≡ p.client = talks-client (known_of p) first texts turns (known_of has) last begins talks in
+      let owned = done_owned (known_of p) first texts turns (known_of has) last begins all in
+      let client : has.client ≡ p.client = done-client (known_of p) first texts turns (known_of has) last begins all in
       let kept : own p.client journal ≡ own p.client has.journal =
       subst (λ (c : ℕ). own c journal ≡ own c has.journal) client same in record {
         explained = λ low few.
@@ -140,14 +141,13 @@ told-met x y status t other new told near learns met = (told.0, promises-map _ _
     same : own t.1.client other.journal ≡ own t.1.client t.1.journal
     same = ap (own t.1.client) (sym whole) ∙ learns.own_commits
 
-    later : (Reads : List Told → Option Session → Text → Text → Type 0) → IsExplained (known_of t.0) (known_of t.1) (known_of t.1) x y Reads
+    later : (Reads : List Told → Text → Text → Type 0) → IsExplained (known_of t.0) (known_of t.1) (known_of t.1) x y Reads
         → IsExplained (known_of t.0) (known_of t.1) (known_of (having_met other t.1)) x y Reads
     later Reads h = record {
       tolds = h.tolds;
-      session = h.session;
       last = h.last;
       begins = h.begins;
-      talks = h.talks;
-      accounted = accounted-met t.0 t.1 other.journal other.denials h.tolds h.last h.begins h.talks near.0 legal same near.1 h.accounted;
+      done = h.done;
+      accounted = accounted-met t.0 t.1 other.journal other.denials h.tolds h.last h.begins h.done near.0 legal same near.1 h.accounted;
       heard = h.heard;
     }

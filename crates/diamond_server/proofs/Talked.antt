@@ -1,7 +1,8 @@
 -- A talk over a backend is one of a session over what its client knows, so all that is proved of sessions holds of it.
 use Rattle.std.proofs.Common.{◌≡◌, ℕ, ◌+◌, ◌≤◌, List, [], ◌∷◌, ◌++◌, length, Option, Some, None, Result, Ok, Err, ◌⊎◌, inl, inr, refl, sym}
 use Rattle.std.proofs.Common.{ap, ◌∙◌, subst, arith, append_assoc}
-use Rattle.std.specs.Prelude.{IfSome, IfOk, OnOk}
+use Rattle.std.specs.Prelude.{IfSome, IfOk, OnOk, Bool, true, false}
+use Rattle.std.specs.List.{AllByRecursion}
 use Rattle.std.proofs.lemmas.List.{append-nil}
 use Rattle.dio_core.specs.declared.line.TheConstants.{LONGEST_LINE}
 use Rattle.rdt_types.specs.declared.limits.TheConstants.{LEAST_SHARDS, MOST_SHARDS}
@@ -10,6 +11,12 @@ use Rattle.txn_grammar.specs.Characters.{Text}
 use Rattle.txn_lang.specs.States.{Journal}
 use Rattle.docc_prepare.specs.Calls.{Known, Call, Answer}
 use Rattle.docc_prepare.specs.Backends.{Goes}
+use Rattle.call_programs.specs.Programs.{Program, Leads}
+use Rattle.call_programs.proofs.Counted.{counts_over}
+use Rattle.call_programs.proofs.Programs.{along, known_leads}
+use Rattle.call_programs.proofs.Safe.{safe_end, then_ends, ends_somehow}
+use Rattle.call_programs.specs.Safe.{AsksAny, AlwaysEnds, CountsFault}
+use Rattle.client_watches.specs.Lines as watches
 use Rattle.client_watches.specs.Watching.{none_yet}
 use Rattle.session_core.specs.declared.line.Line.TheVariants as asked
 use Rattle.session_core.specs.declared.error.SessionError.{SessionError}
@@ -18,20 +25,19 @@ use Rattle.session_core.specs.declared.session.Session.{Session}
 use Rattle.session_core.specs.declared.turn.Turn.{Turn}
 use Rattle.session_core.specs.declared.turn.Turn.TheVariants as turn
 use Rattle.session_core.specs.Holding.{Counts, Minds, Attends, UnlessOver, Follows}
-use Rattle.session_core.specs.Leading.{Arrives, Went}
+use Rattle.session_core.specs.LinePrograms.{line_over, leaves, sync}
 use Rattle.session_core.specs.Lines.{line_of}
-use Rattle.session_core.specs.Phases.{Phase, synced, start}
-use Rattle.session_core.specs.Sessions.{Says as SaysLine, Talks as SessionTalks}
-use Rattle.session_core.proofs.Faults.{led-unfaulted}
+use Rattle.session_core.specs.LineTalks.{IsDone, AreDone}
+use Rattle.session_core.specs.Verbs.{LineEnd, Plays}
+use Rattle.session_core.proofs.AllDone.{done_more, done_lines_are_explained}
+use Rattle.session_core.proofs.Done.{has_done}
+use Rattle.session_core.proofs.LinesSafe.{lines_are_safe}
 use Rattle.session_core.proofs.Minding.{none-minds, none-keeps}
-use Rattle.session_core.proofs.Phases.{plain-on, phase-begins}
-use Rattle.session_core.proofs.Said.{kept-along}
-use Rattle.session_core.proofs.Talked.{talks-more, sessions_are_explained}
-use Rattle.session_core.proofs.Went.{known-led}
-use Rattle.session_core.proofs.Woken.{says-attends}
+use Rattle.session_core.proofs.Moving.{plain-on}
+use Rattle.session_core.proofs.Safe.{AttendsEnd}
 use Rattle.script_runner.specs.Play.{left}
-use Rattle.diamond_server.specs.Talking.{Told, Answers, Does, Talks, first_session, printed, output, texts_of, turns_of}
-use Rattle.diamond_server.specs.code.Serving.{Wakes}
+use Rattle.diamond_server.specs.Talking.{Told, Answers, Does, Talks, AreInOrder, ends, waits, is_over, first_session, printed, output, texts_of, turns_of}
+use Rattle.diamond_server.specs.code.Serving.{Stop, stop_of, StopsBy, Wakes}
 use Rattle.diamond_server.specs.Promises.{IsNewTo, IsNew, IsAccounted}
 
 -- ---- one line more
@@ -77,57 +83,116 @@ if-left : (o : Option Session) (after : Session) (said : Turn) → o ≡ left af
 if-left None after said e = tt
 if-left (Some t) after said e = left-same t after said e
 
+-- ---- lines in order
+
+-- what is so of a line by whether the session goes on behind it
+abbrev EndsBy : Option Session → Bool → Type 0
+EndsBy None b = b ≡ true
+EndsBy (Some t) b = b ≡ false
+
+-- by what its turn leaves
+ends-by : (o : Option Session) (after : Session) (text : Text) (said : Turn) → o ≡ left after said → EndsBy o (ends (Told.answered text said))
+ends-by o after text turn.Quiet e = subst (λ (o : Option Session). EndsBy o false) (sym e) refl
+ends-by o after text (turn.Replies rs) e = subst (λ (o : Option Session). EndsBy o false) (sym e) refl
+ends-by o after text turn.WaitWanted e = subst (λ (o : Option Session). EndsBy o false) (sym e) refl
+ends-by o after text (turn.Ended rs) e = subst (λ (o : Option Session). EndsBy o true) (sym e) refl
+
+-- a line that has another answer was not left to wait
+not-waiting : (text : Text) (said : Turn) → (said ≡ turn.WaitWanted → ⊥) → waits (Told.answered text said) ≡ false
+not-waiting text turn.Quiet other = refl
+not-waiting text (turn.Replies rs) other = refl
+not-waiting text turn.WaitWanted other = absurd (other refl)
+not-waiting text (turn.Ended rs) other = refl
+
+-- `sync` answers with replies, so behind a wait no line is left to wait
+sync-replies : (k : Known) (s : Session) → AlwaysEnds k (sync s) (λ l (end : LineEnd). end.1 ≡ turn.WaitWanted → ⊥)
+sync-replies k s = then_ends (λ l told. Unit {0}) (λ l (end : LineEnd). end.1 ≡ turn.WaitWanted → ⊥) (leaves s) k (watches.sync s.watching)
+    (ends_somehow k (watches.sync s.watching)) (λ l told any same. let never : ⊥ = cc in never)
+
+-- a line behind which the session goes on
+abbrev GoesOn : Told → Type 0
+GoesOn told = (waits told ≡ false) × (ends told ≡ false)
+
+-- such lines are in order, and none has ended the session
+pub order-on : (tolds : List Told) → AllByRecursion GoesOn tolds → AreInOrder tolds × (is_over tolds ≡ false)
+order-on [] on = (tt, refl)
+order-on (told ∷ []) on = (on.0.0, on.0.1)
+order-on (told ∷ next ∷ rest) on = let h = order-on (next ∷ rest) on.1 in ((on.0.0, on.0.1, h.0), h.1)
+
+-- one more
+on-more : (tolds : List Told) (told : Told) → AllByRecursion GoesOn tolds → GoesOn told → AllByRecursion GoesOn (tolds ++ told ∷ [])
+on-more [] told on one = (one, tt)
+on-more (first ∷ rest) told on one = (on.0, on-more rest told on.1 one)
+
+-- one more that may be the last
+order-more : (tolds : List Told) (told : Told) → AllByRecursion GoesOn tolds → waits told ≡ false → AreInOrder (tolds ++ told ∷ [])
+order-more [] told on one = one
+order-more (first ∷ []) told on one = (on.0.0, on.0.1, one)
+order-more (first ∷ next ∷ rest) told on one = (on.0.0, on.0.1, order-more (next ∷ rest) told on.1 one)
+
+-- and ends the session or not
+over-more : (tolds : List Told) (told : Told) → is_over (tolds ++ told ∷ []) ≡ ends told
+over-more [] told = refl
+over-more (first ∷ []) told = refl
+over-more (first ∷ next ∷ rest) told = over-more (next ∷ rest) told
+
+-- what is so of lines by whether the session goes on behind them
+abbrev pub IsOrdered : List Told → Option Session → Type 0
+IsOrdered tolds None = AreInOrder tolds × (is_over tolds ≡ true)
+IsOrdered tolds (Some t) = AllByRecursion GoesOn tolds
+
+ordered-more : (tolds : List Told) (told : Told) (o : Option Session) → AllByRecursion GoesOn tolds → (waits told ≡ false) × EndsBy o (ends told)
+    → IsOrdered (tolds ++ told ∷ []) o
+ordered-more tolds told None on one = (order-more tolds told on one.0, over-more tolds told ∙ one.1)
+ordered-more tolds told (Some t) on one = on-more tolds told on one
+
 -- ---- what the client knows
 
--- a talk of so many lines with these answers, however they are named
+-- so many lines with these answers are done, however they are named
 named : (k l : Known) (s u : Session) (texts more : List Text) (turns others : List Turn) → more ≡ texts → others ≡ turns
-    → SessionTalks k s texts turns l u → SessionTalks k s more others l u
-named k l s u texts more turns others e f talks = subst (λ (x : List Text). SessionTalks k s x others l u) (sym e)
-    (subst (λ (x : List Turn). SessionTalks k s texts x l u) (sym f) talks)
+    → AreDone k s texts turns l u → AreDone k s more others l u
+named k l s u texts more turns others e f all = subst (λ (x : List Text). AreDone k s x others l u) (sym e)
+    (subst (λ (x : List Turn). AreDone k s texts x l u) (sym f) all)
 
 module _ {B : Type 0} (known : B → Known) (goes : B → Call → Answer → B → Type 0) where
-  -- a line that is answered over the backend is answered over what its client knows
-  answers-says : (b : B) (s : Session) (text : Text) (said : Turn) (c : B) (t : Session) → Answers known goes b s text said c t
-      → SaysLine (known b) s text said (known c) t
-  answers-says b s text said c t (Answers.at_once quick way) =
-      SaysLine.at_once way.count (known-led known goes b (start (known b).shards (known b).seen s (line_of text)) way.count c (Phase.over t said) way.leads)
-  answers-says b s text said c t (Answers.woken there woke u first waits last) = SaysLine.woken (known there) (known woke) u first.count last.count
-      (known-led known goes b (start (known b).shards (known b).seen s (line_of text)) first.count there (Phase.over u turn.WaitWanted) first.leads)
-      waits.answered (known-led known goes woke (synced u) last.count c (Phase.over t said) last.leads)
+  -- a line that is answered over the backend is done over what its client knows
+  answers-done : (b : B) (s : Session) (text : Text) (said : Turn) (c : B) (t : Session) → Answers known goes b s text said c t
+      → IsDone (known b) s text said (known c) t
+  answers-done b s text said c t (Answers.at_once quick led) = IsDone.at_once (known_leads known goes led)
+  answers-done b s text said c t (Answers.woken there woke u first waits last) =
+      IsDone.woken (known there) (known woke) u (known_leads known goes first) waits.answered (known_leads known goes last)
 
-  -- and the store has not failed
+  -- where a program leads to its end, the store has not failed
+  led-unfaulted : (b : B) (p : Program LineEnd) (c : B) (end : LineEnd) → Leads (Goes known goes) b p c (Program.ends end) → (known c).faults ≡ (known b).faults
+  led-unfaulted b p c end led = counts_over {E = SessionError} known goes b c error.StoreFault p (Ok end) (λ x. x) led
+
+  -- nor has it where a line is answered
   answers-unfaulted : (b : B) (s : Session) (text : Text) (said : Turn) (c : B) (t : Session) → Answers known goes b s text said c t
       → (known c).faults ≡ (known b).faults
-  answers-unfaulted b s text said c t (Answers.at_once quick way) = led-unfaulted known goes b s (line_of text) way.count c t said way.leads
+  answers-unfaulted b s text said c t (Answers.at_once quick led) = led-unfaulted b (line_over (known b) s (line_of text)) c (t, said) led
   answers-unfaulted b s text said c t (Answers.woken there woke u first waits last) =
-      led-unfaulted known goes woke u asked.Sync last.count c t said last.leads
-      ∙ (waits.answered.goes_on.faults ∙ led-unfaulted known goes b s (line_of text) first.count there u turn.WaitWanted first.leads)
-
-  -- the session goes on behind it
-  pub answers-attends : (b : B) (s : Session) (text : Text) (said : Turn) (c : B) (t : Session) → Attends (known b) s → length text ≤ LONGEST_LINE
-      → Answers known goes b s text said c t → Attends (known c) t
-  answers-attends b s text said c t is short answers =
-      says-attends (known b) (known c) s t text said is short (answers-says b s text said c t answers)
+      led-unfaulted woke (sync u) c (t, said) last
+      ∙ (waits.answered.goes_on.faults ∙ led-unfaulted b (line_over (known b) s (line_of text)) there (u, turn.WaitWanted) first)
 
   -- ---- the calls of one line
 
-  -- so it does where it came at once
+  -- behind a line that came at once the session goes on
   pub came-attends : (b : B) (s : Session) (text : Text) (said : Turn) (c : B) (t : Session) → Attends (known b) s → length text ≤ LONGEST_LINE
-      → Arrives known goes b (start (known b).shards (known b).seen s (line_of text)) c (Phase.over t said) → Attends (known c) t
-  came-attends b s text said c t is short way = says-attends (known b) (known c) s t text said is short
-      (SaysLine.at_once way.count (known-led known goes b (start (known b).shards (known b).seen s (line_of text)) way.count c (Phase.over t said) way.leads))
+      → Leads (Goes known goes) b (line_over (known b) s (line_of text)) c (Program.ends (t, said)) → Attends (known c) t
+  came-attends b s text said c t is short led =
+      (has_done (known b) (known c) s t text said is short (IsDone.at_once (known_leads known goes led))).attends
 
   -- an answer comes only where no call failed, so nothing more is counted
   pub came-unfaulted : (b : B) (s : Session) (text : Text) (said : Turn) (c : B) (t : Session)
-      → Arrives known goes b (start (known b).shards (known b).seen s (line_of text)) c (Phase.over t said) → (known c).faults ≡ (known b).faults
-  came-unfaulted b s text said c t way = led-unfaulted known goes b s (line_of text) way.count c t said way.leads
+      → Leads (Goes known goes) b (line_over (known b) s (line_of text)) c (Program.ends (t, said)) → (known c).faults ≡ (known b).faults
+  came-unfaulted b s text said c t led = led-unfaulted b (line_over (known b) s (line_of text)) c (t, said) led
 
   -- it is to wait
   pub to-wait : (b : B) (s : Session) (text : Text) (said : Turn) (c : B) (t : Session) → said ≡ turn.WaitWanted
-      → Arrives known goes b (start (known b).shards (known b).seen s (line_of text)) c (Phase.over t said)
-      → Arrives known goes b (start (known b).shards (known b).seen s (line_of text)) c (Phase.over t turn.WaitWanted)
-  to-wait b s text said c t e way =
-      subst (λ (x : Turn). Arrives known goes b (start (known b).shards (known b).seen s (line_of text)) c (Phase.over t x)) e way
+      → Leads (Goes known goes) b (line_over (known b) s (line_of text)) c (Program.ends (t, said))
+      → Leads (Goes known goes) b (line_over (known b) s (line_of text)) c (Program.ends (t, turn.WaitWanted))
+  to-wait b s text said c t e led =
+      subst (λ (x : Turn). Leads (Goes known goes) b (line_over (known b) s (line_of text)) c (Program.ends (t, x))) e led
 
   -- and where it has waited
   pub waited-attends : (b : B) (s : Session) (c : B) → Attends (known b) s → Goes known goes b Call.wait Answer.done c → Attends (known c) s
@@ -135,29 +200,47 @@ module _ {B : Type 0} (known : B → Known) (goes : B → Call → Answer → B 
       waits.answered.goes_on.subscribed waits.answered.goes_on.taken is
 
   -- a `sync` leaves the session attended, as each line does
-  pub synced-attends : (b : B) (s : Session) (said : Turn) (c : B) (t : Session) → Attends (known b) s
-      → Arrives known goes b (synced s) c (Phase.over t said) → Attends (known c) t
-  synced-attends b s said c t is way = kept-along (known b) (start (known b).shards (known b).seen s asked.Sync)
-      (phase-begins (known b) s asked.Sync is tt) way.count (known c) (Phase.over t said)
-      (known-led known goes b (synced s) way.count c (Phase.over t said) way.leads)
+  synced-attends : (b : B) (s : Session) (said : Turn) (c : B) (t : Session) → Attends (known b) s
+      → Leads (Goes known goes) b (sync s) c (Program.ends (t, said)) → Attends (known c) t
+  synced-attends b s said c t is led = safe_end AttendsEnd (lines_are_safe (known b) s asked.Sync is tt) led
 
   -- whatever is answered behind the wait
   pub synced-on : (b : B) (s : Session) (r : Result Turn SessionError) (c : B) (t : Session) → Attends (known b) s
-      → Went known goes b (synced s) r c t → OnOk r (Attends (known c) t)
-  synced-on b s (Ok said) c t is way = synced-attends b s said c t is way
-  synced-on b s (Err e) c t is way = tt
+      → Plays known goes b (sync s) r (λ said. (t, said)) c → OnOk r (Attends (known c) t)
+  synced-on b s (Ok said) c t is led = synced-attends b s said c t is led
+  synced-on b s (Err e) c t is stop = tt
+
+  -- a line that is answered is not left to wait
+  answers-told : (b : B) (s : Session) (text : Text) (said : Turn) (c : B) (t : Session) → Answers known goes b s text said c t
+      → said ≡ turn.WaitWanted → ⊥
+  answers-told b s text said c t (Answers.at_once quick led) = quick
+  answers-told b s text said c t (Answers.woken there woke u first waits last) =
+      along AsksAny (Unit {0}) (λ l (end : LineEnd). end.1 ≡ turn.WaitWanted → ⊥) (known_leads known goes last) (sync-replies (known woke) u)
+
+  -- each line of a talk, by whether the session goes on behind it
+  does-ends : (b : B) (s : Session) (told : Told) (c : B) (o : Option Session) → Does known goes b s told c o → (waits told ≡ false) × EndsBy o (ends told)
+  does-ends b s Told.long c o does = (refl, subst (λ (o : Option Session). EndsBy o false) (sym does.1) refl)
+  does-ends b s (Told.answered text said) c o does =
+      (not-waiting text said (answers-told b s text said c does.after does.answers), ends-by o does.after text said does.goes_on)
+
+  -- so the lines of a talk are in order
+  pub talk-ordered : (old : B) (s : Session) (tolds : List Told) (new : B) (o : Option Session) → Talks known goes old s tolds new o → IsOrdered tolds o
+  talk-ordered old s tolds new o Talks.silent = tt
+  talk-ordered old s tolds new o (Talks.says {before = before} {mid = mid} {t = t} told talks does is) =
+      subst (λ (x : List Told). IsOrdered x o) (sym is)
+      (ordered-more before told o (talk-ordered old s before mid (Some t) talks) (does-ends mid t told new o does))
 
   -- a line that was to wait is answered behind the wait
-  pub answers-woken : (b : B) (s : Session) (text : Text) (there : B) (u : Session) (r : Result Turn SessionError) (c : B) (t : Session)
-      → Arrives known goes b (start (known b).shards (known b).seen s (line_of text)) there (Phase.over u turn.WaitWanted)
+  pub answers-woken : {E : Type 0} (b : B) (s : Session) (text : Text) (there : B) (u : Session) (r : Result Turn E) (c : B) (t : Session)
+      → Leads (Goes known goes) b (line_over (known b) s (line_of text)) there (Program.ends (u, turn.WaitWanted))
       → IfOk r (λ said. Wakes known goes there u said c t) → IfOk r (λ said. Answers known goes b s text said c t)
   answers-woken b s text there u (Ok said) c t first wakes = Answers.woken there wakes.woke u first wakes.waits wakes.syncs
   answers-woken b s text there u (Err e) c t first wakes = tt
 
-  -- a talk, as one of sessions
+  -- the lines of a talk are done
   pub record IsTalk (old : B) (s : Session) (tolds : List Told) (new : B) (o : Option Session) : Type 0 where
     pub session : Session
-    pub talks : SessionTalks (known old) s (texts_of tolds) (turns_of tolds) (known new) session
+    pub done : AreDone (known old) s (texts_of tolds) (turns_of tolds) (known new) session
     pub same : IfSome o (λ t. t ≡ session)
     pub faults : (known new).faults ≡ (known old).faults
 
@@ -166,26 +249,26 @@ module _ {B : Type 0} (known : B → Known) (goes : B → Call → Answer → B 
       → IsTalk old s before mid (Some t) → Does known goes mid t told new o → IsTalk old s (before ++ told ∷ []) new o
   talk-more old s before mid t Told.long new o h does = record {
     session = h.session;
-    talks = subst (λ (b : B). SessionTalks (known old) s (texts_of (before ++ Told.long ∷ [])) (turns_of (before ++ Told.long ∷ [])) (known b) h.session)
+    done = subst (λ (b : B). AreDone (known old) s (texts_of (before ++ Told.long ∷ [])) (turns_of (before ++ Told.long ∷ [])) (known b) h.session)
         (sym does.0) (named (known old) (known mid) s h.session (texts_of before) (texts_of (before ++ Told.long ∷ [])) (turns_of before)
-        (turns_of (before ++ Told.long ∷ [])) (texts-long before) (turns-long before) h.talks);
+        (turns_of (before ++ Told.long ∷ [])) (texts-long before) (turns-long before) h.done);
     same = subst (λ (x : Option Session). IfSome x (λ u. u ≡ h.session)) (sym does.1) h.same;
     faults = ap (λ (b : B). (known b).faults) does.0 ∙ h.faults;
   }
   talk-more old s before mid t (Told.answered text said) new o h does = record {
     session = does.after;
-    talks = named (known old) (known new) s does.after (texts_of before ++ text ∷ []) (texts_of (before ++ Told.answered text said ∷ []))
+    done = named (known old) (known new) s does.after (texts_of before ++ text ∷ []) (texts_of (before ++ Told.answered text said ∷ []))
         (turns_of before ++ said ∷ []) (turns_of (before ++ Told.answered text said ∷ [])) (texts-more before text said) (turns-more before text said)
-        (talks-more (known old) s (texts_of before) (turns_of before) (known mid) t (known new) does.after text said
-        (subst (λ (u : Session). SessionTalks (known old) s (texts_of before) (turns_of before) (known mid) u) (sym h.same) h.talks) does.short
-        (answers-says mid t text said new does.after does.answers));
+        (done_more (known old) s (texts_of before) (turns_of before) (known mid) t (known new) does.after text said
+        (subst (λ (u : Session). AreDone (known old) s (texts_of before) (turns_of before) (known mid) u) (sym h.same) h.done) does.short
+        (answers-done mid t text said new does.after does.answers));
     same = if-left o does.after said does.goes_on;
     faults = answers-unfaulted mid t text said new does.after does.answers ∙ h.faults;
   }
 
   -- line after line
   pub talk-is : (old : B) (s : Session) (tolds : List Told) (new : B) (o : Option Session) → Talks known goes old s tolds new o → IsTalk old s tolds new o
-  talk-is old s tolds new o Talks.silent = record { session = s; talks = SessionTalks.silent; same = refl; faults = refl }
+  talk-is old s tolds new o Talks.silent = record { session = s; done = AreDone.silent; same = refl; faults = refl }
   talk-is old s tolds new o (Talks.says {before = before} {mid = mid} {t = t} told talks does is) =
       subst (λ (x : List Told). IsTalk old s x new o) (sym is) (talk-more old s before mid t told new o (talk-is old s before mid (Some t) talks) does)
 
@@ -195,7 +278,7 @@ module _ {B : Type 0} (known : B → Known) (goes : B → Call → Answer → B 
   talk-accounted old new tolds o is talks =
       let s = first_session (known old) in
       let h = talk-is old s tolds new o talks in
-      let law = sessions_are_explained (known old) (known new) s h.session (texts_of tolds) (turns_of tolds) is h.talks in record {
+      let law = done_lines_are_explained (known old) (known new) s h.session (texts_of tolds) (turns_of tolds) is h.done in record {
         explained = λ low few. law.explained low low (record { seen = few; before = omega arith; bases = tt; reported = tt });
         own_commits = law.own_commits;
         denied = law.denied;
@@ -209,10 +292,19 @@ module _ {B : Type 0} (known : B → Known) (goes : B → Call → Answer → B 
 pub follows-on : (k : Known) (s : Session) → Attends k s → Follows k s
 follows-on k s is = subst (λ (o : Option SessionError). UnlessOver o (Attends k s)) (sym is.on) is
 
--- a session that goes on is not over, so a fault that it answers is one of this call
-pub faults-now : (k : Known) (s : Session) (old new : ℕ) → Attends k s → (s.over ≡ Some error.StoreFault) ⊎ Rose old new → Rose old new
-faults-now k s old new is (inl over) = absurd (let no : None ≡ Some error.StoreFault = sym is.on ∙ over in cc)
-faults-now k s old new is (inr rose) = rose
+-- where a fault of the store is told, its count has risen
+pub told-rises : (r : Result Turn SessionError) (old new : ℕ) → CountsFault error.StoreFault r old new → r ≡ Err error.StoreFault → Rose old new
+told-rises (Ok said) old new told is = absurd (let no : ⊥ = cc in no)
+told-rises (Err e) old new told is = told.rises (let same : e ≡ error.StoreFault = cc in same)
+
+-- why a session stops by an error of its line
+pub stops-of : (e : SessionError) (r : Stop) (store store_then writes writes_then : ℕ) → r ≡ stop_of e → (e ≡ error.StoreFault → Rose store store_then)
+    → writes_then ≡ writes → StopsBy r store store_then writes writes_then
+stops-of e r store store_then writes writes_then is rose same = subst (λ (r : Stop). StopsBy r store store_then writes writes_then) (sym is) (by e rose)
+  where
+    by : (e : SessionError) → (e ≡ error.StoreFault → Rose store store_then) → StopsBy (stop_of e) store store_then writes writes_then
+    by error.StoreFault rose = (same, rose refl)
+    by error.NoMemory rose = same
 
 -- ---- the beginning
 

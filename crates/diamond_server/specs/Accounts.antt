@@ -17,7 +17,7 @@ use Rattle.diamond_store.specs.declared.join_error.JoinError.TheVariants as join
 use Rattle.session_core.specs.declared.session.Session.{Session}
 use Rattle.session_core.specs.Explained.{setting_of}
 use Rattle.session_core.specs.Holding.{Attends}
-use Rattle.session_core.specs.Sessions.{Talks as SessionTalks}
+use Rattle.session_core.specs.LineTalks.{AreDone}
 use Rattle.script_runner.specs.declared.status.TheConstants.{WHOLE, NO_MEMORY}
 use Rattle.diamond_server.specs.declared.status.TheConstants.{NO_CLIENT}
 use Rattle.diamond_server.specs.declared.serving_all.Tally.{Tally}
@@ -53,16 +53,15 @@ unread join_error.NoMemory = NO_MEMORY
 unread-example : unread (join_error.Clients 1000000) ≡ 13
 unread-example = refl
 
--- A session over a link: its lines and their answers, from what its client knew as it joined (k) to what it knew at the session's
--- end (l), each line by calls that keep the clause of every backend; explained by the journal that it knows later (m).
-pub record IsExplained (k l m : Known) (x y : Both) (Reads : List Told → Option Session → Text → Text → Type 0) : Type 0 where
+-- A session over a link: its lines were done, from what its client knew as it joined (k) to what it knew at the session's end (l), by
+-- calls that keep the clause of every backend; and they are explained by the journal that it knows later (m).
+pub record IsExplained (k l m : Known) (x y : Both) (Reads : List Told → Text → Text → Type 0) : Type 0 where
   pub tolds : List Told
-  pub session : Option Session
   pub last : Session
   pub begins : Attends k (first_session k)
-  pub talks : SessionTalks k (first_session k) (texts_of tolds) (turns_of tolds) l last
+  pub done : AreDone k (first_session k) (texts_of tolds) (turns_of tolds) l last
   pub accounted : IsAccounted k m tolds
-  pub heard : IsHeard tolds session x y Reads
+  pub heard : IsHeard tolds x y Reads
 
 -- WHAT IS TOLD OF A LINK, from both its sides as they were to both as they are. `knows` is what a client knows later, by what it
 -- knew at its session's end. A link that isn't read is as it was.

@@ -1,5 +1,6 @@
 -- What a session over a link promises, by the status that it answers.
-use Rattle.std.specs.Prelude.{◌≡◌, ℕ, ◌≤◌, ◌⊎◌, ◌==◌, List, [], ◌∷◌, ◌++◌, map, length, Option, Some, None, IfSome, IsTrue, refl}
+use Rattle.std.specs.Prelude.{◌≡◌, ℕ, ◌≤◌, ◌⊎◌, ◌==◌, true, false, List, [], ◌∷◌, ◌++◌, map, length, Option, Some, None, IfSome, IsTrue, T, refl}
+use Rattle.std.proofs.Common.{inl, inr, sym, subst}
 use Rattle.std.specs.List.{list_any}
 use Rattle.dio_core.specs.declared.sink.Sink.{Ghosts as SinkTells}
 use Rattle.dio_core.specs.declared.source.Source.{Ghosts as SourceTells}
@@ -19,7 +20,7 @@ use Rattle.session_core.specs.Sessions.{OwnsAnswered, denied_by_all, all_replies
 use Rattle.script_runner.specs.declared.status.TheConstants.{WHOLE, READ_FAULT, WRITE_FAULT, NO_MEMORY, TOO_MANY_LINES}
 use Rattle.script_runner.specs.declared.stop.TheConstants.{MOST_LINES}
 use Rattle.diamond_server.specs.declared.status.TheConstants.{STORE_FAULT}
-use Rattle.diamond_server.specs.Talking.{Told, Talks, first_session, output, line_told, texts_of, turns_of}
+use Rattle.diamond_server.specs.Talking.{Told, Talks, AreInOrder, is_over, quit, first_session, output, line_told, texts_of, turns_of}
 
 -- ---- the statuses
 
@@ -67,48 +68,54 @@ pub record HasRead (tolds : List Told) (all rest : Text) : Type 0 where
   pub read : lines all ≡ raws ++ lines rest
   pub cut : map cut_of raws ≡ map line_told tolds
 
--- to its end, or up to a line that ended the session
-pub record ReadsToTheEnd (tolds : List Told) (o : Option Session) (all rest : Text) : Type 0 where
-  pub read : HasRead tolds all rest
-  pub end : (rest ≡ []) ⊎ (o ≡ None)
+-- ENDED: nothing is left to read, or the last line of which it is told has ended the session
+abbrev pub HasEnded : List Told → Text → Type 0
+HasEnded tolds rest = (rest ≡ []) ⊎ (is_over tolds ≡ true)
 
--- a read failed in a line, behind those that were read whole
-pub record ReadsUpToAFault (tolds : List Told) (o : Option Session) (all rest : Text) : Type 0 where
+-- to its end, or up to a line that ended the session
+pub record ReadsToTheEnd (tolds : List Told) (all rest : Text) : Type 0 where
+  pub read : HasRead tolds all rest
+  pub ended : HasEnded tolds rest
+
+-- a read failed in a line, behind those that were read whole, none of which ended the session
+pub record ReadsUpToAFault (tolds : List Told) (all rest : Text) : Type 0 where
   pub broken : Text
   pub read : HasRead tolds all broken
   pub breaks : BreaksOff (Some broken) (Some rest)
+  pub on : is_over tolds ≡ false
 
--- the most lines that may be read, and one line more
-pub record ReadsOneMore (tolds : List Told) (o : Option Session) (all rest : Text) : Type 0 where
+-- the most lines that may be read, none of which ended the session, and one line more
+pub record ReadsOneMore (tolds : List Told) (all rest : Text) : Type 0 where
   pub most : length tolds ≡ MOST_LINES
   pub behind : Text
   pub next : Text
   pub read : HasRead tolds all behind
   pub more : lines behind ≡ next ∷ lines rest
+  pub on : is_over tolds ≡ false
 
--- The link was left by a talk: what it took is the talk's whole output, behind what it had taken before, and where all of that had
--- been passed on, all of this has been.
-pub record IsHeard (tolds : List Told) (session : Option Session) (x y : Both) (Reads : List Told → Option Session → Text → Text → Type 0)
-    : Type 0 where
+-- The link was left by a talk, whose lines are in order: what it took is the talk's whole output, behind what it had taken before, and
+-- where all of that had been passed on, all of this has been.
+pub record IsHeard (tolds : List Told) (x y : Both) (Reads : List Told → Text → Text → Type 0) : Type 0 where
   pub few : length tolds ≤ MOST_LINES
-  pub reads : WhereTold (Reads tolds session) x.inwards.left y.inwards.left
+  pub in_order : AreInOrder tolds
+  pub reads : WhereTold (Reads tolds) x.inwards.left y.inwards.left
   pub taken : y.outwards.taken ≡ with_more x.outwards.taken (output tolds)
   pub flushed : IsPassedOn x.outwards.taken x.outwards.passed → IsPassedOn y.outwards.taken y.outwards.passed
 
 -- The backend and the link were left by a talk, which goes by steps of the backend's relation.
 pub record IsServed {B : Type 0} (known : B → Known) (goes : B → Call → Answer → B → Type 0) (old new : B) (x y : Both)
-    (Reads : List Told → Option Session → Text → Text → Type 0) : Type 0 where
+    (Reads : List Told → Text → Text → Type 0) : Type 0 where
   pub tolds : List Told
   pub session : Option Session
   pub talks : Talks known goes old (first_session (known old)) tolds new session
   pub accounted : IsAccounted (known old) (known new) tolds
-  pub heard : IsHeard tolds session x y Reads
+  pub heard : IsHeard tolds x y Reads
 
 -- ---- what a session promises
 
 -- At each status: what was talked of, and which counts rose. `Held` says what is told of a talk of so much of the input, `k` and `l`
 -- what the client knew before it and knows after it.
-pub record Promises (Held : (List Told → Option Session → Text → Text → Type 0) → Type 0) (k l : Known) (status : ℕ) (x y : Both) : Type 0 where
+pub record Promises (Held : (List Told → Text → Text → Type 0) → Type 0) (k l : Known) (status : ℕ) (x y : Both) : Type 0 where
   -- there are six statuses
   pub statuses : IsTrue (list_any (λ s. s == status) (WHOLE ∷ READ_FAULT ∷ WRITE_FAULT ∷ NO_MEMORY ∷ STORE_FAULT ∷ TOO_MANY_LINES ∷ []))
   -- at 0 the input was talked of to its end, or to a line that ended the session
@@ -131,3 +138,14 @@ pub record Promises (Held : (List Told → Option Session → Text → Text → 
 -- WHAT A SESSION PROMISES, from its backend before it to the backend after it.
 abbrev pub KeepsPromises : {B : Type 0} → (B → Known) → (B → Call → Answer → B → Type 0) → ℕ → B → B → Both → Both → Type 0
 KeepsPromises known goes status old new x y = Promises (IsServed known goes old new x y) (known old) (known new) status x y
+
+-- ---- worked lines
+
+-- bytes are left only behind a `quit`
+ended-by-quit : HasEnded (Told.long ∷ quit ∷ []) (7 ∷ [])
+ended-by-quit = inr refl
+
+-- and not behind any line
+left-unread : HasEnded (Told.long ∷ []) (7 ∷ []) → ⊥
+left-unread (inl none) = subst (λ (bytes : Text). T (0 == length bytes)) (sym none) tt
+left-unread (inr over) = subst T (sym over) tt

@@ -1,5 +1,6 @@
 -- What a session over a link does with the lines that it reads, and what it answers them.
-use Rattle.std.specs.Prelude.{◌≡◌, ◌≤◌, List, [], ◌∷◌, ◌++◌, length, Option, Some, None, codes, refl}
+use Rattle.std.specs.Prelude.{◌≡◌, ◌≤◌, Bool, true, false, T, List, [], ◌∷◌, ◌++◌, length, Option, Some, None, codes, refl}
+use Rattle.std.proofs.Common.{subst}
 use Rattle.dio_core.specs.declared.line.TheConstants.{NEWLINE, LONGEST_LINE}
 use Rattle.dio_core.specs.declared.line.Line.{Line}
 use Rattle.dio_core.specs.declared.line.Line.TheVariants as line
@@ -10,13 +11,13 @@ use Rattle.session_text.specs.Printing.{printed_reply}
 use Rattle.txn_grammar.specs.Characters.{Text}
 use Rattle.docc_prepare.specs.Calls.{Known, Call, Answer}
 use Rattle.docc_prepare.specs.Backends.{Goes}
+use Rattle.call_programs.specs.Programs.{Program, Leads}
 use Rattle.client_watches.specs.Watching.{none_yet}
 use Rattle.session_core.specs.declared.session.Session.{Session}
 use Rattle.session_core.specs.declared.turn.Turn.{Turn}
 use Rattle.session_core.specs.declared.turn.Turn.TheVariants as turn
-use Rattle.session_core.specs.Leading.{Arrives}
+use Rattle.session_core.specs.LinePrograms.{line_over, sync}
 use Rattle.session_core.specs.Lines.{line_of}
-use Rattle.session_core.specs.Phases.{Phase, synced, start}
 use Rattle.script_runner.specs.Play.{left}
 
 -- ---- texts
@@ -73,19 +74,41 @@ turns_of [] = []
 turns_of (Told.long ∷ rest) = turns_of rest
 turns_of (Told.answered text said ∷ rest) = said ∷ turns_of rest
 
+-- ---- where a session ends
+
+-- whether a line has ended the session: it was `quit`
+abbrev pub ends : Told → Bool
+ends (Told.answered text (turn.Ended replies)) = true
+ends told = false
+
+-- whether a line was left to wait
+abbrev pub waits : Told → Bool
+waits (Told.answered text turn.WaitWanted) = true
+waits told = false
+
+-- IN ORDER: no line was left to wait, and none but the last has ended the session.
+abbrev pub AreInOrder : List Told → Type 0
+AreInOrder [] = Unit {0}
+AreInOrder (told ∷ []) = waits told ≡ false
+AreInOrder (told ∷ next ∷ rest) = (waits told ≡ false) × (ends told ≡ false) × AreInOrder (next ∷ rest)
+
+-- whether the last line has ended the session
+abbrev pub is_over : List Told → Bool
+is_over [] = false
+is_over (told ∷ []) = ends told
+is_over (told ∷ next ∷ rest) = is_over (next ∷ rest)
+
 -- ---- one line
 
--- A LINE OF THE SESSION IS ANSWERED: its calls of the backend are those of the machine of phases, each by a step of the
--- backend's relation, and the turn is what stands at the end. Where that is to wait, the client waits until the backend
--- answers, and then the line goes on as `sync` does.
+-- A LINE OF THE SESSION IS ANSWERED: its program leads to its end, each call by a step of the backend's relation, and the turn is the one
+-- that it ends with. Where that is to wait, the client waits until the backend answers, and then the line goes on as `sync` does.
 pub data Answers {B : Type 0} (known : B → Known) (goes : B → Call → Answer → B → Type 0) (old : B) (s : Session) (text : Text) (said : Turn) (new : B)
     (t : Session) : Type 0 where
   at_once : (said ≡ turn.WaitWanted → ⊥)
-      → Arrives known goes old (start (known old).shards (known old).seen s (line_of text)) new (Phase.over t said)
-      → Answers known goes old s text said new t
+      → Leads (Goes known goes) old (line_over (known old) s (line_of text)) new (Program.ends (t, said)) → Answers known goes old s text said new t
   woken : (there woke : B) (u : Session)
-      → Arrives known goes old (start (known old).shards (known old).seen s (line_of text)) there (Phase.over u turn.WaitWanted)
-      → Goes known goes there Call.wait Answer.done woke → Arrives known goes woke (synced u) new (Phase.over t said)
+      → Leads (Goes known goes) old (line_over (known old) s (line_of text)) there (Program.ends (u, turn.WaitWanted))
+      → Goes known goes there Call.wait Answer.done woke → Leads (Goes known goes) woke (sync u) new (Program.ends (t, said))
       → Answers known goes old s text said new t
 
 -- a line that was short enough for the session, which goes on unless its turn ended it
@@ -127,3 +150,19 @@ long-example = refl
 -- too long a line is none of the session's
 texts-example : texts_of (Told.long ∷ Told.answered (codes "quit") (turn.Ended (reply.Dropped ∷ [])) ∷ []) ≡ codes "quit" ∷ []
 texts-example = refl
+
+-- `quit`, and its answer
+abbrev pub quit : Told
+quit = Told.answered (codes "quit") (turn.Ended (reply.Dropped ∷ []))
+
+-- it ends a session
+quit-ends : AreInOrder (Told.long ∷ quit ∷ []) × (is_over (Told.long ∷ quit ∷ []) ≡ true)
+quit-ends = ((refl, refl, refl), refl)
+
+-- nothing is done behind it
+behind-quit : AreInOrder (quit ∷ Told.long ∷ []) → ⊥
+behind-quit order = subst T order.1 tt
+
+-- a `wait` is answered by something
+left-waiting : AreInOrder (Told.answered (codes "wait") turn.WaitWanted ∷ []) → ⊥
+left-waiting order = subst T order tt

@@ -1,30 +1,25 @@
-//! What a line of the link is answered.
+//! What a line of the link is answered. The answer is held back, behind those that are.
 
-ghost use Rattle.std.specs.Prelude.{◌≡◌, ◌≤◌, length, true, IfOk, OnOk, Err};
+ghost use Rattle.std.specs.Prelude.{◌≡◌, ◌≤◌, ◌++◌, length, Err, IfOk, IfErr, OnOk};
 ghost use Rattle.dio_core.specs.Counts.{Rose};
 ghost use Rattle.dio_core.specs.Lines.{IsShort};
 ghost use Rattle.dio_core.specs.declared.line.Line.TheVariants as cut;
 ghost use Rattle.session_core.specs.Holding.{Attends};
 ghost use Rattle.script_runner.specs.Play.{left};
+ghost use Rattle.diamond_server.specs.Promises.{sides};
 ghost use Rattle.diamond_server.specs.Talking as spec;
 ghost use Rattle.diamond_server.specs.Talking.{Told, Answers};
-ghost use Rattle.diamond_server.specs.code.Serving.{Wakes, Replies, FaultsOf, kept};
+ghost use Rattle.diamond_server.specs.code.Serving.{Wakes, HoldsBack, StopsBy, Replies, kept};
 
+use crate::link::pass_on;
 use crate::replies::{reply_line, turn_text};
-use crate::status::{Stop, stop_of};
-use dio_core::{LONGEST_LINE, Line};
+use crate::status::{Cause, Stop, stop_of};
+use dio_core::{End, LONGEST_LINE, Line};
 use docc_prepare::Waiter;
-use plain_data::Text;
+use plain_data::{OrNoMemory, Text};
 use session_core::{Session, SessionError, Turn};
 use session_text::{Reply, Why};
 use std::alloc::{AllocError, Global};
-
-/// What a line is answered: its text, and whether the session goes on.
-#[derive(Drop)]
-pub struct Response {
-    pub text: Text,
-    pub goes_on: bool,
-}
 
 /// Waits for a commit to tell of, and then does what `sync` does.
 fn woken<B: Waiter>(
@@ -42,54 +37,70 @@ fn woken<B: Waiter>(
     session.waited(alloc, backend)
 }
 
-/// Does a line of the session. One that is to wait waits.
-fn said<B: Waiter>(
+/// Passes on what is held back, and then waits and does what `sync` does.
+fn passed_on_and_woken<B: Waiter, K: End>(
     alloc: Global,
     backend: &mut B,
+    link: &mut K,
     session: &mut Session,
-    text: &[u8],
-) -> Result<Turn, SessionError>
+    held: &mut Text,
+) -> Result<Turn, Stop>
     requires attends { Attends (B.known backend.old) session.old }
-    requires short { length text.now ≤ LONGEST_LINE }
-    ensures answers { IfOk result (λ turn. Answers B.known B.goes backend.old session.old text.now turn backend.new session.new) }
+    ensures woken { IfOk result (λ turn. Wakes B.known B.goes backend.old session.old turn backend.new session.new) }
+    ensures holds { OnOk result (HoldsBack (sides K.Source K.Sink link.old).outwards held.old
+        (sides K.Source K.Sink link.new).outwards held.new) }
+    ensures stops { IfErr result (λ stop. StopsBy stop (B.known backend.old).faults (B.known backend.new).faults
+        (sides K.Source K.Sink link.old).outwards.faults (sides K.Source K.Sink link.new).outwards.faults) }
+    ensures incoming { (sides K.Source K.Sink link.new).inwards ≡ (sides K.Source K.Sink link.old).inwards }
     ensures attends { OnOk result (Attends (B.known backend.new) session.new) }
-    ensures fault { result ≡ Err SessionError.StoreFault → Rose (B.known backend.old).faults (B.known backend.new).faults }
     ensures home { B.home backend.new ≡ B.home backend.old }
 {
-    match session.line(alloc, backend, text)? {
-        Turn::WaitWanted => woken(alloc, backend, session),
-        turn => Ok(turn),
+    if !pass_on(link, held) {
+        return Err(OrNoMemory::Cause(Cause::WriteFault));
     }
-}
-
-/// Does a line of the session, whose text was short enough to be read.
-fn text_answer<B: Waiter>(
-    alloc: Global,
-    backend: &mut B,
-    session: &mut Session,
-    text: &Text,
-) -> Result<Response, Stop>
-    requires attends { Attends (B.known backend.old) session.old }
-    requires short { length text.now ≤ LONGEST_LINE }
-    ensures replies { IfOk result (λ a. Replies B.known B.goes backend.old session.old (cut.Bytes text.now) a backend.new session.new) }
-    ensures attends { OnOk result (Attends (B.known backend.new) session.new) }
-    ensures faults { FaultsOf result (B.known backend.old).faults (B.known backend.new).faults }
-    ensures home { B.home backend.new ≡ B.home backend.old }
-{
-    match said(alloc, backend, session, text.as_slice()) {
-        Ok(turn) => Ok(answer_of(alloc, &turn)?),
+    match woken(alloc, backend, session) {
+        Ok(turn) => Ok(turn),
         Err(error) => Err(stop_of(error)),
     }
 }
 
-/// The answer that a turn is.
-fn answer_of(alloc: Global, turn: &Turn) -> Result<Response, AllocError>
-    ensures text { IfOk result (λ a. a.text ≡ spec.turn_text turn.now) }
-    ensures left { IfOk result (λ a. (s : Session) → left s turn.now ≡ kept a.goes_on s) }
+/// Does a line of the session. One that is to wait waits.
+fn said<B: Waiter, K: End>(
+    alloc: Global,
+    backend: &mut B,
+    link: &mut K,
+    session: &mut Session,
+    held: &mut Text,
+    text: &[u8],
+) -> Result<Turn, Stop>
+    requires attends { Attends (B.known backend.old) session.old }
+    requires short { length text.now ≤ LONGEST_LINE }
+    ensures answers { IfOk result (λ turn. Answers B.known B.goes backend.old session.old text.now turn backend.new session.new) }
+    ensures holds { OnOk result (HoldsBack (sides K.Source K.Sink link.old).outwards held.old
+        (sides K.Source K.Sink link.new).outwards held.new) }
+    ensures stops { IfErr result (λ stop. StopsBy stop (B.known backend.old).faults (B.known backend.new).faults
+        (sides K.Source K.Sink link.old).outwards.faults (sides K.Source K.Sink link.new).outwards.faults) }
+    ensures incoming { (sides K.Source K.Sink link.new).inwards ≡ (sides K.Source K.Sink link.old).inwards }
+    ensures attends { OnOk result (Attends (B.known backend.new) session.new) }
+    ensures home { B.home backend.new ≡ B.home backend.old }
+{
+    match session.line(alloc, backend, text) {
+        Ok(turn) => match turn {
+            Turn::WaitWanted => passed_on_and_woken(alloc, backend, link, session, held),
+            turn => Ok(turn),
+        },
+        Err(error) => Err(stop_of(error)),
+    }
+}
+
+/// Holds back the text of a turn, and says whether the session goes on behind it.
+fn hold_turn(alloc: Global, held: &mut Text, turn: &Turn) -> Result<bool, AllocError>
+    ensures held { OnOk result (held.new ≡ held.old ++ spec.turn_text turn.now) }
+    ensures left { IfOk result (λ goes_on. (s : Session) → left s turn.now ≡ kept goes_on s) }
 {
     let text = turn_text(alloc, turn)?;
-    let goes_on = goes_on(turn);
-    Ok(Response { text, goes_on })
+    held.extend_from_slice(text.as_slice())?;
+    Ok(goes_on(turn))
 }
 
 /// Whether a session goes on behind a turn.
@@ -102,35 +113,66 @@ fn goes_on(turn: &Turn) -> bool
     }
 }
 
-/// The refusal of a line that is too long.
-fn long_answer(alloc: Global) -> Result<Response, AllocError>
-    ensures text { IfOk result (λ a. a.text ≡ spec.printed Told.long) }
-    ensures goes_on { IfOk result (λ a. a.goes_on ≡ true) }
+/// Holds back the refusal of a line that is too long.
+fn hold_refusal(alloc: Global, held: &mut Text) -> Result<(), AllocError>
+    ensures { OnOk result (held.new ≡ held.old ++ spec.printed Told.long) }
 {
     let text = reply_line(alloc, &Reply::Refused(Why::Long))?;
-    Ok(Response {
-        text,
-        goes_on: true,
-    })
+    held.extend_from_slice(text.as_slice())
 }
 
-/// Does a line that was read.
-pub fn answer<B: Waiter>(
+/// Does a line of the session, whose text was short enough to be read, and holds back its answer.
+fn text_answer<B: Waiter, K: End>(
     alloc: Global,
     backend: &mut B,
+    link: &mut K,
     session: &mut Session,
+    held: &mut Text,
+    text: &Text,
+) -> Result<bool, Stop>
+    requires attends { Attends (B.known backend.old) session.old }
+    requires short { length text.now ≤ LONGEST_LINE }
+    ensures replies { IfOk result (λ goes_on. Replies B.known B.goes backend.old session.old (cut.Bytes text.now)
+        (sides K.Source K.Sink link.old).outwards held.old goes_on backend.new session.new
+        (sides K.Source K.Sink link.new).outwards held.new) }
+    ensures stops { IfErr result (λ stop. StopsBy stop (B.known backend.old).faults (B.known backend.new).faults
+        (sides K.Source K.Sink link.old).outwards.faults (sides K.Source K.Sink link.new).outwards.faults) }
+    ensures incoming { (sides K.Source K.Sink link.new).inwards ≡ (sides K.Source K.Sink link.old).inwards }
+    ensures attends { OnOk result (Attends (B.known backend.new) session.new) }
+    ensures home { B.home backend.new ≡ B.home backend.old }
+{
+    match said(alloc, backend, link, session, held, text.as_slice()) {
+        Ok(turn) => Ok(hold_turn(alloc, held, &turn)?),
+        Err(stop) => Err(stop),
+    }
+}
+
+/// Does a line that was found, and holds back its answer. It says whether the session goes on.
+pub fn answer<B: Waiter, K: End>(
+    alloc: Global,
+    backend: &mut B,
+    link: &mut K,
+    session: &mut Session,
+    held: &mut Text,
     line: &Line,
-) -> Result<Response, Stop>
+) -> Result<bool, Stop>
     requires attends { Attends (B.known backend.old) session.old }
     requires short { IsShort line.now }
     requires some { line.now ≡ cut.End → ⊥ }
-    ensures replies { IfOk result (λ a. Replies B.known B.goes backend.old session.old line.now a backend.new session.new) }
+    ensures replies { IfOk result (λ goes_on. Replies B.known B.goes backend.old session.old line.now
+        (sides K.Source K.Sink link.old).outwards held.old goes_on backend.new session.new
+        (sides K.Source K.Sink link.new).outwards held.new) }
+    ensures stops { IfErr result (λ stop. StopsBy stop (B.known backend.old).faults (B.known backend.new).faults
+        (sides K.Source K.Sink link.old).outwards.faults (sides K.Source K.Sink link.new).outwards.faults) }
+    ensures incoming { (sides K.Source K.Sink link.new).inwards ≡ (sides K.Source K.Sink link.old).inwards }
     ensures attends { OnOk result (Attends (B.known backend.new) session.new) }
-    ensures faults { FaultsOf result (B.known backend.old).faults (B.known backend.new).faults }
     ensures home { B.home backend.new ≡ B.home backend.old }
 {
     match line {
-        Line::Bytes(text) => text_answer(alloc, backend, session, text),
-        _ => Ok(long_answer(alloc)?),
+        Line::Bytes(text) => text_answer(alloc, backend, link, session, held, text),
+        _ => {
+            hold_refusal(alloc, held)?;
+            Ok(true)
+        }
     }
 }

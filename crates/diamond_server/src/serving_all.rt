@@ -32,9 +32,9 @@ pub struct Tally {
 }
 
 /// Accepts up to so many links, and serves the session of a new client over each, in a thread of its own; one whose thread can't
-/// be started is served by this thread. Once all sessions have ended, the links are given back in the order of their accepting,
-/// each with its status: that of its session, or, where it wasn't read, 13 where no client's number was left and 5 where there
-/// was no memory for one.
+/// be started is served by this thread. Behind the last one the listener is closed, while sessions go on, so that who comes later is
+/// refused at once. Once all sessions have ended, the links are given back in the order of their accepting, each with its status:
+/// that of its session, or, where it wasn't read, 13 where no client's number was left and 5 where there was no memory for one.
 ///
 /// An error says that there was no memory for the list of sessions, or to give a link back. The sessions have ended then, too.
 pub fn serve_all<
@@ -110,7 +110,7 @@ fn leave<T>(value: &mut T)
     let _ = value;
 }
 
-/// Accepts and runs the sessions, and joins them.
+/// Accepts and runs the sessions, and joins them. Behind the last one that is accepted the listener is closed.
 fn run_all<
     's,
     'e: 's,
@@ -135,7 +135,9 @@ fn run_all<
         (gatherings Li.Listener listener.old listener.new) (map seat_of r.0.items) r.1) }
     ensures near { IfOk result (λ r. All (IsNear pass.new) r.0.items) }
 {
-    let (begun, failed) = accept_all(scope, rt, alloc, listener, store, pass, sessions)?;
+    let accepted = accept_all(scope, rt, alloc, listener, store, pass, sessions);
+    listener.close();
+    let (begun, failed) = accepted?;
     Ok((join_all(rt, alloc, store, pass, begun)?, failed))
 }
 

@@ -1,7 +1,5 @@
 pub mod Spoken
 pub mod Places
-pub mod Ways
-pub mod Driven
 pub mod Viewed
 pub mod Stood
 pub mod Standing

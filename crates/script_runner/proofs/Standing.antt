@@ -28,21 +28,21 @@ use Rattle.session_core.specs.declared.session.Session.{Session}
 use Rattle.session_core.specs.declared.turn.Turn.{Turn}
 use Rattle.session_core.specs.declared.turn.Turn.TheVariants as turn
 use Rattle.session_core.specs.Lines.{line_of}
-use Rattle.session_core.specs.Phases.{Phase}
+use Rattle.session_core.specs.Verbs.{LineEnd}
 use Rattle.session_core.specs.Holding.{Attends}
 use Rattle.session_core.specs.Words.{trimmed_start, trimmed_end, is_quiet}
 use Rattle.session_core.proofs.GoingOn.{sessions_go_on}
+use Rattle.session_core.proofs.Ready.{line-ready}
 use Rattle.script_runner.specs.declared.words.TheConstants.{LAST_CLIENT}
-use Rattle.script_runner.specs.Driving.{Place, all_calls, line_done}
 use Rattle.session_text.specs.Lines.{is_solid}
 use Rattle.script_runner.specs.Words.{first_word, after_word, small_number, client_named, if_client, is_follow, if_shard, shard_named}
-use Rattle.script_runner.specs.Play.{ScriptWorld, first_session, first_sessions, first_world, session_of, Told, Did, did, left, ended_line}
+use Rattle.script_runner.specs.Play.{ScriptWorld, first_session, first_sessions, first_world, session_of, Told, Did, did, left, play_line, ended_line}
 use Rattle.script_runner.specs.Play.{follow_line, client_line}
 use Rattle.script_runner.specs.Play.{Done, done, placed, named_line, text_line, answer, Played, nothing_played, one_more, play}
 use Rattle.script_runner.specs.code.Lines.{Answers}
 use Rattle.script_runner.specs.Worlds.{Stands, ScriptsStand}
 use Rattle.script_runner.proofs.Places.{set-here, set-elsewhere, at-end, same-or-not}
-use Rattle.script_runner.proofs.Stood.{IsDriven, line-driven}
+use Rattle.script_runner.proofs.Stood.{IsPlayedTo, line-played}
 
 -- ---- the first world
 
@@ -152,23 +152,13 @@ module _ (s : Store) (client : ℕ) (sound : IsSound s) (below : client < CLIENT
     left-attends k t turn.WaitWanted h = h
     left-attends k t (turn.Ended replies) h = tt
 
-    -- what a line is driven to, wherever that is
-    ended-leaves : (text : Text) (asked : Asked) (x : Place) → IsDriven s client session text (all_calls session asked) x
-        → Leaves s client (ended_line client s session asked x)
-    ended-leaves text asked (after, Phase.over t x) h = record {
-      sound = h.sound;
-      mine = left-attends after t x (sessions_go_on.behind (known_by s client) session text (known_by after client) t x h.way);
-      others = h.others;
-    }
-    ended-leaves text asked (after, Phase.beginning t a) h = stays (Some session) Told.nothing is
-    ended-leaves text asked (after, Phase.stepping t a) h = stays (Some session) Told.nothing is
-    ended-leaves text asked (after, Phase.trying t more a) h = stays (Some session) Told.nothing is
-    ended-leaves text asked (after, Phase.going t more a) h = stays (Some session) Told.nothing is
-    ended-leaves text asked (after, Phase.looking t upto body) h = stays (Some session) Told.nothing is
-    ended-leaves text asked (after, Phase.looked t n body snaps address) h = stays (Some session) Told.nothing is
-    ended-leaves text asked (after, Phase.awaiting t seen) h = stays (Some session) Told.nothing is
-    ended-leaves text asked (after, Phase.watching t p) h = stays (Some session) Told.nothing is
-    ended-leaves text asked (after, Phase.broken by_fault) h = stays (Some session) Told.nothing is
+    -- what a line is played to
+    ended-leaves : (asked : Asked) (x : Option LineEnd × Store) → IsPlayedTo s client session asked x → Leaves s client (ended_line client session asked x)
+    ended-leaves asked x h = subst (λ (x : Option LineEnd × Store). Leaves s client (ended_line client session asked x)) (sym h.is) (record {
+      sound = h.leave.sound;
+      mine = left-attends h.store h.end.0 h.end.1 h.attends;
+      others = h.leave.others;
+    })
 
     -- a line of the session, or one that lets a shard follow
     either-leaves : (b : Bool) (x y : Did) → Leaves s client x → Leaves s client y → Leaves s client (cond b x y)
@@ -177,8 +167,9 @@ module _ (s : Store) (client : ℕ) (sound : IsSound s) (below : client < CLIENT
 
     line-leaves : (text : Text) → length text ≤ LONGEST_LINE → Leaves s client (client_line client s (Some session) text)
     line-leaves text short = either-leaves (is_follow text) (follow_line client s session (shard_named s.shards (after_word text)))
-        (ended_line client s session (line_of text) (line_done client s session (line_of text))) (follow-leaves (small_number (trimmed_end (after_word text))))
-        (ended-leaves text (line_of text) (line_done client s session (line_of text)) (line-driven s client session text below sound is short))
+        (ended_line client session (line_of text) (play_line client s session (line_of text))) (follow-leaves (small_number (trimmed_end (after_word text))))
+        (ended-leaves (line_of text) (play_line client s session (line_of text))
+        (line-played s client session (line_of text) below sound is (line-ready text short)))
 
   -- the line of a client who may have quit
   pub client-leaves : (o : Option Session) (text : Text) → length text ≤ LONGEST_LINE → IfSome o (Attends (known_by s client))

@@ -1,5 +1,5 @@
 -- What a client's line tells it, and that the journal explains it.
-use Rattle.std.proofs.Common.{◌≡◌, ◌≢◌, ℕ, ◌≤◌, ◌<◌, max, Bool, true, false, cond, List, [], ◌∷◌, ◌++◌, length, get_or, set, fold, Option, Some, None}
+use Rattle.std.proofs.Common.{◌≡◌, ◌≢◌, ℕ, ◌≤◌, ◌<◌, max, Bool, true, false, cond, List, [], ◌∷◌, ◌++◌, length, get_or, set, fold, Option, Some, None, Ok}
 use Rattle.std.proofs.Common.{◌⊎◌, inl, inr, refl, sym, ap, ◌∙◌, subst, arith, append_assoc}
 use Rattle.std.specs.List.{AllByRecursion}
 use Rattle.std.specs.Prelude.{IfSome, nat_le, nat_lt, ◌==◌}
@@ -18,8 +18,10 @@ use Rattle.rdt_types.specs.declared.address.Address.{Address}
 use Rattle.txn_lang.specs.declared.snaps.Snap.{Snap}
 use Rattle.docc_prepare.specs.declared.attempt.Attempt.{Attempt}
 use Rattle.docc_prepare.specs.Attempts.{SnapList}
+use Rattle.call_programs.specs.Safe.{AsksAny}
+use Rattle.call_programs.proofs.Programs.{along}
 use Rattle.docc_prepare.specs.Calls.{Known}
-use Rattle.docc_prepare.specs.Backends.{IsPrefix, IsAnswered}
+use Rattle.docc_prepare.specs.Backends.{IsPrefix}
 use Rattle.docc_prepare.specs.declared.limits.TheConstants.{CLIENTS}
 use Rattle.docc_prepare.specs.Stores.{Store, IsSound, known_by, seen_by}
 use Rattle.docc_prepare.proofs.Elsewhere.{shards_follow}
@@ -28,35 +30,28 @@ use Rattle.session_core.specs.declared.session.Session.{Session}
 use Rattle.session_core.specs.declared.turn.Turn.{Turn}
 use Rattle.session_core.specs.declared.turn.Turn.TheVariants as turn
 use Rattle.session_core.specs.Lines.{line_of}
-use Rattle.session_core.specs.Phases.{Phase, start}
-use Rattle.session_core.specs.Holding.{Attends}
-use Rattle.session_core.specs.Leading.{Leads}
+use Rattle.session_core.specs.Holding.{BodyIsReady, Attends}
+use Rattle.session_core.specs.Verbs.{LineEnd}
 use Rattle.session_core.specs.Words.{trimmed_start, trimmed_end, is_quiet}
 use Rattle.client_watches.specs.Explained.{shown_of}
 use Rattle.client_watches.proofs.Telling.{up-to-more}
-use Rattle.session_core.specs.Explained.{Setting, Attempting, Story, story_of, Passes, attempting_after, story_after, LinePasses, AreFrom, MayBeTold}
+use Rattle.session_core.specs.Explained.{Setting, Attempting, Story, story_of, Passes, attempting_after, story_after, LinePasses, AreFrom, MayBeTold, IsExplained}
 use Rattle.session_core.proofs.Minding.{reported-seen}
-use Rattle.session_core.proofs.Explained.{line-explained}
+use Rattle.session_core.proofs.LinesExplained.{lines_are_explained}
 use Rattle.session_core.proofs.Grown.{prefix-whole, prefix-again, prefix-shorter}
-use Rattle.session_core.proofs.Phases.{phase-begins}
 use Rattle.session_core.proofs.Ready.{line-ready}
-use Rattle.session_core.proofs.Said.{same-along}
 use Rattle.session_core.proofs.Stories.{story-stays, story-told}
 use Rattle.script_runner.specs.declared.words.TheConstants.{LAST_CLIENT}
-use Rattle.script_runner.specs.Driving.{Place, all_calls, line_done}
 use Rattle.script_runner.specs.Words.{first_word, after_word, small_number, client_named, if_client, is_follow, if_shard, shard_named}
-use Rattle.script_runner.specs.Play.{ScriptWorld, first_session, first_sessions, first_world, session_of, Told, Did, did, left, ended_line}
+use Rattle.script_runner.specs.Play.{ScriptWorld, first_session, first_sessions, first_world, session_of, Told, Did, left, play_line, ended_line}
 use Rattle.script_runner.specs.Play.{follow_line, client_line}
-use Rattle.script_runner.specs.Play.{Done, done, placed, named_line, text_line, answer, cut_line, world_after, Played, nothing_played, one_more, play}
+use Rattle.script_runner.specs.Play.{Done, done, placed, named_line, text_line, answer, cut_line, world_after, Played, nothing_played, one_more, played, play}
+use Rattle.script_runner.specs.Laws.{IsOfClient, LinesHaveEntries}
 use Rattle.script_runner.specs.Explained.{setting_of, first_story, is_to, told_to, ExplainsTold, ExplainsScript}
 use Rattle.script_runner.specs.Worlds.{Stands}
 use Rattle.script_runner.proofs.Places.{set-here, set-elsewhere, same-or-not}
 use Rattle.script_runner.proofs.Standing.{each-first, first-stands, answer-stands, legal-reads, played-stands, trimmed-shorter, after-shorter, cut-short}
-use Rattle.script_runner.proofs.Stood.{IsDriven, line-driven}
-
--- the settings of a store, as far as answers go by them
-abbrev pub setting_in : Store → Setting
-setting_in s = record { shards = s.shards; window = s.window; limit = s.limit }
+use Rattle.script_runner.proofs.Stood.{setting_in, IsPlayedTo, line-played}
 
 -- ---- what a client's line tells it
 
@@ -82,7 +77,7 @@ record IsFront (s : Store) (client : ℕ) (session : Session) (d : Did) (who fro
 
 -- what a line tells of its client, by what it tells
 abbrev TellsMine : Store → ℕ → Session → Did → Told → Type 0
-TellsMine s client session d Told.nothing = (d.session ≡ Some session) × (seen_by s client ≤ seen_by d.store client)
+TellsMine s client session d Told.nothing = ⊥
 TellsMine s client session d (Told.nobody reason) = ⊥
 TellsMine s client session d (Told.answered who asked t) = IsAnswer s client session d who asked t
 TellsMine s client session d (Told.follow who shard front) = IsFront s client session d who front
@@ -95,23 +90,7 @@ record Tells (s : Store) (client : ℕ) (session : Session) (d : Did) : Type 0 w
   others : (other : ℕ) → other ≢ client → seen_by s other ≤ seen_by d.store other
   mine : TellsMine s client session d d.told
 
--- the same settings, field by field
-same-setting-in : (s t : Store) → t.shards ≡ s.shards → t.window ≡ s.window → t.limit ≡ s.limit → setting_in t ≡ setting_in s
-same-setting-in s t a b c = ap (λ (n : ℕ). record { shards = n; window = t.window; limit = t.limit }) a
-    ∙ (ap (λ (n : ℕ). record { shards = s.shards; window = n; limit = t.limit }) b
-    ∙ ap (λ (n : ℕ). record { shards = s.shards; window = s.window; limit = n }) c)
-
 module _ (s : Store) (client : ℕ) (session : Session) (sound : IsSound s) (below : client < CLIENTS) (is : Attends (known_by s client) session) where
-  -- where nothing is done, nothing is told
-  tells-nothing : Tells s client session (did s (Some session) Told.nothing)
-  tells-nothing = record {
-    grows = prefix-whole s.journal;
-    legal = sound.legal;
-    setting = refl;
-    others = λ other apart. omega arith;
-    mine = (refl, omega arith);
-  }
-
   -- a line that names no shard is refused, and a refusal passes
   tells-refusal : Tells s client session (follow_line client s session None)
   tells-refusal = record {
@@ -158,25 +137,28 @@ module _ (s : Store) (client : ℕ) (session : Session) (sound : IsSound s) (bel
       by false e = tells-refusal
       by true e = tells-front shard (let there : shard < s.shards = grind (arith, nat_tests) in there)
 
-  -- a line that is driven is explained
-  tells-over : (text : Text) → length text ≤ LONGEST_LINE → (x : Place) → IsDriven s client session text (all_calls session (line_of text)) x
-      → Tells s client session (ended_line client s session (line_of text) x)
-  tells-over text short (after, Phase.over t turn) h =
-      let k = known_by s client in
-      let l = known_by after client in
-      let explained : (y : Story) → IsOf y session → MayBeTold k y → LinePasses k l y (line_of text) turn t s.journal after.journal =
-      λ y same may. subst (λ (z : Story). LinePasses k l z (line_of text) turn t s.journal after.journal) same
-      (line-explained k session (line_of text) h.way.calls l t turn y.low y.begun is (line-ready text short) (subst (MayBeTold k) (sym same) may)
-      h.way.leads) in
-      let client_same = same-along k (start k.shards k.seen session (line_of text)) (phase-begins k session (line_of text) is (line-ready text short))
-      h.way.calls l (Phase.over t turn) h.way.leads in record {
-        grows = (explained first refl first-may).grows;
-        legal = h.sound.legal;
-        setting = same-setting-in s after client_same.shards client_same.window client_same.limit;
-        others = λ other apart. let same = h.seen_others other apart in omega arith;
-        mine = record { is_mine = refl; after = t; goes = refl; passes = explained };
-      }
+  -- a line that is played is explained
+  tells-played : (line : Asked) → BodyIsReady line → (x : Option LineEnd × Store) → IsPlayedTo s client session line x
+      → Tells s client session (ended_line client session line x)
+  tells-played line ready x h = subst (λ (x : Option LineEnd × Store). Tells s client session (ended_line client session line x)) (sym h.is) (record {
+    grows = (explained first refl first-may).grows;
+    legal = h.leave.sound.legal;
+    setting = h.leave.setting;
+    others = λ other apart. let same = h.leave.seen_others other apart in omega arith;
+    mine = record { is_mine = refl; after = h.end.0; goes = refl; passes = explained };
+  })
     where
+      k : Known
+      k = known_by s client
+
+      -- whatever was shown before
+      explained : (y : Story) → IsOf y session → MayBeTold k y
+          → LinePasses k (known_by h.store client) y line h.end.1 h.end.0 s.journal h.store.journal
+      explained y same may =
+          subst (λ (z : Story). LinePasses k (known_by h.store client) z line h.end.1 h.end.0 s.journal h.store.journal) same
+          (along AsksAny (Unit {0}) (λ l (end : LineEnd). IsExplained k l session line (Ok end.1) end.0) h.answered
+          (lines_are_explained k session line is ready) y.low y.begun (subst (MayBeTold k) (sym same) may))
+
       -- a story in which all that is seen was shown may always be told
       first : Story
       first = story_of (known_by s client).seen 0 session
@@ -196,15 +178,6 @@ module _ (s : Store) (client : ℕ) (session : Session) (sound : IsSound s) (bel
               each : (snaps : SnapList) → AllByRecursion (λ (read : Address × Snap). 0 ≤ read.1.base) snaps
               each [] = tt
               each (r ∷ rest) = (omega arith, each rest)
-  tells-over text short (after, Phase.beginning t a) h = tells-nothing
-  tells-over text short (after, Phase.stepping t a) h = tells-nothing
-  tells-over text short (after, Phase.trying t more a) h = tells-nothing
-  tells-over text short (after, Phase.going t more a) h = tells-nothing
-  tells-over text short (after, Phase.looking t upto body) h = tells-nothing
-  tells-over text short (after, Phase.looked t n body snaps address) h = tells-nothing
-  tells-over text short (after, Phase.awaiting t seen) h = tells-nothing
-  tells-over text short (after, Phase.watching t p) h = tells-nothing
-  tells-over text short (after, Phase.broken by_fault) h = tells-nothing
 
   -- either of two lines
   tells-either : (b : Bool) (x y : Did) → Tells s client session x → Tells s client session y → Tells s client session (cond b x y)
@@ -214,8 +187,9 @@ module _ (s : Store) (client : ℕ) (session : Session) (sound : IsSound s) (bel
   -- `follow`, or what a session does
   tells-line : (text : Text) → length text ≤ LONGEST_LINE → Tells s client session (client_line client s (Some session) text)
   tells-line text short = tells-either (is_follow text) (follow_line client s session (shard_named s.shards (after_word text)))
-      (ended_line client s session (line_of text) (line_done client s session (line_of text))) (tells-follow (small_number (trimmed_end (after_word text))))
-      (tells-over text short (line_done client s session (line_of text)) (line-driven s client session text below sound is short))
+      (ended_line client session (line_of text) (play_line client s session (line_of text))) (tells-follow (small_number (trimmed_end (after_word text))))
+      (tells-played (line_of text) (line-ready text short) (play_line client s session (line_of text))
+      (line-played s client session (line_of text) below sound is (line-ready text short)))
 
 -- ---- what a client hears of a line
 
@@ -267,14 +241,7 @@ module _ (these : Setting) (w : ScriptWorld) (client : ℕ) (session : Session) 
   -- what the client itself hears
   own-hears : (y : Story) → IsOf y session → MayBeTold (known_by w.store client) y → (told : Told) → d.told ≡ told
       → TellsMine w.store client session d told → Hears these (placed w client d) client y
-  own-hears y same may Told.nothing is mine = record {
-    next = y;
-    listens = record {
-      may = may-on (known_by w.store client) (known_by d.store client) y mine.1 may;
-      session = own-place (IsOf y) (subst (λ o. IfSome o (IsOf y)) (sym mine.0) same);
-    };
-    explains = λ journal rest legal grows h. passed-over these journal client y d.told rest (ap (is_to client) is) h;
-  }
+  own-hears y same may Told.nothing is mine = absurd mine
   own-hears y same may (Told.nobody reason) is mine = absurd mine
   own-hears y same may (Told.answered who asked t) is mine =
       let passing = mine.passes y same may in
@@ -490,3 +457,42 @@ scripts-explained settings bytes c =
 pub scripts_are_explained : (settings : Settings) (o : Option Text) → IfSome o (ExplainsScript settings)
 scripts_are_explained settings None = tt
 scripts_are_explained settings (Some bytes) = scripts-explained settings bytes
+
+-- ---- entries
+
+-- what is told of a client's line is told to the client
+told-to-client : (s : Store) (client : ℕ) (session : Session) (d : Did) (told : Told) → TellsMine s client session d told → is_to client told ≡ true
+told-to-client s client session d Told.nothing mine = absurd mine
+told-to-client s client session d (Told.nobody reason) mine = absurd mine
+told-to-client s client session d (Told.answered who asked t) mine = same-tests who client mine.is_mine
+told-to-client s client session d (Told.follow who shard front) mine = same-tests who client mine.is_mine
+
+-- a client that is named is one of those that there are
+named-below : (o : Option ℕ) (client : ℕ) → if_client o ≡ Some client → client < CLIENTS
+named-below None client e = absurd (cc)
+named-below (Some n) client e = by (nat_le n LAST_CLIENT) refl e
+  where
+    by : (b : Bool) → nat_le n LAST_CLIENT ≡ b → cond b (Some n) None ≡ Some client → client < CLIENTS
+    by false test e = absurd (cc)
+    by true test e = let same : n ≡ client = cc in let below : n ≤ LAST_CLIENT = grind (arith, nat_tests) in omega arith
+
+-- in a world that stands the line of a client who goes on has its entry
+entry-of : (w : ScriptWorld) (raw : Text) (client : ℕ) → Stands w → IsOfClient w raw client → is_to client (cut_line w raw).told ≡ true
+entry-of w raw client stands h =
+    let text = trimmed_start h.bytes in
+    let rest = after_word text in
+    let short : length h.bytes ≤ LONGEST_LINE = subst IsShort h.cut (cut-short raw) in
+    let attends = subst (λ o. IfSome o (Attends (known_by w.store client))) h.goes_on (stands.attend client) in
+    let tells = tells-line w.store client h.session stands.sound (named-below (small_number (first_word text)) client h.names) attends rest
+    (let first = trimmed-shorter h.bytes in let behind = after-shorter text in omega arith) in
+    subst (λ (l : Line). is_to client (answer w l).told ≡ true) (sym h.cut)
+    (subst (λ (b : Bool). is_to client (cond b (done w Told.nothing) (named_line w (client_named (first_word text)) rest)).told ≡ true) (sym h.asks)
+    (subst (λ (o : Option ℕ). is_to client (named_line w o rest).told ≡ true) (sym h.names)
+    (subst (λ (o : Option Session). is_to client (client_line client w.store o rest).told ≡ true) (sym h.goes_on)
+    (told-to-client w.store client h.session (client_line client w.store (Some h.session) rest) (client_line client w.store (Some h.session) rest).told
+    tells.mine))))
+
+-- behind any lines the world stands
+pub lines_have_entries : LinesHaveEntries
+lines_have_entries settings before raw client h =
+    entry-of (played settings before).world raw client (played-stands before (nothing_played settings) (first-stands settings)) h

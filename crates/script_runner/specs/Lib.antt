@@ -1,7 +1,7 @@
 pub mod Words
-pub mod Driving
 pub mod Play
 pub mod Worlds
 pub mod Explained
+pub mod Laws
 pub mod Script
 pub mod code

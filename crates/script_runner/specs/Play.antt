@@ -16,8 +16,10 @@ use Rattle.session_text.specs.declared.reply.Why.{Why}
 use Rattle.session_text.specs.declared.reply.Why.TheVariants as why
 use Rattle.session_text.specs.Printing.{printed_reply}
 use Rattle.txn_grammar.specs.Characters.{Text}
+use Rattle.txn_lang.specs.declared.checked.Checked.{Checked}
 use Rattle.docc_prepare.specs.declared.limits.TheConstants.{CLIENTS}
-use Rattle.docc_prepare.specs.Stores.{Store, first_store, followed}
+use Rattle.docc_prepare.specs.Stores.{Store, seen_by, first_store, saw, followed}
+use Rattle.call_programs.specs.Played.{play_program}
 use Rattle.client_watches.specs.Watching.{none_yet}
 use Rattle.session_core.specs.declared.session.Session.{Session}
 use Rattle.session_core.specs.declared.turn.Turn.{Turn}
@@ -25,10 +27,11 @@ use Rattle.session_core.specs.declared.turn.Turn.TheVariants as turn
 use Rattle.session_core.specs.Lines.{line_of}
 use Rattle.session_core.specs.declared.line.Line.{Line as Asked}
 use Rattle.session_core.specs.declared.line.Line.TheVariants as asks
-use Rattle.session_core.specs.Phases.{Phase, said}
+use Rattle.session_core.specs.LinePrograms.{line as program_of}
+use Rattle.session_core.specs.Events.{said}
+use Rattle.session_core.specs.Verbs.{LineEnd}
 use Rattle.session_core.specs.Words.{trimmed_start, is_quiet}
 use Rattle.script_runner.specs.Words.{first_word, after_word, client_named, is_follow, shard_named}
-use Rattle.script_runner.specs.Driving.{Place, line_done}
 
 -- ---- worlds
 
@@ -116,14 +119,19 @@ abbrev pub left : Session → Turn → Option Session
 left session (turn.Ended replies) = None
 left session t = Some session
 
--- Where a line of a session is over. (By the law that lines are over, no other phase is reached by so many calls.)
-abbrev pub ended_line : ℕ → Store → Session → Asked → Place → Did
-ended_line client store session asked (after, Phase.over next t) = did after (left next t) (Told.answered client asked t)
-ended_line client store session asked (after, p) = did store (Some session) Told.nothing
+-- A LINE OF A SESSION IS PLAYED: its program runs over the store, each call a step of that. It gives what the program ends with,
+-- and the store then.
+abbrev pub play_line : ℕ → Store → Session → Asked → Option LineEnd × Store
+play_line client store session asked = play_program client store (program_of store.shards (seen_by store client) session asked)
+
+-- The program's end is the session behind the line, and its answer. (By the law that lines are over, each program comes to an end.)
+abbrev pub ended_line : ℕ → Session → Asked → Option LineEnd × Store → Did
+ended_line client session asked (Some end, after) = did after (left end.0 end.1) (Told.answered client asked end.1)
+ended_line client session asked (None, after) = did after (Some session) Told.nothing
 
 -- what a line that was read does
 abbrev pub asked_line : ℕ → Store → Session → Asked → Did
-asked_line client store session asked = ended_line client store session asked (line_done client store session asked)
+asked_line client store session asked = ended_line client session asked (play_line client store session asked)
 
 -- what a session's line does
 abbrev pub session_line : ℕ → Store → Session → Text → Did
@@ -220,3 +228,31 @@ nobody-line = refl
 -- who has quit has no session, and neither has who is no client
 nobody-there : session_of (record { store = first_store 4 2 100; sessions = None ∷ [] }) 0 ≡ None
 nobody-there = refl
+
+-- the client whose turn it is, before its first line, and the store where nothing was done
+abbrev here : Store
+here = first_store 4 2 100
+
+-- what is seen is told, and asks nothing of the store
+seen-is-told : asked_line 5 here (first_session 5) asks.Seen ≡ did here (Some (first_session 5)) (Told.answered 5 asks.Seen (said (reply.Seen 0)))
+seen-is-told = refl
+
+-- a number that is ahead: the program has learnt how many commits there are
+ahead-is-told :
+    (body : Checked)
+    → asked_line 5 here (first_session 5) (asks.At 3 body)
+    ≡ did (saw here 5 0) (Some (first_session 5)) (Told.answered 5 (asks.At 3 body) (said (reply.Ahead 3 0)))
+ahead-is-told body = refl
+
+-- there is nothing to wait for, and nobody commits meanwhile
+nothing-to-wait-for :
+    asked_line 5 here (first_session 5) asks.Wait ≡ did (saw here 5 0) (Some (first_session 5)) (Told.answered 5 asks.Wait turn.WaitWanted)
+nothing-to-wait-for = refl
+
+-- so the client is told that it would wait
+idle-is-told : (client : ℕ) → printed (Told.answered client asks.Wait turn.WaitWanted) ≡ reply_line (Some client) (codes "idle")
+idle-is-told client = refl
+
+-- who quits has no session any more
+quit-ends : (asked_line 5 here (first_session 5) asks.Quit).session ≡ None
+quit-ends = refl

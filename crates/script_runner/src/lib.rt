@@ -15,7 +15,7 @@ mod stop;
 mod words;
 mod world;
 
-pub use laws::{lines_are_over, scripts_stand};
+pub use laws::{lines_are_over, lines_have_entries, scripts_stand};
 pub use script::run_script;
 pub use status::{NO_MEMORY, READ_FAULT, TOO_MANY_LINES, WHOLE, WRITE_FAULT};
 pub use stop::MOST_LINES;

@@ -7,7 +7,6 @@ ghost use Rattle.docc_prepare.specs.Stores.{seen_by, known_by};
 ghost use Rattle.local_world.specs.Stored.{store_of};
 ghost use Rattle.session_core.specs.Lines.{line_of};
 ghost use Rattle.session_core.specs.Holding.{Attends};
-ghost use Rattle.script_runner.specs.Driving.{line_done};
 ghost use Rattle.script_runner.specs.code.Lines.{Answers, Does, IsOver};
 ghost use Rattle.script_runner.specs.Play as spec;
 ghost use Rattle.script_runner.specs.Worlds.{world_of, Stands};
@@ -32,7 +31,7 @@ fn over_view(
     requires attends { Attends (known_by (store_of view.old.world.now) view.old.client) session.old }
     requires short { length text.now ≤ LONGEST_LINE }
     ensures over { IsOver result (store_of view.new.world.now) session.new
-        (line_done view.old.client (store_of view.old.world.now) session.old (line_of text.now)) }
+        (spec.play_line view.old.client (store_of view.old.world.now) session.old (line_of text.now)) }
     ensures home { view.new.world.ghost_name ≡ view.old.world.ghost_name }
 {
     match session.line(alloc, view, text) {
@@ -52,7 +51,8 @@ fn in_world(
     requires client { client < CLIENTS }
     requires attends { Attends (known_by (store_of world.old) client) session.old }
     requires short { length text.now ≤ LONGEST_LINE }
-    ensures over { IsOver result (store_of world.new) session.new (line_done client (store_of world.old) session.old (line_of text.now)) }
+    ensures over { IsOver result (store_of world.new) session.new
+        (spec.play_line client (store_of world.old) session.old (line_of text.now)) }
 {
     let mut view = View { world, client };
     over_view(alloc, &mut view, session, text)

@@ -3,7 +3,7 @@
 ghost use Rattle.std.specs.Prelude.{◌≡◌, None};
 ghost use Rattle.diamond_store.specs.Numbers.{HasSettings};
 
-use diamond_server::{NO_CLIENT, Tally, serve_all};
+use diamond_server::{NO_CLIENT, serve_all};
 use diamond_store::{Book, Gate, Open, Store, open};
 use dio_core::{Count, FaultPlan, Listener, MemLink, MemLinks, MemListener};
 use history_lock::{Naming, Opened};
@@ -15,28 +15,12 @@ use std::alloc::{AllocError, Global};
 use std::marker::Brand;
 use std::sync::Wait;
 use std::sync::atomic::{AtomicBool, Ordering};
-use std::test::Fail;
 use std::thread::Threads;
 use txn_lang::{Commit, CommitList};
 
-/// What came of a listener's links, and how many commits there are then.
-#[derive(Clone, Copy, Debug, PartialEq, Eq)]
-struct Outcome {
-    tally: Tally,
-    commits: usize,
-}
-
-/// So many links were accepted and given back with other statuses than 0, no accept failed, and there are so many commits.
-fn whole(accepted: u32, faulted: u32, commits: usize) -> Outcome {
-    Outcome {
-        tally: Tally {
-            accepted,
-            faulted,
-            failed: false,
-        },
-        commits,
-    }
-}
+/// How many links were accepted, how many were given back with another status than 0, whether an accept failed, and how many
+/// commits there are then.
+type Outcome = (u32, u32, bool, usize);
 
 /// Serves the links of a listener over a store that was just opened.
 fn serve_over<
@@ -62,10 +46,12 @@ fn serve_over<
     let (store, mut pass) = Store::<K, G, N>::new(alloc, settings, opened, gate)?;
     let tally = serve_all(rt, alloc, listener, &store, &mut pass, sessions)?;
     let closed = store.close(rt, pass);
-    Ok(Outcome {
-        tally,
-        commits: closed.commits.len(),
-    })
+    Ok((
+        tally.accepted,
+        tally.faulted,
+        tally.failed,
+        closed.commits.len(),
+    ))
 }
 
 /// The same over a store of its own, whose commits this keeps.
@@ -84,137 +70,155 @@ fn serve_kept<Li: Listener, K: Keep + Send, G: Gate + Drop + Send + Sync, R: Thr
     serve_over::<_, _, _, Brand, _>(rt, alloc, opened, &settings, gate, listener, sessions)
 }
 
-/// The same over a store in memory.
-fn serve_listener<Li: Listener, G: Gate + Drop + Send + Sync, R: Threads + Wait + Sync>(
+/// What a link gives in pieces of 16 bytes, and which of its reads and writes fail.
+type Given = (&'static [u8], &'static [u64], &'static [u64]);
+
+/// How a link was given back: its status, and what it has taken, where that is said.
+type Back = (u8, Option<&'static [u8]>);
+
+/// The links of a listener, the accepts that fail, how many sessions are asked for, and what comes of that.
+struct Row {
+    links: &'static [Given],
+    accepts: &'static [u64],
+    sessions: u32,
+    outcome: Outcome,
+    back: &'static [Back],
+}
+
+/// The listener of a row.
+fn listener_of(alloc: Global, row: &Row) -> Result<MemListener, AllocError> {
+    let mut links = MemLinks::new(alloc);
+    for (bytes, reads, writes) in row.links {
+        links.push(MemLink::new(alloc, bytes, 16, reads, writes)?)?;
+    }
+    let plan = FaultPlan::new(alloc, row.accepts)?;
+    Ok(MemListener::failing(alloc, links, plan))
+}
+
+/// Whether the links were given back so, in their order.
+fn gave_back(listener: &MemListener, wanted: &[Back]) -> bool {
+    let back = listener.back().as_slice();
+    for (pair, (status, taken)) in back.iter().zip(wanted) {
+        if pair.1 != *status || taken.is_some_and(|bytes| pair.0.sink.taken() != bytes) {
+            return false;
+        }
+    }
+    back.len() == wanted.len()
+}
+
+/// Whether this comes of a row, over a store whose commits this keeps.
+fn is_served<K: Keep + Send, G: Gate + Drop + Send + Sync, R: Threads + Wait + Sync>(
     rt: &R,
     alloc: Global,
+    keep: K,
     gate: G,
-    listener: &mut Li,
-    sessions: u32,
-) -> Result<Outcome, AllocError> {
-    serve_kept(rt, alloc, MemKeep, gate, listener, sessions)
-}
-
-/// Links that give these bytes, one after another.
-fn links(alloc: Global, texts: &[&[u8]]) -> Result<MemLinks, AllocError> {
-    let mut all = MemLinks::new(alloc);
-    for text in texts {
-        all.push(MemLink::new(alloc, text, 16, &[], &[])?)?;
-    }
-    Ok(all)
-}
-
-/// The links that were given back have these statuses, in their order.
-fn gave_back(listener: &MemListener, statuses: &[u8]) -> bool {
-    let back = listener.back().as_slice();
-    back.len() == statuses.len()
-        && back
-            .iter()
-            .zip(statuses)
-            .all(|(pair, status)| pair.1 == *status)
-}
-
-/// The link that was given back at this place took these bytes.
-fn took(listener: &MemListener, place: usize, wanted: &[u8]) -> bool {
-    match listener.back().as_slice().get(place) {
-        Some((link, _)) => link.sink.taken() == wanted,
-        None => false,
-    }
+    row: &Row,
+) -> bool
+    requires { K.kept keep ≡ None }
+{
+    let Ok(mut listener) = listener_of(alloc, row) else {
+        return false;
+    };
+    serve_kept(rt, alloc, keep, gate, &mut listener, row.sessions) == Ok(row.outcome)
+        && gave_back(&listener, row.back)
 }
 
 const LINES: &[u8] = b"do counter(\"x\").add(2); emit counter(\"x\").get();\nseen\nquit\n";
 
 const REPLIES: &[u8] = b"commit 1 ok 2\nseen 1\ndropped\n";
 
-#[test]
-fn one_link_is_served_and_given_back(rt: HostRuntime) -> Result<(), Fail> {
-    let alloc = rt.alloc();
-    let mut listener = MemListener::new(alloc, links(alloc, &[LINES])?);
-    let outcome = serve_listener(&rt, alloc, Open, &mut listener, 1)?;
-    assert_eq!(rt; outcome, whole(1, 0, 1));
-    assert!(rt; gave_back(&listener, &[WHOLE]));
-    assert!(rt; took(&listener, 0, REPLIES));
-    Ok(())
+const ONE: Given = (b"do emit 1;\n", &[], &[]);
+
+const TWO: Given = (b"do emit 2;\n", &[], &[]);
+
+/// Ten lines, each of which adds to the counter `x`.
+const TEN: Given = (
+    b"do counter(\"x\").add(1);\ndo counter(\"x\").add(1);\ndo counter(\"x\").add(1);\ndo counter(\"x\").add(1);\ndo counter(\"x\").add(1);\ndo counter(\"x\").add(1);\ndo counter(\"x\").add(1);\ndo counter(\"x\").add(1);\ndo counter(\"x\").add(1);\ndo counter(\"x\").add(1);\n",
+    &[],
+    &[],
+);
+
+static ROWS: [Row; 7] = [
+    // One link is served and given back.
+    Row {
+        links: &[(LINES, &[], &[])],
+        accepts: &[],
+        sessions: 1,
+        outcome: (1, 0, false, 1),
+        back: &[(WHOLE, Some(REPLIES))],
+    },
+    // Links come back in order, each with its status.
+    Row {
+        links: &[
+            (b"seen\n", &[], &[]),
+            (b"seen\n", &[0], &[]),
+            (b"do emit 1;\n", &[], &[0]),
+            (b"do emit 2;\nwai", &[], &[]),
+        ],
+        accepts: &[],
+        sessions: 4,
+        outcome: (4, 2, false, 2),
+        back: &[
+            (WHOLE, None),
+            (READ_FAULT, Some(b"")),
+            (WRITE_FAULT, Some(b"")),
+            (WHOLE, None),
+        ],
+    },
+    // A client may leave in mid-line: what it sent of the line is a line, since the input ends there.
+    Row {
+        links: &[(b"do emit 2;\nwai", &[], &[])],
+        accepts: &[],
+        sessions: 1,
+        outcome: (1, 0, false, 1),
+        back: &[(WHOLE, Some(b"commit 1 ok 2\nrefused verb\n"))],
+    },
+    // No more links are accepted than are asked for, and fewer where none is left.
+    Row {
+        links: &[ONE, TWO],
+        accepts: &[],
+        sessions: 1,
+        outcome: (1, 0, false, 1),
+        back: &[(WHOLE, None)],
+    },
+    Row {
+        links: &[ONE, TWO],
+        accepts: &[],
+        sessions: 1000,
+        outcome: (2, 0, false, 2),
+        back: &[(WHOLE, None), (WHOLE, None)],
+    },
+    // An accept that fails ends the accepting.
+    Row {
+        links: &[ONE, TWO],
+        accepts: &[1],
+        sessions: 2,
+        outcome: (1, 0, true, 1),
+        back: &[(WHOLE, Some(b"commit 1 ok 1\n"))],
+    },
+    // Sixty-four sessions are served at once.
+    Row {
+        links: &[TEN; 64],
+        accepts: &[],
+        sessions: 64,
+        outcome: (64, 0, false, 640),
+        back: &[(WHOLE, None); 64],
+    },
+];
+
+/// The rows, so that the proof of a test doesn't go through them.
+fn rows() -> &'static [Row] {
+    &ROWS
 }
 
 #[test]
-fn links_come_back_in_order_each_with_its_status(rt: HostRuntime) -> Result<(), Fail> {
-    let alloc = rt.alloc();
-    let mut all = links(alloc, &[b"seen\n"])?;
-    all.push(MemLink::new(alloc, b"seen\n", 16, &[0], &[])?)?;
-    all.push(MemLink::new(alloc, b"do emit 1;\n", 16, &[], &[0])?)?;
-    all.push(MemLink::new(alloc, b"do emit 2;\nwai", 16, &[], &[])?)?;
-    let mut listener = MemListener::new(alloc, all);
-    let outcome = serve_listener(&rt, alloc, Open, &mut listener, 4)?;
-    assert_eq!(rt; outcome, whole(4, 2, 2));
-    assert!(rt; gave_back(&listener, &[WHOLE, READ_FAULT, WRITE_FAULT, WHOLE]));
-    assert!(rt; took(&listener, 1, b"") && took(&listener, 2, b""));
-    Ok(())
-}
-
-/// A session whose client leaves in mid-line: what it sent of the line is a line, since the input ends there.
-#[test]
-fn a_client_may_leave_in_mid_line(rt: HostRuntime) -> Result<(), Fail> {
-    let alloc = rt.alloc();
-    let mut listener = MemListener::new(alloc, links(alloc, &[b"do emit 2;\nwai"])?);
-    let outcome = serve_listener(&rt, alloc, Open, &mut listener, 1)?;
-    assert_eq!(rt; outcome, whole(1, 0, 1));
-    assert!(rt; took(&listener, 0, b"commit 1 ok 2\nrefused verb\n"));
-    Ok(())
-}
-
-#[test]
-fn no_more_links_are_accepted_than_are_asked_for(rt: HostRuntime) -> Result<(), Fail> {
-    let alloc = rt.alloc();
-    let mut listener = MemListener::new(alloc, links(alloc, &[b"do emit 1;\n", b"do emit 2;\n"])?);
-    let outcome = serve_listener(&rt, alloc, Open, &mut listener, 1)?;
-    assert_eq!(rt; outcome, whole(1, 0, 1));
-    assert!(rt; gave_back(&listener, &[WHOLE]));
-    Ok(())
-}
-
-#[test]
-fn fewer_are_accepted_where_none_is_left(rt: HostRuntime) -> Result<(), Fail> {
-    let alloc = rt.alloc();
-    let mut listener = MemListener::new(alloc, links(alloc, &[b"do emit 1;\n", b"do emit 2;\n"])?);
-    let outcome = serve_listener(&rt, alloc, Open, &mut listener, 1000)?;
-    assert_eq!(rt; outcome, whole(2, 0, 2));
-    Ok(())
-}
-
-#[test]
-fn an_accept_that_fails_ends_the_accepting(rt: HostRuntime) -> Result<(), Fail> {
-    let alloc = rt.alloc();
-    let all = links(alloc, &[b"do emit 1;\n", b"do emit 2;\n"])?;
-    let mut listener = MemListener::failing(alloc, all, FaultPlan::new(alloc, &[1])?);
-    let outcome = serve_listener(&rt, alloc, Open, &mut listener, 2)?;
-    let tally = Tally {
-        accepted: 1,
-        faulted: 0,
-        failed: true,
-    };
-    assert_eq!(rt; outcome, Outcome { tally, commits: 1 });
-    assert!(rt; gave_back(&listener, &[WHOLE]));
-    assert!(rt; took(&listener, 0, b"commit 1 ok 1\n"));
-    Ok(())
-}
-
-#[test]
-fn sixty_four_sessions_are_served_at_once(rt: HostRuntime) -> Result<(), Fail> {
-    let alloc = rt.alloc();
-    let line = b"do counter(\"x\").add(1);\n";
-    let mut text = Vec::new(alloc);
-    for _ in 0..10 {
-        text.extend_from_slice(line)?;
+fn links_are_served_and_given_back(rt: HostRuntime) {
+    for (number, row) in rows().iter().enumerate() {
+        assert!(rt;
+            is_served(&rt, rt.alloc(), MemKeep, Open, row),
+            "row {number}"
+        );
     }
-    let mut all = MemLinks::new(alloc);
-    for _ in 0..64 {
-        all.push(MemLink::new(alloc, text.as_slice(), 16, &[], &[])?)?;
-    }
-    let mut listener = MemListener::new(alloc, all);
-    let outcome = serve_listener(&rt, alloc, Open, &mut listener, 64)?;
-    assert_eq!(rt; outcome, whole(64, 0, 640));
-    Ok(())
 }
 
 /// Two rooms. Who enters one waits until somebody has entered the other, and no longer than so many turns.
@@ -264,19 +268,33 @@ impl<'a> Gate for Gates<'a> {
     }
 }
 
+/// Two links, each of which reads in another shard.
+static TWO_SHARDS: Row = Row {
+    links: &[
+        (b"do emit counter(\"x\").get();\n", &[], &[]),
+        (b"do emit counter(\"y\").get();\n", &[], &[]),
+    ],
+    accepts: &[],
+    sessions: 2,
+    outcome: (2, 0, false, 2),
+    back: &[(WHOLE, None), (WHOLE, None)],
+};
+
 /// Two sessions stand in the locks of two shards at the same time.
 #[test]
-fn two_shards(rt: HostRuntime) -> Result<(), Fail> {
-    let alloc = rt.alloc();
-    let one = b"do emit counter(\"x\").get();\n";
-    let two = b"do emit counter(\"y\").get();\n";
-    let mut listener = MemListener::new(alloc, links(alloc, &[one, two])?);
+fn two_shards(rt: HostRuntime) {
     let rooms = Rooms::new();
-    let outcome = serve_listener(&rt, alloc, Gates { rooms: &rooms }, &mut listener, 2)?;
-    assert_eq!(rt; outcome, whole(2, 0, 2));
+    assert!(rt;
+        is_served(
+            &rt,
+            rt.alloc(),
+            MemKeep,
+            Gates { rooms: &rooms },
+            &TWO_SHARDS
+        )
+    );
     assert!(rt; rooms.first.load(Ordering::SeqCst) && rooms.second.load(Ordering::SeqCst));
     assert!(rt; !rooms.missed.load(Ordering::SeqCst));
-    Ok(())
 }
 
 /// The status of a link for which no number is left has a number of its own.
@@ -319,17 +337,22 @@ impl Keep for Denying {
 }
 
 /// A commit that the disk denies is answered as such, and the session goes on.
+static DENIED: Row = Row {
+    links: &[(
+        b"do counter(\"x\").add(1);\nlook emit counter(\"x\").get();\nquit\n",
+        &[],
+        &[],
+    )],
+    accepts: &[],
+    sessions: 1,
+    outcome: (1, 0, false, 0),
+    back: &[(WHOLE, Some(b"disk\nat 0 ok 0\ndropped\n"))],
+};
+
 #[test]
-fn sessions_go_on_where_the_disk_denies_a_commit(rt: HostRuntime) -> Result<(), Fail> {
-    let alloc = rt.alloc();
-    let text = b"do counter(\"x\").add(1);\nlook emit counter(\"x\").get();\nquit\n";
-    let mut listener = MemListener::new(alloc, links(alloc, &[text])?);
+fn sessions_go_on_where_the_disk_denies_a_commit(rt: HostRuntime) {
     let keep = Denying {
         faults: Count::new(),
     };
-    let outcome = serve_kept(&rt, alloc, keep, Open, &mut listener, 1)?;
-    assert_eq!(rt; outcome, whole(1, 0, 0));
-    assert!(rt; gave_back(&listener, &[WHOLE]));
-    assert!(rt; took(&listener, 0, b"disk\nat 0 ok 0\ndropped\n"));
-    Ok(())
+    assert!(rt; is_served(&rt, rt.alloc(), keep, Open, &DENIED));
 }

@@ -9,13 +9,13 @@ use diamond_store::{Book, JoinError, Open, Pass, Served, Store, open};
 use dio_core::{End, MemLink};
 use history_lock::{Naming, Opened};
 use journal_core::MemKeep;
+use link_buffer::BufferedLink;
 use rdt_types::Settings;
 use script_runner::{READ_FAULT, TOO_MANY_LINES, WHOLE, WRITE_FAULT};
 use std::alloc::{AllocError, Global};
 use std::marker::Brand;
 use std::process::Abort;
 use std::sync::Wait;
-use std::test::Fail;
 use std::thread::{Threads, join};
 use txn_lang::CommitList;
 
@@ -24,6 +24,9 @@ type TestStore<N> = Store<MemKeep, Open, N>;
 
 /// A client's pass on it.
 type TestPass<N> = Pass<MemKeep, N>;
+
+/// Two links, each served in a thread of its own, with their statuses.
+type Both = ((MemLink, u8), (MemLink, u8));
 
 /// Serves a session of a new client.
 fn serve_new<K: End, N: Naming, R: Wait>(
@@ -42,12 +45,12 @@ fn serve_new<K: End, N: Naming, R: Wait>(
 }
 
 /// Serves a session of the first client of a store.
-fn serve_first<N: Naming, R: Wait>(
+fn serve_first<K: End, N: Naming, R: Wait>(
     rt: &R,
     alloc: Global,
     opened: Opened<Book<MemKeep>>,
     settings: &Settings,
-    link: &mut MemLink,
+    link: &mut K,
 ) -> Result<u8, AllocError>
     requires lock { opened.lock ≡ N.lock }
     requires settings { HasSettings opened.lock.origin settings.now }
@@ -59,120 +62,210 @@ fn serve_first<N: Naming, R: Wait>(
 }
 
 /// Serves a session over this link on a store of its own, and answers the status.
-fn serve_alone<R: Wait>(rt: &R, alloc: Global, link: &mut MemLink) -> Result<u8, AllocError> {
+fn serve_alone<K: End, R: Wait>(rt: &R, alloc: Global, link: &mut K) -> Result<u8, AllocError> {
     let settings = Settings::standard();
     let opened = open(alloc, &settings, MemKeep, CommitList::new(alloc))?;
-    serve_first::<Brand, _>(rt, alloc, opened, &settings, link)
+    serve_first::<_, Brand, _>(rt, alloc, opened, &settings, link)
 }
 
 const LINES: &[u8] = b"do counter(\"x\").add(2); emit counter(\"x\").get();\nseen\nquit\n";
 
 const REPLIES: &[u8] = b"commit 1 ok 2\nseen 1\ndropped\n";
 
-#[test]
-fn a_session_is_answered_until_it_quits(rt: HostRuntime) -> Result<(), Fail> {
-    let mut link = MemLink::new(rt.alloc(), LINES, 1000, &[], &[])?;
-    assert_eq!(rt; serve_alone(&rt, rt.alloc(), &mut link)?, WHOLE);
-    assert!(rt; link.sink.taken() == REPLIES);
-    assert!(rt; link.sink.passed() == REPLIES);
-    Ok(())
+/// What a link gives and in which pieces, the reads and writes that fail, the status, and what is answered.
+struct Row {
+    bytes: &'static [u8],
+    piece: usize,
+    reads: &'static [u64],
+    writes: &'static [u64],
+    status: u8,
+    replies: &'static [u8],
 }
 
-#[test]
-fn lines_may_come_in_pieces_of_one_byte(rt: HostRuntime) -> Result<(), Fail> {
-    let mut link = MemLink::new(rt.alloc(), LINES, 1, &[], &[])?;
-    assert_eq!(rt; serve_alone(&rt, rt.alloc(), &mut link)?, WHOLE);
-    assert!(rt; link.sink.taken() == REPLIES);
-    Ok(())
+static ROWS: [Row; 7] = [
+    // A session is answered until it quits, also where its lines come in pieces of one byte.
+    Row {
+        bytes: LINES,
+        piece: 1000,
+        reads: &[],
+        writes: &[],
+        status: WHOLE,
+        replies: REPLIES,
+    },
+    Row {
+        bytes: LINES,
+        piece: 1,
+        reads: &[],
+        writes: &[],
+        status: WHOLE,
+        replies: REPLIES,
+    },
+    // A link may end without a quit.
+    Row {
+        bytes: b"# a remark\n\ndo emit 7;\nseen",
+        piece: 3,
+        reads: &[],
+        writes: &[],
+        status: WHOLE,
+        replies: b"commit 1 ok 7\nseen 1\n",
+    },
+    // Nothing is read behind a quit.
+    Row {
+        bytes: b"quit\nseen\n",
+        piece: 1,
+        reads: &[],
+        writes: &[],
+        status: WHOLE,
+        replies: b"dropped\n",
+    },
+    // A read that fails in a line ends a session: the fifth byte of the second line isn't read.
+    Row {
+        bytes: b"seen\ndo emit 1;\n",
+        piece: 1,
+        reads: &[9],
+        writes: &[],
+        status: READ_FAULT,
+        replies: b"seen 0\n",
+    },
+    // A write that fails ends a session, and so does a flush. The calls of the sink are a write and a flush for each line.
+    Row {
+        bytes: b"do emit 1;\n",
+        piece: 1000,
+        reads: &[],
+        writes: &[0],
+        status: WRITE_FAULT,
+        replies: b"",
+    },
+    Row {
+        bytes: b"seen\nseen\nseen\n",
+        piece: 1000,
+        reads: &[],
+        writes: &[3],
+        status: WRITE_FAULT,
+        replies: b"seen 0\nseen 0\n",
+    },
+];
+
+/// The rows, so that the proof of a test doesn't go through them.
+fn rows() -> &'static [Row] {
+    &ROWS
 }
 
-#[test]
-fn a_link_may_end_without_a_quit(rt: HostRuntime) -> Result<(), Fail> {
-    let mut link = MemLink::new(rt.alloc(), b"# a remark\n\ndo emit 7;\nseen", 3, &[], &[])?;
-    assert_eq!(rt; serve_alone(&rt, rt.alloc(), &mut link)?, WHOLE);
-    assert!(rt; link.sink.taken() == b"commit 1 ok 7\nseen 1\n".as_slice());
-    Ok(())
-}
-
-#[test]
-fn nothing_is_read_behind_a_quit(rt: HostRuntime) -> Result<(), Fail> {
-    let mut link = MemLink::new(rt.alloc(), b"quit\nseen\n", 1, &[], &[])?;
-    assert_eq!(rt; serve_alone(&rt, rt.alloc(), &mut link)?, WHOLE);
-    assert!(rt; link.sink.taken() == b"dropped\n".as_slice());
-    Ok(())
-}
-
-#[test]
-fn a_read_that_fails_in_a_line_ends_a_session(rt: HostRuntime) -> Result<(), Fail> {
-    // The fifth byte of the second line isn't read.
-    let mut link = MemLink::new(rt.alloc(), b"seen\ndo emit 1;\n", 1, &[9], &[])?;
-    assert_eq!(rt; serve_alone(&rt, rt.alloc(), &mut link)?, READ_FAULT);
-    assert!(rt; link.sink.taken() == b"seen 0\n".as_slice());
-    Ok(())
-}
-
-#[test]
-fn a_write_that_fails_ends_a_session(rt: HostRuntime) -> Result<(), Fail> {
-    let mut link = MemLink::new(rt.alloc(), b"do emit 1;\n", 1000, &[], &[0])?;
-    assert_eq!(rt; serve_alone(&rt, rt.alloc(), &mut link)?, WRITE_FAULT);
-    assert!(rt; link.sink.taken().is_empty());
-    Ok(())
-}
-
-#[test]
-fn a_flush_that_fails_ends_a_session(rt: HostRuntime) -> Result<(), Fail> {
-    // The calls of the sink are a write and a flush for each line.
-    let mut link = MemLink::new(rt.alloc(), b"seen\nseen\nseen\n", 1000, &[], &[3])?;
-    assert_eq!(rt; serve_alone(&rt, rt.alloc(), &mut link)?, WRITE_FAULT);
-    assert!(rt; link.sink.taken() == b"seen 0\nseen 0\n".as_slice());
-    Ok(())
-}
-
-/// A line of so many bytes, and one more.
-fn long_lines(alloc: Global, length: usize) -> Result<Vec<u8>, AllocError> {
-    let mut bytes = Vec::new(alloc);
-    bytes.push(b'#')?;
-    for _ in 1..length {
-        bytes.push(b'x')?;
+/// Whether a session over the link of a row ends so. Where it ends whole, all that was answered was passed on.
+fn is_answered<R: Wait>(rt: &R, alloc: Global, row: &Row) -> bool {
+    match MemLink::new(alloc, row.bytes, row.piece.max(1), row.reads, row.writes) {
+        Ok(mut link) => {
+            serve_alone(rt, alloc, &mut link) == Ok(row.status)
+                && link.sink.taken() == row.replies
+                && (row.status != WHOLE || link.sink.passed() == row.replies)
+        }
+        Err(_) => false,
     }
-    bytes.extend_from_slice(b"\nseen\n")?;
-    Ok(bytes)
 }
 
 #[test]
-fn a_line_that_is_too_long_is_refused(rt: HostRuntime) -> Result<(), Fail> {
-    let bytes = long_lines(rt.alloc(), 4097)?;
-    let mut link = MemLink::new(rt.alloc(), bytes.as_slice(), 1000, &[], &[])?;
-    assert_eq!(rt; serve_alone(&rt, rt.alloc(), &mut link)?, WHOLE);
-    assert!(rt; link.sink.taken() == b"refused long\nseen 0\n".as_slice());
-    Ok(())
+fn sessions_are_answered_to_their_ends(rt: HostRuntime) {
+    for (number, row) in rows().iter().enumerate() {
+        assert!(rt; is_answered(&rt, rt.alloc(), row), "row {number}");
+    }
 }
 
-#[test]
-fn the_longest_line_is_none_too_long(rt: HostRuntime) -> Result<(), Fail> {
-    let bytes = long_lines(rt.alloc(), 4096)?;
-    let mut link = MemLink::new(rt.alloc(), bytes.as_slice(), 1000, &[], &[])?;
-    assert_eq!(rt; serve_alone(&rt, rt.alloc(), &mut link)?, WHOLE);
-    assert!(rt; link.sink.taken() == b"seen 0\n".as_slice());
-    Ok(())
-}
-
-/// So many empty lines, and the end.
-fn empty_lines(alloc: Global, count: usize) -> Result<Vec<u8>, AllocError> {
-    let mut bytes = Vec::new(alloc);
+/// Bytes, so many times, and others behind them.
+fn times(alloc: Global, bytes: &[u8], count: usize, behind: &[u8]) -> Result<Vec<u8>, AllocError> {
+    let mut all = Vec::new(alloc);
     for _ in 0..count {
-        bytes.push(b'\n')?;
+        all.extend_from_slice(bytes)?;
     }
-    Ok(bytes)
+    all.extend_from_slice(behind)?;
+    Ok(all)
 }
 
+/// Whether a session over a link that gives these bytes ends with a status and these replies, where the link reads ahead and
+/// where it doesn't.
+fn are_answered<R: Wait>(
+    rt: &R,
+    alloc: Global,
+    bytes: &Result<Vec<u8>, AllocError>,
+    status: u8,
+    replies: &[u8],
+) -> bool {
+    match bytes {
+        Ok(bytes) => {
+            is_answered_over(rt, alloc, bytes.as_slice(), status, replies)
+                && is_answered_ahead(rt, alloc, bytes.as_slice(), status, replies)
+        }
+        Err(_) => false,
+    }
+}
+
+fn is_answered_over<R: Wait>(
+    rt: &R,
+    alloc: Global,
+    bytes: &[u8],
+    status: u8,
+    replies: &[u8],
+) -> bool {
+    match MemLink::new(alloc, bytes, 1000, &[], &[]) {
+        Ok(mut link) => {
+            serve_alone(rt, alloc, &mut link) == Ok(status) && link.sink.taken() == replies
+        }
+        Err(_) => false,
+    }
+}
+
+fn is_answered_ahead<R: Wait>(
+    rt: &R,
+    alloc: Global,
+    bytes: &[u8],
+    status: u8,
+    replies: &[u8],
+) -> bool {
+    match MemLink::new(alloc, bytes, 1000, &[], &[]) {
+        Ok(link) => {
+            let mut ahead = BufferedLink::new(link);
+            serve_alone(rt, alloc, &mut ahead) == Ok(status)
+                && ahead.into_inner().sink.taken() == replies
+        }
+        Err(_) => false,
+    }
+}
+
+/// A line of 4,097 bytes is too long, and one of 4,096 isn't: it is a remark. A session has a million lines at most.
 #[test]
-fn a_session_has_a_million_lines_at_most(rt: HostRuntime) -> Result<(), Fail> {
-    let bytes = empty_lines(rt.alloc(), 1_000_001)?;
-    let mut link = MemLink::new(rt.alloc(), bytes.as_slice(), 4096, &[], &[])?;
-    assert_eq!(rt; serve_alone(&rt, rt.alloc(), &mut link)?, TOO_MANY_LINES);
-    assert!(rt; link.sink.taken().is_empty());
-    Ok(())
+fn lines_and_sessions_have_a_length(rt: HostRuntime) {
+    let alloc = rt.alloc();
+    let too_long = times(alloc, b"#", 4097, b"\nseen\n");
+    assert!(rt; are_answered(&rt, alloc, &too_long, WHOLE, b"refused long\nseen 0\n"));
+    let longest = times(alloc, b"#", 4096, b"\nseen\n");
+    assert!(rt; are_answered(&rt, alloc, &longest, WHOLE, b"seen 0\n"));
+    let lines = times(alloc, b"\n", 1_000_001, b"");
+    assert!(rt;
+        matches!(&lines, Ok(lines) if is_answered_over(&rt, alloc, lines, TOO_MANY_LINES, b""))
+    );
+}
+
+/// The replies to so many commits, and to a `quit`.
+fn commit_replies(alloc: Global, count: u32) -> Result<Vec<u8>, AllocError> {
+    let mut all = Vec::new(alloc);
+    for number in 0..count {
+        let reply = format!(in alloc; "commit {} ok 7\n", number + 1)?;
+        all.extend_from_slice(reply.as_bytes())?;
+    }
+    all.extend_from_slice(b"dropped\n")?;
+    Ok(all)
+}
+
+/// A client that sends a thousand lines at once gets every reply, in order, and what stands behind its `quit` gets none.
+#[test]
+fn lines_that_are_sent_at_once_are_all_answered(rt: HostRuntime) {
+    let alloc = rt.alloc();
+    let lines = times(alloc, b"do emit 7;\n", 1_000, b"quit\nseen\ndo emit 8;\n");
+    match commit_replies(alloc, 1_000) {
+        Ok(replies) => {
+            assert!(rt; are_answered(&rt, alloc, &lines, WHOLE, replies.as_slice()));
+        }
+        Err(_) => assert!(rt; false),
+    }
 }
 
 /// The status of a fault of the store has a number of its own.
@@ -204,7 +297,7 @@ fn serve_two<N: Naming + Send + Sync, R: Threads + Wait + Abort + Sync>(
     settings: &Settings,
     one: MemLink,
     two: MemLink,
-) -> Result<((MemLink, u8), (MemLink, u8)), AllocError>
+) -> Result<Both, AllocError>
     requires lock { opened.lock ≡ N.lock }
     requires settings { HasSettings opened.lock.origin settings.now }
     requires author { opened.front.author ≡ None }
@@ -223,30 +316,45 @@ fn serve_two<N: Naming + Send + Sync, R: Threads + Wait + Abort + Sync>(
     ))
 }
 
-/// Each of two sessions waits for what the other commits.
-#[test]
-fn sessions_wait_for_each_other(rt: HostRuntime) -> Result<(), Fail> {
-    let alloc = rt.alloc();
+/// Two links on a store of their own.
+fn both_served<R: Threads + Wait + Abort + Sync>(
+    rt: &R,
+    alloc: Global,
+    one: MemLink,
+    two: MemLink,
+) -> Result<Both, AllocError> {
     let settings = Settings::standard();
     let opened = open(alloc, &settings, MemKeep, CommitList::new(alloc))?;
-    let one = MemLink::new(
-        alloc,
-        b"watch w emit counter(\"x\").get();\ndo counter(\"y\").add(1);\nwait\nquit\n",
-        16,
-        &[],
-        &[],
-    )?;
-    let two = MemLink::new(
-        alloc,
-        b"wait\ndo counter(\"x\").add(1);\nquit\n",
-        16,
-        &[],
-        &[],
-    )?;
-    let (one, two) = serve_two::<Brand, _>(&rt, alloc, opened, &settings, one, two)?;
-    assert_eq!(rt; (one.1, two.1), (WHOLE, WHOLE));
+    serve_two::<Brand, _>(rt, alloc, opened, &settings, one, two)
+}
+
+/// Whether a link came to its end, and has taken this.
+fn is_whole(served: &(MemLink, u8), replies: &[u8]) -> bool {
+    served.1 == WHOLE && served.0.sink.taken() == replies
+}
+
+fn are_whole(both: &Result<Both, AllocError>, one: &[u8], two: &[u8]) -> bool {
+    match both {
+        Ok((first, second)) => is_whole(first, one) && is_whole(second, two),
+        Err(_) => false,
+    }
+}
+
+/// Each of two sessions waits for what the other commits.
+#[test]
+fn sessions_wait_for_each_other(rt: HostRuntime) {
+    let alloc = rt.alloc();
+    let watcher = b"watch w emit counter(\"x\").get();\ndo counter(\"y\").add(1);\nwait\nquit\n";
+    let waiter = b"wait\ndo counter(\"x\").add(1);\nquit\n";
     let watched = b"run w 0 ok 0\ncommit 1 ok\nrun w 2 ok 1\ncurrent 2\ndropped\n";
-    assert!(rt; one.0.sink.taken() == watched.as_slice());
-    assert!(rt; two.0.sink.taken() == b"current 1\ncommit 2 ok\ndropped\n".as_slice());
-    Ok(())
+    let waited = b"current 1\ncommit 2 ok\ndropped\n";
+    match (
+        MemLink::new(alloc, watcher, 16, &[], &[]),
+        MemLink::new(alloc, waiter, 16, &[], &[]),
+    ) {
+        (Ok(one), Ok(two)) => {
+            assert!(rt; are_whole(&both_served(&rt, alloc, one, two), watched, waited));
+        }
+        _ => assert!(rt; false),
+    }
 }

@@ -1,7 +1,8 @@
 -- Whole sessions by their programs: what holds of a line holds of line after line, with others at work between them.
-use Rattle.std.proofs.Common.{◌≡◌, ℕ, ◌≤◌, List, [], ◌∷◌, ◌++◌, map, refl, sym, ap, ◌∙◌, subst, arith}
+use Rattle.std.proofs.Common.{◌≡◌, inl, ℕ, ◌≤◌, List, [], ◌∷◌, ◌++◌, map, length, refl, sym, ap, ◌∙◌, subst, arith}
 use Rattle.std.proofs.lemmas.List.{append-nil}
 use Rattle.dio_core.specs.Told.{WhereTold}
+use Rattle.dio_core.specs.declared.line.TheConstants.{LONGEST_LINE}
 use Rattle.dio_core.proofs.Told.{WhereTold-refl, WhereTold-map, WhereTold-then}
 use Rattle.txn_grammar.specs.Characters.{Text}
 use Rattle.txn_lang.specs.Journals.{own}
@@ -14,7 +15,7 @@ use Rattle.session_core.specs.Explained.{Setting, Story, attempting_of, story_of
 use Rattle.session_core.specs.Explained.{Explains, LinePasses, MayBeTold, setting_of}
 use Rattle.session_core.specs.Holding.{Attends}
 use Rattle.session_core.specs.Lines.{line_of}
-use Rattle.session_core.specs.LineTalks.{AreDone, DoneLinesAreExplained}
+use Rattle.session_core.specs.LineTalks.{IsDone, AreDone, DoneLinesAreExplained}
 use Rattle.session_core.specs.Sessions.{denied_by_all, all_replies, ExplainsAll}
 use Rattle.session_core.proofs.Done.{has_done}
 use Rattle.session_core.proofs.Explained.{told-then, told-start, where-told, same-setting}
@@ -26,15 +27,24 @@ use Rattle.session_core.proofs.Woken.{HasOwned}
 -- ---- sessions, and the client's commits
 
 -- line by line
-done_attends : (k : Known) (s : Session) (texts : List Text) (turns : List Turn) (l : Known) (u : Session) → Attends k s
+pub done_attends : (k : Known) (s : Session) (texts : List Text) (turns : List Turn) (l : Known) (u : Session) → Attends k s
     → AreDone k s texts turns l u → Attends l u
 done_attends k s texts turns l u is AreDone.silent = is
 done_attends k s texts turns l u is
     (AreDone.done {here = here} {l = m} {t = t} {text = text} {said = x} {texts = rest} {turns = more} found_it short said talks) =
     done_attends m t rest more l u (has_done here m s t text x (finds k here s is found_it).attends short said).attends talks
 
+-- one line more, behind the others
+pub done_more : (k : Known) (s : Session) (texts : List Text) (turns : List Turn) (l : Known) (t : Session) (m : Known) (u : Session) (text : Text)
+    (said : Turn) → AreDone k s texts turns l t → length text ≤ LONGEST_LINE → IsDone l t text said m u
+    → AreDone k s (texts ++ text ∷ []) (turns ++ said ∷ []) m u
+done_more k s texts turns l t m u text said AreDone.silent short is = AreDone.done (inl refl) short is AreDone.silent
+done_more k s texts turns l t m u text said
+    (AreDone.done {l = there} {t = r} {texts = rest} {turns = more} found_it first one talks) short is =
+    AreDone.done found_it first one (done_more there r rest more l t m u text said talks short is)
+
 -- line by line, each by what it says of the client's commits
-done_owned : (k : Known) (s : Session) (texts : List Text) (turns : List Turn) (l : Known) (u : Session) → Attends k s
+pub done_owned : (k : Known) (s : Session) (texts : List Text) (turns : List Turn) (l : Known) (u : Session) → Attends k s
     → AreDone k s texts turns l u
     → WhereTold (HasOwned k.client (all_replies turns)) k.journal l.journal
 done_owned k s texts turns l u is AreDone.silent =
@@ -57,7 +67,7 @@ done_owned k s texts turns l u is
 -- ---- denials
 
 -- line by line, each by what it says of denials; others count none of the client's
-done_denied : (k : Known) (s : Session) (texts : List Text) (turns : List Turn) (l : Known) (u : Session) → Attends k s
+pub done_denied : (k : Known) (s : Session) (texts : List Text) (turns : List Turn) (l : Known) (u : Session) → Attends k s
     → AreDone k s texts turns l u
     → l.denied ≡ denied_by_all k.denied (all_replies turns)
 done_denied k s texts turns l u is AreDone.silent = refl
@@ -70,7 +80,7 @@ done_denied k s texts turns l u is
     (denied-append k.denied (replies_in x) (all_replies more)))
 
 -- what is known of denials rises no less, line by line
-done_known : (k : Known) (s : Session) (texts : List Text) (turns : List Turn) (l : Known) (u : Session) → Attends k s
+pub done_known : (k : Known) (s : Session) (texts : List Text) (turns : List Turn) (l : Known) (u : Session) → Attends k s
     → AreDone k s texts turns l u
     → denied_by_all k.denials (all_replies turns) ≤ l.denials
 done_known k s texts turns l u is AreDone.silent = omega arith
@@ -86,7 +96,7 @@ done_known k s texts turns l u is
 -- ---- explained
 
 -- line by line: each is explained by its journal, and so by the one at the end, behind which the story is one that may be told
-done_explained : (k : Known) (s : Session) (texts : List Text) (turns : List Turn) (l : Known) (u : Session) → Attends k s
+pub done_explained : (k : Known) (s : Session) (texts : List Text) (turns : List Turn) (l : Known) (u : Session) → Attends k s
     → AreDone k s texts turns l u
     → (low begun : ℕ) → MayBeTold k (story_of low begun s)
     → WhereTold (ExplainsAll (setting_of k) (story_of low begun s) texts turns) k.journal l.journal
@@ -133,10 +143,10 @@ done_explained k s texts turns l u is
 
 -- the facts of line after line
 pub done_lines_are_explained : DoneLinesAreExplained
-done_lines_are_explained k l s t texts turns is done = record {
-  attends = done_attends k s texts turns l t is done;
-  explained = done_explained k s texts turns l t is done;
-  own_commits = WhereTold-map k.journal l.journal (λ old new h. h.own_is) (done_owned k s texts turns l t is done);
-  denied = done_denied k s texts turns l t is done;
-  known_denied = done_known k s texts turns l t is done;
+done_lines_are_explained k l s t texts turns is talks = record {
+  attends = done_attends k s texts turns l t is talks;
+  explained = done_explained k s texts turns l t is talks;
+  own_commits = WhereTold-map k.journal l.journal (λ old new h. h.own_is) (done_owned k s texts turns l t is talks);
+  denied = done_denied k s texts turns l t is talks;
+  known_denied = done_known k s texts turns l t is talks;
 }

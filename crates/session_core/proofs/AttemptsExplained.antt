@@ -19,7 +19,7 @@ use Rattle.docc_prepare.specs.declared.attempt.Attempt.{Attempt}
 use Rattle.docc_prepare.specs.declared.attempt.Next.{Next}
 use Rattle.docc_prepare.specs.declared.attempt.Next.TheVariants as next
 use Rattle.docc_prepare.specs.Attempts.{SnapList, next_event, with_front, Fits}
-use Rattle.docc_prepare.specs.Calls.{Known, Call, Answer, is_fault}
+use Rattle.docc_prepare.specs.Calls.{Known, Call, Answer}
 use Rattle.docc_prepare.specs.Calls.Call.{refresh, read_at}
 use Rattle.docc_prepare.specs.Calls.Answer.{number, prepared, value, late}
 use Rattle.docc_prepare.specs.Backends.{IsPrefix, IsAnswered, SaysOfJournal}
@@ -36,17 +36,17 @@ use Rattle.session_core.specs.declared.session.Session.{Session}
 use Rattle.session_core.specs.Bounds.{IsPlain}
 use Rattle.session_core.specs.Explained.{setting_of, Hides, AreFrom}
 use Rattle.session_core.specs.Holding.{Attends, Holds, IsReady, BodyIsReady}
-use Rattle.session_core.specs.Phases.{with_attempt, closed, ended, opened, afresh, event_call, call_of, moved_by, said, stepped as step_phase, gone, after_end}
+use Rattle.session_core.specs.Events.{with_attempt, closed, ended, opened, afresh, event_call, call_of, moved_by, said}
 use Rattle.session_core.specs.LinePrograms.{line}
 use Rattle.session_core.specs.Verbs.{LineEnd, AttemptEnd, says, refreshed, refresh_then, moved_to, event, unshown, event_on, or_on, drive_in, events, drive}
 use Rattle.session_core.specs.Verbs.{attempt_once, unless_abort, or_again, then_again, last_shown, try_times, closing, stepped, valued, look_by, look_in}
 use Rattle.session_core.specs.Verbs.{look_at, look_from, look}
 use Rattle.session_core.proofs.Explained.{same-setting, asking}
-use Rattle.session_core.proofs.Explaining.{Asking, IsOver, Began, IsDriven, IsTried, LooksUpTo, LooksAt, IsOf, IsLooked, Explaining, over-is, if-told}
-use Rattle.session_core.proofs.Explaining.{look-over, step-explained, go-explained, late-over}
+use Rattle.session_core.proofs.Explaining.{Asking, IsOver, Began, IsDriven, IsTried, LooksUpTo, LooksAt, IsOf, IsLooked, over-is, if-told}
+use Rattle.session_core.proofs.Explaining.{StepPasses, EndPasses, DrivePasses, look-over, step-explained, go-explained, late-over}
 use Rattle.session_core.proofs.Grown.{prefix-whole, prefix-shorter, prefix-again, prefix-state}
 use Rattle.session_core.proofs.Kept.{fits-on, prepare-holds, holds-on, opened-holds}
-use Rattle.session_core.proofs.Phases.{MovedHolds, held, closes}
+use Rattle.session_core.proofs.Moving.{MovedHolds, held, closes}
 use Rattle.session_core.proofs.Safe.{refreshed_on}
 
 -- ---- states that are told
@@ -108,17 +108,16 @@ module _ (w : Asking) (first : Journal) (before : w.begun ≤ w.low) where
   -- what an event leaves
   abbrev MovedSo : ℕ → Known → Journal → Moved → Type 0
   MovedSo left l new (moved.More b r) = (Attends l here × Holds l b) × IsDriven w here left b
-  MovedSo left l new (moved.End b r) = (Attends l (ended here r) × Holds l (afresh b)) × Explaining w new l.seen (after_end here left b r)
+  MovedSo left l new (moved.End b r) = (Attends l (ended here r) × Holds l (afresh b)) × EndPasses w new l.seen here left b r
 
   -- one event
   event_ends : (left : ℕ) (c : Known) (old : Journal) (a : Attempt) → IsAt w first c old → Attends c here → Holds c a → IsDriven w here left a
       → AlwaysEnds c (event here a) (Ends w first (MovedSo left))
   event_ends left c old a at on holds driven = (tt, λ answer l step ok. by answer l step (moved_by a answer) refl)
     where
-      moved_so : (answer : Answer) (l : Known) (new : Journal) (m : Moved) → MovedHolds l here m
-          → Explaining w new l.seen (gone here left (is_fault answer) (Some m)) → MovedSo left l new m
-      moved_so answer l new (moved.More b r) kept x = (kept, x)
-      moved_so answer l new (moved.End b r) kept x = (kept, x)
+      moved_so : (l : Known) (new : Journal) (m : Moved) → MovedHolds l here m → DrivePasses w new l.seen here left (Some m) → MovedSo left l new m
+      moved_so l new (moved.More b r) kept x = (kept, x)
+      moved_so l new (moved.End b r) kept x = (kept, x)
 
       by : (answer : Answer) (l : Known) → IsAnswered c (call_of here a) answer l → (o : Option Moved) → moved_by a answer ≡ o
           → AlwaysEnds l (moved_to o) (Ends w first (MovedSo left))
@@ -130,8 +129,8 @@ module _ (w : Asking) (first : Journal) (before : w.begun ≤ w.low) where
             then_.0,
             (
               then_.1.0,
-              moved_so answer l then_.0 m (held c l here a on holds answer m step e)
-                  (subst (λ (o : Option Moved). Explaining w then_.0 l.seen (gone here left (is_fault answer) o)) e
+              moved_so l then_.0 m (held c l here a on holds answer m step e)
+                  (subst (DrivePasses w then_.0 l.seen here left) e
                   (go-explained w c l old then_.0 at.set at.low before at.there left a driven fits (next_event a) answer refl step says)),
             ),
           )
@@ -139,7 +138,7 @@ module _ (w : Asking) (first : Journal) (before : w.begun ≤ w.low) where
   -- the same where it isn't shown
   abbrev OnSo : ℕ → Known → Journal → Attempt → Option Reply → Type 0
   OnSo left l new b None = (Attends l here × Holds l b) × IsDriven w here left b
-  OnSo left l new b (Some r) = (Attends l (ended here r) × Holds l (afresh b)) × Explaining w new l.seen (after_end here left b r)
+  OnSo left l new b (Some r) = (Attends l (ended here r) × Holds l (afresh b)) × EndPasses w new l.seen here left b r
 
   event_on_ends : (left : ℕ) (c : Known) (old : Journal) (a : Attempt) → IsAt w first c old → Attends c here → Holds c a → IsDriven w here left a
       → AlwaysEnds c (event_on here a) (Ends w first (λ l new (end : Attempt × Option Reply). OnSo left l new end.0 end.1))
@@ -155,7 +154,7 @@ module _ (w : Asking) (first : Journal) (before : w.begun ≤ w.low) where
   -- what an end leaves
   abbrev EndSo : ℕ → Known → Journal → AttemptEnd → Type 0
   EndSo left l new end =
-      (Attends l (ended here end.1) × Holds l (afresh end.0)) × Explaining w new l.seen (after_end here left end.0 end.1)
+      (Attends l (ended here end.1) × Holds l (afresh end.0)) × EndPasses w new l.seen here left end.0 end.1
 
   -- event by event
   drive_ends : (fuel left : ℕ) (c : Known) (old : Journal) (a : Attempt) → IsAt w first c old → Attends c here → Holds c a → IsDriven w here left a
@@ -208,7 +207,7 @@ module _ (w : Asking) (first : Journal) (before : w.begun ≤ w.low) where
       by : ((l : Known) (new : Journal) (b : Attempt) → IsAt w first l new → Attends l here → Holds l b → IsTried w here b
           → AlwaysEnds l (try_times left here b) (Ends w first ReplyPasses))
           → (l : Known) (new : Journal) → IsAt w first l new → (b : Attempt) (r : Reply) → Attends l (ended here r) → Holds l (afresh b)
-          → Explaining w new l.seen (after_end here (suc left) b r)
+          → EndPasses w new l.seen here (suc left) b r
           → AlwaysEnds l (or_again (try_times left here) b (unless_abort r)) (Ends w first ReplyPasses)
       by more l new at b (reply.Abort x) on holds tried = more l new (afresh b) at on holds tried
       by more l new at b r on holds over = (new, (at, over))
@@ -222,18 +221,13 @@ module _ (w : Asking) (first : Journal) (before : w.begun ≤ w.low) where
   step_ends : (c : Known) (old : Journal) (a : Attempt) → IsAt w first c old → Attends c here → Holds c a → w.line ≡ asked.Step → w.attempt ≡ Some a
       → AlwaysEnds c (bind (event here a) (stepped here)) (Ends w first LinePassed)
   step_ends c old a at on holds el eo =
-      then_ends (Ends w first (λ l new m. Explaining w new l.seen (step_phase here false (Some m)))) (Ends w first LinePassed) (stepped here) c (event here a)
+      then_ends (Ends w first (λ l new m. StepPasses w new l.seen here (Some m))) (Ends w first LinePassed) (stepped here) c (event here a)
       (tt, λ answer l step ok. by answer l step (moved_by a answer) refl) (λ l m h. shown l h.0 m h.1.0 h.1.1)
     where
-      shown : (l : Known) (new : Journal) (m : Moved) → IsAt w first l new → Explaining w new l.seen (step_phase here false (Some m))
+      shown : (l : Known) (new : Journal) (m : Moved) → IsAt w first l new → StepPasses w new l.seen here (Some m)
           → AlwaysEnds l (stepped here m) (Ends w first LinePassed)
       shown l new (moved.More b r) at x = (new, (at, x))
       shown l new (moved.End b r) at x = (new, (at, x))
-
-      any_fault : (f : Bool) (l : Known) (new : Journal) (m : Moved) → Explaining w new l.seen (step_phase here f (Some m))
-          → Explaining w new l.seen (step_phase here false (Some m))
-      any_fault f l new (moved.More b r) x = x
-      any_fault f l new (moved.End b r) x = x
 
       fitting : (l : Known) (new : Journal) (answer : Answer) → IsAnswered c (call_of here a) answer l → l.journal ≡ Some new → (shard : ℕ) (run : Run)
           (front : ℕ) → next_event a ≡ next.Prepare shard run → answer ≡ prepared (record { shard = shard; front = front })
@@ -245,17 +239,16 @@ module _ (w : Asking) (first : Journal) (before : w.begun ≤ w.low) where
           (subst (λ (x : Answer). IsAnswered c (call_of here a) x l) is_answer step))).told
 
       by : (answer : Answer) (l : Known) → IsAnswered c (call_of here a) answer l → (o : Option Moved) → moved_by a answer ≡ o
-          → AlwaysEnds l (moved_to o) (Ends w first (λ l new m. Explaining w new l.seen (step_phase here false (Some m))))
+          → AlwaysEnds l (moved_to o) (Ends w first (λ l new m. StepPasses w new l.seen here (Some m)))
       by answer l step None e = tt
       by answer l step (Some m) e =
           let then_ = at_on w first c old at (call_of here a) answer l step in (
             then_.0,
             (
               then_.1.0,
-              any_fault (is_fault answer) l then_.0 m
-                  (subst (λ (o : Option Moved). Explaining w then_.0 l.seen (step_phase here (is_fault answer) o)) e
+              subst (StepPasses w then_.0 l.seen here) e
                   (step-explained w c l old then_.0 at.set at.low before at.there a el eo (next_event a) answer refl step then_.1.1
-                  (fitting l then_.0 answer step then_.1.0.told))),
+                  (fitting l then_.0 answer step then_.1.0.told)),
             ),
           )
 

@@ -30,7 +30,7 @@ use Rattle.session_core.proofs.Grown.{prefix-again}
 use Rattle.session_core.proofs.LinesExplained.{EndPasses, lines_are_explained, seen_up, waited_ends}
 use Rattle.session_core.proofs.LinesSafe.{lines_are_safe}
 use Rattle.session_core.proofs.LinesTell.{lines_tell}
-use Rattle.session_core.proofs.Phases.{plain-on}
+use Rattle.session_core.proofs.Moving.{plain-on}
 use Rattle.session_core.proofs.Ready.{line-ready}
 use Rattle.session_core.proofs.Said.{denied-rises}
 use Rattle.session_core.proofs.Safe.{AttendsEnd}
@@ -43,20 +43,20 @@ use Rattle.session_core.proofs.Woken.{HasOwned, waits-alone, same-thrice, owned-
 module _ (k m : Known) (s t : Session) (l : Line) (x : Turn) (is : Attends k s) (ready : BodyIsReady l)
     (led : Leads IsAnswered k (line_over k s l) m (Program.ends (t, x))) where
   -- the session attends there
-  led_attends : Attends m t
+  pub led_attends : Attends m t
   led_attends = along MayAsk ⊥ AttendsEnd led (lines_are_safe k s l is ready)
 
   -- it is the same client
-  led_client : IsSameClient k m
+  pub led_client : IsSameClient k m
   led_client = along AsksAny (Unit {0}) (λ m (end : LineEnd). IsSameClient k m) led (same_client k k (line_over k s l)
       (record { client = refl; trusted = refl; shards = refl; window = refl; limit = refl }))
 
   -- its replies tell of all that was done
-  led_said : HasSaid k m (replies_in x)
+  pub led_said : HasSaid k m (replies_in x)
   led_said = along (λ m call. HasSaid k m []) (Unit {0}) (LineSaid k) led (lines_tell k s l is)
 
   -- the answer passes
-  led_explained : (low begun : ℕ) → MayBeTold k (story_of low begun s)
+  pub led_explained : (low begun : ℕ) → MayBeTold k (story_of low begun s)
       → WhereTold (LinePasses k m (story_of low begun s) l x t) k.journal m.journal
   led_explained = along AsksAny (Unit {0}) (λ m (end : LineEnd). IsExplained k m s l (Ok end.1) end.0) led (lines_are_explained k s l is ready)
 

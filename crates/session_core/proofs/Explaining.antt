@@ -1,4 +1,4 @@
--- What explains each phase of a line, and that each of its steps keeps to that.
+-- What explains a line on its way, and that each of its calls keeps to that.
 use Rattle.std.proofs.Common.{◌≡◌, ℕ, zero, suc, ◌+◌, ◌≤◌, ◌<◌, Bool, true, false, cond, nat_le, min, List, [], ◌∷◌, ◌++◌, length, Option}
 use Rattle.std.proofs.Common.{Some, None, refl, sym, ap, ◌∙◌, subst, arith}
 use Rattle.std.specs.Prelude.{IfSome, ◌==◌, nat_lt}
@@ -32,30 +32,27 @@ use Rattle.docc_prepare.specs.declared.attempt.Next.{Next}
 use Rattle.docc_prepare.specs.declared.attempt.Next.TheVariants as next
 use Rattle.docc_prepare.specs.Attempts.{SnapList, base_in, with_base, based, in_shard, has_front, lesser, least_unprepared, next_event}
 use Rattle.docc_prepare.specs.Attempts.{with_snap, with_front, Fits}
-use Rattle.docc_prepare.specs.Calls.{Known, Call, Answer, is_fault}
-use Rattle.docc_prepare.specs.Calls.Call.{refresh, read_at}
-use Rattle.docc_prepare.specs.Calls.Answer.{number, snap, prepared, value, late, clash, full, disk}
+use Rattle.docc_prepare.specs.Calls.{Known, Call, Answer}
+use Rattle.docc_prepare.specs.Calls.Answer.{number, snap, prepared, late, clash, full, disk}
 use Rattle.docc_prepare.specs.Backends.{IsPrefix, IsAnswered, SaysOfJournal}
 use Rattle.docc_prepare.proofs.Each.{each-more}
 use Rattle.docc_prepare.proofs.EachRead.{each-inserted, found}
 use Rattle.docc_prepare.proofs.Nexts.{prepares}
 use Rattle.session_core.specs.declared.line.Line.{Line}
 use Rattle.session_core.specs.declared.line.Line.TheVariants as asked
+use Rattle.session_core.specs.declared.moved.Moved.{Moved}
 use Rattle.session_core.specs.declared.moved.Moved.TheVariants as moved
 use Rattle.session_core.specs.declared.session.Session.{Session}
 use Rattle.session_core.specs.declared.turn.Turn.{Turn}
-use Rattle.session_core.specs.Phases.{Phase, with_attempt, closed, ended, opened, afresh, event_call, call_of, moved_at, said, stepped}
-use Rattle.session_core.specs.Phases.{after_end, gone, look_by, look_on, look_from, asks, after}
-use Rattle.session_core.specs.Explained.{Setting, Story, attempting_of, story_of, based_all, commit_by, EndPasses, IsAborted, Hides}
+use Rattle.session_core.specs.Events.{with_attempt, closed, ended, opened, afresh, event_call, moved_at, said}
+use Rattle.session_core.specs.Explained.{Setting, Story, attempting_of, story_of, based_all, commit_by, EndPasses as EndIsRight, IsAborted, Hides}
 use Rattle.session_core.specs.Explained.{IsOutcomeAt, PlainPasses, low_by, low_after}
 use Rattle.session_core.specs.Explained.{setting_of, AreFrom}
 use Rattle.session_core.proofs.After.{session_after}
 use Rattle.session_core.proofs.Same.{attempt_same}
-use Rattle.session_core.proofs.Kept.{fits-on, prepare-holds}
-use Rattle.session_core.proofs.Phases.{PhaseHolds}
-use Rattle.session_core.proofs.Grown.{prefix-shorter, prefix-state, prefix-of, none-in-front}
+use Rattle.session_core.proofs.Grown.{prefix-shorter, prefix-of, none-in-front}
 
--- ---- what explains a phase
+-- ---- what explains a line on its way
 
 -- a line, and what stood before it
 pub record Asking : Type 0 where
@@ -101,20 +98,6 @@ pub record IsTried (w : Asking) (t : Session) (a : Attempt) : Type 0 where
   pub none : w.attempt ≡ None
   pub first : a ≡ opened w.set.shards body
 
--- the open attempt at a `step`
-pub record IsStepped (w : Asking) (t : Session) (a : Attempt) : Type 0 where
-  pub session : t ≡ closed w.session
-  pub line : w.line ≡ asked.Step
-  pub some : w.attempt ≡ Some a
-
--- the attempt of a `begin`
-pub record IsBegun (w : Asking) (t : Session) (a : Attempt) : Type 0 where
-  pub session : t ≡ closed w.session
-  pub body : Checked
-  pub line : w.line ≡ asked.Begin body
-  pub none : w.attempt ≡ None
-  pub first : a ≡ opened w.set.shards body
-
 -- at which number a look is to run, and at which it runs
 abbrev pub LooksUpTo : Asking → Option ℕ → Checked → Type 0
 LooksUpTo w None body = w.line ≡ asked.Look body
@@ -137,18 +120,22 @@ pub record IsLooked (w : Asking) (journal : Journal) (seen : ℕ) (t : Session) 
   pub within : n ≤ seen
   pub values : AllByRecursion (IsOf journal n) snaps
 
--- WHAT EACH PHASE OF A LINE KEEPS TO, so that the answer at its end passes.
-abbrev pub Explaining : Asking → Journal → ℕ → Phase → Type 0
-Explaining w journal seen (Phase.beginning t a) = IsBegun w t a
-Explaining w journal seen (Phase.stepping t a) = IsStepped w t a
-Explaining w journal seen (Phase.trying t left a) = IsTried w t a
-Explaining w journal seen (Phase.going t left a) = IsDriven w t left a
-Explaining w journal seen (Phase.looking t upto body) = (t ≡ with_attempt w.session w.attempt) × LooksUpTo w upto body
-Explaining w journal seen (Phase.looked t n body snaps address) = IsLooked w journal seen t n body snaps
-Explaining w journal seen (Phase.awaiting t seen_before) = ⊥
-Explaining w journal seen (Phase.watching t p) = ⊥
-Explaining w journal seen (Phase.over t turn) = IsOver w journal seen t turn
-Explaining w journal seen (Phase.broken by_fault) = Unit {0}
+-- an event that `step` has shown, or none was made
+abbrev pub StepPasses : Asking → Journal → ℕ → Session → Option Moved → Type 0
+StepPasses w journal seen t None = Unit {0}
+StepPasses w journal seen t (Some (moved.More a r)) = IsOver w journal seen (with_attempt t (Some a)) (said r)
+StepPasses w journal seen t (Some (moved.End a r)) = IsOver w journal seen (ended t r) (said r)
+
+-- an end, behind which so many attempts may follow: behind an abort one does, and any other is shown
+abbrev pub EndPasses : Asking → Journal → ℕ → Session → ℕ → Attempt → Reply → Type 0
+EndPasses w journal seen t (suc left) a (reply.Abort x) = IsTried w t (afresh a)
+EndPasses w journal seen t left a r = IsOver w journal seen (ended t r) (said r)
+
+-- an event of an attempt that is driven: it goes on, or has ended
+abbrev pub DrivePasses : Asking → Journal → ℕ → Session → ℕ → Option Moved → Type 0
+DrivePasses w journal seen t left None = Unit {0}
+DrivePasses w journal seen t left (Some (moved.More a r)) = IsDriven w t left a
+DrivePasses w journal seen t left (Some (moved.End a r)) = EndPasses w journal seen t left a r
 
 -- a line that is over, with its form and whether an attempt was open
 pub over-is : (w : Asking) (o : Option Attempt) (l : Line) (journal : Journal) (seen : ℕ) (t : Session) (turn : Turn) → w.attempt ≡ o → w.line ≡ l
@@ -274,31 +261,6 @@ module _ (w : Asking) (journal : Journal) (seen : ℕ) (below : w.low ≤ seen) 
         shown = below;
       })
 
-  -- by what its run comes to
-  look-explained : (t : Session) (n : ℕ) (body : Checked) (snaps : SnapList) (r : Ran) → IsLooked w journal seen t n body snaps
-      → exec body.body (values_of snaps) ≡ r
-      → Explaining w journal seen (look_by t n body snaps r)
-  look-explained t n body snaps (need address) h e = h
-  look-explained t n body snaps (done run) h e = look-over t n body snaps run h e
-
-  -- on all that is seen, or on the prefix that is named, where that isn't longer
-  from-explained : (t : Session) (n : ℕ) (upto : Option ℕ) (body : Checked) → t ≡ with_attempt w.session w.attempt → LooksUpTo w upto body → n ≡ seen
-      → n ≡ length journal
-      → Explaining w journal seen (look_from t n upto body)
-  from-explained t n None body et el is all = look-explained t n body [] (exec body.body (values_of []))
-      (record { session = et; at = LooksAt.at_seen el (omega arith); there = omega arith; within = omega arith; values = tt }) refl
-  from-explained t n (Some m) body et el is all = by (nat_lt n m) refl
-    where
-      by : (x : Bool) → nat_lt n m ≡ x → Explaining w journal seen (cond x (Phase.over t (said (reply.Ahead m n))) (look_on t m body []))
-      by true e = let ahead : n < m = grind (arith, nat_tests) in over-is w w.attempt (asked.At m body) journal seen t (said (reply.Ahead m n))
-          refl el (record {
-            passes = (refl, ahead, record { not_back = (let b = below in omega arith); within = omega arith });
-            session = et;
-            shown = omega arith;
-          })
-      by false e = let within : m ≤ n = grind (arith, nat_tests) in look-explained t m body [] (exec body.body (values_of []))
-          (record { session = et; at = LooksAt.at_named el; there = omega arith; within = omega arith; values = tt }) refl
-
 -- ---- one step, from a told journal to another
 
 module _ (w : Asking) (k l : Known) (old new : Journal) (is : setting_of k ≡ w.set) (below : w.low ≤ k.seen) (before : w.begun ≤ w.low)
@@ -317,7 +279,7 @@ module _ (w : Asking) (k l : Known) (old new : Journal) (is : setting_of k ≡ w
 
   -- an end passes, and shows no number above what is seen then
   abbrev Ends : Option Attempt → Attempt → Reply → Type 0
-  Ends o a r = EndPasses w.set new w.low (attempting_of (with_attempt w.session o)) a r × (low_by w.low r ≤ l.seen)
+  Ends o a r = EndIsRight w.set new w.low (attempting_of (with_attempt w.session o)) a r × (low_by w.low r ≤ l.seen)
 
   -- each end by its row of the clause of every call
   end-passes : (o : Option Attempt) (a : Attempt) (e : Next) (answer : Answer) (r : Reply) → next_event a ≡ e
@@ -385,7 +347,7 @@ module _ (w : Asking) (k l : Known) (old new : Journal) (is : setting_of k ≡ w
         → SaysOfJournal k l (event_call here a e) answer old new
         → ((shard : ℕ) (run : Run) (front : ℕ) → e ≡ next.Prepare shard run → answer ≡ prepared (record { shard = shard; front = front })
         → Fits new (with_front a shard front))
-        → Explaining w new l.seen (stepped here (is_fault answer) (moved_at a e answer))
+        → StepPasses w new l.seen here (moved_at a e answer)
     step-explained (next.Read address) (snap s) e event says fits = shown (with_attempt here (Some (with_snap a address s)))
         (reply.Read address s.base) (record {
           passes = (
@@ -456,17 +418,17 @@ module _ (w : Asking) (k l : Known) (old new : Journal) (is : setting_of k ≡ w
     again m e (Began.at_try tries body el eo es ef) =
         record { session = refl; tries = tries; body = body; line = el; none = eo; first = anew-is a w.set.shards body h.since h.first ef h.hides }
 
-    end-explained : (r : Reply) → ((o : Option Attempt) → Ends o a r) → Explaining w new l.seen (after_end here left a r)
+    end-explained : (r : Reply) → ((o : Option Attempt) → Ends o a r) → EndPasses w new l.seen here left a r
     end-explained r p = by left refl r (end-over r p)
       where
-        by : (m : ℕ) → left ≡ m → (r : Reply) → IsOver w new l.seen (ended here r) (said r) → Explaining w new l.seen (after_end here m a r)
+        by : (m : ℕ) → left ≡ m → (r : Reply) → IsOver w new l.seen (ended here r) (said r) → EndPasses w new l.seen here m a r
         by (suc m) e (reply.Abort x) over = again m e h.began
         by zero e r over = over
         by (suc m) e r over = over
 
     pub go-explained : (e : Next) (answer : Answer) → next_event a ≡ e → IsAnswered k (event_call here a e) answer l
         → SaysOfJournal k l (event_call here a e) answer old new
-        → Explaining w new l.seen (gone here left (is_fault answer) (moved_at a e answer))
+        → DrivePasses w new l.seen here left (moved_at a e answer)
     go-explained (next.Read address) (snap s) e event says =
         let up : h.since ≤ s.base = (let b = h.below in let rises = event.goes_on.seen in let at = event.shows.0 in omega arith) in record {
           session = refl;
@@ -525,86 +487,3 @@ module _ (w : Asking) (k l : Known) (old new : Journal) (is : setting_of k ≡ w
         session = h.session;
         shown = omega arith;
       })
-
-  -- each step
-  pub explained-on : (q : Phase) (call : Call) (answer : Answer) → PhaseHolds k q → Explaining w old k.seen q → asks q ≡ Some call
-      → IsAnswered k call answer l → SaysOfJournal k l call answer old new
-      → k.journal ≡ Some old → l.journal ≡ Some new → Explaining w new l.seen (after q answer)
-  explained-on (Phase.stepping t a) call answer holds x asks_it event says from to =
-      let e : call_of t a ≡ call = cc in
-      let at : t ≡ here = x.session in
-      let ec : call_of here a ≡ call = ap (λ (s : Session). call_of s a) (sym at) ∙ e in
-      subst (λ (s : Session). Explaining w new l.seen (after (Phase.stepping s a) answer)) (sym at)
-      (step-explained a x.line x.some (next_event a) answer refl (subst (λ (c : Call). IsAnswered k c answer l) (sym ec) event)
-      (subst (λ (c : Call). SaysOfJournal k l c answer old new) (sym ec) says)
-      (λ shard run front is_next is_answer. fitting shard run front is_next
-      (subst (λ (c : Call). IsAnswered k c (prepared (record { shard = shard; front = front })) l) (sym ec)
-      (subst (λ (x : Answer). IsAnswered k call x l) is_answer event))))
-    where
-      fitting : (shard : ℕ) (run : Run) (front : ℕ) → next_event a ≡ next.Prepare shard run
-          → IsAnswered k (event_call here a (next_event a)) (prepared (record { shard = shard; front = front })) l
-          → Fits new (with_front a shard front)
-      fitting shard run front e event = if-told (λ journal. Fits journal (with_front a shard front)) l.journal new to
-          (prepare-holds k l a holds.1 shard run (record { shard = shard; front = front }) e
-          (subst (λ (n : Next). IsAnswered k (event_call here a n) (prepared (record { shard = shard; front = front })) l) e event)).told
-  explained-on (Phase.going t left a) call answer holds x asks_it event says from to =
-      let e : call_of t a ≡ call = cc in
-      let at : t ≡ here = x.session in
-      let ec : call_of here a ≡ call = ap (λ (s : Session). call_of s a) (sym at) ∙ e in
-      let driven : IsDriven w here left a = subst (λ (s : Session). IsDriven w s left a) at x in
-      let fits = fits-on old new a says.grows (if-told (λ journal. Fits journal a) k.journal old from holds.1.told) in
-      subst (λ (s : Session). Explaining w new l.seen (after (Phase.going s left a) answer)) (sym at)
-      (go-explained left a driven fits (next_event a) answer refl (subst (λ (c : Call). IsAnswered k c answer l) (sym ec) event)
-      (subst (λ (c : Call). SaysOfJournal k l c answer old new) (sym ec) says))
-  explained-on (Phase.beginning t a) call (number n) holds x asks_it event says from to =
-      let e : refresh ≡ call = cc in
-      let ev = subst (λ (c : Call). IsAnswered k c (number n) l) (sym e) event in
-      let at = ev.shows in let up = ev.goes_on.seen in let there = says.within in
-      over-is w None (asked.Begin x.body) new l.seen (with_attempt t (Some a)) (said (reply.Seen n)) x.none x.line (record {
-        passes = record { not_back = omega arith; within = omega arith };
-        session = ap (λ (s : Session). with_attempt s (Some a)) x.session ∙ ap (λ (b : Attempt). with_attempt here (Some b)) x.first;
-        shown = omega arith;
-      })
-  explained-on (Phase.beginning t a) call answer holds x asks_it event says from to = tt
-  explained-on (Phase.trying t left a) call (number n) holds x asks_it event says from to = record {
-    session = x.session;
-    first = a;
-    since = w.low;
-    began = Began.at_try x.tries x.body x.line x.none refl x.first;
-    hides = Hides.nothing;
-    below = omega arith;
-    bases = subst (AreFrom w.low) (sym x.first) tt;
-  }
-  explained-on (Phase.trying t left a) call answer holds x asks_it event says from to = tt
-  explained-on (Phase.looking t upto body) call (number n) holds x asks_it event says from to =
-      let e : refresh ≡ call = cc in
-      let ev = subst (λ (c : Call). IsAnswered k c (number n) l) (sym e) event in
-      let row : l.seen ≡ length new = (subst (λ (c : Call). SaysOfJournal k l c (number n) old new) (sym e) says).row in
-      let at = ev.shows in let up = ev.goes_on.seen in
-      from-explained w new l.seen (omega arith) t n upto body x.0 x.1 at (at ∙ row)
-  explained-on (Phase.looking t upto body) call answer holds x asks_it event says from to = tt
-  explained-on (Phase.looked t n body snaps address) call (value v) holds x asks_it event says from to =
-      let e : read_at address n ≡ call = cc in
-      let ev = subst (λ (c : Call). IsAnswered k c (value v) l) (sym e) event in
-      let me = subst (λ (c : Call). SaysOfJournal k l c (value v) old new) (sym e) says in
-      let more = insert_entry address_cmp snaps address (record { base = n; value = v }) in
-      let up = ev.goes_on.seen in let longer = prefix-shorter old new me.grows in let there = x.there in let within = x.within in
-      look-explained w new l.seen (omega arith) t n body more (exec body.body (values_of more)) (record {
-        session = x.session;
-        at = x.at;
-        there = omega arith;
-        within = omega arith;
-        values = each-inserted (IsOf new n) snaps address (record { base = n; value = v }) me.row
-            (each-more (IsOf old n) (IsOf new n) snaps (λ read h. h ∙ sym (prefix-state old new n read.0 me.grows x.there)) x.values);
-      }) refl
-  explained-on (Phase.looked t n body snaps address) call (late m horizon) holds x asks_it event says from to =
-      let e : read_at address n ≡ call = cc in
-      let ev = subst (λ (c : Call). IsAnswered k c (late m horizon) l) (sym e) event in
-      let me = subst (λ (c : Call). SaysOfJournal k l c (late m horizon) old new) (sym e) says in
-      late-over t n body snaps m horizon x ev.shows.1 (let b = me.row.below in let same = ev.shows.1 in omega arith)
-      me.row.behind me.grows ev.goes_on.seen
-  explained-on (Phase.looked t n body snaps address) call answer holds x asks_it event says from to = tt
-  explained-on (Phase.awaiting t seen_before) call answer holds x asks_it event says from to = absurd x
-  explained-on (Phase.watching t p) call answer holds x asks_it event says from to = absurd x
-  explained-on (Phase.over t turn) call answer holds x asks_it event says from to = absurd (cc)
-  explained-on (Phase.broken f) call answer holds x asks_it event says from to = tt

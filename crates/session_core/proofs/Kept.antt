@@ -31,7 +31,7 @@ use Rattle.docc_prepare.specs.Backends.{IsPrefix, IsGiven, CanValidate, CanPrepa
 use Rattle.docc_prepare.proofs.Each.{each-more, each-push}
 use Rattle.docc_prepare.proofs.Growing.{fits_stays}
 use Rattle.session_core.specs.declared.session.Session.{Session}
-use Rattle.session_core.specs.Phases.{with_attempt, closed, with_watching, within_shards, opened, afresh}
+use Rattle.session_core.specs.Events.{with_attempt, closed, with_watching, within_shards, opened, afresh}
 use Rattle.client_watches.specs.Watching.{none_yet}
 use Rattle.client_watches.specs.declared.watching.Watching.{Watching}
 use Rattle.session_core.specs.Holding.{IsRead, FrontsGiven, Holds, IsReady, Counts, WatchesAttend, Attends}

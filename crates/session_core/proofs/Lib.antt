@@ -8,14 +8,10 @@ pub mod Whole
 pub mod Grown
 pub mod Minding
 pub mod Kept
-pub mod Phases
-pub mod Steps
-pub mod Watched
-pub mod Starts
+pub mod Moving
+pub mod Stopping
 pub mod Performing
 pub mod LinePerforming
-pub mod Ends
-pub mod Faults
 pub mod Tries
 pub mod Bounds
 pub mod Ready
@@ -30,8 +26,6 @@ pub mod Stories
 pub mod Woken
 pub mod Talked
 pub mod GoingOn
-pub mod Unbroken
-pub mod Went
 pub mod Within
 pub mod AskingFew
 pub mod Safe
@@ -44,3 +38,6 @@ pub mod AttemptsExplained
 pub mod LinesExplained
 pub mod Done
 pub mod AllDone
+pub mod Quiet
+pub mod Accounting
+pub mod Quitting

@@ -1,12 +1,10 @@
 -- What functions that do whole lines perform: lines of watches, and each line by its form.
-use Rattle.std.proofs.Common.{◌≡◌, ℕ, ◌<◌, ◌≤◌, true, false, cond, List, Result, Ok, Err, refl, sym, ap, subst, arith}
+use Rattle.std.proofs.Common.{◌≡◌, ◌↔◌, ℕ, ◌<◌, ◌≤◌, true, false, cond, List, Result, Ok, Err, refl, sym, ap, subst, arith}
 use Rattle.std.specs.Prelude.{nat_lt}
 use Rattle.std.proofs.lemmas.Bool.Decides.{nat_tests}
 use Rattle.session_text.specs.declared.reply.Reply.{Reply}
-use Rattle.dio_core.specs.Counts.{Rose}
 use Rattle.docc_prepare.specs.Calls.{Known, Call, Answer}
 use Rattle.call_programs.specs.Programs.{Program, Leads, Stops, Performs}
-use Rattle.call_programs.proofs.Counted.{counts_over}
 use Rattle.call_programs.proofs.Programs.{bound, stops_in}
 use Rattle.client_watches.specs.declared.error.WatchError.{WatchError}
 use Rattle.client_watches.specs.declared.error.WatchError.TheVariants as watch
@@ -18,22 +16,22 @@ use Rattle.session_core.specs.declared.session.Session.{Session}
 use Rattle.session_core.specs.declared.turn.Turn.{Turn}
 use Rattle.session_core.specs.declared.turn.Turn.TheVariants as turn
 use Rattle.session_core.specs.Errors.{of_watch_error}
-use Rattle.session_core.specs.Phases.{with_watching, said}
-use Rattle.session_core.specs.Leading.{watch_turn, turn_of}
-use Rattle.session_core.specs.Verbs.{LineEnd, Plays}
+use Rattle.session_core.specs.Events.{with_watching}
+use Rattle.session_core.specs.code.Turning.{watch_turn}
+use Rattle.session_core.specs.Verbs.{Plays}
 use Rattle.session_core.specs.LinePrograms.{leaves, of_watches, sync, wait_for}
 
 -- ---- errors
 
--- what stops by one error stops by another that is a fault no more often
-stops_as : {S A : Type 0} {goes : S → Call → Answer → S → Type 0} {s t : S} {p : Program A} {X Y : Type 0} → (Y → X) → Stops goes s p X t → Stops goes s p Y t
-stops_as f (Stops.wants led want) = Stops.wants led (λ y. want (f y))
-stops_as f (Stops.fails by_fault led step cause) = Stops.fails by_fault led step (λ y. cause (f y))
+-- what stops by one error stops by another that is a fault where that is one
+stops_as : {S A : Type 0} {goes : S → Call → Answer → S → Type 0} {s t : S} {p : Program A} {X Y : Type 0} → Y ↔ X → Stops goes s p X t → Stops goes s p Y t
+stops_as f (Stops.wants led want) = Stops.wants led (λ y. want (f.0 y))
+stops_as f (Stops.fails by_fault led step cause) = Stops.fails by_fault led step (λ y. cause.0 (f.0 y), λ is. f.1 (cause.1 is))
 
--- a fault that watches tell is one
-fault_of : (e : WatchError) → of_watch_error e ≡ error.StoreFault → e ≡ watch.StoreFault
-fault_of watch.StoreFault h = refl
-fault_of watch.NoMemory h = absurd (cc)
+-- an error of watches is told as a fault exactly where it is one
+fault_of : (e : WatchError) → (of_watch_error e ≡ error.StoreFault) ↔ (e ≡ watch.StoreFault)
+fault_of watch.StoreFault = (λ h. refl, λ is. refl)
+fault_of watch.NoMemory = (λ h. absurd (cc), λ is. absurd (cc))
 
 -- behind an error it doesn't matter what is made of a result
 pub performs_err : {S A T E : Type 0} {e : E} (goes : S → Call → Answer → S → Type 0) (fault : E) (s t : S) (p : Program A) (give other : T → A)
@@ -52,16 +50,6 @@ module _ {B : Type 0} (known : B → Known) (goes : B → Call → Answer → B 
       by (Ok replies) led = bound (leaves s) led Leads.stays
       by (Err e) stop = stops_in (leaves s) (stops_as (fault_of e) stop)
 
-  -- one reply is a turn
-  pub said_plays : (p : Program LineEnd) (r : Result Reply SessionError) (x : Result Turn SessionError) (s : Session) → x ≡ turn_of r
-      → Plays known goes b p r (λ reply. (s, said reply)) c → Plays known goes b p x (λ turn. (s, turn)) c
-  said_plays p r x s is plays = subst (λ y. Plays known goes b p y (λ turn. (s, turn)) c) (sym is) (by r plays)
-    where
-      by : (r : Result Reply SessionError) → Plays known goes b p r (λ reply. (s, said reply)) c
-          → Plays known goes b p (turn_of r) (λ turn. (s, turn)) c
-      by (Ok reply) led = led
-      by (Err e) stop = stop
-
 -- ---- `wait`
 
 -- there is a commit past those that were seen
@@ -72,12 +60,3 @@ waited_for s seen n more = let test : nat_lt seen n ≡ true = grind (arith, nat
 pub none_to_wait_for : (s : Session) (seen n : ℕ) → n ≤ seen → wait_for s seen n ≡ Program.ends (s, turn.WaitWanted)
 none_to_wait_for s seen n few =
     let test : nat_lt seen n ≡ false = grind (arith, nat_tests) in ap (λ b. cond b (sync s) (Program.ends (s, turn.WaitWanted))) test
-
--- ---- faults
-
--- where a fault of the store is told, it was counted
-pub fault_counted : {B A T : Type 0} (known : B → Known) (goes : B → Call → Answer → B → Type 0) (b c : B) (p : Program A) (give : T → A)
-    (r : Result T SessionError) → r ≡ Err error.StoreFault → Plays known goes b p r give c → Rose (known b).faults (known c).faults
-fault_counted known goes b c p give (Ok x) is plays = absurd (cc)
-fault_counted known goes b c p give (Err e) is plays =
-    counts_over known goes b c error.StoreFault p (Err e) give plays (let same : e ≡ error.StoreFault = cc in same)

@@ -21,7 +21,7 @@ use Rattle.client_watches.specs.GoingOn.{WatchLine}
 use Rattle.client_watches.specs.Laws.{Passes as WatchesPass, Forgets}
 use Rattle.client_watches.specs.LineLaws.{program_of}
 use Rattle.client_watches.specs.Lines.{Told}
-use Rattle.client_watches.specs.Phases.{Goal}
+use Rattle.client_watches.specs.Goals.{Goal}
 use Rattle.client_watches.specs.Saying.{IsOfWatches}
 use Rattle.client_watches.proofs.Explaining.{sync_is_explained}
 use Rattle.client_watches.proofs.Forgotten.{unwatch_is_explained}
@@ -39,7 +39,7 @@ use Rattle.session_core.specs.Explained.{Story, attempting_of, story_of, low_by,
 use Rattle.session_core.specs.Holding.{Attends, Counts, BodyIsReady}
 use Rattle.session_core.specs.LineLaws.{LinesAreExplained}
 use Rattle.session_core.specs.LinePrograms.{leaves, of_watches, sync, wait_for, line_over}
-use Rattle.session_core.specs.Phases.{with_watching}
+use Rattle.session_core.specs.Events.{with_watching}
 use Rattle.session_core.specs.Verbs.{LineEnd}
 use Rattle.session_core.proofs.AttemptsExplained.{Passed, plain_ends, refresh_ends, told_next}
 use Rattle.session_core.proofs.Explained.{plain-passes}

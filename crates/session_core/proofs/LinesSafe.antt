@@ -15,7 +15,7 @@ use Rattle.session_core.specs.Holding.{BodyIsReady, WatchesAttend, Attends}
 use Rattle.session_core.specs.LineLaws.{LinesAreSafe}
 use Rattle.session_core.specs.LinePrograms.{leaves, of_watches, sync, wait_for}
 use Rattle.session_core.proofs.Kept.{unwatched, unwatched-attends, watched-attends}
-use Rattle.session_core.proofs.Phases.{closes}
+use Rattle.session_core.proofs.Moving.{closes}
 use Rattle.session_core.proofs.Safe.{AttendsEnd, refresh_safe, refreshed_on, begin_safe, commit_safe, step_safe, go_safe, give_up_safe, looks_safe}
 use Rattle.session_core.proofs.WatchesBehind.{watches_attend}
 use Rattle.session_core.proofs.WatchCalls.{lines_ask_watch_calls, attends_behind}

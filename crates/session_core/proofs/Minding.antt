@@ -1,31 +1,23 @@
--- What a session's watches rest on: it stays over calls that neither subscribe nor take, behind a line of watches, and over what
--- others do.
+-- What a session's watches rest on: it stays over calls that neither subscribe nor take, and over what others do.
 use Rattle.std.proofs.Common.{◌≡◌, ℕ, ◌≤◌, List, length, Option, Some, None, refl, sym, ◌∙◌, subst, arith}
 use Rattle.std.specs.Prelude.{IfSome}
 use Rattle.std.specs.List.Sorted.{IsStrictlySortedBy}
 use Rattle.dio_core.specs.Told.{WhereTold}
 use Rattle.dio_core.proofs.Told.{IfSome-WhereTold}
 use Rattle.rdt_types.specs.declared.address.Address.{Address}
-use Rattle.session_text.specs.declared.reply.Reply.{Reply}
 use Rattle.txn_lang.specs.Journals.{IsLegal}
 use Rattle.txn_lang.specs.States.{Journal}
 use Rattle.docc_prepare.specs.Calls.{Known, Call, Answer}
-use Rattle.docc_prepare.specs.Backends.{IsPrefix, IsAnswered, IsSameClient, SaysOfJournal, HasGrown, IsLater}
+use Rattle.docc_prepare.specs.Backends.{IsPrefix, IsAnswered, SaysOfJournal, HasGrown, IsLater}
 use Rattle.docc_prepare.specs.Stores.{HasFollowed}
 use Rattle.client_watches.specs.declared.watching.Watching.{Watching}
 use Rattle.client_watches.specs.Watching.{none_yet}
 use Rattle.client_watches.specs.Keeping.{Keeps}
 use Rattle.client_watches.specs.Standing.{CanRead, CanReadOn}
 use Rattle.client_watches.specs.Explained.{shown_of}
-use Rattle.client_watches.specs.Phases.{Phase as WatchPhase, Goal}
-use Rattle.client_watches.specs.Leading.{Leads}
-use Rattle.client_watches.specs.Laws.{Attends, MayBeShown, GoesOn}
-use Rattle.client_watches.specs.GoingOn.{WatchLine, start_of, IsOnItsWay}
+use Rattle.client_watches.specs.Laws.{Attends, MayBeShown}
 use Rattle.client_watches.proofs.Answering.{subscribes-on}
 use Rattle.client_watches.proofs.Kept.{keeps-on}
-use Rattle.client_watches.proofs.Forgetting.{unwatches_are_explained}
-use Rattle.client_watches.proofs.Lined.{lines_are_explained}
-use Rattle.client_watches.proofs.Ready.{lines_go_on}
 use Rattle.client_watches.proofs.Stays.{stands-stay}
 use Rattle.client_watches.proofs.Telling.{all-up-to, up-to-more}
 use Rattle.session_core.specs.Holding.{Minds, WatchesAttend}
@@ -96,19 +88,7 @@ none-on k l at c answer event seen is = record {
       (can-read-on k.trusted l.trusted old new event.client.trusted says.grows minds.can_on)) is.told event.told;
 }
 
--- ---- behind a line of watches
-
--- it is one client of one store
-pub same-watched : (k : Known) (p : WatchPhase) (n : ℕ) (l : Known) (q : WatchPhase) → Leads IsAnswered k p n l q → IsSameClient k l
-same-watched k p n l q Leads.stays = record { client = refl; trusted = refl; shards = refl; window = refl; limit = refl }
-same-watched k p i l r (Leads.by_step {n = n} {c = c} {q = q} call answer led asked step is) =
-    let so_far = same-watched k p n c q led in let more = step.client in record {
-      client = more.client ∙ so_far.client;
-      trusted = more.trusted ∙ so_far.trusted;
-      shards = more.shards ∙ so_far.shards;
-      window = more.window ∙ so_far.window;
-      limit = more.limit ∙ so_far.limit;
-    }
+-- ---- behind a call
 
 -- what isn't told isn't told later
 pub untold-on : (k l : Known) (c : Call) (answer : Answer) → IsAnswered k c answer l → k.journal ≡ None → l.journal ≡ None
@@ -118,12 +98,6 @@ untold-on k l c answer event none = by k.journal l.journal none event.told
     by None None e told = refl
     by None (Some journal) e told = absurd told
     by (Some journal) y e told = absurd (cc)
-
--- nor by many calls, one after another
-pub untold-watched : (k : Known) (p : WatchPhase) (n : ℕ) (l : Known) (q : WatchPhase) → Leads IsAnswered k p n l q → k.journal ≡ None → l.journal ≡ None
-untold-watched k p n l q Leads.stays none = none
-untold-watched k p i l r (Leads.by_step {n = n} {c = c} {q = q} call answer led asked step is) none =
-    untold-on c l call answer step (untold-watched k p n c q led none)
 
 -- of a journal that is told, what client_watches asks
 pub told-attends : (k : Known) (w : Watching) (journal : Journal) → k.journal ≡ Some journal → Keeps k w → Minds k w journal → Attends k w journal
@@ -136,37 +110,6 @@ reported-seen k w journal keeps minds = record {
   seen = omega arith;
   reported = up-to-more w.cache.at k.seen (shown_of w.watches) keeps.seen (all-up-to journal w.cache w.watches minds.stands.watches);
 }
-
--- the journal has grown, for which the watches stand behind the line
-goes-on-watched : (k l : Known) (w v : Watching) (line : WatchLine) (said : List Reply) (old : Journal) (calls : ℕ) → Attends k w old
-    → CanReadOn k.trusted old → MayBeShown k w k.seen → Leads IsAnswered k (start_of line w) calls l (WatchPhase.over v said)
-    → (new : Journal) × GoesOn k l v old new
-goes-on-watched k l w v WatchLine.sync said old calls is on may leads =
-    let there = lines_are_explained k l w v k.seen calls Goal.current said old is on may leads in (there.new, there.goes_on)
-goes-on-watched k l w v (WatchLine.watch name body) said old calls is on may leads =
-    let there = lines_are_explained k l w v k.seen calls (Goal.watch name body) said old is on may leads in (there.new, there.goes_on)
-goes-on-watched k l w v (WatchLine.unwatch name) said old calls is on may leads =
-    let there = unwatches_are_explained k l w v name calls said old is on leads in (there.new, there.goes_on)
-
--- the watches that a line leaves
-pub watches-behind : (k l : Known) (w v : Watching) (line : WatchLine) (said : List Reply) → WatchesAttend k w
-    → IsOnItsWay k w line l (WatchPhase.over v said) → WatchesAttend l v
-watches-behind k l w v line said is way = record { keeps = lines_go_on.behind k w line l v said way; told = by k.journal refl is.told }
-  where
-    by : (o : Option Journal) → k.journal ≡ o → IfSome o (Minds k w) → IfSome l.journal (Minds l v)
-    by None e minds = subst (λ (o : Option Journal). IfSome o (Minds l v))
-        (sym (untold-watched k (start_of line w) way.calls l (WatchPhase.over v said) way.leads e)) tt
-    by (Some old) e minds =
-        let there = goes-on-watched k l w v line said old way.calls (told-attends k w old e way.keeps minds) minds.can_on
-        (reported-seen k w old way.keeps minds) way.leads in
-        let trusts = (same-watched k (start_of line w) way.calls l (WatchPhase.over v said) way.leads).trusted in
-        let on = there.1 in
-        subst (λ (o : Option Journal). IfSome o (Minds l v)) (sym on.attends.told) (record {
-          subscribes = on.attends.subscribes;
-          stands = on.attends.stands;
-          can = on.attends.can;
-          can_on = can-read-on k.trusted l.trusted old there.0 trusts on.grows minds.can_on;
-        })
 
 -- ---- what others do
 

@@ -1,5 +1,5 @@
 -- What functions of a session perform, put together: events, attempts, looks, and the verbs that are made of them.
-use Rattle.std.proofs.Common.{◌≡◌, ℕ, suc, ◌+◌, ◌-◌, ◌<◌, ◌≤◌, Bool, true, false, cond, Option, Some, None, Result, Ok, Err}
+use Rattle.std.proofs.Common.{◌≡◌, ◌↔◌, ℕ, suc, ◌+◌, ◌-◌, ◌<◌, ◌≤◌, Bool, true, false, cond, Option, Some, None, Result, Ok, Err}
 use Rattle.std.proofs.Common.{refl, sym, ap, ◌∙◌, subst, arith}
 use Rattle.std.specs.Prelude.{nat_lt}
 use Rattle.std.specs.Option.{is_some}
@@ -13,25 +13,27 @@ use Rattle.txn_lang.specs.Execution.{Ran, exec}
 use Rattle.txn_eval.specs.Running.{values_of}
 use Rattle.docc_prepare.specs.declared.attempt.Attempt.{Attempt}
 use Rattle.docc_prepare.specs.declared.attempt.Next.{Next}
+use Rattle.docc_prepare.specs.declared.attempt.Next.TheVariants as next
 use Rattle.docc_prepare.specs.declared.backend.StoreError.{StoreError}
 use Rattle.docc_prepare.specs.declared.backend.StoreError.TheVariants as store
 use Rattle.docc_prepare.specs.Attempts.{SnapList, next_event}
 use Rattle.docc_prepare.specs.Calls.{Known, Call, Answer}
 use Rattle.docc_prepare.specs.Backends.{Goes}
 use Rattle.call_programs.specs.Programs.{Program, bind, Leads, Stops, Performs, Succeeds}
-use Rattle.call_programs.proofs.Programs.{and_then, in_bind, bound, one_call, stops_in, stops_behind, call_broken}
+use Rattle.call_programs.proofs.Programs.{and_then, one_call, stops_behind}
 use Rattle.session_core.specs.declared.limits.TheConstants.{MOST_EVENTS}
 use Rattle.session_core.specs.declared.error.SessionError.{SessionError}
 use Rattle.session_core.specs.declared.error.SessionError.TheVariants as error
 use Rattle.session_core.specs.declared.moved.Moved.{Moved}
 use Rattle.session_core.specs.declared.moved.Moved.TheVariants as moved
 use Rattle.session_core.specs.declared.session.Session.{Session}
-use Rattle.session_core.specs.Errors.{error_of}
-use Rattle.session_core.specs.Phases.{event_call, call_of, moved_by, is_abort}
-use Rattle.session_core.specs.Leading.{Turned, moved_on_read, moved_on_prepare, moved_on_append, Valued}
-use Rattle.session_core.specs.Verbs.{LineEnd, says, moved_to, event, was_read, was_prepared, event_on, or_on, drive_in, events, attempt_once}
-use Rattle.session_core.specs.Verbs.{unless_abort, then_again, try_times, by_attempt, unless_open, if_open, valued, look_by, look_in, look_at, look_from, Plays}
-use Rattle.session_core.proofs.Steps.{moved-failed}
+use Rattle.session_core.specs.Errors.{error_of, error_by, LeavesError}
+use Rattle.session_core.specs.Events.{closed, seq_after, ended, appends, event_call, call_of, moved_at, moved_by}
+use Rattle.session_core.specs.code.Turning.{Turned, moved_on_read, moved_on_prepare, moved_on_append, is_abort, Valued}
+use Rattle.session_core.specs.Verbs.{LineEnd, AttemptEnd, says, moved_to, event, was_read, was_prepared, event_on, or_on, drive_in, events, attempt_once}
+use Rattle.session_core.specs.Verbs.{unless_abort, then_again, try_times, by_attempt, unless_open, if_open, valued, look_by, look_in, look_at, look_from}
+use Rattle.session_core.specs.Stopping.{adds, StopsShort, Does}
+use Rattle.session_core.proofs.Stopping.{Asks, stops_of}
 
 -- ---- errors
 
@@ -39,10 +41,10 @@ use Rattle.session_core.proofs.Steps.{moved-failed}
 pub no_fault : {e : SessionError} → e ≡ error.NoMemory → e ≡ error.StoreFault → ⊥
 no_fault want h = let both : error.NoMemory ≡ error.StoreFault = sym want ∙ h in cc
 
--- a call's error is a fault only where the call failed by one
-pub fault_is : (e : StoreError) → error_of e ≡ error.StoreFault → e ≡ store.Fault
-fault_is store.Fault h = refl
-fault_is store.NoMemory h = absurd (cc)
+-- a call's error is a fault exactly where the call failed by one
+pub fault_is : (e : StoreError) → (error_of e ≡ error.StoreFault) ↔ (e ≡ store.Fault)
+fault_is store.Fault = (λ h. refl, λ is. refl)
+fault_is store.NoMemory = (λ h. absurd (cc), λ is. absurd (cc))
 
 -- ---- results
 
@@ -52,18 +54,39 @@ pub performs_behind : {S A T E : Type 0} {goes : S → Call → Answer → S →
 performs_behind fault give t (Ok x) first rest = and_then first rest
 performs_behind fault give t (Err e) first rest = stops_behind first rest
 
--- and of what is made of its end
-pub performs_made : {S A C T E : Type 0} (goes : S → Call → Answer → S → Type 0) (fault : E) (s t : S) (p : Program A) (give : T → A) (f : A → C)
-    (r : Result T E) → Performs goes fault s p r give t → Performs goes fault s (bind p (λ a. Program.ends (f a))) r (λ x. f (give x)) t
-performs_made goes fault s t p give f (Ok x) led = bound (λ a. Program.ends (f a)) led Leads.stays
-performs_made goes fault s t p give f (Err e) stop = stops_in (λ a. Program.ends (f a)) stop
-
 -- ---- one event
+
+-- a failed call makes nothing of an attempt
+moved_failed : (a : Attempt) (f : Bool) → moved_by a (Answer.failed f) ≡ None
+moved_failed a f = by (next_event a)
+  where
+    by : (n : Next) → moved_at a n (Answer.failed f) ≡ None
+    by (next.Read address) = refl
+    by (next.Prepare shard run) = refl
+    by (next.Append run) = refl
 
 -- an answer that makes something of an attempt hasn't failed
 moved_succeeds : (a : Attempt) (answer : Answer) (m : Moved) → moved_by a answer ≡ Some m → Succeeds answer
-moved_succeeds a (Answer.failed f) m is = let none : Some m ≡ None = sym is ∙ moved-failed a f in absurd (cc)
+moved_succeeds a (Answer.failed f) m is = let none : Some m ≡ None = sym is ∙ moved_failed a f in absurd (cc)
 moved_succeeds a answer m is = tt
+
+-- only an append's call adds anything
+event_adds : (s : Session) (a : Attempt) (n : Next) → adds (event_call s a n) ≡ appends n
+event_adds s a (next.Read address) = refl
+event_adds s a (next.Prepare shard run) = refl
+event_adds s a (next.Append run) = refl
+
+-- the error of a failed call is a fault exactly where it failed by one
+fault_by : (f : Bool) (e : SessionError) → e ≡ error_by f → (e ≡ error.StoreFault) ↔ (f ≡ true)
+fault_by true e is = (λ fault. refl, λ so. is)
+fault_by false e is = (λ fault. absurd (let both : error.NoMemory ≡ error.StoreFault = sym is ∙ fault in cc), λ so. absurd (cc))
+
+-- where an answer leaves an error, a call stops short
+leaves_short : {S A : Type 0} {goes : S → Call → Answer → S → Type 0} {s t : S} {call : Call} {next : Answer → Program A} (adding : Bool)
+    (answer : Answer) (e : SessionError) → adds call ≡ adding → goes s call answer t → LeavesError adding answer e
+    → StopsShort goes s (Program.asks call next) (e ≡ error.StoreFault) t
+leaves_short adding (Answer.failed f) e same step leaves = StopsShort.fails f Leads.stays step (fault_by f e leaves)
+leaves_short adding answer e same step leaves = StopsShort.behind answer Leads.stays step tt (same ∙ leaves.1) (no_fault leaves.0)
 
 module _ {B : Type 0} {known : B → Known} {goes : B → Call → Answer → B → Type 0} {b c : B} {answer : Answer} (s : Session) (a : Attempt) (n : Next)
     (is : next_event a ≡ n) (step : Goes known goes b (event_call s a n) answer c) where
@@ -76,27 +99,27 @@ module _ {B : Type 0} {known : B → Known} {goes : B → Call → Answer → B 
   event_led m turned = one_call answer called (moved_succeeds a answer m turned) (ap moved_to turned)
 
   -- and one behind which there is an error
-  event_stops : (e : SessionError) → (e ≡ error.StoreFault → answer ≡ Answer.failed true)
-      → Stops (Goes known goes) b (event s a) (e ≡ error.StoreFault) c
-  event_stops e cause = call_broken answer called cause
+  event_stops : (e : SessionError) → LeavesError (appends (next_event a)) answer e
+      → StopsShort (Goes known goes) b (event s a) (e ≡ error.StoreFault) c
+  event_stops e leaves = leaves_short (appends (next_event a)) answer e (event_adds s a (next_event a)) called leaves
 
   -- an answered read
-  pub read_plays : (address : Address) (left : Attempt) (r : Result ℕ SessionError) → Turned a answer (moved_on_read address left r)
-      → Plays known goes b (event s a) r (was_read address left) c
-  read_plays address left (Ok base) turned = event_led (moved.More left (reply.Read address base)) turned
-  read_plays address left (Err e) turned = event_stops e turned
+  pub read_does : (address : Address) (left : Attempt) (r : Result ℕ SessionError) → Turned a answer (moved_on_read address left r)
+      → Does known goes b (event s a) r (was_read address left) c
+  read_does address left (Ok base) turned = event_led (moved.More left (reply.Read address base)) turned
+  read_does address left (Err e) turned = event_stops e turned
 
   -- an answered preparing
-  pub prepare_plays : (shard : ℕ) (left : Attempt) (r : Result (Result ℕ Reply) SessionError) → Turned a answer (moved_on_prepare shard left r)
-      → Plays known goes b (event s a) r (was_prepared shard left) c
-  prepare_plays shard left (Ok (Ok front)) turned = event_led (moved.More left (reply.Prepared shard front)) turned
-  prepare_plays shard left (Ok (Err r)) turned = event_led (moved.End left r) turned
-  prepare_plays shard left (Err e) turned = event_stops e turned
+  pub prepare_does : (shard : ℕ) (left : Attempt) (r : Result (Result ℕ Reply) SessionError) → Turned a answer (moved_on_prepare shard left r)
+      → Does known goes b (event s a) r (was_prepared shard left) c
+  prepare_does shard left (Ok (Ok front)) turned = event_led (moved.More left (reply.Prepared shard front)) turned
+  prepare_does shard left (Ok (Err r)) turned = event_led (moved.End left r) turned
+  prepare_does shard left (Err e) turned = event_stops e turned
 
   -- an answered append
-  pub append_plays : (r : Result Reply SessionError) → Turned a answer (moved_on_append a r) → Plays known goes b (event s a) r (moved.End a) c
-  append_plays (Ok r) turned = event_led (moved.End a r) turned
-  append_plays (Err e) turned = event_stops e turned
+  pub append_does : (r : Result Reply SessionError) → Turned a answer (moved_on_append a r) → Does known goes b (event s a) r (moved.End a) c
+  append_does (Ok r) turned = event_led (moved.End a r) turned
+  append_does (Err e) turned = event_stops e turned
 
 -- ---- rounds
 
@@ -114,6 +137,10 @@ pub drive_round : (i : ℕ) (s : Session) (a : Attempt) → i < MOST_EVENTS
     → drive_in (events - i) s a ≡ bind (event_on s a) (or_on (drive_in (events - (i + 1)) s))
 drive_round i s a within = ap (λ (n : ℕ). drive_in n s a) (one_event i within)
 
+-- so it asks
+pub drive_asks : (i : ℕ) (s : Session) (a : Attempt) → Asks (bind (event_on s a) (or_on (drive_in (events - i) s)))
+drive_asks i s a = record { call = call_of s a; next = _; is = refl }
+
 -- one run more of a look
 pub look_round : (i n : ℕ) (body : Checked) (snaps : SnapList) (r : Ran) → i < MOST_EVENTS → exec body.body (values_of snaps) ≡ r
     → look_in (events - i) n body snaps ≡ look_by (look_in (events - (i + 1)) n body) n snaps r
@@ -124,6 +151,10 @@ look_round i n body snaps r within ran =
 pub try_round : (tries i : ℕ) (s : Session) (a : Attempt) → i < tries
     → try_times (tries - i) s a ≡ bind (attempt_once s a) (then_again (try_times (tries - (i + 1)) s))
 try_round tries i s a within = ap (λ (n : ℕ). try_times n s a) (let e : tries - i ≡ suc (tries - (i + 1)) = omega arith in e)
+
+-- an attempt asks for a refresh first
+pub once_asks : {C : Type 0} (s : Session) (a : Attempt) (f : AttemptEnd → Program C) → Asks (bind (attempt_once s a) f)
+once_asks s a f = record { call = Call.refresh; next = _; is = refl }
 
 -- ---- ends of attempts
 
@@ -156,6 +187,12 @@ pub valued_late : (more : SnapList → Program Reply) (n : ℕ) (snaps : SnapLis
 valued_late more n snaps address (Answer.late m horizon) longer r h = record { succeeds = tt; is = ap (λ r. Program.ends r) (sym h) }
 valued_late more n snaps address answer longer r h = absurd h
 
+-- a value for which memory is wanting, or a failed call
+pub valued_short : {S A : Type 0} {goes : S → Call → Answer → S → Type 0} {s t : S} {next : Answer → Program A} (n : ℕ) (snaps longer : SnapList)
+    (address : Address) (answer : Answer) (e : SessionError) → goes s (Call.read_at address n) answer t → Valued snaps address n answer (Err e) longer
+    → Stops goes s (Program.asks (Call.read_at address n) next) (e ≡ error.StoreFault) t
+valued_short n snaps longer address answer e step leaves = stops_of (leaves_short false answer e refl step leaves)
+
 -- a number past what is seen is ahead
 pub from_ahead : (body : Checked) (seen n : ℕ) → seen < n → look_from (Some n) body seen ≡ Program.ends (reply.Ahead n seen)
 from_ahead body seen n ahead =
@@ -165,6 +202,11 @@ from_ahead body seen n ahead =
 pub from_seen : (body : Checked) (seen n : ℕ) → n ≤ seen → look_from (Some n) body seen ≡ look_at n body
 from_seen body seen n within =
     let test : nat_lt seen n ≡ false = grind (arith, nat_tests) in ap (λ b. cond b (Program.ends (reply.Ahead n seen)) (look_at n body)) test
+
+-- nothing is there
+pub none_else : (o : Option Reply) → ((r : Reply) → o ≡ Some r → ⊥) → o ≡ None
+none_else None h = refl
+none_else (Some r) h = absurd (h r refl)
 
 -- ---- whether an attempt is open
 
@@ -192,3 +234,10 @@ closed_is s f none = ap (λ (o : Option Attempt). by_attempt o (says s (reply.Re
 -- where one is open it is done with that
 pub open_is : (s : Session) (f : Attempt → Program LineEnd) (a : Attempt) → s.attempt ≡ Some a → if_open s f ≡ f a
 open_is s f a is = ap (λ (o : Option Attempt). by_attempt o (says s (reply.Refused why.NoAttempt)) f) is
+
+-- ---- the session after an end
+
+-- its seq and its attempt
+pub ended_as : (s : Session) (o : Option Attempt) (q : ℕ) (r : Reply) → o ≡ None → q ≡ seq_after s.seq r → ended (closed s) r ≡ record s { seq = q; attempt = o }
+ended_as s o q r none is = ap (λ (n : ℕ). record s { seq = n; attempt = None }) (sym is)
+    ∙ ap (λ (x : Option Attempt). record s { seq = q; attempt = x }) (sym none)

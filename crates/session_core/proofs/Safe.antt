@@ -20,14 +20,16 @@ use Rattle.docc_prepare.specs.declared.attempt.Next.TheVariants as next
 use Rattle.docc_prepare.specs.Attempts.{SnapList, next_event, with_snap, with_front}
 use Rattle.docc_prepare.specs.Calls.{Known, Call, Answer}
 use Rattle.docc_prepare.specs.Calls.Answer.{number, snap, prepared, value, late, clash, full, disk}
-use Rattle.docc_prepare.specs.Backends.{IsAnswered, Shows}
-use Rattle.call_programs.specs.Programs.{Program, bind, Succeeds}
+use Rattle.docc_prepare.specs.Backends.{IsAnswered, Goes, Shows}
+use Rattle.call_programs.specs.Programs.{Program, bind, Leads, Succeeds}
 use Rattle.call_programs.specs.Safe.{MayAsk, IsSafe}
-use Rattle.call_programs.proofs.Safe.{then_safe}
+use Rattle.call_programs.proofs.Programs.{to_same, along, known_leads}
+use Rattle.call_programs.proofs.Safe.{then_safe, safe_end}
+use Rattle.session_core.specs.declared.limits.TheConstants.{MOST_EVENTS}
 use Rattle.session_core.specs.declared.moved.Moved.{Moved}
 use Rattle.session_core.specs.declared.moved.Moved.TheVariants as moved
 use Rattle.session_core.specs.declared.session.Session.{Session}
-use Rattle.session_core.specs.Phases.{with_attempt, closed, ended, opened, afresh, event_call, call_of, moved_at, moved_by}
+use Rattle.session_core.specs.Events.{with_attempt, closed, ended, opened, afresh, event_call, call_of, moved_at, moved_by}
 use Rattle.session_core.specs.Holding.{Attends, Holds, IsReady}
 use Rattle.session_core.specs.Verbs.{LineEnd, AttemptEnd, says, refreshed, refresh_then, moved_to, event, unshown, event_on, or_on, drive_in, events, drive}
 use Rattle.session_core.specs.Verbs.{attempt_once, unless_abort, or_again, then_again, last_shown, try_times, by_attempt, unless_open, if_open, opens, begin}
@@ -35,7 +37,7 @@ use Rattle.session_core.specs.Verbs.{closing, tries_at, commit, stepped, steps, 
 use Rattle.session_core.proofs.Attempts.{short-need}
 use Rattle.session_core.proofs.Bounds.{HasSpent, none-spent, spent-few, spent-read, spent-front, HasRead, none-read, read-few, read-more}
 use Rattle.session_core.proofs.Kept.{can-prepare, can-append, some-shards, holds-on, closed-on, opened-on, opened-holds}
-use Rattle.session_core.proofs.Phases.{MovedHolds, held, plain-on, closes}
+use Rattle.session_core.proofs.Moving.{MovedHolds, held, plain-on, closes}
 
 -- a refresh may always be asked, and is answered with how many commits are seen
 pub refresh_safe : {A : Type 0} (k : Known) (next : ℕ → Program A) (holds : Known → A → Type 0)
@@ -159,6 +161,26 @@ drive_safe (suc fuel) calls k s a e spent is holds =
     by on l b None h = on l b h.1 h.0.0 h.0.1
     by on l b (Some r) h = h
 
+-- an event that wasn't the last leaves the session and the attempt as they are to be
+pub event_goes_on : {B : Type 0} {known : B → Known} {goes : B → Call → Answer → B → Type 0} {b c : B} {a on : Attempt} {o : Option Reply} (s : Session)
+    → Attends (known b) (closed s) → Holds (known b) a → o ≡ None → Leads (Goes known goes) b (event_on s a) c (Program.ends (on, o))
+    → Attends (known c) (closed s) × Holds (known c) on
+event_goes_on {known} {b} {c} {a} {on} s is holds none led =
+    (subst (OnHolds s 0 (known c) on) none (safe_end (λ l (end : Attempt × Option Reply). OnHolds s 0 l end.0 end.1)
+    (event_on_safe (known b) s a 0 is holds (none-spent a)) led)).0
+
+-- no event is left of so many
+none_left : (i : ℕ) → MOST_EVENTS ≤ i → events - i ≡ 0
+unfolding events
+none_left i many = omega arith
+
+-- so many events suffice
+pub drives_enough : {B : Type 0} {known : B → Known} {goes : B → Call → Answer → B → Type 0} {b c : B} {a : Attempt} (s : Session) (on : Attempt) (i : ℕ)
+    → MOST_EVENTS ≤ i → Attends (known b) (closed s) → Holds (known b) a → Leads (Goes known goes) b (drive s a) c (drive_in (events - i) s on) → ⊥
+drives_enough {known} {goes} {b} {a} s on i many is holds led =
+    along MayAsk ⊥ (HasEnded s) (known_leads known goes (to_same (ap (λ (n : ℕ). drive_in n s on) (none_left i many)) led))
+    (drive_safe events 0 (known b) s a (omega arith) (none-spent a) is holds)
+
 -- ---- attempts
 
 -- one attempt
@@ -166,6 +188,17 @@ once_safe : (k : Known) (s : Session) (a : Attempt) → Attends k (closed s) →
 once_safe k s a is holds =
     refresh_safe k (λ seen. drive s a) (HasEnded s) (λ l n step. drive_safe events 0 l s a (omega arith) (none-spent a)
     (refreshed_on k l (closed s) n step is) (holds-on k l a Call.refresh (number n) step step.keeps holds))
+
+-- behind an abort the session and the attempt that begins anew are as they are to be
+pub once_goes_on : {B : Type 0} {known : B → Known} {goes : B → Call → Answer → B → Type 0} {b c : B} {a last : Attempt} {r : Reply} (s : Session)
+    → Attends (known b) (closed s) → Holds (known b) a → unless_abort r ≡ None
+    → Leads (Goes known goes) b (attempt_once s a) c (Program.ends (last, r)) → Attends (known c) (closed s) × Holds (known c) (afresh last)
+once_goes_on {known} {b} {c} {a} {r} s is holds none led =
+    let ended_so = safe_end (HasEnded s) (once_safe (known b) s a is holds) led in (by r none ended_so.0, ended_so.1)
+  where
+    by : (r : Reply) → unless_abort r ≡ None → Attends (known c) (ended s r) → Attends (known c) (closed s)
+    by (reply.Abort w) none is = is
+    by r none is = absurd (cc)
 
 -- one behind another
 tries_safe : (left : ℕ) (k : Known) (s : Session) (a : Attempt) → Attends k (closed s) → Holds k a
@@ -277,6 +310,14 @@ from_safe l s seen (Some n) body e is = by (nat_lt seen n) refl
     by true h = is
     by false h = let within : n ≤ seen = grind (arith, nat_tests) in
         look_safe events 0 n l s body [] (omega arith) (none-read body.body []) (omega arith) is
+
+-- so many rounds suffice
+pub looks_enough : {B : Type 0} {known : B → Known} {goes : B → Call → Answer → B → Type 0} {b c : B} {n : ℕ} (s : Session)
+    (body : Checked) (snaps : SnapList) (i : ℕ) → MOST_EVENTS ≤ i → Attends (known b) s → n ≤ (known b).seen
+    → Leads (Goes known goes) b (look_at n body) c (look_in (events - i) n body snaps) → ⊥
+looks_enough {known} {goes} {b} {n} s body snaps i many is within led =
+    along MayAsk ⊥ (λ l r. Attends l s) (known_leads known goes (to_same (ap (λ (m : ℕ). look_in m n body snaps) (none_left i many)) led))
+    (look_safe events 0 n (known b) s body [] (omega arith) (none-read body.body []) within is)
 
 pub looks_safe : (k : Known) (s : Session) (upto : Option ℕ) (body : Checked) → Attends k s → IsSafe k (bind (look upto body) (says s)) AttendsEnd
 looks_safe k s upto body is =

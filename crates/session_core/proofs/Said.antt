@@ -1,4 +1,4 @@
--- What follows from the replies of a line alone: what they say of the client's commits, and of what the disk denied.
+-- What follows from replies alone: what they say of the client's commits, and of what the disk denied.
 use Rattle.std.proofs.Common.{◌≡◌, ℕ, zero, suc, ◌+◌, ◌-◌, ◌≤◌, ◌<◌, Bool, true, false, cond, inl, inr, ◌⊎◌, List, [], ◌∷◌, ◌++◌}
 use Rattle.std.proofs.Common.{append_assoc, length, Option, Some, None, refl, sym, ap, ◌∙◌, subst, arith}
 use Rattle.std.specs.Prelude.{nat_lt, ◌==◌, slice_get}
@@ -7,47 +7,27 @@ use Rattle.std.proofs.lemmas.Bool.Decides.{nat_tests}
 use Rattle.std.proofs.lemmas.List.{append-nil}
 use Rattle.std.proofs.lemmas.List.Elements.{filter-append}
 use Rattle.dio_core.specs.Counts.{last_count, one_more, Rose}
-use Rattle.dio_core.specs.Told.{WhereTold}
-use Rattle.dio_core.proofs.Told.{WhereTold-refl, WhereTold-then}
 use Rattle.rdt_types.specs.declared.outcome.Outcome.{Outcome}
 use Rattle.session_text.specs.declared.reply.Reply.{Reply}
 use Rattle.session_text.specs.declared.reply.Reply.TheVariants as reply
-use Rattle.session_text.specs.declared.reply.Why.TheVariants as why
-use Rattle.txn_lang.specs.declared.checked.Checked.{Checked}
 use Rattle.txn_lang.specs.declared.commit.Commit.{Commit}
-use Rattle.txn_lang.specs.Execution.{Ran, need, done, exec}
 use Rattle.txn_lang.specs.Journals.{own}
 use Rattle.txn_lang.specs.States.{Journal}
-use Rattle.txn_eval.specs.Running.{values_of}
 use Rattle.journal_core.specs.declared.ready.Ready.{Ready}
 use Rattle.journal_core.specs.Journals.{commit_at}
 use Rattle.journal_core.specs.Readies.{made_of}
 use Rattle.docc_prepare.specs.declared.attempt.Attempt.{Attempt}
 use Rattle.docc_prepare.specs.declared.attempt.Next.{Next}
 use Rattle.docc_prepare.specs.declared.attempt.Next.TheVariants as next
-use Rattle.docc_prepare.specs.Attempts.{SnapList, next_event, ready_of}
-use Rattle.docc_prepare.specs.Backends.{IsPrefix, IsAnswered, IsSameClient, SaysOfJournal}
-use Rattle.docc_prepare.specs.Calls.{Known, Call, Answer, is_fault}
-use Rattle.docc_prepare.specs.Calls.Call.{refresh, append, read_at}
-use Rattle.docc_prepare.specs.Calls.Answer.{number, snap, prepared, value, late, clash, full, disk}
-use Rattle.session_core.specs.declared.line.Line.{Line}
-use Rattle.session_core.specs.declared.line.Line.TheVariants as asked
+use Rattle.docc_prepare.specs.Attempts.{ready_of}
+use Rattle.docc_prepare.specs.Backends.{IsPrefix, IsAnswered, SaysOfJournal}
+use Rattle.docc_prepare.specs.Calls.{Known, Call, Answer}
+use Rattle.docc_prepare.specs.Calls.Call.{append}
+use Rattle.docc_prepare.specs.Calls.Answer.{number, disk}
 use Rattle.session_core.specs.declared.session.Session.{Session}
-use Rattle.client_watches.specs.declared.watching.Watching.{Watching}
-use Rattle.client_watches.specs.Phases.{Phase as WatchPhase, start_sync, start_watch, start_unwatch}
-use Rattle.client_watches.specs.Phases as watches
-use Rattle.client_watches.specs.Leading.{Leads as WatchLeads}
-use Rattle.client_watches.specs.GoingOn.{WatchLine, IsOnItsWay}
 use Rattle.client_watches.specs.Saying.{IsOfWatches}
-use Rattle.client_watches.proofs.Saying.{replies_are_seen}
-use Rattle.session_core.specs.declared.turn.Turn.TheVariants as turn
-use Rattle.session_core.specs.Phases.{Phase, with_attempt, of_watches, said, stepped, after_end, gone, look_by, look_on, look_from}
-use Rattle.session_core.specs.Phases.{event_call, call_of, moved_at, asks, after, start}
-use Rattle.session_core.specs.Leading.{Leads}
-use Rattle.session_core.specs.Explained.{replies_in}
-use Rattle.session_core.specs.Sessions.{as_list, committed_by, OwnsAnswered, OwnsOneAtMost, denied_by, denied_by_all}
-use Rattle.session_core.specs.Holding.{BodyIsReady, Attends}
-use Rattle.session_core.proofs.Phases.{PhaseHolds, watching-on, phase-begins, phase-kept}
+use Rattle.session_core.specs.Events.{event_call}
+use Rattle.session_core.specs.Sessions.{as_list, committed_by, OwnsAnswered, denied_by, denied_by_all}
 use Rattle.session_core.proofs.Grown.{prefix-whole, prefix-again, commit-stays}
 
 -- ---- what holds of the replies that are said so far
@@ -62,177 +42,12 @@ is_plain r = true
 abbrev pub ArePlain : List Reply → Type 0
 ArePlain replies = AllByRecursion (λ r. is_plain r ≡ true) replies
 
--- where a line of watches is over, its replies are plain
-abbrev pub SaysPlain : WatchPhase → Type 0
-SaysPlain p = (w : Watching) (replies : List Reply) → p ≡ WatchPhase.over w replies → ArePlain replies
-
--- what an answer makes of it
-abbrev pub AnswersPlain : Phase → Answer → Type 0
-AnswersPlain (Phase.watching s p) answer = SaysPlain (watches.after p answer)
-AnswersPlain q answer = Unit {0}
-
--- how it begins
-abbrev pub BeginsPlain : Session → Line → Type 0
-BeginsPlain s (asked.Watch name body) = SaysPlain (start_watch s.watching name body)
-BeginsPlain s (asked.Unwatch name) = SaysPlain (start_unwatch s.watching name)
-BeginsPlain s l = Unit {0}
-
 module _ (P : List Reply → Type 0) where
-  abbrev pub PhaseSays : Phase → Type 0
-  PhaseSays (Phase.over t turn) = P (replies_in turn)
-  PhaseSays q = P []
-
   -- what an answer says
   abbrev pub Says : Call → Answer → Type 0
   Says (append ready) (number n) = (outcome : Outcome) → P (reply.Commit n outcome ∷ [])
   Says (append ready) disk = P (reply.Disk ∷ [])
   Says c answer = P []
-
-  module _ (plains : (replies : List Reply) → ArePlain replies → P [] → P replies) where
-    plain : (r : Reply) → is_plain r ≡ true → P [] → P (r ∷ [])
-    plain r is h = plains (r ∷ []) (is, tt) h
-
-    -- a line of watches, whatever phase it has come to
-    of-says : (s : Session) (p : WatchPhase) → SaysPlain p → P [] → PhaseSays (of_watches s p)
-    of-says s (WatchPhase.over w replies) says h = plains replies (says w replies refl) h
-    of-says s (WatchPhase.broken by_fault) says h = h
-    of-says s (WatchPhase.taking goal w) says h = h
-    of-says s (WatchPhase.reading job w replies address) says h = h
-    of-says s (WatchPhase.keeping job w replies address item) says h = h
-    of-says s (WatchPhase.dropping next w replies address rest) says h = h
-
-    stepped-says : (s : Session) (a : Attempt) (e : Next) (answer : Answer) → Says (event_call s a e) answer
-        → PhaseSays (stepped s (is_fault answer) (moved_at a e answer))
-    stepped-says s a (next.Read address) (snap v) h = plain (reply.Read address v.base) refl h
-    stepped-says s a (next.Prepare shard run) (prepared p) h = plain (reply.Prepared shard p.front) refl h
-    stepped-says s a (next.Prepare shard run) (late base horizon) h = plain (reply.Late base horizon) refl h
-    stepped-says s a (next.Prepare shard run) (clash w) h = plain (reply.Abort w) refl h
-    stepped-says s a (next.Append run) (number n) h = h run.outcome
-    stepped-says s a (next.Append run) (clash w) h = plain (reply.Abort w) refl h
-    stepped-says s a (next.Append run) (full limit) h = plain (reply.Full limit) refl h
-    stepped-says s a (next.Append run) disk h = h
-    stepped-says s a e answer h = h
-
-    end-says : (s : Session) (left : ℕ) (a : Attempt) (r : Reply) → P (r ∷ []) → ((is : is_plain r ≡ true) → P []) → PhaseSays (after_end s left a r)
-    end-says s zero a r h none = h
-    end-says s (suc left) a (reply.Abort w) h none = none refl
-    end-says s (suc left) a r h none = h
-
-    plain-end : (s : Session) (left : ℕ) (a : Attempt) (r : Reply) → is_plain r ≡ true → P [] → PhaseSays (after_end s left a r)
-    plain-end s left a r is h = end-says s left a r (plain r is h) (λ e. h)
-
-    no-plain : (r : Reply) → is_plain r ≡ false → (is : is_plain r ≡ true) → P []
-    no-plain r named is = absurd (let h : true ≡ false = sym is ∙ named in cc)
-
-    gone-says : (s : Session) (left : ℕ) (a : Attempt) (e : Next) (answer : Answer) → Says (event_call s a e) answer
-        → PhaseSays (gone s left (is_fault answer) (moved_at a e answer))
-    gone-says s left a (next.Read address) (snap v) h = h
-    gone-says s left a (next.Prepare shard run) (prepared p) h = h
-    gone-says s left a (next.Prepare shard run) (late base horizon) h = plain-end s left a (reply.Late base horizon) refl h
-    gone-says s left a (next.Prepare shard run) (clash w) h = plain-end s left a (reply.Abort w) refl h
-    gone-says s left a (next.Append run) (number n) h = end-says s left a (reply.Commit n run.outcome) (h run.outcome)
-        (no-plain (reply.Commit n run.outcome) refl)
-    gone-says s left a (next.Append run) (clash w) h = plain-end s left a (reply.Abort w) refl h
-    gone-says s left a (next.Append run) (full limit) h = plain-end s left a (reply.Full limit) refl h
-    gone-says s left a (next.Append run) disk h = end-says s left a reply.Disk h (no-plain reply.Disk refl)
-    gone-says s left a e answer h = h
-
-    look-says : (s : Session) (n : ℕ) (body : Checked) (snaps : SnapList) (r : Ran) → P [] → PhaseSays (look_by s n body snaps r)
-    look-says s n body snaps (need address) h = h
-    look-says s n body snaps (done run) h = plain (reply.At n run.outcome) refl h
-
-    from-says : (s : Session) (seen : ℕ) (upto : Option ℕ) (body : Checked) → P [] → PhaseSays (look_from s seen upto body)
-    from-says s seen None body h = look-says s seen body [] (exec body.body (values_of [])) h
-    from-says s seen (Some n) body h = by (nat_lt seen n)
-      where
-        by : (x : Bool) → PhaseSays (cond x (Phase.over s (said (reply.Ahead n seen))) (look_on s n body []))
-        by true = plain (reply.Ahead n seen) refl h
-        by false = look-says s n body [] (exec body.body (values_of [])) h
-
-    -- no call of watches says anything
-    watch-says : (p : WatchPhase) (call : Call) (answer : Answer) → watches.asks p ≡ Some call → Says call answer → P []
-    watch-says (WatchPhase.taking goal w) call answer e h = let is : Call.take ≡ call = cc in subst (λ (c : Call). Says c answer) (sym is) h
-    watch-says (WatchPhase.reading job w replies address) call answer e h =
-        let is : read_at address w.cache.at ≡ call = cc in subst (λ (c : Call). Says c answer) (sym is) h
-    watch-says (WatchPhase.keeping job w replies address item) call answer e h =
-        let is : Call.subscribe address ≡ call = cc in subst (λ (c : Call). Says c answer) (sym is) h
-    watch-says (WatchPhase.dropping next w replies address rest) call answer e h =
-        let is : Call.unsubscribe address ≡ call = cc in subst (λ (c : Call). Says c answer) (sym is) h
-    watch-says (WatchPhase.over w replies) call answer e h = absurd (cc)
-    watch-says (WatchPhase.broken by_fault) call answer e h = absurd (cc)
-
-    -- each step
-    pub says-on : (q : Phase) (call : Call) (answer : Answer) → asks q ≡ Some call → AnswersPlain q answer → Says call answer → PhaseSays (after q answer)
-    says-on (Phase.stepping s a) call answer e quiet h = let is : call_of s a ≡ call = cc in stepped-says s a (next_event a) answer
-        (subst (λ (c : Call). Says c answer) (sym is) h)
-    says-on (Phase.going s left a) call answer e quiet h = let is : call_of s a ≡ call = cc in gone-says s left a (next_event a) answer
-        (subst (λ (c : Call). Says c answer) (sym is) h)
-    says-on (Phase.beginning s a) call answer e quiet h = let is : refresh ≡ call = cc in begun answer (subst (λ (c : Call). Says c answer) (sym is) h)
-      where
-        begun : (answer : Answer) → Says refresh answer → PhaseSays (after (Phase.beginning s a) answer)
-        begun (number n) h = plain (reply.Seen n) refl h
-        begun answer h = h
-    says-on (Phase.trying s left a) call answer e quiet h = let is : refresh ≡ call = cc in tried answer (subst (λ (c : Call). Says c answer) (sym is) h)
-      where
-        tried : (answer : Answer) → Says refresh answer → PhaseSays (after (Phase.trying s left a) answer)
-        tried (number n) h = h
-        tried answer h = h
-    says-on (Phase.looking s upto body) call answer e quiet h = let is : refresh ≡ call = cc in looked answer
-        (subst (λ (c : Call). Says c answer) (sym is) h)
-      where
-        looked : (answer : Answer) → Says refresh answer → PhaseSays (after (Phase.looking s upto body) answer)
-        looked (number n) h = from-says s n upto body h
-        looked answer h = h
-    says-on (Phase.looked s n body snaps address) call answer e quiet h = let is : read_at address n ≡ call = cc in looked answer
-        (subst (λ (c : Call). Says c answer) (sym is) h)
-      where
-        looked : (answer : Answer) → Says (read_at address n) answer → PhaseSays (after (Phase.looked s n body snaps address) answer)
-        looked (value v) h = look-says s n body _ (exec body.body (values_of _)) h
-        looked (late m horizon) h = plain (reply.Late m horizon) refl h
-        looked answer h = h
-    says-on (Phase.awaiting s seen) call answer e quiet h = let is : refresh ≡ call = cc in awaited answer
-        (subst (λ (c : Call). Says c answer) (sym is) h)
-      where
-        awaited : (answer : Answer) → Says refresh answer → PhaseSays (after (Phase.awaiting s seen) answer)
-        awaited (number n) h = by (nat_lt seen n)
-          where
-            by : (x : Bool) → PhaseSays (cond x (of_watches s (start_sync s.watching)) (Phase.over s turn.WaitWanted))
-            by true = h
-            by false = h
-        awaited answer h = h
-    says-on (Phase.watching s p) call answer e quiet h = of-says s (watches.after p answer) quiet (watch-says p call answer e h)
-    says-on (Phase.over s t) call answer e quiet h = absurd (cc)
-    says-on (Phase.broken f) call answer e quiet h = absurd (cc)
-
-    -- the first phase of a line
-    pub start-says : (shards seen : ℕ) (s : Session) (o : Option Attempt) (l : Line) → BeginsPlain s l → P []
-        → PhaseSays (start shards seen (with_attempt s o) l)
-    start-says shards seen s o asked.Quiet quiet h = h
-    start-says shards seen s o (asked.Refused reason) quiet h = plain (reply.Refused reason) refl h
-    start-says shards seen s None (asked.Begin body) quiet h = h
-    start-says shards seen s (Some a) (asked.Begin body) quiet h = plain (reply.Refused why.Busy) refl h
-    start-says shards seen s None (asked.Try tries body) quiet h = h
-    start-says shards seen s (Some a) (asked.Try tries body) quiet h = plain (reply.Refused why.Busy) refl h
-    start-says shards seen s None asked.Step quiet h = plain (reply.Refused why.NoAttempt) refl h
-    start-says shards seen s (Some a) asked.Step quiet h = h
-    start-says shards seen s None asked.Go quiet h = plain (reply.Refused why.NoAttempt) refl h
-    start-says shards seen s (Some a) asked.Go quiet h = h
-    start-says shards seen s None asked.Drop quiet h = plain (reply.Refused why.NoAttempt) refl h
-    start-says shards seen s (Some a) asked.Drop quiet h = plain reply.Dropped refl h
-    start-says shards seen s o (asked.Look body) quiet h = h
-    start-says shards seen s o (asked.At n body) quiet h = h
-    start-says shards seen s o (asked.Watch name body) quiet h = of-says (with_attempt s o) (start_watch s.watching name body) quiet h
-    start-says shards seen s o (asked.Unwatch name) quiet h = of-says (with_attempt s o) (start_unwatch s.watching name) quiet h
-    start-says shards seen s o asked.Sync quiet h = h
-    start-says shards seen s o asked.Wait quiet h = h
-    start-says shards seen s o asked.Seen quiet h = plain (reply.Seen seen) refl h
-    start-says shards seen s o asked.Quit quiet h = plain reply.Dropped refl h
-
-  -- a phase that asks has said nothing
-  pub asked-says : (q : Phase) (call : Call) → asks q ≡ Some call → PhaseSays q → P []
-  asked-says (Phase.over s t) call e h = absurd (cc)
-  asked-says (Phase.broken f) call e h = absurd (cc)
-  asked-says q call e h = h
 
 -- ---- the client's commits
 
@@ -336,31 +151,6 @@ event-own k s a (next.Prepare shard run) ready is mine = absurd (cc)
 event-own k s a (next.Append run) ready is mine =
     let same : ready_of a run s.client s.seq ≡ ready = cc in ap (λ (r : Ready). r.client) (sym same) ∙ mine
 
--- watches append nothing
-no-append : (p : WatchPhase) (ready : Ready) → watches.asks p ≡ Some (append ready) → ⊥
-no-append (WatchPhase.taking goal w) ready e = absurd (cc)
-no-append (WatchPhase.reading job w replies address) ready e = absurd (cc)
-no-append (WatchPhase.keeping job w replies address item) ready e = absurd (cc)
-no-append (WatchPhase.dropping next w replies address rest) ready e = absurd (cc)
-no-append (WatchPhase.over w replies) ready e = absurd (cc)
-no-append (WatchPhase.broken by_fault) ready e = absurd (cc)
-
--- what is appended is the client's
-asks-own : (k : Known) (q : Phase) (call : Call) → PhaseHolds k q → asks q ≡ Some call → (ready : Ready) → call ≡ append ready
-    → ready.client ≡ k.client
-asks-own k (Phase.stepping s a) call h e ready is = let same : call_of s a ≡ call = cc in event-own k s a (next_event a) ready (same ∙ is) h.0.client
-asks-own k (Phase.going s left a) call h e ready is = let same : call_of s a ≡ call = cc in event-own k s a (next_event a) ready (same ∙ is)
-    h.0.client
-asks-own k (Phase.beginning s a) call h e ready is = absurd (let no : refresh ≡ call = cc in let n : refresh ≡ append ready = no ∙ is in cc)
-asks-own k (Phase.trying s left a) call h e ready is = absurd (let no : refresh ≡ call = cc in let n : refresh ≡ append ready = no ∙ is in cc)
-asks-own k (Phase.looking s upto body) call h e ready is = absurd (let no : refresh ≡ call = cc in let n : refresh ≡ append ready = no ∙ is in cc)
-asks-own k (Phase.looked s m body snaps address) call h e ready is = absurd
-    (let no : read_at address m ≡ call = cc in let n : read_at address m ≡ append ready = no ∙ is in cc)
-asks-own k (Phase.awaiting s seen) call h e ready is = absurd (let no : refresh ≡ call = cc in let n : refresh ≡ append ready = no ∙ is in cc)
-asks-own k (Phase.watching s p) call h e ready is = absurd (no-append p ready (e ∙ ap (λ c. Some c) is))
-asks-own k (Phase.over s t) call h e ready is = absurd (cc)
-asks-own k (Phase.broken f) call h e ready is = absurd (cc)
-
 -- ---- what the disk denied
 
 -- of what was denied, as many replies say so; the last call may have denied one more
@@ -450,152 +240,6 @@ watch-plain most (r ∷ replies) all = (one r all.0, watch-plain most replies al
     one (reply.Commit n outcome) is = absurd is
     one reply.Disk is = absurd is
     one r is = refl
-
--- on its way
-way-plain : (k l : Known) (w : Watching) (line : WatchLine) (p : WatchPhase) → IsOnItsWay k w line l p → SaysPlain p
-way-plain k l w line p way v said e = watch-plain l.seen said (replies_are_seen k w line l v said (subst (IsOnItsWay k w line l) e way))
-
--- and where it answers
-answers-plain : (c m : Known) (q : Phase) (call : Call) (answer : Answer) → PhaseHolds c q → asks q ≡ Some call → IsAnswered c call answer m
-    → AnswersPlain q answer
-answers-plain c m (Phase.watching s p) call answer h asked step =
-    let on = watching-on c m s p call answer asked step h in way-plain on.start m s.watching on.line (watches.after p answer) on.way
-answers-plain c m (Phase.awaiting s seen) call answer h asked step = tt
-answers-plain c m (Phase.beginning s a) call answer h asked step = tt
-answers-plain c m (Phase.stepping s a) call answer h asked step = tt
-answers-plain c m (Phase.trying s left a) call answer h asked step = tt
-answers-plain c m (Phase.going s left a) call answer h asked step = tt
-answers-plain c m (Phase.looking s upto body) call answer h asked step = tt
-answers-plain c m (Phase.looked s n body snaps address) call answer h asked step = tt
-answers-plain c m (Phase.over s t) call answer h asked step = tt
-answers-plain c m (Phase.broken by_fault) call answer h asked step = tt
-
--- and where it begins
-begins-plain : (k : Known) (s : Session) (l : Line) → Attends k s → BeginsPlain s l
-begins-plain k s (asked.Watch name body) is =
-    way-plain k k s.watching (WatchLine.watch name body) (start_watch s.watching name body)
-    (record { keeps = is.watches.keeps; calls = 0; leads = WatchLeads.stays })
-begins-plain k s (asked.Unwatch name) is =
-    way-plain k k s.watching (WatchLine.unwatch name) (start_unwatch s.watching name)
-    (record { keeps = is.watches.keeps; calls = 0; leads = WatchLeads.stays })
-begins-plain k s asked.Quiet is = tt
-begins-plain k s (asked.Refused reason) is = tt
-begins-plain k s (asked.Begin body) is = tt
-begins-plain k s asked.Step is = tt
-begins-plain k s asked.Go is = tt
-begins-plain k s (asked.Try tries body) is = tt
-begins-plain k s asked.Drop is = tt
-begins-plain k s (asked.Look body) is = tt
-begins-plain k s (asked.At n body) is = tt
-begins-plain k s asked.Sync is = tt
-begins-plain k s asked.Wait is = tt
-begins-plain k s asked.Seen is = tt
-begins-plain k s asked.Quit is = tt
-
--- ---- whole ways
-
-module _ (k : Known) (p : Phase) (holds : PhaseHolds k p) where
-  -- what a line keeps to holds wherever it comes
-  pub kept-along : (n : ℕ) (m : Known) (q : Phase) → Leads IsAnswered k p n m q → PhaseHolds m q
-  kept-along n m q Leads.stays = holds
-  kept-along i m r (Leads.by_step {n = n} {c = c} {q = q} call answer led asked step is) = subst (PhaseHolds m) is
-      (phase-kept c m q call answer (kept-along n c q led) asked step)
-
-  -- what a line of watches says is plain
-  plain-along : (n : ℕ) (c : Known) (q : Phase) → Leads IsAnswered k p n c q → (call : Call) (answer : Answer) (m : Known) → asks q ≡ Some call
-      → IsAnswered c call answer m → AnswersPlain q answer
-  plain-along n c q led call answer m asked step = answers-plain c m q call answer (kept-along n c q led) asked step
-
-  -- it is one client of one store
-  pub same-along : (n : ℕ) (m : Known) (q : Phase) → Leads IsAnswered k p n m q → IsSameClient k m
-  same-along n m q Leads.stays = record { client = refl; trusted = refl; shards = refl; window = refl; limit = refl }
-  same-along i m r (Leads.by_step {n = n} {c = c} {q = q} call answer led asked step is) =
-      let so_far = same-along n c q led in let more = step.client in record {
-        client = more.client ∙ so_far.client;
-        trusted = more.trusted ∙ so_far.trusted;
-        shards = more.shards ∙ so_far.shards;
-        window = more.window ∙ so_far.window;
-        limit = more.limit ∙ so_far.limit;
-      }
-
-  module _ (first : (journal : Journal) → PhaseSays (HasOwn k.client journal journal) p) where
-    pub own-along : (n : ℕ) (m : Known) (q : Phase) → Leads IsAnswered k p n m q
-        → WhereTold (λ old new. PhaseSays (HasOwn k.client old new) q) k.journal m.journal
-    own-along n m q Leads.stays = WhereTold-refl (λ old new. PhaseSays (HasOwn k.client old new) p) k.journal first
-    own-along i m r (Leads.by_step {n = n} {c = c} {q = q} call answer led asked step is) =
-        let client = (same-along n c q led).client in
-        WhereTold-then {R = λ old new. PhaseSays (HasOwn k.client old new) q} {S = SaysOfJournal c m call answer} {T = λ old new. PhaseSays
-        (HasOwn k.client old new) r} k.journal c.journal m.journal
-        (λ old mid new before says. subst (PhaseSays (HasOwn k.client old new)) is
-        (subst (λ (x : ℕ). PhaseSays (HasOwn x old new) (after q answer)) client
-        (says-on (HasOwn c.client old new) (own-plains c.client old new) q call answer asked (plain-along n c q led call answer m asked step)
-        (own-says c m old mid new (subst (λ (x : ℕ). HasOwn x old mid []) (sym client) (asked-says (HasOwn k.client old mid) q call asked before))
-        call answer
-        (asks-own c q call (kept-along n c q led) asked) says))))
-        (own-along n c q led) step.told
-
-  module _ (first : PhaseSays (HasDenied k.denied k.denied) p) where
-    pub denied-along : (n : ℕ) (m : Known) (q : Phase) → Leads IsAnswered k p n m q → PhaseSays (HasDenied k.denied m.denied) q
-    denied-along n m q Leads.stays = first
-    denied-along i m r (Leads.by_step {n = n} {c = c} {q = q} call answer led asked step is) =
-        subst (PhaseSays (HasDenied k.denied m.denied)) is (says-on (HasDenied k.denied m.denied) (denied-plains k.denied m.denied) q call answer asked
-        (plain-along n c q led call answer m asked step)
-        (denied-says c m k.denied call answer (asked-says (HasDenied k.denied c.denied) q call asked (denied-along n c q led)).denied step))
-
-  module _ (first : PhaseSays (HasKnown k.denials k.denials) p) where
-    pub known-along : (n : ℕ) (m : Known) (q : Phase) → Leads IsAnswered k p n m q → PhaseSays (HasKnown k.denials m.denials) q
-    known-along n m q Leads.stays = first
-    known-along i m r (Leads.by_step {n = n} {c = c} {q = q} call answer led asked step is) =
-        subst (PhaseSays (HasKnown k.denials m.denials)) is (says-on (HasKnown k.denials m.denials) (known-plains k.denials m.denials)
-        q call answer asked (plain-along n c q led call answer m asked step)
-        (known-says c m k.denials call answer (asked-says (HasKnown k.denials c.denials) q call asked (known-along n c q led)).known step))
-
--- ---- a line
-
-module _ (k : Known) (s : Session) (l : Line) (is : Attends k s) (ready : BodyIsReady l) (n : ℕ) (m : Known) (q : Phase)
-    (led : Leads IsAnswered k (start k.shards k.seen s l) n m q) where
-  -- what a line begins with is held
-  holds : PhaseHolds k (start k.shards k.seen s l)
-  holds = phase-begins k s l is ready
-
-  -- from nothing said, step by step
-  pub line-owns : WhereTold (λ old new. PhaseSays (HasOwn k.client old new) q) k.journal m.journal
-  line-owns = own-along k (start k.shards k.seen s l) holds
-      (λ journal. start-says (HasOwn k.client journal journal) (own-plains k.client journal journal) k.shards k.seen s s.attempt l
-      (begins-plain k s l is) (own-nothing k.client journal)) n m q led
-
-  -- the same of what the disk denied
-  pub line-denies : PhaseSays (HasDenied k.denied m.denied) q
-  line-denies = denied-along k (start k.shards k.seen s l) holds
-      (start-says (HasDenied k.denied k.denied) (denied-plains k.denied k.denied) k.shards k.seen s s.attempt l
-      (begins-plain k s l is) (record { denied = refl; one = inl refl })) n m q led
-
-  -- and of those that are known of
-  pub line-knows : PhaseSays (HasKnown k.denials m.denials) q
-  line-knows = known-along k (start k.shards k.seen s l) holds
-      (start-says (HasKnown k.denials k.denials) (known-plains k.denials k.denials) k.shards k.seen s s.attempt l
-      (begins-plain k s l is) (record { known = omega arith; up = omega arith })) n m q led
-
--- ---- where a line has failed
-
--- one commit at most was named
-one-own : (client : ℕ) (old new : Journal) (replies : List Reply) → HasOwn client old new replies → OwnsOneAtMost client old new
-one-own client old new replies h = record { more = committed_by new replies; few = h.few; own_is = h.own_is }
-
--- an asking phase has said nothing
-pub phase-owns-one : (client : ℕ) (old new : Journal) (q : Phase) → PhaseSays (HasOwn client old new) q → OwnsOneAtMost client old new
-phase-owns-one client old new (Phase.over t turn) h = one-own client old new (replies_in turn) h
-phase-owns-one client old new q h = one-own client old new [] h
-
--- one denial at most was counted
-pub phase-denies-one : (old new : ℕ) (q : Phase) → PhaseSays (HasDenied old new) q → (new ≡ old) ⊎ (new ≡ one_more old)
-phase-denies-one old new (Phase.over t turn) h = h.one
-phase-denies-one old new q h = h.one
-
--- no phase knows of fewer
-pub phase-knows : (old new : ℕ) (q : Phase) → PhaseSays (HasKnown old new) q → old ≤ new
-phase-knows old new (Phase.over t turn) h = h.up
-phase-knows old new q h = h.up
 
 -- of more, one more is no less
 one-more-rises : (m n : ℕ) → m ≤ n → one_more m ≤ one_more n

@@ -16,9 +16,9 @@ use Rattle.session_core.specs.declared.line.Line.TheVariants as asked
 use Rattle.session_core.specs.declared.turn.Turn.{Turn}
 use Rattle.session_core.specs.declared.turn.Turn.TheVariants as turn
 use Rattle.session_core.specs.Lines.{line_of}
-use Rattle.session_core.specs.Phases.{opened}
+use Rattle.session_core.specs.Events.{opened}
 use Rattle.client_watches.specs.Explained.{ShownList, GoalPasses}
-use Rattle.client_watches.specs.Phases.{Goal}
+use Rattle.client_watches.specs.Goals.{Goal}
 use Rattle.client_watches.specs.Standing.{CanRead}
 use Rattle.client_watches.proofs.Lined.{passing_stays}
 use Rattle.client_watches.proofs.Stays.{AreUpTo}

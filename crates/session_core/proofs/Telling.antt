@@ -25,7 +25,7 @@ use Rattle.call_programs.proofs.Programs.{always_bind}
 use Rattle.session_core.specs.declared.moved.Moved.{Moved}
 use Rattle.session_core.specs.declared.moved.Moved.TheVariants as moved
 use Rattle.session_core.specs.declared.session.Session.{Session}
-use Rattle.session_core.specs.Phases.{with_attempt, closed, opened, afresh, event_call, moved_at}
+use Rattle.session_core.specs.Events.{with_attempt, closed, opened, afresh, event_call, moved_at}
 use Rattle.session_core.specs.Explained.{replies_in}
 use Rattle.session_core.specs.Verbs.{LineEnd, AttemptEnd, says, refreshed, refresh_then, moved_to, event, unshown, event_on, or_on, drive_in, events, drive}
 use Rattle.session_core.specs.Verbs.{attempt_once, unless_abort, or_again, then_again, last_shown, try_times, by_attempt, unless_open, if_open, opens, begin}

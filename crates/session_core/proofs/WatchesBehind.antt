@@ -10,7 +10,7 @@ use Rattle.call_programs.proofs.Programs.{always_more}
 use Rattle.client_watches.specs.declared.watching.Watching.{Watching}
 use Rattle.client_watches.specs.Keeping.{Keeps}
 use Rattle.client_watches.specs.Standing.{CanReadOn}
-use Rattle.client_watches.specs.Phases.{Goal}
+use Rattle.client_watches.specs.Goals.{Goal}
 use Rattle.client_watches.specs.Laws.{Attends, GoesOn, MayBeShown, Passes, Forgets}
 use Rattle.client_watches.specs.GoingOn.{WatchLine}
 use Rattle.client_watches.specs.LineLaws.{program_of}

@@ -23,7 +23,7 @@ use Rattle.session_core.specs.declared.moved.Moved.{Moved}
 use Rattle.session_core.specs.declared.moved.Moved.TheVariants as moved
 use Rattle.session_core.specs.declared.session.Session.{Session}
 use Rattle.session_core.specs.Bounds.{attempt_calls, calls_of_attempts}
-use Rattle.session_core.specs.Phases.{with_attempt, opened, afresh, moved_at, closed}
+use Rattle.session_core.specs.Events.{with_attempt, opened, afresh, moved_at, closed}
 use Rattle.session_core.specs.Verbs.{LineEnd, AttemptEnd, says, refreshed, refresh_then, moved_to, event, unshown, event_on, or_on, drive_in, events, drive}
 use Rattle.session_core.specs.Verbs.{attempt_once, unless_abort, or_again, then_again, last_shown, try_times, by_attempt, unless_open, if_open, opens, begin}
 use Rattle.session_core.specs.Verbs.{closing, tries_at, commit, stepped, steps, step, goes_on, go, give_up, valued, look_by, look_in, look_at, look_from, look}

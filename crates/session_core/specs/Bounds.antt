@@ -1,26 +1,18 @@
 -- How many calls a line makes at most, whatever it is answered.
-use Rattle.std.specs.Prelude.{◌≡◌, ℕ, ◌+◌, ◌*◌, ◌≤◌, ◌<◌, max, Some, refl}
+use Rattle.std.specs.Prelude.{◌≡◌, ℕ, ◌+◌, ◌*◌, ◌≤◌, ◌<◌, max, refl}
 use Rattle.rdt_types.specs.declared.limits.TheConstants.{MOST_SHARDS}
 use Rattle.session_text.specs.declared.limits.TheConstants.{MOST_ATTEMPTS}
 use Rattle.txn_grammar.specs.Characters.{Text}
 use Rattle.txn_lang.specs.declared.checked.Checked.{Checked}
 use Rattle.txn_lang.specs.declared.limits.TheConstants.{TICK_LIMIT}
-use Rattle.docc_prepare.specs.Calls.{Call, Answer}
-use Rattle.session_core.specs.declared.limits.TheConstants.{MOST_CALLS}
 use Rattle.session_core.specs.declared.line.Line.{Line}
 use Rattle.session_core.specs.declared.line.Line.TheVariants as asked
 use Rattle.session_core.specs.declared.session.Session.{Session}
 use Rattle.client_watches.specs.Bounds.{most_calls as watch_calls}
 use Rattle.client_watches.specs.GoingOn.{WatchLine}
-use Rattle.client_watches.specs.Keeping.{AreDistinct}
 use Rattle.client_watches.specs.Watching.{none_yet}
 use Rattle.session_core.specs.Lines.{line_of}
-use Rattle.session_core.specs.Phases.{Phase, with_watching, asks, after, start}
-
--- From one phase to another by so many answers, each to the call that is asked for. They may be any answers.
-pub data Comes (p : Phase) : ℕ → Phase → Type 0 where
-  stays : Comes p 0 p
-  by_answer : {n : ℕ} {q : Phase} (call : Call) (answer : Answer) → Comes p n q → asks q ≡ Some call → Comes p (n + 1) (after q answer)
+use Rattle.session_core.specs.Events.{with_watching}
 
 -- ---- the bounds
 
@@ -48,18 +40,7 @@ most_calls s asked.Sync = watch_calls WatchLine.sync s.watching
 most_calls s asked.Wait = 1 + watch_calls WatchLine.sync s.watching
 most_calls s l = 0
 
--- so many calls were made, and where one more is asked for, fewer than the most
-pub record IsBounded (most n : ℕ) (q : Phase) : Type 0 where
-  pub within : n ≤ most
-  pub more : (call : Call) → asks q ≡ Some call → n < most
-
 -- ---- laws
-
--- Whatever a line is answered, it makes no more calls, where no two watches have one name.
-abbrev pub LinesAreBounded : Type 0
-LinesAreBounded =
-    (shards seen : ℕ) (s : Session) (line : Line) (n : ℕ) (q : Phase)
-    → AreDistinct s.watching.watches → Comes (start shards seen s line) n q → IsBounded (most_calls s line) n q
 
 -- A line that was read makes one try or more, and no more than the form of its verb allows.
 abbrev pub TriesAreFew : Type 0
@@ -72,12 +53,6 @@ IsPlain (asked.Unwatch name) = ⊥
 IsPlain asked.Sync = ⊥
 IsPlain asked.Wait = ⊥
 IsPlain l = Unit {0}
-
--- So the calls that a line without watches may make suffice: where so many were made the line is over, or a call of it has failed.
-abbrev pub CallsSuffice : Type 0
-CallsSuffice =
-    (shards seen : ℕ) (s : Session) (text : Text) (n : ℕ) (q : Phase)
-    → IsPlain (line_of text) → AreDistinct s.watching.watches → Comes (start shards seen s (line_of text)) n q → IsBounded MOST_CALLS n q
 
 -- ---- worked lines
 

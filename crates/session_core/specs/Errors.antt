@@ -1,6 +1,8 @@
 -- What failed calls make of a session.
+use Rattle.std.specs.Prelude.{◌≡◌, Bool, true, false}
 use Rattle.docc_prepare.specs.declared.backend.StoreError.{StoreError}
 use Rattle.docc_prepare.specs.declared.backend.StoreError.TheVariants as store
+use Rattle.docc_prepare.specs.Calls.{Answer}
 use Rattle.client_watches.specs.declared.error.WatchError.{WatchError}
 use Rattle.client_watches.specs.declared.error.WatchError.TheVariants as watch
 use Rattle.session_core.specs.declared.error.SessionError.{SessionError}
@@ -15,3 +17,14 @@ error_of store.NoMemory = error.NoMemory
 abbrev pub of_watch_error : WatchError → SessionError
 of_watch_error watch.StoreFault = error.StoreFault
 of_watch_error watch.NoMemory = error.NoMemory
+
+-- and the error of a call that has failed, by a fault or not
+abbrev pub error_by : Bool → SessionError
+error_by true = error.StoreFault
+error_by false = error.NoMemory
+
+-- WHICH ERROR AN ANSWERED CALL LEAVES: that of a failed one. Any other answer may find that memory is wanting for it, unless the call
+-- was one whose answer is to be told whatever comes: an append.
+abbrev pub LeavesError : (appends : Bool) → Answer → SessionError → Type 0
+LeavesError appends (Answer.failed by_fault) e = e ≡ error_by by_fault
+LeavesError appends answer e = (e ≡ error.NoMemory) × (appends ≡ false)

@@ -38,7 +38,7 @@ use Rattle.session_core.specs.declared.session.Session.{Session}
 use Rattle.session_core.specs.declared.error.SessionError.{SessionError}
 use Rattle.session_core.specs.declared.turn.Turn.{Turn}
 use Rattle.session_core.specs.declared.turn.Turn.TheVariants as turn
-use Rattle.session_core.specs.Phases.{seq_after, opened, said}
+use Rattle.session_core.specs.Events.{seq_after, opened, said}
 
 -- the store's settings, as far as replies tell of them
 pub record Setting : Type 0 where

@@ -3,11 +3,11 @@ pub mod Limits
 pub mod Words
 pub mod Bodies
 pub mod Lines
-pub mod Phases
+pub mod Events
 pub mod Verbs
+pub mod Stopping
 pub mod LinePrograms
 pub mod Holding
-pub mod Leading
 pub mod Explained
 pub mod Bounds
 pub mod GoingOn

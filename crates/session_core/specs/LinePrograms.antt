@@ -15,7 +15,7 @@ use Rattle.session_core.specs.declared.line.Line.{Line}
 use Rattle.session_core.specs.declared.line.Line.TheVariants as asked
 use Rattle.session_core.specs.declared.session.Session.{Session}
 use Rattle.session_core.specs.declared.turn.Turn.TheVariants as turn
-use Rattle.session_core.specs.Phases.{with_attempt, closed, with_watching, said}
+use Rattle.session_core.specs.Events.{with_attempt, closed, with_watching, said}
 use Rattle.session_core.specs.Verbs.{LineEnd, says, refresh_then, begin, commit, step, go, give_up, look}
 
 -- ---- lines of watches

@@ -1,9 +1,8 @@
 -- Whole sessions: the lines of one client, one after another, with others at work between them. What a client is answered is
 -- explained by the journal at the end; its commits and its denials are those that it was answered.
-use Rattle.std.specs.Prelude.{◌≡◌, ◌⊎◌, ℕ, ◌≤◌, List, [], ◌∷◌, ◌++◌, map, fold, length, Option, Some, None, Result, Ok, Err, codes, refl}
-use Rattle.dio_core.specs.Counts.{one_more, last_count, Rose}
+use Rattle.std.specs.Prelude.{◌≡◌, ◌⊎◌, ℕ, ◌≤◌, List, [], ◌∷◌, ◌++◌, map, fold, Option, Some, None, Result, Ok, Err, codes, refl}
+use Rattle.dio_core.specs.Counts.{one_more, last_count}
 use Rattle.dio_core.specs.Told.{WhereTold}
-use Rattle.dio_core.specs.declared.line.TheConstants.{LONGEST_LINE}
 use Rattle.rdt_types.specs.declared.outcome.Outcome.{Outcome}
 use Rattle.session_text.specs.declared.reply.Reply.{Reply}
 use Rattle.session_text.specs.declared.reply.Reply.TheVariants as reply
@@ -13,19 +12,19 @@ use Rattle.txn_lang.specs.States.{Journal}
 use Rattle.txn_lang.specs.Journals.{own}
 use Rattle.journal_core.specs.Changes.{adding}
 use Rattle.journal_core.specs.Journals.{commit_at}
-use Rattle.docc_prepare.specs.Calls.{Known, Call, Answer}
-use Rattle.docc_prepare.specs.Backends.{IsPrefix, IsAnswered, IsLater}
+use Rattle.docc_prepare.specs.Calls.{Known}
+use Rattle.docc_prepare.specs.Backends.{IsPrefix, IsLater}
+use Rattle.call_programs.specs.Safe.{CountsFault}
 use Rattle.client_watches.specs.Standing.{CanRead}
 use Rattle.session_core.specs.declared.line.Line.{Line}
+use Rattle.session_core.specs.declared.line.Line.TheVariants as asked
 use Rattle.session_core.specs.declared.session.Session.{Session}
 use Rattle.session_core.specs.declared.error.SessionError.{SessionError}
 use Rattle.session_core.specs.declared.error.SessionError.TheVariants as error
 use Rattle.session_core.specs.declared.turn.Turn.{Turn}
-use Rattle.session_core.specs.declared.turn.Turn.TheVariants as turn
 use Rattle.session_core.specs.Lines.{line_of}
-use Rattle.session_core.specs.Phases.{Phase, synced}
+use Rattle.session_core.specs.Events.{closed}
 use Rattle.session_core.specs.Holding.{Attends}
-use Rattle.session_core.specs.Leading.{Leads, start_over}
 use Rattle.session_core.specs.Explained.{Setting, Story, AreReported, story_of, replies_in, Explains, MayBeTold, setting_of, IsExplained}
 
 -- ---- the client's own commits
@@ -45,16 +44,14 @@ committed_by journal (r ∷ rest) = committed_by journal rest
 abbrev pub OwnsAnswered : ℕ → List Reply → Journal → Journal → Type 0
 OwnsAnswered client replies old new = own client new ≡ own client old ++ committed_by new replies
 
--- of what is answered with an error: it may have one commit more
-pub record OwnsOneAtMost (client : ℕ) (old new : Journal) : Type 0 where
-  pub more : List Commit
-  pub few : length more ≤ 1
-  pub own_is : own client new ≡ own client old ++ more
+-- AFTER AN ERROR THE CLIENT OWNS NO MORE: its commits are those before.
+abbrev pub OwnsNoMore : ℕ → Journal → Journal → Type 0
+OwnsNoMore client old new = own client new ≡ own client old
 
 -- what a line adds to its client's commits, where the journal is told
 abbrev pub OwnGrows : Known → Known → Result Turn SessionError → Type 0
 OwnGrows k l (Ok turn) = WhereTold (OwnsAnswered k.client (replies_in turn)) k.journal l.journal
-OwnGrows k l (Err e) = WhereTold (OwnsOneAtMost k.client) k.journal l.journal
+OwnGrows k l (Err e) = WhereTold (OwnsNoMore k.client) k.journal l.journal
 
 -- ---- what the disk denied
 
@@ -67,19 +64,19 @@ denied_by count r = count
 abbrev pub denied_by_all : ℕ → List Reply → ℕ
 denied_by_all count replies = fold denied_by count replies
 
--- `disk` is answered as often as the client's count of denials rises; an error may hide one
+-- `disk` is answered as often as the client's count of denials rises; an error hides none
 abbrev pub CountsDenied : Known → Known → Result Turn SessionError → Type 0
 CountsDenied k l (Ok turn) = l.denied ≡ denied_by_all k.denied (replies_in turn)
-CountsDenied k l (Err e) = (l.denied ≡ k.denied) ⊎ (l.denied ≡ one_more k.denied)
+CountsDenied k l (Err e) = l.denied ≡ k.denied
 
 -- of denials in the whole store it knows of no fewer more
 abbrev pub CountsKnown : Known → Known → Result Turn SessionError → Type 0
 CountsKnown k l (Ok turn) = denied_by_all k.denials (replies_in turn) ≤ l.denials
 CountsKnown k l (Err e) = k.denials ≤ l.denials
 
--- a fault of the store is one after which the session was over already, or the store has counted it
-abbrev pub CountsFault : Known → Known → Session → Result Turn SessionError → Type 0
-CountsFault k l s result = result ≡ Err error.StoreFault → (s.over ≡ Some error.StoreFault) ⊎ Rose k.faults l.faults
+-- A FAULT OF THE STORE IS TOLD: the answer is that error exactly where the store's count of faults has risen; else it has stayed.
+abbrev pub TellsFault : Known → Known → Result Turn SessionError → Type 0
+TellsFault k l result = CountsFault error.StoreFault result k.faults l.faults
 
 -- all that is said of a line and of what it is answered
 pub record IsAccounted (k l : Known) (s : Session) (line : Line) (result : Result Turn SessionError) (t : Session) : Type 0 where
@@ -88,27 +85,28 @@ pub record IsAccounted (k l : Known) (s : Session) (line : Line) (result : Resul
   pub denied : CountsDenied k l result
   pub knows : CountsKnown k l result
 
+-- ---- a session's end
+
+-- Where a line has ended the session it was `quit`, by which nothing is asked; and the session keeps all but its open attempt.
+pub record HasQuit {B : Type 0} (l : Line) (rs : List Reply) (old new : B) (s t : Session) : Type 0 where
+  pub line : l ≡ asked.Quit
+  pub replies : rs ≡ reply.Dropped ∷ []
+  pub backend : new ≡ old
+  pub session : t ≡ closed s
+
+-- ---- a session that is over
+
+-- What it answers: the error after which it is over, and nothing is done.
+pub record AnswersAgain {B : Type 0} (e : SessionError) (result : Result Turn SessionError) (old new : B) (s t : Session) : Type 0 where
+  pub answers : result ≡ Err e
+  pub backend : new ≡ old
+  pub session : t ≡ s
+
 -- ---- line after line
 
 -- how a line finds the backend: as the one before left it, or as others have left it since
 abbrev pub Finds : Known → Known → Type 0
 Finds k here = (here ≡ k) ⊎ IsLater k here
-
--- A LINE AND ITS ANSWER: it goes the way of the machine of phases, by calls that keep the clause of every call. Where it is to
--- wait, the client waits until its backend answers that there is a commit to tell of, and then the line goes on as `sync` does.
-pub data Says (k : Known) (s : Session) (text : Text) (said : Turn) (l : Known) (t : Session) : Type 0 where
-  at_once : (calls : ℕ) → Leads IsAnswered k (start_over k s (line_of text)) calls l (Phase.over t said) → Says k s text said l t
-  woken : (there woke : Known) (u : Session) (calls again : ℕ)
-      → Leads IsAnswered k (start_over k s (line_of text)) calls there (Phase.over u turn.WaitWanted)
-      → IsAnswered there Call.wait Answer.done woke
-      → Leads IsAnswered woke (synced u) again l (Phase.over t said) → Says k s text said l t
-
--- LINES AND THEIR ANSWERS, one after another.
-pub data Talks : Known → Session → List Text → List Turn → Known → Session → Type 0 where
-  silent : {k : Known} {s : Session} → Talks k s [] [] k s
-  says : {k here l m : Known} {s t u : Session} {text : Text} {said : Turn} {texts : List Text} {turns : List Turn}
-      → Finds k here → length text ≤ LONGEST_LINE → Says here s text said l t
-      → Talks l t texts turns m u → Talks k s (text ∷ texts) (said ∷ turns) m u
 
 -- the replies of answers, one after another
 abbrev pub all_replies : List Turn → List Reply
@@ -135,12 +133,6 @@ pub record HasTalked (k l : Known) (s t : Session) (texts : List Text) (turns : 
 abbrev pub ExplainsStays : Type 0
 ExplainsStays = (set : Setting) (old new : Journal) (y : Story) (texts : List Text) (turns : List Turn) → CanRead old → CanRead new → IsPrefix old new
     → AreReported y → Explains set old y (map line_of texts) turns → Explains set new y (map line_of texts) turns
-
--- OVER EVERY BACKEND THAT TELLS ITS JOURNAL, ALL ANSWERS OF A SESSION ARE EXPLAINED BY THE JOURNAL AT ITS END, whatever others
--- did between its lines; and the client's commits and denials are the answered ones.
-abbrev pub SessionsAreExplained : Type 0
-SessionsAreExplained = (k l : Known) (s t : Session) (texts : List Text) (turns : List Turn) → Attends k s → Talks k s texts turns l t
-    → HasTalked k l s t texts turns
 
 -- ---- worked lines
 

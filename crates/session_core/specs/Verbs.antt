@@ -27,7 +27,7 @@ use Rattle.session_core.specs.declared.moved.Moved.{Moved}
 use Rattle.session_core.specs.declared.moved.Moved.TheVariants as moved
 use Rattle.session_core.specs.declared.session.Session.{Session}
 use Rattle.session_core.specs.declared.turn.Turn.{Turn}
-use Rattle.session_core.specs.Phases.{with_attempt, closed, ended, opened, afresh, call_of, moved_by, said}
+use Rattle.session_core.specs.Events.{with_attempt, closed, ended, opened, afresh, call_of, moved_by, said}
 
 -- THE END OF A LINE: the session after it, and the turn that it is answered
 abbrev pub LineEnd : Type 0
@@ -224,7 +224,7 @@ look upto body = refresh_then (look_from upto body)
 -- ---- what functions do
 
 -- A function that may fail as a line does performs a program over its backend: the program ends with what is made of the result.
--- After an error it has stopped on the way, and where the error is a fault of the store, a call has failed by one.
+-- After an error it has stopped on the way, and that is a fault of the store exactly where a call has failed by one.
 abbrev pub Plays : {B A T : Type 0} → (B → Known) → (B → Call → Answer → B → Type 0) → B → Program A → Result T SessionError → (T → A) → B
     → Type 0
 Plays known goes old p result give new = Performs (Goes known goes) error.StoreFault old p result give new

@@ -2,9 +2,9 @@
 
 ghost use Rattle.std.specs.Prelude.{◌≡◌, ◌≤◌, ◌<◌, ◌-◌, ◌^◌, length, ◌∷◌, [], IfOk, vec_len, vec_capacity};
 ghost use Rattle.session_core.specs.Lines.{line_of};
-ghost use Rattle.session_core.specs.Phases.{start, synced};
 ghost use Rattle.session_core.specs.Holding.{Attends, BodyIsReady};
-ghost use Rattle.session_core.specs.Leading.{Went, turn_of};
+ghost use Rattle.session_core.specs.code.Turning.{turn_of};
+ghost use Rattle.session_core.specs.Stopping.{Does};
 ghost use Rattle.session_core.specs.Sessions.{IsAccounted};
 ghost use Rattle.session_core.specs.LinePrograms as programs;
 ghost use Rattle.session_core.specs.Verbs.{Plays};
@@ -66,10 +66,8 @@ fn act<B: Backend>(
     requires attends { Attends (B.known backend.old) session.old }
     requires ready { BodyIsReady line }
     requires room { session.old.seq < 2 ^ 64 - 1 }
-    ensures went { Went B.known B.goes backend.old
-        (start (B.known backend.old).shards (B.known backend.old).seen session.old line)
-        result backend.new session.new }
-    ensures plays { Plays B.known B.goes backend.old (programs.line_over (B.known backend.old) session.old line) result
+    ensures plays { Does B.known B.goes backend.old
+        (programs.line_over (B.known backend.old) session.old line) result
         (λ turn. (session.new, turn)) backend.new }
     ensures home { B.home backend.new ≡ B.home backend.old }
 {
@@ -105,12 +103,11 @@ pub fn turn<B: Backend>(
 ) -> Result<Turn, SessionError>
     requires attends { Attends (B.known backend.old) session.old }
     requires short { length bytes.now ≤ LONGEST_LINE }
-    ensures went { Went B.known B.goes backend.old
-        (start (B.known backend.old).shards (B.known backend.old).seen session.old (line_of bytes.now))
-        result backend.new session.new }
     ensures plays { Plays B.known B.goes backend.old
-        (programs.line_over (B.known backend.old) session.old (line_of bytes.now)) result (λ turn. (session.new, turn)) backend.new }
-    ensures accounted { IsAccounted (B.known backend.old) (B.known backend.new) session.old (line_of bytes.now) result session.new }
+        (programs.line_over (B.known backend.old) session.old (line_of bytes.now)) result
+        (λ turn. (session.new, turn)) backend.new }
+    ensures accounted { IsAccounted (B.known backend.old) (B.known backend.new) session.old
+        (line_of bytes.now) result session.new }
     ensures attends { IfOk result (λ turn. Attends (B.known backend.new) session.new) }
     ensures home { B.home backend.new ≡ B.home backend.old }
 {
@@ -128,10 +125,10 @@ pub fn sync_turn<B: Backend>(
     session: &mut Session,
 ) -> Result<Turn, SessionError>
     requires attends { Attends (B.known backend.old) session.old }
-    ensures went { Went B.known B.goes backend.old (synced session.old) result backend.new session.new }
     ensures plays { Plays B.known B.goes backend.old (programs.sync session.old) result
         (λ turn. (session.new, turn)) backend.new }
-    ensures accounted { IsAccounted (B.known backend.old) (B.known backend.new) session.old Line.Sync result session.new }
+    ensures accounted { IsAccounted (B.known backend.old) (B.known backend.new) session.old
+        Line.Sync result session.new }
     ensures attends { IfOk result (λ turn. Attends (B.known backend.new) session.new) }
     ensures home { B.home backend.new ≡ B.home backend.old }
 {

@@ -1,13 +1,12 @@
 //! Attempts of a session: events to the end, and attempts one after another.
 
-ghost use Rattle.std.specs.Prelude.{◌≡◌, ◌-◌, ◌<◌, ℕ, None};
-ghost use Rattle.docc_prepare.specs.Calls.{Known};
-ghost use Rattle.session_core.specs.Phases as spec;
-ghost use Rattle.session_core.specs.Phases.{Phase, closed, after_end};
+ghost use Rattle.std.specs.Prelude.{◌≡◌, ◌-◌};
+ghost use Rattle.session_core.specs.Events as spec;
+ghost use Rattle.session_core.specs.Events.{closed};
+ghost use Rattle.session_core.specs.code.Turning as turning;
 ghost use Rattle.session_core.specs.Holding.{Attends, Holds};
-ghost use Rattle.session_core.specs.Leading.{Drives, Attempts, Closes, followed_by};
+ghost use Rattle.session_core.specs.Stopping.{Does};
 ghost use Rattle.session_core.specs.Verbs as verbs;
-ghost use Rattle.session_core.specs.Verbs.{Plays};
 
 use crate::error::SessionError;
 use crate::event::event_on;
@@ -27,8 +26,7 @@ pub fn drive<B: Backend>(
 ) -> Result<Reply, SessionError>
     requires attends { Attends (B.known backend.old) (closed session.now) }
     requires holds { Holds (B.known backend.old) attempt.old }
-    ensures drives { Drives B.known B.goes session.now attempt.old backend.old result attempt.new backend.new }
-    ensures plays { Plays B.known B.goes backend.old (verbs.drive session.now attempt.old) result
+    ensures plays { Does B.known B.goes backend.old (verbs.drive session.now attempt.old) result
         (λ reply. (attempt.new, reply)) backend.new }
     ensures home { B.home backend.new ≡ B.home backend.old }
 {
@@ -52,8 +50,8 @@ fn attempt_once<B: Backend>(
 ) -> Result<Reply, SessionError>
     requires attends { Attends (B.known backend.old) (closed session.now) }
     requires holds { Holds (B.known backend.old) attempt.old }
-    ensures attempts { Attempts B.known B.goes session.now attempt.old backend.old result attempt.new backend.new }
-    ensures plays { Plays B.known B.goes backend.old (verbs.attempt_once session.now attempt.old) result
+    ensures plays { Does B.known B.goes backend.old
+        (verbs.attempt_once session.now attempt.old) result
         (λ reply. (attempt.new, reply)) backend.new }
     ensures home { B.home backend.new ≡ B.home backend.old }
 {
@@ -71,7 +69,7 @@ fn afresh(alloc: Global, attempt: Attempt) -> Attempt
 
 /// Whether an attempt was aborted.
 fn is_abort(reply: &Reply) -> bool
-    ensures { result ≡ spec.is_abort reply.now }
+    ensures { result ≡ turning.is_abort reply.now }
 {
     match reply {
         Reply::Abort(_) => true,
@@ -81,8 +79,7 @@ fn is_abort(reply: &Reply) -> bool
 
 /// The reply with which an attempt ends, unless it is an abort: behind that another attempt may follow.
 fn unless_abort(reply: Reply) -> Option<Reply>
-    ensures follows { (s : Session) (left : ℕ) (a : Attempt) → 0 < left → after_end s left a reply ≡ followed_by s left a result }
-    ensures shows { result ≡ verbs.unless_abort reply }
+    ensures { result ≡ verbs.unless_abort reply }
 {
     if is_abort(&reply) {
         return None;
@@ -100,9 +97,8 @@ pub fn try_times<B: Backend>(
 ) -> Result<Reply, SessionError>
     requires attends { Attends (B.known backend.old) (closed session.now) }
     requires holds { Holds (B.known backend.old) attempt }
-    ensures closes { Closes B.known B.goes session.now backend.old (Phase.trying session.now (tries - 1) attempt) result backend.new }
-    ensures plays { Plays B.known B.goes backend.old (verbs.try_times (tries - 1) session.now attempt) result
-        (λ reply. reply) backend.new }
+    ensures plays { Does B.known B.goes backend.old
+        (verbs.try_times (tries - 1) session.now attempt) result (λ reply. reply) backend.new }
     ensures home { B.home backend.new ≡ B.home backend.old }
 {
     let mut attempt = attempt;

@@ -5,12 +5,13 @@ ghost use Rattle.txn_lang.specs.declared.run.Run.{Run};
 ghost use Rattle.docc_prepare.specs.declared.attempt.Attempt.{Attempt};
 ghost use Rattle.docc_prepare.specs.Attempts.{in_shard, based, next_event, ready_of, with_front, KeepsPauses, Prepares};
 ghost use Rattle.docc_prepare.specs.Calls.{snap_answered, front_answered, commit_answered};
-ghost use Rattle.session_core.specs.Phases.{closed};
+ghost use Rattle.session_core.specs.Events.{closed};
 ghost use Rattle.session_core.specs.Holding.{Attends, Holds};
-ghost use Rattle.session_core.specs.Leading.{Turned, Makes, MakesOn, Appends, moved_on_read, moved_on_prepare, moved_on_append};
+ghost use Rattle.session_core.specs.code.Turning.{Turned, Appends, moved_on_read, moved_on_prepare, moved_on_append};
 ghost use Rattle.session_core.specs.Remembering.{AreAllOf, IsRunOf, IsKnownOf, Remembers};
 ghost use Rattle.session_core.specs.Verbs as verbs;
-ghost use Rattle.session_core.specs.Verbs.{Plays, was_read, was_prepared};
+ghost use Rattle.session_core.specs.Verbs.{was_read, was_prepared};
+ghost use Rattle.session_core.specs.Stopping.{Does};
 
 use crate::error::SessionError;
 use crate::moved::Moved;
@@ -33,7 +34,8 @@ fn after_read(
     answer: Result<Snap, StoreError>,
 ) -> Result<u64, SessionError>
     requires { next_event attempt.old ≡ Next.Read address }
-    ensures turned { Turned attempt.old (snap_answered answer) (moved_on_read address attempt.new result) }
+    ensures turned { Turned attempt.old (snap_answered answer)
+        (moved_on_read address attempt.new result) }
     ensures pauses { OnOk result (KeepsPauses attempt.old attempt.new) }
 {
     match answer {
@@ -57,9 +59,11 @@ fn after_prepare(
     answer: Result<Prepared, PrepareError>,
 ) -> Result<Result<u64, Reply>, SessionError>
     requires { Prepares attempt.old shard }
-    ensures turned { Turned attempt.old (front_answered answer) (moved_on_prepare shard attempt.new result) }
+    ensures turned { Turned attempt.old (front_answered answer)
+        (moved_on_prepare shard attempt.new result) }
     ensures pauses { IfOk result (λ front. OnOk front (KeepsPauses attempt.old attempt.new)) }
-    ensures front { IfOk result (λ front. IfOk front (λ f. attempt.new ≡ with_front attempt.old shard f)) }
+    ensures front { IfOk result (λ front. IfOk front (λ f.
+        attempt.new ≡ with_front attempt.old shard f)) }
 {
     match answer {
         Ok(prepared) => {
@@ -122,8 +126,7 @@ fn read_event<B: Backend>(
     requires attends { Attends (B.known backend.old) (closed session.now) }
     requires holds { Holds (B.known backend.old) attempt.old }
     requires next { next_event attempt.old ≡ Next.Read address }
-    ensures makes { Makes B.known B.goes session.now attempt.old backend.old (moved_on_read address attempt.new result) backend.new }
-    ensures plays { Plays B.known B.goes backend.old (verbs.event session.now attempt.old) result
+    ensures plays { Does B.known B.goes backend.old (verbs.event session.now attempt.old) result
         (was_read address attempt.new) backend.new }
     ensures pauses { OnOk result (KeepsPauses attempt.old attempt.new) }
     ensures home { B.home backend.new ≡ B.home backend.old }
@@ -140,7 +143,8 @@ fn based_here(
     run: &Run,
     shard: u8,
 ) -> Result<BasedList, SessionError>
-    ensures ok { IfOk result (λ all. all ≡ in_shard attempt.now.shards shard (based attempt.now.snaps run.now.observations)) }
+    ensures ok { IfOk result (λ all.
+        all ≡ in_shard attempt.now.shards shard (based attempt.now.snaps run.now.observations)) }
     ensures err { (e : SessionError) → result ≡ Err e → e ≡ SessionError.NoMemory }
 {
     match attempt.based(alloc, run, shard) {
@@ -151,9 +155,13 @@ fn based_here(
 
 /// What a run observed in one shard, where that is all that it observed: then its append is next once the shard is prepared.
 fn whole(run: &Run, here: BasedList) -> Option<BasedList>
-    ensures all { (a : Attempt) (shard : ℕ) → here ≡ in_shard a.shards shard (based a.snaps run.now.observations) → AreAllOf a run.now result }
-    ensures append { (a : Attempt) (shard front : ℕ) → here ≡ in_shard a.shards shard (based a.snaps run.now.observations) →
-        next_event a ≡ Next.Prepare shard run.now → IfSome result (λ all. next_event (with_front a shard front) ≡ Next.Append run.now) }
+    ensures all { (a : Attempt) (shard : ℕ) →
+        here ≡ in_shard a.shards shard (based a.snaps run.now.observations) →
+        AreAllOf a run.now result }
+    ensures append { (a : Attempt) (shard front : ℕ) →
+        here ≡ in_shard a.shards shard (based a.snaps run.now.observations) →
+        next_event a ≡ Next.Prepare shard run.now →
+        IfSome result (λ all. next_event (with_front a shard front) ≡ Next.Append run.now) }
 {
     if here.len() == run.observations.len() {
         Some(here)
@@ -175,12 +183,13 @@ fn prepare_event<B: Backend>(
     requires attends { Attends (B.known backend.old) (closed session.now) }
     requires holds { Holds (B.known backend.old) attempt.old }
     requires next { next_event attempt.old ≡ Next.Prepare shard run.now }
-    requires all { all.now ≡ in_shard attempt.old.shards shard (based attempt.old.snaps run.now.observations) }
-    ensures makes { Makes B.known B.goes session.now attempt.old backend.old (moved_on_prepare shard attempt.new result) backend.new }
-    ensures plays { Plays B.known B.goes backend.old (verbs.event session.now attempt.old) result
+    requires all { all.now
+        ≡ in_shard attempt.old.shards shard (based attempt.old.snaps run.now.observations) }
+    ensures plays { Does B.known B.goes backend.old (verbs.event session.now attempt.old) result
         (was_prepared shard attempt.new) backend.new }
     ensures pauses { IfOk result (λ front. OnOk front (KeepsPauses attempt.old attempt.new)) }
-    ensures front { IfOk result (λ front. IfOk front (λ f. attempt.new ≡ with_front attempt.old shard f)) }
+    ensures front { IfOk result (λ front. IfOk front (λ f.
+        attempt.new ≡ with_front attempt.old shard f)) }
     ensures home { B.home backend.new ≡ B.home backend.old }
 {
     let answer = backend.prepare(shard, all);
@@ -196,7 +205,8 @@ fn ready_with(
     based: BasedList,
 ) -> Result<Ready, AllocError>
     requires { AreAllOf attempt.now run (Some based) }
-    ensures { IfOk result (λ ready. ready ≡ ready_of attempt.now run session.now.client session.now.seq) }
+    ensures { IfOk result (λ ready.
+        ready ≡ ready_of attempt.now run session.now.client session.now.seq) }
 {
     Ok(Ready {
         client: session.client,
@@ -219,7 +229,8 @@ fn readied(
 ) -> Result<Ready, SessionError>
     requires next { next_event attempt.now ≡ Next.Append run }
     requires based { AreAllOf attempt.now run based }
-    ensures ok { IfOk result (λ ready. ready ≡ ready_of attempt.now run session.now.client session.now.seq) }
+    ensures ok { IfOk result (λ ready.
+        ready ≡ ready_of attempt.now run session.now.client session.now.seq) }
     ensures err { (e : SessionError) → result ≡ Err e → e ≡ SessionError.NoMemory }
 {
     let ready = match based {
@@ -246,8 +257,7 @@ fn append_event<B: Backend>(
     requires holds { Holds (B.known backend.old) attempt.now }
     requires next { next_event attempt.now ≡ Next.Append run }
     requires based { AreAllOf attempt.now run based }
-    ensures makes { Makes B.known B.goes session.now attempt.now backend.old (moved_on_append attempt.now result) backend.new }
-    ensures plays { Plays B.known B.goes backend.old (verbs.event session.now attempt.now) result
+    ensures plays { Does B.known B.goes backend.old (verbs.event session.now attempt.now) result
         (Moved.End attempt.now) backend.new }
     ensures home { B.home backend.new ≡ B.home backend.old }
 {
@@ -282,7 +292,8 @@ fn next_of(
 ) -> Result<(Next, Option<BasedList>), SessionError>
     requires { IsKnownOf attempt.now known.old }
     ensures ok { IfOk result (λ next. next.0 ≡ next_event attempt.now) }
-    ensures based { IfOk result (λ next. (run : Run) → next.0 ≡ Next.Append run → AreAllOf attempt.now run next.1) }
+    ensures based { IfOk result (λ next. (run : Run) →
+        next.0 ≡ Next.Append run → AreAllOf attempt.now run next.1) }
     ensures known { IfOk result (λ next. IsKnownOf attempt.now known.new) }
     ensures taken { IfOk result (λ next. known.new.ran ≡ None) }
     ensures err { (e : SessionError) → result ≡ Err e → e ≡ SessionError.NoMemory }
@@ -320,8 +331,7 @@ pub fn event_on<B: Backend>(
     requires attends { Attends (B.known backend.old) (closed session.now) }
     requires holds { Holds (B.known backend.old) attempt.old }
     requires known { IsKnownOf attempt.old known.old }
-    ensures makes { MakesOn B.known B.goes session.now attempt.old backend.old result attempt.new backend.new }
-    ensures plays { Plays B.known B.goes backend.old (verbs.event_on session.now attempt.old) result
+    ensures plays { Does B.known B.goes backend.old (verbs.event_on session.now attempt.old) result
         (λ end. (attempt.new, end)) backend.new }
     ensures known { IfOk result (λ end. Remembers attempt.new end known.new) }
     ensures home { B.home backend.new ≡ B.home backend.old }
@@ -359,8 +369,8 @@ pub fn event<B: Backend>(
 ) -> Result<Moved, SessionError>
     requires attends { Attends (B.known backend.old) (closed session.now) }
     requires holds { Holds (B.known backend.old) attempt }
-    ensures makes { Makes B.known B.goes session.now attempt backend.old result backend.new }
-    ensures plays { Plays B.known B.goes backend.old (verbs.event session.now attempt) result (λ moved. moved) backend.new }
+    ensures plays { Does B.known B.goes backend.old (verbs.event session.now attempt) result
+        (λ moved. moved) backend.new }
     ensures home { B.home backend.new ≡ B.home backend.old }
 {
     let mut attempt = attempt;

@@ -1,20 +1,15 @@
 //! The laws of lines: functions that do nothing, whose contracts are theorems over the definitions.
 
-ghost use Rattle.session_core.specs.Bounds.{LinesAreBounded, TriesAreFew, CallsSuffice};
-ghost use Rattle.session_core.specs.GoingOn.{FailuresAloneBreak, LinesAreReady, SessionsGoOn};
+ghost use Rattle.session_core.specs.Bounds.{TriesAreFew};
+ghost use Rattle.session_core.specs.GoingOn.{SessionsGoOn};
 ghost use Rattle.session_core.specs.LineLaws.{LinesAskFew, MostCallsAreEnough, LinesAreSafe, LinesAnswerForThemselves, LinesAreExplained};
 ghost use Rattle.session_core.specs.LineTalks.{DoneLinesAreExplained};
 ghost use Rattle.session_core.specs.Lines.{VerbsAreForms};
-ghost use Rattle.session_core.specs.Sessions.{ExplainsStays, SessionsAreExplained};
+ghost use Rattle.session_core.specs.Sessions.{ExplainsStays};
 
 /// The law that the verb of a line is the one of whose form it is.
 pub fn verbs_are_forms()
     ensures { VerbsAreForms }
-{}
-
-/// The law that a line makes no more calls than its form allows, whatever it is answered.
-pub fn lines_are_bounded()
-    ensures { LinesAreBounded }
 {}
 
 /// The law that a line which was read makes one try at least, and sixteen at most.
@@ -22,38 +17,17 @@ pub fn tries_are_few()
     ensures { TriesAreFew }
 {}
 
-/// The law that `MOST_CALLS` calls suffice for every line that was read: where so many were made it is over, or a call failed.
-pub fn calls_suffice()
-    ensures { CallsSuffice }
-{}
-
 /// The law that what a journal explains, every longer one explains.
 pub fn explained_stays()
     ensures { ExplainsStays }
 {}
 
-/// The law that all answers of a session are explained by the journal at its end, whatever others did between its lines, and
-/// that its client's commits and denials are the answered ones.
-pub fn sessions_are_explained()
-    ensures { SessionsAreExplained }
-{}
-
-/// The law that each call which a line asks for may be made, by whatever answers it came there.
-pub fn lines_are_ready()
-    ensures { LinesAreReady }
-{}
-
-/// The law that a session goes on behind its line, behind what others do, and where a shard was let follow.
+/// The law that a session goes on behind what others do, and where a shard was let follow.
 pub fn sessions_go_on()
     ensures { SessionsGoOn }
 {}
 
-/// The law that only a failed call breaks a line.
-pub fn failures_alone_break()
-    ensures { FailuresAloneBreak }
-{}
-
-/// The law that a line asks no more calls than its form allows, whatever it is answered: as a fact of its program.
+/// The law that a line asks no more calls than its form allows, whatever it is answered.
 pub fn lines_ask_few()
     ensures { LinesAskFew }
 {}
@@ -78,7 +52,8 @@ pub fn lines_are_explained()
     ensures { LinesAreExplained }
 {}
 
-/// The law that all answers of a session are explained by the journal at its end: along the programs of its lines.
+/// The law that all answers of a session are explained by the journal at its end, whatever others did between its lines, and
+/// that its client's commits and denials are the answered ones.
 pub fn done_lines_are_explained()
     ensures { DoneLinesAreExplained }
 {}

@@ -3,9 +3,9 @@
 //! language (`txn_parse`, `txn_lang`), on `docc_prepare` (attempts, and what every backend promises) and on `client_watches`; a
 //! script and a server cut input into lines, hand each to a session, and print what it answers.
 //!
-//! Read first `specs/Phases` (what a line does, as a machine of phases) and `specs/Leading` (the steps of a line over a backend).
-//! `specs/Verbs` has the verbs of attempts and looks as programs of calls, one a function of the code.
-//! `specs/Explained` says which answers a journal explains, and `specs/Sessions` what that makes of whole sessions.
+//! Read first `specs/LinePrograms` (what a line does, as a program of calls) and `specs/Verbs` (the verbs of attempts and looks, a
+//! program a function of the code). `specs/LineLaws` says what every line keeps to, `specs/Explained` which answers a journal
+//! explains, and `specs/Sessions` and `specs/LineTalks` what that makes of whole sessions.
 #![tactic(auto)]
 
 mod acting;
@@ -31,10 +31,9 @@ mod words;
 pub use client_watches::ReplyList;
 pub use error::SessionError;
 pub use laws::{
-    calls_suffice, done_lines_are_explained, explained_stays, failures_alone_break,
-    lines_answer_for_themselves, lines_are_bounded, lines_are_explained, lines_are_ready,
-    lines_are_safe, lines_ask_few, most_calls_are_enough, sessions_are_explained, sessions_go_on,
-    tries_are_few, verbs_are_forms,
+    done_lines_are_explained, explained_stays, lines_answer_for_themselves, lines_are_explained,
+    lines_are_safe, lines_ask_few, most_calls_are_enough, sessions_go_on, tries_are_few,
+    verbs_are_forms,
 };
 pub use limits::{MOST_CALLS, MOST_EVENTS};
 pub use line::Line;

@@ -1,14 +1,14 @@
 //! A session, line by line.
 
-ghost use Rattle.std.specs.Prelude.{◌≡◌, ◌≤◌, ◌+◌, length, None, Some, Err};
+ghost use Rattle.std.specs.Prelude.{◌≡◌, ◌≤◌, ◌+◌, List, length, None, Some, Ok, Err};
+ghost use Rattle.session_text.specs.declared.reply.Reply.{Reply};
 ghost use Rattle.client_watches.specs.Watching.{none_yet};
 ghost use Rattle.session_core.specs.Lines.{line_of};
 ghost use Rattle.session_core.specs.Holding.{Follows};
-ghost use Rattle.session_core.specs.Leading.{Went, start_over, AnswersAgain};
 ghost use Rattle.session_core.specs.Explained.{IsExplained};
 ghost use Rattle.session_core.specs.LinePrograms as programs;
 ghost use Rattle.session_core.specs.Verbs.{Plays};
-ghost use Rattle.session_core.specs.Sessions.{OwnGrows, CountsDenied, CountsKnown, CountsFault};
+ghost use Rattle.session_core.specs.Sessions.{OwnGrows, CountsDenied, CountsKnown, TellsFault, HasQuit, AnswersAgain};
 
 use crate::acting::turn;
 use crate::error::SessionError;
@@ -22,7 +22,14 @@ use std::alloc::Global;
 impl Session {
     /// The session of a client that has no commit, where so many commits are seen.
     pub fn new(alloc: Global, client: u32, at: u64) -> Session
-        ensures { result ≡ record { client = client; seq = 1; at = at; attempt = None; watching = none_yet at; over = None } }
+        ensures { result ≡ record {
+          client = client;
+          seq = 1;
+          at = at;
+          attempt = None;
+          watching = none_yet at;
+          over = None;
+        } }
     {
         Session {
             client,
@@ -44,21 +51,19 @@ impl Session {
         requires follows { Follows (B.known backend.old) self.old }
         requires short { length bytes.now ≤ LONGEST_LINE }
 
-        // It goes the way of the machine of phases, by steps of the backend's relation, and answers what stands at its end.
-        ensures went { self.old.over ≡ None → Went B.known B.goes backend.old
-            (start_over (B.known backend.old) self.old (line_of bytes.now)) result backend.new self.new }
-
         // It performs the program of the line: that ends with the session after it, and with what it is answered.
         ensures plays { self.old.over ≡ None → Plays B.known B.goes backend.old
-            (programs.line_over (B.known backend.old) self.old (line_of bytes.now)) result (λ turn. (self.new, turn)) backend.new }
+            (programs.line_over (B.known backend.old) self.old (line_of bytes.now)) result
+            (λ turn. (self.new, turn)) backend.new }
 
         // Its answer is explained by the journal, where the backend tells that, whatever was shown before.
-        ensures explained { IsExplained (B.known backend.old) (B.known backend.new) self.old (line_of bytes.now) result self.new }
+        ensures explained { IsExplained (B.known backend.old) (B.known backend.new) self.old
+            (line_of bytes.now) result self.new }
 
-        // The client's commits are those before, and the one that is answered.
+        // The client's commits are those before, and the one that is answered. After an error it owns no more.
         ensures owns { OwnGrows (B.known backend.old) (B.known backend.new) result }
 
-        // Each denied commit is answered so, and is one of the denials that the backend knows of.
+        // Each denied commit is answered so, and is one of the denials that the backend knows of. After an error none was denied.
         ensures denied { CountsDenied (B.known backend.old) (B.known backend.new) result }
         ensures knows { CountsKnown (B.known backend.old) (B.known backend.new) result }
 
@@ -67,10 +72,16 @@ impl Session {
 
         // After an error it is over, and then it answers that error again.
         ensures over { (e : SessionError) → result ≡ Err e → self.new.over ≡ Some e }
-        ensures again { (e : SessionError) → self.old.over ≡ Some e → AnswersAgain e result backend.old backend.new self.old self.new }
+        ensures again { (e : SessionError) → self.old.over ≡ Some e →
+            AnswersAgain e result backend.old backend.new self.old self.new }
 
-        // A fault of the store is counted by the store.
-        ensures fault { CountsFault (B.known backend.old) (B.known backend.new) self.old result }
+        // It tells a fault of the store where that has counted one.
+        ensures told { self.old.over ≡ None →
+            TellsFault (B.known backend.old) (B.known backend.new) result }
+
+        // Only `quit` ends the session, which keeps all but its open attempt.
+        ensures quit { (replies : List Reply) → result ≡ Ok (Turn.Ended replies) →
+            HasQuit (line_of bytes.now) replies backend.old backend.new self.old self.new }
 
         // The backend stays where it stands.
         ensures home { B.home backend.new ≡ B.home backend.old }

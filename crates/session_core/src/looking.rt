@@ -2,9 +2,8 @@
 
 ghost use Rattle.std.specs.Prelude.{◌≡◌, ◌≤◌};
 ghost use Rattle.docc_prepare.specs.Calls.{value_answered};
-ghost use Rattle.session_core.specs.Phases.{Phase};
 ghost use Rattle.session_core.specs.Holding.{Attends};
-ghost use Rattle.session_core.specs.Leading.{Replies, LooksAt, Valued};
+ghost use Rattle.session_core.specs.code.Turning.{Valued};
 ghost use Rattle.session_core.specs.Verbs as verbs;
 ghost use Rattle.session_core.specs.Verbs.{Plays};
 
@@ -56,8 +55,8 @@ fn look_at<B: Backend>(
 ) -> Result<Reply, SessionError>
     requires attends { Attends (B.known backend.old) session.now }
     requires seen { number ≤ (B.known backend.old).seen }
-    ensures looks { LooksAt B.known B.goes session.now number body.now backend.old result backend.new }
-    ensures plays { Plays B.known B.goes backend.old (verbs.look_at number body.now) result (λ reply. reply) backend.new }
+    ensures plays { Plays B.known B.goes backend.old (verbs.look_at number body.now) result
+        (λ reply. reply) backend.new }
     ensures home { B.home backend.new ≡ B.home backend.old }
 {
     let mut snaps = Snaps::new(alloc);
@@ -85,8 +84,8 @@ pub fn look<B: Backend>(
     body: &Checked,
 ) -> Result<Reply, SessionError>
     requires attends { Attends (B.known backend.old) session.now }
-    ensures replies { Replies B.known B.goes backend.old (Phase.looking session.now upto body.now) result backend.new session.now }
-    ensures plays { Plays B.known B.goes backend.old (verbs.look upto body.now) result (λ reply. reply) backend.new }
+    ensures plays { Plays B.known B.goes backend.old (verbs.look upto body.now) result
+        (λ reply. reply) backend.new }
     ensures home { B.home backend.new ≡ B.home backend.old }
 {
     let seen = backend.refresh()?;

@@ -1,18 +1,16 @@
 //! The verbs of a session, each with one reply.
 
 ghost use Rattle.std.specs.Prelude.{◌≡◌, ◌<◌, ◌^◌, ◌-◌};
-ghost use Rattle.session_core.specs.Phases as spec;
-ghost use Rattle.session_core.specs.Phases.{start, seq_after, said};
+ghost use Rattle.session_core.specs.Events as spec;
+ghost use Rattle.session_core.specs.Events.{seq_after, said};
 ghost use Rattle.session_core.specs.Holding.{Attends, IsReady};
-ghost use Rattle.session_core.specs.Leading.{Replies, Drops};
 ghost use Rattle.session_core.specs.Verbs as verbs;
-ghost use Rattle.session_core.specs.Verbs.{Plays};
+ghost use Rattle.session_core.specs.Stopping.{Does};
 ghost use Rattle.call_programs.specs.Programs.{Program};
 
 use crate::driving::{drive, try_times};
 use crate::error::SessionError;
 use crate::event::event;
-use crate::line::Line;
 use crate::moved::Moved;
 use crate::session::Session;
 use docc_prepare::{Attempt, Backend};
@@ -47,10 +45,8 @@ pub fn begin<B: Backend>(
 ) -> Result<Reply, SessionError>
     requires attends { Attends (B.known backend.old) session.old }
     requires ready { IsReady body }
-    ensures replies { Replies B.known B.goes backend.old
-        (start (B.known backend.old).shards (B.known backend.old).seen session.old (Line.Begin body))
-        result backend.new session.new }
-    ensures plays { Plays B.known B.goes backend.old (verbs.begin (B.known backend.old).shards session.old body) result
+    ensures plays { Does B.known B.goes backend.old
+        (verbs.begin (B.known backend.old).shards session.old body) result
         (λ reply. (session.new, said reply)) backend.new }
     ensures home { B.home backend.new ≡ B.home backend.old }
 {
@@ -74,10 +70,8 @@ pub fn commit<B: Backend>(
     requires attends { Attends (B.known backend.old) session.old }
     requires ready { IsReady body }
     requires room { session.old.seq < 2 ^ 64 - 1 }
-    ensures replies { Replies B.known B.goes backend.old
-        (start (B.known backend.old).shards (B.known backend.old).seen session.old (Line.Try tries body))
-        result backend.new session.new }
-    ensures plays { Plays B.known B.goes backend.old (verbs.commit (B.known backend.old).shards tries session.old body) result
+    ensures plays { Does B.known B.goes backend.old
+        (verbs.commit (B.known backend.old).shards tries session.old body) result
         (λ reply. (session.new, said reply)) backend.new }
     ensures home { B.home backend.new ≡ B.home backend.old }
 {
@@ -98,10 +92,7 @@ pub fn step<B: Backend>(
 ) -> Result<Reply, SessionError>
     requires attends { Attends (B.known backend.old) session.old }
     requires room { session.old.seq < 2 ^ 64 - 1 }
-    ensures replies { Replies B.known B.goes backend.old
-        (start (B.known backend.old).shards (B.known backend.old).seen session.old Line.Step)
-        result backend.new session.new }
-    ensures plays { Plays B.known B.goes backend.old (verbs.step session.old) result
+    ensures plays { Does B.known B.goes backend.old (verbs.step session.old) result
         (λ reply. (session.new, said reply)) backend.new }
     ensures home { B.home backend.new ≡ B.home backend.old }
 {
@@ -128,10 +119,7 @@ pub fn go<B: Backend>(
 ) -> Result<Reply, SessionError>
     requires attends { Attends (B.known backend.old) session.old }
     requires room { session.old.seq < 2 ^ 64 - 1 }
-    ensures replies { Replies B.known B.goes backend.old
-        (start (B.known backend.old).shards (B.known backend.old).seen session.old Line.Go)
-        result backend.new session.new }
-    ensures plays { Plays B.known B.goes backend.old (verbs.go session.old) result
+    ensures plays { Does B.known B.goes backend.old (verbs.go session.old) result
         (λ reply. (session.new, said reply)) backend.new }
     ensures home { B.home backend.new ≡ B.home backend.old }
 {
@@ -148,7 +136,6 @@ pub fn go<B: Backend>(
 
 /// `drop`: the open attempt is given up.
 pub fn give_up(session: &mut Session) -> Reply
-    ensures drops { Drops session.old result session.new }
     ensures plays { verbs.give_up session.old ≡ Program.ends (session.new, said result) }
 {
     match session.attempt.take() {

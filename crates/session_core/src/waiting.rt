@@ -1,12 +1,10 @@
 //! The rest of a line that was to wait.
 
 ghost use Rattle.std.specs.Prelude.{◌≡◌, None, Some, Err};
-ghost use Rattle.session_core.specs.Phases.{synced};
 ghost use Rattle.session_core.specs.Holding.{Follows};
-ghost use Rattle.session_core.specs.Leading.{Went, AnswersAgain};
 ghost use Rattle.session_core.specs.LinePrograms as programs;
 ghost use Rattle.session_core.specs.Verbs.{Plays};
-ghost use Rattle.session_core.specs.Sessions.{IsAccounted, CountsFault};
+ghost use Rattle.session_core.specs.Sessions.{IsAccounted, TellsFault, AnswersAgain};
 
 use crate::acting::sync_turn;
 use crate::error::SessionError;
@@ -25,22 +23,24 @@ impl Session {
         backend: &mut B,
     ) -> Result<Turn, SessionError>
         requires follows { Follows (B.known backend.old) self.old }
-        ensures went { self.old.over ≡ None → Went B.known B.goes backend.old (synced self.old) result backend.new self.new }
-        ensures plays { self.old.over ≡ None → Plays B.known B.goes backend.old (programs.sync self.old) result
-            (λ turn. (self.new, turn)) backend.new }
+        ensures plays { self.old.over ≡ None → Plays B.known B.goes backend.old
+            (programs.sync self.old) result (λ turn. (self.new, turn)) backend.new }
 
         // Its answer is explained by the journal, adds no commit of the client's, and no denial.
-        ensures accounted { IsAccounted (B.known backend.old) (B.known backend.new) self.old Line.Sync result self.new }
+        ensures accounted { IsAccounted (B.known backend.old) (B.known backend.new) self.old
+            Line.Sync result self.new }
 
         // The next line may follow.
         ensures follows { Follows (B.known backend.new) self.new }
 
         // After an error it is over, and then it answers that error again.
         ensures over { (e : SessionError) → result ≡ Err e → self.new.over ≡ Some e }
-        ensures again { (e : SessionError) → self.old.over ≡ Some e → AnswersAgain e result backend.old backend.new self.old self.new }
+        ensures again { (e : SessionError) → self.old.over ≡ Some e →
+            AnswersAgain e result backend.old backend.new self.old self.new }
 
-        // A fault of the store is counted by the store.
-        ensures fault { CountsFault (B.known backend.old) (B.known backend.new) self.old result }
+        // It tells a fault of the store where that has counted one.
+        ensures told { self.old.over ≡ None →
+            TellsFault (B.known backend.old) (B.known backend.new) result }
 
         // The backend stays where it stands.
         ensures home { B.home backend.new ≡ B.home backend.old }

@@ -1,14 +1,12 @@
 //! The lines of watches: what a session asks of its watches, and what that is as a turn of the session.
 
 ghost use Rattle.std.specs.Prelude.{◌≡◌};
-ghost use Rattle.session_core.specs.Phases.{start, synced};
 ghost use Rattle.session_core.specs.Holding.{Attends};
-ghost use Rattle.session_core.specs.Leading.{Went, watch_turn};
+ghost use Rattle.session_core.specs.code.Turning.{watch_turn};
 ghost use Rattle.session_core.specs.LinePrograms as programs;
 ghost use Rattle.session_core.specs.Verbs.{Plays};
 
 use crate::error::SessionError;
-use crate::line::Line;
 use crate::session::Session;
 use crate::turn::Turn;
 use client_watches::{ReplyList, WatchError};
@@ -37,9 +35,6 @@ pub fn watch<B: Backend>(
     body: Checked,
 ) -> Result<Turn, SessionError>
     requires { Attends (B.known backend.old) session.old }
-    ensures went { Went B.known B.goes backend.old
-        (start (B.known backend.old).shards (B.known backend.old).seen session.old (Line.Watch name body))
-        result backend.new session.new }
     ensures plays { Plays B.known B.goes backend.old (programs.watch session.old name body) result
         (λ turn. (session.new, turn)) backend.new }
     ensures home { B.home backend.new ≡ B.home backend.old }
@@ -55,9 +50,6 @@ pub fn unwatch<B: Backend>(
     name: &Text,
 ) -> Result<Turn, SessionError>
     requires { Attends (B.known backend.old) session.old }
-    ensures went { Went B.known B.goes backend.old
-        (start (B.known backend.old).shards (B.known backend.old).seen session.old (Line.Unwatch name.now))
-        result backend.new session.new }
     ensures plays { Plays B.known B.goes backend.old (programs.unwatch session.old name.now) result
         (λ turn. (session.new, turn)) backend.new }
     ensures home { B.home backend.new ≡ B.home backend.old }
@@ -72,7 +64,6 @@ pub fn sync<B: Backend>(
     session: &mut Session,
 ) -> Result<Turn, SessionError>
     requires { Attends (B.known backend.old) session.old }
-    ensures went { Went B.known B.goes backend.old (synced session.old) result backend.new session.new }
     ensures plays { Plays B.known B.goes backend.old (programs.sync session.old) result
         (λ turn. (session.new, turn)) backend.new }
     ensures home { B.home backend.new ≡ B.home backend.old }
@@ -87,10 +78,8 @@ pub fn wait<B: Backend>(
     session: &mut Session,
 ) -> Result<Turn, SessionError>
     requires { Attends (B.known backend.old) session.old }
-    ensures went { Went B.known B.goes backend.old
-        (start (B.known backend.old).shards (B.known backend.old).seen session.old Line.Wait)
-        result backend.new session.new }
-    ensures plays { Plays B.known B.goes backend.old (programs.wait (B.known backend.old).seen session.old) result
+    ensures plays { Plays B.known B.goes backend.old
+        (programs.wait (B.known backend.old).seen session.old) result
         (λ turn. (session.new, turn)) backend.new }
     ensures home { B.home backend.new ≡ B.home backend.old }
 {

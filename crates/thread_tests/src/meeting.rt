@@ -87,10 +87,32 @@ pub(crate) fn reply_text(
     }
 }
 
+/// Whether a line has one reply, which is this.
+pub(crate) fn is_told(alloc: Global, turn: &Result<Turn, SessionError>, wanted: &[u8]) -> bool {
+    match turn {
+        Ok(Turn::Replies(replies)) => match replies.as_slice() {
+            [reply] => is_printed(&print_reply(alloc, reply), wanted),
+            _ => false,
+        },
+        _ => false,
+    }
+}
+
+/// Whether a text was printed, and is this.
+pub(crate) fn is_printed(text: &Result<Text, AllocError>, wanted: &[u8]) -> bool {
+    match text {
+        Ok(text) => text.as_slice() == wanted,
+        Err(_) => false,
+    }
+}
+
 /// The replies of a turn as text, a line each.
-pub(crate) fn turn_text(alloc: Global, turn: &Turn) -> Result<Text, AllocError> {
+pub(crate) fn turn_text(
+    alloc: Global,
+    turn: &Result<Turn, SessionError>,
+) -> Result<Text, AllocError> {
     let mut text = Text::new(alloc);
-    if let Turn::Replies(replies) = turn {
+    if let Ok(Turn::Replies(replies)) = turn {
         for reply in replies.as_slice() {
             push_reply(&mut text, reply)?;
             text.push(b'\n')?;

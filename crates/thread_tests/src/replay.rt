@@ -102,25 +102,31 @@ fn commit_at(commits: &[Commit], number: u64) -> Option<&Commit> {
 
 /// Whether the commit of the number is the client's, and ended so.
 fn is_committed(commits: &[Commit], client: u32, number: u64, outcome: &Outcome) -> bool {
-    commit_at(commits, number).is_some_and(|commit| commit.client == client
-        && commit.outcome == *outcome)
+    match commit_at(commits, number) {
+        Some(commit) => commit.client == client && commit.outcome == *outcome,
+        None => false,
+    }
 }
 
 /// Whether the commit that a witness names stands past its base, and has written at its address.
 fn is_clash(commits: &[Commit], witness: &Witness) -> bool {
-    witness.base < witness.number
-        && commit_at(commits, witness.number).is_some_and(|commit| commit
-            .deltas
-            .get(&witness.address)
-            .is_some())
+    match commit_at(commits, witness.number) {
+        Some(commit) => {
+            witness.base < witness.number && commit.deltas.get(&witness.address).is_some()
+        }
+        None => false,
+    }
 }
 
 /// How many commits are a client's.
 fn commits_of(commits: &[Commit], client: u32) -> usize {
-    commits
-        .iter()
-        .filter(|commit| commit.client == client)
-        .count()
+    let mut count: usize = 0;
+    for commit in commits {
+        if commit.client == client {
+            count = count.saturating_add(1);
+        }
+    }
+    count
 }
 
 /// Whether a client's replies are those of its commits, one reply each, in their order, and its aborts are explained.

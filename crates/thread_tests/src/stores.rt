@@ -12,10 +12,8 @@ use plain_data::Text;
 use rdt_types::{Address, Kind, Settings};
 use std::alloc::{AllocError, Global};
 use std::marker::Brand;
-use std::process::Abort;
 use std::sync::Wait;
-use std::test::Fail;
-use txn_lang::CommitList;
+use txn_lang::{CommitList, Snap};
 
 fn counter(alloc: Global) -> Result<Address, AllocError>
     ensures { IfOk result (λ address. IsShortAddress address) }
@@ -26,44 +24,75 @@ fn counter(alloc: Global) -> Result<Address, AllocError>
     })
 }
 
-#[test]
-fn nothing_stands_in_a_new_store(rt: HostRuntime) -> Result<(), Fail> {
-    let settings = Settings::standard();
-    let opened = open(rt.alloc(), &settings, MemKeep, CommitList::new(rt.alloc()))?;
-    new_store::<Brand, _>(&rt, rt.alloc(), &settings, opened)
+/// Whether a client's pass is that of the first client of a new store, which has seen nothing, and finds nothing there.
+fn is_new<N: Naming, R: Wait>(
+    served: &mut Served<'_, MemKeep, Open, N, R>,
+    address: &Address,
+) -> bool
+    requires { IsShortAddress address.now }
+{
+    (served.client(), served.seen(), served.store_faults()) == (0, 0, 0)
+        && matches!(served.refresh(), Ok(0))
+        && matches!(served.read(address), Ok(Snap { base: 0, .. }))
+        && served.read_at(address, 0).is_ok()
 }
 
-fn new_store<N: Naming, R: Wait + Abort>(
+/// Whether a feed is taken that goes up to no commit.
+fn takes_nothing<N: Naming, R: Wait>(served: &mut Served<'_, MemKeep, Open, N, R>) -> bool {
+    match served.take() {
+        Ok(feed) => feed.to() == 0,
+        Err(_) => false,
+    }
+}
+
+/// Whether an address can be subscribed to and no more. The journal has the first feed. With the second the address is registered.
+fn listens<N: Naming, R: Wait>(
+    served: &mut Served<'_, MemKeep, Open, N, R>,
+    address: &Address,
+) -> bool
+    requires { IsShortAddress address.now }
+{
+    served.subscribe(address).is_ok()
+        && takes_nothing(served)
+        && takes_nothing(served)
+        && served.unsubscribe(address).is_ok()
+        && takes_nothing(served)
+}
+
+fn new_store<N: Naming, R: Wait>(
     rt: &R,
     alloc: Global,
     settings: &Settings,
     opened: Opened<Book<MemKeep>>,
-) -> Result<(), Fail>
+    address: &Address,
+) -> bool
     requires lock { opened.lock ≡ N.lock }
     requires settings { HasSettings opened.lock.origin settings.now }
     requires author { opened.front.author ≡ None }
+    requires short { IsShortAddress address.now }
 {
-    let (store, pass) = Store::<MemKeep, Open, N>::new(alloc, settings, opened, Open)?;
-    let address = counter(alloc)?;
+    let Ok((store, pass)) = Store::<MemKeep, Open, N>::new(alloc, settings, opened, Open) else {
+        return false;
+    };
     let mut served = Served {
         store: &store,
         pass,
         rt,
     };
-    assert_eq!(rt;
-        (served.client(), served.seen(), served.store_faults()),
-        (0, 0, 0)
-    );
-    assert!(rt; served.refresh().is_ok_and(|number| number == 0));
-    assert!(rt; served.read(&address).is_ok_and(|snap| snap.base == 0));
-    assert!(rt; served.read_at(&address, 0).is_ok());
-    assert!(rt; served.subscribe(&address).is_ok());
-    // The journal has the first feed. With the second the address is registered.
-    assert!(rt; served.take().is_ok_and(|feed| feed.to() == 0));
-    assert!(rt; served.take().is_ok_and(|feed| feed.to() == 0));
-    assert!(rt; served.unsubscribe(&address).is_ok());
-    assert!(rt; served.take().is_ok_and(|feed| feed.to() == 0));
+    let answers = is_new(&mut served, address) && listens(&mut served, address);
     let Served { pass, .. } = served;
     store.leave(rt, pass);
-    Ok(())
+    answers
+}
+
+#[test]
+fn nothing_stands_in_a_new_store(rt: HostRuntime) {
+    let settings = Settings::standard();
+    let opened = open(rt.alloc(), &settings, MemKeep, CommitList::new(rt.alloc()));
+    match (opened, counter(rt.alloc())) {
+        (Ok(opened), Ok(address)) => {
+            assert!(rt; new_store::<Brand, _>(&rt, rt.alloc(), &settings, opened, &address));
+        }
+        _ => assert!(rt; false),
+    }
 }

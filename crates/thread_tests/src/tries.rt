@@ -5,7 +5,7 @@ ghost use Rattle.diamond_store.specs.Numbers.{HasSettings};
 ghost use Rattle.diamond_store.specs.Passes.{known_of};
 ghost use Rattle.session_core.specs.Holding.{Follows};
 
-use crate::meeting::{Founder, reply_text};
+use crate::meeting::{Founder, is_told};
 use crate::rival::{Moment, Plan, Rival};
 use crate::talker::{Talker, TestStore, first_session, said};
 use diamond_store::{Book, Open, Served, open};
@@ -17,7 +17,6 @@ use std::alloc::Global;
 use std::marker::Brand;
 use std::process::Abort;
 use std::sync::Wait;
-use std::test::Fail;
 use txn_lang::CommitList;
 
 /// How large the store is.
@@ -76,7 +75,7 @@ const OTHER_RAISED_AND_SEEN: &[&[u8]] = &[
 /// often the rival would still do so.
 type Overtaken = (u32, &'static [u8], &'static [u8], u32);
 
-const OVERTAKEN: [Overtaken; 8] = [
+static OVERTAKEN: [Overtaken; 8] = [
     (
         0,
         br#"try 3 counter("x").put(counter("x").get() + 1); emit counter("x").get();"#,
@@ -130,7 +129,7 @@ const OVERTAKEN: [Overtaken; 8] = [
     ),
 ];
 
-const OTHERS: [Try; 6] = [
+static OTHERS: [Try; 6] = [
     // Refused at the preparing, by the shard.
     Try {
         size: Size::Standard,
@@ -204,34 +203,40 @@ const OTHERS: [Try; 6] = [
     },
 ];
 
-/// Does a try once. No attempt is left open behind it.
-fn tried_over<N: Naming, R: Wait + Abort>(
-    rt: &R,
+// The rows, so that the proof of a test doesn't go through them.
+
+fn overtaken() -> &'static [Overtaken] {
+    &OVERTAKEN
+}
+
+fn others() -> &'static [Try] {
+    &OTHERS
+}
+
+/// Whether a try is answered as it should be, and no attempt is left open behind it.
+fn tried_over<N: Naming, R: Wait>(
     alloc: Global,
     session: &mut Session,
     rival: &mut Rival<'_, N, R>,
     row: &Try,
-) -> Result<(), Fail>
+) -> bool
     requires { Follows (known_of rival.old.served.pass) session.old }
 {
     let turn = said(alloc, session, rival, row.line);
-    let reply = reply_text(rt, alloc, &turn)?;
-    assert_eq!(rt; reply.as_slice(), row.reply);
-    assert_eq!(rt; rival.plan.times, row.left);
-    let turn = said(alloc, session, rival, b"step");
-    let reply = reply_text(rt, alloc, &turn)?;
-    assert_eq!(rt; reply.as_slice(), b"refused none".as_slice());
-    Ok(())
+    let behind = said(alloc, session, rival, b"step");
+    is_told(alloc, &turn, row.reply)
+        && rival.plan.times == row.left
+        && is_told(alloc, &behind, b"refused none")
 }
 
-/// A client does a try beside a rival.
+/// The same of a client beside a rival.
 fn tried_on<'a, N: Naming, R: Wait + Abort>(
     rt: &'a R,
     alloc: Global,
     store: &'a TestStore<N>,
     mut first: Founder<N>,
     row: &Try,
-) -> Result<(), Fail> {
+) -> bool {
     let other = Talker::new(rt, alloc, store, first.joined(rt, store));
     let pass = first.joined(rt, store).into_pass();
     let mut session = first_session(alloc, &pass);
@@ -242,7 +247,7 @@ fn tried_on<'a, N: Naming, R: Wait + Abort>(
         other,
         plan: row.plan,
     };
-    tried_over(rt, alloc, &mut session, &mut rival, row)
+    tried_over(alloc, &mut session, &mut rival, row)
 }
 
 /// The same on a store of its own.
@@ -252,42 +257,44 @@ fn tried<N: Naming, R: Wait + Abort>(
     opened: Opened<Book<MemKeep>>,
     settings: &Settings,
     row: &Try,
-) -> Result<(), Fail>
+) -> bool
     requires lock { opened.lock ≡ N.lock }
     requires settings { HasSettings opened.lock.origin settings.now }
     requires author { opened.front.author ≡ None }
     requires empty { opened.lock.base ≡ 0 }
 {
-    let (store, first) = TestStore::<N>::new(alloc, settings, opened, Open)?;
-    tried_on(rt, alloc, &store, Founder::new(first), row)
+    match TestStore::<N>::new(alloc, settings, opened, Open) {
+        Ok((store, first)) => tried_on(rt, alloc, &store, Founder::new(first), row),
+        Err(_) => false,
+    }
 }
 
-/// Does a try on a store of its own.
-fn tried_anew<R: Wait + Abort>(rt: &R, alloc: Global, row: &Try) -> Result<(), Fail> {
+/// The same on a new store.
+fn tried_anew<R: Wait + Abort>(rt: &R, alloc: Global, row: &Try) -> bool {
     let settings = row.size.settings();
-    let opened = open(alloc, &settings, MemKeep, CommitList::new(alloc))?;
-    tried::<Brand, _>(rt, alloc, opened, &settings, row)
+    match open(alloc, &settings, MemKeep, CommitList::new(alloc)) {
+        Ok(opened) => tried::<Brand, _>(rt, alloc, opened, &settings, row),
+        Err(_) => false,
+    }
 }
 
 #[test]
-fn tries_go_on_behind_aborts_alone(rt: HostRuntime) -> Result<(), Fail> {
-    for (times, line, reply, left) in OVERTAKEN {
-        let plan = Plan {
-            moment: Moment::Append,
-            lines: RAISED,
-            times,
-        };
+fn tries_go_on_behind_aborts_alone(rt: HostRuntime) {
+    for (times, line, reply, left) in overtaken() {
         let row = Try {
             size: Size::Standard,
-            plan,
+            plan: Plan {
+                moment: Moment::Append,
+                lines: RAISED,
+                times: *times,
+            },
             line,
             reply,
-            left,
+            left: *left,
         };
-        tried_anew(&rt, rt.alloc(), &row)?;
+        assert!(rt; tried_anew(&rt, rt.alloc(), &row), "{times} times");
     }
-    for row in &OTHERS {
-        tried_anew(&rt, rt.alloc(), row)?;
+    for (number, row) in others().iter().enumerate() {
+        assert!(rt; tried_anew(&rt, rt.alloc(), row), "row {number}");
     }
-    Ok(())
 }

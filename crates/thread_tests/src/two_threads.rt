@@ -17,7 +17,6 @@ use std::alloc::{AllocError, Global};
 use std::marker::Brand;
 use std::process::Abort;
 use std::sync::Wait;
-use std::test::Fail;
 use std::thread::{Threads, join};
 use txn_lang::CommitList;
 
@@ -136,35 +135,50 @@ fn in_two_threads<N: Naming + Send + Sync, R: Threads + Wait + Abort + Sync>(
     both_work(rt, alloc, &store, Founder::new(first), line, times)
 }
 
-#[test]
-fn additions_of_two_threads_all_count(rt: HostRuntime) -> Result<(), Fail> {
+/// The same on a new store.
+fn two_work<R: Threads + Wait + Abort + Sync>(
+    rt: &R,
+    alloc: Global,
+    line: &[u8],
+    times: u64,
+) -> Result<Done, AllocError> {
     let settings = Settings::standard();
-    let opened = open(rt.alloc(), &settings, MemKeep, CommitList::new(rt.alloc()))?;
+    let opened = open(alloc, &settings, MemKeep, CommitList::new(alloc))?;
+    in_two_threads::<Brand, _>(rt, alloc, opened, &settings, line, times)
+}
+
+/// Whether a third client saw so many commits, and the counter raised by one by each.
+fn is_raised(alloc: Global, done: &Done, commits: u64) -> bool {
+    match format!(in alloc; "at {commits} ok {commits}") {
+        Ok(wanted) => done.seen.as_slice() == wanted.as_bytes(),
+        Err(_) => false,
+    }
+}
+
+#[test]
+fn additions_of_two_threads_all_count(rt: HostRuntime) {
     let line = b"do counter(\"x\").add(1);";
-    let done = in_two_threads::<Brand, _>(&rt, rt.alloc(), opened, &settings, line, 200)?;
-    assert_eq!(rt; (done.zero.commits, done.one.commits), (200, 200));
-    assert!(rt; done.seen.as_slice() == b"at 400 ok 400".as_slice());
-    Ok(())
-}
-
-/// The text of a client's view of a counter that so many commits raised by one each.
-fn raised(alloc: Global, commits: u64) -> Result<String, AllocError> {
-    format!(in alloc; "at {commits} ok {commits}")
+    match two_work(&rt, rt.alloc(), line, 200) {
+        Ok(done) => {
+            assert_eq!(rt; (done.zero.commits, done.one.commits), (200, 200));
+            assert!(rt; is_raised(rt.alloc(), &done, 400));
+        }
+        Err(_) => assert!(rt; false),
+    }
 }
 
 #[test]
-fn what_two_threads_raise_counts_their_commits(rt: HostRuntime) -> Result<(), Fail> {
-    let settings = Settings::standard();
-    let opened = open(rt.alloc(), &settings, MemKeep, CommitList::new(rt.alloc()))?;
+fn what_two_threads_raise_counts_their_commits(rt: HostRuntime) {
     let line = b"do counter(\"x\").put(counter(\"x\").get() + 1);";
-    let done = in_two_threads::<Brand, _>(&rt, rt.alloc(), opened, &settings, line, 100)?;
-    let commits = done.zero.commits.saturating_add(done.one.commits);
-    let aborts = done.zero.aborts.saturating_add(done.one.aborts);
-    assert_eq!(rt; commits.saturating_add(aborts), 200);
-    assert!(rt; commits >= 100);
-    let expected = raised(rt.alloc(), commits)?;
-    assert!(rt; done.seen.as_slice() == expected.as_bytes());
-    Ok(())
+    match two_work(&rt, rt.alloc(), line, 100) {
+        Ok(done) => {
+            let commits = done.zero.commits.saturating_add(done.one.commits);
+            let aborts = done.zero.aborts.saturating_add(done.one.aborts);
+            assert_eq!(rt; commits.saturating_add(aborts), 200);
+            assert!(rt; commits >= 100 && is_raised(rt.alloc(), &done, commits));
+        }
+        Err(_) => assert!(rt; false),
+    }
 }
 
 /// A client that has seen nothing waits for a commit. It answers how many there are then.
@@ -204,22 +218,24 @@ fn wait_on_its_own<N: Naming + Send + Sync, R: Threads + Wait + Abort + Sync>(
     opened: Opened<Book<MemKeep>>,
     settings: &Settings,
     line: &[u8],
-) -> Result<(), AllocError>
+)
     requires lock { opened.lock ≡ N.lock }
     requires settings { HasSettings opened.lock.origin settings.now }
     requires author { opened.front.author ≡ None }
     requires empty { opened.lock.base ≡ 0 }
 {
-    let (store, first) = TestStore::<N>::new(alloc, settings, opened, Open)?;
-    wait_and_work(rt, alloc, &store, Founder::new(first), line);
-    Ok(())
+    match TestStore::<N>::new(alloc, settings, opened, Open) {
+        Ok((store, first)) => wait_and_work(rt, alloc, &store, Founder::new(first), line),
+        Err(_) => assert!(rt; false),
+    }
 }
 
 #[test]
-fn who_waits_returns_once_another_has_committed(rt: HostRuntime) -> Result<(), Fail> {
+fn who_waits_returns_once_another_has_committed(rt: HostRuntime) {
     let settings = Settings::standard();
-    let opened = open(rt.alloc(), &settings, MemKeep, CommitList::new(rt.alloc()))?;
     let line = b"do counter(\"x\").add(1);";
-    wait_on_its_own::<Brand, _>(&rt, rt.alloc(), opened, &settings, line)?;
-    Ok(())
+    match open(rt.alloc(), &settings, MemKeep, CommitList::new(rt.alloc())) {
+        Ok(opened) => wait_on_its_own::<Brand, _>(&rt, rt.alloc(), opened, &settings, line),
+        Err(_) => assert!(rt; false),
+    }
 }

@@ -1,29 +1,29 @@
--- What the loop of a session over a link knows of one line, of those so far, and of the end. The laws of proofs/Lines tie a line and
--- those so far to `Talks` of specs/Talking and the end to `IsServed` of specs/Promises; `keeps_promises` of proofs/Promises ties the end
--- and its status to `KeepsPromises`.
-use Rattle.std.specs.Prelude.{◌≡◌, ℕ, ◌⊎◌, Bool, true, false, List, [], length, Option, Some, None, Result, Ok, Err}
+-- What the loop of a session over a link knows of what is held back, of one line, of those so far, and of the end. The laws of
+-- proofs/Lines tie a line and those so far to `Talks` of specs/Talking and the end to `IsServed` of specs/Promises; `keeps_promises` of
+-- proofs/Promises ties the end and its status to `KeepsPromises`.
+use Rattle.std.specs.Prelude.{◌≡◌, ℕ, ◌⊎◌, Bool, true, false, List, [], ◌++◌, length, Option, Some, None, Result, Ok, Err}
 use Rattle.plain_data.specs.declared.or_no_memory.OrNoMemory.{OrNoMemory}
 use Rattle.plain_data.specs.declared.or_no_memory.OrNoMemory.TheVariants as stop
 use Rattle.dio_core.specs.Told.{WhereTold}
 use Rattle.dio_core.specs.Counts.{Rose}
 use Rattle.dio_core.specs.declared.line.Line.{Line}
+use Rattle.dio_core.specs.declared.line.Line.TheVariants as line
 use Rattle.dio_core.specs.Lines.{TakesLine, BreaksOff}
-use Rattle.dio_core.specs.Links.{Both}
+use Rattle.dio_core.specs.Links.{Both, Outgoing}
 use Rattle.dio_core.specs.Sinks.{with_more, IsPassedOn}
 use Rattle.txn_grammar.specs.Characters.{Text}
 use Rattle.docc_prepare.specs.Calls.{Known, Call, Answer}
 use Rattle.docc_prepare.specs.Backends.{Goes}
+use Rattle.call_programs.specs.Programs.{Program, Leads}
 use Rattle.session_core.specs.declared.error.SessionError.{SessionError}
 use Rattle.session_core.specs.declared.error.SessionError.TheVariants as error
 use Rattle.session_core.specs.declared.session.Session.{Session}
 use Rattle.session_core.specs.declared.turn.Turn.{Turn}
-use Rattle.session_core.specs.Leading.{Arrives}
-use Rattle.session_core.specs.Phases.{Phase, synced}
+use Rattle.session_core.specs.LinePrograms.{sync}
 use Rattle.script_runner.specs.declared.status.TheConstants.{WHOLE, READ_FAULT, WRITE_FAULT, NO_MEMORY, TOO_MANY_LINES}
 use Rattle.diamond_server.specs.declared.status.TheConstants.{STORE_FAULT}
 use Rattle.diamond_server.specs.declared.status.Cause.{Cause}
 use Rattle.diamond_server.specs.declared.status.Cause.TheVariants as cause
-use Rattle.diamond_server.specs.declared.answering.Response.{Response}
 use Rattle.diamond_server.specs.Talking.{Told, Does, Talks, first_session, printed, output, line_told}
 use Rattle.diamond_server.specs.Promises.{HasRead, ReadsToTheEnd, ReadsUpToAFault, ReadsOneMore, IsServed}
 
@@ -63,6 +63,69 @@ StopsReading (stop.Cause cause.WriteFault) left left_then = ⊥
 StopsReading (stop.Cause cause.StoreFault) left left_then = ⊥
 StopsReading (stop.Cause cause.TooManyLines) left left_then = ⊥
 
+-- ---- holding back
+
+-- What a link has taken and what is held back behind it are together what they were. What had all been passed on still is.
+pub record HoldsBack (x : Outgoing) (held : Text) (y : Outgoing) (after : Text) : Type 0 where
+  pub said : with_more y.taken after ≡ with_more x.taken held
+  pub flushed : IsPassedOn x.taken x.passed → IsPassedOn y.taken y.passed
+  pub writes : y.faults ≡ x.faults
+
+-- what was held back is passed on, or a write or the flush has failed
+abbrev pub PassesOn : Bool → Outgoing → Text → Outgoing → Type 0
+PassesOn true x held y = HoldsBack x held y []
+PassesOn false x held y = (held ≡ [] → ⊥) × Rose x.faults y.faults
+
+-- the line's outcome stands
+pub record Stands (outcome result : Result Bool Stop) (x : Outgoing) (held : Text) (y : Outgoing) (after : Text) : Type 0 where
+  pub is : result ≡ outcome
+  pub holds : HoldsBack x held y after
+  pub emptied : held ≡ [] → after ≡ []
+
+-- or a write has failed, where there was something to be written
+pub record FailsToWrite (x : Outgoing) (held : Text) (y : Outgoing) (result : Result Bool Stop) : Type 0 where
+  pub is : result ≡ Err (stop.Cause cause.WriteFault)
+  pub some : held ≡ [] → ⊥
+  pub rose : Rose x.faults y.faults
+
+-- What becomes of a line's outcome where what is held back may be passed on.
+abbrev pub Settles : Result Bool Stop → Result Bool Stop → Outgoing → Text → Outgoing → Text → Type 0
+Settles outcome result x held y after = Stands outcome result x held y after ⊎ FailsToWrite x held y result
+
+-- ---- finding a line
+
+-- the next line was at hand, or none was
+abbrev pub IsAtHand : Option Line → Option Text → Option Text → Type 0
+IsAtHand None left left_then = left_then ≡ left
+IsAtHand (Some l) left left_then = (l ≡ line.End → ⊥) × TakesLine l left left_then
+
+-- A line was found; where the input has ended nothing is held back.
+pub record Finds (l : Line) (x : Both) (held : Text) (y : Both) (after : Text) : Type 0 where
+  pub read : TakesLine l x.inwards.left y.inwards.left
+  pub reads : y.inwards.faults ≡ x.inwards.faults
+  pub holds : HoldsBack x.outwards held y.outwards after
+  pub emptied : l ≡ line.End → after ≡ []
+
+-- a read failed in it, behind what was held back
+pub record BreaksOffIn (x : Both) (held : Text) (y : Both) (after : Text) : Type 0 where
+  pub breaks : BreaksOff x.inwards.left y.inwards.left
+  pub reads : Rose x.inwards.faults y.inwards.faults
+  pub holds : HoldsBack x.outwards held y.outwards after
+  pub emptied : after ≡ []
+
+-- the counts of a link stood
+abbrev pub SameCounts : Both → Both → Type 0
+SameCounts x y = (y.inwards.faults ≡ x.inwards.faults) × (y.outwards.faults ≡ x.outwards.faults)
+
+-- what a look for the next line comes to
+abbrev pub FindsLine : Result Line Stop → Both → Text → Both → Text → Type 0
+FindsLine (Ok l) x held y after = Finds l x held y after
+FindsLine (Err stop.NoMemory) x held y after = SameCounts x y
+FindsLine (Err (stop.Cause cause.ReadFault)) x held y after = BreaksOffIn x held y after
+FindsLine (Err (stop.Cause cause.WriteFault)) x held y after = (y.inwards.faults ≡ x.inwards.faults) × Rose x.outwards.faults y.outwards.faults
+FindsLine (Err (stop.Cause cause.StoreFault)) x held y after = ⊥
+FindsLine (Err (stop.Cause cause.TooManyLines)) x held y after = ⊥
+
 -- ---- answering
 
 -- a line that is to wait is woken, and goes on as `sync` does
@@ -70,82 +133,70 @@ pub record Wakes {B : Type 0} (known : B → Known) (goes : B → Call → Answe
     (t : Session) : Type 0 where
   pub woke : B
   pub waits : Goes known goes old Call.wait Answer.done woke
-  pub syncs : Arrives known goes woke (synced s) new (Phase.over t said)
+  pub syncs : Leads (Goes known goes) woke (sync s) new (Program.ends (t, said))
 
 -- a session goes on or not
 abbrev pub kept : Bool → Session → Option Session
 kept true s = Some s
 kept false s = None
 
--- A line is answered by a text, and the session goes on or not.
-pub record Replies {B : Type 0} (known : B → Known) (goes : B → Call → Answer → B → Type 0) (old : B) (s : Session) (l : Line) (a : Response) (new : B)
-    (t : Session) : Type 0 where
+-- A line is answered by a text, behind what is held back; and the session goes on or not.
+pub record Replies {B : Type 0} (known : B → Known) (goes : B → Call → Answer → B → Type 0) (old : B) (s : Session) (l : Line) (x : Outgoing)
+    (held : Text) (goes_on : Bool) (new : B) (t : Session) (y : Outgoing) (after : Text) : Type 0 where
   pub told : Told
   pub line_is : line_told told ≡ l
-  pub does : Does known goes old s told new (kept a.goes_on t)
-  pub text_is : printed told ≡ a.text
+  pub does : Does known goes old s told new (kept goes_on t)
+  pub holds : HoldsBack x (held ++ printed told) y after
 
--- what an error says of the store's count
-abbrev pub FaultsOf : {A : Type 0} → Result A Stop → ℕ → ℕ → Type 0
-FaultsOf (Ok a) old new = Unit {0}
-FaultsOf (Err stop.NoMemory) old new = Unit {0}
-FaultsOf (Err (stop.Cause cause.StoreFault)) old new = Rose old new
-FaultsOf (Err (stop.Cause cause.ReadFault)) old new = ⊥
-FaultsOf (Err (stop.Cause cause.WriteFault)) old new = ⊥
-FaultsOf (Err (stop.Cause cause.TooManyLines)) old new = ⊥
+-- what an error says of the counts of the store and of a link's writes, where nothing was read
+abbrev pub StopsBy : Stop → ℕ → ℕ → ℕ → ℕ → Type 0
+StopsBy stop.NoMemory store store_then writes writes_then = writes_then ≡ writes
+StopsBy (stop.Cause cause.StoreFault) store store_then writes writes_then = (writes_then ≡ writes) × Rose store store_then
+StopsBy (stop.Cause cause.WriteFault) store store_then writes writes_then = Rose writes writes_then
+StopsBy (stop.Cause cause.ReadFault) store store_then writes writes_then = ⊥
+StopsBy (stop.Cause cause.TooManyLines) store store_then writes writes_then = ⊥
 
 -- ---- one line
 
--- the counts of a link stood
-abbrev pub SameCounts : Both → Both → Type 0
-SameCounts x y = (y.inwards.faults ≡ x.inwards.faults) × (y.outwards.faults ≡ x.outwards.faults)
-
 -- One line was read, done and answered.
-pub record DoesLine {B : Type 0} (known : B → Known) (goes : B → Call → Answer → B → Type 0) (old : B) (s : Session) (x : Both) (new : B)
-    (o : Option Session) (y : Both) : Type 0 where
+pub record DoesLine {B : Type 0} (known : B → Known) (goes : B → Call → Answer → B → Type 0) (old : B) (s : Session) (x : Both) (held : Text) (new : B)
+    (o : Option Session) (y : Both) (after : Text) : Type 0 where
   pub told : Told
   pub does : Does known goes old s told new o
   pub read : TakesLine (line_told told) x.inwards.left y.inwards.left
-  pub taken : y.outwards.taken ≡ with_more x.outwards.taken (printed told)
-  pub passed : IsPassedOn y.outwards.taken y.outwards.passed
-  pub counts : SameCounts x y
+  pub reads : y.inwards.faults ≡ x.inwards.faults
+  pub holds : HoldsBack x.outwards (held ++ printed told) y.outwards after
 
 -- there was none
-pub record FindsNone {B : Type 0} (old : B) (x : Both) (new : B) (y : Both) : Type 0 where
+pub record FindsNone {B : Type 0} (old : B) (x : Both) (held : Text) (new : B) (y : Both) (after : Text) : Type 0 where
   pub left : WhereTold (λ all rest. (all ≡ []) × (rest ≡ [])) x.inwards.left y.inwards.left
   pub reads : y.inwards.faults ≡ x.inwards.faults
-  pub outwards : y.outwards ≡ x.outwards
-  pub backend : new ≡ old
-
--- a read failed in it
-pub record BreaksLine {B : Type 0} (old : B) (x : Both) (new : B) (y : Both) : Type 0 where
-  pub breaks : BreaksOff x.inwards.left y.inwards.left
-  pub reads : Rose x.inwards.faults y.inwards.faults
-  pub outwards : y.outwards ≡ x.outwards
+  pub holds : HoldsBack x.outwards held y.outwards after
   pub backend : new ≡ old
 
 -- What a turn did: `true` says that another line may follow.
-abbrev pub Turns : {B : Type 0} → (B → Known) → (B → Call → Answer → B → Type 0) → Result Bool Stop → B → Session → Both → B → Session → Both → Type 0
-Turns known goes (Ok true) old s x new t y = DoesLine known goes old s x new (Some t) y
-Turns known goes (Ok false) old s x new t y = FindsNone old x new y ⊎ DoesLine known goes old s x new None y
-Turns known goes (Err stop.NoMemory) old s x new t y = SameCounts x y
-Turns known goes (Err (stop.Cause cause.ReadFault)) old s x new t y = BreaksLine old x new y
-Turns known goes (Err (stop.Cause cause.WriteFault)) old s x new t y = (y.inwards.faults ≡ x.inwards.faults) × Rose x.outwards.faults y.outwards.faults
-Turns known goes (Err (stop.Cause cause.StoreFault)) old s x new t y = SameCounts x y × Rose (known old).faults (known new).faults
-Turns known goes (Err (stop.Cause cause.TooManyLines)) old s x new t y = ⊥
+abbrev pub Turns : {B : Type 0} → (B → Known) → (B → Call → Answer → B → Type 0) → Result Bool Stop → B → Session → Both → Text → B → Session → Both
+    → Text → Type 0
+Turns known goes (Ok true) old s x held new t y after = DoesLine known goes old s x held new (Some t) y after
+Turns known goes (Ok false) old s x held new t y after = FindsNone old x held new y after ⊎ DoesLine known goes old s x held new None y after
+Turns known goes (Err stop.NoMemory) old s x held new t y after = SameCounts x y
+Turns known goes (Err (stop.Cause cause.ReadFault)) old s x held new t y after = BreaksOffIn x held y after × (new ≡ old)
+Turns known goes (Err (stop.Cause cause.WriteFault)) old s x held new t y after =
+    (y.inwards.faults ≡ x.inwards.faults) × Rose x.outwards.faults y.outwards.faults
+Turns known goes (Err (stop.Cause cause.StoreFault)) old s x held new t y after = SameCounts x y × Rose (known old).faults (known new).faults
+Turns known goes (Err (stop.Cause cause.TooManyLines)) old s x held new t y after = ⊥
 
 -- ---- many lines
 
 -- So many lines were read, done and answered, and the session goes on.
 pub record HasServed {B : Type 0} (known : B → Known) (goes : B → Call → Answer → B → Type 0) (count : ℕ) (old : B) (x : Both) (new : B) (t : Session)
-    (y : Both) : Type 0 where
+    (y : Both) (held : Text) : Type 0 where
   pub tolds : List Told
   pub talks : Talks known goes old (first_session (known old)) tolds new (Some t)
   pub many : length tolds ≡ count
   pub read : WhereTold (HasRead tolds) x.inwards.left y.inwards.left
-  pub taken : y.outwards.taken ≡ with_more x.outwards.taken (output tolds)
-  pub flushed : IsPassedOn x.outwards.taken x.outwards.passed → IsPassedOn y.outwards.taken y.outwards.passed
-  pub counts : SameCounts x y
+  pub reads : y.inwards.faults ≡ x.inwards.faults
+  pub holds : HoldsBack x.outwards (output tolds) y.outwards held
 
 -- How the lines ended.
 abbrev pub Ends : {B : Type 0} → (B → Known) → (B → Call → Answer → B → Type 0) → Result (Unit {0}) Stop → B → Both → B → Both → Type 0

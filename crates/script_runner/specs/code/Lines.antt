@@ -1,13 +1,12 @@
--- What a function that does a line returns and leaves, want of memory aside. The clause of each says by which rule of specs/Play and
--- specs/Driving: that of `answer`, by `answer`; the laws of proofs/Turns make a turn of it.
-use Rattle.std.specs.Prelude.{◌≡◌, ◌++◌, Option, Result, Ok, Err}
+-- What a function that does a line returns and leaves, want of memory aside. The clause of each says by which rule of specs/Play:
+-- that of `answer`, by `answer`; the laws of proofs/Turns make a turn of it.
+use Rattle.std.specs.Prelude.{◌≡◌, ◌++◌, Option, Some, Result, Ok, Err}
 use Rattle.std.specs.declared.alloc.AllocError.{AllocError}
 use Rattle.txn_grammar.specs.Characters.{Text}
 use Rattle.docc_prepare.specs.Stores.{Store}
 use Rattle.session_core.specs.declared.session.Session.{Session}
 use Rattle.session_core.specs.declared.turn.Turn.{Turn}
-use Rattle.session_core.specs.Phases.{Phase}
-use Rattle.script_runner.specs.Driving.{Place}
+use Rattle.session_core.specs.Verbs.{LineEnd}
 use Rattle.script_runner.specs.Play.{ScriptWorld, Did, Done, printed}
 
 -- a line leaves this world, and behind the output so far stands what is told of it
@@ -30,7 +29,7 @@ abbrev pub Does : Result (Unit {0}) AllocError → Text → Text → Store → O
 Does (Ok done) before output store session d = LeavesClient before output store session d
 Does (Err e) before output store session d = Unit {0}
 
--- the line is over: the store, the session and the turn are those where it ends, unless memory ran out
-abbrev pub IsOver : Result Turn AllocError → Store → Session → Place → Type 0
-IsOver (Ok turn) store session place = place ≡ (store, Phase.over session turn)
-IsOver (Err e) store session place = Unit {0}
+-- the line is over: its program was played to this session and turn, and left this store, unless memory ran out
+abbrev pub IsOver : Result Turn AllocError → Store → Session → Option LineEnd × Store → Type 0
+IsOver (Ok turn) store session played = played ≡ (Some (session, turn), store)
+IsOver (Err e) store session played = Unit {0}

@@ -2,17 +2,13 @@ use Rattle.std.proofs.Common.{◌≡◌}
 use Rattle.docc_prepare.specs.Backends.{Goes}
 use Rattle.call_programs.specs.Programs.{Leads}
 use Rattle.client_watches.specs.Lines.{catch_up}
-use Rattle.client_watches.specs.Phases.{Goal, rerun_all}
 use Rattle.client_watches.specs.Keeping.{Keeps}
 use Rattle.client_watches.specs.Watching.{KeepsFree, stale_count}
-use Rattle.client_watches.specs.Leading.{Reaches}
 use Rattle.client_watches.proofs.catching.catch_up.Given as goal
 
 abbrev pub invariant-loop-all : goal.invariant-loop-all
 invariant-loop-all g l = record {
   played : Leads (Goes g.B.Backend.known g.B.Backend.goes) l.fn.backend (catch_up l.fn.watching l.fn.said) l.backend (catch_up l.watching l.said);
-  led : (goal : Goal) → Reaches g.B.Backend.known g.B.Backend.goes l.fn.backend (rerun_all goal l.fn.watching l.fn.said) l.backend
-      (rerun_all goal l.watching l.said);
   keeps : Keeps (g.B.Backend.known l.backend) l.watching;
   free : KeepsFree l.fn.watching l.watching;
   home : g.B.Backend.home l.backend ≡ g.B.Backend.home l.fn.backend;

@@ -4,9 +4,7 @@ use Rattle.rerun_driver.specs.Watches.{first_stale}
 use Rattle.docc_prepare.specs.Backends.{Goes}
 use Rattle.call_programs.specs.Programs.{Leads}
 use Rattle.client_watches.specs.Lines.{rounds, rerun_one}
-use Rattle.client_watches.specs.Phases.{Goal, rerun_all}
 use Rattle.client_watches.specs.Keeping.{Keeps}
-use Rattle.client_watches.specs.Leading.{Reaches}
 use Rattle.client_watches.proofs.Bounds.{HasRead}
 use Rattle.client_watches.proofs.catching.rerun_one.Given as goal
 
@@ -15,8 +13,6 @@ abbrev pub invariant-loop : goal.invariant-loop
 invariant-loop g l = record {
   played : Leads (Goes g.B.Backend.known g.B.Backend.goes) l.fn.backend (rerun_one rounds l.fn.said l.fn.watching) l.backend
       (rerun_one (rounds - l.counter) l.said l.watching);
-  led : (goal : Goal) → Reaches g.B.Backend.known g.B.Backend.goes l.fn.backend (rerun_all goal l.fn.watching l.fn.said) l.backend
-      (rerun_all goal l.watching l.said);
   read : HasRead (first_stale l.watching.watches) l.counter (held l.watching.cache);
   watches : l.watching.watches ≡ l.fn.watching.watches;
   keeps : Keeps (g.B.Backend.known l.backend) l.watching;

@@ -1,5 +1,4 @@
 use Rattle.std.proofs.Common.{refl, subst, sym, ap, ◌∙◌}
-use Rattle.std.proofs.lemmas.Result.{err_from_is_err_and}
 use Rattle.client_watches.specs.Keeping.{Keeps}
 use Rattle.rerun_driver.specs.Watches.{Watches, watch_of}
 use Rattle.docc_prepare.specs.Calls.{Answer}
@@ -8,7 +7,6 @@ use Rattle.call_programs.proofs.Programs.{one_call, fails}
 use Rattle.client_watches.proofs.Parts.{wants, failed}
 use Rattle.client_watches.proofs.Names.{none-told}
 use Rattle.client_watches.proofs.Kept.{keeps-feed}
-use Rattle.client_watches.proofs.Steps.{take-failed, take-wants, take-done}
 use Rattle.client_watches.proofs.fetching.take.Goals as goal
 
 pub returns-in_err-feed-clause-plays : goal.returns-in_err-feed-clause-plays
@@ -23,24 +21,6 @@ returns-in_err-advance-clause-plays g c =
 pub returns-clause-plays : goal.returns-clause-plays
 returns-clause-plays g c = one_call (Answer.feed c.in_ok-feed.feed) c.in_ok-feed.ensures.goes tt
     (λ i. Program.ends (record { watches = sym c.advance-2.ensures i; cache = sym c.in_ok-advance.ensures.ok i; loose = c.args.watching.now.loose }))
-
-pub returns-in_err-feed-clause-takes : goal.returns-in_err-feed-clause-takes
-returns-in_err-feed-clause-takes g c =
-    let p = err_from_is_err_and c.from_residual.result c.from_residual.ensures.1 in
-    take-failed g.B.Backend.known g.B.Backend.goes c.args.backend.now c.args.watching.now c.from_residual.result p.0 c.in_err-feed.field-0.0
-    c.take.new.self c.args.watching.now p.1 p.2 c.in_err-feed.ensures.goes
-
-pub returns-in_err-advance-clause-takes : goal.returns-in_err-advance-clause-takes
-returns-in_err-advance-clause-takes g c =
-    let p = err_from_is_err_and c.from_residual-in_err-advance.result c.from_residual-in_err-advance.ensures.1 in
-    take-wants g.B.Backend.known g.B.Backend.goes c.args.backend.now c.args.watching.now c.from_residual-in_err-advance.result p.0 c.in_ok-feed.feed
-    c.take.new.self _ p.1 p.2 c.in_ok-feed.ensures.goes
-
-pub returns-clause-takes : goal.returns-clause-takes
-returns-clause-takes g c =
-    take-done g.B.Backend.known g.B.Backend.goes c.args.backend.now c.args.watching.now c.in_ok-feed.feed c.take.new.self _
-    (λ i. record { watches = c.advance-2.ensures i; cache = c.in_ok-advance.ensures.ok i; loose = c.args.watching.now.loose })
-    c.in_ok-feed.ensures.goes
 
 pub returns-clause-keeps : goal.returns-clause-keeps
 returns-clause-keeps g c =

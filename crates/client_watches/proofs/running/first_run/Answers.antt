@@ -1,15 +1,13 @@
-use Rattle.std.proofs.Common.{◌≡◌, Option, subst, sym, ap, ◌∙◌}
+use Rattle.std.proofs.Common.{Option, subst, sym, ap, ◌∙◌}
 use Rattle.std.specs.Prelude.{IfSome}
 use Rattle.txn_lang.specs.declared.run.Run.{Run}
-use Rattle.txn_lang.specs.Execution.{exec, done}
-use Rattle.client_cache.specs.Cached.{held}
 use Rattle.rerun_driver.specs.Watches.{Watches, watch_of}
 use Rattle.call_programs.specs.Programs.{Program}
-use Rattle.call_programs.proofs.Programs.{here as at_once, in_bind, bound, stops_in, fails}
+use Rattle.call_programs.proofs.Programs.{here, in_bind, bound, stops_in, fails}
 use Rattle.client_watches.specs.Keeping.{Keeps}
 use Rattle.client_watches.specs.Lines.{made}
-use Rattle.client_watches.proofs.Parts.{wants}
-use Rattle.client_watches.proofs.Steps.{none-else}
+use Rattle.client_watches.specs.Watching.{HasRun}
+use Rattle.client_watches.proofs.Parts.{wants, none-else}
 use Rattle.client_watches.proofs.Kept.{keeps-first}
 use Rattle.client_watches.proofs.running.first_run.Goals as goal
 
@@ -18,7 +16,7 @@ returns-in_ok-keep-clause-keeps g c =
     subst (Keeps (g.B.Backend.known c.run_body.new.backend)) (sym c.in_ok-keep.ensures.watching)
     (keeps-first (g.B.Backend.known c.run_body.new.backend) c.run_body.new.watching c.in_ok-run.ensures.keeps c.args.name c.args.body c.in-Some.run'
     (ap (λ (ws : Watches). watch_of ws c.args.name) c.in_ok-run.ensures.watches ∙ c.requires.free)
-    (subst (λ (o : Option Run). IfSome o (λ run. exec c.args.body.body (held c.run_body.new.watching.cache) ≡ done run)) c.in-Some.is
+    (subst (λ (o : Option Run). IfSome o (HasRun c.args.body c.run_body.new.watching)) c.in-Some.is
     c.in_ok-run.ensures.done))
 
 pub returns-in_err-run-clause-plays : goal.returns-in_err-run-clause-plays
@@ -34,11 +32,11 @@ returns-in_err-keep-clause-plays g c =
 pub returns-in_ok-keep-clause-plays : goal.returns-in_ok-keep-clause-plays
 returns-in_ok-keep-clause-plays g c =
     bound (λ found. Program.ends (made c.args.name c.args.body found)) c.in_ok-run.ensures.plays
-    (at_once (ap (λ o. Program.ends (made c.args.name c.args.body (o, c.run_body.new.watching, c.run_body.new.said))) c.in-Some.is
+    (here (ap (λ o. Program.ends (made c.args.name c.args.body (o, c.run_body.new.watching, c.run_body.new.said))) c.in-Some.is
     ∙ (λ i. Program.ends (sym c.in_ok-keep.ensures.watching i, sym c.in_ok-keep.ensures.said i))))
 
 pub returns-in_default-clause-plays : goal.returns-in_default-clause-plays
 returns-in_default-clause-plays g c =
     bound (λ found. Program.ends (made c.args.name c.args.body found)) c.in_ok-run.ensures.plays
-    (at_once (ap (λ o. Program.ends (made c.args.name c.args.body (o, c.run_body.new.watching, c.run_body.new.said)))
+    (here (ap (λ o. Program.ends (made c.args.name c.args.body (o, c.run_body.new.watching, c.run_body.new.said)))
     (none-else _ c.in_default.not-Some)))

@@ -1,5 +1,4 @@
-use Rattle.std.proofs.Common.{◌≡◌, ℕ, suc, ◌+◌, ◌-◌, ◌++◌, ◌∷◌, [], List, Option, None, Ok, Err, refl, arith, subst, sym, ap, ◌∙◌}
-use Rattle.std.proofs.lemmas.Result.{err_from_is_err_and}
+use Rattle.std.proofs.Common.{◌≡◌, ℕ, suc, ◌+◌, ◌-◌, Option, None, refl, arith, subst, sym, ap, ◌∙◌}
 use Rattle.session_text.specs.declared.reply.Reply.{Reply}
 use Rattle.txn_lang.specs.declared.run.Run.{Run}
 use Rattle.txn_lang.specs.Execution.{need, done}
@@ -7,27 +6,20 @@ use Rattle.txn_lang.proofs.Observed.{runs_ask_short}
 use Rattle.txn_lang.proofs.Few.{reads_are_few}
 use Rattle.txn_eval.specs.Running.{ran_of}
 use Rattle.client_cache.specs.Cached.{held, filled}
-use Rattle.client_watches.specs.declared.error.WatchError.{WatchError}
 use Rattle.client_watches.specs.declared.watching.Watching.{Watching}
 use Rattle.call_programs.specs.Programs.{Program}
-use Rattle.call_programs.proofs.Programs.{and_then, in_bind, bound, to_same, here as at_once, stops_in, stops_behind, fails}
+use Rattle.call_programs.proofs.Programs.{and_then, in_bind, bound, to_same, here, stops_in, stops_behind, fails}
 use Rattle.client_watches.specs.Lines.{rounds, run_body, or_late}
-use Rattle.client_watches.specs.Phases.{first_run}
 use Rattle.client_watches.specs.Keeping.{Keeps}
-use Rattle.client_watches.specs.Leading.{Fetches, HasFetched}
-use Rattle.client_watches.proofs.Kept.{keeps-value}
+use Rattle.client_watches.proofs.Kept.{keeps-on, keeps-value}
 use Rattle.client_watches.proofs.Bounds.{filled-next}
 use Rattle.txn_lang.specs.Few.{AreReadInTurn}
-use Rattle.client_watches.proofs.Steps.{here, run-unfetched, run-fetched, run-late, run-late-wants, none-else}
-use Rattle.client_watches.proofs.Parts.{wants, no_round_yet, run_round}
+use Rattle.client_watches.proofs.Parts.{wants, no_round_yet, run_round, none-else, IsFetched, is_fetched}
 use Rattle.client_watches.proofs.running.run_body.Goals as goal
 
 pub loop-init : goal.loop-init
 loop-init g c = record {
-  played = at_once (ap (λ (n : ℕ). run_body n c.args.body.now c.args.said.now c.args.watching.now) no_round_yet);
-  led = λ name. here g.B.Backend.known g.B.Backend.goes c.args.backend.now (first_run name c.args.body.now c.args.watching.now c.args.said.now)
-      (first_run name c.args.body.now c.args.watching.now c.args.said.now) refl;
-  said = refl;
+  played = here (ap (λ (n : ℕ). run_body n c.args.body.now c.args.said.now c.args.watching.now) no_round_yet);
   turn = tt;
   watches = refl;
   keeps = c.requires;
@@ -49,15 +41,6 @@ returns-in_err-late-in-Need-clause-plays g c =
     (stops_behind (to_same round c.loop.invariant.played)
     (stops_in (or_late (run_body (rounds - (c.loop.counter + 1)) c.args.body.now c.loop.said) None c.loop.said) c.in_err-late-in-Need.ensures.plays))
 
-pub returns-in_err-late-in-Need-clause-runs : goal.returns-in_err-late-in-Need-clause-runs
-returns-in_err-late-in-Need-clause-runs g c =
-    let p = err_from_is_err_and c.from_residual-in_err-late-in-Need.result c.from_residual-in_err-late-in-Need.ensures.1 in
-    run-unfetched g.B.Backend.known g.B.Backend.goes c.args.body.now c.args.backend.now c.args.watching.now c.args.said.now c.loop.backend c.loop.watching
-    c.loop.invariant.led c.in-Need.address (sym c.in_ok-run.ensures ∙ ap ran_of c.in-Need.is) c.from_residual-in_err-late-in-Need.result p.0
-    c.fetch.new.backend c.fetch.new.watching c.fetch.new.watching c.loop.said p.1
-    (subst (λ (e : WatchError). Fetches g.B.Backend.known g.B.Backend.goes c.loop.backend c.loop.watching c.in-Need.address
-    (Err e) c.fetch.new.backend c.fetch.new.watching) (sym p.2) c.in_err-late-in-Need.ensures.fetches)
-
 pub returns-in_err-push-in-Need-clause-plays : goal.returns-in_err-push-in-Need-clause-plays
 returns-in_err-push-in-Need-clause-plays g c =
     let round = run_round c.loop.counter c.args.body.now c.loop.said c.loop.watching (need c.in-Need.address) c.loop-test.true
@@ -65,15 +48,6 @@ returns-in_err-push-in-Need-clause-plays g c =
     fails _ c.from_residual-in_err-push-in-Need.result c.from_residual-in_err-push-in-Need.ensures.1
     (wants (and_then (to_same round c.loop.invariant.played)
     (in_bind (or_late (run_body (rounds - (c.loop.counter + 1)) c.args.body.now c.loop.said) None c.loop.said) c.in_ok-late-in-Need.ensures.plays)))
-
-pub returns-in_err-push-in-Need-clause-runs : goal.returns-in_err-push-in-Need-clause-runs
-returns-in_err-push-in-Need-clause-runs g c =
-    let p = err_from_is_err_and c.from_residual-in_err-push-in-Need.result c.from_residual-in_err-push-in-Need.ensures.1 in
-    run-late-wants g.B.Backend.known g.B.Backend.goes c.args.body.now c.args.backend.now c.args.watching.now c.args.said.now c.loop.backend c.loop.watching
-    c.loop.invariant.led c.in-Need.address (sym c.in_ok-run.ensures ∙ ap ran_of c.in-Need.is) c.from_residual-in_err-push-in-Need.result p.0
-    c.fetch.new.backend c.fetch.new.watching c.fetch.new.watching c.in-Some.late c.push.new.self p.1 p.2
-    (subst (λ (o : Option Reply). Fetches g.B.Backend.known g.B.Backend.goes c.loop.backend c.loop.watching c.in-Need.address
-    (Ok o) c.fetch.new.backend c.fetch.new.watching) c.in-Some.is c.in_ok-late-in-Need.ensures.fetches)
 
 pub returns-in-Done-clause-plays : goal.returns-in-Done-clause-plays
 returns-in-Done-clause-plays g c =
@@ -87,24 +61,28 @@ returns-in-Some-clause-plays g c =
     let none : Option Run = None in
     let more = or_late (run_body (rounds - (c.loop.counter + 1)) c.args.body.now c.loop.said) none c.loop.said in
     and_then (to_same round c.loop.invariant.played) (bound more c.in_ok-late-in-Need.ensures.plays
-    (at_once (ap (λ o. more (o, c.fetch.new.watching)) c.in-Some.is
+    (here (ap (λ o. more (o, c.fetch.new.watching)) c.in-Some.is
     ∙ ap (λ said. Program.ends (none, c.fetch.new.watching, said)) (sym c.in_ok-push-in-Need.ensures.ok))))
 
-pub returns-in-Some-clause-runs : goal.returns-in-Some-clause-runs
-returns-in-Some-clause-runs g c = λ name.
-    run-late g.B.Backend.known g.B.Backend.goes c.args.body.now c.args.backend.now c.args.watching.now c.args.said.now c.loop.backend c.loop.watching
-    c.loop.invariant.led c.in-Need.address (sym c.in_ok-run.ensures ∙ ap ran_of c.in-Need.is) c.fetch.new.backend c.fetch.new.watching c.in-Some.late
-    c.push.new.self
-    (c.in_ok-push-in-Need.ensures.ok ∙ ap (λ (all : List Reply). all ++ c.in-Some.late ∷ []) c.loop.invariant.said)
-    (subst (λ (o : Option Reply). Fetches g.B.Backend.known g.B.Backend.goes c.loop.backend c.loop.watching c.in-Need.address
-    (Ok o) c.fetch.new.backend c.fetch.new.watching) c.in-Some.is c.in_ok-late-in-Need.ensures.fetches) name
+pub returns-in-Some-clause-keeps : goal.returns-in-Some-clause-keeps
+returns-in-Some-clause-keeps g c =
+    let late = subst (λ (o : Option Reply). IsFetched c.loop.watching c.in-Need.address o c.fetch.new.watching) c.in-Some.is
+    (is_fetched c.in_ok-late-in-Need.ensures.plays) in
+    subst (Keeps (g.B.Backend.known c.fetch.new.backend)) (sym late)
+    (keeps-on (g.B.Backend.known c.loop.backend) (g.B.Backend.known c.fetch.new.backend) c.loop.watching c.fetch.ensures.seen c.loop.invariant.keeps)
+
+pub returns-in-Some-clause-watches : goal.returns-in-Some-clause-watches
+returns-in-Some-clause-watches g c =
+    let late = subst (λ (o : Option Reply). IsFetched c.loop.watching c.in-Need.address o c.fetch.new.watching) c.in-Some.is
+    (is_fetched c.in_ok-late-in-Need.ensures.plays) in
+    ap (λ (w : Watching). w.watches) late ∙ c.loop.invariant.watches
 
 pub loop-preserved : goal.loop-preserved
 loop-preserved g c =
-    let fetched : HasFetched g.B.Backend.known g.B.Backend.goes c.loop.backend c.loop.watching c.in-Need.address c.fetch.new.backend
-    c.fetch.new.watching =
-    subst (λ (o : Option Reply). Fetches g.B.Backend.known g.B.Backend.goes c.loop.backend c.loop.watching c.in-Need.address
-    (Ok o) c.fetch.new.backend c.fetch.new.watching) (none-else _ c.in_default.not-Some) c.in_ok-late-in-Need.ensures.fetches in
+    let none = none-else _ c.in_default.not-Some in
+    let fetched : IsFetched c.loop.watching c.in-Need.address None c.fetch.new.watching =
+    subst (λ (o : Option Reply). IsFetched c.loop.watching c.in-Need.address o c.fetch.new.watching) none
+    (is_fetched c.in_ok-late-in-Need.ensures.plays) in
     let up : suc c.loop.counter ≡ c.loop.counter + 1 = omega arith in
     let round = run_round c.loop.counter c.args.body.now c.loop.said c.loop.watching (need c.in-Need.address) c.loop-test.true
     (sym c.in_ok-run.ensures ∙ ap ran_of c.in-Need.is) in
@@ -112,21 +90,17 @@ loop-preserved g c =
     record {
       played = and_then (to_same round c.loop.invariant.played)
           (bound more c.in_ok-late-in-Need.ensures.plays
-          (at_once (ap (λ o. more (o, c.fetch.new.watching)) (none-else _ c.in_default.not-Some))));
-      led = run-fetched g.B.Backend.known g.B.Backend.goes c.args.body.now c.args.backend.now c.args.watching.now c.args.said.now c.loop.backend
-          c.loop.watching c.loop.invariant.led c.in-Need.address (sym c.in_ok-run.ensures ∙ ap ran_of c.in-Need.is) c.fetch.new.backend
-          c.fetch.new.watching fetched;
-      said = c.loop.invariant.said;
-      turn = subst (λ (w : Watching). AreReadInTurn c.args.body.now.body (c.loop.counter + 1) (held w.cache)) (sym fetched.kept)
-          (subst (λ (n : ℕ). AreReadInTurn c.args.body.now.body n (held (filled c.loop.watching.cache c.in-Need.address fetched.value))) up (
+          (here (ap (λ o. more (o, c.fetch.new.watching)) none)));
+      turn = subst (λ (w : Watching). AreReadInTurn c.args.body.now.body (c.loop.counter + 1) (held w.cache)) (sym fetched.1)
+          (subst (λ (n : ℕ). AreReadInTurn c.args.body.now.body n (held (filled c.loop.watching.cache c.in-Need.address fetched.0))) up (
             held c.loop.watching.cache,
             c.loop.invariant.turn,
-            filled-next c.args.body.now.body c.loop.watching.cache c.in-Need.address fetched.value (sym c.in_ok-run.ensures ∙ ap ran_of c.in-Need.is),
+            filled-next c.args.body.now.body c.loop.watching.cache c.in-Need.address fetched.0 (sym c.in_ok-run.ensures ∙ ap ran_of c.in-Need.is),
           ));
-      watches = ap (λ (w : Watching). w.watches) fetched.kept ∙ c.loop.invariant.watches;
-      keeps = subst (Keeps (g.B.Backend.known c.fetch.new.backend)) (sym fetched.kept)
+      watches = ap (λ (w : Watching). w.watches) fetched.1 ∙ c.loop.invariant.watches;
+      keeps = subst (Keeps (g.B.Backend.known c.fetch.new.backend)) (sym fetched.1)
           (keeps-value (g.B.Backend.known c.loop.backend) (g.B.Backend.known c.fetch.new.backend) c.loop.watching c.fetch.ensures.seen
-          c.loop.invariant.keeps c.in-Need.address fetched.value
+          c.loop.invariant.keeps c.in-Need.address fetched.0
           (runs_ask_short.needed c.args.body.now.body (held c.loop.watching.cache) c.in-Need.address (sym c.in_ok-run.ensures ∙ ap ran_of c.in-Need.is)));
       home = c.fetch.ensures.home ∙ c.loop.invariant.home;
     }

@@ -1,22 +1,16 @@
 use Rattle.std.proofs.Common.{◌≡◌, ◌-◌}
-use Rattle.plain_data.specs.Texts.{Bytes}
 use Rattle.txn_lang.specs.Few.{AreReadInTurn}
 use Rattle.client_cache.specs.Cached.{held}
 use Rattle.docc_prepare.specs.Backends.{Goes}
 use Rattle.call_programs.specs.Programs.{Leads}
 use Rattle.client_watches.specs.Lines.{rounds, run_body}
-use Rattle.client_watches.specs.Phases.{first_run}
 use Rattle.client_watches.specs.Keeping.{Keeps}
-use Rattle.client_watches.specs.Leading.{Reaches}
 use Rattle.client_watches.proofs.running.run_body.Given as goal
 
 abbrev pub invariant-loop : goal.invariant-loop
 invariant-loop g l = record {
   played : Leads (Goes g.B.Backend.known g.B.Backend.goes) l.fn.backend (run_body rounds l.body l.fn.said l.fn.watching) l.backend
       (run_body (rounds - l.counter) l.body l.said l.watching);
-  led : (name : Bytes) → Reaches g.B.Backend.known g.B.Backend.goes l.fn.backend (first_run name l.body l.fn.watching l.fn.said) l.backend
-      (first_run name l.body l.watching l.fn.said);
-  said : l.said ≡ l.fn.said;
   turn : AreReadInTurn l.body.body l.counter (held l.watching.cache);
   watches : l.watching.watches ≡ l.fn.watching.watches;
   keeps : Keeps (g.B.Backend.known l.backend) l.watching;

@@ -1,4 +1,6 @@
-use Rattle.diamond_server.proofs.Talked.{follows-on, waited-attends, synced-on}
+use Rattle.std.proofs.Common.{ℕ, subst}
+use Rattle.dio_core.specs.Counts.{Rose}
+use Rattle.diamond_server.proofs.Talked.{follows-on, waited-attends, synced-on, told-rises}
 use Rattle.diamond_server.proofs.answering.woken.Goals as goal
 
 -- the session goes on where its client was woken
@@ -13,4 +15,10 @@ pub returns-clause-attends : goal.returns-clause-attends
 returns-clause-attends g c =
     synced-on g.B.Backend.known g.B.Backend.goes c.wait.new.self c.args.session.now c.waited.result c.waited.new.backend c.waited.new.self
     (waited-attends g.B.Backend.known g.B.Backend.goes c.args.backend.now c.args.session.now c.wait.new.self c.requires.attends c.in_ok-wait.ensures.goes)
-    (c.waited.ensures.went c.requires.attends.on)
+    (c.waited.ensures.plays c.requires.attends.on)
+
+-- a fault that it tells was counted, since up to there none was
+pub returns-clause-fault : goal.returns-clause-fault
+returns-clause-fault g c = λ is. subst (λ (n : ℕ). Rose n (g.B.Backend.known c.waited.new.backend).faults) c.in_ok-wait.ensures.goes.answered.goes_on.faults
+    (told-rises c.waited.result (g.B.Backend.known c.wait.new.self).faults (g.B.Backend.known c.waited.new.backend).faults
+    (c.waited.ensures.told c.requires.attends.on) is)

@@ -14,7 +14,7 @@ loop-init g c =
     let shards = subst (λ (n : ℕ). (LEAST_SHARDS ≤ n) × (n ≤ MOST_SHARDS)) c.shards-shards.ensures.shards c.shards-shards.ensures.in_range in
     let first = new-attends known shards c.requires.new in
     let session = c.new-session.ensures ∙ first-is known c.client.result c.seen.result c.client.ensures c.seen.ensures in record {
-      served = serves-none session;
+      served = serves-none session c.new-held.ensures;
       attends = subst (λ (s : Session). Attends known s) (sym session) first;
       first = first;
       home = refl;
@@ -24,12 +24,13 @@ loop-init g c =
 pub returns-in_err-serve_line-clause-ends : goal.returns-in_err-serve_line-clause-ends
 returns-in_err-serve_line-clause-ends g c =
     let p = err_from_is_err_and c.from_residual.result c.from_residual.ensures.1 in
-    rw (p.1, p.2) (ends-stopped c.loop.invariant.served c.loop.invariant.first _ _ _ _ (omega arith) c.in_err-serve_line.ensures.turns)
+    rw (p.1, p.2) (ends-stopped c.loop.invariant.served c.loop.invariant.first _ _ _ _ _ (omega arith) c.in_err-serve_line.ensures.turns)
 
 -- a turn was the last
 pub returns-then-not-branch-clause-ends : goal.returns-then-not-branch-clause-ends
 returns-then-not-branch-clause-ends g c =
-    ends-whole c.loop.invariant.served c.loop.invariant.first _ (omega arith) c.if-not-branch.true c.in_ok-serve_line.ensures.turns
+    ends-whole c.loop.invariant.served c.loop.invariant.first _ (omega arith) c.if-not-branch.true c.in_ok-serve_line.ensures.emptied
+    c.in_ok-serve_line.ensures.turns
 
 -- a turn did a line
 pub loop-preserved : goal.loop-preserved
@@ -41,22 +42,20 @@ loop-preserved g c = record {
 }
 
 -- a line broke off behind the last one that may be read
-pub returns-in_err-read_line-clause-ends : goal.returns-in_err-read_line-clause-ends
-returns-in_err-read_line-clause-ends g c =
-    let p = err_from_is_err_and c.from_residual-in_err-read_line.result c.from_residual-in_err-read_line.ensures.1 in
-    rw (p.1, p.2) (ends-unread c.loop.invariant.served c.loop.invariant.first _ _ (omega arith) c.in_err-read_line.ensures.outgoing
-    c.in_err-read_line.ensures.reads c.in_err-read_line.ensures.stops)
+pub returns-in_err-await_line-clause-ends : goal.returns-in_err-await_line-clause-ends
+returns-in_err-await_line-clause-ends g c =
+    let p = err_from_is_err_and c.from_residual-in_err-await_line.result c.from_residual-in_err-await_line.ensures.1 in
+    rw (p.1, p.2) (ends-unread c.loop.invariant.served c.loop.invariant.first _ _ _ (omega arith) c.in_err-await_line.ensures.finds)
 
 -- the input ended there
 pub returns-in-End-clause-ends : goal.returns-in-End-clause-ends
 returns-in-End-clause-ends g c =
-    ends-at_most c.loop.invariant.served c.loop.invariant.first (omega arith) c.in_ok-read_line.ensures.outgoing c.in_ok-read_line.ensures.reads c.in-End.is
-    c.in_ok-read_line.ensures.line
+    ends-at_most c.loop.invariant.served c.loop.invariant.first (omega arith) c.await_line.ensures.emptied c.in-End.is c.in_ok-await_line.ensures.finds
 
 -- there is one line more
 pub returns : goal.returns
 returns g c = record {
-  ends = ends-over c.loop.invariant.served c.loop.invariant.first (omega arith) c.in_ok-read_line.ensures.outgoing c.in_ok-read_line.ensures.reads
-      c.in_default.not-End c.in_ok-read_line.ensures.line;
+  ends = ends-over c.loop.invariant.served c.loop.invariant.first (omega arith) c.await_line.ensures.emptied c.in_default.not-End
+      c.in_ok-await_line.ensures.finds;
   home = c.loop.invariant.home;
 }

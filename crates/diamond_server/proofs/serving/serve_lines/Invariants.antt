@@ -10,7 +10,7 @@ abbrev pub invariant-loop : goal.invariant-loop
 invariant-loop g l = record {
   served : HasServed g.B.Backend.known g.B.Backend.goes l.counter l.fn.backend
       (sides g.K.Source g.K.Sink l.fn.link) l.backend l.session
-      (sides g.K.Source g.K.Sink l.link);
+      (sides g.K.Source g.K.Sink l.link) l.held;
   attends : Attends (g.B.Backend.known l.backend) l.session;
   first : Attends (g.B.Backend.known l.fn.backend) (first_session (g.B.Backend.known l.fn.backend));
   home : g.B.Backend.home l.backend ≡ g.B.Backend.home l.fn.backend;

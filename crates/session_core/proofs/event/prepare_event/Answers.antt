@@ -5,10 +5,8 @@ use Rattle.docc_prepare.specs.Calls.Call.{prepare}
 use Rattle.docc_prepare.specs.Calls.{front_answered}
 use Rattle.docc_prepare.specs.Backends.{CanPrepare, Goes}
 use Rattle.docc_prepare.specs.declared.attempt.Next.TheVariants as next
-use Rattle.session_core.specs.Leading.{moved_on_prepare}
 use Rattle.session_core.proofs.Kept.{can-prepare, some-shards}
-use Rattle.session_core.proofs.Performing.{prepare_plays}
-use Rattle.session_core.proofs.Steps.{answered}
+use Rattle.session_core.proofs.Performing.{prepare_does}
 use Rattle.session_core.proofs.event.prepare_event.Goals as goal
 
 pub prepare-answer-requires : goal.prepare-answer-requires
@@ -19,23 +17,11 @@ prepare-answer-requires g c =
     (can-prepare (g.B.Backend.known c.args.backend.now) c.args.attempt.now c.args.shard c.args.run.now c.requires.holds
     (some-shards c.args.attempt.now) c.requires.next)
 
-pub returns-clause-makes : goal.returns-clause-makes
-returns-clause-makes g c =
-    let e : c.args.all.now ≡ in_shard c.args.attempt.now.shards c.args.shard (based c.args.attempt.now.snaps c.args.run.now.observations)
-    = c.requires.all in
-    answered g.B.Backend.known g.B.Backend.goes c.args.session.now c.args.attempt.now c.args.backend.now c.prepare-answer.new.self
-    (next.Prepare c.args.shard c.args.run.now) (front_answered c.prepare-answer.result)
-    (moved_on_prepare c.args.shard c.after_prepare.new.attempt c.after_prepare.result)
-    c.requires.next
-    (subst (λ (bs : List Based). Goes g.B.Backend.known g.B.Backend.goes c.args.backend.now (prepare c.args.shard bs)
-    (front_answered c.prepare-answer.result) c.prepare-answer.new.self) e c.prepare-answer.ensures.goes)
-    c.after_prepare.ensures.turned
-
 pub returns-clause-plays : goal.returns-clause-plays
 returns-clause-plays g c =
     let e : c.args.all.now ≡ in_shard c.args.attempt.now.shards c.args.shard (based c.args.attempt.now.snaps c.args.run.now.observations)
     = c.requires.all in
-    prepare_plays c.args.session.now c.args.attempt.now (next.Prepare c.args.shard c.args.run.now) c.requires.next
+    prepare_does c.args.session.now c.args.attempt.now (next.Prepare c.args.shard c.args.run.now) c.requires.next
     (subst (λ (bs : List Based). Goes g.B.Backend.known g.B.Backend.goes c.args.backend.now (prepare c.args.shard bs)
     (front_answered c.prepare-answer.result) c.prepare-answer.new.self) e c.prepare-answer.ensures.goes)
     c.args.shard c.after_prepare.new.attempt c.after_prepare.result c.after_prepare.ensures.turned

@@ -1,24 +1,19 @@
-use Rattle.std.proofs.Common.{ℕ, ◌+◌, ◌-◌, [], Option, None, Ok, Err, refl, subst, sym, ap, ◌∙◌, arith}
-use Rattle.std.proofs.lemmas.Result.{err_from_is_err_and}
+use Rattle.std.proofs.Common.{ℕ, ◌+◌, ◌-◌, [], Option, Ok, refl, subst, sym, ap, ◌∙◌, arith}
 use Rattle.session_text.specs.declared.reply.Reply.{Reply}
 use Rattle.txn_eval.specs.Running.{ran_of, values_of}
-use Rattle.docc_prepare.specs.Backends.{Goes}
 use Rattle.docc_prepare.specs.Calls.{value_answered}
 use Rattle.txn_lang.specs.Execution.{need, done}
-use Rattle.call_programs.specs.Programs.{Stops}
-use Rattle.call_programs.proofs.Programs.{here, to_same, and_then, one_call, stops_behind, call_broken, fails}
-use Rattle.session_core.specs.declared.error.SessionError.{SessionError}
-use Rattle.session_core.specs.Leading.{Leads, Valued}
 use Rattle.txn_lang.proofs.Observed.{runs_ask_short}
+use Rattle.call_programs.specs.Programs.{Stops}
+use Rattle.call_programs.proofs.Programs.{here, to_same, and_then, one_call, stops_behind, fails}
+use Rattle.session_core.specs.code.Turning.{Valued}
 use Rattle.session_core.specs.Verbs.{events, look_in}
-use Rattle.session_core.proofs.Bounds.{looked-few}
-use Rattle.session_core.proofs.Performing.{no_fault, none_over, look_round, valued_more, valued_late}
-use Rattle.session_core.proofs.Steps.{look-more, look-late, look-stops, looks-err, none-else}
+use Rattle.session_core.proofs.Performing.{no_fault, none_over, look_round, none_else, valued_more, valued_late, valued_short}
+use Rattle.session_core.proofs.Safe.{looks_enough}
 use Rattle.session_core.proofs.looking.look_at.Goals as goal
 
 pub loop-init : goal.loop-init
 loop-init g c = record {
-  led = rw c.new-snaps.ensures Leads.stays;
   plays = here (ap (λ (n : ℕ). look_in n c.args.number c.args.body.now []) none_over
       ∙ ap (look_in (events - 0) c.args.number c.args.body.now) (sym c.new-snaps.ensures));
   seen = c.requires.seen;
@@ -28,27 +23,6 @@ loop-init g c = record {
 pub read_at-answer-requires-clause-short : goal.read_at-answer-requires-clause-short
 read_at-answer-requires-clause-short g c = runs_ask_short.needed c.args.body.now.body (values_of c.loop.snaps) c.in-Need.address
     (sym c.in_ok-run.ensures ∙ ap ran_of c.in-Need.is)
-
-pub returns-in_err-reply-in-Need-clause-looks : goal.returns-in_err-reply-in-Need-clause-looks
-returns-in_err-reply-in-Need-clause-looks g c =
-    let p = err_from_is_err_and c.from_residual-in_err-reply-in-Need.result c.from_residual-in_err-reply-in-Need.ensures.1 in
-    looks-err g.B.Backend.known g.B.Backend.goes c.args.session.now c.args.number c.args.body.now c.args.backend.now
-    c.from_residual-in_err-reply-in-Need.result p.0 c.read_at-answer.new.self p.1
-    (look-stops g.B.Backend.known g.B.Backend.goes c.args.session.now c.args.number c.args.body.now c.args.backend.now c.loop.backend
-    c.read_at-answer.new.self c.loop.counter c.loop.snaps c.loop.invariant.led
-    c.in-Need.address (sym c.in_ok-run.ensures ∙ ap ran_of c.in-Need.is) (value_answered c.read_at-answer.result) c.valued.new.snaps p.0
-    c.read_at-answer.ensures.goes
-    (subst (λ (e : SessionError). Valued c.loop.snaps c.in-Need.address c.args.number (value_answered c.read_at-answer.result)
-    (Err e) c.valued.new.snaps) (sym p.2) c.in_err-reply-in-Need.ensures))
-
-pub returns-in-Some-clause-looks : goal.returns-in-Some-clause-looks
-returns-in-Some-clause-looks g c =
-    look-late g.B.Backend.known g.B.Backend.goes c.args.session.now c.args.number c.args.body.now c.args.backend.now c.loop.backend
-    c.read_at-answer.new.self c.loop.counter c.loop.snaps c.loop.invariant.led
-    c.in-Need.address (sym c.in_ok-run.ensures ∙ ap ran_of c.in-Need.is) (value_answered c.read_at-answer.result) c.valued.new.snaps c.in-Some.reply
-    (omega arith) c.read_at-answer.ensures.goes
-    (subst (λ (o : Option Reply). Valued c.loop.snaps c.in-Need.address c.args.number (value_answered c.read_at-answer.result)
-    (Ok o) c.valued.new.snaps) c.in-Some.is c.in_ok-reply-in-Need.ensures)
 
 pub returns-in_err-run-clause-plays : goal.returns-in_err-run-clause-plays
 returns-in_err-run-clause-plays g c =
@@ -65,7 +39,8 @@ returns-in_err-reply-in-Need-clause-plays g c =
     (sym c.in_ok-run.ensures ∙ ap ran_of c.in-Need.is) in
     fails _ c.from_residual-in_err-reply-in-Need.result c.from_residual-in_err-reply-in-Need.ensures.1
     (stops_behind (to_same round c.loop.invariant.plays)
-    (call_broken (value_answered c.read_at-answer.result) c.read_at-answer.ensures.goes c.in_err-reply-in-Need.ensures))
+    (valued_short c.args.number c.loop.snaps c.valued.new.snaps c.in-Need.address (value_answered c.read_at-answer.result) _
+    c.read_at-answer.ensures.goes c.in_err-reply-in-Need.ensures))
 
 pub returns-in-Some-clause-plays : goal.returns-in-Some-clause-plays
 returns-in-Some-clause-plays g c =
@@ -85,20 +60,12 @@ loop-preserved g c =
     let more = valued_more (look_in (events - (c.loop.counter + 1)) c.args.number c.args.body.now) c.args.number c.loop.snaps c.in-Need.address
     (value_answered c.read_at-answer.result) c.valued.new.snaps
     (subst (λ (o : Option Reply). Valued c.loop.snaps c.in-Need.address c.args.number (value_answered c.read_at-answer.result)
-    (Ok o) c.valued.new.snaps) (none-else _ c.in_default.not-Some) c.in_ok-reply-in-Need.ensures) in record {
+    (Ok o) c.valued.new.snaps) (none_else _ c.in_default.not-Some) c.in_ok-reply-in-Need.ensures) in record {
       plays = and_then (to_same round c.loop.invariant.plays)
           (one_call (value_answered c.read_at-answer.result) c.read_at-answer.ensures.goes more.succeeds more.is);
-      led = look-more g.B.Backend.known g.B.Backend.goes c.args.session.now c.args.number c.args.body.now c.args.backend.now c.loop.backend
-          c.read_at-answer.new.self c.loop.counter c.loop.snaps c.loop.invariant.led
-          c.in-Need.address (sym c.in_ok-run.ensures ∙ ap ran_of c.in-Need.is) (value_answered c.read_at-answer.result) c.valued.new.snaps
-          c.read_at-answer.ensures.goes
-          (subst (λ (o : Option Reply). Valued c.loop.snaps c.in-Need.address c.args.number (value_answered c.read_at-answer.result)
-          (Ok o) c.valued.new.snaps) (none-else _ c.in_default.not-Some) c.in_ok-reply-in-Need.ensures);
       seen = let up = c.read_at-answer.ensures.goes.answered.goes_on.seen in let s = c.loop.invariant.seen in omega arith;
       home = c.read_at-answer.ensures.home ∙ c.loop.invariant.home;
     }
 
 pub unreachable-requires : goal.unreachable-requires
-unreachable-requires g c =
-    let few = looked-few (Goes g.B.Backend.known g.B.Backend.goes) c.args.session.now c.args.number c.args.body.now c.args.backend.now c.loop.counter
-    c.loop.backend c.loop.snaps c.loop.invariant.led in omega arith
+unreachable-requires g c = looks_enough c.args.session.now c.args.body.now c.loop.snaps c.loop.counter (omega arith) c.requires.attends c.requires.seen c.loop.invariant.plays

@@ -1,16 +1,12 @@
-use Rattle.std.proofs.Common.{◌≡◌, ◌≤◌, ◌-◌, []}
+use Rattle.std.proofs.Common.{◌≡◌, ◌≤◌, ◌-◌}
 use Rattle.docc_prepare.specs.Backends.{Goes}
-use Rattle.call_programs.specs.Programs.{Leads as LeadsOn}
-use Rattle.session_core.specs.Phases.{look_on}
-use Rattle.session_core.specs.Leading.{Leads}
+use Rattle.call_programs.specs.Programs.{Leads}
 use Rattle.session_core.specs.Verbs.{events, look_in, look_at}
 use Rattle.session_core.proofs.looking.look_at.Given as goal
 
 abbrev pub invariant-loop : goal.invariant-loop
 invariant-loop g l = record {
-  led : Leads (Goes g.B.Backend.known g.B.Backend.goes) l.fn.backend (look_on l.session l.number l.body []) l.counter l.backend
-      (look_on l.session l.number l.body l.snaps);
-  plays : LeadsOn (Goes g.B.Backend.known g.B.Backend.goes) l.fn.backend (look_at l.number l.body) l.backend
+  plays : Leads (Goes g.B.Backend.known g.B.Backend.goes) l.fn.backend (look_at l.number l.body) l.backend
       (look_in (events - l.counter) l.number l.body l.snaps);
   seen : l.number ≤ (g.B.Backend.known l.backend).seen;
   home : g.B.Backend.home l.backend ≡ g.B.Backend.home l.fn.backend;

@@ -1,14 +1,6 @@
-use Rattle.client_watches.specs.Phases.{start_sync}
 use Rattle.client_watches.specs.Lines as watches
-use Rattle.session_core.proofs.Watched.{went-of}
 use Rattle.session_core.proofs.LinePerforming.{watched}
 use Rattle.session_core.proofs.watches.sync.Goals as goal
-
--- the session's line comes where that of its watches comes
-pub returns-clause-went : goal.returns-clause-went
-returns-clause-went g c =
-    went-of g.B.Backend.known g.B.Backend.goes c.args.session.now c.args.backend.now (start_sync c.args.session.now.watching) c.sync.result
-    c.turned.result c.sync.new.backend c.sync.new.self c.turned.ensures c.sync.ensures.went
 
 pub returns-clause-plays : goal.returns-clause-plays
 returns-clause-plays g c =

@@ -1,5 +1,0 @@
-use Rattle.thread_tests.proofs.mixed.one_thread_answers_as_eight_were_answered.Given as goal
-
--- the lock that was just opened
-abbrev pub ghosts-in_eight_threads : goal.ghosts-in_eight_threads
-ghosts-in_eight_threads g a = record { lock = a.opened.lock }

@@ -1,5 +1,0 @@
-use Rattle.thread_tests.proofs.two_threads.additions_of_two_threads_all_count.Given as goal
-
--- the lock that was just opened
-abbrev pub ghosts-in_two_threads : goal.ghosts-in_two_threads
-ghosts-in_two_threads g a = record { lock = a.opened.lock }
