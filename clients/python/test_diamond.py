@@ -9,6 +9,7 @@ import re
 import signal
 import socket
 import subprocess
+import tempfile
 import threading
 import time
 import unittest
@@ -467,6 +468,84 @@ class Ends(unittest.TestCase):
             self.assertEqual(client.watch("a" * 32, "emit 1;", call=print_nothing).name, "a" * 32)
         with self.assertRaises(diamond.Lost):
             client.do("emit 1;")
+
+
+class Audits(unittest.TestCase):
+    """A file that a server has written, as an auditor sees it. An audit changes no byte of it."""
+
+    def setUp(self):
+        folder = tempfile.TemporaryDirectory()
+        self.addCleanup(folder.cleanup)
+        self.path = pathlib.Path(folder.name) / "sale.journal"
+
+    def audited(self, *words):
+        """The status of an audit and the lines that it wrote."""
+        before = self.path.read_bytes()
+        done = subprocess.run([PROGRAM, "audit", "--file", self.path, *words], capture_output=True, text=True, timeout=30)
+        self.assertEqual(self.path.read_bytes(), before)
+        return done.returncode, done.stdout.splitlines()
+
+    def sold(self):
+        """A file of three commits by two clients."""
+        with served(2, "--file", str(self.path)) as port, connect(port) as ann, connect(port) as bob:
+            ann.do('set("seats").add("A1"); counter("left").put(1);')
+            ann.do(SALE, "A1", "A1")
+            bob.do(SALE, "A1", "A1")
+
+    def test_a_served_file_is_legal(self):
+        self.sold()
+        self.assertEqual(self.audited(), (0, ["legal 3"]))
+        self.assertEqual(self.audited("--at", "1"), (0, ["legal 3", 'counter("left") 1', 'set("seats") ["A1"]']))
+        self.assertEqual(self.audited("--at=3"), (0, ["legal 3", 'counter("left") 1', 'set("seats") []']))
+        self.assertEqual(self.audited("--at", "4"), (0, ["legal 3", "ahead 4 3"]))
+
+    def test_another_outcome_is_found(self):
+        self.sold()
+        self.path.write_bytes(self.path.read_bytes().replace(b"\x00\x00\x00\x05yours", b"\x00\x00\x00\x05ours!"))
+        self.assertEqual(self.audited("--at", "1"), (11, ["broken 2 outcome"]))
+
+    def test_a_torn_end_is_not_mended(self):
+        self.sold()
+        whole = self.path.read_bytes()
+        self.path.write_bytes(whole[:-1])
+        self.assertEqual(self.audited(), (0, ["legal 3"]))
+        self.path.write_bytes(whole[:-2])
+        self.assertEqual(self.audited(), (0, ["legal 2"]))
+
+    def test_another_file_is_no_journal(self):
+        self.path.write_bytes(b"#!/bin/sh\necho no journal\n")
+        self.assertEqual(self.audited(), (7, []))
+
+    def test_no_file_is_made(self):
+        done = subprocess.run([PROGRAM, "audit", "--file", self.path], capture_output=True, text=True, timeout=30)
+        self.assertEqual((done.returncode, done.stdout), (6, ""))
+        self.assertFalse(self.path.exists())
+
+    def test_a_file_that_is_served_is_left_alone(self):
+        with served(1, "--file", str(self.path)) as port, connect(port) as ann:
+            ann.do("emit 1;")
+            self.assertEqual(self.audited(), (6, []))
+
+    def test_eight_sessions_under_load_are_legal(self):
+        times = 25
+        with contextlib.ExitStack() as stack:
+            port = stack.enter_context(served(8, "--file", str(self.path)))
+            clients = [stack.enter_context(connect(port)) for _ in range(8)]
+
+            def count(client):
+                for _ in range(times):
+                    while True:
+                        with contextlib.suppress(diamond.Aborted):
+                            client.try_(16, NEXT)
+                            break
+
+            threads = [threading.Thread(target=count, args=(client,)) for client in clients]
+            for thread in threads:
+                thread.start()
+            for thread in threads:
+                thread.join()
+        commits = 8 * times
+        self.assertEqual(self.audited("--at", str(commits)), (0, [f"legal {commits}", f'counter("x") {commits}']))
 
 
 if __name__ == "__main__":

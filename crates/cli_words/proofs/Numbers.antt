@@ -44,18 +44,18 @@ not_chosen false true true true v h = absurd (h refl refl refl)
 
 -- what std's `parse` gives is that number
 parsed : {E : Type 0} (word : Word) (r : Result ℕ E) → is_led word ≡ false
-    → OkIff r ((all_ascii_digits word ≡ true) × (0 < length word) × (digits_value 10 word < 2 ^ 32)) (digits_value 10 word)
+    → OkIff r ((all_ascii_digits word ≡ true) × (0 < length word) × (digits_value 10 word < 2 ^ 64)) (digits_value 10 word)
     → result_ok r ≡ small_number word
 parsed word (Ok n) e h =
-    ap Some h.1 ∙ sym (chosen (is_led word) (nat_lt 0 (length word)) (all_ascii_digits word) (nat_lt (digits_value 10 word) (2 ^ 32)) (digits_value 10 word)
-    e (lt-ltb 0 (length word) h.0.1) h.0.0 (lt-ltb (digits_value 10 word) (2 ^ 32) h.0.2))
+    ap Some h.1 ∙ sym (chosen (is_led word) (nat_lt 0 (length word)) (all_ascii_digits word) (nat_lt (digits_value 10 word) (2 ^ 64)) (digits_value 10 word)
+    e (lt-ltb 0 (length word) h.0.1) h.0.0 (lt-ltb (digits_value 10 word) (2 ^ 64) h.0.2))
 parsed word (Err x) e h =
-    sym (not_chosen (is_led word) (nat_lt 0 (length word)) (all_ascii_digits word) (nat_lt (digits_value 10 word) (2 ^ 32)) (digits_value 10 word)
-    (λ full all few. h (all, ltb-true 0 (length word) full, ltb-true (digits_value 10 word) (2 ^ 32) few)))
+    sym (not_chosen (is_led word) (nat_lt 0 (length word)) (all_ascii_digits word) (nat_lt (digits_value 10 word) (2 ^ 64)) (digits_value 10 word)
+    (λ full all few. h (all, ltb-true 0 (length word) full, ltb-true (digits_value 10 word) (2 ^ 64) few)))
 
 -- that holds of what `parse` ensures, since there is no plus in front
-pub parsed-is : {E : Type 0} (word : Word) (r : Result ℕ E) → is_led word ≡ false → ParsesUnsigned 32 10 word r → result_ok r ≡ small_number word
-parsed-is word r e h = parsed word r e (parse_plain own 32 word r h (no_plus word e))
+pub parsed-is : {E : Type 0} (word : Word) (r : Result ℕ E) → is_led word ≡ false → ParsesUnsigned 64 10 word r → result_ok r ≡ small_number word
+parsed-is word r e h = parsed word r e (parse_plain own 64 word r h (no_plus word e))
 
 -- ---- the number within limits is the one whose decimal form the word is
 
@@ -99,8 +99,8 @@ small_within least most (Some m) n e =
 pub number-sound : (least most : ℕ) (word : Word) (n : ℕ) → number_within least most word ≡ Some n → IsNumber least most word n
 number-sound least most word n e =
     let k = small_within least most (small_number word) n e in
-    let c = when_chosen (is_led word) (nat_lt 0 (length word)) (all_ascii_digits word) (nat_lt (digits_value 10 word) (2 ^ 32)) (digits_value 10 word) n k.0 in
-    let few : digits_value 10 word < 2 ^ 32 = ltb-true (digits_value 10 word) (2 ^ 32) c.3 in
+    let c = when_chosen (is_led word) (nat_lt 0 (length word)) (all_ascii_digits word) (nat_lt (digits_value 10 word) (2 ^ 64)) (digits_value 10 word) n k.0 in
+    let few : digits_value 10 word < 2 ^ 64 = ltb-true (digits_value 10 word) (2 ^ 64) c.3 in
     (sym (plain_decimal word c.0 (ltb-true 0 (length word) c.1) c.2 (omega (arith, few))) ∙ ap decimal c.4, k.1, k.2)
 
 -- nothing stands in front of a first digit that is no zero
@@ -120,18 +120,18 @@ decimal-not_led zero small = ap is_led (decimal_digit 0 (omega arith))
 decimal-not_led (suc n) small = not_led (decimal (suc n)) (first_decimal (suc n) (omega arith) small)
 
 -- the number whose decimal form it is, is read
-decimal-small : (n : ℕ) → n < 2 ^ 32 → small_number (decimal n) ≡ Some n
+decimal-small : (n : ℕ) → n < 2 ^ 64 → small_number (decimal n) ≡ Some n
 decimal-small n small =
     let long : n < 2 ^ 64 = omega (arith, small) in
     let worth : digits_value 10 (decimal n) ≡ n = digits_value-decimal own n long in
-    chosen (is_led (decimal n)) (nat_lt 0 (length (decimal n))) (all_ascii_digits (decimal n)) (nat_lt (digits_value 10 (decimal n)) (2 ^ 32))
+    chosen (is_led (decimal n)) (nat_lt 0 (length (decimal n))) (all_ascii_digits (decimal n)) (nat_lt (digits_value 10 (decimal n)) (2 ^ 64))
     (digits_value 10 (decimal n))
     (decimal-not_led n long) (lt-ltb 0 (length (decimal n)) (decimal_nonempty n long)) (digits_decimal own n long)
-    (lt-ltb (digits_value 10 (decimal n)) (2 ^ 32) (omega (arith, worth, small)))
+    (lt-ltb (digits_value 10 (decimal n)) (2 ^ 64) (omega (arith, worth, small)))
     ∙ ap Some worth
 
 -- so where it is within the limits, it is found
-pub number-complete : (least most : ℕ) (word : Word) (n : ℕ) → most < 2 ^ 32 → IsNumber least most word n → number_within least most word ≡ Some n
+pub number-complete : (least most : ℕ) (word : Word) (n : ℕ) → most < 2 ^ 64 → IsNumber least most word n → number_within least most word ≡ Some n
 number-complete least most word n small h =
     ap (λ w. if_within least most (small_number w)) h.0
     ∙ ap (if_within least most) (decimal-small n (omega (arith, small, h.2)))

@@ -75,10 +75,31 @@ serve_completes : (given : Given) (found : Option Word) → given.address ≡ fo
 serve_completes given None e = address_for given e
 serve_completes given (Some a) e = record { more = []; name = command.Serve; given = given; made = refl; whole = ap is_some e }
 
+-- with no file yet, one can follow
+file_for : (given : Given) → given.file ≡ None → Completes (reading.Ready command.Audit given)
+file_for given e = record {
+  more = codes "--file" ∷ codes "f" ∷ [];
+  name = command.Audit;
+  given = record given { file = Some (codes "f") };
+  made = options_read 1 command.Audit (codes "--file" ∷ codes "f" ∷ []) given (record given { file = Some (codes "f") }) (
+    [],
+    record given { file = Some (codes "f") },
+    record { option = option.File; value = codes "f"; taken = tt; spelled = inl refl; gives = (e, (λ h. absurd (omega (arith, h))), refl) },
+    (refl, refl),
+  );
+  whole = refl;
+}
+
+-- with a file nothing more is wanted
+audit_completes : (given : Given) (found : Option Word) → given.file ≡ found → Completes (reading.Ready command.Audit given)
+audit_completes given None e = file_for given e
+audit_completes given (Some f) e = record { more = []; name = command.Audit; given = given; made = refl; whole = ap is_some e }
+
 -- `run` wants nothing more
 ready_completes : (c : CommandName) (given : Given) → Completes (reading.Ready c given)
 ready_completes command.Run given = record { more = []; name = command.Run; given = given; made = refl; whole = tt }
 ready_completes command.Serve given = serve_completes given given.address refl
+ready_completes command.Audit given = audit_completes given given.file refl
 
 -- a value that any option takes can follow its name
 value_completes : (c : CommandName) (given next : Given) (o : OptionName) (value : Word)
@@ -88,7 +109,7 @@ value_completes c given next o value e =
     let k = ready_completes c next in
     record { more = value ∷ k.more; name = k.name; given = k.given; made = ap (λ made. on (after k.more) (ready c made)) e ∙ k.made; whole = k.whole }
 
--- whatever was read goes on to a whole command line: with `run`, with nothing or an address, or with a value first
+-- whatever was read goes on to a whole command line: with `run`, with nothing, an address or a file, or with a value first
 completes : (r : Reading) → Completes r
 unfolding step
 completes reading.Start = record { more = codes "run" ∷ []; name = command.Run; given = _; made = refl; whole = tt }
@@ -99,6 +120,7 @@ completes (reading.Waiting c given option.Limit) = value_completes c given (reco
 completes (reading.Waiting c given option.Sessions) = value_completes c given (record given { sessions = Some 1 }) option.Sessions (codes "1") refl
 completes (reading.Waiting c given option.Address) = value_completes c given (record given { address = Some (codes "a") }) option.Address (codes "a") refl
 completes (reading.Waiting c given option.File) = value_completes c given (record given { file = Some (codes "f") }) option.File (codes "f") refl
+completes (reading.Waiting c given option.At) = value_completes c given (record given { at = Some 1 }) option.At (codes "1") refl
 
 -- so the words that were read do, and what is read is of a form
 pub goes_on : (words : List Word) (r : Reading) → after words reading.Start ≡ Ok r → GoesOn words
@@ -121,6 +143,11 @@ whole-not_missing command.Serve given m whole e = by (is_some given.address) who
     by : (there : Bool) → there ≡ true → cond there None (Some (missing.Option option.Address)) ≡ Some m → ⊥
     by true h e = absurd (cc)
     by false h e = absurd (cc)
+whole-not_missing command.Audit given m whole e = by (is_some given.file) whole e
+  where
+    by : (there : Bool) → there ≡ true → cond there None (Some (missing.Option option.File)) ≡ Some m → ⊥
+    by true h e = absurd (cc)
+    by false h e = absurd (cc)
 
 -- they are of no form themselves, since something is missing of what they make
 pub cut_short : (words : List Word) (r : Reading) (m : Missing) → after words reading.Start ≡ Ok r → missing_of r ≡ Some m → IsCutShort words
@@ -134,8 +161,14 @@ cut_short words r m e missing = record {
 
 -- what is asked for is whole
 plan-whole : (c : CommandName) (given : Given) (p : Plan) → IsPlan c given p → IsWhole c given
-plan-whole command.Run given p h = tt
+plan-whole command.Run given (plan.Run settings) h = tt
+plan-whole command.Run given (plan.Serve settings address sessions file) h = absurd h
+plan-whole command.Run given (plan.Audit file at) h = absurd h
 plan-whole command.Serve given (plan.Run settings) h = absurd h
+plan-whole command.Serve given (plan.Audit file at) h = absurd h
+plan-whole command.Audit given (plan.Run settings) h = absurd h
+plan-whole command.Audit given (plan.Serve settings address sessions file) h = absurd h
+plan-whole command.Audit given (plan.Audit file at) h = ap is_some h.0
 plan-whole command.Serve given (plan.Serve settings address sessions file) h = ap is_some h.1
 
 -- at the end a plan is made of a command and its options alone, which are of a form

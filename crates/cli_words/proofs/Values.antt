@@ -3,7 +3,7 @@ use Rattle.std.proofs.Common.{◌≡◌, ◌<◌, ◌^◌, ℕ, Bool, true, fals
 use Rattle.std.specs.Prelude.{Option, Some, None, is_some, Ok}
 use Rattle.std.proofs.lemmas.Bool.{eqb-false, ne_eqb, not-true}
 use Rattle.rdt_types.specs.declared.limits.TheConstants.{LEAST_SHARDS, MOST_SHARDS, LEAST_WINDOW, MOST_WINDOW, LEAST_COMMITS, MOST_COMMITS}
-use Rattle.cli_words.specs.declared.limits.TheConstants.{LEAST_SESSIONS, MOST_SESSIONS}
+use Rattle.cli_words.specs.declared.limits.TheConstants.{LEAST_SESSIONS, MOST_SESSIONS, MOST_AT}
 use Rattle.cli_words.specs.declared.name.OptionName.{OptionName}
 use Rattle.cli_words.specs.declared.name.OptionName.TheVariants as option
 use Rattle.cli_words.specs.declared.refusal.Why.{Why}
@@ -35,7 +35,7 @@ put-sound : (least most : ℕ) (word : Word) (put : ℕ → Given) (next : Given
 put-sound least most word put next h = put_by least most word put next (number_within least most word) refl h
 
 -- a number of its form is found, and then put
-put-complete : (least most : ℕ) (word : Word) (put : ℕ → Given) (next : Given) (n : ℕ) → most < 2 ^ 32 → IsNumber least most word n → next ≡ put n
+put-complete : (least most : ℕ) (word : Word) (put : ℕ → Given) (next : Given) (n : ℕ) → most < 2 ^ 64 → IsNumber least most word n → next ≡ put n
     → put_number least most put (number_within least most word) ≡ Ok next
 put-complete least most word put next n small is e =
     ap (put_number least most put) (number-complete least most word n small is) ∙ ap Ok (sym e)
@@ -75,6 +75,9 @@ value-sound option.Address word given next free h =
 value-sound option.File word given next free h =
     let k = place_by why.NotAPath (is_place word) (record given { file = Some word }) next h in
     (not_there given.file free, place-sound word k.0, k.1)
+value-sound option.At word given next free h =
+    let k = put-sound 0 MOST_AT word (λ n. record given { at = Some n }) next h in
+    (not_there given.at free, k.number, k.is, k.puts)
 
 -- an option that is given had not been, and its value is read
 pub free-complete : (o : OptionName) (word : Word) (given next : Given) → Gives o word given next → is_given o given ≡ false
@@ -84,6 +87,7 @@ free-complete option.Limit word given next h = ap is_some h.0
 free-complete option.Sessions word given next h = ap is_some h.0
 free-complete option.Address word given next h = ap is_some h.0
 free-complete option.File word given next h = ap is_some h.0
+free-complete option.At word given next h = ap is_some h.0
 
 -- and what the form gives is read
 pub value-complete : (o : OptionName) (word : Word) (given next : Given) → Gives o word given next → with_value o word given ≡ Ok next
@@ -99,3 +103,5 @@ value-complete option.Address word given next h =
     ap (put_place why.NotAnAddress (record given { address = Some word })) (place-complete word h.1) ∙ ap Ok (sym h.2)
 value-complete option.File word given next h =
     ap (put_place why.NotAPath (record given { file = Some word })) (place-complete word h.1) ∙ ap Ok (sym h.2)
+value-complete option.At word given next h =
+    put-complete 0 MOST_AT word (λ n. record given { at = Some n }) next h.1 (omega arith) h.2 h.3

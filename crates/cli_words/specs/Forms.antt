@@ -8,7 +8,7 @@ use denote.Bor.{Bor}
 use Rattle.rdt_types.specs.declared.limits.TheConstants.{LEAST_SHARDS, MOST_SHARDS, STANDARD_SHARDS, LEAST_WINDOW, MOST_WINDOW}
 use Rattle.rdt_types.specs.declared.limits.TheConstants.{STANDARD_WINDOW, LEAST_COMMITS, MOST_COMMITS, STANDARD_COMMITS}
 use Rattle.rdt_types.specs.declared.settings.Settings.{Settings}
-use Rattle.cli_words.specs.declared.limits.TheConstants.{LEAST_SESSIONS, MOST_SESSIONS, STANDARD_SESSIONS}
+use Rattle.cli_words.specs.declared.limits.TheConstants.{LEAST_SESSIONS, MOST_SESSIONS, STANDARD_SESSIONS, MOST_AT}
 use Rattle.cli_words.specs.declared.name.CommandName.{CommandName}
 use Rattle.cli_words.specs.declared.name.CommandName.TheVariants as command
 use Rattle.cli_words.specs.declared.name.OptionName.{OptionName}
@@ -41,6 +41,7 @@ signs-are = refl
 abbrev pub command_word : CommandName → Word
 command_word command.Run = codes "run"
 command_word command.Serve = codes "serve"
+command_word command.Audit = codes "audit"
 
 -- the word of an option
 abbrev pub option_word : OptionName → Word
@@ -50,12 +51,21 @@ option_word option.Limit = codes "--limit"
 option_word option.Sessions = codes "--sessions"
 option_word option.Address = codes "--address"
 option_word option.File = codes "--file"
+option_word option.At = codes "--at"
 
--- Which options a command takes: `run` takes the settings of a store alone.
+-- Which options a command takes: `run` takes the settings of a store alone, `serve` all but `--at`, and `audit` takes its file
+-- and `--at` alone.
 abbrev pub Takes : CommandName → OptionName → Type 0
 Takes command.Run option.Sessions = ⊥
 Takes command.Run option.Address = ⊥
 Takes command.Run option.File = ⊥
+Takes command.Run option.At = ⊥
+Takes command.Serve option.At = ⊥
+Takes command.Audit option.Shards = ⊥
+Takes command.Audit option.Window = ⊥
+Takes command.Audit option.Limit = ⊥
+Takes command.Audit option.Sessions = ⊥
+Takes command.Audit option.Address = ⊥
 Takes c o = Unit {0}
 
 -- ---- values
@@ -79,10 +89,11 @@ pub record Given : Type 0 where
   pub sessions : Option ℕ
   pub address : Option Word
   pub file : Option Word
+  pub at : Option ℕ
 
 -- no option is given
 abbrev pub nothing_given : Given
-nothing_given = record { shards = None; window = None; limit = None; sessions = None; address = None; file = None }
+nothing_given = record { shards = None; window = None; limit = None; sessions = None; address = None; file = None; at = None }
 
 -- An option is given that had not been, and its value is of its form.
 abbrev pub Gives : OptionName → Word → Given → Given → Type 0
@@ -92,6 +103,7 @@ Gives option.Limit word old new = (old.limit ≡ None) × (n : ℕ) × IsNumber 
 Gives option.Sessions word old new = (old.sessions ≡ None) × (n : ℕ) × IsNumber LEAST_SESSIONS MOST_SESSIONS word n × (new ≡ record old { sessions = Some n })
 Gives option.Address word old new = (old.address ≡ None) × IsPlace word × (new ≡ record old { address = Some word })
 Gives option.File word old new = (old.file ≡ None) × IsPlace word × (new ≡ record old { file = Some word })
+Gives option.At word old new = (old.at ≡ None) × (n : ℕ) × IsNumber 0 MOST_AT word n × (new ≡ record old { at = Some n })
 
 -- An option is spelled by two words, its name and its value, or by one, with `=` between them.
 abbrev pub SpellsOption : OptionName → Word → List Word → List Word → Type 0
@@ -110,10 +122,11 @@ abbrev pub AreOptions : CommandName → ℕ → List Word → Given → Given �
 AreOptions c zero words old new = (words ≡ []) × (new ≡ old)
 AreOptions c (suc n) words old new = (rest : List Word) × (next : Given) × IsOption c words rest old next × AreOptions c n rest next new
 
--- nothing is missing: who serves has to be told where
+-- nothing is missing: who serves has to be told where, and who audits what
 abbrev pub IsWhole : CommandName → Given → Type 0
 IsWhole command.Run given = Unit {0}
 IsWhole command.Serve given = IsSome given.address
+IsWhole command.Audit given = IsSome given.file
 
 -- ---- forms
 
@@ -140,6 +153,7 @@ abbrev pub IsPlan : CommandName → Given → Plan → Type 0
 IsPlan command.Run given (plan.Run settings) = HasSettings given settings
 IsPlan command.Serve given (plan.Serve settings address sessions file) =
     HasSettings given settings × (given.address ≡ Some address) × (sessions ≡ unwrap_or given.sessions STANDARD_SESSIONS) × (file ≡ given.file)
+IsPlan command.Audit given (plan.Audit file at) = (given.file ≡ Some file) × (at ≡ given.at)
 IsPlan c given p = ⊥
 
 -- The plan that words spell.

@@ -29,11 +29,12 @@ pub fn asked(words: &[&str]) -> Option<Question>
 }
 
 /// Commands as they are typed.
-const EXAMPLES: [&str; 4] = [
+const EXAMPLES: [&str; 5] = [
     "\nExamples:\n",
     "  diamond run < sale.txt\n",
     "  diamond serve --address 127.0.0.1:4000 --sessions 100\n",
     "  diamond serve --address 127.0.0.1:4000 --sessions 100 --file sale.journal\n",
+    "  diamond audit --file sale.journal --at 100\n",
 ];
 
 /// How the program is used: its commands, the options of each, and examples.
@@ -43,6 +44,8 @@ pub fn help_text(alloc: Global) -> Result<String, AllocError> {
     text.push_str(run(alloc)?.render_help()?.as_str())?;
     text.push_str("\n")?;
     text.push_str(serve(alloc)?.render_help()?.as_str())?;
+    text.push_str("\n")?;
+    text.push_str(audit(alloc)?.render_help()?.as_str())?;
     for line in EXAMPLES {
         text.push_str(line)?;
     }
@@ -81,11 +84,12 @@ fn program<'a>(alloc: Global) -> Result<Command<'a>, AllocError> {
     )
     .subcommand(bare(alloc, "run", "Run a script, read from the input"))?
     .subcommand(bare(alloc, "serve", "Serve sessions at an address"))?
+    .subcommand(bare(alloc, "audit", "Check the journal in a file"))?
     .arg(flag(alloc, "help", "Print this"))?
     .arg(flag(alloc, "version", "Print the version"))
 }
 
-/// The options of a store, which every command takes.
+/// The options of a store.
 fn with_settings<'a>(alloc: Global, command: Command<'a>) -> Result<Command<'a>, AllocError> {
     command
         .arg(option(
@@ -136,4 +140,24 @@ fn serve<'a>(alloc: Global) -> Result<Command<'a>, AllocError> {
             "The file in which commits are kept [default: in memory]",
         ))?;
     with_settings(alloc, command)
+}
+
+fn audit<'a>(alloc: Global) -> Result<Command<'a>, AllocError> {
+    bare(
+        alloc,
+        "diamond audit",
+        "Check that each commit of the journal in a file is what its body does",
+    )
+    .arg(option(
+        alloc,
+        "file",
+        "P",
+        "The file of the journal, which is only read; it must be given",
+    ))?
+    .arg(option(
+        alloc,
+        "at",
+        "N",
+        "Print the state after so many commits too, where the journal is legal",
+    ))
 }

@@ -9,6 +9,7 @@ ghost use Rattle.cli_words.specs.code.Reading as spec;
 pub enum CommandName {
     Run,
     Serve,
+    Audit,
 }
 
 /// What can be told of a command.
@@ -20,19 +21,25 @@ pub enum OptionName {
     Sessions,
     Address,
     File,
+    At,
 }
 
 /// All commands.
-pub(crate) const COMMANDS: [CommandName; 2] = [CommandName::Run, CommandName::Serve];
+pub(crate) const COMMANDS: [CommandName; 3] = [
+    CommandName::Run,
+    CommandName::Serve,
+    CommandName::Audit,
+];
 
 /// All options.
-pub(crate) const OPTIONS: [OptionName; 6] = [
+pub(crate) const OPTIONS: [OptionName; 7] = [
     OptionName::Shards,
     OptionName::Window,
     OptionName::Limit,
     OptionName::Sessions,
     OptionName::Address,
     OptionName::File,
+    OptionName::At,
 ];
 
 impl CommandName {
@@ -43,6 +50,7 @@ impl CommandName {
         match self {
             CommandName::Run => "run",
             CommandName::Serve => "serve",
+            CommandName::Audit => "audit",
         }
     }
 
@@ -60,11 +68,10 @@ impl CommandName {
     pub(crate) fn takes(self, option: OptionName) -> bool
         ensures { result ≡ spec.takes self option }
     {
-        match option {
-            OptionName::Sessions | OptionName::Address | OptionName::File => {
-                self == CommandName::Serve
-            }
-            _ => true,
+        match self {
+            CommandName::Run => option.is_setting(),
+            CommandName::Serve => option != OptionName::At,
+            CommandName::Audit => option == OptionName::File || option == OptionName::At,
         }
     }
 }
@@ -81,6 +88,17 @@ impl OptionName {
             OptionName::Sessions => "--sessions",
             OptionName::Address => "--address",
             OptionName::File => "--file",
+            OptionName::At => "--at",
+        }
+    }
+
+    /// Whether it is one of a store's settings.
+    fn is_setting(self) -> bool
+        ensures { result ≡ spec.is_setting self }
+    {
+        match self {
+            OptionName::Shards | OptionName::Window | OptionName::Limit => true,
+            _ => false,
         }
     }
 

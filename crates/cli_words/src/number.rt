@@ -4,7 +4,7 @@ ghost use Rattle.std.specs.Prelude.{◌≡◌, ◌≤◌, IfSome};
 ghost use Rattle.cli_words.specs.code.Reading as spec;
 
 /// The number whose decimal form the word is, where it is within the limits.
-pub(crate) fn number_within(least: u32, most: u32, word: &str) -> Option<u32>
+pub(crate) fn number_within(least: u64, most: u64, word: &str) -> Option<u64>
     ensures value { result ≡ spec.number_within least most word.now }
     ensures least { IfSome result (λ n. least ≤ n) }
     ensures most { IfSome result (λ n. n ≤ most) }
@@ -17,8 +17,8 @@ pub(crate) fn number_within(least: u32, most: u32, word: &str) -> Option<u32>
     }
 }
 
-/// The number whose decimal form the word is, where it has 32 bits.
-fn plain_number(word: &str) -> Option<u32>
+/// The number whose decimal form the word is, where it has 64 bits.
+fn plain_number(word: &str) -> Option<u64>
     ensures { result ≡ spec.small_number word.now }
 {
     if is_led(word.as_bytes()) {

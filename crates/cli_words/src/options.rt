@@ -5,7 +5,7 @@ ghost use Rattle.cli_words.specs.Forms.{nothing_given, HasSettings};
 ghost use Rattle.cli_words.specs.code.Reading as spec;
 ghost use Rattle.cli_words.specs.code.Answers.{Makes, Finds};
 
-use crate::limits::{LEAST_SESSIONS, MOST_SESSIONS};
+use crate::limits::{LEAST_SESSIONS, MOST_AT, MOST_SESSIONS};
 use crate::name::OptionName;
 use crate::number::number_within;
 use crate::refusal::Why;
@@ -26,6 +26,7 @@ pub(crate) struct Options {
     pub(crate) sessions: Option<u32>,
     pub(crate) address: Option<Text>,
     pub(crate) file: Option<Text>,
+    pub(crate) at: Option<u64>,
 }
 
 impl Model for Options {
@@ -43,6 +44,7 @@ impl Model for Options {
       sessions = o.sessions;
       address = o.address;
       file = o.file;
+      at = o.at;
     } };
 
     ghost invariant = { λ o.
@@ -63,6 +65,7 @@ impl Options {
             sessions: None,
             address: None,
             file: None,
+            at: None,
         }
     }
 
@@ -77,6 +80,7 @@ impl Options {
             OptionName::Sessions => self.sessions.is_some(),
             OptionName::Address => self.address.is_some(),
             OptionName::File => self.file.is_some(),
+            OptionName::At => self.at.is_some(),
         }
     }
 
@@ -96,13 +100,14 @@ impl Options {
             OptionName::Sessions => self.with_sessions(value),
             OptionName::Address => self.with_address(alloc, value),
             OptionName::File => self.with_file(alloc, value),
+            OptionName::At => self.with_at(value),
         }
     }
 
     fn with_shards(mut self, value: &str) -> Result<Options, OrNoMemory<Why>>
         ensures { Makes result (spec.with_value OptionName.Shards value.now self) }
     {
-        match number_between(u32::from(LEAST_SHARDS), u32::from(MOST_SHARDS), value) {
+        match number_between(u64::from(LEAST_SHARDS), u64::from(MOST_SHARDS), value) {
             Ok(n) => {
                 self.shards = Some(n as u8);
                 Ok(self)
@@ -114,7 +119,7 @@ impl Options {
     fn with_window(mut self, value: &str) -> Result<Options, OrNoMemory<Why>>
         ensures { Makes result (spec.with_value OptionName.Window value.now self) }
     {
-        match number_between(u32::from(LEAST_WINDOW), u32::from(MOST_WINDOW), value) {
+        match number_between(u64::from(LEAST_WINDOW), u64::from(MOST_WINDOW), value) {
             Ok(n) => {
                 self.window = Some(n as u16);
                 Ok(self)
@@ -126,9 +131,9 @@ impl Options {
     fn with_limit(mut self, value: &str) -> Result<Options, OrNoMemory<Why>>
         ensures { Makes result (spec.with_value OptionName.Limit value.now self) }
     {
-        match number_between(LEAST_COMMITS, MOST_COMMITS, value) {
+        match number_between(u64::from(LEAST_COMMITS), u64::from(MOST_COMMITS), value) {
             Ok(n) => {
-                self.limit = Some(n);
+                self.limit = Some(n as u32);
                 Ok(self)
             }
             Err(why) => Err(OrNoMemory::Cause(why)),
@@ -138,9 +143,9 @@ impl Options {
     fn with_sessions(mut self, value: &str) -> Result<Options, OrNoMemory<Why>>
         ensures { Makes result (spec.with_value OptionName.Sessions value.now self) }
     {
-        match number_between(LEAST_SESSIONS, MOST_SESSIONS, value) {
+        match number_between(u64::from(LEAST_SESSIONS), u64::from(MOST_SESSIONS), value) {
             Ok(n) => {
-                self.sessions = Some(n);
+                self.sessions = Some(n as u32);
                 Ok(self)
             }
             Err(why) => Err(OrNoMemory::Cause(why)),
@@ -167,6 +172,18 @@ impl Options {
         Ok(self)
     }
 
+    fn with_at(mut self, value: &str) -> Result<Options, OrNoMemory<Why>>
+        ensures { Makes result (spec.with_value OptionName.At value.now self) }
+    {
+        match number_between(0, MOST_AT, value) {
+            Ok(n) => {
+                self.at = Some(n);
+                Ok(self)
+            }
+            Err(why) => Err(OrNoMemory::Cause(why)),
+        }
+    }
+
     /// The settings that are given, and the standard ones where none are.
     pub(crate) fn settings(&self) -> Settings
         ensures { HasSettings self.now result }
@@ -180,7 +197,7 @@ impl Options {
 }
 
 /// The number from `least` to `most` whose decimal form the word is.
-fn number_between(least: u32, most: u32, word: &str) -> Result<u32, Why>
+fn number_between(least: u64, most: u64, word: &str) -> Result<u64, Why>
     ensures { Finds least most (spec.number_within least most word.now) result }
 {
     match number_within(least, most, word) {

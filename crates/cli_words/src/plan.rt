@@ -16,4 +16,9 @@ pub enum Plan {
         sessions: u32,
         file: Option<Text>,
     },
+    /// Audit the journal in the file at a path, and say what the state is after so many commits, where that is asked for.
+    Audit {
+        file: Text,
+        at: Option<u64>,
+    },
 }

@@ -110,6 +110,17 @@ fn serving(options: Options) -> Result<Plan, Missing>
     }
 }
 
+/// What an auditor is asked to do, where it is told a file.
+fn auditing(options: Options) -> Result<Plan, Missing>
+    ensures { Finishes (Reading.Ready CommandName.Audit options) result }
+{
+    let Options { file, at, .. } = options;
+    match file {
+        Some(file) => Ok(Plan::Audit { file, at }),
+        None => Err(Missing::Option(OptionName::File)),
+    }
+}
+
 impl Reading {
     /// What a word makes of this.
     #[tactic(auto, unfolding(crate::specs::code::Reading::step))]
@@ -134,6 +145,7 @@ impl Reading {
             Reading::Waiting(_, _, option) => Err(Missing::Value(option)),
             Reading::Ready(CommandName::Run, options) => Ok(Plan::Run(options.settings())),
             Reading::Ready(CommandName::Serve, options) => serving(options),
+            Reading::Ready(CommandName::Audit, options) => auditing(options),
         }
     }
 }

@@ -14,7 +14,7 @@ pub enum Why {
     #[error("the option is given twice")]
     GivenTwice,
     #[error("the value is not a number from {0} to {1}")]
-    NotANumber(u32, u32),
+    NotANumber(u64, u64),
     #[error("this is no address")]
     NotAnAddress,
     #[error("this is no path")]

@@ -9,7 +9,6 @@ use std::alloc::Global;
 use std::cell::RefCell;
 use std::process::Abort;
 use std::sync::Wait;
-use std::test::Fail;
 use std::thread::Threads;
 
 /// What was read and written so far, byte by byte, with `!` for a flush.
@@ -88,16 +87,16 @@ impl Sink for NotedSink<'_> {
     }
 }
 
-/// What a run of a script reads and writes.
-fn noted(
+/// Whether this is noted of a run of some lines.
+fn notes(
     rt: &(impl Abort + Threads + Wait + Sync),
     alloc: Global,
-    script: &[u8],
     sees_all: bool,
-) -> Result<Vec<u8>, Fail> {
+    wanted: &[u8],
+) -> bool {
     let log = RefCell::new(Vec::new(alloc));
     let mut source = NotedSource {
-        rest: script,
+        rest: b"0 fly\n\n1 fly\n0 fly",
         sees_all,
         log: &log,
     };
@@ -112,26 +111,18 @@ fn noted(
         &mut NoListener::new(),
     );
     let _ = (source, sink);
-    assert_eq!(rt; status, 0);
-    Ok(log.into_inner())
+    status == 0 && log.into_inner().as_slice() == wanted
 }
 
-#[test]
-fn each_line_is_answered_before_the_next_is_read(rt: HostRuntime) -> Result<(), Fail> {
-    let log = noted(&rt, rt.alloc(), b"0 fly\n\n1 fly\n0 fly", false)?;
-    assert_eq!(rt;
-        log.as_slice(),
-        b"0 fly\n0 refused verb\n!\n!1 fly\n1 refused verb\n!0 fly0 refused verb\n!!".as_slice()
-    );
-    Ok(())
-}
+/// Each line is answered before the next is read.
+const IN_TURN: &[u8] =
+    b"0 fly\n0 refused verb\n!\n!1 fly\n1 refused verb\n!0 fly0 refused verb\n!!";
+
+/// Answers are held back while lines are ahead.
+const AHEAD: &[u8] = b"0 fly\n0 refused verb\n\n1 fly\n1 refused verb\n!0 fly0 refused verb\n!!";
 
 #[test]
-fn answers_are_held_back_while_lines_are_ahead(rt: HostRuntime) -> Result<(), Fail> {
-    let log = noted(&rt, rt.alloc(), b"0 fly\n\n1 fly\n0 fly", true)?;
-    assert_eq!(rt;
-        log.as_slice(),
-        b"0 fly\n0 refused verb\n\n1 fly\n1 refused verb\n!0 fly0 refused verb\n!!".as_slice()
-    );
-    Ok(())
+fn lines_are_answered_in_turn_and_held_back_while_others_are_ahead(rt: HostRuntime) {
+    assert!(rt; notes(&rt, rt.alloc(), false, IN_TURN));
+    assert!(rt; notes(&rt, rt.alloc(), true, AHEAD));
 }

@@ -1,15 +1,12 @@
 //! The top call over objects in memory: what its words ask for, and faults of reads and writes at named calls. Scripts that
 //! are answered are cases of `script_cases`.
 
-ghost use Rattle.std.specs.Prelude.{◌<◌};
-
 use diamond_cli::{BAD_WORDS, WRITE_FAULT, diamond};
 use dio_core::{MemSink, MemSource, NoDisk, NoListener};
 use script_runner::{READ_FAULT, WHOLE};
 use std::alloc::Global;
 use std::process::Abort;
 use std::sync::Wait;
-use std::test::Fail;
 use std::thread::Threads;
 
 /// A line of 51 bytes.
@@ -18,163 +15,123 @@ const LINE: &[u8] = b"0 do counter(\"x\").add(5); emit counter(\"x\").get();\n";
 /// Its reply, of 16 bytes.
 const REPLY: &[u8] = b"0 commit 1 ok 5\n";
 
-/// A command's words, and the pieces in which its script is read and its replies are written.
-#[derive(Clone, Copy)]
-struct Command {
-    words: &'static [&'static str],
-    read_piece: usize,
-    write_piece: usize,
-}
+/// A script, in which the second commit is one more than a limit of 1 takes.
+const ONE_TOO_MANY: &[u8] = b"0 do emit 1;\n0 do emit 1;\n";
 
-/// The calls of the source and of the sink that fail.
-#[derive(Clone, Copy)]
-struct Failing {
-    reads: &'static [u64],
-    writes: &'static [u64],
-}
+/// In which pieces a script is read and its replies are written, and which of those reads and writes fail.
+type Streams = (usize, usize, &'static [u64], &'static [u64]);
 
-/// No call fails.
-const SOUND: Failing = Failing {
-    reads: &[],
-    writes: &[],
-};
-
-/// Runs a script, and asserts how it ends and what it has written.
-fn expect(
+/// Runs a script as some words ask, and answers whether it ends so and has written this. Where no write and no flush fails, all
+/// was passed on.
+fn ends_so(
     rt: &(impl Abort + Threads + Wait + Sync),
     alloc: Global,
-    command: &Command,
-    failing: &Failing,
+    words: &[&str],
+    streams: Streams,
     script: &[u8],
     status: u8,
     output: &[u8],
-) -> Result<(), Fail>
-    requires reads { 0 < command.now.read_piece }
-    requires writes { 0 < command.now.write_piece }
-{
-    let mut source = MemSource::new(alloc, script, command.read_piece, failing.reads)?;
-    let mut sink = MemSink::new(alloc, command.write_piece, failing.writes)?;
+) -> bool {
+    let (read_piece, write_piece, reads, writes) = streams;
+    let source = MemSource::new(alloc, script, read_piece.max(1), reads);
+    let sink = MemSink::new(alloc, write_piece.max(1), writes);
+    let (Ok(mut source), Ok(mut sink)) = (source, sink) else {
+        return false;
+    };
     let found = diamond(
         rt,
         alloc,
-        command.words,
+        words,
         &mut source,
         &mut sink,
         &mut NoDisk::new(),
         &mut NoListener::new(),
     );
-    assert_eq!(rt; found, status);
-    assert_eq!(rt; sink.taken(), output);
-    // Where no write and no flush failed, all was passed on.
-    assert!(rt; !failing.writes.is_empty() || sink.passed() == output);
-    Ok(())
+    found == status && sink.taken() == output && (!writes.is_empty() || sink.passed() == output)
+}
+
+/// Streams of which reads fail, and of which writes fail: the status, and what is written.
+static FAULTS: [(Streams, u8, &'static [u8]); 7] = [
+    ((1, 4096, &[20], &[]), READ_FAULT, b""),
+    ((1, 4096, &[0], &[]), READ_FAULT, b""),
+    ((1, 4096, &[51], &[]), READ_FAULT, REPLY),
+    ((3, 1, &[], &[3]), WRITE_FAULT, b"0 c"),
+    ((3, 1, &[], &[0]), WRITE_FAULT, b""),
+    ((3, 1, &[], &[16]), WRITE_FAULT, REPLY),
+    // The read of the second line's first byte fails, and then the flush, the third call of the sink.
+    ((1, 4096, &[51], &[2]), READ_FAULT, REPLY),
+];
+
+/// The rows, so that the proof of a test doesn't go through them.
+fn faults() -> &'static [(Streams, u8, &'static [u8])] {
+    &FAULTS
 }
 
 #[test]
-fn faults_stop_a_run(rt: HostRuntime) -> Result<(), Fail> {
-    let reads: [(&'static [u64], &[u8]); 3] = [(&[20], b""), (&[0], b""), (&[51], REPLY)];
-    for (reads, output) in reads {
-        let command = Command {
-            words: &["run"],
-            read_piece: 1,
-            write_piece: 4096,
-        };
-        let failing = Failing { reads, writes: &[] };
-        expect(
-            &rt,
-            rt.alloc(),
-            &command,
-            &failing,
-            LINE,
-            READ_FAULT,
-            output,
-        )?;
+fn faults_stop_a_run(rt: HostRuntime) {
+    for (streams, status, output) in faults() {
+        assert!(rt; ends_so(&rt, rt.alloc(), &["run"], *streams, LINE, *status, output));
     }
-    let writes: [(&'static [u64], &[u8]); 3] = [(&[3], b"0 c"), (&[0], b""), (&[16], REPLY)];
-    for (writes, output) in writes {
-        let command = Command {
-            words: &["run"],
-            read_piece: 3,
-            write_piece: 1,
-        };
-        let failing = Failing { reads: &[], writes };
-        expect(
-            &rt,
-            rt.alloc(),
-            &command,
-            &failing,
-            LINE,
-            WRITE_FAULT,
-            output,
-        )?;
-    }
-    Ok(())
 }
 
-/// The read of the second line's first byte fails, and then the flush, the third call of the sink.
-#[test]
-fn a_flush_that_fails_leaves_status_3(rt: HostRuntime) -> Result<(), Fail> {
-    let command = Command {
-        words: &["run"],
-        read_piece: 1,
-        write_piece: 4096,
-    };
-    let failing = Failing {
-        reads: &[51],
-        writes: &[2],
-    };
-    expect(&rt, rt.alloc(), &command, &failing, LINE, READ_FAULT, REPLY)
-}
+/// Words, the script, the status, and what is written.
+type Row = (&'static [&'static str], &'static [u8], u8, &'static [u8]);
 
-#[test]
-fn other_words_are_refused(rt: HostRuntime) -> Result<(), Fail> {
-    let words: [&'static [&'static str]; 9] = [
-        &[],
-        &["fly"],
-        &["run", "run"],
-        &["run", "--shards", "0"],
+static WORDS: [Row; 12] = [
+    // Words that ask for nothing.
+    (&[], LINE, BAD_WORDS, b""),
+    (&["fly"], LINE, BAD_WORDS, b""),
+    (&["run", "run"], LINE, BAD_WORDS, b""),
+    (&["run", "--shards", "0"], LINE, BAD_WORDS, b""),
+    (
         &["run", "--shards", "4", "--shards", "4"],
-        &["run", "--address", "a"],
-        &["serve"],
+        LINE,
+        BAD_WORDS,
+        b"",
+    ),
+    (&["run", "--address", "a"], LINE, BAD_WORDS, b""),
+    (&["serve"], LINE, BAD_WORDS, b""),
+    (
         &["serve", "--address", "a", "--sessions=0"],
+        LINE,
+        BAD_WORDS,
+        b"",
+    ),
+    (
         &["serve", "--address", "a", "--address", "a"],
-    ];
-    for words in words {
-        let command = Command {
-            words,
-            read_piece: 1,
-            write_piece: 1,
-        };
-        expect(&rt, rt.alloc(), &command, &SOUND, LINE, BAD_WORDS, b"")?;
-    }
-    Ok(())
+        LINE,
+        BAD_WORDS,
+        b"",
+    ),
+    // Words that give the settings.
+    (&["run", "--shards=4"], LINE, WHOLE, REPLY),
+    (
+        &["run", "--limit", "1", "--window=1"],
+        ONE_TOO_MANY,
+        WHOLE,
+        b"0 commit 1 ok 1\n0 full 1\n",
+    ),
+    (
+        &["run", "--shards", "1"],
+        b"0 follow 0\n0 follow 1\n",
+        WHOLE,
+        b"0 follow 0 front 0\n0 refused verb\n",
+    ),
+];
+
+fn words() -> &'static [Row] {
+    &WORDS
 }
 
-/// A script, in which the second commit is one more than a limit of 1 takes.
-const ONE_TOO_MANY: &[u8] = b"0 do emit 1;\n0 do emit 1;\n";
-
 #[test]
-fn words_give_the_settings(rt: HostRuntime) -> Result<(), Fail> {
-    let runs: [(&'static [&'static str], &[u8], &[u8]); 3] = [
-        (&["run", "--shards=4"], LINE, REPLY),
-        (
-            &["run", "--limit", "1", "--window=1"],
-            ONE_TOO_MANY,
-            b"0 commit 1 ok 1\n0 full 1\n",
-        ),
-        (
-            &["run", "--shards", "1"],
-            b"0 follow 0\n0 follow 1\n",
-            b"0 follow 0 front 0\n0 refused verb\n",
-        ),
-    ];
-    for (words, script, output) in runs {
-        let command = Command {
-            words,
-            read_piece: 4096,
-            write_piece: 4096,
-        };
-        expect(&rt, rt.alloc(), &command, &SOUND, script, WHOLE, output)?;
+fn words_ask_for_nothing_or_give_the_settings(rt: HostRuntime) {
+    for (number, (words, script, status, output)) in words().iter().enumerate() {
+        // Each word is read before a byte is: small pieces show what is read or written where nothing is asked for.
+        let piece = if *status == WHOLE { 4096 } else { 1 };
+        let streams = (piece, piece, [].as_slice(), [].as_slice());
+        assert!(rt;
+            ends_so(&rt, rt.alloc(), words, streams, script, *status, output),
+            "row {number}"
+        );
     }
-    Ok(())
 }

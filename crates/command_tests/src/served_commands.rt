@@ -7,44 +7,18 @@ use dio_core::{
     FaultPlan, Listener, MemLink, MemLinks, MemListener, MemSink, MemSource, NoDisk, NoListener,
     TcpListening,
 };
-use script_runner::{WHOLE, WRITE_FAULT};
+use script_runner::{READ_FAULT, WHOLE, WRITE_FAULT};
 use std::alloc::{AllocError, Global};
 use std::io;
 use std::io::{ErrorKind, Write};
-use std::net::TcpStream;
+use std::net::{SocketAddr, TcpStream};
 use std::process::Abort;
 use std::sync::Wait;
-use std::test::Fail;
 use std::thread::Threads;
 
-/// What a link gives, and which of its calls fail.
-#[derive(Clone, Copy)]
-struct Given {
-    bytes: &'static [u8],
-    read_fails: &'static [u64],
-    write_fails: &'static [u64],
-}
-
-/// A link over which nothing fails.
-fn sound(bytes: &'static [u8]) -> Given {
-    Given {
-        bytes,
-        read_fails: &[],
-        write_fails: &[],
-    }
-}
-
-fn links(alloc: Global, given: &[Given]) -> Result<MemLinks, AllocError> {
-    let mut all = MemLinks::new(alloc);
-    for link in given {
-        all.push(MemLink::new(alloc, link.bytes, 7, link.read_fails, link.write_fails)?)?;
-    }
-    Ok(all)
-}
-
-/// Serves the links of a listener as the words ask, and asserts the status and what is written at the end. The sink's calls with
-/// these numbers fail.
-fn expect(
+/// Serves the links of a listener as the words ask, and answers whether it ends with a status, and this is written at the end.
+/// The sink's calls with these numbers fail.
+fn ends_so(
     rt: &(impl Abort + Threads + Wait + Sync),
     alloc: Global,
     words: &[&str],
@@ -52,9 +26,11 @@ fn expect(
     write_fails: &[u64],
     status: u8,
     line: &[u8],
-) -> Result<(), Fail> {
-    let mut source = MemSource::new(alloc, b"0 do emit 1;\n", 5, &[])?;
-    let mut sink = MemSink::new(alloc, 5, write_fails)?;
+) -> bool {
+    let source = MemSource::new(alloc, b"0 do emit 1;\n", 5, &[]);
+    let (Ok(mut source), Ok(mut sink)) = (source, MemSink::new(alloc, 5, write_fails)) else {
+        return false;
+    };
     let found = diamond(
         rt,
         alloc,
@@ -64,9 +40,22 @@ fn expect(
         &mut NoDisk::new(),
         listener,
     );
-    assert_eq!(rt; found, status);
-    assert_eq!(rt; sink.taken(), line);
-    Ok(())
+    found == status && sink.taken() == line
+}
+
+/// What a link gives in pieces of 7 bytes, and which of its reads and writes fail.
+type Given = (&'static [u8], &'static [u64], &'static [u64]);
+
+/// The words, the links, the accepts that fail, the writes at the end that fail, the status, what is written at the end, and how
+/// each link was given back: with its status, and what it has taken.
+struct Row {
+    words: &'static [&'static str],
+    links: &'static [Given],
+    accepts: &'static [u64],
+    writes: &'static [u64],
+    status: u8,
+    line: &'static [u8],
+    back: &'static [(u8, &'static [u8])],
 }
 
 const ONE: &[&str] = &["serve", "--address", "a"];
@@ -75,136 +64,191 @@ const MANY: &[&str] = &["serve", "--address=a", "--sessions=1000"];
 
 const LINES: &[u8] = b"do counter(\"x\").add(2); emit counter(\"x\").get();\nseen\nquit\n";
 
-#[test]
-fn a_session_is_served(rt: HostRuntime) -> Result<(), Fail> {
-    let alloc = rt.alloc();
-    let words = &["serve", "--address", "a", "--sessions", "1"];
-    let mut listener = MemListener::new(alloc, links(alloc, &[sound(LINES)])?);
-    let line = b"served 1 sessions 0 faulted commits 1\n";
-    expect(&rt, alloc, words, &mut listener, &[], WHOLE, line)?;
-    let back = listener.back().as_slice();
-    assert_eq!(rt; back.len(), 1);
-    assert!(rt; back[0].1 == WHOLE);
-    assert!(rt; back[0].0.sink.taken() == b"commit 1 ok 2\nseen 1\ndropped\n".as_slice());
-    Ok(())
+const REPLIES: &[u8] = b"commit 1 ok 2\nseen 1\ndropped\n";
+
+static ROWS: [Row; 10] = [
+    Row {
+        words: &["serve", "--address", "a", "--sessions", "1"],
+        links: &[(LINES, &[], &[])],
+        accepts: &[],
+        writes: &[],
+        status: WHOLE,
+        line: b"served 1 sessions 0 faulted commits 1\n",
+        back: &[(WHOLE, REPLIES)],
+    },
+    // A fault of a link ends its own session.
+    Row {
+        words: ONE,
+        links: &[(b"do emit 1;\n", &[0], &[])],
+        accepts: &[],
+        writes: &[],
+        status: WHOLE,
+        line: b"served 1 sessions 1 faulted commits 0\n",
+        back: &[(READ_FAULT, b"")],
+    },
+    Row {
+        words: ONE,
+        links: &[(b"do emit 1;\n", &[], &[0])],
+        accepts: &[],
+        writes: &[],
+        status: WHOLE,
+        line: b"served 1 sessions 1 faulted commits 1\n",
+        back: &[(WRITE_FAULT, b"")],
+    },
+    Row {
+        words: ONE,
+        links: &[(b"", &[], &[])],
+        accepts: &[],
+        writes: &[],
+        status: WHOLE,
+        line: b"served 1 sessions 0 faulted commits 0\n",
+        back: &[(WHOLE, b"")],
+    },
+    // The second accept fails: the session of the first link ends, and the line is written.
+    Row {
+        words: MANY,
+        links: &[(b"do emit 1;\n", &[], &[]), (b"do emit 2;\n", &[], &[])],
+        accepts: &[1],
+        writes: &[],
+        status: LISTENER_FAULT,
+        line: b"served 1 sessions 0 faulted commits 1\n",
+        back: &[(WHOLE, b"commit 1 ok 1\n")],
+    },
+    Row {
+        words: MANY,
+        links: &[(b"do emit 1;\n", &[], &[]), (b"do emit 2;\n", &[], &[])],
+        accepts: &[1],
+        writes: &[1],
+        status: LISTENER_FAULT,
+        line: b"serve",
+        back: &[(WHOLE, b"commit 1 ok 1\n")],
+    },
+    // The line is written in pieces of 5 bytes: 8 writes, and a flush.
+    Row {
+        words: ONE,
+        links: &[(b"seen\n", &[], &[])],
+        accepts: &[],
+        writes: &[0],
+        status: WRITE_FAULT,
+        line: b"",
+        back: &[(WHOLE, b"seen 0\n")],
+    },
+    Row {
+        words: ONE,
+        links: &[(b"seen\n", &[], &[])],
+        accepts: &[],
+        writes: &[2],
+        status: WRITE_FAULT,
+        line: b"served 1 s",
+        back: &[(WHOLE, b"seen 0\n")],
+    },
+    Row {
+        words: ONE,
+        links: &[(b"seen\n", &[], &[])],
+        accepts: &[],
+        writes: &[8],
+        status: WRITE_FAULT,
+        line: b"served 1 sessions 0 faulted commits 0\n",
+        back: &[(WHOLE, b"seen 0\n")],
+    },
+    // The settings are those of the words: of a journal of at most one commit the second isn't made.
+    Row {
+        words: &["serve", "--limit=1", "--address=a"],
+        links: &[(b"do emit 1;\ndo emit 2;\n", &[], &[])],
+        accepts: &[],
+        writes: &[],
+        status: WHOLE,
+        line: b"served 1 sessions 0 faulted commits 1\n",
+        back: &[(WHOLE, b"commit 1 ok 1\nfull 1\n")],
+    },
+];
+
+/// The rows, so that the proof of a test doesn't go through them.
+fn rows() -> &'static [Row] {
+    &ROWS
 }
 
-#[test]
-fn a_fault_of_a_link_ends_its_own_session(rt: HostRuntime) -> Result<(), Fail> {
-    let rows: [(Given, &[u8]); 3] = [
-        (
-            Given {
-                bytes: b"do emit 1;\n",
-                read_fails: &[0],
-                write_fails: &[],
-            },
-            b"served 1 sessions 1 faulted commits 0\n",
-        ),
-        (
-            Given {
-                bytes: b"do emit 1;\n",
-                read_fails: &[],
-                write_fails: &[0],
-            },
-            b"served 1 sessions 1 faulted commits 1\n",
-        ),
-        (sound(b""), b"served 1 sessions 0 faulted commits 0\n"),
-    ];
-    for (given, line) in rows {
-        let mut listener = MemListener::new(rt.alloc(), links(rt.alloc(), &[given])?);
-        expect(&rt, rt.alloc(), ONE, &mut listener, &[], WHOLE, line)?;
+/// The listener of a row.
+fn listener_of(alloc: Global, row: &Row) -> Result<MemListener, AllocError> {
+    let mut links = MemLinks::new(alloc);
+    for (bytes, reads, writes) in row.links {
+        links.push(MemLink::new(alloc, bytes, 7, reads, writes)?)?;
     }
-    Ok(())
+    let plan = FaultPlan::new(alloc, row.accepts)?;
+    Ok(MemListener::failing(alloc, links, plan))
+}
+
+/// Whether the links were given back so, in their order.
+fn gave_back(listener: &MemListener, wanted: &[(u8, &[u8])]) -> bool {
+    let back = listener.back().as_slice();
+    for (pair, (status, taken)) in back.iter().zip(wanted) {
+        if pair.1 != *status || pair.0.sink.taken() != *taken {
+            return false;
+        }
+    }
+    back.len() == wanted.len()
+}
+
+/// Whether this comes of a row.
+fn is_served(rt: &(impl Abort + Threads + Wait + Sync), alloc: Global, row: &Row) -> bool {
+    match listener_of(alloc, row) {
+        Ok(mut listener) => {
+            ends_so(
+                rt,
+                alloc,
+                row.words,
+                &mut listener,
+                row.writes,
+                row.status,
+                row.line,
+            ) && gave_back(&listener, row.back)
+        }
+        Err(_) => false,
+    }
 }
 
 #[test]
-fn without_a_listener_nothing_is_served(rt: HostRuntime) -> Result<(), Fail> {
+fn links_are_served_and_a_line_tells_of_them(rt: HostRuntime) {
+    for (number, row) in rows().iter().enumerate() {
+        assert!(rt; is_served(&rt, rt.alloc(), row), "row {number}");
+    }
+}
+
+#[test]
+fn without_a_listener_nothing_is_served(rt: HostRuntime) {
     let line = b"served 0 sessions 0 faulted commits 0\n";
-    expect(
-        &rt,
-        rt.alloc(),
-        MANY,
-        &mut NoListener::new(),
-        &[],
-        LISTENER_FAULT,
-        line,
-    )
+    let mut none = NoListener::new();
+    assert!(rt; ends_so(&rt, rt.alloc(), MANY, &mut none, &[], LISTENER_FAULT, line));
 }
 
-/// The second accept fails: the session of the first link ends, and the line is written.
-#[test]
-fn an_accept_that_fails_is_told_by_the_status(rt: HostRuntime) -> Result<(), Fail> {
-    let alloc = rt.alloc();
-    let rows: [(&[u64], &[u8]); 2] = [
-        (&[], b"served 1 sessions 0 faulted commits 1\n"),
-        (&[1], b"serve"),
-    ];
-    for (write_fails, line) in rows {
-        let all = links(alloc, &[sound(b"do emit 1;\n"), sound(b"do emit 2;\n")])?;
-        let mut listener = MemListener::failing(alloc, all, FaultPlan::new(alloc, &[1])?);
-        expect(
-            &rt,
-            alloc,
-            MANY,
-            &mut listener,
-            write_fails,
-            LISTENER_FAULT,
-            line,
-        )?;
-    }
-    Ok(())
-}
-
-/// The line is written in pieces of 5 bytes: 8 writes, and a flush.
-#[test]
-fn a_line_that_is_not_written_is_told_by_the_status(rt: HostRuntime) -> Result<(), Fail> {
-    let alloc = rt.alloc();
-    let rows: [(&[u64], &[u8]); 3] = [
-        (&[0], b""),
-        (&[2], b"served 1 s"),
-        (&[8], b"served 1 sessions 0 faulted commits 0\n"),
-    ];
-    for (write_fails, line) in rows {
-        let mut listener = MemListener::new(alloc, links(alloc, &[sound(b"seen\n")])?);
-        expect(
-            &rt,
-            alloc,
-            ONE,
-            &mut listener,
-            write_fails,
-            WRITE_FAULT,
-            line,
-        )?;
-    }
-    Ok(())
-}
-
-/// The settings are those of the words: of a journal of at most one commit the second isn't made.
-#[test]
-fn the_store_has_the_settings_that_are_asked_for(rt: HostRuntime) -> Result<(), Fail> {
-    let alloc = rt.alloc();
-    let words = &["serve", "--limit=1", "--address=a"];
-    let given = [sound(b"do emit 1;\ndo emit 2;\n")];
-    let mut listener = MemListener::new(alloc, links(alloc, &given)?);
-    let line = b"served 1 sessions 0 faulted commits 1\n";
-    expect(&rt, alloc, words, &mut listener, &[], WHOLE, line)?;
-    let back = listener.back().as_slice();
-    assert_eq!(rt; back.len(), 1);
-    assert!(rt; back[0].0.sink.taken() == b"commit 1 ok 1\nfull 1\n".as_slice());
-    Ok(())
-}
-
-#[test]
-fn a_session_over_the_loopback_is_served(rt: HostRuntime) -> Result<(), Fail> {
-    let mut listener = TcpListening::bind(&rt, &rt, "127.0.0.1:0");
-    let Some(address) = listener.address() else {
-        return Err(io::Error::from(ErrorKind::AddrNotAvailable).into());
+/// A client that has said its lines.
+fn client_of(rt: &HostRuntime, address: Option<SocketAddr>) -> io::Result<TcpStream> {
+    let Some(address) = address else {
+        return Err(ErrorKind::AddrNotAvailable.into());
     };
-    let mut client = TcpStream::connect(&rt, address)?;
+    let mut client = TcpStream::connect(rt, address)?;
     client.write_all(LINES)?;
+    Ok(client)
+}
+
+/// Whether a client is told the replies.
+fn is_told(alloc: Global, client: io::Result<TcpStream>) -> bool {
+    match client {
+        Ok(client) => match io::read_to_string(alloc, client) {
+            Ok(told) => told.as_bytes() == REPLIES,
+            Err(_) => false,
+        },
+        Err(_) => false,
+    }
+}
+
+#[test]
+fn a_session_over_the_loopback_is_served(rt: HostRuntime) {
+    let mut listener = TcpListening::bind(&rt, &rt, "127.0.0.1:0");
+    let client = client_of(&rt, listener.address());
     let line = b"served 1 sessions 0 faulted commits 1\n";
-    expect(&rt, rt.alloc(), ONE, &mut listener, &[], WHOLE, line)?;
-    let replies = io::read_to_string(rt.alloc(), client)?;
-    assert!(rt; replies.as_str() == "commit 1 ok 2\nseen 1\ndropped\n");
-    Ok(())
+    // Where the client didn't come, no accept would return.
+    assert!(rt; client.is_ok());
+    assert!(rt; ends_so(&rt, rt.alloc(), ONE, &mut listener, &[], WHOLE, line));
+    assert!(rt; is_told(rt.alloc(), client));
 }

@@ -1,9 +1,10 @@
 //! Recovery of a file that a crash may have left.
 
-ghost use Rattle.std.specs.Prelude.{◌≡◌, ◌+◌, ◌<◌, ◌≤◌, ◌^◌, ◌++◌, [], false, length, IfOk, IfErr, IfSome};
+ghost use Rattle.std.specs.Prelude.{◌≡◌, ◌≢◌, ◌+◌, ◌<◌, ◌≤◌, ◌^◌, ◌++◌, [], false, length, IfOk, IfErr, IfSome};
 ghost use Rattle.dio_core.specs.Counts.{IsCounted};
 ghost use Rattle.dio_core.specs.Disks.{NothingPending};
 ghost use Rattle.dio_core.specs.Moments.{AtAnyMoment};
+ghost use Rattle.commit_file.specs.declared.recover_error.RecoverError.TheVariants as error;
 ghost use Rattle.commit_file.specs.declared.version.Version.TheVariants.{One, Two};
 ghost use Rattle.commit_file.specs.Files.{header};
 ghost use Rattle.commit_file.specs.Keepers.{Stands};
@@ -132,6 +133,10 @@ pub fn recover<D: Disk, C: Chain>(
     ensures stands { IfOk result (λ end. IfSome (D.state disk.new) (Stands false end)) }
     ensures room { IfOk result (λ end. end + 1 < 2 ^ 64) }
     ensures refused { IfErr result (λ e. IfSome (D.state disk.old) (λ s. IsRefused (kept C.follows s.file) e)) }
+
+    // Unless the disk failed, a file that isn't recovered was not touched.
+    ensures untouched { IfErr result (λ e. e ≢ error.DiskFault → D.state disk.new ≡ D.state disk.old) }
+    ensures no_moment { IfErr result (λ e. e ≢ error.DiskFault → D.past disk.new ≡ D.past disk.old) }
 
     // A crash at any moment leaves a file that is kept as this one.
     ensures any_moment { IfSome (D.state disk.old) (λ s.

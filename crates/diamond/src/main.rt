@@ -5,6 +5,8 @@
 
 ghost use Rattle.dio_core.specs.Disks.{NothingPending};
 
+mod read_file;
+
 use cli_words::{Plan, Question, VERSION, WordsError, asked, help_text, read_words};
 use commit_file::RecoverError;
 use diamond_cli::{BAD_WORDS, NO_MEMORY, NOT_JOURNAL, WRITE_FAULT, diamond};
@@ -12,7 +14,9 @@ use dio_core::{Disk, FileDisk, Listener, NoDisk, NoListener, StdSink, StdSource,
 use journal_file::read_kept;
 use link_buffer::BufferedListening;
 use plain_data::Text;
+use read_file::ReadFile;
 use std::alloc::{AllocError, Global};
+use std::fmt::Display;
 use std::io::{BufWriter, ErrorKind, Write};
 use std::process::ExitCode;
 use std::sync::Wait;
@@ -89,22 +93,26 @@ fn command_at<R: Threads + Wait + Sync, D: Disk + Send>(
 }
 
 /// From which byte on the file of a disk is no journal. It is read once more, since a status has no room for that.
-fn refused_at(alloc: Global, disk: &mut FileDisk) -> Option<u64> {
+fn refused_at<D: Disk>(alloc: Global, disk: &mut D) -> Option<u64> {
     match read_kept(alloc, disk) {
         Err(RecoverError::NotJournal(at)) => Some(at),
         _ => None,
     }
 }
 
-/// Says on the standard error what is wrong with a file.
-fn name_fault(rt: &HostRuntime, path: &str, disk: &mut FileDisk, status: u8) {
+/// Says on the standard error where a file begins to be none of a journal.
+fn name_place<D: Disk>(rt: &HostRuntime, path: &str, disk: &mut D, status: u8) {
     if status == NOT_JOURNAL {
         let _ = match refused_at(rt.alloc(), disk) {
             Some(at) => eprintln!(rt; "diamond: the file `{path}`: no journal from byte {at} on"),
             None => eprintln!(rt; "diamond: the file `{path}`: no journal"),
         };
     }
-    let _ = match disk.last_fault() {
+}
+
+/// Says on the standard error what went wrong with a file.
+fn name_fault<F: Display + Drop>(rt: &HostRuntime, path: &str, fault: Option<F>) {
+    let _ = match fault {
         Some(fault) => eprintln!(rt; "diamond: the file `{path}`: {fault}"),
         None => Ok(()),
     };
@@ -120,7 +128,25 @@ fn command_in<R: Threads + Wait + Sync>(
 ) -> Result<u8, AllocError> {
     let mut disk = FileDisk::open(rt, path);
     let status = command_at(rt, threads, words, &mut disk, address)?;
-    name_fault(rt, path, &mut disk, status);
+    name_place(rt, path, &mut disk, status);
+    name_fault(rt, path, disk.last_fault());
+    Ok(status)
+}
+
+/// Audits the journal in the file at a path. What is wrong with the file is told on the standard error.
+fn audit<R: Threads + Wait + Sync>(
+    rt: &HostRuntime,
+    threads: &R,
+    words: &[&str],
+    file: &Text,
+) -> Result<u8, AllocError> {
+    let Ok(path) = str::from_utf8(file.as_slice()) else {
+        return Ok(BAD_WORDS);
+    };
+    let mut file = ReadFile::open(rt, path);
+    let status = command(rt, threads, words, &mut file, &mut NoListener::new())?;
+    name_place(rt, path, &mut file, status);
+    name_fault(rt, path, file.last_fault());
     Ok(status)
 }
 
@@ -169,6 +195,7 @@ fn run<R: Threads + Wait + Sync>(
             )
         }
         Ok(Plan::Serve { address, file, .. }) => serve(rt, threads, texts, &address, &file),
+        Ok(Plan::Audit { file, .. }) => audit(rt, threads, texts, &file),
         Err(WordsError::NoMemory) => Ok(NO_MEMORY),
         Err(WordsError::BadWords(bad)) => {
             let _ = eprintln!(rt; "diamond: {bad}; diamond --help shows what may be said");

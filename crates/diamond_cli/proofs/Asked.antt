@@ -36,6 +36,11 @@ pub files-something : (words : List (Bor Word)) (p : Plan) (settings : Settings)
 files-something words p settings address sessions path spells is nothing =
     nothing.2 (settings, address, sessions, path, plan-asks (texts words) p (plan.Serve settings address sessions (Some path)) spells is)
 
+-- or one to audit
+pub audits-something : (words : List (Bor Word)) (p : Plan) (path : Word) (at : Option ℕ) → Spells (texts words) p → p ≡ plan.Audit path at
+    → AsksNothing words → ⊥
+audits-something words p path at spells is nothing = nothing.3 (path, at, plan-asks (texts words) p (plan.Audit path at) spells is)
+
 -- a plan whose file is another's by name
 pub with-file : (p : Plan) (settings : Settings) (address : Word) (sessions : ℕ) (file other : Option Word)
     → p ≡ plan.Serve settings address sessions file → file ≡ other → p ≡ plan.Serve settings address sessions other
@@ -61,7 +66,9 @@ serve-no-run words settings own address sessions file serves runs =
   where
     by : (c d : CommandName) (g h : Given) → IsPlan c g (plan.Serve settings address sessions file) → IsPlan d h (plan.Run own) → c ≡ d → ⊥
     by command.Run d g h serve run e = serve
+    by command.Audit d g h serve run e = serve
     by command.Serve command.Serve g h serve run e = run
+    by command.Serve command.Audit g h serve run e = run
     by command.Serve command.Run g h serve run e = cc
 
 -- nor do words that ask to serve in memory ask to serve in a file
@@ -74,6 +81,35 @@ memory-no-file words settings own address there sessions many path memory files 
     by : (c d : CommandName) (g h : Given) → IsPlan c g (plan.Serve settings address sessions None) → IsPlan d h (plan.Serve own there many (Some path))
         → g ≡ h → ⊥
     by command.Run d g h one two e = one
+    by command.Audit d g h one two e = one
     by command.Serve command.Run g h one two e = two
+    by command.Serve command.Audit g h one two e = two
     by command.Serve command.Serve g h one two e =
         let no : ◌≡◌ {A = Option Word} None (Some path) = one.3 ∙ ap (λ (x : Given). x.file) e ∙ sym two.3 in absurd (cc no)
+
+-- nor do words that ask to audit ask to run a script
+pub audit-no-run : (words : List Word) (path : Word) (at : Option ℕ) (own : Settings) → Spells words (plan.Audit path at) → Spells words (plan.Run own) → ⊥
+audit-no-run words path at own audits runs =
+    by audits.name runs.name audits.given runs.given audits.plan runs.plan
+    (one_form words audits.name runs.name audits.given runs.given audits.form runs.form).0
+  where
+    by : (c d : CommandName) (g h : Given) → IsPlan c g (plan.Audit path at) → IsPlan d h (plan.Run own) → c ≡ d → ⊥
+    by command.Run d g h audit run e = audit
+    by command.Serve d g h audit run e = audit
+    by command.Audit command.Serve g h audit run e = run
+    by command.Audit command.Audit g h audit run e = run
+    by command.Audit command.Run g h audit run e = cc
+
+-- or to serve
+pub audit-no-serve : (words : List Word) (path : Word) (at : Option ℕ) (settings : Settings) (address : Word) (sessions : ℕ) (file : Option Word)
+    → Spells words (plan.Audit path at) → Spells words (plan.Serve settings address sessions file) → ⊥
+audit-no-serve words path at settings address sessions file audits serves =
+    by audits.name serves.name audits.given serves.given audits.plan serves.plan
+    (one_form words audits.name serves.name audits.given serves.given audits.form serves.form).0
+  where
+    by : (c d : CommandName) (g h : Given) → IsPlan c g (plan.Audit path at) → IsPlan d h (plan.Serve settings address sessions file) → c ≡ d → ⊥
+    by command.Run d g h audit serve e = audit
+    by command.Serve d g h audit serve e = audit
+    by command.Audit command.Run g h audit serve e = serve
+    by command.Audit command.Audit g h audit serve e = serve
+    by command.Audit command.Serve g h audit serve e = cc

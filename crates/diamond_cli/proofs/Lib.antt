@@ -1,3 +1,4 @@
 pub mod Asked
 pub mod Served
 pub mod Recovered
+pub mod Auditing

@@ -1,11 +1,12 @@
 -- What `serve` promises of a store in a file, from what its parts do.
-use Rattle.std.proofs.Common.{◌≡◌, ℕ, Bool, true, false, [], ◌∷◌, ◌++◌, length, inl, inr, refl, sym, ap, ◌∙◌, subst}
-use Rattle.std.specs.Prelude.{Option, Some, None, IfSome, Err}
+use Rattle.std.proofs.Common.{◌≡◌, ◌≢◌, ◌⊎◌, ℕ, ◌≤◌, ◌<◌, Bool, true, false, [], ◌∷◌, ◌++◌, length, inl, inr, refl, sym, ap, ◌∙◌, subst, arith}
+use Rattle.std.specs.Prelude.{Option, Some, None, IfSome, Result, Ok, Err, OnOk, is_err}
+use Rattle.std.proofs.lemmas.Bool.{cases_lt}
 use Rattle.std.specs.List.{AllByRecursion}
 use Rattle.std.specs.List.Sorted.{IsStrictlySortedBy}
 use Rattle.std.specs.Map.{keys_of}
 use Rattle.plain_data.specs.Histories.{IsLawful, IsLawfulAfter}
-use Rattle.dio_core.specs.Counts.{Rose, IsCounted}
+use Rattle.dio_core.specs.Counts.{last_count, Rose, IsCounted}
 use Rattle.dio_core.specs.Disks.{DiskState}
 use Rattle.dio_core.specs.Links.{Both}
 use Rattle.rdt_types.specs.Addresses.{address_cmp}
@@ -16,16 +17,19 @@ use Rattle.txn_lang.specs.States.{Journal}
 use Rattle.journal_core.specs.Kinds.{HasKinds}
 use Rattle.commit_file.specs.declared.recover_error.RecoverError.{RecoverError}
 use Rattle.commit_file.specs.declared.recover_error.RecoverError.TheVariants as error
+use Rattle.commit_file.specs.Keepers.{Keeper}
 use Rattle.commit_file.specs.Kept.{kept}
 use Rattle.commit_file.specs.Recovering.{disk_failed}
 use Rattle.commit_file.specs.Recovering as recovering
+use Rattle.diamond_store.specs.Books.{IsAtMostRise}
 use Rattle.diamond_store.specs.Following.{Follows}
 use Rattle.script_runner.specs.Script.{Writing}
 use Rattle.journal_file.specs.Commits.{CommitsFollow, IsKeptAs, commits_in}
+use Rattle.journal_file.specs.Keepers.{KeepsThese, told_by, doubted_by, ReadsAs, LeavesAs}
 use Rattle.diamond_server.specs.Accounts.{Gatherings}
 use Rattle.diamond_server.specs.declared.serving_all.Tally.{Tally}
 use Rattle.diamond_cli.specs.Serving.{HasServed, IsSaid, ending}
-use Rattle.diamond_cli.specs.Filed.{Storing, HoldsJournal, refusal, HoldsNone, IsUnwritten, IsUnaccepted, IsRefused, IsFiled, ServesFile}
+use Rattle.diamond_cli.specs.Filed.{Storing, HoldsJournal, refusal, HoldsNone, IsSpared, IsUnwritten, IsUnaccepted, IsRefused, IsFiled, ServesFile}
 
 -- ---- the commits of a file
 
@@ -56,10 +60,84 @@ none-held (Some s) at refused = (at, refused)
 module _ {L : Type 0} (g : Gatherings L) (d : Storing) (w : Writing) where
   -- no link had been accepted, and nothing was written
   pub recover-refused : (A : Type 0) (e : RecoverError) → IfSome d.state (λ s. recovering.IsRefused (kept CommitsFollow s.file) e)
-      → IsCounted (disk_failed {A = A} (Err e)) d.faults d.faults_then → IsUnaccepted g → IsUnwritten w → IsRefused g d w e
-  recover-refused A (error.NotJournal at) refused counted unaccepted unwritten = (none-held d.state at refused, unaccepted, unwritten)
-  recover-refused A error.DiskFault refused counted unaccepted unwritten = (counted, unaccepted, unwritten)
-  recover-refused A error.NoMemory refused counted unaccepted unwritten = unwritten
+      → (e ≢ error.DiskFault → d.state_then ≡ d.state) → IsCounted (disk_failed {A = A} (Err e)) d.faults d.faults_then
+      → IsUnaccepted g → IsUnwritten w → IsRefused g d w e
+  recover-refused A (error.NotJournal at) refused untouched counted unaccepted unwritten =
+      (none-held d.state at refused, record { state = untouched (λ is. absurd (cc is)); faults = counted }, unaccepted, unwritten)
+  recover-refused A error.DiskFault refused untouched counted unaccepted unwritten = (counted, unaccepted, unwritten)
+  recover-refused A error.NoMemory refused untouched counted unaccepted unwritten = unwritten
+
+-- ---- the end of the file
+
+-- what was denied is at most what the count rose by, also behind one more call
+later-rise : (first denials : ℕ) (failed : Bool) (old new : ℕ) → IsCounted failed old new → IsAtMostRise first denials old
+    → IsAtMostRise first denials new
+later-rise first denials false old new same most = subst (IsAtMostRise first denials) (sym same) most
+later-rise first denials true old new (inl more) (inl most) = inl (omega (arith, more, most))
+later-rise first denials true old new (inl more) (inr last) = inr (omega (arith, more, last))
+later-rise first denials true old new (inr both) most = subst (IsAtMostRise first denials) (both.0 ∙ sym both.1) most
+
+-- so what came of the links is the same behind it
+pub later-served : {L : Type 0} (told : L → Both) (settings : Settings) (sessions : ℕ) (g : Gatherings L) (found journal : Journal) (tally : Tally)
+    (first before old new after : ℕ) (failed : Bool) → first ≡ before → IsCounted failed old new → new ≡ after
+    → HasServed told settings sessions g found first old tally journal → HasServed told settings sessions g found before after tally journal
+later-served told settings sessions g found journal tally first before old new after failed start counted end served = record {
+  pass = served.pass;
+  low = served.low;
+  high = served.high;
+  set = served.set;
+  served = served.served;
+  knows = served.knows;
+  begins = served.begins;
+  legal = served.legal;
+  others = served.others;
+  denied = subst (λ (n : ℕ). IsAtMostRise n served.pass.denials after) start
+      (subst (IsAtMostRise first served.pass.denials) end (later-rise first served.pass.denials failed old new counted served.denied));
+}
+
+-- a count that rose behind what was denied has risen since
+rose-since : (first denials old new : ℕ) → first ≤ last_count → IsAtMostRise first denials old → Rose old new → Rose first new
+rose-since first denials old new small most rose = elim (cases_lt first new) [
+  | inl less ↦ inl less
+  | inr le ↦ inr (since most rose le)
+]
+  where
+    since : IsAtMostRise first denials old → Rose old new → new ≤ first → (first ≡ last_count) × (new ≡ last_count)
+    since (inl most) (inl more) le = absurd (omega (arith, most, more, le))
+    since (inl most) (inr both) le = (omega (arith, most, both.0, small), both.1)
+    since (inr last) (inl more) le = absurd (omega (arith, last, more, le, small))
+    since (inr last) (inr both) le = (omega (arith, both.1, le, small), both.1)
+
+-- where nothing is doubtful, the file reads as the journal
+none-doubted : (journal : Journal) (keeper : Keeper) (state : Option DiskState) (P : Type 0) → (doubted_by keeper ≡ None) ⊎ P → ¬ P
+    → ReadsAs journal (doubted_by keeper) state → ReadsAs journal None state
+none-doubted journal keeper state P (inl none) never reads = subst (λ doubted. ReadsAs journal doubted state) none reads
+none-doubted journal keeper state P (inr p) never reads = absurd (never p)
+
+module _ (journal : Journal) (before denials : ℕ) (old keeper : Keeper) where
+  -- what is doubtful behind the last mending
+  doubts-by : {A E : Type 0} (mended : Result A E) → OnOk mended (doubted_by keeper ≡ None) → IsCounted (is_err mended) old.faults keeper.faults
+      → before ≤ last_count → IsAtMostRise before denials old.faults → (doubted_by keeper ≡ None) ⊎ Rose before keeper.faults
+  doubts-by (Ok a) none counted small most = inl none
+  doubts-by (Err e) none counted small most = inr (rose-since before denials old.faults keeper.faults small most counted)
+
+  -- a keeper that was mended, and gave its disk back
+  pub holds-journal : {A E : Type 0} (mended : Result A E) (after : ℕ) (state : Option DiskState) → OnOk mended (doubted_by keeper ≡ None)
+      → IsCounted (is_err mended) old.faults keeper.faults → told_by keeper ≡ told_by old → KeepsThese journal old → before ≤ last_count
+      → IsAtMostRise before denials old.faults → keeper.faults ≡ after → keeper.state ≡ state
+      → (KeepsThese journal keeper → ReadsAs journal (doubted_by keeper) state)
+      → (KeepsThese journal keeper → LeavesAs journal (doubted_by keeper) state) → HoldsJournal journal before after state
+  holds-journal mended after state none counted same kept small most end over reads leaves =
+      let keeps : KeepsThese journal keeper = subst (λ told. IfSome told (λ (list : Journal). list ≡ journal)) (sym same) kept in
+      let doubts = subst (λ (n : ℕ). (doubted_by keeper ≡ None) ⊎ Rose before n) end (doubts-by mended none counted small most) in record {
+        keeper = keeper;
+        over = over;
+        keeps = keeps;
+        doubts = doubts;
+        reads = reads keeps;
+        leaves = leaves keeps;
+        exact = λ never. none-doubted journal keeper state (Rose before after) doubts never (reads keeps);
+      }
 
 -- ---- the promises
 
@@ -69,22 +147,20 @@ kept-held None none = tt
 kept-held (Some s) none = λ journal is.
     let no : ◌≡◌ {A = Option Journal} None (Some journal) = sym (ap commits_in none.1) ∙ is in absurd (cc no)
 
--- where it is not, whatever follows
-module _ (Status : Type 0) (d : Storing) (g g_then w w_then : ℕ) where
-  -- a fact holds of each file that is kept as some commits, if no count rose
+module _ (Fact : Type 0) where
+  -- a fact holds of each file that is kept as some commits
   abbrev IfKept : Option DiskState → Type 0
-  IfKept state = IfSome state (λ s. (journal : Journal) → IsKeptAs journal s.file → ¬ (Rose d.faults d.faults_then) → ¬ (Rose g g_then)
-      → ¬ (Rose w w_then) → Status)
+  IfKept state = IfSome state (λ s. (journal : Journal) → IsKeptAs journal s.file → Fact)
 
   -- so it does where there is no such file
   none-kept : (state : Option DiskState) → IfSome state (λ s. (journal : Journal) → IsKeptAs journal s.file → ⊥) → IfKept state
   none-kept None none = tt
-  none-kept (Some s) none = λ journal is disk listener sink. absurd (none journal is)
+  none-kept (Some s) none = λ journal is. absurd (none journal is)
 
   -- and where it holds anyway
-  any-kept : (state : Option DiskState) → (¬ (Rose d.faults d.faults_then) → ¬ (Rose g g_then) → ¬ (Rose w w_then) → Status) → IfKept state
-  any-kept None all = tt
-  any-kept (Some s) all = λ journal is disk listener sink. all disk listener sink
+  any-kept : (state : Option DiskState) → Fact → IfKept state
+  any-kept None fact = tt
+  any-kept (Some s) fact = λ journal is. fact
 
 module _ {L : Type 0} (told : L → Both) (settings : Settings) (sessions : ℕ) (g : Gatherings L) (d : Storing) (w : Writing) where
   -- all sessions ended: the promises, by whether an accept had failed and whether the line was written
@@ -97,8 +173,10 @@ module _ {L : Type 0} (told : L → Both) (settings : Settings) (sessions : ℕ)
     unaccepted = λ among. absurd (cc among);
     disk = λ is. absurd (cc is);
     refused = λ is. absurd (cc is);
+    spared = λ is. absurd (cc is);
     listener = λ is. counted;
-    completes = any-kept _ d g.faults g.faults_then w.faults w.faults_then d.state (λ disk accepted written. absurd (accepted counted));
+    completes = λ disk accepted written. absurd (accepted counted);
+    unrefused = any-kept _ d.state (λ is. absurd (cc is));
   }
   filed-by false true e counted fault = record {
     statuses = refl;
@@ -107,8 +185,10 @@ module _ {L : Type 0} (told : L → Both) (settings : Settings) (sessions : ℕ)
     unaccepted = λ among. absurd (cc among);
     disk = λ is. absurd (cc is);
     refused = λ is. absurd (cc is);
+    spared = λ is. absurd (cc is);
     listener = λ is. absurd (cc is);
-    completes = any-kept _ d g.faults g.faults_then w.faults w.faults_then d.state (λ disk accepted written. inl refl);
+    completes = λ disk accepted written. refl;
+    unrefused = any-kept _ d.state (λ is. absurd (cc is));
   }
   filed-by false false e counted fault = record {
     statuses = refl;
@@ -117,8 +197,10 @@ module _ {L : Type 0} (told : L → Both) (settings : Settings) (sessions : ℕ)
     unaccepted = λ among. absurd (cc among);
     disk = λ is. absurd (cc is);
     refused = λ is. absurd (cc is);
+    spared = λ is. absurd (cc is);
     listener = λ is. absurd (cc is);
-    completes = any-kept _ d g.faults g.faults_then w.faults w.faults_then d.state (λ disk accepted written. absurd (written (fault refl)));
+    completes = λ disk accepted written. absurd (written (fault refl));
+    unrefused = any-kept _ d.state (λ is. absurd (cc is));
   }
 
   -- at the status by which it ended
@@ -130,7 +212,7 @@ module _ {L : Type 0} (told : L → Both) (settings : Settings) (sessions : ℕ)
 
   -- the parts of what came of it all; the disk's count had not risen while the file was recovered
   pub has-filed : (status middle : ℕ) (found journal : Journal) (tally : Tally) → IfSome d.state (λ s. IsKeptAs found s.file) → middle ≡ d.faults
-      → HasServed told settings sessions g found middle d.faults_then tally journal → HoldsJournal journal d.state_then → IsSaid tally journal status w
+      → HasServed told settings sessions g found middle d.faults_then tally journal → HoldsJournal journal middle d.faults_then d.state_then → IsSaid tally journal status w
       → IsFiled told settings sessions g d status w
   has-filed status middle found journal tally recovered count served holds said = record {
     kept = found;
@@ -141,7 +223,7 @@ module _ {L : Type 0} (told : L → Both) (settings : Settings) (sessions : ℕ)
       served = subst (λ (n : ℕ). HasServed told settings sessions g found n d.faults_then tally journal) count served;
       said = said;
     };
-    holds = holds;
+    holds = subst (λ (n : ℕ). HoldsJournal journal n d.faults_then d.state_then) count holds;
   }
 
   -- where the file was not recovered, or memory was wanting
@@ -149,12 +231,14 @@ module _ {L : Type 0} (told : L → Both) (settings : Settings) (sessions : ℕ)
   refused-serves (error.NotJournal at) is = record {
     statuses = refl;
     ended = λ among. absurd (cc among);
-    unwritten = λ among. is.2;
-    unaccepted = λ among. is.1;
+    unwritten = λ among. is.3;
+    unaccepted = λ among. is.2;
     disk = λ no. absurd (cc no);
     refused = λ here. is.0;
+    spared = λ here. is.1;
     listener = λ no. absurd (cc no);
-    completes = none-kept _ d g.faults g.faults_then w.faults w.faults_then d.state (kept-held d.state is.0);
+    completes = λ disk accepted written. refl;
+    unrefused = none-kept _ d.state (kept-held d.state is.0);
   }
   refused-serves error.DiskFault is = record {
     statuses = refl;
@@ -163,8 +247,10 @@ module _ {L : Type 0} (told : L → Both) (settings : Settings) (sessions : ℕ)
     unaccepted = λ among. is.1;
     disk = λ here. is.0;
     refused = λ no. absurd (cc no);
+    spared = λ no. absurd (cc no);
     listener = λ no. absurd (cc no);
-    completes = any-kept _ d g.faults g.faults_then w.faults w.faults_then d.state (λ disk accepted written. absurd (disk is.0));
+    completes = λ disk accepted written. absurd (disk is.0);
+    unrefused = any-kept _ d.state (λ no. absurd (cc no));
   }
   refused-serves error.NoMemory is = record {
     statuses = refl;
@@ -173,6 +259,8 @@ module _ {L : Type 0} (told : L → Both) (settings : Settings) (sessions : ℕ)
     unaccepted = λ among. absurd (cc among);
     disk = λ no. absurd (cc no);
     refused = λ no. absurd (cc no);
+    spared = λ no. absurd (cc no);
     listener = λ no. absurd (cc no);
-    completes = any-kept _ d g.faults g.faults_then w.faults w.faults_then d.state (λ disk accepted written. inr refl);
+    completes = λ disk accepted written. refl;
+    unrefused = any-kept _ d.state (λ no. absurd (cc no));
   }

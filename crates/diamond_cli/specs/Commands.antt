@@ -1,5 +1,5 @@
 -- What the commands promise.
-use Rattle.std.specs.Prelude.{◌≡◌, ℕ, List, [], ◌∷◌, refl}
+use Rattle.std.specs.Prelude.{◌≡◌, ℕ, List, [], ◌∷◌, Option, refl}
 use denote.Bor.{Bor}
 use Rattle.dio_core.specs.declared.sink.Sink.{Ghosts as SinkTells}
 use Rattle.dio_core.specs.declared.source.Source.{Ghosts as SourceTells}
@@ -8,11 +8,12 @@ use Rattle.rdt_types.specs.declared.settings.Settings.{Settings}
 use Rattle.cli_words.specs.Forms.{Word}
 use Rattle.script_runner.specs.Script.{Reading, Writing, KeepsPromises}
 use Rattle.diamond_cli.specs.declared.top.TheConstants.{BAD_WORDS}
-use Rattle.diamond_cli.specs.Words.{AsksRunWith, AsksServeWith, AsksServeFileWith}
+use Rattle.diamond_cli.specs.Words.{AsksRunWith, AsksServeWith, AsksServeFileWith, AsksAuditWith}
 use Rattle.diamond_server.specs.Accounts.{Gatherings}
 use Rattle.diamond_server.specs.Promises.{sides}
 use Rattle.diamond_cli.specs.Serving.{ServesLinks}
 use Rattle.diamond_cli.specs.Filed.{Storing, ServesFile}
+use Rattle.diamond_cli.specs.Audited.{Audits}
 
 BAD_WORDS-is : BAD_WORDS ≡ 1
 BAD_WORDS-is = refl
@@ -46,3 +47,10 @@ pub record Files {L : Type 0} (words : List (Bor Word)) (source : SourceTells L)
   pub path : Word
   pub asked : AsksServeFileWith words settings address sessions path
   pub promises : ServesFile (sides source sink) settings sessions g d status w
+
+-- `audit` keeps its promises of the file of a disk, at the path that the words say, and of the number of commits that they ask for.
+pub record AuditsFile (words : List (Bor Word)) (d : Storing) (status : ℕ) (w : Writing) : Type 0 where
+  pub path : Word
+  pub at : Option ℕ
+  pub asked : AsksAuditWith words path at
+  pub promises : Audits at d status w

@@ -1,5 +1,5 @@
 -- What the words of a command ask for. Their forms are those of cli_words.
-use Rattle.std.specs.Prelude.{ℕ, List, [], ◌∷◌, Some, None, codes, refl}
+use Rattle.std.specs.Prelude.{ℕ, List, [], ◌∷◌, Option, Some, None, codes, refl}
 use denote.Bor.{Bor}
 use Rattle.rdt_types.specs.declared.settings.Settings.{Settings}
 use Rattle.cli_words.specs.declared.name.CommandName.TheVariants as command
@@ -31,9 +31,17 @@ abbrev pub AsksServeFile : List (Bor Word) → Type 0
 AsksServeFile words =
     (settings : Settings) × (address : Word) × (sessions : ℕ) × (path : Word) × AsksServeFileWith words settings address sessions path
 
+-- they ask to audit the journal in the file at a path, and for the state after so many commits, if after any
+abbrev pub AsksAuditWith : List (Bor Word) → Word → Option ℕ → Type 0
+AsksAuditWith words path at = Spells (texts words) (plan.Audit path at)
+
+-- they ask to audit a journal
+abbrev pub AsksAudit : List (Bor Word) → Type 0
+AsksAudit words = (path : Word) × (at : Option ℕ) × AsksAuditWith words path at
+
 -- they ask for nothing
 abbrev pub AsksNothing : List (Bor Word) → Type 0
-AsksNothing words = (AsksRun words → ⊥) × (AsksServe words → ⊥) × (AsksServeFile words → ⊥)
+AsksNothing words = (AsksRun words → ⊥) × (AsksServe words → ⊥) × (AsksServeFile words → ⊥) × (AsksAudit words → ⊥)
 
 -- `run` alone asks for a run, over a store with the standard settings
 run-spells : (settings : Settings) → HasSettings nothing_given settings → Spells (codes "run" ∷ []) (plan.Run settings)

@@ -55,16 +55,20 @@ fn serve_recovered<D: Disk + Send, Li: Listener, R: Threads + Wait + Sync>(
     ensures served { IfOk result (λ filed. HasServed (sides Li.Link.Source Li.Link.Sink) settings.now sessions
         (gatherings Li.Listener listener.old listener.new) recovered.commits (D.disk_faults disk.old) (D.disk_faults disk.new)
         filed.tally filed.commits) }
-    ensures reads { IfOk result (λ filed. HoldsJournal filed.commits (D.state disk.new)) }
+    ensures holds { IfOk result (λ filed. HoldsJournal filed.commits (D.disk_faults disk.old) (D.disk_faults disk.new)
+        (D.state disk.new)) }
 {
+    let _count = disk.disk_faults();
     let Recovered { commits, end } = recovered;
     let keeper = CommitKeeper::new(disk, end);
     let served = serve_kept(rt, alloc, settings, keeper, commits, listener, sessions)?;
     let Served {
         tally,
-        keeper,
+        mut keeper,
         commits,
     } = served;
+    // Where this fails, a commit that was denied stays doubtful.
+    let _mended = keeper.mend();
     let _disk = keeper.release();
     Ok(Filed { tally, commits })
 }
@@ -91,7 +95,7 @@ fn serve_links<W: Sink, D: Disk + Send, Li: Listener, R: Threads + Wait + Sync>(
 }
 
 /// The status by which it is said that a file was not recovered.
-fn status_of(error: RecoverError) -> u8
+pub(crate) fn status_of(error: RecoverError) -> u8
     ensures { result ≡ refusal error }
 {
     match error {

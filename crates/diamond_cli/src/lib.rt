@@ -6,12 +6,14 @@
 //! `script_runner`, and `Journals` of `txn_lang`.
 #![tactic(auto)]
 
+mod audited;
 mod file;
 mod line;
 mod serve;
 mod sessions;
 mod top;
 
+pub use audited::BROKEN;
 pub use file::{DISK_FAULT, NOT_JOURNAL};
 pub use line::LISTENER_FAULT;
 pub use script_runner::{NO_MEMORY, WRITE_FAULT};

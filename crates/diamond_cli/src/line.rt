@@ -31,7 +31,7 @@ fn line_of(alloc: Global, tally: Tally, commits: &CommitList) -> Result<Text, Al
 }
 
 /// Writes a line and passes it on. `false` is a fault of the sink.
-fn tell<W: Sink>(sink: &mut W, line: &[u8]) -> bool
+pub(crate) fn tell<W: Sink>(sink: &mut W, line: &[u8]) -> bool
     ensures { IsTried line.now result (writing W.Sink sink.old sink.new) }
 {
     write_all(sink, line) && sink.flush()

@@ -5,10 +5,11 @@ ghost use Rattle.dio_core.specs.Disks.{NothingPending};
 ghost use Rattle.script_runner.specs.Script.{reading, writing};
 ghost use Rattle.script_runner.specs.declared.status.TheConstants.{NO_MEMORY};
 ghost use Rattle.diamond_server.specs.Accounts.{gatherings};
-ghost use Rattle.diamond_cli.specs.Words.{AsksRun, AsksServe, AsksServeFile, AsksNothing};
+ghost use Rattle.diamond_cli.specs.Words.{AsksRun, AsksServe, AsksServeFile, AsksAudit, AsksNothing};
 ghost use Rattle.diamond_cli.specs.Filed.{storing};
-ghost use Rattle.diamond_cli.specs.Commands.{RunsScript, Serves, Files};
+ghost use Rattle.diamond_cli.specs.Commands.{RunsScript, Serves, Files, AuditsFile};
 
+use crate::audited::audit_file;
 use crate::file::serve_file;
 use crate::serve::serve;
 use cli_words::{Plan, WordsError, read_words};
@@ -35,6 +36,11 @@ pub const BAD_WORDS: u8 = 1;
 /// there; the path is the disk's affair. The statuses are 0 where all sessions ended and the line was written, 4 where that
 /// failed, 5 for want of memory, 6 where the disk failed while its file was recovered, 7 where that is none of a journal,
 /// and 8 where an accept failed.
+///
+/// `audit` reads the disk's file, checks that each of its commits is what its body does on the state that the commits before it
+/// leave, and writes to the sink what came of it. It writes nothing to the disk, and uses neither source nor listener; the path is
+/// the disk's affair. The statuses are 0 where the journal is legal, 4 where a write or the flush failed, 5 for want of memory, 6
+/// where the disk failed, 7 where its file is none of a journal, and 11 where a commit isn't what its body does.
 pub fn diamond<R: Threads + Wait + Sync, S: Source, W: Sink, D: Disk + Send, N: Listener>(
     rt: &R,
     alloc: Global,
@@ -65,6 +71,13 @@ pub fn diamond<R: Threads + Wait + Sync, S: Source, W: Sink, D: Disk + Send, N: 
     ensures files { AsksServeFile words.now → Files words.now N.Link.Source N.Link.Sink (gatherings N.Listener listener.old listener.new)
         (storing D.Disk disk.old disk.new) result (writing W.Sink sink.old sink.new) }
     ensures unused_by_files { AsksServeFile words.now → source.new ≡ source.old }
+
+    // `audit` keeps what it promises of the journal in the disk's file. It doesn't use the source or the listener, and no call of
+    // it changes the disk.
+    ensures audit { AsksAudit words.now → AuditsFile words.now (storing D.Disk disk.old disk.new) result
+        (writing W.Sink sink.old sink.new) }
+    ensures unused_by_audit { AsksAudit words.now → (source.new ≡ source.old) × (listener.new ≡ listener.old) }
+    ensures spared_by_audit { AsksAudit words.now → (D.state disk.new ≡ D.state disk.old) × (D.past disk.new ≡ D.past disk.old) }
 {
     match read_words(alloc, words) {
         Ok(Plan::Run(settings)) => run_script(alloc, &settings, source, sink),
@@ -79,6 +92,7 @@ pub fn diamond<R: Threads + Wait + Sync, S: Source, W: Sink, D: Disk + Send, N: 
             None => serve(rt, alloc, &settings, sessions, sink, listener),
             Some(_) => serve_file(rt, alloc, &settings, sessions, sink, disk, listener),
         },
+        Ok(Plan::Audit { at, .. }) => audit_file(alloc, at, sink, disk),
         Err(WordsError::BadWords(_)) => BAD_WORDS,
         Err(WordsError::NoMemory) => NO_MEMORY,
     }

@@ -1,11 +1,18 @@
 //! The commits of payloads, taken one behind another.
 
-ghost use Rattle.std.specs.Prelude.{◌≡◌, ◌+◌, ◌++◌, ◌∷◌, [], ℕ, length, map, nat_eq, if◌then◌else◌, OnOk, IfOk, Some, Ok, Err};
+ghost use Rattle.std.specs.Prelude.{◌≡◌, ◌+◌, ◌<◌, ◌++◌, ◌∷◌, [], ℕ, All, length, map, nat_eq, if◌then◌else◌, OnOk, IfOk, Some, Ok, Err};
+ghost use Rattle.std.specs.List.{AllByRecursion};
+ghost use Rattle.std.specs.List.Sorted.{IsStrictlySortedBy};
+ghost use Rattle.std.specs.Map.{keys_of};
+ghost use Rattle.rdt_types.specs.Addresses.{address_cmp};
 ghost use Rattle.commit_file.specs.declared.version.Version.TheVariants.{Two as version_two};
-ghost use Rattle.txn_lang.specs.Journals.{own};
+ghost use Rattle.txn_lang.specs.Journals.{own, IsLegal};
+ghost use Rattle.journal_core.specs.declared.limits.TheConstants.{FIRST_UNTOLD_CLIENT};
+ghost use Rattle.journal_core.specs.Kinds.{HasKinds};
+ghost use Rattle.journal_core.specs.Pairs.{AreNumbered};
 ghost use Rattle.record_code.specs.declared.decode_error.DecodeError.TheVariants.{BadRecord};
 ghost use Rattle.record_code.specs.Payloads.{payload, decoded, IsRecorded};
-ghost use Rattle.journal_file.specs.Chains.{AreContinued, Continues};
+ghost use Rattle.journal_file.specs.Chains.{Continues};
 ghost use Rattle.journal_file.specs.Commits.{commits_of, is_next};
 
 use commit_file::{Chain, Version};
@@ -68,10 +75,15 @@ impl CommitChain {
         }
     }
 
-    /// The commits.
+    /// The commits, and what is known of them.
     pub(crate) fn into_commits(self) -> CommitList
         ensures commits { result ≡ self }
-        ensures continued { AreContinued result }
+        ensures read { commits_of (map payload result) ≡ Some result }
+        ensures legal { IsLegal (length result) result }
+        ensures numbered { AreNumbered result }
+        ensures kinds { HasKinds result }
+        ensures rising { AllByRecursion (λ commit. IsStrictlySortedBy address_cmp (keys_of commit.deltas)) result }
+        ensures clients { All (λ commit. commit.client < FIRST_UNTOLD_CLIENT) result }
     {
         let CommitChain { commits, .. } = self;
         commits

@@ -87,6 +87,7 @@ impl<'a, D: Disk> CommitKeeper<'a, D> {
     /// Gives the disk back.
     pub fn release(self) -> &'a mut D
         ensures same_reference { result.ghost_name ≡ self.entry.home }
+        ensures state { D.state result.now ≡ self.entry.state }
         ensures reads { (journal : Journal) → KeepsThese journal self.entry
             → ReadsAs journal (doubted_by self.entry) (D.state result.now) }
         ensures leaves { (journal : Journal) → KeepsThese journal self.entry
@@ -131,6 +132,8 @@ impl<'a, D: Disk> Keep for CommitKeeper<'a, D> {
             → IfSome self.old.state (λ s. KeepsSafe journal commit self.old self.new) }
         ensures counted { IsCounted (is_err result) self.old.faults self.new.faults }
         ensures home { self.new.home ≡ self.old.home }
+
+        // As the trait asks of a keeper that may fail: this one may, and `counted` says when.
         ensures may_fail { OnErr result (true ≡ true) }
     {
         match self.file.keep(bytes.as_slice()) {

@@ -1,6 +1,6 @@
 //! The commits that a file is kept as.
 
-ghost use Rattle.std.specs.Prelude.{◌≡◌, ◌+◌, ◌<◌, ◌^◌, All, length, IfOk, IfErr, IfSome};
+ghost use Rattle.std.specs.Prelude.{◌≡◌, ◌≢◌, ◌+◌, ◌<◌, ◌^◌, All, length, IfOk, IfErr, IfSome};
 ghost use Rattle.std.specs.List.{AllByRecursion};
 ghost use Rattle.std.specs.List.Sorted.{IsStrictlySortedBy};
 ghost use Rattle.std.specs.Map.{keys_of};
@@ -8,6 +8,7 @@ ghost use Rattle.dio_core.specs.Counts.{IsCounted};
 ghost use Rattle.dio_core.specs.Disks.{NothingPending};
 ghost use Rattle.dio_core.specs.Moments.{AtAnyMoment};
 ghost use Rattle.rdt_types.specs.Addresses.{address_cmp};
+ghost use Rattle.commit_file.specs.declared.recover_error.RecoverError.TheVariants as error;
 ghost use Rattle.commit_file.specs.Kept.{kept, KeptAlike};
 ghost use Rattle.commit_file.specs.Recovering.{IsRefused, disk_failed};
 ghost use Rattle.txn_lang.specs.Journals.{IsLegal};
@@ -72,6 +73,10 @@ pub fn recover<D: Disk>(alloc: Global, disk: &mut D) -> Result<Recovered, Recove
     // A keeper goes on there.
     ensures holds { IfOk result (λ r. IfSome (D.state disk.new) (Holds r.commits r.end)) }
     ensures room { IfOk result (λ r. r.end + 1 < 2 ^ 64) }
+
+    // Unless the disk failed, a file that isn't recovered was not touched.
+    ensures untouched { IfErr result (λ e. e ≢ error.DiskFault → D.state disk.new ≡ D.state disk.old) }
+    ensures no_moment { IfErr result (λ e. e ≢ error.DiskFault → D.past disk.new ≡ D.past disk.old) }
 
     // A crash at any moment leaves a file that is kept as this one.
     ensures any_moment { IfSome (D.state disk.old) (λ s.

@@ -45,6 +45,14 @@ fn push_plan(out: &mut Text, plan: &Plan) -> Result<(), AllocError> {
             push_file(out, file)?;
             push_settings(out, settings)
         }
+        Plan::Audit { file, at } => {
+            out.extend_from_slice(b"audit --file ")?;
+            out.extend_from_slice(file.as_slice())?;
+            match at {
+                Some(number) => push_option(out, b" --at ", *number),
+                None => Ok(()),
+            }
+        }
     }
 }
 

@@ -9,7 +9,6 @@ ghost use Rattle.predictive_parsing.specs.Reads.{Reads};
 use plain_data::OrNoMemory;
 use predictive_parsing::{Cursor, Reading, Refused, Spelled, prefix_len, read_many};
 use std::alloc::Global;
-use std::test::Fail;
 
 fn digit(byte: u8) -> Option<u8>
     ensures { result ≡ spec.digit byte }
@@ -41,12 +40,11 @@ impl Reading<u8, u8> for Others {
 }
 
 #[test]
-fn many_are_read(rt: HostRuntime) -> Result<(), Fail> {
+fn many_are_read(rt: HostRuntime) {
     let mut cursor = Cursor::new(b",1,2;".as_slice());
-    let found = read_many(rt.alloc(), &Others, &mut cursor)?;
-    assert!(rt; found.as_slice() == [1, 2].as_slice());
-    assert_eq!(rt; cursor.len(), 1);
-    Ok(())
+    let found = read_many(rt.alloc(), &Others, &mut cursor);
+    assert!(rt; matches!(&found, Ok(found) if found.as_slice() == [1, 2].as_slice()));
+    assert!(rt; cursor.len() == 1);
 }
 
 #[test]
@@ -58,22 +56,21 @@ fn what_begins_and_does_not_fit_is_refused(rt: HostRuntime) {
 }
 
 #[test]
-fn words_and_runs(rt: HostRuntime) -> Result<(), Fail> {
+fn words_and_runs(rt: HostRuntime) {
     let mut cursor = Cursor::new(b"on 12a".as_slice());
-    cursor.word(b"on ")?;
+    assert!(rt; cursor.word(b"on ").is_ok());
     assert!(rt; cursor.sees(|byte| byte.is_ascii_digit()));
     assert!(rt; cursor.run(|byte| byte.is_ascii_digit()) == b"12".as_slice());
     assert!(rt; cursor.peek() == Some(&b'a'));
     cursor.skip();
     assert!(rt; cursor.peek().is_none());
-    assert_eq!(rt; cursor.byte(b'a'), Err(OrNoMemory::Cause(Refused)));
-    Ok(())
+    assert!(rt; cursor.byte(b'a') == Err(OrNoMemory::Cause(Refused)));
 }
 
 #[test]
 fn prefixes(rt: HostRuntime) {
-    assert_eq!(rt; prefix_len(&[1, 2, 9, 3], |item| *item < 5), 2);
-    assert_eq!(rt; prefix_len(&[1, 2], |item| *item < 5), 2);
+    assert!(rt; prefix_len(&[1, 2, 9, 3], |item| *item < 5) == 2);
+    assert!(rt; prefix_len(&[1, 2], |item| *item < 5) == 2);
 }
 
 /// One of two words that begin alike: `see` where it is true, and else `set`.
@@ -97,10 +94,7 @@ impl Spelled for Alike {
 #[test]
 fn one_of_two_words(rt: HostRuntime) {
     let mut cursor = Cursor::new(b"setting".as_slice());
-    assert_eq!(rt;
-        cursor.one_of(Alike(true), &[Alike(false)]),
-        Ok(Alike(false))
-    );
+    assert!(rt; cursor.one_of(Alike(true), &[Alike(false)]) == Ok(Alike(false)));
     assert!(rt; cursor.run_up_to(2, |byte| *byte == b't') == b"t".as_slice());
     assert!(rt; cursor.run_up_to(2, |byte| *byte != b't') == b"in".as_slice());
     assert!(rt; cursor.as_slice() == b"g".as_slice());

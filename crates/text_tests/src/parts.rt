@@ -8,7 +8,6 @@ use plain_data::Text;
 use predictive_parsing::Cursor;
 use rdt_types::{Kind, WriteOp};
 use std::alloc::{AllocError, Global};
-use std::test::Fail;
 
 /// No text here has as many bytes as this.
 const SHORT: usize = 100;
@@ -41,24 +40,50 @@ fn as_printed(alloc: Global, byte: u8) -> Result<Text, AllocError> {
 /// Whether a spelling is that of a text of this one byte.
 fn is_read_as(alloc: Global, spelling: &Text, byte: u8) -> bool {
     let bytes = spelling.as_slice();
-    bytes.len() <= SHORT
-        && read_text(alloc, bytes).is_ok_and(|text| text.as_slice() == [byte].as_slice())
+    if bytes.len() > SHORT {
+        return false;
+    }
+    match read_text(alloc, bytes) {
+        Ok(text) => text.as_slice() == [byte].as_slice(),
+        Err(_) => false,
+    }
+}
+
+/// A text of one byte, printed.
+fn printed(alloc: Global, byte: u8) -> Result<Text, AllocError> {
+    print_text(alloc, &Text::from_slice(alloc, &[byte])?)
+}
+
+/// Whether a byte is printed so, and read from that as from its two digits.
+fn is_spelled(
+    alloc: Global,
+    byte: u8,
+    printed: &Result<Text, AllocError>,
+    wanted: &Result<Text, AllocError>,
+    digits: &Result<Text, AllocError>,
+) -> bool {
+    match (printed, wanted, digits) {
+        (Ok(printed), Ok(wanted), Ok(digits)) => {
+            printed.as_slice() == wanted.as_slice()
+                && is_read_as(alloc, printed, byte)
+                && is_read_as(alloc, digits, byte)
+        }
+        _ => false,
+    }
 }
 
 #[test]
-fn every_byte_is_printed_and_read(rt: HostRuntime) -> Result<(), Fail> {
+fn every_byte_is_printed_and_read(rt: HostRuntime) {
     let alloc = rt.alloc();
     for byte in 0..=255u8 {
-        let printed = print_text(alloc, &Text::from_slice(alloc, &[byte])?)?;
-        let wanted = as_printed(alloc, byte)?;
-        assert!(rt; printed.as_slice() == wanted.as_slice(), "byte {byte}");
-        assert!(rt; is_read_as(alloc, &printed, byte), "byte {byte}");
+        let printed = printed(alloc, byte);
+        let wanted = as_printed(alloc, byte);
+        let digits = by_digits(alloc, byte);
         assert!(rt;
-            is_read_as(alloc, &by_digits(alloc, byte)?, byte),
+            is_spelled(alloc, byte, &printed, &wanted, &digits),
             "byte {byte}"
         );
     }
-    Ok(())
 }
 
 /// The kind of the part that some bytes are.
@@ -102,7 +127,7 @@ fn removed_item(alloc: Global) -> Result<WriteOp, AllocError> {
 /// Whether a part is printed so.
 fn prints(alloc: Global, part: &Result<WriteOp, AllocError>, wanted: &[u8]) -> bool {
     match part {
-        Ok(part) => print_part(alloc, part).is_ok_and(|printed| printed.as_slice() == wanted),
+        Ok(part) => matches!(&print_part(alloc, part), Ok(found) if found.as_slice() == wanted),
         Err(_) => false,
     }
 }

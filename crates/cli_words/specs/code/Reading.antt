@@ -6,7 +6,7 @@ use Rattle.std.specs.List.{find, position_or_len, before_first, after_first}
 use Rattle.std.specs.Str.{bytes_eq, all_ascii_digits}
 use Rattle.std.specs.Str.Parse.{digits_value}
 use Rattle.rdt_types.specs.declared.limits.TheConstants.{LEAST_SHARDS, MOST_SHARDS, LEAST_WINDOW, MOST_WINDOW, LEAST_COMMITS, MOST_COMMITS}
-use Rattle.cli_words.specs.declared.limits.TheConstants.{LEAST_SESSIONS, MOST_SESSIONS}
+use Rattle.cli_words.specs.declared.limits.TheConstants.{LEAST_SESSIONS, MOST_SESSIONS, MOST_AT}
 use Rattle.cli_words.specs.declared.name.CommandName.{CommandName}
 use Rattle.cli_words.specs.declared.name.CommandName.TheVariants as command
 use Rattle.cli_words.specs.declared.name.OptionName.{OptionName}
@@ -29,11 +29,20 @@ command_named word = find (λ c. bytes_eq (command_word c) word) COMMANDS
 abbrev pub option_named : Word → Option OptionName
 option_named word = find (λ o. bytes_eq (option_word o) word) OPTIONS
 
+-- one of a store's settings
+abbrev pub is_setting : OptionName → Bool
+is_setting option.Shards = true
+is_setting option.Window = true
+is_setting option.Limit = true
+is_setting o = false
+
 abbrev pub takes : CommandName → OptionName → Bool
-takes command.Run option.Sessions = false
-takes command.Run option.Address = false
-takes command.Run option.File = false
-takes c o = true
+takes command.Run o = is_setting o
+takes command.Serve option.At = false
+takes command.Serve o = true
+takes command.Audit option.File = true
+takes command.Audit option.At = true
+takes command.Audit o = false
 
 -- ---- numbers
 
@@ -48,7 +57,7 @@ abbrev pub is_plain : Word → Bool
 is_plain word = not (is_led word) && nat_lt 0 (length word) && all_ascii_digits word
 
 abbrev pub small_number : Word → Option ℕ
-small_number word = if is_plain word && nat_lt (digits_value 10 word) (2 ^ 32) then Some (digits_value 10 word) else None
+small_number word = if is_plain word && nat_lt (digits_value 10 word) (2 ^ 64) then Some (digits_value 10 word) else None
 
 abbrev pub if_within : ℕ → ℕ → Option ℕ → Option ℕ
 if_within least most None = None
@@ -66,6 +75,7 @@ is_given option.Limit given = is_some given.limit
 is_given option.Sessions given = is_some given.sessions
 is_given option.Address given = is_some given.address
 is_given option.File given = is_some given.file
+is_given option.At given = is_some given.at
 
 -- a number is put in its place, or is none within the limits
 abbrev pub put_number : ℕ → ℕ → (ℕ → Given) → Option ℕ → Result Given Why
@@ -92,6 +102,7 @@ with_value option.Sessions word given =
     put_number LEAST_SESSIONS MOST_SESSIONS (λ n. record given { sessions = Some n }) (number_within LEAST_SESSIONS MOST_SESSIONS word)
 with_value option.Address word given = put_place why.NotAnAddress (record given { address = Some word }) (is_place word)
 with_value option.File word given = put_place why.NotAPath (record given { file = Some word }) (is_place word)
+with_value option.At word given = put_number 0 MOST_AT (λ n. record given { at = Some n }) (number_within 0 MOST_AT word)
 
 -- ---- words
 
@@ -151,6 +162,7 @@ missing_of reading.Start = Some missing.Command
 missing_of (reading.Waiting c given o) = Some (missing.Value o)
 missing_of (reading.Ready command.Run given) = None
 missing_of (reading.Ready command.Serve given) = if is_some given.address then None else Some (missing.Option option.Address)
+missing_of (reading.Ready command.Audit given) = if is_some given.file then None else Some (missing.Option option.File)
 
 -- ---- worked lines
 

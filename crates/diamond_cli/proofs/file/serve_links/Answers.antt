@@ -25,7 +25,7 @@ returns-in_err-recovered-clause-refused g c =
     let failed = c.in_err-recovered.ensures in
     rw (p.1, p.2)
     (recover-refused (gatherings g.Li.Listener here here) (storing g.D.Disk c.args.disk.now c.recover.new.disk) (writing g.W.Sink out out) Recovered
-    c.in_err-recovered.field-0.0 failed.refused failed.counted (record { links = refl; given = refl; faults = refl }) (refl, refl))
+    c.in_err-recovered.field-0.0 failed.refused failed.untouched failed.counted (record { links = refl; given = refl; faults = refl }) (refl, refl))
 
 -- memory was wanting for the sessions
 pub returns-in_err-filed-clause-refused : goal.returns-in_err-filed-clause-refused
@@ -42,4 +42,4 @@ returns-in_err-say-clause-refused g c =
 pub returns-clause-filed : goal.returns-clause-filed
 returns-clause-filed g c =
     has-filed _ _ _ _ _ _ _ _ _ _ _ c.in_ok-recovered.ensures.kept c.in_ok-recovered.ensures.counted c.in_ok-filed.ensures.served
-    c.in_ok-filed.ensures.reads c.in_ok-say.ensures.said
+    c.in_ok-filed.ensures.holds c.in_ok-say.ensures.said

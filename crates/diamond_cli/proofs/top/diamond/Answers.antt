@@ -3,6 +3,8 @@ use Rattle.std.specs.Prelude.{None, Some}
 use Rattle.cli_words.specs.Forms.{texts}
 use Rattle.script_runner.proofs.Promises.{unstarted}
 use Rattle.diamond_cli.proofs.Asked.{plan-asks, runs-something, serves-something, files-something, with-file, refused-no-plan, serve-no-run, memory-no-file}
+use Rattle.diamond_cli.proofs.Asked.{audits-something, audit-no-run, audit-no-serve}
+use Rattle.diamond_cli.proofs.Auditing.{no-memory, audits-unread}
 use Rattle.diamond_cli.proofs.Recovered.{refused-serves}
 use Rattle.diamond_cli.proofs.Served.{unended-serves}
 use Rattle.commit_file.specs.declared.recover_error.RecoverError.TheVariants as error
@@ -38,6 +40,15 @@ returns-in-Ok-Run-clause-files g c = λ asks. absurd (serve-no-run (texts c.args
 pub returns-in-Ok-Run-clause-unused_by_files : goal.returns-in-Ok-Run-clause-unused_by_files
 returns-in-Ok-Run-clause-unused_by_files g c = λ asks. absurd (serve-no-run (texts c.args.words.now) asks.0 c.in-Ok-Run.settings asks.1 asks.2 (Some asks.3) asks.4 (plan-asks (texts c.args.words.now) _ _ c.in-Ok-Run.ensures.plan c.in-Ok-Run.field-0-is))
 
+pub returns-in-Ok-Run-clause-audit : goal.returns-in-Ok-Run-clause-audit
+returns-in-Ok-Run-clause-audit g c = λ asks. absurd (audit-no-run (texts c.args.words.now) _ _ _ asks.2 (plan-asks (texts c.args.words.now) _ _ c.in-Ok-Run.ensures.plan c.in-Ok-Run.field-0-is))
+
+pub returns-in-Ok-Run-clause-unused_by_audit : goal.returns-in-Ok-Run-clause-unused_by_audit
+returns-in-Ok-Run-clause-unused_by_audit g c = λ asks. absurd (audit-no-run (texts c.args.words.now) _ _ _ asks.2 (plan-asks (texts c.args.words.now) _ _ c.in-Ok-Run.ensures.plan c.in-Ok-Run.field-0-is))
+
+pub returns-in-Ok-Run-clause-spared_by_audit : goal.returns-in-Ok-Run-clause-spared_by_audit
+returns-in-Ok-Run-clause-spared_by_audit g c = λ asks. absurd (audit-no-run (texts c.args.words.now) _ _ _ asks.2 (plan-asks (texts c.args.words.now) _ _ c.in-Ok-Run.ensures.plan c.in-Ok-Run.field-0-is))
+
 -- ---- serving in memory
 
 pub returns-in-None-clause-other : goal.returns-in-None-clause-other
@@ -69,6 +80,15 @@ returns-in-None-clause-files g c = λ asks. absurd (memory-no-file (texts c.args
 
 pub returns-in-None-clause-unused_by_files : goal.returns-in-None-clause-unused_by_files
 returns-in-None-clause-unused_by_files g c = λ asks. absurd (memory-no-file (texts c.args.words.now) _ asks.0 _ asks.1 _ asks.2 asks.3 (plan-asks (texts c.args.words.now) _ _ c.in-Ok-Serve.ensures.plan (with-file _ _ _ _ _ None c.in-Ok-Serve.field-0-is c.in-None.is)) asks.4)
+
+pub returns-in-None-clause-audit : goal.returns-in-None-clause-audit
+returns-in-None-clause-audit g c = λ asks. absurd (audit-no-serve (texts c.args.words.now) _ _ _ _ _ None asks.2 (plan-asks (texts c.args.words.now) _ _ c.in-Ok-Serve.ensures.plan (with-file _ _ _ _ _ None c.in-Ok-Serve.field-0-is c.in-None.is)))
+
+pub returns-in-None-clause-unused_by_audit : goal.returns-in-None-clause-unused_by_audit
+returns-in-None-clause-unused_by_audit g c = λ asks. absurd (audit-no-serve (texts c.args.words.now) _ _ _ _ _ None asks.2 (plan-asks (texts c.args.words.now) _ _ c.in-Ok-Serve.ensures.plan (with-file _ _ _ _ _ None c.in-Ok-Serve.field-0-is c.in-None.is)))
+
+pub returns-in-None-clause-spared_by_audit : goal.returns-in-None-clause-spared_by_audit
+returns-in-None-clause-spared_by_audit g c = λ asks. absurd (audit-no-serve (texts c.args.words.now) _ _ _ _ _ None asks.2 (plan-asks (texts c.args.words.now) _ _ c.in-Ok-Serve.ensures.plan (with-file _ _ _ _ _ None c.in-Ok-Serve.field-0-is c.in-None.is)))
 
 -- ---- serving in a file
 
@@ -103,6 +123,55 @@ returns-in-Ok-Serve-clause-files g c = λ asks. record {
   promises = c.serve_file.ensures;
 }
 
+pub returns-in-Ok-Serve-clause-audit : goal.returns-in-Ok-Serve-clause-audit
+returns-in-Ok-Serve-clause-audit g c = λ asks. absurd (audit-no-serve (texts c.args.words.now) _ _ _ _ _ _ asks.2 (plan-asks (texts c.args.words.now) _ _ c.in-Ok-Serve.ensures.plan (with-file _ _ _ _ _ _ c.in-Ok-Serve.field-0-is c.in-Some.is)))
+
+pub returns-in-Ok-Serve-clause-unused_by_audit : goal.returns-in-Ok-Serve-clause-unused_by_audit
+returns-in-Ok-Serve-clause-unused_by_audit g c = λ asks. absurd (audit-no-serve (texts c.args.words.now) _ _ _ _ _ _ asks.2 (plan-asks (texts c.args.words.now) _ _ c.in-Ok-Serve.ensures.plan (with-file _ _ _ _ _ _ c.in-Ok-Serve.field-0-is c.in-Some.is)))
+
+pub returns-in-Ok-Serve-clause-spared_by_audit : goal.returns-in-Ok-Serve-clause-spared_by_audit
+returns-in-Ok-Serve-clause-spared_by_audit g c = λ asks. absurd (audit-no-serve (texts c.args.words.now) _ _ _ _ _ _ asks.2 (plan-asks (texts c.args.words.now) _ _ c.in-Ok-Serve.ensures.plan (with-file _ _ _ _ _ _ c.in-Ok-Serve.field-0-is c.in-Some.is)))
+
+-- ---- an audit
+
+pub returns-in-Ok-Audit-clause-other : goal.returns-in-Ok-Audit-clause-other
+returns-in-Ok-Audit-clause-other g c = λ no. absurd (audits-something c.args.words.now _ _ _ c.in-Ok-Audit.ensures.plan c.in-Ok-Audit.field-0-is no)
+
+pub returns-in-Ok-Audit-clause-unread : goal.returns-in-Ok-Audit-clause-unread
+returns-in-Ok-Audit-clause-unread g c = λ no. absurd (audits-something c.args.words.now _ _ _ c.in-Ok-Audit.ensures.plan c.in-Ok-Audit.field-0-is no)
+
+pub returns-in-Ok-Audit-clause-unwritten : goal.returns-in-Ok-Audit-clause-unwritten
+returns-in-Ok-Audit-clause-unwritten g c = λ no. absurd (audits-something c.args.words.now _ _ _ c.in-Ok-Audit.ensures.plan c.in-Ok-Audit.field-0-is no)
+
+pub returns-in-Ok-Audit-clause-run : goal.returns-in-Ok-Audit-clause-run
+returns-in-Ok-Audit-clause-run g c = λ asks. absurd (audit-no-run (texts c.args.words.now) _ _ asks.0 (plan-asks (texts c.args.words.now) _ _ c.in-Ok-Audit.ensures.plan c.in-Ok-Audit.field-0-is) asks.1)
+
+pub returns-in-Ok-Audit-clause-unused_by_run : goal.returns-in-Ok-Audit-clause-unused_by_run
+returns-in-Ok-Audit-clause-unused_by_run g c = λ asks. absurd (audit-no-run (texts c.args.words.now) _ _ asks.0 (plan-asks (texts c.args.words.now) _ _ c.in-Ok-Audit.ensures.plan c.in-Ok-Audit.field-0-is) asks.1)
+
+pub returns-in-Ok-Audit-clause-serve : goal.returns-in-Ok-Audit-clause-serve
+returns-in-Ok-Audit-clause-serve g c = λ asks. absurd (audit-no-serve (texts c.args.words.now) _ _ asks.0 asks.1 asks.2 None (plan-asks (texts c.args.words.now) _ _ c.in-Ok-Audit.ensures.plan c.in-Ok-Audit.field-0-is) asks.3)
+
+pub returns-in-Ok-Audit-clause-unused_by_serve : goal.returns-in-Ok-Audit-clause-unused_by_serve
+returns-in-Ok-Audit-clause-unused_by_serve g c = λ asks. absurd (audit-no-serve (texts c.args.words.now) _ _ asks.0 asks.1 asks.2 None (plan-asks (texts c.args.words.now) _ _ c.in-Ok-Audit.ensures.plan c.in-Ok-Audit.field-0-is) asks.3)
+
+pub returns-in-Ok-Audit-clause-files : goal.returns-in-Ok-Audit-clause-files
+returns-in-Ok-Audit-clause-files g c = λ asks. absurd (audit-no-serve (texts c.args.words.now) _ _ asks.0 asks.1 asks.2 (Some asks.3) (plan-asks (texts c.args.words.now) _ _ c.in-Ok-Audit.ensures.plan c.in-Ok-Audit.field-0-is) asks.4)
+
+pub returns-in-Ok-Audit-clause-unused_by_files : goal.returns-in-Ok-Audit-clause-unused_by_files
+returns-in-Ok-Audit-clause-unused_by_files g c = λ asks. absurd (audit-no-serve (texts c.args.words.now) _ _ asks.0 asks.1 asks.2 (Some asks.3) (plan-asks (texts c.args.words.now) _ _ c.in-Ok-Audit.ensures.plan c.in-Ok-Audit.field-0-is) asks.4)
+
+pub returns-in-Ok-Audit-clause-audit : goal.returns-in-Ok-Audit-clause-audit
+returns-in-Ok-Audit-clause-audit g c = λ asks. record {
+  path = c.in-Ok-Audit.field-0-0;
+  at = c.in-Ok-Audit.at;
+  asked = plan-asks (texts c.args.words.now) _ _ c.in-Ok-Audit.ensures.plan c.in-Ok-Audit.field-0-is;
+  promises = c.audit_file.ensures.audits;
+}
+
+pub returns-in-Ok-Audit-clause-spared_by_audit : goal.returns-in-Ok-Audit-clause-spared_by_audit
+returns-in-Ok-Audit-clause-spared_by_audit g c = λ asks. (c.audit_file.ensures.audits.spared, c.audit_file.ensures.past)
+
 -- ---- words of no form
 
 pub returns-in-Err-BadWords-clause-form : goal.returns-in-Err-BadWords-clause-form
@@ -110,6 +179,7 @@ returns-in-Err-BadWords-clause-form g c = λ one. (
   λ asks. refused-no-plan (texts c.args.words.now) _ c.in-Err-BadWords.field-0-0 _ c.in-Err-BadWords.ensures.refused c.in-Err-BadWords.field-0-is asks.1,
   λ asks. refused-no-plan (texts c.args.words.now) _ c.in-Err-BadWords.field-0-0 _ c.in-Err-BadWords.ensures.refused c.in-Err-BadWords.field-0-is asks.3,
   λ asks. refused-no-plan (texts c.args.words.now) _ c.in-Err-BadWords.field-0-0 _ c.in-Err-BadWords.ensures.refused c.in-Err-BadWords.field-0-is asks.4,
+  λ asks. refused-no-plan (texts c.args.words.now) _ c.in-Err-BadWords.field-0-0 _ c.in-Err-BadWords.ensures.refused c.in-Err-BadWords.field-0-is asks.2,
 )
 
 pub returns-in-Err-BadWords-clause-run : goal.returns-in-Err-BadWords-clause-run
@@ -123,6 +193,10 @@ returns-in-Err-BadWords-clause-serve g c = λ asks. absurd
 pub returns-in-Err-BadWords-clause-files : goal.returns-in-Err-BadWords-clause-files
 returns-in-Err-BadWords-clause-files g c = λ asks. absurd
     (refused-no-plan (texts c.args.words.now) _ c.in-Err-BadWords.field-0-0 _ c.in-Err-BadWords.ensures.refused c.in-Err-BadWords.field-0-is asks.4)
+
+pub returns-in-Err-BadWords-clause-audit : goal.returns-in-Err-BadWords-clause-audit
+returns-in-Err-BadWords-clause-audit g c = λ asks. absurd
+    (refused-no-plan (texts c.args.words.now) _ c.in-Err-BadWords.field-0-0 _ c.in-Err-BadWords.ensures.refused c.in-Err-BadWords.field-0-is asks.2)
 
 -- ---- no memory for the words
 
@@ -151,4 +225,12 @@ returns-clause-files g c = λ asks. record {
   path = asks.3;
   asked = asks.4;
   promises = refused-serves _ asks.0 asks.2 _ _ _ error.NoMemory (refl, refl);
+}
+
+pub returns-clause-audit : goal.returns-clause-audit
+returns-clause-audit g c = λ asks. record {
+  path = asks.0;
+  at = asks.1;
+  asked = asks.2;
+  promises = audits-unread _ _ asks.1 error.NoMemory (no-memory _ _ refl (refl, refl));
 }

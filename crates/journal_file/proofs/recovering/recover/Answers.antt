@@ -4,38 +4,20 @@ use Rattle.commit_file.specs.Kept.{KeptAs}
 use Rattle.commit_file.specs.Recovering.{IsAtRest}
 use Rattle.record_code.specs.Payloads.{payload}
 use Rattle.journal_file.specs.Commits.{CommitsFollow}
-use Rattle.journal_file.proofs.Chained.{continued-read}
 use Rattle.journal_file.proofs.Held.{some-kept, at_rest-holds}
-use Rattle.journal_file.proofs.Legal.{continued-legal, continued-numbered, continued-kinds, continued-rising, continued-clients}
 use Rattle.journal_file.proofs.recovering.recover.Goals as goal
 
 pub returns-clause-kept : goal.returns-clause-kept
 returns-clause-kept g c =
     let commits = c.into_commits.result in
-    some-kept (map payload commits) commits (g.D.Disk.state c.args.disk.now) (continued-read commits c.into_commits.ensures.continued)
+    some-kept (map payload commits) commits (g.D.Disk.state c.args.disk.now) c.into_commits.ensures.read
     (subst (λ (j : Journal). IfSome (g.D.Disk.state c.args.disk.now) (λ s. KeptAs CommitsFollow (map payload j) s.file))
     (sym c.into_commits.ensures.commits) c.in_ok-end.ensures.kept)
-
-pub returns-clause-legal : goal.returns-clause-legal
-returns-clause-legal g c = continued-legal c.into_commits.result c.into_commits.ensures.continued
-
-pub returns-clause-numbered : goal.returns-clause-numbered
-returns-clause-numbered g c = continued-numbered c.into_commits.result c.into_commits.ensures.continued
-
-pub returns-clause-kinds : goal.returns-clause-kinds
-returns-clause-kinds g c = continued-kinds c.into_commits.result c.into_commits.ensures.continued
-
-pub returns-clause-rising : goal.returns-clause-rising
-returns-clause-rising g c = continued-rising c.into_commits.result c.into_commits.ensures.continued
-
-pub returns-clause-clients : goal.returns-clause-clients
-returns-clause-clients g c = continued-clients c.into_commits.result c.into_commits.ensures.continued
 
 pub returns-clause-holds : goal.returns-clause-holds
 returns-clause-holds g c =
     let commits = c.into_commits.result in
-    at_rest-holds (map payload commits) commits c.in_ok-end.end (g.D.Disk.state c.recover.new.disk)
-    (continued-read commits c.into_commits.ensures.continued)
+    at_rest-holds (map payload commits) commits c.in_ok-end.end (g.D.Disk.state c.recover.new.disk) c.into_commits.ensures.read
     (subst (λ (j : Journal). IfSome (g.D.Disk.state c.recover.new.disk) (IsAtRest CommitsFollow (map payload j) c.in_ok-end.end))
     (sym c.into_commits.ensures.commits) c.in_ok-end.ensures.at_rest)
     c.in_ok-end.ensures.stands

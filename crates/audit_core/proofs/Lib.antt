@@ -1,0 +1,9 @@
+pub mod Lending
+pub mod Changing
+pub mod Same
+pub mod Verdicts
+pub mod Dumps
+pub mod Reports
+pub mod Taking
+pub mod Trees
+pub mod Finding

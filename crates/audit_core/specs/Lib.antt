@@ -1,0 +1,4 @@
+pub mod Verdicts
+pub mod Dumps
+pub mod Reports
+pub mod code

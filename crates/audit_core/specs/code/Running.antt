@@ -1,0 +1,61 @@
+-- How the code keeps what it knows between two commits, and what it lends to a run.
+use Rattle.std.specs.Prelude.{◌≡◌, ◌≢◌, ℕ, List, length, fold, Option, Some, None, unwrap_or}
+use Rattle.std.specs.Map.{lookup, set_value}
+use Rattle.std.specs.BTreeMap.{is_at}
+use Rattle.std.specs.Ordering.{nat_cmp}
+use Rattle.rdt_types.specs.declared.address.Address.{Address}
+use Rattle.rdt_types.specs.Addresses.{address_cmp}
+use Rattle.rdt_types.specs.Values.{default_of}
+use Rattle.txn_lang.specs.declared.checked.Checked.{Checked}
+use Rattle.txn_lang.specs.declared.commit.Commit.{Commit}
+use Rattle.txn_lang.specs.declared.snaps.Snap.{Snap}
+use Rattle.txn_lang.specs.declared.run.Run.{Run}
+use Rattle.txn_lang.specs.States.{Journal, State, PartialState, left_by}
+use Rattle.txn_lang.specs.Journals.{own}
+use Rattle.txn_lang.specs.Tree.{tree}
+use Rattle.txn_eval.specs.Running.{values_of}
+use Rattle.audit_core.specs.declared.auditing.Auditor.{Auditor}
+use Rattle.audit_core.specs.declared.verdict.Flaw.{Flaw}
+use Rattle.audit_core.specs.declared.verdict.Flaw.TheVariants as flaw
+use Rattle.audit_core.specs.Dumps.{Values, state_of}
+use Rattle.audit_core.specs.Verdicts.{IsRunOf}
+
+-- values, with the default in the place of the one at an address, if there is one
+abbrev pub without_value : Values → Address → Values
+without_value values address = set_value (is_at (address_cmp address)) values (default_of address.kind)
+
+-- values, with those of snaps back in their places
+abbrev pub with_snaps : Values → List (Address × Snap) → Values
+with_snaps values snaps = fold (λ all pair. set_value (is_at (address_cmp pair.0)) all pair.1.value) values snaps
+
+-- Some of a state's values are lent to a run: with these in front, the others are the state; and where nothing is kept, the
+-- state has its default.
+pub record IsLent (m : State) (values : Values) (snaps : List (Address × Snap)) : Type 0 where
+  pub whole : (a : Address) → unwrap_or (values_of snaps a) (state_of values a) ≡ m a
+  pub absent : (a : Address) → lookup (is_at (address_cmp a)) values ≡ None → m a ≡ default_of a.kind
+
+-- how many commits of a client were counted
+abbrev pub counted : List (ℕ × ℕ) → ℕ → ℕ
+counted seqs client = unwrap_or (lookup (is_at (nat_cmp client)) seqs) 0
+
+-- What is kept of the commits so far: the state that they leave, and how many each client has.
+pub record HasTaken (journal : Journal) (auditor : Auditor) : Type 0 where
+  pub state : state_of auditor.state ≡ left_by journal
+  pub counts : (client : ℕ) → counted auditor.seqs.entries client ≡ length (own client journal)
+
+-- what a text is read as: a body that may run, or that it is none
+abbrev pub IsReadOrNone : List ℕ → Option Checked → Type 0
+IsReadOrNone text None = tree text ≡ None
+IsReadOrNone text (Some checked) = tree text ≡ Some checked.body
+
+-- what a text comes to on a state: its run, or that it is no body
+abbrev pub IsRunOrNone : PartialState → List ℕ → Option Run → Type 0
+IsRunOrNone s text None = tree text ≡ None
+IsRunOrNone s text (Some run) = IsRunOf s text run
+
+-- What a commit says otherwise than its body's run: nothing, or another outcome, or other deltas alone.
+abbrev pub Differs : Commit → Run → Option Flaw → Type 0
+Differs commit run None = (commit.outcome ≡ run.outcome) × (commit.deltas ≡ run.deltas)
+Differs commit run (Some flaw.Outcome) = commit.outcome ≢ run.outcome
+Differs commit run (Some flaw.Deltas) = (commit.outcome ≡ run.outcome) × (commit.deltas ≢ run.deltas)
+Differs commit run (Some _) = ⊥
