@@ -1,6 +1,7 @@
 //! The worked table of edges, a key that is given out again, and each call once, with ample memory. A test is a list of moves.
 
 use edge_slab::{EdgeSlab, Walk};
+use std::alloc::Global;
 
 /// What is done with a slab of edges, or seen of it.
 #[derive(Clone, Copy)]
@@ -43,52 +44,69 @@ fn goes(edges: &mut EdgeSlab, done: Move) -> bool {
     }
 }
 
+/// Whether moves go as they say, from no pair on.
+fn all_go(alloc: Global, moves: &[Move]) -> bool {
+    let mut edges = EdgeSlab::new(alloc);
+    for done in moves {
+        if !goes(&mut edges, *done) {
+            return false;
+        }
+    }
+    true
+}
+
+// The lists, so that the proof of a test doesn't go through their rows.
+
+static ONCE: [Move; 14] = [
+    Move::Link(1, 7, true),
+    Move::Link(1, 7, false),
+    Move::Link(2, 7, true),
+    Move::Link(1, 8, true),
+    Move::At(7, &[1, 2]),
+    Move::Of(1, &[7, 8]),
+    Move::Unlink(1, 7, true),
+    Move::Unlink(1, 7, false),
+    Move::At(7, &[2]),
+    Move::Drop(1),
+    Move::At(8, &[]),
+    Move::At(7, &[2]),
+    Move::Link(1, 7, true),
+    Move::At(7, &[2, 1]),
+];
+
+fn once() -> &'static [Move] {
+    &ONCE
+}
+
 #[test]
 fn a_pair_is_linked_and_unlinked_once(rt: HostRuntime) {
-    let moves = [
-        Move::Link(1, 7, true),
-        Move::Link(1, 7, false),
-        Move::Link(2, 7, true),
-        Move::Link(1, 8, true),
-        Move::At(7, &[1, 2]),
-        Move::Of(1, &[7, 8]),
-        Move::Unlink(1, 7, true),
-        Move::Unlink(1, 7, false),
-        Move::At(7, &[2]),
-        Move::Drop(1),
-        Move::At(8, &[]),
-        Move::At(7, &[2]),
-        Move::Link(1, 7, true),
-        Move::At(7, &[2, 1]),
-    ];
-    let mut edges = EdgeSlab::new(rt.alloc());
-    for done in moves {
-        assert!(rt; goes(&mut edges, done));
-    }
+    assert!(rt; all_go(rt.alloc(), once()));
+}
+
+static AGAIN: [Move; 16] = [
+    Move::Link(1, 5, true),
+    Move::Link(2, 5, true),
+    Move::Link(3, 5, true),
+    Move::Unlink(2, 5, true),
+    Move::Link(2, 6, true),
+    Move::At(5, &[1, 3]),
+    Move::At(6, &[2]),
+    Move::Of(2, &[6]),
+    Move::Unlink(1, 5, true),
+    Move::Link(4, 5, true),
+    Move::At(5, &[3, 4]),
+    Move::Of(1, &[]),
+    Move::Drop(3),
+    Move::Drop(4),
+    Move::At(5, &[]),
+    Move::At(6, &[2]),
+];
+
+fn again() -> &'static [Move] {
+    &AGAIN
 }
 
 #[test]
 fn a_key_given_out_again_is_of_the_new_pair_alone(rt: HostRuntime) {
-    let moves = [
-        Move::Link(1, 5, true),
-        Move::Link(2, 5, true),
-        Move::Link(3, 5, true),
-        Move::Unlink(2, 5, true),
-        Move::Link(2, 6, true),
-        Move::At(5, &[1, 3]),
-        Move::At(6, &[2]),
-        Move::Of(2, &[6]),
-        Move::Unlink(1, 5, true),
-        Move::Link(4, 5, true),
-        Move::At(5, &[3, 4]),
-        Move::Of(1, &[]),
-        Move::Drop(3),
-        Move::Drop(4),
-        Move::At(5, &[]),
-        Move::At(6, &[2]),
-    ];
-    let mut edges = EdgeSlab::new(rt.alloc());
-    for done in moves {
-        assert!(rt; goes(&mut edges, done));
-    }
+    assert!(rt; all_go(rt.alloc(), again()));
 }

@@ -5,26 +5,12 @@ use change_feed::{Change, ChangeList, Feed, Tail};
 use rdt_types::{Address, Delta, Kind, SetDelta};
 use std::alloc::{AllocError, Global};
 
-/// A feed up to a number, with writes at an address.
-fn feed_of(
-    alloc: Global,
-    to: u64,
-    address: &Address,
-    writes: &[Write],
-) -> Result<Feed, AllocError> {
-    let mut feed = Feed::new(alloc, to);
-    for done in writes {
-        let delta = delta(alloc, *done)?;
-        feed.add(address, &delta)?;
+/// Whether a delta that was made is added to a feed.
+fn adds(feed: &mut Feed, address: &Address, delta: &Result<Delta, AllocError>) -> bool {
+    match delta {
+        Ok(delta) => feed.add(address, delta).is_ok(),
+        Err(_) => false,
     }
-    Ok(feed)
-}
-
-/// A feed in which a set is cleared between two additions.
-fn cleared(alloc: Global) -> Result<Feed, AllocError> {
-    let set = address(alloc, Kind::Set, b"s")?;
-    let writes = [Write::SetAdd(b"a"), Write::SetClear, Write::SetAdd(b"b")];
-    feed_of(alloc, 0, &set, &writes)
 }
 
 /// Whether a set's delta clears, and then adds `b` alone.
@@ -35,53 +21,52 @@ fn is_b_alone(delta: &SetDelta) -> bool {
     }
 }
 
-/// Whether the one change of a feed does so, where there is memory.
-fn clears_and_adds(feed: &Result<Feed, AllocError>) -> bool {
-    let Ok(feed) = feed else {
-        return false;
-    };
+/// Whether the one change of a feed does so.
+fn clears_and_adds(feed: &Feed) -> bool {
     match feed.changes().as_slice() {
         [(_, Delta::Set(delta))] => is_b_alone(delta),
         _ => false,
     }
 }
 
+/// Whether a feed in which the set at an address is cleared between two additions drops the first.
+fn drops_the_first(alloc: Global, address: &Address) -> bool {
+    let mut feed = Feed::new(alloc, 0);
+    for (write, at) in [
+        (Write::SetAdd, b"a"),
+        (Write::SetClear, b"a"),
+        (Write::SetAdd, b"b"),
+    ] {
+        if !adds(&mut feed, address, &delta(alloc, write, at.as_slice())) {
+            return false;
+        }
+    }
+    clears_and_adds(&feed)
+}
+
 #[test]
 fn a_clear_between_two_marks_drops_the_first(rt: HostRuntime) {
-    assert!(rt; clears_and_adds(&cleared(rt.alloc())));
+    let set = address(rt.alloc(), Kind::Set, b"s");
+    assert!(rt; matches!(&set, Ok(set) if drops_the_first(rt.alloc(), set)));
 }
 
-/// A feed up to a number, with a write at a counter.
-fn counted(alloc: Global, to: u64, key: &[u8], done: Write) -> Result<Feed, AllocError> {
-    let counter = address(alloc, Kind::Counter, key)?;
-    feed_of(alloc, to, &counter, &[done])
-}
-
-/// Joins such a feed to an earlier one.
-fn join(
+/// Whether a feed up to a number, with one change of a counter, is joined to an earlier one.
+fn joins(
     alloc: Global,
     feed: &mut Feed,
     to: u64,
-    key: &[u8],
-    done: Write,
-) -> Result<(), AllocError> {
-    let later = counted(alloc, to, key, done)?;
-    feed.join(&later)
+    counter: &Result<Address, AllocError>,
+    change: &Delta,
+) -> bool {
+    let mut later = Feed::new(alloc, to);
+    match counter {
+        Ok(counter) => later.add(counter, change).is_ok() && feed.join(&later).is_ok(),
+        Err(_) => false,
+    }
 }
 
-/// Three feeds of two counters.
-fn joined(alloc: Global) -> Result<Feed, AllocError> {
-    let mut feed = counted(alloc, 2, b"x", Write::AddCounter(1))?;
-    join(alloc, &mut feed, 5, b"x", Write::PutCounter(7))?;
-    join(alloc, &mut feed, 6, b"y", Write::AddCounter(2))?;
-    Ok(feed)
-}
-
-/// Whether a feed up to 6 puts the one counter and adds to the other, where there is memory.
-fn puts_and_adds(feed: &Result<Feed, AllocError>) -> bool {
-    let Ok(feed) = feed else {
-        return false;
-    };
+/// Whether a feed up to 6 puts the one counter and adds to the other.
+fn puts_and_adds(feed: &Feed) -> bool {
     match feed.changes().as_slice() {
         [x, y] => {
             feed.to() == 6
@@ -94,24 +79,50 @@ fn puts_and_adds(feed: &Result<Feed, AllocError>) -> bool {
 
 #[test]
 fn a_later_feed_goes_after_the_earlier(rt: HostRuntime) {
-    assert!(rt; puts_and_adds(&joined(rt.alloc())));
+    let x = address(rt.alloc(), Kind::Counter, b"x");
+    let y = address(rt.alloc(), Kind::Counter, b"y");
+    let mut feed = Feed::new(rt.alloc(), 0);
+    assert!(rt; joins(rt.alloc(), &mut feed, 2, &x, &Delta::AddCounter(1)));
+    assert!(rt; joins(rt.alloc(), &mut feed, 5, &x, &Delta::PutCounter(7)));
+    assert!(rt; joins(rt.alloc(), &mut feed, 6, &y, &Delta::AddCounter(2)));
+    assert!(rt; puts_and_adds(&feed));
 }
 
-/// Whether a list of changes keeps one.
-fn keeps_a_change(alloc: Global) -> Result<bool, AllocError> {
-    let change = Change {
+/// A change of a counter.
+fn change(alloc: Global) -> Result<Change, AllocError> {
+    Ok(Change {
         number: 4,
         address: address(alloc, Kind::Counter, b"x")?,
         delta: Delta::AddCounter(1),
-    };
+    })
+}
+
+/// A list of a copy of a change.
+fn list_of(alloc: Global, change: &Change) -> Result<ChangeList, AllocError> {
     let mut changes = ChangeList::new(alloc);
     changes.push(change.clone()?)?;
-    Ok(changes.as_slice() == [change].as_slice())
+    Ok(changes)
+}
+
+/// Whether a list of changes keeps one.
+fn keeps(list: &Result<ChangeList, AllocError>, change: &Change) -> bool {
+    match list {
+        Ok(list) => match list.as_slice() {
+            [found] => *found == *change,
+            _ => false,
+        },
+        Err(_) => false,
+    }
+}
+
+/// Whether a tail is of no commit behind a number.
+fn is_none_at(tail: &Tail, at: u64) -> bool {
+    tail.from == at && tail.to == at && tail.changes.is_empty()
 }
 
 #[test]
 fn a_tail_keeps_its_numbers(rt: HostRuntime) {
-    let none = Tail::none(rt.alloc(), 3);
-    assert_eq!(rt; (none.from, none.to, none.changes.len()), (3, 3, 0));
-    assert!(rt; matches!(keeps_a_change(rt.alloc()), Ok(true)));
+    assert!(rt; is_none_at(&Tail::none(rt.alloc(), 3), 3));
+    let made = change(rt.alloc());
+    assert!(rt; matches!(&made, Ok(made) if keeps(&list_of(rt.alloc(), made), made)));
 }

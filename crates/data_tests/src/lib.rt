@@ -7,8 +7,6 @@
 #[cfg(test)]
 mod caches;
 #[cfg(test)]
-mod clashes;
-#[cfg(test)]
 mod containers;
 #[cfg(test)]
 mod edges;
@@ -16,8 +14,6 @@ mod edges;
 mod feeds;
 #[cfg(test)]
 mod given;
-#[cfg(test)]
-mod own_writes;
 #[cfg(test)]
 mod types;
 #[cfg(test)]

@@ -1,19 +1,16 @@
-//! Tests of the crates between the data and the sessions: `journal_core`, `version_shard`, `reactive_registry`, `txn_eval`,
-//! `rerun_driver`, `docc_prepare` and `local_world`. They try what no clause says: that calls find what they need with ample
+//! Tests of the crates between the data and the sessions: `journal_core`, `reactive_registry`, `txn_eval`, `rerun_driver`,
+//! `docc_prepare` and `local_world`. They try what no clause says: that calls find what they need with ample
 //! memory, and worked values. Nothing stands on this crate.
 //!
-//! A module tests one crate: `journals`, `shards`, `subscriptions`, `runs`, `watches`, `attempts` and `worlds`, in that order.
 //! What a script can say of these crates is a case of `script_cases`, and what a definition says is a line beside it.
 #![tactic(auto)]
 
 #[cfg(test)]
 mod attempts;
 #[cfg(test)]
-mod journals;
+mod bodies;
 #[cfg(test)]
 mod runs;
-#[cfg(test)]
-mod shards;
 #[cfg(test)]
 mod subscriptions;
 #[cfg(test)]

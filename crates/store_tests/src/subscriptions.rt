@@ -212,7 +212,8 @@ fn play(alloc: Global, front: u64, moves: &[Move]) -> usize {
     moves.len()
 }
 
-const TWO: [Move; 9] = [
+/// Two take at different times.
+static TWO: [Move; 9] = [
     Move::Watch(1),
     Move::Watch(2),
     Move::Add(2),
@@ -228,12 +229,8 @@ fn two() -> &'static [Move] {
     &TWO
 }
 
-#[test]
-fn two_take_at_different_times(rt: HostRuntime) {
-    assert_eq!(rt; play(rt.alloc(), 3, two()), 9);
-}
-
-const AGAIN: [Move; 17] = [
+/// One comes between, and one comes again.
+static AGAIN: [Move; 17] = [
     Move::Watch(1),
     Move::Add(2),
     Move::Watch(2),
@@ -257,12 +254,8 @@ fn again() -> &'static [Move] {
     &AGAIN
 }
 
-#[test]
-fn one_comes_between_and_one_comes_again(rt: HostRuntime) {
-    assert_eq!(rt; play(rt.alloc(), 3, again()), 17);
-}
-
-const CLEARED: [Move; 5] = [
+/// A clear between two marks drops the first.
+static CLEARED: [Move; 5] = [
     Move::WatchSet(1),
     Move::Mark(b"a"),
     Move::Clear,
@@ -275,6 +268,9 @@ fn cleared() -> &'static [Move] {
 }
 
 #[test]
-fn a_clear_between_two_marks_drops_the_first(rt: HostRuntime) {
-    assert_eq!(rt; play(rt.alloc(), 0, cleared()), 5);
+fn subscribers_take_as_they_should(rt: HostRuntime) {
+    for (front, moves) in [(3, two()), (3, again()), (0, cleared())] {
+        let count = play(rt.alloc(), front, moves);
+        assert!(rt; count == moves.len(), "move {count} of {}", moves.len());
+    }
 }

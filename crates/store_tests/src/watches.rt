@@ -1,6 +1,7 @@
 //! Watches that are made, told, run anew and forgotten, with ample memory. What runs come to was worked out by hand. A test is a
 //! list of moves, each of which answers whether it went as it should: so no driver lives across a `?`.
 
+use crate::bodies::checked;
 use change_feed::Feed;
 use client_cache::Cache;
 use plain_data::Text;
@@ -8,8 +9,7 @@ use rdt_types::{Address, Delta, Item, Kind, Outcome, Value};
 use rerun_driver::{Driver, Rerun, run_on};
 use std::alloc::{AllocError, Global};
 use txn_eval::Step;
-use txn_lang::{Checked, Run, check};
-use txn_parse::parse;
+use txn_lang::{Checked, Run};
 
 /// What is done with the watches of a driver, or seen of them.
 #[derive(Clone, Copy)]
@@ -32,20 +32,6 @@ enum Move {
     Observes(&'static [u8], bool),
     /// Whether a watch of the name was there to be forgotten.
     Unwatch(&'static [u8], bool),
-}
-
-/// A body that is read and checked, and writes nothing.
-fn body_of(alloc: Global, source: &[u8]) -> Option<Checked> {
-    if source.len() > 4096 {
-        return None;
-    }
-    let Ok(text) = Text::from_slice(alloc, source) else {
-        return None;
-    };
-    match parse(alloc, source) {
-        Ok(body) => check(alloc, body, text, true).ok(),
-        Err(_) => None,
-    }
 }
 
 fn counter(alloc: Global, key: &[u8]) -> Result<Address, AllocError> {
@@ -73,7 +59,7 @@ fn put(driver: &mut Driver, name: Text, body: Checked, number: u64, run: Run) ->
 
 /// A body is watched by a name from its first run on.
 fn watch(driver: &mut Driver, alloc: Global, cache: &Cache, name: &[u8], source: &[u8]) -> bool {
-    let Some(body) = body_of(alloc, source) else {
+    let Ok(body) = checked(alloc, source, true) else {
         return false;
     };
     let Some(run) = first_run(alloc, &body, cache) else {
@@ -218,7 +204,8 @@ fn play(alloc: Global, moves: &[Move]) -> usize {
     moves.len()
 }
 
-const TOUCHED: [Move; 12] = [
+/// Touched watches run in the order of their making.
+static TOUCHED: [Move; 12] = [
     Move::Watch(b"b", br#"emit counter("x").get() + counter("y").get();"#),
     Move::Watch(b"n", b"emit 5;"),
     Move::Watch(b"a", br#"emit counter("x").get();"#),
@@ -237,16 +224,12 @@ fn touched() -> &'static [Move] {
     &TOUCHED
 }
 
-#[test]
-fn touched_watches_run_in_the_order_of_their_making(rt: HostRuntime) {
-    assert_eq!(rt; play(rt.alloc(), touched()), 12);
-}
-
 /// The counter `y` while `x` is 1, and `z` then.
 const BRANCHING: &[u8] =
     br#"if counter("x").get() == 1 { emit counter("y").get(); } else { emit counter("z").get(); }"#;
 
-const OBSERVING: [Move; 13] = [
+/// A rerun observes other addresses.
+static OBSERVING: [Move; 13] = [
     Move::Watch(b"w", BRANCHING),
     Move::Observes(b"x", true),
     Move::Observes(b"z", false),
@@ -266,12 +249,8 @@ fn observing() -> &'static [Move] {
     &OBSERVING
 }
 
-#[test]
-fn a_rerun_observes_other_addresses(rt: HostRuntime) {
-    assert_eq!(rt; play(rt.alloc(), observing()), 13);
-}
-
-const REPORTED: [Move; 15] = [
+/// A report without memory is found all the same.
+static REPORTED: [Move; 15] = [
     Move::Fill(b"z", 9),
     Move::Watch(b"w", BRANCHING),
     Move::Add(b"x", 1),
@@ -293,12 +272,8 @@ fn reported() -> &'static [Move] {
     &REPORTED
 }
 
-#[test]
-fn a_report_without_memory_is_found_all_the_same(rt: HostRuntime) {
-    assert_eq!(rt; play(rt.alloc(), reported()), 15);
-}
-
-const FORGOTTEN: [Move; 9] = [
+/// A forgotten watch leaves its name.
+static FORGOTTEN: [Move; 9] = [
     Move::Watch(b"w", br#"emit counter("x").get();"#),
     Move::Watch(b"v", br#"emit counter("x").get();"#),
     Move::Unwatch(b"w", true),
@@ -315,6 +290,9 @@ fn forgotten() -> &'static [Move] {
 }
 
 #[test]
-fn a_forgotten_watch_leaves_its_name(rt: HostRuntime) {
-    assert_eq!(rt; play(rt.alloc(), forgotten()), 9);
+fn watches_go_as_they_should(rt: HostRuntime) {
+    for moves in [touched(), observing(), reported(), forgotten()] {
+        let count = play(rt.alloc(), moves);
+        assert!(rt; count == moves.len(), "move {count} of {}", moves.len());
+    }
 }

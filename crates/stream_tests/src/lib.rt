@@ -8,6 +8,8 @@ mod lines;
 #[cfg(test)]
 mod links;
 #[cfg(test)]
+mod moves;
+#[cfg(test)]
 mod read_ahead;
 #[cfg(test)]
 mod streams;

@@ -3,8 +3,7 @@
 use dio_core::{Got, LONGEST_LINE, Line, LineFault, MemSource, Source, StdSource, next_line};
 use std::alloc::{AllocError, Global};
 use std::io;
-use std::io::Read;
-use std::test::Fail;
+use std::io::{ErrorKind, Read};
 
 /// An answer of `next_line` as a text.
 fn shown(answer: &Result<Line, LineFault>) -> &[u8] {
@@ -55,22 +54,29 @@ pub(crate) fn breaks<S: Source>(alloc: Global, source: &mut S) -> bool {
     matches!(next_line(alloc, source), Err(LineFault::ReadFault))
 }
 
+/// What is read, and the first line and the second.
+type Row = (&'static [u8], &'static [u8], &'static [u8]);
+
+static ROWS: [Row; 6] = [
+    (b"", b"end", b"end"),
+    (b"ab", b"ab", b"end"),
+    (b"\n", b"", b"end"),
+    (b"ab\n", b"ab", b"end"),
+    (b"ab\ncd", b"ab", b"cd"),
+    (b"\nab", b"", b"ab"),
+];
+
+/// The rows, so that the proof of a test doesn't go through them.
+fn rows() -> &'static [Row] {
+    &ROWS
+}
+
 #[test]
-fn lines_end_at_newlines_and_at_the_end(rt: HostRuntime) -> Result<(), Fail> {
-    let alloc = rt.alloc();
-    let rows = [
-        (b"".as_slice(), b"end".as_slice(), b"end".as_slice()),
-        (b"ab", b"ab", b"end"),
-        (b"\n", b"", b"end"),
-        (b"ab\n", b"ab", b"end"),
-        (b"ab\ncd", b"ab", b"cd"),
-        (b"\nab", b"", b"ab"),
-    ];
-    for (input, first, second) in rows {
-        let source = MemSource::new(alloc, input, 3, &[]);
-        assert!(rt; reads(alloc, source, &[first, second], 0));
+fn lines_end_at_newlines_and_at_the_end(rt: HostRuntime) {
+    for (input, first, second) in rows() {
+        let source = MemSource::new(rt.alloc(), input, 3, &[]);
+        assert!(rt; reads(rt.alloc(), source, &[*first, *second], 0));
     }
-    Ok(())
 }
 
 /// Whether this many bytes, given so many at a time, are one line or a part of one, and this is behind it.
@@ -85,43 +91,95 @@ fn cuts(alloc: Global, length: usize, piece: usize, fits: bool, next: &[u8]) -> 
     reads(alloc, source, &[first, next], 0)
 }
 
+/// A number of bytes, whether they are one line, and what is behind it.
+static LENGTHS: [(usize, bool, &'static [u8]); 4] = [
+    (4_096, true, b"end"),
+    (4_097, false, b"end"),
+    (1_048_576, false, b"end"),
+    (1_048_577, false, b"a"),
+];
+
+fn lengths() -> &'static [(usize, bool, &'static [u8])] {
+    &LENGTHS
+}
+
 #[test]
-fn a_line_has_4096_bytes_and_a_run_1048576(rt: HostRuntime) -> Result<(), Fail> {
-    let alloc = rt.alloc();
+fn a_line_has_4096_bytes_and_a_run_1048576(rt: HostRuntime) {
     for piece in [1, 3, 4_096] {
-        assert!(rt; cuts(alloc, 4_096, piece, true, b"end"));
-        assert!(rt; cuts(alloc, 4_097, piece, false, b"end"));
-        assert!(rt; cuts(alloc, 1_048_576, piece, false, b"end"));
-        assert!(rt; cuts(alloc, 1_048_577, piece, false, b"a"));
+        for (length, fits, next) in lengths() {
+            assert!(rt; cuts(rt.alloc(), *length, piece, *fits, next));
+        }
     }
-    Ok(())
+}
+
+/// The read that fails: at the first byte of a line, in a line, and behind a newline.
+static FAULTS: [(u64, [&'static [u8]; 3]); 3] = [
+    (0, [b"fault", b"ab", b"c"]),
+    (1, [b"fault", b"b", b"c"]),
+    (3, [b"ab", b"fault", b"c"]),
+];
+
+fn faults() -> &'static [(u64, [&'static [u8]; 3])] {
+    &FAULTS
 }
 
 #[test]
-fn a_read_fault_takes_what_was_read(rt: HostRuntime) -> Result<(), Fail> {
-    let alloc = rt.alloc();
-    let rows = [
-        // At the first byte of a line, in a line, and behind a newline.
-        (0, [b"fault".as_slice(), b"ab", b"c"]),
-        (1, [b"fault", b"b", b"c"]),
-        (3, [b"ab", b"fault", b"c"]),
-    ];
-    for (call, wanted) in rows {
-        let source = MemSource::new(alloc, b"ab\nc", 1, &[call]);
-        assert!(rt; reads(alloc, source, &wanted, 1));
+fn a_read_fault_takes_what_was_read(rt: HostRuntime) {
+    for (call, wanted) in faults() {
+        let source = MemSource::new(rt.alloc(), b"ab\nc", 1, &[*call]);
+        assert!(rt; reads(rt.alloc(), source, wanted, 1));
     }
-    Ok(())
 }
 
-/// A reader that gives at most `piece` bytes in a call.
+/// A number that no call has.
+pub(crate) const NEVER: u64 = u64::MAX;
+
+/// Calls that are counted, of which one fails.
 #[derive(Drop)]
-struct Pieces<'a> {
+pub(crate) struct Calls {
+    next: u64,
+    fails: u64,
+}
+
+impl Calls {
+    pub(crate) fn failing_at(call: u64) -> Calls {
+        Calls {
+            next: 0,
+            fails: call,
+        }
+    }
+
+    pub(crate) fn begin(&mut self) -> io::Result<()> {
+        let call = self.next;
+        self.next = call.saturating_add(1);
+        if call == self.fails {
+            return Err(ErrorKind::BrokenPipe.into());
+        }
+        Ok(())
+    }
+}
+
+/// A reader that gives at most `piece` bytes in a call, and fails at one call.
+#[derive(Drop)]
+pub(crate) struct Pieces<'a> {
     rest: &'a [u8],
     piece: usize,
+    calls: Calls,
+}
+
+impl<'a> Pieces<'a> {
+    pub(crate) fn new(rest: &'a [u8], piece: usize, fails: u64) -> Pieces<'a> {
+        Pieces {
+            rest,
+            piece,
+            calls: Calls::failing_at(fails),
+        }
+    }
 }
 
 impl Read for Pieces<'_> {
     fn read(&mut self, buf: &mut [u8]) -> io::Result<usize> {
+        self.calls.begin()?;
         let count = self.rest.len().min(buf.len()).min(self.piece);
         buf[..count].copy_from_slice(&self.rest[..count]);
         self.rest = &self.rest[count..];
@@ -151,10 +209,7 @@ fn is_read(alloc: Global, length: usize, piece: usize) -> bool {
     let Ok(bytes) = three_lines(alloc, &line) else {
         return false;
     };
-    let reader = Pieces {
-        rest: bytes.as_slice(),
-        piece,
-    };
+    let reader = Pieces::new(bytes.as_slice(), piece, NEVER);
     let first = if length > LONGEST_LINE {
         b"too long".as_slice()
     } else {
@@ -168,18 +223,21 @@ fn is_read(alloc: Global, length: usize, piece: usize) -> bool {
     )
 }
 
+static MANY_LENGTHS: [usize; 18] = [
+    0, 1, 2, 63, 64, 65, 127, 128, 129, 130, 255, 256, 257, 4_095, 4_096, 4_097, 8_190, 8_192,
+];
+
+fn many_lengths() -> &'static [usize] {
+    &MANY_LENGTHS
+}
+
 #[test]
-fn lines_of_all_lengths_are_read_in_pieces_of_all_sizes(rt: HostRuntime) -> Result<(), Fail> {
-    let alloc = rt.alloc();
-    let lengths = [
-        0, 1, 2, 63, 64, 65, 127, 128, 129, 130, 255, 256, 257, 4_095, 4_096, 4_097, 8_190, 8_192,
-    ];
-    for length in lengths {
+fn lines_of_all_lengths_are_read_in_pieces_of_all_sizes(rt: HostRuntime) {
+    for length in many_lengths() {
         for piece in [1, 50, 128, 10_000] {
-            assert!(rt; is_read(alloc, length, piece));
+            assert!(rt; is_read(rt.alloc(), *length, piece));
         }
     }
-    Ok(())
 }
 
 /// Whether one read up to a newline gives these bytes.
@@ -193,35 +251,35 @@ fn gives<S: Source>(source: &mut S, wanted: &[u8]) -> bool {
 
 /// Whether a source over a reader gives these parts, one a read.
 fn parts(alloc: Global, piece: usize, wanted: &[&[u8]]) -> bool {
-    let reader = Pieces {
-        rest: b"a\nbcdefg\n\n".as_slice(),
-        piece,
-    };
-    let Ok(mut source) = StdSource::new(alloc, reader) else {
+    let Ok(mut source) = StdSource::new(alloc, Pieces::new(b"a\nbcdefg\n\n", piece, NEVER)) else {
         return false;
     };
-    wanted.iter().all(|want| gives(&mut source, want))
+    for want in wanted {
+        if !gives(&mut source, want) {
+            return false;
+        }
+    }
+    true
+}
+
+/// In which pieces a reader gives its bytes, and the parts. Where nothing was read ahead a byte is given.
+static PARTS: [(usize, &'static [&'static [u8]]); 2] = [
+    (100, &[b"a", b"\n", b"bcde", b"fg\n", b"\n", b""]),
+    (
+        3,
+        &[b"a", b"\n", b"b", b"c", b"de", b"f", b"g\n", b"\n", b""],
+    ),
+];
+
+fn parts_of_pieces() -> &'static [(usize, &'static [&'static [u8]])] {
+    &PARTS
 }
 
 #[test]
-fn a_read_stops_at_the_newline_and_where_the_buffer_is_full(rt: HostRuntime) -> Result<(), Fail> {
-    let alloc = rt.alloc();
-    // Where nothing was read ahead a byte is given.
-    let whole = [b"a".as_slice(), b"\n", b"bcde", b"fg\n", b"\n", b""];
-    assert!(rt; parts(alloc, 100, &whole));
-    let some = [
-        b"a".as_slice(),
-        b"\n",
-        b"b",
-        b"c",
-        b"de",
-        b"f",
-        b"g\n",
-        b"\n",
-        b"",
-    ];
-    assert!(rt; parts(alloc, 3, &some));
-    Ok(())
+fn a_read_stops_at_the_newline_and_where_the_buffer_is_full(rt: HostRuntime) {
+    for (piece, wanted) in parts_of_pieces() {
+        assert!(rt; parts(rt.alloc(), *piece, wanted));
+    }
 }
 
 /// A source that counts how often it is read up to a newline.
@@ -264,34 +322,40 @@ fn reads_of<S: Source>(alloc: Global, source: &mut Counted<S>, length: usize) ->
     found.then_some(source.reads)
 }
 
-#[test]
-fn a_line_is_read_by_few_reads(rt: HostRuntime) -> Result<(), Fail> {
-    let alloc = rt.alloc();
-    let reader = Pieces {
-        rest: b"a line of some thirty bytes and\n\nlast".as_slice(),
-        piece: 100,
+/// Whether three lines are read by so few reads.
+fn reads_few(alloc: Global, source: Result<StdSource<Pieces<'_>>, AllocError>) -> bool {
+    let Ok(source) = source else {
+        return false;
     };
-    let mut source = Counted {
-        source: StdSource::new(alloc, reader)?,
-        reads: 0,
-    };
-    assert_eq!(rt; reads_of(alloc, &mut source, 31), Some(2));
-    assert_eq!(rt; reads_of(alloc, &mut source, 0), Some(1));
-    assert_eq!(rt; reads_of(alloc, &mut source, 4), Some(3));
-    Ok(())
+    let mut counted = Counted { source, reads: 0 };
+    reads_of(alloc, &mut counted, 31) == Some(2)
+        && reads_of(alloc, &mut counted, 0) == Some(1)
+        && reads_of(alloc, &mut counted, 4) == Some(3)
 }
 
 #[test]
-fn a_source_sees_what_it_has_read_ahead(rt: HostRuntime) -> Result<(), Fail> {
-    let reader = Pieces {
-        rest: b"a\nb".as_slice(),
-        piece: 100,
+fn a_line_is_read_by_few_reads(rt: HostRuntime) {
+    let reader = Pieces::new(b"a line of some thirty bytes and\n\nlast", 100, NEVER);
+    assert!(rt; reads_few(rt.alloc(), StdSource::new(rt.alloc(), reader)));
+}
+
+/// Whether a source sees what it has read ahead of "a", a newline and "b".
+fn sees_ahead(source: Result<StdSource<Pieces<'_>>, AllocError>) -> bool {
+    let Ok(mut source) = source else {
+        return false;
     };
-    let mut source = StdSource::new(rt.alloc(), reader)?;
-    assert!(rt; !source.sees(b'\n'));
-    assert!(rt; gives(&mut source, b"a"));
-    assert!(rt; source.sees(b'\n') && source.sees(b'b') && !source.sees(b'a'));
-    assert!(rt; gives(&mut source, b"\n"));
-    assert!(rt; !source.sees(b'\n') && source.sees(b'b'));
-    Ok(())
+    !source.sees(b'\n')
+        && gives(&mut source, b"a")
+        && source.sees(b'\n')
+        && source.sees(b'b')
+        && !source.sees(b'a')
+        && gives(&mut source, b"\n")
+        && !source.sees(b'\n')
+        && source.sees(b'b')
+}
+
+#[test]
+fn a_source_sees_what_it_has_read_ahead(rt: HostRuntime) {
+    let reader = Pieces::new(b"a\nb", 100, NEVER);
+    assert!(rt; sees_ahead(StdSource::new(rt.alloc(), reader)));
 }

@@ -2,8 +2,8 @@
 
 ghost use Rattle.std.specs.Prelude.{◌<◌, Some};
 
-use crate::lines;
 use crate::lines::is_next;
+use crate::moves::{Move, go_all};
 use dio_core::{
     Accepted, Connection, End, FaultPlan, Got, Listener, MemLink, MemLinks, MemListener, Sink,
     Source, TcpLink, TcpListening, Took, write_all,
@@ -13,7 +13,6 @@ use std::cell::Cell;
 use std::io;
 use std::io::{ErrorKind, Read, Write};
 use std::net::{IpAddr, Ipv4Addr, OpenListener, Shutdown, SocketAddr, TcpListener, TcpStream};
-use std::test::Fail;
 use std::time::{Clock, Duration};
 
 /// Whether the next link that is accepted begins with this byte.
@@ -55,28 +54,35 @@ fn gave_back(listener: &MemListener, statuses: &[u8]) -> bool {
             .all(|(pair, status)| pair.1 == *status)
 }
 
-#[test]
-fn links_in_memory_come_in_order_and_are_given_back(rt: HostRuntime) -> Result<(), Fail> {
-    let alloc = rt.alloc();
-    let mut listener = MemListener::new(alloc, two_links(alloc)?);
-    assert!(rt; accepts(&mut listener, b'a'));
-    assert!(rt; accepts(&mut listener, b'b'));
-    assert!(rt; ends(&mut listener));
-    assert!(rt; gave_back(&listener, b"ab"));
-    assert_eq!(rt; listener.accept_faults(), 0);
-    Ok(())
+/// Whether a listener's two links come in order, around an accept that fails if one is to, and are given back.
+fn come_in_order(listener: &mut MemListener, fails_between: bool) -> bool {
+    accepts(listener, b'a')
+        && (!fails_between || fails(listener))
+        && accepts(listener, b'b')
+        && ends(listener)
+        && gave_back(listener, b"ab")
 }
 
 #[test]
-fn an_accept_that_is_to_fail_leaves_the_links(rt: HostRuntime) -> Result<(), Fail> {
-    let alloc = rt.alloc();
-    let plan = FaultPlan::new(alloc, &[1])?;
-    let mut listener = MemListener::failing(alloc, two_links(alloc)?, plan);
-    assert!(rt; accepts(&mut listener, b'a'));
-    assert!(rt; fails(&mut listener));
-    assert!(rt; accepts(&mut listener, b'b'));
-    assert!(rt; gave_back(&listener, b"ab"));
-    Ok(())
+fn links_in_memory_come_in_order_and_are_given_back(rt: HostRuntime) {
+    match two_links(rt.alloc()) {
+        Ok(links) => {
+            let mut listener = MemListener::new(rt.alloc(), links);
+            assert!(rt; come_in_order(&mut listener, false) && listener.accept_faults() == 0);
+        }
+        Err(_) => assert!(rt; false),
+    }
+}
+
+#[test]
+fn an_accept_that_is_to_fail_leaves_the_links(rt: HostRuntime) {
+    match (two_links(rt.alloc()), FaultPlan::new(rt.alloc(), &[1])) {
+        (Ok(links), Ok(plan)) => {
+            let mut listener = MemListener::failing(rt.alloc(), links, plan);
+            assert!(rt; come_in_order(&mut listener, true));
+        }
+        _ => assert!(rt; false),
+    }
 }
 
 /// A connection in memory, which tells what it holds.
@@ -123,45 +129,51 @@ fn wired(
     Ok(TcpLink::new(Wire { link }))
 }
 
-#[test]
-fn a_link_over_a_connection_gives_its_bytes_and_counts_its_errors(
-    rt: HostRuntime,
-) -> Result<(), Fail> {
-    let alloc = rt.alloc();
-    let mut link = wired(alloc, b"ab\ncd", 1, &[1], &[])?;
-    assert!(rt; lines::breaks(alloc, &mut link));
-    assert!(rt; is_next(alloc, &mut link, b"b"));
-    assert!(rt; is_next(alloc, &mut link, b"cd"));
-    assert!(rt; lines::ends(alloc, &mut link));
-    assert_eq!(rt; link.read_faults(), 1);
-    assert_eq!(rt; link.write_faults(), 0);
-    Ok(())
+static GIVES: [Move; 5] = [
+    Move::Breaks,
+    Move::Next(b"b"),
+    Move::Next(b"cd"),
+    Move::Ends,
+    Move::Faults(1, 0),
+];
+
+static SENDS: [Move; 5] = [
+    Move::Writes(b"abcde", true),
+    Move::Flushes(true),
+    Move::Writes(b"f", false),
+    Move::Writes(b"g", true),
+    Move::Faults(0, 1),
+];
+
+static IS_ENDED: [Move; 6] = [
+    Move::End,
+    Move::End,
+    Move::Breaks,
+    Move::Writes(b"a", false),
+    Move::Flushes(false),
+    Move::Faults(1, 2),
+];
+
+// The lists, so that the proof of a test doesn't go through them.
+
+fn gives() -> &'static [Move] {
+    &GIVES
+}
+
+fn sends() -> &'static [Move] {
+    &SENDS
+}
+
+fn is_ended() -> &'static [Move] {
+    &IS_ENDED
 }
 
 #[test]
-fn a_link_over_a_connection_sends_all_and_counts_its_errors(rt: HostRuntime) -> Result<(), Fail> {
+fn a_link_over_a_connection_counts_its_errors_and_fails_when_it_is_ended(rt: HostRuntime) {
     let alloc = rt.alloc();
-    let mut link = wired(alloc, b"", 2, &[], &[3])?;
-    assert!(rt; write_all(&mut link, b"abcde") && link.flush());
-    assert!(rt; !write_all(&mut link, b"f"));
-    assert!(rt; write_all(&mut link, b"g"));
-    assert_eq!(rt; link.write_faults(), 1);
-    assert_eq!(rt; link.read_faults(), 0);
-    Ok(())
-}
-
-#[test]
-fn a_link_that_is_ended_fails_and_counts(rt: HostRuntime) -> Result<(), Fail> {
-    let alloc = rt.alloc();
-    let mut link = wired(alloc, b"ab", 1, &[], &[])?;
-    link.end();
-    link.end();
-    assert!(rt; lines::breaks(alloc, &mut link));
-    assert!(rt; !write_all(&mut link, b"a"));
-    assert!(rt; !link.flush());
-    assert_eq!(rt; link.read_faults(), 1);
-    assert_eq!(rt; link.write_faults(), 2);
-    Ok(())
+    assert!(rt; go_all(alloc, wired(alloc, b"ab\ncd", 1, &[1], &[]), gives()));
+    assert!(rt; go_all(alloc, wired(alloc, b"", 2, &[], &[3]), sends()));
+    assert!(rt; go_all(alloc, wired(alloc, b"ab", 1, &[], &[]), is_ended()));
 }
 
 #[test]
@@ -249,74 +261,79 @@ fn answers<K: End>(alloc: Global, link: &mut K, line: &[u8], reply: &[u8]) -> bo
     heard && link.read_faults() == 0 && link.write_faults() == 0
 }
 
-#[test]
-fn a_link_over_the_loopback_is_heard_and_answered(rt: HostRuntime) -> Result<(), Fail> {
-    let mut listener = TcpListening::bind(&rt, &rt, "127.0.0.1:0");
-    let Some(address) = listener.address() else {
-        return Err(io::Error::from(ErrorKind::AddrNotAvailable).into());
-    };
-    let mut client = TcpStream::connect(&rt, address)?;
-    client.write_all(b"seen\n")?;
+/// Whether the next link hears "seen" and answers it, and is given back.
+fn answers_next<N: Listener>(alloc: Global, listener: &mut N) -> bool {
     match listener.accept() {
         Accepted::Link(mut link) => {
-            assert!(rt; answers(rt.alloc(), &mut link, b"seen", b"seen 0\n"));
-            assert!(rt; listener.give_back(link, 0).is_ok());
+            answers(alloc, &mut link, b"seen", b"seen 0\n") && listener.give_back(link, 0).is_ok()
         }
-        _ => return Err(io::Error::from(ErrorKind::ConnectionRefused).into()),
+        _ => false,
     }
-    let reply = io::read_to_string(rt.alloc(), client)?;
-    assert!(rt; reply.as_str() == "seen 0\n");
-    assert_eq!(rt; listener.accept_faults(), 0);
-    Ok(())
 }
 
-/// Lines that a client sends at once, of which one alone is read.
-const MANY: usize = 2_000;
-
-#[test]
-fn what_is_unread_at_the_end_cuts_no_reply_off(rt: HostRuntime) -> Result<(), Fail> {
-    let mut listener = TcpListening::bind(&rt, &rt, "127.0.0.1:0");
-    let Some(address) = listener.address() else {
-        return Err(io::Error::from(ErrorKind::AddrNotAvailable).into());
+/// A client that says this to a listener, and then something else so many times, and no more.
+fn client_of(
+    rt: &HostRuntime,
+    address: Option<SocketAddr>,
+    others: usize,
+) -> io::Result<TcpStream> {
+    let Some(address) = address else {
+        return Err(ErrorKind::AddrNotAvailable.into());
     };
-    let mut client = TcpStream::connect(&rt, address)?;
+    let mut client = TcpStream::connect(rt, address)?;
     client.write_all(b"seen\n")?;
-    for _ in 0..MANY {
+    for _ in 0..others {
         client.write_all(b"another\n")?;
     }
-    client.shutdown(Shutdown::Write)?;
-    match listener.accept() {
-        Accepted::Link(mut link) => {
-            assert!(rt; answers(rt.alloc(), &mut link, b"seen", b"seen 0\n"));
-        }
-        _ => return Err(io::Error::from(ErrorKind::ConnectionRefused).into()),
+    if others > 0 {
+        client.shutdown(Shutdown::Write)?;
     }
-    let reply = io::read_to_string(rt.alloc(), client)?;
-    assert!(rt; reply.as_str() == "seen 0\n");
-    Ok(())
+    Ok(client)
 }
 
+/// Whether a client is told this, and no more.
+fn is_told(alloc: Global, client: io::Result<TcpStream>, wanted: &str) -> bool {
+    match client {
+        Ok(client) => {
+            matches!(&io::read_to_string(alloc, client), Ok(reply) if reply.as_str() == wanted)
+        }
+        Err(_) => false,
+    }
+}
+
+/// One line, and one behind which many are left unread when the link is ended.
 #[test]
-fn a_link_keeps_no_small_piece_back(rt: HostRuntime) -> Result<(), Fail> {
-    let listener = TcpListener::bind(&rt, "127.0.0.1:0")?;
-    let stream = TcpStream::connect(&rt, listener.local_addr()?)?;
+fn a_link_over_the_loopback_is_heard_and_answered(rt: HostRuntime) {
+    for others in [0, 2_000] {
+        let mut listener = TcpListening::bind(&rt, &rt, "127.0.0.1:0");
+        let client = client_of(&rt, listener.address(), others);
+        assert!(rt; answers_next(rt.alloc(), &mut listener));
+        assert!(rt; is_told(rt.alloc(), client, "seen 0\n"));
+        assert!(rt; listener.accept_faults() == 0);
+    }
+}
+
+/// Whether a stream keeps small pieces back, and whether it does once a link is made of it.
+fn keeps_pieces_back(rt: &HostRuntime) -> io::Result<(bool, bool)> {
+    let listener = TcpListener::bind(rt, "127.0.0.1:0")?;
+    let stream = TcpStream::connect(rt, listener.local_addr()?)?;
     let same = stream.try_clone()?;
     let before = same.nodelay()?;
     let link = TcpLink::new(stream);
-    let after = same.nodelay()?;
-    assert!(rt; !before && after && link.read_faults() == 0);
-    Ok(())
+    Ok((!before, link.read_faults() > 0 || !same.nodelay()?))
 }
 
 #[test]
-fn behind_a_listener_that_is_closed_nobody_is_heard(rt: HostRuntime) -> Result<(), Fail> {
+fn a_link_keeps_no_small_piece_back(rt: HostRuntime) {
+    assert!(rt; matches!(keeps_pieces_back(&rt), Ok((true, false))));
+}
+
+#[test]
+fn behind_a_listener_that_is_closed_nobody_is_heard(rt: HostRuntime) {
     let mut listener = TcpListening::bind(&rt, &rt, "127.0.0.1:0");
-    let Some(address) = listener.address() else {
-        return Err(io::Error::from(ErrorKind::AddrNotAvailable).into());
-    };
+    let address = listener.address();
     listener.close();
-    assert!(rt; TcpStream::connect(&rt, address).is_err());
+    assert!(rt; address.is_some() && client_of(&rt, address, 0).is_err());
     assert!(rt; listener.address().is_none());
     assert!(rt; fails(&mut listener));
-    Ok(())
 }

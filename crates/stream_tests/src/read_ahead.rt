@@ -3,6 +3,7 @@
 ghost use Rattle.std.specs.Prelude.{◌<◌, length};
 
 use crate::lines::{breaks, ends, is_next};
+use crate::moves::{Move, all_go, go_all};
 use dio_core::{
     Accepted, End, FaultPlan, Got, Listener, MemLink, MemLinks, MemListener, Sink, Source,
     TcpListening, write_all,
@@ -11,8 +12,7 @@ use link_buffer::{BufferedLink, BufferedListening, READ_AHEAD};
 use std::alloc::{AllocError, Global};
 use std::io;
 use std::io::{ErrorKind, Write};
-use std::net::{OpenListener, TcpStream};
-use std::test::Fail;
+use std::net::{SocketAddr, TcpStream};
 
 /// The bytes of a session: short lines, an empty one, two of 2,600 bytes, and one that lacks its newline.
 fn session(alloc: Global) -> Result<Vec<u8>, AllocError> {
@@ -42,118 +42,191 @@ fn reads_session<S: Source>(alloc: Global, source: &mut S, bytes: &[u8]) -> bool
         && source.read_faults() == 0
 }
 
+/// A link that reads ahead over one in memory, which gives so many bytes at a time, and of which these reads and writes fail.
+fn ahead(
+    alloc: Global,
+    bytes: &[u8],
+    piece: usize,
+    reads: &[u64],
+    writes: &[u64],
+) -> Result<BufferedLink<MemLink>, AllocError>
+    requires { 0 < piece }
+{
+    Ok(BufferedLink::new(MemLink::new(alloc, bytes, piece, reads, writes)?))
+}
+
+/// Whether a session is read where so many bytes are given at a time.
+fn is_read(alloc: Global, bytes: &[u8], piece: usize) -> bool {
+    if bytes.len() != 5218 {
+        return false;
+    }
+    match ahead(alloc, bytes, piece.max(1), &[], &[]) {
+        Ok(mut link) => reads_session(alloc, &mut link, bytes),
+        Err(_) => false,
+    }
+}
+
 #[test]
-fn the_lines_of_a_session_are_the_same_in_pieces_of_any_size(rt: HostRuntime) -> Result<(), Fail> {
-    let alloc = rt.alloc();
-    let bytes = session(alloc)?;
-    assert_eq!(rt; bytes.len(), 5218);
+fn the_lines_of_a_session_are_the_same_in_pieces_of_any_size(rt: HostRuntime) {
+    let bytes = session(rt.alloc());
     for piece in [1, 3, 1024, READ_AHEAD] {
-        let mut ahead = BufferedLink::new(MemLink::new(alloc, &bytes, piece, &[], &[])?);
-        assert!(rt; reads_session(alloc, &mut ahead, &bytes));
-    }
-    Ok(())
-}
-
-#[test]
-fn a_buffer_of_any_size_is_filled_from_what_is_held(rt: HostRuntime) -> Result<(), Fail> {
-    let alloc = rt.alloc();
-    let mut ahead = BufferedLink::new(MemLink::new(alloc, b"abcde", 4, &[], &[])?);
-    let mut buf = [0; 3];
-    assert!(rt; ahead.held().is_empty());
-    assert!(rt; ahead.read(&mut buf) == Got::Bytes(3) && buf == *b"abc");
-    assert!(rt; ahead.held() == b"d".as_slice());
-    assert!(rt; ahead.read(&mut buf) == Got::Bytes(1) && buf == *b"dbc");
-    assert!(rt; ahead.read(&mut buf) == Got::Bytes(1) && buf == *b"ebc");
-    assert!(rt; ahead.read(&mut buf) == Got::End);
-    Ok(())
-}
-
-#[test]
-fn what_is_held_is_given_up_to_a_newline(rt: HostRuntime) -> Result<(), Fail> {
-    let alloc = rt.alloc();
-    let mut ahead = BufferedLink::new(MemLink::new(alloc, b"a\nbcde\n\n", 5, &[], &[])?);
-    let mut buf = [0; 2];
-    // Where nothing is held a byte is given.
-    assert!(rt; ahead.read_through(b'\n', &mut buf) == Got::Bytes(1) && buf[0] == b'a');
-    assert!(rt; ahead.read_through(b'\n', &mut buf) == Got::Bytes(1) && buf[0] == b'\n');
-    assert!(rt; ahead.read_through(b'\n', &mut buf) == Got::Bytes(2) && buf == *b"bc");
-    assert!(rt; ahead.held() == b"d".as_slice());
-    assert!(rt; is_next(alloc, &mut ahead, b"de"));
-    assert!(rt; ahead.held() == b"\n".as_slice());
-    Ok(())
-}
-
-/// Whether the next line of a link is at hand, and is this.
-fn is_ahead<K: End>(link: &mut K, wanted: &[u8]) -> bool {
-    let mut buf = [0; 4];
-    match link.line_ahead(&mut buf) {
-        Some(length) => &buf[..length] == wanted,
-        None => false,
+        assert!(rt; matches!(&bytes, Ok(bytes) if is_read(rt.alloc(), bytes.as_slice(), piece)));
     }
 }
 
-/// Whether no line of a link is at hand.
-fn none_is_ahead<K: End>(link: &mut K) -> bool {
-    link.line_ahead(&mut [0; 4]).is_none()
+/// Whether moves go as they should, with this held in the middle, and that at the end.
+fn hold(
+    alloc: Global,
+    link: Result<BufferedLink<MemLink>, AllocError>,
+    first: &[Move],
+    middle: &[u8],
+    second: &[Move],
+    end: &[u8],
+) -> bool {
+    match link {
+        Ok(mut link) => {
+            link.held().is_empty()
+                && all_go(alloc, &mut link, first)
+                && link.held() == middle
+                && all_go(alloc, &mut link, second)
+                && link.held() == end
+        }
+        Err(_) => false,
+    }
+}
+
+/// A link, the moves that are made with it, and what it holds between two lists of them and at the end.
+struct Row {
+    bytes: &'static [u8],
+    piece: usize,
+    reads: &'static [u64],
+    first: &'static [Move],
+    middle: &'static [u8],
+    second: &'static [Move],
+    end: &'static [u8],
+}
+
+static ROWS: [Row; 4] = [
+    // A buffer of any size is filled from what is held.
+    Row {
+        bytes: b"abcde",
+        piece: 4,
+        reads: &[],
+        first: &[Move::Gives(3, *b"abc")],
+        middle: b"d",
+        second: &[
+            Move::Gives(1, *b"d.."),
+            Move::Gives(1, *b"e.."),
+            Move::GivesEnd,
+        ],
+        end: b"",
+    },
+    // What is held is given up to a newline. Where nothing is held a byte is given.
+    Row {
+        bytes: b"a\nbcdef\n\n",
+        piece: 6,
+        reads: &[],
+        first: &[
+            Move::GivesThrough(1, *b"a.."),
+            Move::GivesThrough(1, *b"\n.."),
+            Move::GivesThrough(3, *b"bcd"),
+        ],
+        middle: b"e",
+        second: &[Move::Next(b"ef")],
+        end: b"\n",
+    },
+    // A line is at hand where its newline is held and it fits.
+    Row {
+        bytes: b"a\nbcd\n\nefgh\nij",
+        piece: 100,
+        reads: &[1],
+        first: &[
+            Move::Ahead(None),
+            Move::Next(b"a"),
+            Move::Ahead(Some(b"bcd")),
+        ],
+        middle: b"\nefgh\nij",
+        second: &[
+            Move::Ahead(Some(b"")),
+            Move::Ahead(None),
+            Move::Next(b"efgh"),
+            Move::Ahead(None),
+            Move::Faults(0, 0),
+        ],
+        end: b"ij",
+    },
+    // A read fault is answered once, behind what is held.
+    Row {
+        bytes: b"ab\ncd\n",
+        piece: 4,
+        reads: &[1],
+        first: &[Move::Next(b"ab"), Move::Faults(0, 0)],
+        middle: b"c",
+        second: &[
+            Move::Breaks,
+            Move::Faults(1, 0),
+            Move::Next(b"d"),
+            Move::Ends,
+            Move::Faults(1, 0),
+        ],
+        end: b"",
+    },
+];
+
+/// The rows, so that the proof of a test doesn't go through them.
+fn rows() -> &'static [Row] {
+    &ROWS
+}
+
+/// Whether a row goes as it should.
+fn holds(alloc: Global, row: &Row) -> bool {
+    let link = ahead(alloc, row.bytes, row.piece.max(1), row.reads, &[]);
+    hold(alloc, link, row.first, row.middle, row.second, row.end)
 }
 
 #[test]
-fn a_line_is_at_hand_where_its_newline_is_held_and_it_fits(rt: HostRuntime) -> Result<(), Fail> {
-    let alloc = rt.alloc();
-    let bytes = b"a\nbcd\n\nefgh\nij";
-    let mut ahead = BufferedLink::new(MemLink::new(alloc, bytes, 100, &[1], &[])?);
-    assert!(rt; none_is_ahead(&mut ahead));
-    assert!(rt; is_next(alloc, &mut ahead, b"a"));
-    assert!(rt; is_ahead(&mut ahead, b"bcd"));
-    assert!(rt; is_ahead(&mut ahead, b""));
-    assert!(rt; none_is_ahead(&mut ahead));
-    assert!(rt; is_next(alloc, &mut ahead, b"efgh"));
-    assert!(rt; none_is_ahead(&mut ahead));
-    assert!(rt; ahead.held() == b"ij".as_slice());
-    assert_eq!(rt; ahead.read_faults(), 0);
-    Ok(())
+fn what_is_read_ahead_is_held_and_given(rt: HostRuntime) {
+    for row in rows() {
+        assert!(rt; holds(rt.alloc(), row));
+    }
 }
 
 #[test]
-fn links_that_read_nothing_ahead_have_no_line_at_hand(rt: HostRuntime) -> Result<(), Fail> {
-    let alloc = rt.alloc();
-    let mut link = MemLink::new(alloc, b"a\nb\n", 100, &[], &[])?;
-    assert!(rt; is_next(alloc, &mut link, b"a"));
-    assert!(rt; none_is_ahead(&mut link));
-    assert!(rt; is_next(alloc, &mut link, b"b"));
-    Ok(())
+fn links_that_read_nothing_ahead_have_no_line_at_hand(rt: HostRuntime) {
+    let link = MemLink::new(rt.alloc(), b"a\nb\n", 100, &[], &[]);
+    let moves = [Move::Next(b"a"), Move::Ahead(None), Move::Next(b"b")];
+    assert!(rt; go_all(rt.alloc(), link, &moves));
+}
+
+static WRITES: [Move; 7] = [
+    Move::Next(b"a"),
+    Move::Writes(b"done", true),
+    Move::Flushes(true),
+    Move::Writes(b"lost", false),
+    Move::Writes(b"kept", true),
+    Move::Faults(0, 1),
+    Move::End,
+];
+
+fn writes() -> &'static [Move] {
+    &WRITES
+}
+
+/// Whether writes and their faults pass through a link to the one below.
+fn pass_through(alloc: Global, mut link: BufferedLink<MemLink>) -> bool {
+    let written = all_go(alloc, &mut link, writes()) && is_next(alloc, &mut link, b"b");
+    let below = link.into_inner();
+    written
+        && below.sink.taken() == b"donekept".as_slice()
+        && below.sink.passed() == b"done".as_slice()
 }
 
 #[test]
-fn a_read_fault_is_answered_once_behind_what_is_held(rt: HostRuntime) -> Result<(), Fail> {
-    let alloc = rt.alloc();
-    let mut ahead = BufferedLink::new(MemLink::new(alloc, b"ab\ncd\n", 4, &[1], &[])?);
-    assert!(rt; is_next(alloc, &mut ahead, b"ab"));
-    assert!(rt; ahead.held() == b"c".as_slice());
-    assert_eq!(rt; ahead.read_faults(), 0);
-    assert!(rt; breaks(alloc, &mut ahead));
-    assert_eq!(rt; ahead.read_faults(), 1);
-    assert!(rt; is_next(alloc, &mut ahead, b"d"));
-    assert!(rt; ends(alloc, &mut ahead));
-    assert_eq!(rt; ahead.read_faults(), 1);
-    Ok(())
-}
-
-#[test]
-fn writes_and_their_faults_pass_through(rt: HostRuntime) -> Result<(), Fail> {
-    let alloc = rt.alloc();
-    let mut ahead = BufferedLink::new(MemLink::new(alloc, b"a\nb\n", 4, &[], &[2])?);
-    assert!(rt; is_next(alloc, &mut ahead, b"a"));
-    assert!(rt; write_all(&mut ahead, b"done") && ahead.flush());
-    assert!(rt; !write_all(&mut ahead, b"lost"));
-    assert!(rt; write_all(&mut ahead, b"kept"));
-    assert_eq!(rt; ahead.write_faults(), 1);
-    ahead.end();
-    assert!(rt; is_next(alloc, &mut ahead, b"b"));
-    let below = ahead.into_inner();
-    assert!(rt; below.sink.taken() == b"donekept".as_slice());
-    assert!(rt; below.sink.passed() == b"done".as_slice());
-    Ok(())
+fn writes_and_their_faults_pass_through(rt: HostRuntime) {
+    match ahead(rt.alloc(), b"a\nb\n", 4, &[], &[2]) {
+        Ok(link) => assert!(rt; pass_through(rt.alloc(), link)),
+        Err(_) => assert!(rt; false),
+    }
 }
 
 /// Whether the next link that is accepted begins with this line, and is given back with a status once it was answered.
@@ -183,28 +256,44 @@ fn gave_back(listener: &MemListener, wanted: &[(&[u8], u8)]) -> bool {
             && pair.1 == want.1)
 }
 
-#[test]
-fn the_links_below_are_given_back_with_their_statuses(rt: HostRuntime) -> Result<(), Fail> {
-    let alloc = rt.alloc();
-    let mut listener = BufferedListening::new(MemListener::new(alloc, two_links(alloc)?));
-    assert!(rt; serves(alloc, &mut listener, b"one", 3));
-    assert!(rt; serves(alloc, &mut listener, b"two", 0));
-    assert!(rt; matches!(listener.accept(), Accepted::NoMore));
-    assert!(rt; gave_back(&listener.below, &[(b"one", 3), (b"two", 0)]));
-    assert_eq!(rt; listener.accept_faults(), 0);
-    Ok(())
+/// Whether the links below a listener come in order, and are given back with their statuses.
+fn come_in_order(alloc: Global, below: MemListener) -> bool {
+    let mut listener = BufferedListening::new(below);
+    serves(alloc, &mut listener, b"one", 3)
+        && serves(alloc, &mut listener, b"two", 0)
+        && matches!(listener.accept(), Accepted::NoMore)
+        && gave_back(&listener.below, &[(b"one", 3), (b"two", 0)])
+        && listener.accept_faults() == 0
 }
 
 #[test]
-fn an_accept_that_fails_is_counted_and_leaves_the_links(rt: HostRuntime) -> Result<(), Fail> {
-    let alloc = rt.alloc();
-    let plan = FaultPlan::new(alloc, &[0])?;
-    let mut listener = BufferedListening::new(MemListener::failing(alloc, two_links(alloc)?, plan));
-    assert!(rt; matches!(listener.accept(), Accepted::Failed));
-    assert_eq!(rt; listener.accept_faults(), 1);
-    assert!(rt; serves(alloc, &mut listener, b"one", 0));
-    assert_eq!(rt; listener.accept_faults(), 1);
-    Ok(())
+fn the_links_below_are_given_back_with_their_statuses(rt: HostRuntime) {
+    match two_links(rt.alloc()) {
+        Ok(links) => {
+            assert!(rt; come_in_order(rt.alloc(), MemListener::new(rt.alloc(), links)));
+        }
+        Err(_) => assert!(rt; false),
+    }
+}
+
+/// Whether an accept that fails is counted, and leaves the links.
+fn leaves_the_links(alloc: Global, below: MemListener) -> bool {
+    let mut listener = BufferedListening::new(below);
+    matches!(listener.accept(), Accepted::Failed)
+        && listener.accept_faults() == 1
+        && serves(alloc, &mut listener, b"one", 0)
+        && listener.accept_faults() == 1
+}
+
+#[test]
+fn an_accept_that_fails_is_counted_and_leaves_the_links(rt: HostRuntime) {
+    match (two_links(rt.alloc()), FaultPlan::new(rt.alloc(), &[0])) {
+        (Ok(links), Ok(plan)) => {
+            let below = MemListener::failing(rt.alloc(), links, plan);
+            assert!(rt; leaves_the_links(rt.alloc(), below));
+        }
+        _ => assert!(rt; false),
+    }
 }
 
 /// Whether a link hears both lines of a client, of which the second was read ahead when the link is ended, and then fails.
@@ -214,22 +303,31 @@ fn hears_both<K: End>(alloc: Global, link: &mut K) -> bool {
     first && is_next(alloc, link, b"two") && breaks(alloc, link) && link.read_faults() == 1
 }
 
-#[test]
-fn what_was_read_ahead_over_the_loopback_outlives_the_end(rt: HostRuntime) -> Result<(), Fail> {
-    let tcp = TcpListening::bind(&rt, &rt, "127.0.0.1:0");
-    let Some(address) = tcp.address() else {
-        return Err(io::Error::from(ErrorKind::AddrNotAvailable).into());
+/// A client that has said two lines.
+fn client_of(rt: &HostRuntime, address: Option<SocketAddr>) -> io::Result<TcpStream> {
+    let Some(address) = address else {
+        return Err(ErrorKind::AddrNotAvailable.into());
     };
-    let mut listener = BufferedListening::new(tcp);
-    let mut client = TcpStream::connect(&rt, address)?;
+    let mut client = TcpStream::connect(rt, address)?;
     client.write_all(b"one\ntwo\n")?;
+    Ok(client)
+}
+
+/// Whether the next link hears both lines, and is given back.
+fn hears_next<N: Listener>(alloc: Global, listener: &mut N) -> bool {
     match listener.accept() {
         Accepted::Link(mut link) => {
-            assert!(rt; hears_both(rt.alloc(), &mut link));
-            assert!(rt; listener.give_back(link, 0).is_ok());
+            hears_both(alloc, &mut link) && listener.give_back(link, 0).is_ok()
         }
-        _ => return Err(io::Error::from(ErrorKind::ConnectionRefused).into()),
+        _ => false,
     }
-    assert_eq!(rt; listener.accept_faults(), 0);
-    Ok(())
+}
+
+#[test]
+fn what_was_read_ahead_over_the_loopback_outlives_the_end(rt: HostRuntime) {
+    let tcp = TcpListening::bind(&rt, &rt, "127.0.0.1:0");
+    let client = client_of(&rt, tcp.address());
+    let mut listener = BufferedListening::new(tcp);
+    assert!(rt; client.is_ok() && hears_next(rt.alloc(), &mut listener));
+    assert!(rt; listener.accept_faults() == 0);
 }

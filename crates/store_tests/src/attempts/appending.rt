@@ -1,6 +1,5 @@
 //! What a journal answers to appends where its keeper fails or tells its list, and where two slots were reserved. What is
-//! appended has to be the run of a text that was parsed and checked; what was observed, and the commits before it, are put
-//! together by hand.
+//! appended has to be the run of a text that was parsed and checked; what was observed is put together by hand.
 
 ghost use Rattle.std.specs.Prelude.{◌≡◌, ◌≤◌, ◌<◌, ◌+◌, ◌^◌, ◌==◌, if◌then◌else◌, [], ◌∷◌, length, Some, IfOk, IfSome, OnOk, OnErr};
 ghost use Rattle.std.specs.Bool.{OnTrue, OnFalse};
@@ -10,20 +9,20 @@ ghost use Rattle.txn_lang.specs.Journals.{own};
 ghost use Rattle.journal_core.specs.Bodies.{IsBodyText};
 ghost use Rattle.journal_core.specs.Journals.{CanAppend, Decides};
 ghost use Rattle.journal_core.specs.Keeping.{Keeps};
-ghost use Rattle.journal_core.specs.Kinds.{AreOfTheirKinds, HasKinds};
+ghost use Rattle.journal_core.specs.Kinds.{HasKinds};
 ghost use Rattle.journal_core.specs.Pairs.{AreNumbered};
 ghost use Rattle.journal_core.specs.Readies.{IsRunOf};
 ghost use Rattle.journal_core.specs.Witnesses.{AreBasedOfOneKind};
 ghost use Rattle.store_tests.specs.Plain.{IsTold, plain, plain_bytes};
 
-use super::checked;
-use crate::journals::number_of;
+use crate::bodies::checked;
 use abort_witness::{Based, BasedList, Witness};
+use change_feed::Tail;
 use conflict_table::{Obs, Steps};
 use dio_core::Count;
 use journal_core::{Appended, FrontList, Journal, Keep, KeepFault, MemKeep, Ready, Slot};
 use plain_data::Text;
-use rdt_types::{Address, Delta, DeltaMap, ItemList, Kind, Outcome, Settings};
+use rdt_types::{Address, DeltaMap, ItemList, Kind, Outcome, Settings};
 use std::alloc::{AllocError, Global};
 use std::marker::Brand;
 use std::sync::ledger::{Blank, Ledger};
@@ -56,35 +55,6 @@ fn counter(alloc: Global) -> Result<Address, AllocError>
         kind: Kind::Counter,
         key: Text::from_slice(alloc, b"x")?,
     })
-}
-
-/// The commit of a number, by client 0, that adds to the counter `x`.
-fn adding(alloc: Global, number: u64) -> Result<Commit, AllocError>
-    ensures number { IfOk result (λ commit. commit.number ≡ number) }
-    ensures kinds { IfOk result (λ commit. AreOfTheirKinds commit.deltas) }
-{
-    let mut deltas = DeltaMap::new(alloc);
-    deltas.insert(counter(alloc)?, Delta::AddCounter(1))?;
-    Ok(Commit {
-        number,
-        client: 0,
-        seq: number,
-        body: Text::new(alloc),
-        outcome: Outcome::Spent,
-        deltas,
-    })
-}
-
-/// Three commits that add to the counter `x`.
-fn three(alloc: Global) -> Result<CommitList, AllocError>
-    ensures numbered { IfOk result AreNumbered }
-    ensures kinds { IfOk result HasKinds }
-{
-    let mut kept = CommitList::new(alloc);
-    kept.push(adding(alloc, 1)?)?;
-    kept.push(adding(alloc, 2)?)?;
-    kept.push(adding(alloc, 3)?)?;
-    Ok(kept)
 }
 
 /// A journal of four shards and a limit, with these commits.
@@ -153,7 +123,7 @@ fn ran(alloc: Global, source: &[u8]) -> Result<(Text, Run), AllocError>
     ensures run { IfOk result (λ done. IsRunOf done.0 done.1) }
     ensures body_text { IfOk result (λ done. IsBodyText done.0) }
 {
-    let Ok(body) = checked(alloc, source) else {
+    let Ok(body) = checked(alloc, source, false) else {
         return Err(AllocError);
     };
     match run(alloc, &body, &Snaps::new(alloc)) {
@@ -260,7 +230,49 @@ fn play<K: Keep>(alloc: Global, journal: &mut Journal<K>, rows: &[Row]) -> usize
     rows.len()
 }
 
+/// Client 0 adds to the counter `x`, and twice more.
+static ONE: [Row; 1] = [(0, ADDS, 0, End::Number(1))];
+
+fn one() -> &'static [Row] {
+    &ONE
+}
+
+static TWO_MORE: [Row; 2] = [(0, ADDS, 1, End::Number(2)), (0, ADDS, 2, End::Number(3))];
+
+fn two_more() -> &'static [Row] {
+    &TWO_MORE
+}
+
+// ---- what is read of a journal
+
+/// Whether a tail is there and has so many changes.
+fn has(tail: &Result<Tail, AllocError>, count: usize) -> bool {
+    match tail {
+        Ok(tail) => tail.changes.len() == count,
+        Err(_) => false,
+    }
+}
+
+/// Whether the only commit is there, with its change in shard 1, and nothing is elsewhere or behind it.
+fn has_one_change(journal: &Journal<MemKeep>) -> bool {
+    journal.length() == 1
+        && has(&journal.tail(1, 0, 1), 1)
+        && has(&journal.tail(0, 0, 1), 0)
+        && has(&journal.tail_all(1, 1), 0)
+        && journal.commit(1).is_some()
+        && journal.commit(0).is_none()
+        && journal.commit(2).is_none()
+}
+
 // ---- two slots
+
+/// The number of a slot.
+fn number_of(slot: &Result<Slot, AllocError>) -> Option<u64> {
+    match slot {
+        Ok(slot) => Some(slot.commit.number),
+        Err(_) => None,
+    }
+}
 
 /// Whether the slot that was reserved first is appended, where another was reserved behind it.
 fn goes_first(
@@ -278,8 +290,9 @@ fn goes_first(
     let slot = journal.reserve(first)?;
     let number = slot.commit.number;
     let other = number_of(&journal.reserve(second));
+    let length = journal.length();
     let answer = decided::<Brand, MemKeep>(Blank::new(1), journal, first, slot);
-    Ok((number, other) == (4, Some(4)) && answer == Appended::Number(4))
+    Ok((number, other, length) == (4, Some(4), 3) && answer == Appended::Number(4))
 }
 
 /// Whether that is so of two clients that read the counter `x` at 3.
@@ -297,7 +310,7 @@ fn first_of_two(alloc: Global, journal: &mut Journal<MemKeep>) -> bool {
 }
 
 /// Behind the commit of the first slot.
-const BEHIND: [Row; 2] = [
+static BEHIND: [Row; 2] = [
     (8, NOTHING, 3, End::Clash(3, 4)),
     (8, NOTHING, 4, End::Number(5)),
 ];
@@ -306,21 +319,23 @@ fn behind() -> &'static [Row] {
     &BEHIND
 }
 
-/// Whether the other client's append clashes then, until it reads anew.
+/// Whether the change of a first commit is found, and of two slots behind three commits one is added. Then the other client's
+/// append clashes, until it reads anew.
 fn one_is_added(alloc: Global) -> bool {
-    let Ok(kept) = three(alloc) else {
-        return false;
-    };
-    match journal_of(alloc, MemKeep, kept, 9) {
+    match journal_of(alloc, MemKeep, CommitList::new(alloc), 9) {
         Ok(mut journal) => {
-            first_of_two(alloc, &mut journal) && play(alloc, &mut journal, behind()) == 2
+            play(alloc, &mut journal, one()) == 1
+                && has_one_change(&journal)
+                && play(alloc, &mut journal, two_more()) == 2
+                && first_of_two(alloc, &mut journal)
+                && play(alloc, &mut journal, behind()) == 2
         }
         Err(_) => false,
     }
 }
 
 #[test]
-fn two_slots_of_one_number(rt: HostRuntime) {
+fn a_change_stands_in_its_shard_and_two_slots_have_one_number(rt: HostRuntime) {
     assert!(rt; one_is_added(rt.alloc()));
 }
 
@@ -366,7 +381,7 @@ impl Keep for Failing {
 }
 
 /// Up to the fault, and behind it.
-const TO_THE_FAULT: [Row; 3] = [
+static TO_THE_FAULT: [Row; 3] = [
     (7, NOTHING, 3, End::Number(4)),
     (8, NOTHING, 2, End::Clash(2, 3)),
     (8, NOTHING, 3, End::Fault(0, 1)),
@@ -376,7 +391,7 @@ fn to_the_fault() -> &'static [Row] {
     &TO_THE_FAULT
 }
 
-const BEHIND_THE_FAULT: [Row; 2] = [
+static BEHIND_THE_FAULT: [Row; 2] = [
     (8, NOTHING, 3, End::Number(5)),
     (8, NOTHING, 3, End::Full(5)),
 ];
@@ -385,32 +400,31 @@ fn behind_the_fault() -> &'static [Row] {
     &BEHIND_THE_FAULT
 }
 
-/// Whether a journal of three commits goes on so, and counts one fault at the end.
+/// Whether a journal goes on so behind three commits, and counts one fault at the end.
 fn goes_on(alloc: Global, mut journal: Journal<Failing>) -> bool {
-    play(alloc, &mut journal, to_the_fault()) == 3
+    play(alloc, &mut journal, one()) == 1
+        && play(alloc, &mut journal, two_more()) == 2
+        && play(alloc, &mut journal, to_the_fault()) == 3
         && journal.length() == 4
         && journal.commit(5).is_none()
         && play(alloc, &mut journal, behind_the_fault()) == 2
         && journal.close().0.faults.get() == 1
 }
 
-/// The same, with a keeper that fails at its second call.
+/// The same, with a keeper that fails at its fifth call.
 fn fails_once(alloc: Global) -> bool {
-    let Ok(kept) = three(alloc) else {
-        return false;
-    };
     let keeper = Failing {
-        before: 1,
+        before: 4,
         faults: Count::new(),
     };
-    match journal_of(alloc, keeper, kept, 5) {
+    match journal_of(alloc, keeper, CommitList::new(alloc), 5) {
         Ok(journal) => goes_on(alloc, journal),
         Err(_) => false,
     }
 }
 
 #[test]
-fn a_keeper_fails_at_its_second_call(rt: HostRuntime) {
+fn a_keeper_fails_at_its_fifth_call(rt: HostRuntime) {
     assert!(rt; fails_once(rt.alloc()));
 }
 
@@ -536,7 +550,7 @@ fn has_two(list: &CommitList, client: u32) -> bool {
 }
 
 /// Two commits that do nothing, and one that does something.
-const TOLD: [Row; 3] = [
+static TOLD: [Row; 3] = [
     (7, NOTHING, 0, End::Number(1)),
     (7, NOTHING, 0, End::Number(2)),
     (8, ADDS, 0, End::Fault(0, 1)),

@@ -1,5 +1,5 @@
 use Rattle.store_tests.proofs.Appending.{checked-tree}
-use Rattle.store_tests.proofs.attempts.checked.Goals as goal
+use Rattle.store_tests.proofs.bodies.checked.Goals as goal
 
 pub returns-clause-read : goal.returns-clause-read
 returns-clause-read c =
