@@ -1,2 +1,3 @@
 pub mod LeastPair
 pub mod NamedKinds
+pub mod Printable

@@ -1,5 +1,5 @@
 -- The part that a witness names is of the kind of the delta.
-use Rattle.std.proofs.Common.{◌≡◌, Bool, true, false, Option, Some, None, refl, sym, ap, ◌∙◌, subst}
+use Rattle.std.proofs.Common.{◌≡◌, ℤ, Bool, true, false, Option, Some, None, refl, sym, ap, ◌∙◌, subst}
 use Rattle.std.specs.Prelude.{option_map}
 use Rattle.std.specs.Option.{option_or}
 use Rattle.std.specs.Bool.{then_some}
@@ -15,8 +15,8 @@ use Rattle.rdt_types.specs.Values.{kind_written}
 use Rattle.rdt_types.specs.Deltas.{kind_changed}
 use Rattle.conflict_table.specs.declared.observation.Obs.{Obs}
 use Rattle.conflict_table.specs.declared.observation.Obs.TheVariants as obs
-use Rattle.conflict_table.specs.Observing.{kind_observed}
-use Rattle.conflict_table.specs.Parts.{set_part, hash_part, whole_part, clear_part, mark_part, first_mark, first_removed, first_pushed, named}
+use Rattle.conflict_table.specs.Observing.{kind_observed, is_over}
+use Rattle.conflict_table.specs.Parts.{set_part, hash_part, whole_part, clear_part, mark_part, first_mark, first_removed, first_pushed, raise_part, named}
 use Rattle.change_feed.specs.declared.change.Change.{Change}
 use Rattle.abort_witness.specs.declared.witness.Based.{Based}
 use Rattle.abort_witness.specs.declared.witness.Witness.{Witness}
@@ -62,6 +62,7 @@ whole-is (delta.PutText text) = refl
 whole-is (delta.Set d) = tt
 whole-is (delta.Hash d) = tt
 whole-is (delta.List d) = tt
+whole-is (delta.Raise n) = tt
 
 -- the clear that is named is that of the delta's own kind
 clear-is : (d : Delta) → IsOf (kind_changed d) (clear_part d)
@@ -72,6 +73,7 @@ clear-is (delta.PutText text) = tt
 clear-is (delta.Set d) = under _ d.cleared _ refl
 clear-is (delta.Hash d) = under _ d.cleared _ refl
 clear-is (delta.List d) = under _ d.cleared _ refl
+clear-is (delta.Raise n) = tt
 
 -- a mark that is named is of an element where the delta is a set's, and of a field where it is a hash's
 mark-is : (x : Bytes) (d : Delta) → IsOf (kind_changed d) (mark_part x d)
@@ -82,6 +84,7 @@ mark-is x (delta.PutText text) = tt
 mark-is x (delta.Set d) = made _ (set_part x) (map.get d.marks x) (λ b. set-part x b (delta.Set d) refl)
 mark-is x (delta.Hash d) = made _ (hash_part x) (map.get d.marks x) (λ m. hash-part x m (delta.Hash d) refl)
 mark-is x (delta.List d) = tt
+mark-is x (delta.Raise n) = tt
 
 -- and so is the first mark
 first-mark-is : (d : Delta) → IsOf (kind_changed d) (first_mark d)
@@ -92,6 +95,7 @@ first-mark-is (delta.PutText text) = tt
 first-mark-is (delta.Set d) = made _ _ _ (λ e. set-part e.0 e.1 (delta.Set d) refl)
 first-mark-is (delta.Hash d) = made _ _ _ (λ e. hash-part e.0 e.1 (delta.Hash d) refl)
 first-mark-is (delta.List d) = tt
+first-mark-is (delta.Raise n) = tt
 
 -- a text is taken out by a delta of a list alone
 first-removed-is : (d : Delta) → IsOf (kind_changed d) (first_removed d)
@@ -102,6 +106,7 @@ first-removed-is (delta.PutText text) = tt
 first-removed-is (delta.Set d) = tt
 first-removed-is (delta.Hash d) = tt
 first-removed-is (delta.List d) = made _ _ _ (λ e. refl)
+first-removed-is (delta.Raise n) = tt
 
 -- and an item is pushed by one alone
 first-pushed-is : (d : Delta) → IsOf (kind_changed d) (first_pushed d)
@@ -112,6 +117,18 @@ first-pushed-is (delta.PutText text) = tt
 first-pushed-is (delta.Set d) = tt
 first-pushed-is (delta.Hash d) = tt
 first-pushed-is (delta.List d) = made _ _ _ (λ item. refl)
+first-pushed-is (delta.Raise n) = tt
+
+-- a raise is that of a peak, whichever number it is above
+raise-is : (n : ℤ) (d : Delta) → IsOf (kind_changed d) (raise_part n d)
+raise-is n (delta.PutBool b) = tt
+raise-is n (delta.PutCounter m) = tt
+raise-is n (delta.AddCounter m) = tt
+raise-is n (delta.PutText text) = tt
+raise-is n (delta.Set d) = tt
+raise-is n (delta.Hash d) = tt
+raise-is n (delta.List d) = tt
+raise-is n (delta.Raise m) = under _ (is_over n m) _ refl
 
 -- row by row: each names some of these parts
 named-is : (o : Obs) (d : Delta) → IsOf (kind_changed d) (named o d)
@@ -126,6 +143,9 @@ named-is (obs.ListAt i) d = either _ (clear_part d) (first_removed d) (clear-is 
 named-is obs.ListAll d =
     either _ (option_or (clear_part d) (first_removed d)) (first_pushed d) (either _ (clear_part d) (first_removed d) (clear-is d)
     (first-removed-is d)) (first-pushed-is d)
+named-is (obs.PeakIs n) d = raise-is n d
+named-is (obs.PeakOver n true) d = tt
+named-is (obs.PeakOver n false) d = raise-is n d
 
 -- the part that is named is of the kind of the delta
 pub kind-named : (o : Obs) (d : Delta) (part : WriteOp) → named o d ≡ Some part → kind_written part ≡ kind_changed d

@@ -1,5 +1,5 @@
 -- The parts of an observation and of a witness are of one kind, that of the address.
-use Rattle.std.specs.Prelude.{◌≡◌, pos, codes, refl}
+use Rattle.std.specs.Prelude.{◌≡◌, pos, false, codes, refl}
 use Rattle.rdt_types.specs.declared.address.Kind.TheVariants as kinds
 use Rattle.rdt_types.specs.declared.operation.WriteOp.TheVariants as op
 use Rattle.rdt_types.specs.Values.{kind_written}
@@ -26,3 +26,13 @@ counted : IsOfOneKind (record {
   number = 4;
 })
 counted = record { observed = refl; written = refl }
+
+-- a raise beside an `over` of a peak
+raised : IsOfOneKind (record {
+  address = record { kind = kinds.Peak; key = codes "bid" };
+  obs = obs.PeakOver (pos 60) false;
+  base = 4;
+  part = op.Raise (pos 61);
+  number = 5;
+})
+raised = record { observed = refl; written = refl }

@@ -115,3 +115,17 @@ first-observation = refl
 -- what stands at another address is no clash
 no-clash : least (read (codes "x") ∷ []) (added 4 (codes "y") ∷ []) ≡ None
 no-clash = refl
+
+-- a peak of which it was asked at 3 whether it is above 10, and a raise of it by the next commit
+abbrev over : Bool → Based
+over answer = record { address = record { kind = kind.Peak; key = codes "bid" }; obs = obs.PeakOver (pos 10) answer; base = 3 }
+
+abbrev raised : Change
+raised = record { number = 4; address = record { kind = kind.Peak; key = codes "bid" }; delta = delta.Raise (pos 11) }
+
+-- the raise changes what was false, and never what was true
+raise-above : clashes (over false) raised ≡ true
+raise-above = refl
+
+over-for-good : clashes (over true) raised ≡ false
+over-for-good = refl

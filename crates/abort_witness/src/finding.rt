@@ -16,7 +16,7 @@ fn meets(based: &Based, change: &Change) -> bool
 }
 
 /// The number of the first change that clashes with an observation. It makes a step at most for each change that is past
-/// its base and at its address, and takes no memory.
+/// its base and at its address, and is never refused for want of memory.
 pub fn first_clash<L: Ledger>(
     based: &Based,
     changes: &[Change],
@@ -48,7 +48,7 @@ pub fn lesser(found: Option<Found>, place: u32, number: Option<u64>) -> Option<F
 }
 
 /// The least pair: the least number of a change past the base of an observation of its address with which it clashes, and
-/// then the first such observation. It takes no memory.
+/// then the first such observation. It is never refused for want of memory.
 pub fn least<L: Ledger>(based: &[Based], tail: &Tail, steps: &mut Steps<L>) -> Option<Found>
     requires places { pairs.HavePlaces based.now }
     ensures least { result ≡ pairs.least based.now tail.now.changes }

@@ -11,6 +11,6 @@ mod naming;
 mod witness;
 
 pub use finding::{first_clash, least, lesser};
-pub use laws::least_is_least;
+pub use laws::{least_is_least, witnesses_are_printable};
 pub use naming::{name, name_delta};
 pub use witness::{Based, BasedList, Found, FoundList, Witness, WitnessList};

@@ -82,6 +82,7 @@ kind_itself kind.Text = refl
 kind_itself kind.Set = refl
 kind_itself kind.Hash = refl
 kind_itself kind.List = refl
+kind_itself kind.Peak = refl
 
 -- two kinds
 kind_tells : Tells kind_eq.ghosts.eq
@@ -145,6 +146,7 @@ delta_tells (delta.PutText a) (delta.PutText b) = under delta.PutText (λ e. cc)
 delta_tells (delta.Set a) (delta.Set b) = under delta.Set (λ e. cc) (keyed_tells bool_tells a b)
 delta_tells (delta.Hash a) (delta.Hash b) = under delta.Hash (λ e. cc) (keyed_tells mark_tells a b)
 delta_tells (delta.List a) (delta.List b) = under delta.List (λ e. cc) (listed_tells a b)
+delta_tells (delta.Raise a) (delta.Raise b) = under delta.Raise (λ e. cc) (Decides-int_eq a b)
 delta_tells _ _ = fails (λ e. cc)
 
 -- two addresses with their deltas

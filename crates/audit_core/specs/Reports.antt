@@ -2,7 +2,7 @@
 -- of its commits, a line an address.
 use Rattle.std.specs.Prelude.{◌≡◌, ℕ, true, nat_lt, if◌then◌else◌, List, [], ◌∷◌, ◌++◌, length, map, take, Option, Some, None, codes, pos, refl}
 use Rattle.std.specs.List.{flat_map}
-use Rattle.std.specs.Fmt.{decimal}
+use Rattle.std.specs.Fmt.{decimal, digits}
 use Rattle.std.specs.FinMap as fin_map
 use Rattle.plain_data.specs.Texts.{Bytes}
 use Rattle.rdt_types.specs.declared.address.Kind.TheVariants as kind
@@ -57,6 +57,7 @@ item_of (value.Text t) = item.Text t
 item_of (value.Set s) = item.Texts (map (λ e. e.0) (fin_map.entries s))
 item_of (value.Hash h) = item.Texts (flat_map field_texts (fin_map.entries h))
 item_of (value.List items) = item.Texts items
+item_of (value.Peak n) = item.Int n
 
 -- so printed
 abbrev pub printed_value : Value → Bytes
@@ -71,6 +72,10 @@ value_line-bool = refl
 
 value_line-list : value_line (record { kind = kind.List; key = codes "bids" }, value.List (codes "ann" ∷ codes "bob" ∷ [])) ≡ codes "list(\"bids\") [\"ann\",\"bob\"]\n"
 value_line-list = refl
+
+value_line-peak : value_line (record { kind = kind.Peak; key = codes "p" }, value.Peak (pos 4)) ≡ codes "peak(\"p\") 4\n"
+unfolding digits
+value_line-peak = refl
 
 -- a state is asked for that lies ahead of all commits, and there are so many
 abbrev pub ahead_line : ℕ → ℕ → Bytes

@@ -88,6 +88,7 @@ fn item_of(alloc: Global, value: &Value) -> Result<Item, AllocError>
         Value::Set(set) => Item::Texts(elements(alloc, set.as_slice())?),
         Value::Hash(hash) => Item::Texts(fields(alloc, hash.as_slice())?),
         Value::List(items) => Item::Texts(items.clone()?),
+        Value::Peak(number) => Item::Int(*number),
     })
 }
 

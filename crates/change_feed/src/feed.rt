@@ -44,7 +44,7 @@ fn joined(
 }
 
 impl Feed {
-    /// Nothing changed, up to a number. It takes no memory yet.
+    /// Nothing changed, up to a number. It is never refused for want of memory.
     pub fn new(alloc: Global, to: u64) -> Feed
         ensures { result ≡ spec.begun to }
     {

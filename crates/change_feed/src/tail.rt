@@ -16,7 +16,7 @@ pub struct Tail {
 }
 
 impl Tail {
-    /// No changes, behind a number. It takes no memory.
+    /// No changes, behind a number. It is never refused for want of memory.
     pub fn none(alloc: Global, at: u64) -> Tail
         ensures from { result.from ≡ at }
         ensures to { result.to ≡ at }

@@ -66,7 +66,7 @@ fn put_all(values: &mut BTreeMap<Address, Value>, changed: Vec<(Address, Value)>
 }
 
 impl Cache {
-    /// A cache that holds nothing, at a number. It takes no memory yet.
+    /// A cache that holds nothing, at a number. It is never refused for want of memory.
     pub fn new(alloc: Global, at: u64) -> Cache
         ensures { result ≡ spec.empty at }
     {
@@ -100,8 +100,8 @@ impl Cache {
         Ok(())
     }
 
-    /// Applies a feed's deltas to the held values, and goes as far as the feed. All new values are made before any is put in
-    /// its place; the feed's addresses are looked up, and no other value is touched.
+    /// Applies a feed's deltas to the held values, and goes as far as the feed. All new values are made before any is
+    /// put in its place; the feed's addresses are looked up, and no other value is touched.
     pub fn advance(&mut self, feed: &Feed) -> Result<(), AllocError>
         requires { self.old.at ≤ feed.now.to }
         ensures ok { OnOk result (self.new ≡ spec.advanced self.old feed.now) }
@@ -114,7 +114,7 @@ impl Cache {
         Ok(())
     }
 
-    /// Holds no value at an address any longer. It takes no memory.
+    /// Holds no value at an address any longer. It is never refused for want of memory.
     pub fn release(&mut self, address: &Address)
         ensures { self.new ≡ spec.released self.old address.now }
     {

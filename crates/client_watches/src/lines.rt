@@ -86,7 +86,7 @@ fn make<B: Backend>(
 }
 
 impl Watching {
-    /// No watch, where so many commits are seen. It takes no memory yet.
+    /// No watch, where so many commits are seen. It is never refused for want of memory.
     pub fn new(alloc: Global, at: u64) -> Watching
         ensures { result ≡ spec.none_yet at }
     {

@@ -1,5 +1,5 @@
 -- Own operations and the one delta that they compose to: the same reads are decided, and the others observe the same.
-use Rattle.std.proofs.Common.{◌≡◌, Bool, true, false, not, cond, ◌||◌, [], ◌∷◌, List, nat_eq, is_some, Option, Some, None, pos, negsuc, refl}
+use Rattle.std.proofs.Common.{◌≡◌, Bool, true, false, not, cond, ◌||◌, [], ◌∷◌, List, nat_eq, is_some, Option, Some, None, ℤ, refl}
 use Rattle.std.proofs.Common.{sym, ap, ◌∙◌}
 use Rattle.std.proofs.lemmas.Bool.{or_parts}
 use Rattle.std.specs.List.{list_any, AllByRecursion}
@@ -13,17 +13,17 @@ use Rattle.rdt_types.specs.declared.value.Value.{Value}
 use Rattle.rdt_types.specs.declared.operation.WriteOp.{WriteOp}
 use Rattle.rdt_types.specs.declared.operation.WriteOp.TheVariants as op
 use Rattle.rdt_types.specs.declared.delta.Delta.{Delta}
-use Rattle.rdt_types.specs.Values.{write, kind_written}
+use Rattle.rdt_types.specs.Values.{kind_written}
 use Rattle.rdt_types.specs.Marks.{added, put_by}
 use Rattle.rdt_types.specs.declared.mark.Mark.TheVariants as mark
 use Rattle.rdt_types.specs.Deltas.{kind_changed, delta_of, compose, apply}
 use Rattle.rdt_types.proofs.OneKind.{OfOneKind, of_one_kind, kind-delta_of, kind-compose, bools, puts, put_then_add, add_then_put, adds}
-use Rattle.rdt_types.proofs.OneKind.{texts, sets, hashes, lists}
+use Rattle.rdt_types.proofs.OneKind.{texts, sets, hashes, lists, raises}
 use Rattle.rdt_types.proofs.Laws.{deltas_write, compositions_apply_in_turn}
 use Rattle.conflict_table.specs.declared.observation.Obs.TheVariants as obs
 use Rattle.conflict_table.specs.declared.read.ReadOp.{ReadOp}
 use Rattle.conflict_table.specs.declared.read.ReadOp.TheVariants as read
-use Rattle.conflict_table.specs.Clashes.{clash, clears, names, removes}
+use Rattle.conflict_table.specs.Clashes.{clash, clears, names, removes, raises_above}
 use Rattle.conflict_table.specs.Reads as reads
 use Rattle.conflict_table.specs.Reads.{replay, is_put, is_clear, is_list_remove, is_negative, is_decided, observed, observed_where}
 use Rattle.conflict_table.specs.Composed as composed
@@ -94,6 +94,7 @@ one_kind-puts first second (texts x y) = refl
 one_kind-puts first second (sets d e) = refl
 one_kind-puts first second (hashes d e) = refl
 one_kind-puts first second (lists d e) = refl
+one_kind-puts first second (raises m n) = refl
 
 -- operation by operation: just the puts of a bool, a counter or a text have a delta that puts
 puts-delta_of : (o : WriteOp) → composed.puts (delta_of o) ≡ is_put o
@@ -110,6 +111,7 @@ puts-delta_of op.HashClear = refl
 puts-delta_of (op.ListPush x) = refl
 puts-delta_of (op.ListRemove x) = refl
 puts-delta_of op.ListClear = refl
+puts-delta_of (op.Raise n) = refl
 
 -- no test besides
 alone : (a b c : Bool) → (a || false) ≡ ((b || false) || (c || false)) → a ≡ (b || c)
@@ -126,6 +128,7 @@ one_kind-clears first second (texts x y) = refl
 one_kind-clears first second (sets d e) = alone _ _ _ (clears_alone-composed added d e)
 one_kind-clears first second (hashes d e) = alone _ _ _ (clears_alone-composed put_by d e)
 one_kind-clears first second (lists d e) = clears-composed d e
+one_kind-clears first second (raises m n) = refl
 
 -- operation by operation: just the clears have a delta that clears
 clears-delta_of : (o : WriteOp) → clears (delta_of o) ≡ is_clear o
@@ -142,6 +145,7 @@ clears-delta_of op.HashClear = refl
 clears-delta_of (op.ListPush x) = refl
 clears-delta_of (op.ListRemove x) = refl
 clears-delta_of op.ListClear = refl
+clears-delta_of (op.Raise n) = refl
 
 -- one mark is at its key and nowhere else
 one_mark : {M : Type 0} (x y : Bytes) (mark : M) → map.contains_key (map.insert {R = text_cmp} map.empty y mark) x ≡ eq_by_cmp text_cmp x y
@@ -168,6 +172,7 @@ names-delta_of x op.HashClear = refl
 names-delta_of x (op.ListPush y) = refl
 names-delta_of x (op.ListRemove y) = refl
 names-delta_of x op.ListClear = refl
+names-delta_of x (op.Raise n) = refl
 
 -- operation by operation: the delta of a clear clears, and just that of a removal from a list takes items out
 removes-delta_of : (o : WriteOp) → (clears (delta_of o) || removes (delta_of o)) ≡ (is_clear o || is_list_remove o)
@@ -184,6 +189,24 @@ removes-delta_of op.HashClear = refl
 removes-delta_of (op.ListPush x) = has_some-empty map.empty refl
 removes-delta_of (op.ListRemove x) = ap (λ n. not (nat_eq n 0)) (len-one x tt)
 removes-delta_of op.ListClear = refl
+removes-delta_of (op.Raise n) = refl
+
+-- operation by operation: just that of a raise above a number raises above it
+raises-delta_of : (n : ℤ) (o : WriteOp) → raises_above n (delta_of o) ≡ reads.raises_above n o
+raises-delta_of n (op.PutBool b) = refl
+raises-delta_of n (op.PutCounter m) = refl
+raises-delta_of n (op.AddCounter m) = refl
+raises-delta_of n (op.PutText t) = refl
+raises-delta_of n (op.SetAdd x) = refl
+raises-delta_of n (op.SetRemove x) = refl
+raises-delta_of n op.SetClear = refl
+raises-delta_of n (op.HashPut f t) = refl
+raises-delta_of n (op.HashRemove f) = refl
+raises-delta_of n op.HashClear = refl
+raises-delta_of n (op.ListPush x) = refl
+raises-delta_of n (op.ListRemove x) = refl
+raises-delta_of n op.ListClear = refl
+raises-delta_of n (op.Raise m) = refl
 
 -- ---- the law
 
@@ -209,6 +232,11 @@ module _ (k : Kind) (own : List WriteOp) (all : AllByRecursion (λ o. kind_writt
       any-operation k (clash (obs.ListAt 0)) (compositions_clash_by_parts (obs.ListAt 0)) (λ o. is_clear o || is_list_remove o) removes-delta_of own all
       ∙ list_any-or is_clear is_list_remove own
 
+  -- it raises above a number where one of them does: this is the clash of a peak of that height, which goes by parts
+  raises_alike : (n : ℤ) → if_any (raises_above n) (composed_of own) ≡ list_any (reads.raises_above n) own
+  raises_alike n =
+      any-operation k (clash (obs.PeakIs n)) (compositions_clash_by_parts (obs.PeakIs n)) (reads.raises_above n) (raises-delta_of n) own all
+
   -- read by read, by the test that decides it
   pub decided_alike : (r : ReadOp) → is_decided_by r (composed_of own) ≡ is_decided r own
   decided_alike read.Get = puts_alike
@@ -219,6 +247,7 @@ module _ (k : Kind) (own : List WriteOp) (all : AllByRecursion (λ o. kind_writt
   decided_alike read.HashFields = clears_alike
   decided_alike (read.ListAt i) = ap (λ b. is_negative i || b) clears_alike
   decided_alike read.ListAll = clears_alike
+  decided_alike (read.PeakOver n) = raises_alike n
 
   -- a delta, if there is one, passes one of two tests where it passes the first or the second
   either_if_any : (d : Option Delta) → if_any (λ d. clears d || removes d) d ≡ (if_any clears d || if_any removes d)

@@ -1,19 +1,15 @@
 -- Whether a map of texts has a key, and whether it has any.
-use Rattle.std.proofs.Common.{◌≡◌, Bool, true, false, not, cond, T, ◌||◌, List, [], ◌∷◌, length, nat_eq, slice_get, is_some, option_map, ◌↔◌}
+use Rattle.std.proofs.Common.{◌≡◌, Bool, true, false, not, T, ◌||◌, List, [], ◌∷◌, length, nat_eq, slice_get, is_some, option_map}
 use Rattle.std.proofs.Common.{Option, Some, None, refl, sym, ap, ◌∙◌, subst}
 use Rattle.std.proofs.lemmas.Bool.{false≢true, not-false, eqb-true, true_from_ne_false, or_left, or_right}
 use Rattle.std.proofs.Math.Bool.{or-true}
 use Rattle.std.proofs.Math.Dec.{eqb-suc-zero}
-use Rattle.std.specs.List as list
 use Rattle.std.specs.Ordering.{eq_by_cmp}
 use Rattle.std.specs.Cmp.{eq_by_cmp_equiv}
-use Rattle.std.specs.Cmp.Lexicographic.{nat_list_cmp_total, pointwise, texts_ties}
+use Rattle.std.specs.Cmp.Lexicographic.{nat_list_cmp_total}
 use Rattle.std.specs.FinMap as map
-use Rattle.std.specs.FinMap.{nat_cmp-IsAntisymmetric, slice_cmp-IsAntisymmetric}
-use Rattle.std.specs.FinMap.Entries.{find}
 use Rattle.plain_data.specs.Texts.{Bytes, MapOf, text_cmp}
 use Rattle.plain_data.specs.Overlays.{overlaid, found_after}
-use Rattle.plain_data.proofs.Entries.{equal}
 use Rattle.plain_data.proofs.Overlays.{get-overlaid, len-some}
 use Rattle.conflict_table.specs.Clashes.{has_some}
 

@@ -1,3 +1,4 @@
+pub mod Peaks
 pub mod Keys
 pub mod Others
 pub mod Marked

@@ -1,5 +1,5 @@
 -- The named part is there exactly where a delta clashes, and clashes alone.
-use Rattle.std.proofs.Common.{◌≡◌, Bool, true, false, cond, ◌||◌, slice_get, option_map, is_some, Option, Some, None, refl, sym, ap, ◌∙◌}
+use Rattle.std.proofs.Common.{◌≡◌, ℤ, Bool, true, false, cond, ◌||◌, slice_get, option_map, is_some, Option, Some, None, refl, sym, ap, ◌∙◌}
 use Rattle.std.specs.Option.{option_or}
 use Rattle.std.specs.Bool.{then_some}
 use Rattle.std.proofs.lemmas.Bool.{or_left, or_right}
@@ -14,8 +14,9 @@ use Rattle.rdt_types.specs.declared.delta.Delta.{Delta}
 use Rattle.rdt_types.specs.declared.delta.Delta.TheVariants as delta
 use Rattle.rdt_types.specs.Deltas.{delta_of}
 use Rattle.conflict_table.specs.declared.observation.Obs.TheVariants as obs
-use Rattle.conflict_table.specs.Clashes.{clears, names, names_some, removes, pushes}
-use Rattle.conflict_table.specs.Parts.{set_part, hash_part, clear_part, mark_part, first_mark, first_removed, first_pushed}
+use Rattle.conflict_table.specs.Observing.{is_over}
+use Rattle.conflict_table.specs.Clashes.{clears, names, names_some, removes, pushes, raises_above}
+use Rattle.conflict_table.specs.Parts.{set_part, hash_part, clear_part, mark_part, first_mark, first_removed, first_pushed, raise_part}
 use Rattle.conflict_table.specs.Laws.{ClashesHaveParts, PartsClashAlone}
 use Rattle.conflict_table.proofs.Keys.{tied, first_item, first-has_some, has_some-key}
 
@@ -65,6 +66,11 @@ some_pushed : (d : Delta) → is_some (first_pushed d) ≡ pushes d
 some_pushed (delta.List d) = is_some-map (λ item. op.ListPush item) (slice_get d.pushed 0) ∙ first_item d.pushed
 some_pushed d = refl
 
+-- a raise is named where the delta raises above the number
+some_raise : (n : ℤ) (d : Delta) → is_some (raise_part n d) ≡ raises_above n d
+some_raise n (delta.Raise m) = is_some-then (is_over n m) (op.Raise m)
+some_raise n d = refl
+
 -- each row of the table has the parts of its tests
 pub clashes_have_parts : ClashesHaveParts
 clashes_have_parts obs.BoolIs (delta.PutBool b) kinds = refl
@@ -77,6 +83,9 @@ clashes_have_parts (obs.HashAt f) d kinds = is_some-or _ _ _ _ (some_clear d) (s
 clashes_have_parts obs.HashAll d kinds = is_some-or _ _ _ _ (some_clear d) (some_first_mark d)
 clashes_have_parts (obs.ListAt i) d kinds = is_some-or _ _ _ _ (some_clear d) (some_removed d)
 clashes_have_parts obs.ListAll d kinds = is_some-or _ _ _ _ (is_some-or _ _ _ _ (some_clear d) (some_removed d)) (some_pushed d)
+clashes_have_parts (obs.PeakIs n) d kinds = some_raise n d
+clashes_have_parts (obs.PeakOver n true) d kinds = refl
+clashes_have_parts (obs.PeakOver n false) d kinds = some_raise n d
 clashes_have_parts o d kinds = absurd (cc)
 
 -- ---- each part passes its test alone
@@ -85,6 +94,11 @@ clashes_have_parts o d kinds = absurd (cc)
 then_is : {A : Type 0} (b : Bool) (x y : A) → then_some b x ≡ Some y → x ≡ y
 then_is true x y e = cc
 then_is false x y e = absurd (cc)
+
+-- and it is there under a test that holds
+then_holds : {A : Type 0} (b : Bool) (x y : A) → then_some b x ≡ Some y → b ≡ true
+then_holds true x y e = refl
+then_holds false x y e = absurd (cc)
 
 -- what a function made is made of something that was there
 map_is : {A B : Type 0} (f : A → B) (o : Option A) (y : B) → option_map f o ≡ Some y → (x : A) × (f x ≡ y)
@@ -155,6 +169,13 @@ pushed_alone : (d : Delta) (w : WriteOp) → first_pushed d ≡ Some w → pushe
 pushed_alone (delta.List d) w e = let m = map_is (λ item. op.ListPush item) (slice_get d.pushed 0) w e in ap (λ w. pushes (delta_of w)) (sym m.1)
 pushed_alone d w e = absurd (cc)
 
+-- the part of a raise above a number has a delta that raises above it
+raise_alone : (n : ℤ) (d : Delta) (w : WriteOp) → raise_part n d ≡ Some w → raises_above n (delta_of w) ≡ true
+raise_alone n (delta.Raise m) w e =
+    ap (λ w. raises_above n (delta_of w)) (sym (then_is (is_over n m) (op.Raise m) w e))
+    ∙ then_holds (is_over n m) (op.Raise m) w e
+raise_alone n d w e = absurd (cc)
+
 -- so a part that a row names passes one of the row's tests
 pub parts_clash_alone : PartsClashAlone
 parts_clash_alone obs.BoolIs d w e = refl
@@ -167,3 +188,6 @@ parts_clash_alone obs.HashAll d w e = alone _ _ w _ _ e (clear_alone d w) (first
 parts_clash_alone (obs.ListAt i) d w e = alone _ _ w _ _ e (clear_alone d w) (removed_alone d w)
 parts_clash_alone obs.ListAll d w e =
     alone _ _ w _ _ e (λ f. alone _ _ w (clears (delta_of w)) (removes (delta_of w)) f (clear_alone d w) (removed_alone d w)) (pushed_alone d w)
+parts_clash_alone (obs.PeakIs n) d w e = raise_alone n d w e
+parts_clash_alone (obs.PeakOver n true) d w e = absurd (cc)
+parts_clash_alone (obs.PeakOver n false) d w e = raise_alone n d w e

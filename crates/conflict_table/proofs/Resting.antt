@@ -1,30 +1,29 @@
 -- A read rests on what it observes: own writes keep what the two values have in common.
-use Rattle.std.proofs.Common.{◌≡◌, ◌<◌, ℕ, pos, negsuc, Bool, true, false, not, cond, ◌||◌, ◌&&◌, List, [], ◌∷◌, ◌++◌, length, nat_lt}
+use Rattle.std.proofs.Common.{◌≡◌, ◌<◌, ℕ, ℤ, pos, negsuc, Bool, true, false, not, cond, ◌||◌, ◌&&◌, List, [], ◌∷◌, ◌++◌, length, nat_lt}
 use Rattle.std.proofs.Common.{slice_get, is_some, unwrap_or, Some, None, refl, sym, ap, ◌∙◌, ◌⊎◌, inl, inr, length-append, arith}
+use Rattle.std.specs.Int.{int_max}
 use Rattle.std.specs.List.{list_any}
 use Rattle.std.specs.Ordering.{eq_by_cmp}
 use Rattle.std.specs.Cmp.Lexicographic.{nat_list_cmp_total}
 use Rattle.std.specs.FinMap as map
-use Rattle.std.proofs.lemmas.Bool.{true≢false, false≢true, or_parts, ltb-true}
+use Rattle.std.proofs.lemmas.Bool.{true≢false, false≢true, or_parts, or_right, ltb-true}
 use Rattle.std.proofs.lemmas.Option.{slice_get_within, slice_get-get_or}
 use Rattle.plain_data.specs.Texts.{Bytes, SetOfTexts, text_cmp, has_text, with_text, without_text}
-use Rattle.rdt_types.specs.declared.address.Kind.{Kind}
-use Rattle.rdt_types.specs.declared.address.Kind.TheVariants as kind
 use Rattle.rdt_types.specs.declared.value.Value.{Value}
 use Rattle.rdt_types.specs.declared.value.Value.TheVariants as value
 use Rattle.rdt_types.specs.declared.operation.WriteOp.{WriteOp}
 use Rattle.rdt_types.specs.declared.operation.WriteOp.TheVariants as op
 use Rattle.rdt_types.specs.declared.outcome.Item.TheVariants as item
-use Rattle.rdt_types.specs.Values.{write, others, wrapping_sum, kind_of, counter_in, set_in, hash_in, list_in}
-use Rattle.conflict_table.specs.declared.observation.Obs.{Obs}
+use Rattle.rdt_types.specs.Values.{write, others, wrapping_sum, kind_of, counter_in, set_in, hash_in, list_in, peak_in}
 use Rattle.conflict_table.specs.declared.observation.Obs.TheVariants as obs
 use Rattle.conflict_table.specs.declared.read.ReadOp.{ReadOp}
 use Rattle.conflict_table.specs.declared.read.ReadOp.TheVariants as read
-use Rattle.conflict_table.specs.Observing.{observe}
+use Rattle.conflict_table.specs.Observing.{observe, is_over}
 use Rattle.std.proofs.lemmas.Bool.Decides.{nat_tests}
 use Rattle.conflict_table.specs.Reads.{replay, answer, is_put, is_clear, names, is_list_remove, item_at, whole, is_decided, whole_observed}
-use Rattle.conflict_table.specs.Reads.{observed, place_observed}
+use Rattle.conflict_table.specs.Reads.{observed, place_observed, raises_above}
 use Rattle.conflict_table.specs.Laws.{ReadsRestOnObservations}
+use Rattle.conflict_table.proofs.Peaks.{over-greater}
 use Rattle.conflict_table.proofs.Keys.{either}
 use Rattle.conflict_table.proofs.Items.{slice_get-append}
 
@@ -44,33 +43,55 @@ module _ (R : Value → Value → Type 0) (kept : (o : WriteOp) (v w : Value) �
       (λ now. replayed own (write o v) (write o w) (made o v w now))
       (λ later. decided test made own (write o v) (write o w) later)
 
--- ---- the whole of a bool, a counter or a text
+-- ---- the whole of a bool, a counter, a text or a peak
 
--- the same whole, and the same number for additions to go on from
+-- the same whole, and the same number for additions and for raises to go on from
 abbrev Whole : Value → Value → Type 0
-Whole v w = (whole v ≡ whole w) × (counter_in v ≡ counter_in w)
+Whole v w = (whole v ≡ whole w) × (counter_in v ≡ counter_in w) × (peak_in v ≡ peak_in w)
 
--- an addition goes on from the same number, and any other write leaves one whole for all values
+-- an addition and a raise go on from the same number, and any other write leaves one whole for all values
 keeps_whole : (o : WriteOp) (v w : Value) → Whole v w → Whole (write o v) (write o w)
-keeps_whole (op.AddCounter n) v w r = (ap (λ m. item.Int (wrapping_sum m n)) r.1, ap (λ m. wrapping_sum m n) r.1)
-keeps_whole o v w r = (refl, refl)
+keeps_whole (op.AddCounter n) v w r = (ap (λ m. item.Int (wrapping_sum m n)) r.1, ap (λ m. wrapping_sum m n) r.1, refl)
+keeps_whole (op.Raise n) v w r = (ap (λ m. item.Int (int_max m n)) r.2, refl, ap (λ m. int_max m n) r.2)
+keeps_whole o v w r = (refl, refl, refl)
 
 -- a put leaves the same whole for all values
 puts_whole : (o : WriteOp) (v w : Value) → is_put o ≡ true → Whole (write o v) (write o w)
-puts_whole (op.PutBool b) v w h = (refl, refl)
-puts_whole (op.PutCounter n) v w h = (refl, refl)
-puts_whole (op.PutText t) v w h = (refl, refl)
+puts_whole (op.PutBool b) v w h = (refl, refl, refl)
+puts_whole (op.PutCounter n) v w h = (refl, refl, refl)
+puts_whole (op.PutText t) v w h = (refl, refl, refl)
 puts_whole o v w h = absurd (false≢true h)
 
--- kind by kind: a bool, a counter and a text are observed whole, and a collection has no whole that differs
+-- kind by kind: a bool, a counter, a text and a peak are observed whole, and a collection has no whole that differs
 same_whole : (v w : Value) → kind_of v ≡ kind_of w → observe (whole_observed v) v ≡ observe (whole_observed v) w → Whole v w
-same_whole (value.Bool b) (value.Bool c) kinds same = (ap item.Bool (cc), refl)
-same_whole (value.Counter m) (value.Counter n) kinds same = (ap item.Int (cc), cc)
-same_whole (value.Text x) (value.Text y) kinds same = (ap item.Text (cc), refl)
-same_whole (value.Set s) (value.Set t) kinds same = (refl, refl)
-same_whole (value.Hash m) (value.Hash n) kinds same = (refl, refl)
-same_whole (value.List xs) (value.List ys) kinds same = (refl, refl)
+same_whole (value.Bool b) (value.Bool c) kinds same = (ap item.Bool (cc), refl, refl)
+same_whole (value.Counter m) (value.Counter n) kinds same = (ap item.Int (cc), cc, refl)
+same_whole (value.Text x) (value.Text y) kinds same = (ap item.Text (cc), refl, refl)
+same_whole (value.Set s) (value.Set t) kinds same = (refl, refl, refl)
+same_whole (value.Hash m) (value.Hash n) kinds same = (refl, refl, refl)
+same_whole (value.List xs) (value.List ys) kinds same = (refl, refl, refl)
+same_whole (value.Peak m) (value.Peak n) kinds same = (ap item.Int (cc), refl, cc)
 same_whole v w kinds same = absurd (cc)
+
+-- ---- whether a peak is above a number
+
+-- both are above it or none
+abbrev Over : ℤ → Value → Value → Type 0
+Over n v w = is_over n (peak_in v) ≡ is_over n (peak_in w)
+
+-- a raise does the same to both, and any other write leaves no peak
+keeps_over : (n : ℤ) (o : WriteOp) (v w : Value) → Over n v w → Over n (write o v) (write o w)
+keeps_over n (op.Raise m) v w r =
+    over-greater n (peak_in v) m ∙ ap (λ b. b || is_over n m) r ∙ sym (over-greater n (peak_in w) m)
+keeps_over n o v w r = refl
+
+-- a raise above the number leaves both above it
+raises_over : (n : ℤ) (o : WriteOp) (v w : Value) → raises_above n o ≡ true → Over n (write o v) (write o w)
+raises_over n (op.Raise m) v w h =
+    over-greater n (peak_in v) m
+    ∙ or_right (is_over n (peak_in v)) (is_over n m) h
+    ∙ sym (over-greater n (peak_in w) m ∙ or_right (is_over n (peak_in w)) (is_over n m) h)
+raises_over n o v w h = absurd (false≢true h)
 
 -- ---- elements and sets
 
@@ -249,6 +270,12 @@ get_rests : (own : List WriteOp) (v w : Value) (b : Bool) → list_any is_put ow
 get_rests own v w true puts r = decided Whole keeps_whole is_put puts_whole own v w puts
 get_rests own v w false keeps r = replayed Whole keeps_whole own v w (r refl)
 
+-- a raise above the number decides, and without one the peak is above it or not as before
+over_rests : (n : ℤ) (own : List WriteOp) (v w : Value) (b : Bool) → list_any (raises_above n) own ≡ b → (b ≡ false → Over n v w)
+    → Over n (replay own v) (replay own w)
+over_rests n own v w true raises r = decided (Over n) (keeps_over n) (raises_above n) (raises_over n) own v w raises
+over_rests n own v w false keeps r = replayed (Over n) (keeps_over n) own v w (r refl)
+
 -- a clear decides, and without one what was observed of the place or of the list is kept
 place_rests : (i : ℕ) (own : List WriteOp) (v w : Value) (b : Bool) → list_any is_clear own ≡ b
     → (b ≡ false → observe (place_observed (pos i) (list_any is_list_remove own) (list_in v)) v
@@ -280,24 +307,22 @@ answers_rest (read.ListAt (pos i)) own v w kinds same = ap item.Text (place_rest
 answers_rest (read.ListAt (negsuc i)) own v w kinds same = refl
 answers_rest read.ListAll own v w kinds same =
     ap item.Texts (by_clear Items keeps_items (λ v. refl) own v w _ refl (λ none. let is = same none in cc))
+answers_rest (read.PeakOver n) own v w kinds same =
+    ap item.Bool (over_rests n own v w (list_any (raises_above n) own) refl (λ none. let is = same none in cc))
 
 -- ---- what is observed
 
--- the whole is observed by the kind alone
-whole_of : Kind → Obs
-whole_of kind.Bool = obs.BoolIs
-whole_of kind.Text = obs.TextIs
-whole_of _ = obs.CounterIs
-
--- kind by kind: which whole is observed doesn't depend on what the value holds
-whole_is : (v : Value) → whole_observed v ≡ whole_of (kind_of v)
-unfolding whole_of
-whole_is (value.Bool b) = refl
-whole_is (value.Counter n) = refl
-whole_is (value.Text t) = refl
-whole_is (value.Set s) = refl
-whole_is (value.Hash m) = refl
-whole_is (value.List xs) = refl
+-- kind by kind: which whole is observed goes by the kind, and of a peak by the number, which is the same
+same_observed : (v w : Value) → kind_of v ≡ kind_of w → observe (whole_observed v) v ≡ observe (whole_observed v) w
+    → whole_observed v ≡ whole_observed w
+same_observed (value.Bool b) (value.Bool c) kinds same = refl
+same_observed (value.Counter m) (value.Counter n) kinds same = refl
+same_observed (value.Text x) (value.Text y) kinds same = refl
+same_observed (value.Set s) (value.Set t) kinds same = refl
+same_observed (value.Hash m) (value.Hash n) kinds same = refl
+same_observed (value.List xs) (value.List ys) kinds same = refl
+same_observed (value.Peak m) (value.Peak n) kinds same = ap obs.PeakIs (cc)
+same_observed v w kinds same = absurd (cc)
 
 -- a place is within both lists or in none, and else the lists are the same
 same_place : (i : ℕ) (v w : Value) (a b : Bool) → nat_lt i (length (list_in v)) ≡ b
@@ -313,12 +338,13 @@ same_place i v w false false past same =
     let lists : list_in v ≡ list_in w = cc in
     sym (ap (λ b. cond b (obs.ListAt i) obs.ListAll) (ap (λ xs. nat_lt i (length xs)) (sym lists) ∙ past))
 
--- only the whole and a place are observed by the value: the one by its kind, the other by the length of the list
+-- only the whole, a place and a peak are observed by the value: by its kind, by the length of the list, and by the answer
 observes_same : (r : ReadOp) (own : List WriteOp) (v w : Value) → kind_of v ≡ kind_of w
     → observe (observed r own v) v ≡ observe (observed r own v) w → observed r own v ≡ observed r own w
-observes_same read.Get own v w kinds same = whole_is v ∙ ap whole_of kinds ∙ sym (whole_is w)
+observes_same read.Get own v w kinds same = same_observed v w kinds same
 observes_same (read.ListAt (pos i)) own v w kinds same =
     same_place i v w (list_any is_list_remove own) (nat_lt i (length (list_in v))) refl same
+observes_same (read.PeakOver n) own v w kinds same = ap (λ r. obs.PeakOver n r) (cc)
 observes_same r own v w kinds same = refl
 
 -- the answer, and what is observed

@@ -1,33 +1,39 @@
 -- The laws of the table, row by row.
-use Rattle.std.proofs.Common.{◌≡◌, ℤ, pos, negsuc, zero, suc, Bool, true, false, not, ◌||◌, [], ◌∷◌, ◌++◌, FitsSigned, slice_get, is_some}
-use Rattle.std.proofs.Common.{Option, refl, sym, ap, ◌∙◌, append-nil, arith}
+use Rattle.std.proofs.Common.{◌≡◌, ℤ, pos, negsuc, zero, suc, Bool, true, false, not, ◌&&◌, ◌||◌, [], ◌∷◌, ◌++◌, FitsSigned, slice_get, is_some}
+use Rattle.std.proofs.Common.{Option, int_lt, refl, sym, ap, ◌∙◌, append-nil, arith}
+use Rattle.std.specs.Int.{int_max}
 use Rattle.std.specs.Int.{w64}
 use Rattle.std.proofs.lemmas.Grind.{common_steps}
-use Rattle.std.proofs.lemmas.Bool.{true≢false, or_parts}
+use Rattle.std.proofs.lemmas.Bool.{true≢false, false≢true, or_parts, or_left, or_right}
+use Rattle.std.proofs.lemmas.Option.{slice_get_within, slice_get-get_or}
 use Rattle.std.specs.FinMap as map
 use Rattle.plain_data.specs.Texts.{Bytes}
+use Rattle.rdt_types.specs.declared.value.Value.{Value}
 use Rattle.rdt_types.specs.declared.value.Value.TheVariants as value
 use Rattle.rdt_types.specs.declared.mark.Mark.{Mark}
 use Rattle.rdt_types.specs.declared.delta.Delta.{Delta}
 use Rattle.rdt_types.specs.declared.delta.Delta.TheVariants as delta
-use Rattle.rdt_types.specs.Values.{wrapping_sum, set_in, hash_in, list_in}
-use Rattle.rdt_types.specs.Deltas.{compose}
+use Rattle.rdt_types.specs.Values.{wrapping_sum, set_in, hash_in, list_in, peak_in}
+use Rattle.rdt_types.specs.Deltas.{apply, compose}
 use Rattle.rdt_types.specs.Marks.{added, put_by}
 use Rattle.rdt_types.specs.Keyed.{Keyed, mark_after, composed}
 use Rattle.rdt_types.specs.Listed.{Listed}
 use Rattle.conflict_table.specs.declared.observation.Obs.{Obs}
 use Rattle.conflict_table.specs.declared.observation.Obs.TheVariants as obs
 use Rattle.conflict_table.specs.declared.answer.Answer.TheVariants as answer
+use Rattle.conflict_table.specs.Observing.{observe, IsWithin, is_over}
 use Rattle.conflict_table.specs.Clashes.{clash, has_some}
-use Rattle.conflict_table.specs.Laws.{NoClashNoChange, ClashesShowChanges, CompositionsClashByParts}
+use Rattle.conflict_table.specs.Laws.{NoClashNoChange, FitsAgain, ClashesShowChanges, CompositionsClashByParts}
 use Rattle.rdt_types.proofs.OneKind.{OfOneKind, of_one_kind, bools, puts, put_then_add, add_then_put, adds, texts, sets, hashes, lists}
+use Rattle.rdt_types.proofs.OneKind.{raises}
+use Rattle.conflict_table.proofs.Peaks.{over-greater, greater-stays, greater-changes, not_over-itself}
 use Rattle.conflict_table.proofs.Keys.{or_none, contains-overlaid, has_some-overlaid}
 use Rattle.conflict_table.proofs.Marked.{differs, get-applied_unmarked, applied_unmarked, changed_at, changed, touches-composed}
 use Rattle.conflict_table.proofs.Items as items
 use Rattle.conflict_table.proofs.Items.{longer, applied_pushes, slice_get-append, has_no_items, clears-composed, takes-composed}
 use Rattle.conflict_table.proofs.Items.{acts-composed}
 
--- what isn't marked, cleared or taken out stays
+-- what isn't marked, cleared, taken out or raised above stays
 pub no_clash_no_change : NoClashNoChange
 no_clash_no_change obs.BoolIs d v kinds within none = absurd (true≢false none)
 no_clash_no_change obs.CounterIs d v kinds within none = absurd (true≢false none)
@@ -45,7 +51,33 @@ no_clash_no_change (obs.ListAt i) (delta.List d) v kinds within none =
 no_clash_no_change obs.ListAll (delta.List d) v kinds within none =
     let each = or_parts _ _ none in
     ap answer.List (applied_pushes d (list_in v) each.0 ∙ ap (λ ys. list_in v ++ ys) (has_no_items d.pushed each.1) ∙ append-nil (list_in v))
+no_clash_no_change (obs.PeakIs n) (delta.Raise m) v kinds within none =
+    ap answer.Peak (greater-stays (peak_in v) m (ap (λ k. int_lt k m) within ∙ none))
+no_clash_no_change (obs.PeakOver n true) (delta.Raise m) v kinds within none =
+    ap answer.Bool (over-greater n (peak_in v) m ∙ or_left _ _ within ∙ sym within)
+no_clash_no_change (obs.PeakOver n false) (delta.Raise m) v kinds within none =
+    ap answer.Bool (over-greater n (peak_in v) m ∙ ap (λ b. is_over n (peak_in v) || b) none ∙ or_none _)
 no_clash_no_change o d v kinds within none = absurd (cc)
+
+-- a value on which the same is observed fits as well: a list with the same item at a place within it, a peak that answers the same
+pub fits_alike : (o : Obs) (v w : Value) → IsWithin o v → observe o w ≡ observe o v → IsWithin o w
+fits_alike obs.BoolIs v w within same = tt
+fits_alike obs.CounterIs v w within same = tt
+fits_alike obs.TextIs v w within same = tt
+fits_alike (obs.SetHas x) v w within same = tt
+fits_alike obs.SetAll v w within same = tt
+fits_alike (obs.HashAt f) v w within same = tt
+fits_alike obs.HashAll v w within same = tt
+fits_alike (obs.ListAt i) v w within same =
+    let is : slice_get (list_in w) i ≡ slice_get (list_in v) i = cc in
+    slice_get_within (list_in w) i _ (is ∙ slice_get-get_or (list_in v) i [] within)
+fits_alike obs.ListAll v w within same = tt
+fits_alike (obs.PeakIs n) v w within same = let is : peak_in w ≡ peak_in v = cc in is ∙ within
+fits_alike (obs.PeakOver n r) v w within same = let is : is_over n (peak_in w) ≡ is_over n (peak_in v) = cc in is ∙ within
+
+-- and without a clash the same is observed
+pub fits_again : FitsAgain
+fits_again o d v kinds within none = fits_alike o v (apply d v) within (no_clash_no_change o d v kinds within none)
 
 -- ---- what a clash changes
 
@@ -94,6 +126,15 @@ clashes_show_changes (obs.ListAt i) (delta.List d) kinds number some h =
     let change = items.changed_at i d h in (value.List change.0, refl, change.1, λ same. change.2 (cc))
 clashes_show_changes obs.ListAll (delta.List d) kinds number some h =
     let change = items.changed d h in (value.List change.0, refl, tt, λ same. change.1 (cc))
+clashes_show_changes (obs.PeakIs n) (delta.Raise m) kinds number some h = (value.Peak n, refl, refl, λ same. greater-changes n m h (cc))
+clashes_show_changes (obs.PeakOver n true) (delta.Raise m) kinds number some h = absurd (false≢true h)
+clashes_show_changes (obs.PeakOver n false) (delta.Raise m) kinds number some h = (
+  value.Peak n,
+  refl,
+  not_over-itself n,
+  λ same. let is : is_over n (int_max n m) ≡ is_over n n = cc in
+      true≢false (sym (over-greater n n m ∙ or_right _ _ h) ∙ is ∙ not_over-itself n),
+)
 clashes_show_changes o d kinds number some h = absurd (cc)
 
 -- ---- compositions
@@ -103,6 +144,7 @@ abbrev IsPlain : Delta → Type 0
 IsPlain (delta.Set d) = ⊥
 IsPlain (delta.Hash d) = ⊥
 IsPlain (delta.List d) = ⊥
+IsPlain (delta.Raise n) = ⊥
 IsPlain _ = Unit {0}
 
 -- whether it is the whole of a bool, a counter or a text that is observed
@@ -120,6 +162,9 @@ plain_clash obs.TextIs d plain = refl
 plain_clash o (delta.Set d) plain = absurd plain
 plain_clash o (delta.Hash d) plain = absurd plain
 plain_clash o (delta.List d) plain = absurd plain
+plain_clash o (delta.Raise n) plain = absurd plain
+plain_clash (obs.PeakOver n true) d plain = refl
+plain_clash (obs.PeakOver n false) d plain = refl
 plain_clash o d plain = refl
 
 -- a test joined with itself is that test
@@ -165,6 +210,8 @@ set_clashes (obs.HashAt x) d e = names-composed added d e x
 set_clashes obs.HashAll d e = names_some-composed added d e
 set_clashes (obs.ListAt i) d e = clears_alone-composed added d e
 set_clashes obs.ListAll d e = nothing_else _ _ _ (clears_alone-composed added d e)
+set_clashes (obs.PeakIs n) d e = refl
+set_clashes (obs.PeakOver n r) d e = twice (not r && false)
 
 -- row by row, as of sets
 hash_clashes : (o : Obs) (d e : Keyed Mark)
@@ -178,6 +225,8 @@ hash_clashes (obs.HashAt x) d e = names-composed put_by d e x
 hash_clashes obs.HashAll d e = names_some-composed put_by d e
 hash_clashes (obs.ListAt i) d e = clears_alone-composed put_by d e
 hash_clashes obs.ListAll d e = nothing_else _ _ _ (clears_alone-composed put_by d e)
+hash_clashes (obs.PeakIs n) d e = refl
+hash_clashes (obs.PeakOver n r) d e = twice (not r && false)
 
 -- row by row, by clears, removals and pushes
 list_clashes : (o : Obs) (d e : Listed)
@@ -191,8 +240,20 @@ list_clashes (obs.HashAt x) d e = nothing_else _ _ _ (clears-composed d e)
 list_clashes obs.HashAll d e = nothing_else _ _ _ (clears-composed d e)
 list_clashes (obs.ListAt i) d e = takes-composed d e
 list_clashes obs.ListAll d e = acts-composed d e
+list_clashes (obs.PeakIs n) d e = refl
+list_clashes (obs.PeakOver n r) d e = twice (not r && false)
 
--- a composition clears, marks, takes out or pushes where one of its parts does
+-- row by row: of two raises the greater one goes above a number where one of the two does
+raise_clashes : (o : Obs) (m n : ℤ) → clash o (compose (delta.Raise m) (delta.Raise n)) ≡ (clash o (delta.Raise m) || clash o (delta.Raise n))
+raise_clashes obs.BoolIs m n = refl
+raise_clashes obs.CounterIs m n = refl
+raise_clashes obs.TextIs m n = refl
+raise_clashes (obs.PeakIs k) m n = over-greater k m n
+raise_clashes (obs.PeakOver k true) m n = refl
+raise_clashes (obs.PeakOver k false) m n = over-greater k m n
+raise_clashes o m n = refl
+
+-- a composition clears, marks, takes out, pushes or raises where one of its parts does
 by_parts : (o : Obs) (first second : Delta) → OfOneKind first second → clash o (compose first second) ≡ (clash o first || clash o second)
 by_parts o first second (bools b c) = plain_clashes o (delta.PutBool b) (delta.PutBool c) (delta.PutBool c) tt tt tt
 by_parts o first second (puts m n) = plain_clashes o (delta.PutCounter m) (delta.PutCounter n) (delta.PutCounter n) tt tt tt
@@ -204,6 +265,7 @@ by_parts o first second (texts x y) = plain_clashes o (delta.PutText x) (delta.P
 by_parts o first second (sets d e) = set_clashes o d e
 by_parts o first second (hashes d e) = hash_clashes o d e
 by_parts o first second (lists d e) = list_clashes o d e
+by_parts o first second (raises m n) = raise_clashes o m n
 
 -- two deltas of equal kinds are one of the pairs for which it holds
 pub compositions_clash_by_parts : CompositionsClashByParts

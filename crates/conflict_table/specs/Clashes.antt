@@ -1,5 +1,5 @@
 -- The table of clashes: which deltas may change what an observation answers.
-use Rattle.std.specs.Prelude.{◌≡◌, pos, Bool, true, false, not, ◌||◌, [], length, nat_eq, is_some, codes, refl}
+use Rattle.std.specs.Prelude.{◌≡◌, ℤ, pos, negsuc, Bool, true, false, not, ◌&&◌, ◌||◌, [], length, nat_eq, is_some, codes, refl}
 use Rattle.std.proofs.Common.{ap, ◌∙◌}
 use Rattle.std.specs.FinMap as map
 use Rattle.std.specs.Cmp.Lexicographic.{nat_list_cmp_total}
@@ -11,6 +11,7 @@ use Rattle.rdt_types.specs.declared.mark.Mark.TheVariants as mark
 use Rattle.rdt_types.specs.Deltas.{delta_of}
 use Rattle.conflict_table.specs.declared.observation.Obs.{Obs}
 use Rattle.conflict_table.specs.declared.observation.Obs.TheVariants as obs
+use Rattle.conflict_table.specs.Observing.{is_over}
 
 -- whether a map has a key at all
 abbrev pub has_some : {V : Type 0} → MapOf V → Bool
@@ -45,9 +46,15 @@ abbrev pub pushes : Delta → Bool
 pushes (delta.List d) = not (nat_eq (length d.pushed) 0)
 pushes _ = false
 
+-- whether it raises a peak above a number
+abbrev pub raises_above : ℤ → Delta → Bool
+raises_above n (delta.Raise m) = is_over n m
+raises_above _ _ = false
+
 -- The table, of an observation and a delta of one kind, with one line a row. The whole of a bool, a counter or a text
 -- clashes with every delta. What is done at other elements or fields is no clash beside one, and what is pushed at the end
--- is none beside a place within the list.
+-- is none beside a place within the list. A raise is a clash only where it goes above what was observed, and nothing
+-- clashes with a peak that was above a number: no raise makes it less.
 abbrev pub clash : Obs → Delta → Bool
 clash obs.BoolIs d = true
 clash obs.CounterIs d = true
@@ -58,6 +65,8 @@ clash (obs.HashAt f) d = clears d || names f d
 clash obs.HashAll d = clears d || names_some d
 clash (obs.ListAt i) d = clears d || removes d
 clash obs.ListAll d = clears d || removes d || pushes d
+clash (obs.PeakIs n) d = raises_above n d
+clash (obs.PeakOver n r) d = not r && raises_above n d
 
 -- another's element is added beside an observed one, and a clear takes both
 other-element : clash (obs.SetHas (codes "a")) (delta_of (op.SetAdd (codes "b"))) ≡ false
@@ -83,3 +92,24 @@ push-behind-a-place = ap (λ n. not (nat_eq n 0)) (map.len-empty text_cmp (Unit 
 -- an addition of 0 is a change of the counter too
 addition-of-nothing : clash obs.CounterIs (delta_of (op.AddCounter (pos 0))) ≡ true
 addition-of-nothing = refl
+
+-- a raise above the observed height is a clash, and one to the same height or a lower one is none
+higher-raise : clash (obs.PeakIs (pos 7)) (delta_of (op.Raise (pos 8))) ≡ true
+higher-raise = refl
+
+raise-to-the-same : clash (obs.PeakIs (pos 7)) (delta_of (op.Raise (pos 7))) ≡ false
+raise-to-the-same = refl
+
+lower-raise : clash (obs.PeakIs (pos 7)) (delta_of (op.Raise (negsuc 8))) ≡ false
+lower-raise = refl
+
+-- so it is beside a peak that wasn't above a number
+raise-above-it : clash (obs.PeakOver (pos 7) false) (delta_of (op.Raise (pos 8))) ≡ true
+raise-above-it = refl
+
+raise-to-it : clash (obs.PeakOver (pos 7) false) (delta_of (op.Raise (pos 7))) ≡ false
+raise-to-it = refl
+
+-- and one that was above it is above it for good
+over-for-good : clash (obs.PeakOver (pos 7) true) (delta_of (op.Raise (pos 8))) ≡ false
+over-for-good = refl

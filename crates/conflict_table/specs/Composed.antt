@@ -1,5 +1,5 @@
 -- The own operations at an address as the one delta that they compose to.
-use Rattle.std.specs.Prelude.{◌≡◌, Bool, true, false, ◌||◌, pos, negsuc, List, [], ◌∷◌, fold, Option, Some, None, refl}
+use Rattle.std.specs.Prelude.{◌≡◌, Bool, true, false, ◌||◌, pos, List, [], ◌∷◌, fold, Option, Some, None, refl}
 use Rattle.rdt_types.specs.declared.value.Value.{Value}
 use Rattle.rdt_types.specs.declared.operation.WriteOp.{WriteOp}
 use Rattle.rdt_types.specs.declared.operation.WriteOp.TheVariants as op
@@ -8,10 +8,9 @@ use Rattle.rdt_types.specs.declared.delta.Delta.TheVariants as delta
 use Rattle.rdt_types.specs.Deltas.{delta_of, apply}
 use Rattle.rdt_types.specs.DeltaMaps.{after_maybe}
 use Rattle.conflict_table.specs.declared.observation.Obs.{Obs}
-use Rattle.conflict_table.specs.declared.observation.Obs.TheVariants as obs
 use Rattle.conflict_table.specs.declared.read.ReadOp.{ReadOp}
 use Rattle.conflict_table.specs.declared.read.ReadOp.TheVariants as read
-use Rattle.conflict_table.specs.Clashes.{clears, names, removes}
+use Rattle.conflict_table.specs.Clashes.{clears, names, removes, raises_above}
 use Rattle.conflict_table.specs.Reads.{is_negative, observed_where}
 
 -- operations after a delta that may stand before them
@@ -39,8 +38,8 @@ puts (delta.PutCounter n) = true
 puts (delta.PutText t) = true
 puts _ = false
 
--- Whether an own delta decides a read: a put decides a `get`; a clear every other read; a mark at an element or field the
--- reads of it; and there is nothing at a negative place.
+-- Whether an own delta decides a read: a put decides a `get`; a clear every other read of a collection; a mark at an element
+-- or field the reads of it; there is nothing at a negative place; and a raise above a number decides that a peak is above it.
 abbrev pub is_decided_by : ReadOp → Option Delta → Bool
 is_decided_by read.Get own = if_any puts own
 is_decided_by (read.SetHas x) own = if_any (λ d. clears d || names x d) own
@@ -50,6 +49,7 @@ is_decided_by (read.HashGet f) own = if_any (λ d. clears d || names f d) own
 is_decided_by read.HashFields own = if_any clears own
 is_decided_by (read.ListAt i) own = is_negative i || if_any clears own
 is_decided_by read.ListAll own = if_any clears own
+is_decided_by (read.PeakOver n) own = if_any (raises_above n) own
 
 -- what a read that it doesn't decide observes of the value
 abbrev pub observed_by : ReadOp → Option Delta → Value → Obs
@@ -58,3 +58,7 @@ observed_by r own v = observed_where r (if_any removes own) v
 -- a put and then an addition are a put, which decides a `get`
 put-then-add : is_decided_by read.Get (composed_of (op.PutCounter (pos 1) ∷ op.AddCounter (pos 2) ∷ [])) ≡ true
 put-then-add = refl
+
+-- a raise above a number and then a lower one still decide that a peak is above it
+raise-then-lower : is_decided_by (read.PeakOver (pos 8)) (composed_of (op.Raise (pos 9) ∷ op.Raise (pos 7) ∷ [])) ≡ true
+raise-then-lower = refl

@@ -24,6 +24,13 @@ NoClashNoChange =
     → clash o d ≡ false
     → observe o (apply d v) ≡ observe o v
 
+-- So a value that fits an observation fits it again after a delta without a clash.
+abbrev pub FitsAgain : Type 0
+FitsAgain =
+    (o : Obs) (d : Delta) (v : Value) → kind_observed o ≡ kind_changed d → IsWithin o v
+    → clash o d ≡ false
+    → IsWithin o (apply d v)
+
 -- the number of an addition has 64 bits, as every number that a program meets
 abbrev pub FitsIn64Bits : Delta → Type 0
 FitsIn64Bits (delta.AddCounter n) = FitsSigned w64 n

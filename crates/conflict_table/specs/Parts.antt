@@ -1,5 +1,5 @@
 -- The part of a delta that is named where it clashes with an observation.
-use Rattle.std.specs.Prelude.{◌≡◌, pos, Bool, true, false, [], slice_get, Option, Some, None, option_map, codes, refl}
+use Rattle.std.specs.Prelude.{◌≡◌, ℤ, pos, Bool, true, false, if◌then◌else◌, [], slice_get, Option, Some, None, option_map, codes, refl}
 use Rattle.std.proofs.Common.{ap}
 use Rattle.std.specs.Option.{option_or}
 use Rattle.std.specs.Bool.{then_some}
@@ -18,6 +18,7 @@ use Rattle.conflict_table.specs.declared.observation.Obs.{Obs}
 use Rattle.conflict_table.specs.declared.observation.Obs.TheVariants as obs
 use Rattle.conflict_table.specs.declared.lent.Part.{Part}
 use Rattle.conflict_table.specs.declared.lent.Part.TheVariants as part
+use Rattle.conflict_table.specs.Observing.{is_over}
 
 -- a mark at an element of a set, as the operation that makes it
 abbrev pub set_part : Bytes → Bool → WriteOp
@@ -66,8 +67,14 @@ abbrev pub first_pushed : Delta → Option WriteOp
 first_pushed (delta.List d) = option_map (λ item. op.ListPush item) (slice_get d.pushed 0)
 first_pushed _ = None
 
+-- the raise of a delta that raises a peak above a number
+abbrev pub raise_part : ℤ → Delta → Option WriteOp
+raise_part n (delta.Raise m) = then_some (is_over n m) (op.Raise m)
+raise_part _ _ = None
+
 -- The part of a delta that an observation of its kind clashes with, if there is one: the put or addition; the clear; else
--- the mark at the observed element or field; the first mark; the first text that is taken out; the first item pushed.
+-- the mark at the observed element or field; the first mark; the first text that is taken out; the first item pushed; the
+-- raise. There is none for a peak that was above a number.
 abbrev pub named : Obs → Delta → Option WriteOp
 named obs.BoolIs d = whole_part d
 named obs.CounterIs d = whole_part d
@@ -78,6 +85,8 @@ named (obs.HashAt f) d = option_or (clear_part d) (mark_part f d)
 named obs.HashAll d = option_or (clear_part d) (first_mark d)
 named (obs.ListAt i) d = option_or (clear_part d) (first_removed d)
 named obs.ListAll d = option_or (option_or (clear_part d) (first_removed d)) (first_pushed d)
+named (obs.PeakIs n) d = raise_part n d
+named (obs.PeakOver n r) d = if r then None else raise_part n d
 
 -- a part that is lent, as the operation that it shows
 abbrev pub shown : Part → WriteOp
@@ -94,6 +103,7 @@ shown part.HashClear = op.HashClear
 shown (part.ListPush x) = op.ListPush x.now
 shown (part.ListRemove x) = op.ListRemove x.now
 shown part.ListClear = op.ListClear
+shown (part.Raise n) = op.Raise n
 
 -- a clear is named before any mark
 clear-before-marks : named (obs.HashAt (codes "f")) (compose (delta_of op.HashClear) (delta_of (op.HashPut (codes "f") (codes "v"))))
@@ -172,3 +182,14 @@ list-removed = ap (λ es. option_or (option_map (λ e. op.ListRemove e.0) (slice
 
 list-cleared : named obs.ListAll (delta_of op.ListClear) ≡ Some op.ListClear
 list-cleared = refl
+
+-- a peak, and whether it is above a number
+peak-raised : named (obs.PeakIs (pos 7)) (delta_of (op.Raise (pos 8))) ≡ Some (op.Raise (pos 8))
+peak-raised = refl
+
+raised-above : named (obs.PeakOver (pos 7) false) (delta_of (op.Raise (pos 8))) ≡ Some (op.Raise (pos 8))
+raised-above = refl
+
+-- of two raises the greater one is named
+greater-raise : named (obs.PeakIs (pos 7)) (compose (delta_of (op.Raise (pos 9))) (delta_of (op.Raise (pos 8)))) ≡ Some (op.Raise (pos 9))
+greater-raise = refl

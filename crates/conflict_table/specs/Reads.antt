@@ -12,11 +12,12 @@ use Rattle.rdt_types.specs.declared.operation.WriteOp.{WriteOp}
 use Rattle.rdt_types.specs.declared.operation.WriteOp.TheVariants as op
 use Rattle.rdt_types.specs.declared.outcome.Item.{Item}
 use Rattle.rdt_types.specs.declared.outcome.Item.TheVariants as item
-use Rattle.rdt_types.specs.Values.{write, set_in, hash_in, list_in}
+use Rattle.rdt_types.specs.Values.{write, set_in, hash_in, list_in, peak_in}
 use Rattle.conflict_table.specs.declared.observation.Obs.{Obs}
 use Rattle.conflict_table.specs.declared.observation.Obs.TheVariants as obs
 use Rattle.conflict_table.specs.declared.read.ReadOp.{ReadOp}
 use Rattle.conflict_table.specs.declared.read.ReadOp.TheVariants as read
+use Rattle.conflict_table.specs.Observing.{is_over}
 
 -- the value after operations in order
 abbrev pub replay : List WriteOp → Value → Value
@@ -49,17 +50,25 @@ abbrev pub is_list_remove : WriteOp → Bool
 is_list_remove (op.ListRemove x) = true
 is_list_remove _ = false
 
+-- whether an operation raises a peak above a number
+abbrev pub raises_above : ℤ → WriteOp → Bool
+raises_above n (op.Raise m) = is_over n m
+raises_above _ _ = false
+
 -- the item at a place, or an empty one outside the list, a negative place included
 abbrev pub item_at : ℤ → List Bytes → Bytes
 item_at (pos i) items = unwrap_or (slice_get items i) []
 item_at (negsuc i) items = []
 
--- the whole of a bool, a counter or a text
+-- the whole of a bool, a counter, a text or a peak; of a collection, which no `get` meets, an empty text
 abbrev pub whole : Value → Item
 whole (value.Bool b) = item.Bool b
 whole (value.Counter n) = item.Int n
 whole (value.Text t) = item.Text t
-whole _ = item.Text []
+whole (value.Set s) = item.Text []
+whole (value.Hash m) = item.Text []
+whole (value.List items) = item.Text []
+whole (value.Peak n) = item.Int n
 
 -- what a read answers of a value
 abbrev pub answer : ReadOp → Value → Item
@@ -71,6 +80,7 @@ answer (read.HashGet f) v = item.Text (unwrap_or (map.get (hash_in v) f) [])
 answer read.HashFields v = item.Texts (map.keys (hash_in v))
 answer (read.ListAt i) v = item.Text (item_at i (list_in v))
 answer read.ListAll v = item.Texts (list_in v)
+answer (read.PeakOver n) v = item.Bool (is_over n (peak_in v))
 
 -- whether a place is before the first
 abbrev pub is_negative : ℤ → Bool
@@ -78,8 +88,8 @@ is_negative (pos i) = false
 is_negative (negsuc i) = true
 
 -- Whether the body's own operations at the address decide the read, so that no value is needed and nothing is observed: a
--- put decides a `get`; a clear decides every other read; an operation that names an element or field decides the reads of
--- it; and there is nothing at a negative place.
+-- put decides a `get`; a clear decides every other read of a collection; an operation that names an element or field
+-- decides the reads of it; there is nothing at a negative place; and a raise above a number decides that a peak is above it.
 abbrev pub is_decided : ReadOp → List WriteOp → Bool
 is_decided read.Get own = list_any is_put own
 is_decided (read.SetHas x) own = list_any is_clear own || list_any (names x) own
@@ -89,12 +99,17 @@ is_decided (read.HashGet f) own = list_any is_clear own || list_any (names f) ow
 is_decided read.HashFields own = list_any is_clear own
 is_decided (read.ListAt i) own = is_negative i || list_any is_clear own
 is_decided read.ListAll own = list_any is_clear own
+is_decided (read.PeakOver n) own = list_any (raises_above n) own
 
--- the whole of a bool, a counter or a text, as it is observed
+-- the whole of a bool, a counter, a text or a peak, as it is observed; of a collection, which no `get` meets, a counter
 abbrev pub whole_observed : Value → Obs
 whole_observed (value.Bool b) = obs.BoolIs
+whole_observed (value.Counter n) = obs.CounterIs
 whole_observed (value.Text t) = obs.TextIs
-whole_observed _ = obs.CounterIs
+whole_observed (value.Set s) = obs.CounterIs
+whole_observed (value.Hash m) = obs.CounterIs
+whole_observed (value.List items) = obs.CounterIs
+whole_observed (value.Peak n) = obs.PeakIs n
 
 -- A place of a list that is observed: the place alone where no own operation takes items out and the place is within the
 -- value, and else the whole list, since its length counts.
@@ -112,6 +127,7 @@ observed_where (read.HashGet f) takes_out v = obs.HashAt f
 observed_where read.HashFields takes_out v = obs.HashAll
 observed_where (read.ListAt i) takes_out v = place_observed i takes_out (list_in v)
 observed_where read.ListAll takes_out v = obs.ListAll
+observed_where (read.PeakOver n) takes_out v = obs.PeakOver n (is_over n (peak_in v))
 
 -- what a read that own operations don't decide observes of the value
 abbrev pub observed : ReadOp → List WriteOp → Value → Obs
@@ -134,3 +150,24 @@ addition-names-no-other = refl
 -- past the end of the value a place observes the whole list
 past-the-end : observed (read.ListAt (pos 1)) [] (value.List (codes "a" ∷ [])) ≡ obs.ListAll
 past-the-end = refl
+
+-- a raise doesn't decide a `get`, which observes the peak without it
+raise-doesnt-decide : is_decided read.Get (op.Raise (pos 9) ∷ []) ≡ false
+raise-doesnt-decide = refl
+
+peak-without-own : observed read.Get (op.Raise (pos 9) ∷ []) (value.Peak (pos 3)) ≡ obs.PeakIs (pos 3)
+peak-without-own = refl
+
+-- a raise above a number decides that a peak is above it, and one to that number doesn't
+raise-decides : is_decided (read.PeakOver (pos 8)) (op.Raise (pos 7) ∷ op.Raise (pos 9) ∷ []) ≡ true
+raise-decides = refl
+
+raise-to-it-doesnt-decide : is_decided (read.PeakOver (pos 9)) (op.Raise (pos 9) ∷ []) ≡ false
+raise-to-it-doesnt-decide = refl
+
+-- else what is observed carries the answer
+over-observed : observed (read.PeakOver (pos 2)) [] (value.Peak (pos 3)) ≡ obs.PeakOver (pos 2) true
+over-observed = refl
+
+not-over-observed : observed (read.PeakOver (pos 3)) [] (value.Peak (pos 3)) ≡ obs.PeakOver (pos 3) false
+not-over-observed = refl

@@ -6,7 +6,7 @@ use rdt_types::TextList;
 /// What an observation answers of a value.
 #[derive(Clone, Debug, Drop, PartialEq, Eq)]
 pub enum Answer {
-    /// The whole of a bool, or whether an element is in a set.
+    /// The whole of a bool, whether an element is in a set, or whether a peak is above a number.
     Bool(bool),
     /// The whole of a counter.
     Counter(i64),
@@ -20,4 +20,6 @@ pub enum Answer {
     Hash(TextMap<Text>),
     /// The whole of a list.
     List(TextList),
+    /// The whole of a peak.
+    Peak(i64),
 }

@@ -1,10 +1,15 @@
 //! The laws of the table: functions that do nothing, whose contracts are theorems over its definitions.
 
-ghost use Rattle.conflict_table.specs.Laws.{NoClashNoChange, ClashesShowChanges, CompositionsClashByParts, ClashesHaveParts, PartsClashAlone, ReadsRestOnObservations, ReadsGoByCompositions};
+ghost use Rattle.conflict_table.specs.Laws.{NoClashNoChange, FitsAgain, ClashesShowChanges, CompositionsClashByParts, ClashesHaveParts, PartsClashAlone, ReadsRestOnObservations, ReadsGoByCompositions};
 
 /// The law that without a clash a delta leaves what was observed as it was.
 pub fn no_clash_no_change()
     ensures { NoClashNoChange }
+{}
+
+/// The law that a value which fits an observation fits it again after a delta without a clash.
+pub fn fits_again()
+    ensures { FitsAgain }
 {}
 
 /// The law that with a clash some value shows a change, unless the delta is an addition of 0.

@@ -23,6 +23,7 @@ pub enum Part<'a> {
     ListPush(&'a Text),
     ListRemove(&'a Text),
     ListClear,
+    Raise(i64),
 }
 
 /// A part with texts of its own, as the operation that it shows.
@@ -43,5 +44,6 @@ pub fn copy_part(part: &Part<'_>) -> Result<WriteOp, AllocError>
         Part::ListPush(x) => WriteOp::ListPush(x.clone()?),
         Part::ListRemove(x) => WriteOp::ListRemove(x.clone()?),
         Part::ListClear => WriteOp::ListClear,
+        Part::Raise(n) => WriteOp::Raise(n),
     })
 }

@@ -19,13 +19,13 @@ mod table;
 
 pub use answer::Answer;
 pub use laws::{
-    clashes_have_parts, clashes_show_changes, compositions_clash_by_parts, no_clash_no_change,
-    parts_clash_alone, reads_go_by_compositions, reads_rest_on_observations,
+    clashes_have_parts, clashes_show_changes, compositions_clash_by_parts, fits_again,
+    no_clash_no_change, parts_clash_alone, reads_go_by_compositions, reads_rest_on_observations,
 };
 pub use lent::{Part, copy_part};
 pub use naming::part;
 pub use observation::Obs;
-pub use observing::{counter_in, has_element, observe};
+pub use observing::{counter_in, has_element, is_over, observe, peak_in};
 pub use read::ReadOp;
 pub use steps::Steps;
 pub use table::clash;

@@ -105,6 +105,16 @@ fn first_pushed(delta: &Delta) -> Option<Part<'_>>
     }
 }
 
+/// The raise of a delta that raises a peak above a number.
+fn raise_part(number: i64, delta: &Delta) -> Option<Part<'_>>
+    ensures { option_map shown result ≡ parts.raise_part number delta.now }
+{
+    match delta {
+        Delta::Raise(n) => (number < *n).then_some(Part::Raise(*n)),
+        _ => None,
+    }
+}
+
 /// The part that the rules name, if there is one.
 fn named<'a>(obs: &Obs, delta: &'a Delta) -> Option<Part<'a>>
     ensures { option_map shown result ≡ parts.named obs.now delta.now }
@@ -117,10 +127,18 @@ fn named<'a>(obs: &Obs, delta: &'a Delta) -> Option<Part<'a>>
         Obs::ListAll => clear_part(delta)
             .or(first_removed(delta))
             .or(first_pushed(delta)),
+        Obs::PeakIs(n) => raise_part(*n, delta),
+        Obs::PeakOver(n, is_over) => {
+            if *is_over {
+                None
+            } else {
+                raise_part(*n, delta)
+            }
+        }
     }
 }
 
-/// The part of a delta by which it clashes with an observation, lent by the delta. It takes no memory.
+/// The part of a delta by which it clashes with an observation, lent by the delta. It is never refused for want of memory.
 pub fn part<'a>(obs: &Obs, delta: &'a Delta) -> Part<'a>
     requires kind { kind_observed obs.now ≡ kind_changed delta.now }
     requires clash { clash obs.now delta.now ≡ true }

@@ -27,6 +27,10 @@ pub enum Obs {
     ListAt(u64),
     /// The whole of a list.
     ListAll,
+    /// The whole of a peak, which is this number.
+    PeakIs(i64),
+    /// Whether a peak is above a number, with the answer.
+    PeakOver(i64, bool),
 }
 
 impl ExactClone for Obs {
@@ -47,6 +51,7 @@ impl Obs {
             Obs::SetHas(_) | Obs::SetAll => Kind::Set,
             Obs::HashAt(_) | Obs::HashAll => Kind::Hash,
             Obs::ListAt(_) | Obs::ListAll => Kind::List,
+            Obs::PeakIs(_) | Obs::PeakOver(_, _) => Kind::Peak,
         }
     }
 }

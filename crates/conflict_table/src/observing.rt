@@ -112,6 +112,23 @@ fn list_in(alloc: Global, value: &Value) -> Result<TextList, AllocError>
     }
 }
 
+/// The whole of a peak. Of a value of another kind it is 0.
+pub fn peak_in(value: &Value) -> i64
+    ensures { result ≡ values.peak_in value.now }
+{
+    match value {
+        Value::Peak(n) => *n,
+        _ => 0,
+    }
+}
+
+/// Whether a peak is above a number.
+pub fn is_over(value: &Value, number: i64) -> bool
+    ensures { result ≡ observing.is_over number (values.peak_in value.now) }
+{
+    number < peak_in(value)
+}
+
 /// What an observation answers of a value. Of a value of another kind, which no address leads to, it answers what it
 /// answers of the default of its own.
 pub fn observe(alloc: Global, obs: &Obs, value: &Value) -> Result<Answer, AllocError>
@@ -127,5 +144,7 @@ pub fn observe(alloc: Global, obs: &Obs, value: &Value) -> Result<Answer, AllocE
         Obs::HashAll => Answer::Hash(hash_in(alloc, value)?),
         Obs::ListAt(place) => Answer::Maybe(item_at(value, *place)?),
         Obs::ListAll => Answer::List(list_in(alloc, value)?),
+        Obs::PeakIs(_) => Answer::Peak(peak_in(value)),
+        Obs::PeakOver(n, _) => Answer::Bool(is_over(value, *n)),
     })
 }

@@ -5,7 +5,7 @@ use plain_data::Text;
 /// A read of the value at an address.
 #[derive(Clone, Debug, Drop, PartialEq, Eq)]
 pub enum ReadOp {
-    /// The whole of a bool, a counter or a text.
+    /// The whole of a bool, a counter, a text or a peak.
     Get,
     /// Whether an element is in a set.
     SetHas(Text),
@@ -21,4 +21,6 @@ pub enum ReadOp {
     ListAt(i64),
     /// The items of a list.
     ListAll,
+    /// Whether a peak is above a number.
+    PeakOver(i64),
 }

@@ -70,8 +70,18 @@ fn pushes(delta: &Delta) -> bool
     }
 }
 
+/// Whether it raises a peak above a number.
+fn raises_above(number: i64, delta: &Delta) -> bool
+    ensures { result ≡ table.raises_above number delta.now }
+{
+    match delta {
+        Delta::Raise(n) => number < *n,
+        _ => false,
+    }
+}
+
 /// Whether a delta clashes with an observation of its kind: where it doesn't, the answer is the same after the delta as
-/// before. It makes one step, and takes no memory.
+/// before. It makes one step, and is never refused for want of memory.
 pub fn clash<L: Ledger>(obs: &Obs, delta: &Delta, steps: &mut Steps<L>) -> bool
     ensures table { result ≡ table.clash obs.now delta.now }
     ensures one_step { steps.new ≡ steps.old + 1 }
@@ -83,5 +93,7 @@ pub fn clash<L: Ledger>(obs: &Obs, delta: &Delta, steps: &mut Steps<L>) -> bool
         Obs::SetAll | Obs::HashAll => clears(delta) || names_some(delta),
         Obs::ListAt(_) => clears(delta) || removes(delta),
         Obs::ListAll => clears(delta) || removes(delta) || pushes(delta),
+        Obs::PeakIs(n) => raises_above(*n, delta),
+        Obs::PeakOver(n, is_over) => !*is_over && raises_above(*n, delta),
     }
 }

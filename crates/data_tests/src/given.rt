@@ -4,7 +4,7 @@ use plain_data::Text;
 use rdt_types::{Address, Delta, Kind, WriteOp, delta_of};
 use std::alloc::{AllocError, Global};
 
-/// What a write at a text does.
+/// What a write does, at a text where it has one.
 #[derive(Clone, Copy)]
 pub enum Write {
     SetAdd,
@@ -12,6 +12,7 @@ pub enum Write {
     SetClear,
     ListPush,
     ListRemove,
+    Raise(i64),
 }
 
 /// A text of these bytes.
@@ -35,6 +36,7 @@ fn operation(write: Write, at: Text) -> WriteOp {
         Write::SetClear => WriteOp::SetClear,
         Write::ListPush => WriteOp::ListPush(at),
         Write::ListRemove => WriteOp::ListRemove(at),
+        Write::Raise(number) => WriteOp::Raise(number),
     }
 }
 

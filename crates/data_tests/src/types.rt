@@ -29,10 +29,12 @@ fn deltas(alloc: Global, writes: &[Write]) -> Result<Sequence<Delta>, AllocError
 }
 
 /// Two writes at `a`, one after the other, and the one that they come to.
-static COMPOSITIONS: [[Write; 3]; 3] = [
+static COMPOSITIONS: [[Write; 3]; 5] = [
     [Write::SetAdd, Write::SetRemove, Write::SetRemove],
     [Write::SetClear, Write::SetRemove, Write::SetClear],
     [Write::ListPush, Write::ListRemove, Write::ListRemove],
+    [Write::Raise(3), Write::Raise(5), Write::Raise(5)],
+    [Write::Raise(5), Write::Raise(3), Write::Raise(5)],
 ];
 
 fn compositions() -> &'static [[Write; 3]] {
@@ -158,6 +160,7 @@ fn has_shards(alloc: Global) -> bool {
 #[test]
 fn words_spellings_and_shards(rt: HostRuntime) {
     assert!(rt; Kind::Counter.word() == b"counter".as_slice());
+    assert!(rt; Kind::Peak.word() == b"peak".as_slice());
     assert!(rt;
         spelling_of(b'\n') == Spelling::Escaped(b'n')
             && spelling_of(7) == Spelling::Hexadecimal(b'0', b'7')

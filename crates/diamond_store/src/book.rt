@@ -130,7 +130,8 @@ impl<K: Keep> Book<K> {
         })
     }
 
-    /// Adds the commit of what is ready, or says why not. A denial is counted. For want of memory the commits are as before.
+    /// Adds the commit of what is ready, or says why not. A denial is counted. For want of memory the commits are as
+    /// before.
     pub(crate) fn append(&mut self, ready: &Ready) -> Result<Decision, AllocError>
         requires can { CanSettle ready.now self.old.journal.commits }
         ensures settles { IfOk result (λ decision.
@@ -174,7 +175,7 @@ impl<K: Keep> Book<K> {
         self.journal.tail_all(from, to)
     }
 
-    /// The keeper, and the commits. It takes no memory.
+    /// The keeper, and the commits. It is never refused for want of memory.
     pub(crate) fn close(self) -> (K, CommitList)
         ensures commits { result.1 ≡ self.journal.commits }
         ensures kept { IfSome (K.kept result.0) (λ list. list ≡ self.journal.commits) }

@@ -74,8 +74,8 @@ impl<K: Keep, G: Gate + Drop, N: Naming> Store<K, G, N> {
         pass.seen = pass.seen.max(length);
     }
 
-    /// Ends a client's subscriptions: the registry keeps nothing of it any longer. It takes no memory. A client that only stops
-    /// taking is let go in time.
+    /// Ends a client's subscriptions: the registry keeps nothing of it any longer. It is never refused for want of
+    /// memory. A client that only stops taking is let go in time.
     pub fn leave<R: Wait>(&self, rt: &R, pass: Pass<K, N>) {
         self.feeder.lock(rt).leave(pass.client);
     }

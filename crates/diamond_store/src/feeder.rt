@@ -129,8 +129,9 @@ fn begin_anew(alloc: Global, registry: &mut Registry, at: u64)
     *registry = Registry::new(alloc, at);
 }
 
-/// The registry follows to a number that isn't behind its front. For want of memory it stays there. Where it is further behind than
-/// a window of commits, whoever has entered is to be let go in any case, and it begins anew: no more is copied to follow.
+/// The registry follows to a number that isn't behind its front. For want of memory it stays there. Where it is further
+/// behind than a window of commits, whoever has entered is to be let go in any case, and it begins anew: no more is
+/// copied to follow.
 fn follow<K: Keep, N: Naming, R: Wait>(
     rt: &R,
     alloc: Global,
@@ -221,7 +222,8 @@ fn register_all<K: Keep, N: Naming, R: Wait>(
     Ok(())
 }
 
-/// What is pending for a client that has taken up to a number. There is no answer where it is told of other addresses besides.
+/// What is pending for a client that has taken up to a number. There is no answer where it is told of other addresses
+/// besides.
 fn take_pending(
     registry: &mut Registry,
     client: u32,
@@ -279,8 +281,8 @@ fn enter_anew(registry: &mut Registry, client: u32) -> Result<(), AllocError>
     Ok(())
 }
 
-/// Lets a client go that took last further back than a window of commits: what is kept of one that comes no more has an end.
-/// One that does come is given by the journal what it missed.
+/// Lets a client go that took last further back than a window of commits: what is kept of one that comes no more has an
+/// end. One that does come is given by the journal what it missed.
 fn let_go(registry: &mut Registry, client: u32, window: u16)
     ensures front { registry.new.front ≡ registry.old.front }
     ensures newest { (c : ℕ) → taken_of registry.old c ≡ Some registry.old.front → taken_of registry.new c ≡ Some registry.old.front }
@@ -294,7 +296,8 @@ fn let_go(registry: &mut Registry, client: u32, window: u16)
     }
 }
 
-/// What the journal has for one with some addresses past one number and up to another. One without addresses has nothing there.
+/// What the journal has for one with some addresses past one number and up to another. One without addresses has nothing
+/// there.
 fn from_journal<K: Keep, N: Naming, R: Wait>(
     rt: &R,
     alloc: Global,
@@ -318,8 +321,8 @@ fn from_journal<K: Keep, N: Naming, R: Wait>(
     feed_of(alloc, &tail, addresses)
 }
 
-/// What changed at a client's addresses since it took last, up to the front. Where the registry doesn't keep of the client what
-/// its pass says, the journal has it, and the registry begins anew with the client.
+/// What changed at a client's addresses since it took last, up to the front. Where the registry doesn't keep of the
+/// client what its pass says, the journal has it, and the registry begins anew with the client.
 fn take_followed<K: Keep, G: Gate + Drop, N: Naming, R: Wait>(
     rt: &R,
     store: &Store<K, G, N>,
@@ -347,7 +350,7 @@ fn take_followed<K: Keep, G: Gate + Drop, N: Naming, R: Wait>(
 }
 
 impl<K: Keep, N: Naming> Feeder<K, N> {
-    /// Nobody is told of anything, from what a token knows on. It takes no memory yet.
+    /// Nobody is told of anything, from what a token knows on. It is never refused for want of memory.
     pub(crate) fn new(alloc: Global, token: Front<Book<K>, N>) -> Feeder<K, N> {
         let registry = Registry::new(alloc, token.entries());
         let hand = Hand::new();
@@ -385,7 +388,7 @@ impl<K: Keep, N: Naming> Feeder<K, N> {
         Ok(feed)
     }
 
-    /// Keeps nothing of a client any longer. It takes no memory.
+    /// Keeps nothing of a client any longer. It is never refused for want of memory.
     pub(crate) fn leave(&mut self, client: u32)
         ensures { taken_of self.new client ≡ None }
     {

@@ -82,8 +82,8 @@ fn replicas<K: Keep, N: Naming>(
 }
 
 impl<K: Keep, G: Gate + Drop, N: Naming> Store<K, G, N> {
-    /// The store over a journal that was just opened, which the name has to be of, and the pass of its first client. That has
-    /// seen what was kept, and is subscribed to nothing.
+    /// The store over a journal that was just opened, which the name has to be of, and the pass of its first client.
+    /// That has seen what was kept, and is subscribed to nothing.
     pub fn new(
         alloc: Global,
         settings: &Settings,
@@ -236,7 +236,7 @@ impl<K: Keep, G: Gate + Drop, N: Naming> Store<K, G, N> {
         Ok(())
     }
 
-    /// Has the changes at an address told no longer. It takes no memory.
+    /// Has the changes at an address told no longer. It is never refused for want of memory.
     pub fn unsubscribe(&self, pass: &mut Pass<K, N>, address: &Address)
         requires { IsShortAddress address.now }
         ensures { IsAnswered (known_of pass.old) (Call.unsubscribe address.now) Answer.done (known_of pass.new) }

@@ -43,6 +43,7 @@ module _ (journal later : Journal) where
 -- what was read and what was prepared rest on first commits alone
 pub fits_stays : FitsStays
 fits_stays journal later attempt fits = record {
+  asked = fits.asked;
   snaps = each-more (SnapFits journal) (SnapFits (journal ++ later)) attempt.snaps (snap-stays journal later) fits.snaps;
   fronts = by (ran attempt) fits.fronts;
 }

@@ -19,3 +19,4 @@ pub mod Laters
 pub mod Reported
 pub mod Sound
 pub mod Pauses
+pub mod Asked

@@ -26,6 +26,7 @@ kind-apply (delta.PutText t) v = refl
 kind-apply (delta.Set d) v = refl
 kind-apply (delta.Hash d) v = refl
 kind-apply (delta.List d) v = refl
+kind-apply (delta.Raise n) v = refl
 
 -- by whether a commit changes the address: its delta there is of the kind of the address
 kind-changed : (ds : Deltas) (a : Address) (v : Value) → AreOfTheirKinds ds → kind_of v ≡ a.kind → kind_of (after ds a v) ≡ a.kind
@@ -43,6 +44,7 @@ kind-default kind.Text = refl
 kind-default kind.Set = refl
 kind-default kind.Hash = refl
 kind-default kind.List = refl
+kind-default kind.Peak = refl
 
 -- so commit after commit leaves a value of the kind of the address
 kind-folded : (journal : Journal) (a : Address) (v : Value) → AllByRecursion (λ commit. AreOfTheirKinds commit.deltas) journal → kind_of v ≡ a.kind

@@ -21,7 +21,7 @@ use Rattle.docc_prepare.specs.declared.attempt.Next.TheVariants as next
 use Rattle.docc_prepare.specs.Attempts.{ran, next_of, next_of_run, next_event, least_unprepared, PausesAt}
 
 -- a value more, at an address that had none
-extends-missing : (snaps : List (Address × Snap)) (address : Address) (snap : Snap) → values_of snaps address ≡ None
+pub extends-missing : (snaps : List (Address × Snap)) (address : Address) (snap : Snap) → values_of snaps address ≡ None
     → Extends (values_of snaps) (values_of (insert_entry address_cmp snaps address snap))
 extends-missing snaps address snap missing a v found =
     ap (option_map (λ (s : Snap). s.value)) (lookup-insert_entry address_cmp order.total-law a address snap snaps)

@@ -28,7 +28,7 @@ use Rattle.journal_core.specs.Pairs.{pairs}
 use Rattle.docc_prepare.specs.declared.attempt.Attempt.{Attempt}
 use Rattle.docc_prepare.specs.declared.attempt.Next.TheVariants as next
 use Rattle.docc_prepare.specs.Attempts.{SnapList, ran, base_in, base_at, with_base, based, in_shard, next_event, with_snap, with_front, ready_of}
-use Rattle.docc_prepare.specs.Attempts.{SnapFits, FrontFits, FrontsFit, Fits}
+use Rattle.docc_prepare.specs.Attempts.{AreAsked, SnapFits, FrontFits, FrontsFit, Fits}
 use Rattle.docc_prepare.specs.Witnesses.{least_witness}
 use Rattle.docc_prepare.specs.Calls.{Call}
 use Rattle.docc_prepare.specs.Stores as stores
@@ -92,6 +92,7 @@ held-read s attempt a f held is within reached =
     let none = subst (FrontsFit s.journal attempt.shards attempt.snaps attempt.fronts) (needs attempt a is) held.fits.fronts in
     let snap : Snap = record { base = f; value = state s.journal f a } in record {
       fits = record {
+        asked = AreAsked.one_more a snap held.fits.asked (needs attempt a is);
         snaps = each-inserted (SnapFits s.journal) attempt.snaps a snap (record { within = within; value = refl }) held.fits.snaps;
         fronts = no-fronts s.journal attempt.shards (with_snap attempt a snap).snaps attempt.fronts (ran (with_snap attempt a snap)) none;
       };
@@ -135,6 +136,7 @@ held-prepared : (s : Store) (attempt : Attempt) (shard : ℕ) (run : Run) → Is
 held-prepared s attempt shard run held is within clear =
     let prepared : PreparedFront = record { shard = shard; front = front_of s shard } in record {
       fits = record {
+        asked = held.fits.asked;
         snaps = held.fits.snaps;
         fronts = subst (FrontsFit s.journal attempt.shards attempt.snaps (attempt.fronts ++ prepared ∷ [])) (sym is)
             (each-push (λ prepared. FrontFits s.journal (in_shard attempt.shards prepared.shard (based attempt.snaps run.observations)) prepared)
@@ -261,6 +263,7 @@ events_stay_sound w c (Event.follow shard) s here = record {
 none-held : (w : World) (attempt : Attempt) → IsOpened w attempt → IsHeld w.store attempt
 none-held w attempt opened = record {
   fits = record {
+    asked = subst (AreAsked attempt.body.body) (sym opened.unread) AreAsked.none_yet;
     snaps = subst (AllByRecursion (SnapFits w.store.journal)) (sym opened.unread) tt;
     fronts = no-fronts w.store.journal attempt.shards attempt.snaps attempt.fronts (ran attempt) opened.unprepared;
   };

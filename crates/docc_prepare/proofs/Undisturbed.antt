@@ -1,7 +1,7 @@
 -- The heart: what no commit disturbs is observed on the whole journal as it was at its base, and so the run is the same.
 use Rattle.std.proofs.Common.{◌≡◌, ℕ, ◌+◌, ◌≤◌, ◌<◌, zero, suc, Bool, true, false, cond, ◌&&◌, List, [], ◌∷◌, fold, map, take, length, Option}
 use Rattle.std.proofs.Common.{Some, None, refl, sym, ap, ◌∙◌, subst, arith}
-use Rattle.std.specs.Prelude.{nat_lt, slice_get}
+use Rattle.std.specs.Prelude.{nat_lt}
 use Rattle.std.specs.List.{list_any, AllByRecursion}
 use Rattle.std.specs.Option.{option_map}
 use Rattle.std.specs.Map.{lookup}
@@ -9,22 +9,18 @@ use Rattle.std.specs.BTreeMap.{is_at}
 use Rattle.std.specs.Ordering.{is_eq}
 use Rattle.std.proofs.lemmas.Bool.{or_parts}
 use Rattle.std.proofs.lemmas.Bool.Decides.{nat_tests}
-use Rattle.std.proofs.lemmas.Option.{same_Some, slice_get_within}
-use Rattle.plain_data.specs.Texts.{Bytes}
+use Rattle.std.proofs.lemmas.Option.{same_Some}
 use Rattle.plain_data.proofs.Entries.{equal}
 use Rattle.rdt_types.specs.declared.address.Address.{Address}
 use Rattle.rdt_types.specs.declared.value.Value.{Value}
 use Rattle.rdt_types.specs.declared.delta.Delta.{Delta}
 use Rattle.rdt_types.specs.Addresses.{address_cmp}
-use Rattle.rdt_types.specs.Values.{kind_of, default_of, list_in}
+use Rattle.rdt_types.specs.Values.{kind_of, default_of}
 use Rattle.rdt_types.specs.DeltaMaps.{Deltas, delta_at}
 use Rattle.rdt_types.proofs.Addresses.{address_cmp-equal}
-use Rattle.conflict_table.specs.declared.observation.Obs.{Obs}
-use Rattle.conflict_table.specs.declared.observation.Obs.TheVariants as obs
-use Rattle.conflict_table.specs.declared.answer.Answer.TheVariants as answer
 use Rattle.conflict_table.specs.Observing.{kind_observed, observe, IsWithin}
 use Rattle.conflict_table.specs.Clashes.{clash}
-use Rattle.conflict_table.proofs.Rows.{no_clash_no_change}
+use Rattle.conflict_table.proofs.Rows.{no_clash_no_change, fits_again}
 use Rattle.abort_witness.specs.declared.witness.Based.{Based}
 use Rattle.abort_witness.specs.Pairs.{clashes}
 use Rattle.abort_witness.specs.Kinds.{IsBasedOfOneKind}
@@ -52,32 +48,6 @@ use Rattle.journal_core.proofs.OfRuns.{kind-at}
 use Rattle.docc_prepare.proofs.OfOneKind.{kind-left}
 use Rattle.docc_prepare.proofs.Missing.{Misses, misses-of-pairs}
 
--- ---- one delta
-
--- answers that are the same have the same item
-item-same : (a b : Option Bytes) → answer.Maybe a ≡ answer.Maybe b → a ≡ b
-item-same a b e = cc
-
--- at each place within the list an item stands
-item-within : (xs : List Bytes) (i : ℕ) → i < length xs → (x : Bytes) × (slice_get xs i ≡ Some x)
-item-within [] i h = absurd (omega arith)
-item-within (x ∷ xs) zero h = (x, refl)
-item-within (x ∷ xs) (suc i) h = item-within xs i (omega arith)
-
--- a place that was within the list, and at which the same item stands, still is
-still-within : (o : Obs) (v w : Value) → IsWithin o v → observe o w ≡ observe o v → IsWithin o w
-still-within (obs.ListAt i) v w h e =
-    let there = item-within (list_in v) i h in
-    slice_get_within (list_in w) i there.0 (item-same (slice_get (list_in w) i) (slice_get (list_in v) i) e ∙ there.1)
-still-within obs.BoolIs v w h e = tt
-still-within obs.CounterIs v w h e = tt
-still-within obs.TextIs v w h e = tt
-still-within (obs.SetHas x) v w h e = tt
-still-within obs.SetAll v w h e = tt
-still-within (obs.HashAt f) v w h e = tt
-still-within obs.HashAll v w h e = tt
-still-within obs.ListAll v w h e = tt
-
 -- ---- one commit
 
 -- of three that don't all hold the last fails where the first two hold
@@ -102,15 +72,18 @@ unclashed b n (pair ∷ ds) d past misses e =
         ap (clash b.obs) (sym same) ∙ past_test (nat_lt b.base n) (is_eq (address_cmp b.address pair.0)) (clash b.obs pair.1) past_base is misses
     by rest misses false is e = rest e
 
--- a commit past the base that misses an observation leaves it as it was
+-- a commit past the base that misses an observation leaves it as it was, and what fitted it fits it again
 missed : (b : Based) (commit : Commit) (v : Value) → kind_observed b.obs ≡ b.address.kind → AreOfTheirKinds commit.deltas → b.base < commit.number
-    → Misses b commit → IsWithin b.obs v → observe b.obs (after commit.deltas b.address v) ≡ observe b.obs v
+    → Misses b commit → IsWithin b.obs v
+    → (observe b.obs (after commit.deltas b.address v) ≡ observe b.obs v) × IsWithin b.obs (after commit.deltas b.address v)
 missed b commit v kind kinds past misses within = by (delta_at commit.deltas b.address) refl
   where
-    by : (o : Option Delta) → delta_at commit.deltas b.address ≡ o → observe b.obs (apply_maybe o v) ≡ observe b.obs v
-    by None e = refl
+    by : (o : Option Delta) → delta_at commit.deltas b.address ≡ o → (observe b.obs (apply_maybe o v) ≡ observe b.obs v) × IsWithin b.obs (apply_maybe o v)
+    by None e = (refl, within)
     by (Some d) e =
-        no_clash_no_change b.obs d v (kind ∙ sym (kind-at commit.deltas b.address d kinds e)) within (unclashed b commit.number commit.deltas d past misses e)
+        let one = kind ∙ sym (kind-at commit.deltas b.address d kinds e) in
+        let none = unclashed b commit.number commit.deltas d past misses e in
+        (no_clash_no_change b.obs d v one within none, fits_again b.obs d v one within none)
 
 -- ---- a journal
 
@@ -127,8 +100,7 @@ module _ (b : Based) (kind : kind_observed b.obs ≡ b.address.kind) where
   past-base (commit ∷ journal) n v past numbers kinds misses within =
       let number = numbers.0 in
       let step = missed b commit v kind kinds.0 (omega arith) misses.0 within in
-      past-base journal (n + 1) (after commit.deltas b.address v) (omega arith) numbers.1 kinds.1 misses.1
-      (still-within b.obs v (after commit.deltas b.address v) within step) ∙ step
+      past-base journal (n + 1) (after commit.deltas b.address v) (omega arith) numbers.1 kinds.1 misses.1 step.1 ∙ step.0
 
   -- up to the base the commits count on both sides, and past it none changes what was observed
   from-base : (journal : Journal) (n k : ℕ) (v : Value) → n + k ≡ b.base → AreNumberedFrom n journal

@@ -1,5 +1,5 @@
 -- The least pair of a journal has a witness, which names both.
-use Rattle.std.proofs.Common.{◌≡◌, ℕ, zero, suc, ◌-◌, Bool, true, false, cond, ◌&&◌, ◌||◌, ◌≤◌, List, [], ◌∷◌, ◌++◌, length, take, drop, Option}
+use Rattle.std.proofs.Common.{◌≡◌, ℕ, ℤ, zero, suc, ◌-◌, Bool, true, false, cond, ◌&&◌, ◌||◌, ◌≤◌, List, [], ◌∷◌, ◌++◌, length, take, drop, Option}
 use Rattle.std.proofs.Common.{Some, None, refl, sym, ap, ◌∙◌, subst, arith, append_assoc}
 use Rattle.std.specs.Prelude.{nat_lt, ◌==◌, slice_get, is_some}
 use Rattle.std.specs.List.{list_any, AllByRecursion}
@@ -27,9 +27,9 @@ use Rattle.rdt_types.specs.DeltaMaps.{Deltas}
 use Rattle.rdt_types.proofs.Addresses.{address_cmp-equal}
 use Rattle.conflict_table.specs.declared.observation.Obs.{Obs}
 use Rattle.conflict_table.specs.declared.observation.Obs.TheVariants as obs
-use Rattle.conflict_table.specs.Observing.{kind_observed}
+use Rattle.conflict_table.specs.Observing.{kind_observed, is_over}
 use Rattle.conflict_table.specs.Clashes.{clash}
-use Rattle.conflict_table.specs.Parts.{set_part, hash_part, whole_part, clear_part, mark_part, first_mark, first_removed, first_pushed, named}
+use Rattle.conflict_table.specs.Parts.{set_part, hash_part, whole_part, clear_part, mark_part, first_mark, first_removed, first_pushed, raise_part, named}
 use Rattle.conflict_table.proofs.Named.{clashes_have_parts}
 use Rattle.change_feed.specs.declared.change.Change.{Change}
 use Rattle.abort_witness.specs.declared.witness.Based.{Based}
@@ -61,10 +61,10 @@ of-either : (k : Kind) (a b : Option WriteOp) → OfKind k a → OfKind k b → 
 of-either k None b first second = second
 of-either k (Some o) b first second = first
 
--- an operation that stands for a clear is of its kind where something was cleared
-of-cleared : (k : Kind) (cleared : Bool) (o : WriteOp) → kind_written o ≡ k → OfKind k (then_some cleared o)
-of-cleared k true o is = is
-of-cleared k false o is = tt
+-- an operation that stands only under a test is of its kind where the test holds
+of-tested : (k : Kind) (test : Bool) (o : WriteOp) → kind_written o ≡ k → OfKind k (then_some test o)
+of-tested k true o is = is
+of-tested k false o is = tt
 
 -- an operation that is made of an item is of the kind that each such operation has
 of-mapped : {A : Type 0} (k : Kind) (f : A → WriteOp) (o : Option A) → ((x : A) → kind_written (f x) ≡ k) → OfKind k (option_map f o)
@@ -91,9 +91,9 @@ of-whole d = tt
 
 -- the clear of a set, hash or list is an operation of that kind
 of-clear : (d : Delta) → OfKind (kind_changed d) (clear_part d)
-of-clear (delta.Set d) = of-cleared kinds.Set d.cleared op.SetClear refl
-of-clear (delta.Hash d) = of-cleared kinds.Hash d.cleared op.HashClear refl
-of-clear (delta.List d) = of-cleared kinds.List d.cleared op.ListClear refl
+of-clear (delta.Set d) = of-tested kinds.Set d.cleared op.SetClear refl
+of-clear (delta.Hash d) = of-tested kinds.Hash d.cleared op.HashClear refl
+of-clear (delta.List d) = of-tested kinds.List d.cleared op.ListClear refl
 of-clear d = tt
 
 -- the mark at an element or field is an operation on a set or hash, as the delta is
@@ -118,6 +118,11 @@ of-pushed : (d : Delta) → OfKind (kind_changed d) (first_pushed d)
 of-pushed (delta.List d) = of-mapped kinds.List (λ item. op.ListPush item) (slice_get d.pushed 0) (λ item. refl)
 of-pushed d = tt
 
+-- a raise above a number is an operation on a peak, as the delta is
+of-raise : (n : ℤ) (d : Delta) → OfKind (kind_changed d) (raise_part n d)
+of-raise n (delta.Raise m) = of-tested kinds.Peak (is_over n m) (op.Raise m) refl
+of-raise n d = tt
+
 -- by the observation: the part that is named for it is one of those above
 of-named : (o : Obs) (d : Delta) → OfKind (kind_changed d) (named o d)
 of-named obs.BoolIs d = of-whole d
@@ -131,6 +136,9 @@ of-named (obs.ListAt i) d = of-either (kind_changed d) (clear_part d) (first_rem
 of-named obs.ListAll d =
     of-either (kind_changed d) (option_or (clear_part d) (first_removed d)) (first_pushed d)
     (of-either (kind_changed d) (clear_part d) (first_removed d) (of-clear d) (of-removed d)) (of-pushed d)
+of-named (obs.PeakIs n) d = of-raise n d
+of-named (obs.PeakOver n true) d = tt
+of-named (obs.PeakOver n false) d = of-raise n d
 
 -- a clash of one kind has a part of that kind
 clashing-part : (o : Obs) (d : Delta) → kind_observed o ≡ kind_changed d → clash o d ≡ true

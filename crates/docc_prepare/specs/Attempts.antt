@@ -1,5 +1,5 @@
 -- Attempts: what was read and prepared for a body so far, the next event, and when all that fits a journal.
-use Rattle.std.proofs.Common.{ap}
+use Rattle.std.proofs.Common.{ap, sym, subst, ◌∙◌}
 use Rattle.std.specs.Prelude.{◌≡◌, ℕ, Bool, ◌≤◌, ◌==◌, if◌then◌else◌, List, [], ◌∷◌, ◌++◌, map, filter, length, take, min, Option, Some, None, codes, pos, refl}
 use Rattle.std.specs.List.{list_any, AllByRecursion}
 use Rattle.std.specs.Map.{lookup}
@@ -11,6 +11,7 @@ use Rattle.rdt_types.specs.Addresses.{address_cmp}
 use Rattle.rdt_types.specs.Shards.{shard_of}
 use Rattle.conflict_table.specs.declared.observation.Obs.TheVariants as obs
 use Rattle.abort_witness.specs.declared.witness.Based.{Based}
+use Rattle.txn_trees.specs.declared.statement.Body.{Body}
 use Rattle.txn_lang.specs.declared.run.Run.{Run}
 use Rattle.txn_lang.specs.declared.run.Seen.{Seen}
 use Rattle.txn_lang.specs.declared.snaps.Snap.{Snap}
@@ -137,21 +138,51 @@ pub record FrontFits (journal : Journal) (observed : List Based) (prepared : Pre
   pub bases : AllByRecursion (λ b. b.base ≤ prepared.front) observed
   pub clear : pairs observed (take prepared.front journal) ≡ []
 
+-- WHAT WAS READ IS WHAT WAS ASKED FOR, and nothing else. At first nothing is read; then, one by one, a value at the address that
+-- the run needs on the values before it. The list is kept in the order of the addresses, so the order of asking stands here alone.
+pub data AreAsked (body : Body) : SnapList → Type 0 where
+  none_yet : AreAsked body []
+  one_more : {snaps : SnapList} (address : Address) (snap : Snap) → AreAsked body snaps → exec body (values_of snaps) ≡ need address
+      → AreAsked body (insert_entry address_cmp snaps address snap)
+
 -- fronts stand only where the run is done
 abbrev pub FrontsFit : Journal → ℕ → SnapList → List PreparedFront → Ran → Type 0
 FrontsFit journal shards snaps fronts (need address) = fronts ≡ []
 FrontsFit journal shards snaps fronts (done run) =
     AllByRecursion (λ prepared. FrontFits journal (in_shard shards prepared.shard (based snaps run.observations)) prepared) fronts
 
--- The attempt fits the journal: what it read and what was prepared for it do.
+-- The attempt fits the journal: what it read and what was prepared for it do, and it read what its body asked for.
 pub record Fits (journal : Journal) (attempt : Attempt) : Type 0 where
+  pub asked : AreAsked attempt.body.body attempt.snaps
   pub snaps : AllByRecursion (SnapFits journal) attempt.snaps
   pub fronts : FrontsFit journal attempt.shards attempt.snaps attempt.fronts (ran attempt)
 
 -- ---- worked lines
 
+abbrev counter_at : List ℕ → Address
+counter_at key = record { kind = kind.Counter; key = key }
+
 abbrev counter : List ℕ → Seen
-counter key = record { address = record { kind = kind.Counter; key = key }; obs = obs.CounterIs }
+counter key = record { address = counter_at key; obs = obs.CounterIs }
+
+-- the counter y was asked for, and with its value the counter x, which stands in front of it
+asked-in-turn : (body : Body) (x y : Snap) → exec body (values_of []) ≡ need (counter_at (codes "y"))
+    → exec body (values_of ((counter_at (codes "y"), y) ∷ [])) ≡ need (counter_at (codes "x"))
+    → AreAsked body ((counter_at (codes "x"), x) ∷ (counter_at (codes "y"), y) ∷ [])
+asked-in-turn body x y first next =
+    AreAsked.one_more (counter_at (codes "x")) x (AreAsked.one_more (counter_at (codes "y")) y AreAsked.none_yet first) next
+
+-- whether a run is done
+abbrev IsDone : Ran → Type 0
+IsDone (need address) = ⊥
+IsDone (done run) = Unit {0}
+
+-- what asks for nothing reads nothing
+asked-nothing : (body : Body) (run : Run) (snaps : SnapList) → exec body (values_of []) ≡ done run → AreAsked body snaps → snaps ≡ []
+asked-nothing body run snaps is AreAsked.none_yet = refl
+asked-nothing body run snaps is (AreAsked.one_more {snaps = before} address snap asked needed) =
+    let none : before ≡ [] = asked-nothing body run before is asked in
+    absurd (subst IsDone (sym is ∙ (ap (λ read. exec body (values_of read)) (sym none) ∙ needed)) tt)
 
 -- the counter y is in shard 2 and the counter x in shard 1: shard 1 is first, whatever was observed first
 least_unprepared-example : least_unprepared 4 [] (counter (codes "y") ∷ counter (codes "x") ∷ []) ≡ Some 1

@@ -1,10 +1,17 @@
 -- Serializability, without any code. The journal is a serial order: each commit has the outcome and the writes that its body
 -- has when it runs alone on what the commits before it leave, though it ran earlier, on values that it read at fronts of
 -- their own. These are the laws by which this is so.
-use Rattle.std.specs.Prelude.{◌≡◌, ℕ, [], ◌∷◌, ◌++◌, Some}
-use Rattle.std.specs.List.{AllByRecursion}
+use Rattle.std.specs.Prelude.{◌≡◌, ℕ, Bool, true, false, List, [], ◌∷◌, ◌++◌, Some, codes, refl}
+use Rattle.std.specs.List.{list_any, AllByRecursion}
+use Rattle.std.specs.BTreeMap.{is_at}
+use Rattle.rdt_types.specs.declared.address.Kind.TheVariants as kind
+use Rattle.rdt_types.specs.declared.address.Address.{Address}
+use Rattle.rdt_types.specs.Addresses.{address_cmp}
+use Rattle.conflict_table.specs.declared.observation.Obs.TheVariants as obs
 use Rattle.txn_lang.specs.declared.run.Run.{Run}
-use Rattle.txn_lang.specs.States.{Journal, known, left_by}
+use Rattle.txn_lang.specs.declared.run.Seen.{Seen}
+use Rattle.txn_lang.specs.declared.snaps.Snap.{Snap}
+use Rattle.txn_lang.specs.States.{Journal, known, left_by, x_at}
 use Rattle.txn_lang.specs.Execution.{done, exec}
 use Rattle.txn_lang.specs.Journals.{IsLegal, commit_of}
 use Rattle.txn_lang.specs.Tree.{tree}
@@ -25,6 +32,15 @@ LegalIsOrderly = (journal : Journal) → IsLegal 0 journal → IsOrderly journal
 -- What fits a journal fits it when it has grown.
 abbrev pub FitsStays : Type 0
 FitsStays = (journal later : Journal) (attempt : Attempt) → Fits journal attempt → Fits (journal ++ later) attempt
+
+-- whether something was observed at an address
+abbrev pub is_observed : List Seen → Address → Bool
+is_observed seen address = list_any (λ z. is_at (address_cmp address) z.address) seen
+
+-- Nothing is read in vain: what was read for a run that is done stands at addresses that the run observed.
+abbrev pub ReadsAreObserved : Type 0
+ReadsAreObserved = (journal : Journal) (attempt : Attempt) (run : Run) → Fits journal attempt → ran attempt ≡ done run
+    → AllByRecursion (λ (read : Address × Snap). is_observed run.observations read.0 ≡ true) attempt.snaps
 
 -- An attempt has run, and no commit of the journal clashes with what it observed, past the bases of that.
 pub record RanUndisturbed (journal : Journal) (attempt : Attempt) (run : Run) : Type 0 where
@@ -51,3 +67,16 @@ FrontsSpareNoPair =
     (journal : Journal) (attempt : Attempt) (run : Run) → AreNumbered journal → Fits journal attempt → ran attempt ≡ done run
     → pairs (past_fronts attempt.shards attempt.fronts (based attempt.snaps run.observations)) journal
     ≡ pairs (based attempt.snaps run.observations) journal
+
+-- ---- worked lines
+
+-- who observed the counter x
+abbrev saw_x : List Seen
+saw_x = record { address = x_at; obs = obs.CounterIs } ∷ []
+
+is_observed-example : is_observed saw_x x_at ≡ true
+is_observed-example = refl
+
+-- has observed no other counter
+is_observed-other : is_observed saw_x (record { kind = kind.Counter; key = codes "y" }) ≡ false
+is_observed-other = refl

@@ -1,8 +1,10 @@
 -- The witness of the least pair of observations and a journal's commits.
-use Rattle.std.specs.Prelude.{◌≡◌, ℕ, true, if◌then◌else◌, List, [], ◌∷◌, Option, Some, None, slice_get, codes, pos, refl}
+use Rattle.std.specs.Prelude.{◌≡◌, ℕ, Bool, true, false, if◌then◌else◌, List, [], ◌∷◌, Option, Some, None, slice_get, codes, pos, refl}
 use Rattle.std.specs.List.{AllByRecursion}
 use Rattle.std.specs.Option.{option_and_then}
 use Rattle.rdt_types.specs.declared.address.Kind.TheVariants as kind
+use Rattle.rdt_types.specs.declared.address.Address.{Address}
+use Rattle.rdt_types.specs.declared.delta.Delta.TheVariants as delta
 use Rattle.rdt_types.specs.declared.operation.WriteOp.{WriteOp}
 use Rattle.rdt_types.specs.declared.operation.WriteOp.TheVariants as op
 use Rattle.conflict_table.specs.declared.observation.Obs.TheVariants as obs
@@ -63,7 +65,7 @@ WitnessIsNamed =
     → IsLeast based (changes journal) found
     → (witness : Witness) × (least_witness based journal ≡ Some witness) × IsNamed based journal found witness
 
--- ---- a worked line
+-- ---- worked lines
 
 -- a counter that was read at 1
 abbrev counted : List ℕ → Based
@@ -74,3 +76,24 @@ least_witness-example :
     least_witness (counted (codes "x") ∷ counted (codes "y") ∷ []) (adding 1 (codes "x") ∷ adding 2 (codes "y") ∷ adding 3 (codes "x") ∷ [])
     ≡ Some (record { address = (counted (codes "y")).address; obs = obs.CounterIs; base = 1; part = op.AddCounter (pos 1); number = 2 })
 least_witness-example = refl
+
+-- the peak bid, and whether it is above 10 as it was told at 0
+abbrev bid : Address
+bid = record { kind = kind.Peak; key = codes "bid" }
+
+abbrev told_over : Bool → Based
+told_over is = record { address = bid; obs = obs.PeakOver (pos 10) is; base = 0 }
+
+-- the first commit raises it to 50
+abbrev raising : Commit
+raising = record (adding 1 (codes "bid")) { deltas = (bid, delta.Raise (pos 50)) ∷ [] }
+
+-- who was told that it is above is disturbed by nobody
+least_witness-over : least_witness (told_over true ∷ []) (raising ∷ []) ≡ None
+least_witness-over = refl
+
+-- and who was told that it is not, by that raise
+least_witness-below :
+    least_witness (told_over false ∷ []) (raising ∷ [])
+    ≡ Some (record { address = bid; obs = obs.PeakOver (pos 10) false; base = 0; part = op.Raise (pos 50); number = 1 })
+least_witness-below = refl

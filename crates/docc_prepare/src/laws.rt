@@ -1,6 +1,6 @@
 //! The laws of attempts: functions that do nothing, whose contracts are theorems over the definitions.
 
-ghost use Rattle.docc_prepare.specs.Serial.{LegalIsOrderly, FitsStays, RunsAsItRan, AppendingStaysLegal, FrontsSpareNoPair};
+ghost use Rattle.docc_prepare.specs.Serial.{LegalIsOrderly, FitsStays, ReadsAreObserved, RunsAsItRan, AppendingStaysLegal, FrontsSpareNoPair};
 ghost use Rattle.docc_prepare.specs.Worlds.{EventsStaySound, MovesStaySound, FirstIsSound, EveryWorldIsSound};
 
 /// The law that a legal journal is numbered from 1, with deltas of the kinds of their addresses.
@@ -11,6 +11,11 @@ pub fn legal_journals_are_orderly()
 /// The law that an attempt which fits a journal fits it when it has grown.
 pub fn attempts_fit_longer_journals()
     ensures { FitsStays }
+{}
+
+/// The law that nothing is read in vain: an attempt that fits a journal and has run has read at observed addresses alone.
+pub fn reads_are_observed()
+    ensures { ReadsAreObserved }
 {}
 
 /// The law on which serializability rests: an attempt that fits a journal, and with whose observations no commit clashes,

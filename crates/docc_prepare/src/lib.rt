@@ -21,7 +21,7 @@ pub use backend::{AppendError, Backend, PrepareError, ReadAtError, StoreError};
 pub use laws::{
     appending_stays_legal, attempts_fit_longer_journals, attempts_run_as_they_ran,
     events_stay_sound, every_world_is_sound, first_worlds_are_sound, fronts_spare_no_pair,
-    legal_journals_are_orderly, moves_stay_sound,
+    legal_journals_are_orderly, moves_stay_sound, reads_are_observed,
 };
 pub use limits::CLIENTS;
 pub use store_laws::{

@@ -19,7 +19,7 @@ use txn_lang::{Checked, Run, Snap};
 use version_shard::Prepared;
 
 impl Attempt {
-    /// An attempt at a body, of which nothing was read or prepared. It takes no memory yet.
+    /// An attempt at a body, of which nothing was read or prepared. It is never refused for want of memory.
     pub fn begin(alloc: Global, body: Checked, shards: u8) -> Attempt
         requires shards { (LEAST_SHARDS ≤ shards) × (shards ≤ MOST_SHARDS) }
         ensures body { result.body ≡ body }
@@ -55,8 +55,8 @@ impl Attempt {
         self.after_run(run)
     }
 
-    /// The next event. The run of the body goes on from a pause, and leaves one from which it may go on. For want of memory the
-    /// pause is of no use any more: nothing is said of it.
+    /// The next event. The run of the body goes on from a pause, and leaves one from which it may go on. For want of
+    /// memory the pause is of no use any more: nothing is said of it.
     #[inline(always)]
     pub fn next_from(&self, alloc: Global, pause: &mut Pause) -> Result<Next, AllocError>
         requires { PausesAt self.now pause.old }

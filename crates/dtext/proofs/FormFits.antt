@@ -53,6 +53,7 @@ kind_bytes kinds.Text = refl
 kind_bytes kinds.Set = refl
 kind_bytes kinds.Hash = refl
 kind_bytes kinds.List = refl
+kind_bytes kinds.Peak = refl
 
 -- the first byte tells which kind it is
 kind_told : (k c : Kind) (ts us : Bytes) → Of (λ _. k) (Word (word_of k)) ts c us → kind_ahead (next ts) ≡ k
@@ -62,6 +63,7 @@ kind_told kinds.Text c ts us r = ap (λ xs. kind_ahead (next xs)) r.first
 kind_told kinds.Set c ts us r = ap (λ xs. kind_ahead (next xs)) r.first
 kind_told kinds.Hash c ts us r = ap (λ xs. kind_ahead (next xs)) r.first
 kind_told kinds.List c ts us r = ap (λ xs. kind_ahead (next xs)) r.first
+kind_told kinds.Peak c ts us r = ap (λ xs. kind_ahead (next xs)) r.first
 
 -- kinds, by their words
 pub kind_fits : Fits IsByte kind (SpelledBy word_of) any

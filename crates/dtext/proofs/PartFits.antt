@@ -16,8 +16,8 @@ use Rattle.rdt_types.specs.declared.operation.WriteOp.TheVariants as op
 use Rattle.dtext.specs.Follows.{no_digit, no_more}
 use Rattle.dtext.specs.Spellings.{TextRule, NumberRule, BoolRule, FieldRule, RemoveOrClear, PartRule, PartOf}
 use Rattle.dtext.specs.code.Reading.{text, number, begins_number, bool, text_behind, put_of, text_or_field, put_value}
-use Rattle.dtext.specs.code.Reading.{put_or_push, addition, removed, cleared, removal, clearing, remove_or_clear, part}
-use Rattle.dtext.specs.code.Reading.{bool_part, counter_part, text_part, set_part, field, hash_part, list_part, part_of}
+use Rattle.dtext.specs.code.Reading.{put_or_push, addition, removed, cleared, removal, clearing, remove_or_clear, raise_or_remove, part}
+use Rattle.dtext.specs.code.Reading.{bool_part, counter_part, text_part, set_part, field, hash_part, list_part, peak_part, part_of}
 use Rattle.dtext.proofs.TextFits.{text_fits, text_next}
 use Rattle.dtext.proofs.NumberFits.{number_fits, number_begins}
 use Rattle.dtext.proofs.FormFits.{bool_fits, bool_apart}
@@ -161,26 +161,61 @@ remove_or_clear_apart : (removed : Bytes → WriteOp) (cleared : WriteOp) (test 
 remove_or_clear_apart removed cleared test m c ts us a (inl r) = ap (λ xs. test (next xs)) r.first ∙ m
 remove_or_clear_apart removed cleared test m c ts us a (inr r) = ap (λ xs. test (next xs)) r.first ∙ c
 
--- what sets have, where no kind is known
-abbrev SetRemoveOrClear : Rule ℕ WriteOp
-SetRemoveOrClear = RemoveOrClear op.SetRemove op.SetClear
+-- the rest of `raise`
+abbrev Raise : Rule ℕ WriteOp
+Raise = Behind (codes "aise ") (Of op.Raise NumberRule)
+
+-- the rest of `remove`, which is a set's where no kind is known
+abbrev Remove : Rule ℕ WriteOp
+Remove = Behind (codes "emove ") (Of op.SetRemove TextRule)
+
+-- the two with their common front
+abbrev RaiseOrRemove : Rule ℕ WriteOp
+RaiseOrRemove = Behind (codes "r") (Or Raise Remove)
+
+-- the byte behind the front tells them apart
+raise_or_remove_fits : Fits IsByte raise_or_remove RaiseOrRemove no_digit
+unfolding raise_or_remove
+raise_or_remove_fits =
+    behind_fits (codes "r") refl (either_fits IsByte (sees 97) _ _ Raise Remove no_digit
+    (behind_fits (codes "aise ") refl (seen IsByte op.Raise number_fits))
+    (narrowed IsByte no_digit (λ h e. refl) (behind_fits (codes "emove ") refl (seen IsByte op.SetRemove text_fits)))
+    (λ ts us a r. ap (λ xs. sees 97 (next xs)) r.first)
+    (λ ts us a r e. ap (λ xs. sees 97 (next xs)) r.first))
+
+-- a raise, a removal or a clear, where no kind is known
+abbrev RaiseRemoveOrClear : Rule ℕ WriteOp
+RaiseRemoveOrClear = Or RaiseOrRemove (Clearing kinds.Set)
+
+-- the first byte tells a clear from these two
+raise_remove_or_clear_fits : Fits IsByte (either (sees 114) raise_or_remove (clearing kinds.Set)) RaiseRemoveOrClear no_digit
+raise_remove_or_clear_fits =
+    either_fits IsByte (sees 114) raise_or_remove (clearing kinds.Set) RaiseOrRemove (Clearing kinds.Set) no_digit
+    raise_or_remove_fits (narrowed IsByte no_digit (λ h e. refl) (clearing_fits kinds.Set))
+    (λ ts us a r. ap (λ xs. sees 114 (next xs)) r.first)
+    (λ ts us a r e. ap (λ xs. sees 114 (next xs)) r.first)
+
+-- none begins as another part does
+raise_remove_or_clear_apart : (test : Option ℕ → Bool) → test (Some 114) ≡ false → test (Some 99) ≡ false → (ts us : Bytes) (a : WriteOp)
+    → RaiseRemoveOrClear ts a us → test (next ts) ≡ false
+raise_remove_or_clear_apart test m c ts us a (inl r) = ap (λ xs. test (next xs)) r.first ∙ m
+raise_remove_or_clear_apart test m c ts us a (inr r) = ap (λ xs. test (next xs)) r.first ∙ c
 
 -- a part that is neither put nor push
 abbrev NoPut : Rule ℕ WriteOp
-NoPut = Or Addition SetRemoveOrClear
+NoPut = Or Addition RaiseRemoveOrClear
 
 -- the first byte tells additions from these
-no_put_fits : Fits IsByte (either (sees 97) addition (remove_or_clear kinds.Set)) NoPut no_digit
+no_put_fits : Fits IsByte (either (sees 97) addition (either (sees 114) raise_or_remove (clearing kinds.Set))) NoPut no_digit
 no_put_fits =
-    either_fits IsByte (sees 97) addition _ Addition SetRemoveOrClear no_digit addition_fits
-    (narrowed IsByte no_digit (λ h e. refl) (remove_or_clear_fits kinds.Set))
+    either_fits IsByte (sees 97) addition _ Addition RaiseRemoveOrClear no_digit addition_fits raise_remove_or_clear_fits
     (λ ts us a r. ap (λ xs. sees 97 (next xs)) r.first)
-    (λ ts us a r e. remove_or_clear_apart op.SetRemove op.SetClear (sees 97) refl refl ts us a r)
+    (λ ts us a r e. raise_remove_or_clear_apart (sees 97) refl refl ts us a r)
 
 -- none of these begins with `p`
 no_put_apart : (ts us : Bytes) (a : WriteOp) → NoPut ts a us → sees 112 (next ts) ≡ false
 no_put_apart ts us a (inl r) = ap (λ xs. sees 112 (next xs)) r.first
-no_put_apart ts us a (inr r) = remove_or_clear_apart op.SetRemove op.SetClear (sees 112) refl refl ts us a r
+no_put_apart ts us a (inr r) = raise_remove_or_clear_apart (sees 112) refl refl ts us a r
 
 -- ---- the table
 
@@ -256,11 +291,21 @@ addition_to : (ts ms us : Bytes) (a : WriteOp) → ts ≡ codes "add " ++ ms →
 addition_to ts ms us a e (inl r) = inr (inr (inr (inr (inl (record { value = tt; middle = ms; first = e; second = r })))))
 addition_to ts ms us a e (inr r) = inr (inr (inr (inr (inr (inl (record { value = tt; middle = ms; first = e; second = r }))))))
 
+-- a raise and a removal have theirs
+raise_or_remove_to : (ts ms us : Bytes) (a : WriteOp) → ts ≡ codes "r" ++ ms → Or Raise Remove ms a us → PartRule ts a us
+raise_or_remove_to ts ms us a e (inl r) =
+    inr (inr (inr (inr (inr (inr (inr (inl
+    (record { value = tt; middle = r.middle; first = e ∙ ap (λ xs. codes "r" ++ xs) r.first; second = r.second }))))))))
+raise_or_remove_to ts ms us a e (inr r) =
+    inr (inr (inr (inr (inr (inr (inr (inr (inl
+    (record { value = tt; middle = r.middle; first = e ∙ ap (λ xs. codes "r" ++ xs) r.first; second = r.second })))))))))
+
 -- so each form has its row
 part_to : (ts us : Bytes) (a : WriteOp) → Factored ts a us → PartRule ts a us
 part_to ts us a (inl r) = put_or_push_to ts r.middle us a r.first r.second
 part_to ts us a (inr (inl r)) = addition_to ts r.middle us a r.first r.second
-part_to ts us a (inr (inr r)) = inr (inr (inr (inr (inr (inr (inr r))))))
+part_to ts us a (inr (inr (inl r))) = raise_or_remove_to ts r.middle us a r.first r.second
+part_to ts us a (inr (inr (inr r))) = inr (inr (inr (inr (inr (inr (inr (inr (inr r))))))))
 
 -- ---- and back
 
@@ -323,6 +368,27 @@ push_from ts ms us a e r =
       second = inr (record { value = tt; middle = ms; first = refl; second = r });
     })
 
+-- a row of `raise`
+raise_from : (ts us : Bytes) (a : WriteOp) → Behind (codes "raise ") (Of op.Raise NumberRule) ts a us → Factored ts a us
+raise_from ts us a r =
+    inr (inr (inl (record {
+      value = tt;
+      middle = codes "aise " ++ r.middle;
+      first = r.first;
+      second = inl (record { value = tt; middle = r.middle; first = refl; second = r.second });
+    })))
+
+-- a row of `remove`, and the one of `clear`
+remove_or_clear_from : (ts us : Bytes) (a : WriteOp) → RemoveOrClear op.SetRemove op.SetClear ts a us → Factored ts a us
+remove_or_clear_from ts us a (inl r) =
+    inr (inr (inl (record {
+      value = tt;
+      middle = codes "emove " ++ r.middle;
+      first = r.first;
+      second = inr (record { value = tt; middle = r.middle; first = refl; second = r.second });
+    })))
+remove_or_clear_from ts us a (inr r) = inr (inr (inr r))
+
 -- so each row is a form
 part_from : (ts us : Bytes) (a : WriteOp) → PartRule ts a us → Factored ts a us
 part_from ts us a (inl r) = put_from ts r.middle us a r.first (inr (inr r.second))
@@ -332,7 +398,8 @@ part_from ts us a (inr (inr (inr (inl r)))) = put_from ts r.middle us a r.first 
 part_from ts us a (inr (inr (inr (inr (inl r))))) = addition_from ts r.middle us a r.first (inl r.second)
 part_from ts us a (inr (inr (inr (inr (inr (inl r)))))) = addition_from ts r.middle us a r.first (inr r.second)
 part_from ts us a (inr (inr (inr (inr (inr (inr (inl r))))))) = push_from ts r.middle us a r.first r.second
-part_from ts us a (inr (inr (inr (inr (inr (inr (inr r))))))) = inr (inr r)
+part_from ts us a (inr (inr (inr (inr (inr (inr (inr (inl r)))))))) = raise_from ts us a r
+part_from ts us a (inr (inr (inr (inr (inr (inr (inr (inr r)))))))) = remove_or_clear_from ts us a r
 
 -- parts are read as the table says
 pub part_fits : Fits IsByte part PartRule no_more
@@ -394,10 +461,11 @@ wide fp = narrowed IsByte no_digit (λ h e. refl) fp
 
 -- the kind decides
 pub part_of_fits : (kind : Kind) → Fits IsByte (part_of kind) (PartOf kind) no_digit
-unfolding bool_part text_part
+unfolding bool_part text_part peak_part
 part_of_fits kinds.Bool = wide (behind_fits (codes "put ") refl (seen IsByte op.PutBool bool_fits))
 part_of_fits kinds.Counter = counter_part_fits
 part_of_fits kinds.Text = wide (behind_fits (codes "put ") refl (seen IsByte op.PutText text_fits))
 part_of_fits kinds.Set = wide set_part_fits
 part_of_fits kinds.Hash = wide hash_part_fits
 part_of_fits kinds.List = wide list_part_fits
+part_of_fits kinds.Peak = behind_fits (codes "raise ") refl (seen IsByte op.Raise number_fits)

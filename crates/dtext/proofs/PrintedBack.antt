@@ -286,7 +286,7 @@ clearing_made removed cleared us = inr (record { value = tt; middle = us; first 
 
 -- what all collections have is a set's where no kind is known
 shared_made : (ts us : Bytes) (a : WriteOp) → RemoveOrClear op.SetRemove op.SetClear ts a us → PartRule ts a us
-shared_made ts us a r = inr (inr (inr (inr (inr (inr (inr r))))))
+shared_made ts us a r = inr (inr (inr (inr (inr (inr (inr (inr r)))))))
 
 -- a field and a text
 field_made : (f t us : Bytes) → FieldRule ((printed_text f ++ 32 ∷ printed_text t) ++ us) (op.HashPut f t) us
@@ -320,6 +320,8 @@ part_made op.HashClear us h = shared_made _ us _ (clearing_made op.SetRemove op.
 part_made (op.ListPush x) us h = inr (inr (inr (inr (inr (inr (inl (behind_word (codes "push ") _ _ us _ (text_of op.ListPush x us))))))))
 part_made (op.ListRemove x) us h = shared_made _ us _ (removal_made op.SetRemove op.SetClear x us)
 part_made op.ListClear us h = shared_made _ us _ (clearing_made op.SetRemove op.SetClear us)
+part_made (op.Raise n) us h =
+    inr (inr (inr (inr (inr (inr (inr (inl (behind_word (codes "raise ") _ _ us _ (number_of op.Raise n us h)))))))))
 
 -- a part of any form, beside an address of its kind
 pub part_of_made : (o : WriteOp) (us : Bytes) → FitsPart o → PartOf (kind_written o) (printed_part o ++ us) o us
@@ -336,3 +338,4 @@ part_of_made op.HashClear us h = inr (clearing_made op.HashRemove op.HashClear u
 part_of_made (op.ListPush x) us h = inl (behind_word (codes "push ") _ _ us _ (text_of op.ListPush x us))
 part_of_made (op.ListRemove x) us h = inr (removal_made op.ListRemove op.ListClear x us)
 part_of_made op.ListClear us h = inr (clearing_made op.ListRemove op.ListClear us)
+part_of_made (op.Raise n) us h = behind_word (codes "raise ") _ _ us _ (number_of op.Raise n us h)

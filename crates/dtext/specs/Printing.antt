@@ -1,8 +1,8 @@
 -- The printed form of values, outcomes and write parts. That of texts and addresses stands beside addresses, since it
 -- says in which shard a value is kept.
-use Rattle.std.specs.Prelude.{◌≡◌, Bool, true, false, List, [], ◌∷◌, ◌++◌, codes, refl}
+use Rattle.std.specs.Prelude.{◌≡◌, Bool, true, false, List, [], ◌∷◌, ◌++◌, negsuc, codes, refl}
 use Rattle.std.specs.List.{flat_map}
-use Rattle.std.specs.Fmt.{signed_decimal}
+use Rattle.std.specs.Fmt.{signed_decimal, digits}
 use Rattle.plain_data.specs.Texts.{Bytes}
 use Rattle.rdt_types.specs.declared.outcome.Item.{Item}
 use Rattle.rdt_types.specs.declared.outcome.Item.TheVariants as item
@@ -63,6 +63,7 @@ printed_part op.HashClear = codes "clear"
 printed_part (op.ListPush element) = codes "push " ++ printed_text element
 printed_part (op.ListRemove element) = codes "remove " ++ printed_text element
 printed_part op.ListClear = codes "clear"
+printed_part (op.Raise n) = codes "raise " ++ signed_decimal n
 
 -- ---- worked rows
 
@@ -77,6 +78,11 @@ no-texts = refl
 -- a field and a text
 field-put : printed_part (op.HashPut (codes "f") (codes "v")) ≡ codes "put \"f\" \"v\""
 field-put = refl
+
+-- a raise to a number below 0
+peak-raised : printed_part (op.Raise (negsuc 49)) ≡ codes "raise -50"
+unfolding digits
+peak-raised = refl
 
 -- a list's removal
 element-taken-out : printed_part (op.ListRemove (codes "x")) ≡ codes "remove \"x\""

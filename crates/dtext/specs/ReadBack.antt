@@ -28,6 +28,7 @@ FitsOutcome other = Unit {0}
 abbrev pub FitsPart : WriteOp → Type 0
 FitsPart (op.PutCounter n) = Fits64 n
 FitsPart (op.AddCounter n) = Fits64 n
+FitsPart (op.Raise n) = Fits64 n
 FitsPart other = Unit {0}
 
 -- What a part is read as where no address beside it says its kind: a removal and a clear are a set's.

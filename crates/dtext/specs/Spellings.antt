@@ -171,6 +171,7 @@ PartOf kinds.Text = Behind (codes "put ") (Of op.PutText TextRule)
 PartOf kinds.Set = Or (Behind (codes "add ") (Of op.SetAdd TextRule)) (RemoveOrClear op.SetRemove op.SetClear)
 PartOf kinds.Hash = Or (Behind (codes "put ") FieldRule) (RemoveOrClear op.HashRemove op.HashClear)
 PartOf kinds.List = Or (Behind (codes "push ") (Of op.ListPush TextRule)) (RemoveOrClear op.ListRemove op.ListClear)
+PartOf kinds.Peak = Behind (codes "raise ") (Of op.Raise NumberRule)
 
 -- One write without its kind: the form decides, and what sets, hashes and lists share is a set's.
 abbrev pub PartRule : Rule ℕ WriteOp
@@ -182,7 +183,8 @@ PartRule =
     (Or (Behind (codes "add ") (Of op.AddCounter NumberRule))
     (Or (Behind (codes "add ") (Of op.SetAdd TextRule))
     (Or (Behind (codes "push ") (Of op.ListPush TextRule))
-    (RemoveOrClear op.SetRemove op.SetClear)))))))
+    (Or (Behind (codes "raise ") (Of op.Raise NumberRule))
+    (RemoveOrClear op.SetRemove op.SetClear))))))))
 
 -- ---- spellings, all of the bytes
 

@@ -4,7 +4,7 @@ ghost use Rattle.std.specs.Prelude.{◌≡◌};
 ghost use Rattle.predictive_parsing.specs.Reads.{Reads, OnlyRefuses};
 ghost use Rattle.dtext.specs.code.Reading as spec;
 
-use crate::number::number;
+use crate::number::next_number;
 use crate::part::remove_or_clear;
 use crate::text::next_text;
 use crate::value::truth;
@@ -31,10 +31,10 @@ fn counter_part(cursor: &mut Cursor<u8>) -> Result<WriteOp, OrNoMemory<Refused>>
 {
     if cursor.sees_byte(b'p') {
         cursor.word(b"put ")?;
-        Ok(WriteOp::PutCounter(number(cursor)?))
+        Ok(WriteOp::PutCounter(next_number(cursor)?))
     } else {
         cursor.word(b"add ")?;
-        Ok(WriteOp::AddCounter(number(cursor)?))
+        Ok(WriteOp::AddCounter(next_number(cursor)?))
     }
 }
 
@@ -97,6 +97,16 @@ fn list_part(alloc: Global, cursor: &mut Cursor<u8>) -> Result<WriteOp, OrNoMemo
     }
 }
 
+/// The number that a peak is raised to.
+#[tactic(auto, unfolding(crate::specs::code::Reading::peak_part))]
+fn peak_part(cursor: &mut Cursor<u8>) -> Result<WriteOp, OrNoMemory<Refused>>
+    ensures read { Reads (spec.peak_part cursor.old) result cursor.new }
+    ensures refusal { OnlyRefuses result }
+{
+    cursor.word(b"raise ")?;
+    Ok(WriteOp::Raise(next_number(cursor)?))
+}
+
 /// Reads the write that is next, beside an address of this kind.
 pub fn next_part(
     alloc: Global,
@@ -112,5 +122,6 @@ pub fn next_part(
         Kind::Set => set_part(alloc, cursor),
         Kind::Hash => hash_part(alloc, cursor),
         Kind::List => list_part(alloc, cursor),
+        Kind::Peak => peak_part(cursor),
     }
 }

@@ -4,7 +4,7 @@ ghost use Rattle.std.specs.Prelude.{◌≡◌};
 ghost use Rattle.predictive_parsing.specs.Reads.{Reads, OnlyRefuses};
 ghost use Rattle.dtext.specs.code.Reading as spec;
 
-use crate::number::{begins_number, number};
+use crate::number::{begins_number, next_number};
 use crate::text::next_text;
 use crate::value::{texts, truth};
 use plain_data::OrNoMemory;
@@ -18,7 +18,7 @@ pub fn next_item(alloc: Global, cursor: &mut Cursor<u8>) -> Result<Item, OrNoMem
     ensures { Reads (spec.item cursor.old) result cursor.new }
 {
     if begins_number(cursor) {
-        Ok(Item::Int(number(cursor)?))
+        Ok(Item::Int(next_number(cursor)?))
     } else if cursor.sees_byte(b'"') {
         Ok(Item::Text(next_text(alloc, cursor)?))
     } else if cursor.sees_byte(b'[') {

@@ -8,7 +8,7 @@ ghost use Rattle.rdt_types.specs.declared.address.Kind.{Kind};
 ghost use Rattle.dtext.specs.code.Reading as read;
 ghost use Rattle.dtext.specs.Follows.{no_digit, no_more};
 ghost use Rattle.dtext.specs.ReadBack.{TextsReadBack, AddressesReadBack, ItemsReadBack, OutcomesReadBack, PartsReadBack, PartsOfKindsReadBack};
-ghost use Rattle.dtext.specs.Spellings.{TextRule, NaturalRule, PositiveRule, AddressRule, ItemRule, OutcomeRule, PartRule, PartOf};
+ghost use Rattle.dtext.specs.Spellings.{TextRule, NumberRule, NaturalRule, PositiveRule, AddressRule, ItemRule, OutcomeRule, PartRule, PartOf};
 
 /// What is printed is a spelling of what was printed. Of a part that several kinds share it is that of a set's.
 pub fn printed_reads_back()
@@ -50,6 +50,7 @@ pub fn columns_are_unique()
 /// Each reader reads what its rule derives, and refuses at the first byte with which nothing that the rule derives goes on.
 pub fn readers_are_rules()
     ensures texts { Fits IsByte read.text TextRule any }
+    ensures numbers { Fits IsByte read.number NumberRule no_digit }
     ensures naturals { (limit : ℕ) → 9 ≤ limit → limit < 2 ^ 64 → Fits IsByte (read.natural limit) (NaturalRule limit) no_digit }
     ensures positives { (limit : ℕ) → 9 ≤ limit → limit < 2 ^ 64 → Fits IsByte (read.positive limit) (PositiveRule limit) no_digit }
     ensures addresses { Fits IsByte read.address AddressRule any }

@@ -28,10 +28,10 @@ pub use laws::{
     columns_are_of_no_spelling, columns_are_unique, printed_reads_back, readers_are_rules,
     spellings_have_one_value,
 };
-pub use number::{LEAST, MOST, next_natural, next_positive};
+pub use number::{LEAST, MOST, next_natural, next_number, next_positive};
 pub use print::{
     print_address, print_item, print_outcome, print_part, print_text, push_address, push_natural,
-    push_outcome, push_part, push_text,
+    push_number, push_outcome, push_part, push_text,
 };
 pub use read::{finish, read_address, read_item, read_outcome, read_part, read_text};
 pub use text::next_text;

@@ -126,9 +126,9 @@ fn not_negative(cursor: &mut Cursor<u8>) -> Result<i64, OrNoMemory<Refused>>
     Ok(n as i64)
 }
 
-/// A number, in its one form.
+/// Reads the number of 64 bits that is next, in its one form.
 #[tactic(auto, unfolding(crate::specs::code::Reading::number))]
-pub(crate) fn number(cursor: &mut Cursor<u8>) -> Result<i64, OrNoMemory<Refused>>
+pub fn next_number(cursor: &mut Cursor<u8>) -> Result<i64, OrNoMemory<Refused>>
     ensures read { Reads (spec.number cursor.old) result cursor.new }
     ensures refusal { OnlyRefuses result }
 {

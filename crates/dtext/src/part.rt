@@ -6,7 +6,7 @@ ghost use Rattle.predictive_parsing.specs.Reading.{optional};
 ghost use Rattle.predictive_parsing.specs.Reads.{Reads, OnlyRefuses};
 ghost use Rattle.dtext.specs.code.Reading as spec;
 
-use crate::number::{begins_number, number};
+use crate::number::{begins_number, next_number};
 use crate::text::next_text;
 use crate::value::truth;
 use plain_data::{OrNoMemory, Text};
@@ -59,7 +59,7 @@ fn put_value(alloc: Global, cursor: &mut Cursor<u8>) -> Result<WriteOp, OrNoMemo
     ensures { Reads (spec.put_value cursor.old) result cursor.new }
 {
     if begins_number(cursor) {
-        Ok(WriteOp::PutCounter(number(cursor)?))
+        Ok(WriteOp::PutCounter(next_number(cursor)?))
     } else if cursor.sees_byte(b'"') {
         text_or_field(alloc, cursor)
     } else {
@@ -98,7 +98,7 @@ fn added(alloc: Global, cursor: &mut Cursor<u8>) -> Result<WriteOp, OrNoMemory<R
     ensures { Reads (spec.added cursor.old) result cursor.new }
 {
     if begins_number(cursor) {
-        Ok(WriteOp::AddCounter(number(cursor)?))
+        Ok(WriteOp::AddCounter(next_number(cursor)?))
     } else {
         Ok(WriteOp::SetAdd(next_text(alloc, cursor)?))
     }
@@ -171,6 +171,34 @@ pub(crate) fn remove_or_clear(
     }
 }
 
+fn raise(cursor: &mut Cursor<u8>) -> Result<WriteOp, OrNoMemory<Refused>>
+    ensures read { Reads (spec.raise cursor.old) result cursor.new }
+    ensures refusal { OnlyRefuses result }
+{
+    cursor.word(b"aise ")?;
+    Ok(WriteOp::Raise(next_number(cursor)?))
+}
+
+fn remove(alloc: Global, cursor: &mut Cursor<u8>) -> Result<WriteOp, OrNoMemory<Refused>>
+    ensures { Reads (spec.remove cursor.old) result cursor.new }
+{
+    cursor.word(b"emove ")?;
+    Ok(WriteOp::SetRemove(next_text(alloc, cursor)?))
+}
+
+/// `raise` or `remove`, which begin alike.
+#[tactic(auto, unfolding(crate::specs::code::Reading::raise_or_remove))]
+fn raise_or_remove(alloc: Global, cursor: &mut Cursor<u8>) -> Result<WriteOp, OrNoMemory<Refused>>
+    ensures { Reads (spec.raise_or_remove cursor.old) result cursor.new }
+{
+    cursor.word(b"r")?;
+    if cursor.sees_byte(b'a') {
+        raise(cursor)
+    } else {
+        remove(alloc, cursor)
+    }
+}
+
 /// One write without its kind, which the form decides.
 #[tactic(auto, unfolding(crate::specs::code::Reading::part))]
 pub(crate) fn part(alloc: Global, cursor: &mut Cursor<u8>) -> Result<WriteOp, OrNoMemory<Refused>>
@@ -180,7 +208,9 @@ pub(crate) fn part(alloc: Global, cursor: &mut Cursor<u8>) -> Result<WriteOp, Or
         put_or_push(alloc, cursor)
     } else if cursor.sees_byte(b'a') {
         addition(alloc, cursor)
+    } else if cursor.sees_byte(b'r') {
+        raise_or_remove(alloc, cursor)
     } else {
-        remove_or_clear(alloc, Kind::Set, cursor)
+        clearing(Kind::Set, cursor)
     }
 }

@@ -43,7 +43,8 @@ pub fn push_text(out: &mut Text, text: &Text) -> Result<(), AllocError>
     out.push(b'"')
 }
 
-fn push_number(out: &mut Text, number: i64) -> Result<(), AllocError>
+/// Adds a number.
+pub fn push_number(out: &mut Text, number: i64) -> Result<(), AllocError>
     ensures { OnOk result (out.new ≡ out.old ++ signed_decimal number) }
 {
     let mut digits = Buffer::new();
@@ -169,6 +170,7 @@ pub fn push_part(out: &mut Text, part: &WriteOp) -> Result<(), AllocError>
         WriteOp::SetClear | WriteOp::HashClear | WriteOp::ListClear => {
             out.extend_from_slice(b"clear")
         }
+        WriteOp::Raise(number) => push_counted(out, b"raise ", *number),
     }
 }
 

@@ -44,6 +44,7 @@ fn kind_by(byte: u8) -> Kind
         b't' => Kind::Text,
         b's' => Kind::Set,
         b'h' => Kind::Hash,
+        b'p' => Kind::Peak,
         _ => Kind::List,
     }
 }

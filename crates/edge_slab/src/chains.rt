@@ -137,7 +137,7 @@ fn key_in(ties: &[Ties], key: usize) -> Ties
 }
 
 impl Chains {
-    /// No list has a key. It takes no memory yet.
+    /// No list has a key. It is never refused for want of memory.
     pub fn new(alloc: Global) -> Chains
         ensures { AreChains result (λ _. []) }
     {
@@ -196,7 +196,7 @@ impl Chains {
         reach_end(&mut self.ends, list)
     }
 
-    /// Puts a key that is in no list at the end of one. It takes no memory.
+    /// Puts a key that is in no list at the end of one. It is never refused for want of memory.
     pub fn push(&mut self, list: u32, key: usize)
         requires { IsReadyFor self.old list key }
         ensures { (lists : ℕ → List ℕ) → AreChains self.old lists → ((n : ℕ) → list_any (nat_eq key) (lists n) ≡ false)
@@ -208,7 +208,7 @@ impl Chains {
         self.tie(Spot::Key(key), end);
     }
 
-    /// Takes a key out of its list. It takes no memory.
+    /// Takes a key out of its list. It is never refused for want of memory.
     pub fn remove(&mut self, key: usize)
         ensures { (lists : ℕ → List ℕ) (list : ℕ) → AreChains self.old lists → list_any (nat_eq key) (lists list) ≡ true
             → AreChains self.new (λ n. without key (lists n)) }

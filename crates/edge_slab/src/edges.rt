@@ -33,7 +33,7 @@ impl Model for EdgeSlab {
 }
 
 impl EdgeSlab {
-    /// No pair is linked. It takes no memory yet.
+    /// No pair is linked. It is never refused for want of memory.
     pub fn new(alloc: Global) -> EdgeSlab
         ensures places { (place : ℕ) → subscribers_at result place ≡ [] }
         ensures subscribers { (subscriber : ℕ) → places_of result subscriber ≡ [] }
@@ -60,7 +60,7 @@ impl EdgeSlab {
         Ok(true)
     }
 
-    /// Takes a pair out of both lists, and answers whether it was there. It takes no memory.
+    /// Takes a pair out of both lists, and answers whether it was there. It is never refused for want of memory.
     pub fn unlink(&mut self, subscriber: u32, place: u32) -> bool
         ensures answer { result ≡ is_linked self.old subscriber place }
         ensures gone { IsUnlinked self.old subscriber place self.new }
@@ -74,7 +74,8 @@ impl EdgeSlab {
         }
     }
 
-    /// Takes all pairs of a subscriber out, one after the other. It takes no memory, and walks no other subscriber's pairs.
+    /// Takes all pairs of a subscriber out, one after the other. It is never refused for want of memory, and walks no
+    /// other subscriber's pairs.
     pub fn drop_subscriber(&mut self, subscriber: u32)
         ensures { IsDropped self.old subscriber self.new }
     {
@@ -92,7 +93,7 @@ impl EdgeSlab {
         walk.next()
     }
 
-    /// The subscribers of a place, each once, in the order of linking. It takes no memory.
+    /// The subscribers of a place, each once, in the order of linking. It is never refused for want of memory.
     pub fn walk_address(&self, place: u32) -> Walk<'_>
         ensures all { result ≡ subscribers_at self.now place }
         ensures once { IsDistinct nat_eq result }
@@ -100,7 +101,7 @@ impl EdgeSlab {
         self.links.walk(Side::Subscribers, place)
     }
 
-    /// The places of a subscriber, each once, in the order of linking. It takes no memory.
+    /// The places of a subscriber, each once, in the order of linking. It is never refused for want of memory.
     pub fn walk_subscriber(&self, subscriber: u32) -> Walk<'_>
         ensures all { result ≡ places_of self.now subscriber }
         ensures once { IsDistinct nat_eq result }

@@ -25,7 +25,7 @@ pub(crate) struct Links {
 }
 
 impl Links {
-    /// No edge is linked. It takes no memory yet.
+    /// No edge is linked. It is never refused for want of memory.
     pub fn new(alloc: Global) -> Links
         ensures { AreLinks result [] }
     {
@@ -48,7 +48,7 @@ impl Links {
         Ok(key)
     }
 
-    /// Links an edge under a key for which there is room, last in both lists. It takes no memory.
+    /// Links an edge under a key for which there is room, last in both lists. It is never refused for want of memory.
     pub fn push(&mut self, edge: Edge, key: usize)
         requires { IsReady self.old edge key }
         ensures { (all : List Linked) → AreLinks self.old all → AreLinks self.new (all ++ linked_as edge key ∷ []) }
@@ -58,7 +58,7 @@ impl Links {
         self.of_subscriber.push(edge.subscriber, key);
     }
 
-    /// Takes the edge under a key out of both lists. It takes no memory.
+    /// Takes the edge under a key out of both lists. It is never refused for want of memory.
     pub fn remove(&mut self, key: usize)
         ensures { (all : List Linked) → AreLinks self.old all → list_any (is_under key) all ≡ true → AreLinks self.new (but key all) }
     {

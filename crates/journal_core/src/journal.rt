@@ -99,7 +99,7 @@ impl<K: Keep> Journal<K> {
         self.log.commits().get(number as usize - 1)
     }
 
-    /// The keeper, and the commits. It takes no memory.
+    /// The keeper, and the commits. It is never refused for want of memory.
     pub fn close(self) -> (K, CommitList)
         ensures commits { result.1 ≡ self.commits }
         ensures faults { K.keep_faults result.0 ≡ self.faults }
@@ -166,7 +166,7 @@ impl<K: Keep> Journal<K> {
     }
 
     /// Adds the slot's commit, or says why not: by a clash past the prepared fronts, at the limit, or by a fault of the
-    /// keeper. It takes no memory, and goes through no more than the changes past the fronts in
+    /// keeper. It is never refused for want of memory, and goes through no more than the changes past the fronts in
     /// the shards of the observations.
     pub fn append<L: Ledger>(&mut self, ready: &Ready, slot: Slot, steps: &mut Steps<L>) -> Appended
         requires can_append { CanAppend K.stands_for ready.now slot self.old }
@@ -186,8 +186,9 @@ impl<K: Keep> Journal<K> {
         self.add(slot)
     }
 
-    /// The witness of the clash that an append answered, as long as nothing was added since: the observation with the base at
-    /// which it was made, and the part of the commit that clashes with it. It costs the deltas of that one commit at most.
+    /// The witness of the clash that an append answered, as long as nothing was added since: the observation with the
+    /// base at which it was made, and the part of the commit that clashes with it. It costs the deltas of that one
+    /// commit at most.
     pub fn witness(&self, ready: &Ready, found: &Found) -> Result<Witness, AllocError>
         requires found { journals.found_past ready.now self.now ≡ Some found.now }
         requires observed { AreBasedOfOneKind ready.now.based }

@@ -35,7 +35,7 @@ pub trait Keep: Drop {
     fn make(&self, alloc: Global, commit: &Commit) -> Result<Text, AllocError>
         ensures { IfOk result (λ bytes. stands_for bytes commit.now) };
 
-    /// Keeps the commit that the bytes stand for, behind those that are kept. It takes no memory.
+    /// Keeps the commit that the bytes stand for, behind those that are kept. It is never refused for want of memory.
     fn keep(&mut self, bytes: &Text) -> Result<(), KeepFault>
         requires { CanKeep stands_for (kept self.old) bytes.now }
         ensures ok { OnOk result (Keeps stands_for bytes.now (kept self.old) (kept self.new)) }

@@ -107,7 +107,7 @@ impl Log {
         in_shard(self.lists.as_slice(), shard)
     }
 
-    /// The commits as a list. It takes no memory.
+    /// The commits as a list. It is never refused for want of memory.
     pub(crate) fn into_commits(self) -> CommitList
         ensures { result ≡ self.commits }
     {

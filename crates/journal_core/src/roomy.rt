@@ -21,7 +21,7 @@ impl<T> Model for Roomy<T> {
 }
 
 impl<T> Roomy<T> {
-    /// An empty list, which takes no memory yet.
+    /// An empty list.
     pub(crate) fn new(alloc: Global) -> Roomy<T>
         ensures { result.0 ≡ [] }
     {

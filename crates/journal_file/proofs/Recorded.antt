@@ -1,11 +1,9 @@
 -- What is used of payloads.
-use Rattle.std.proofs.Common.{◌≡◌, ℕ, ◌<◌, ◌≤◌, List, [], ◌∷◌, Some, Ok, refl, ap}
+use Rattle.std.proofs.Common.{◌≡◌, ℕ, ◌<◌, ◌≤◌, List, [], ◌∷◌, Some, Ok, ap}
 use Rattle.std.specs.List.{AllByRecursion}
 use Rattle.std.specs.List.Sorted.{IsStrictlySortedBy}
 use Rattle.std.specs.Map.{keys_of}
 use Rattle.std.specs.Result.{result_ok}
-use Rattle.rdt_types.specs.declared.address.Kind.{Kind}
-use Rattle.rdt_types.specs.declared.address.Kind.TheVariants as kind
 use Rattle.rdt_types.specs.Addresses.{address_cmp}
 use Rattle.rdt_types.specs.DeltaMaps.{Deltas}
 use Rattle.txn_lang.specs.declared.commit.Commit.{Commit}
@@ -15,7 +13,8 @@ use Rattle.journal_core.specs.Kinds.{AreOfTheirKinds}
 use Rattle.commit_file.specs.declared.version.Version.{Version}
 use Rattle.commit_file.specs.declared.version.Version.TheVariants.{One, Two}
 use Rattle.record_code.specs.Forms.{IsFiled}
-use Rattle.record_code.specs.Payloads.{payload, decoded, IsKindOf, IsRecorded, IsKeepable}
+use Rattle.record_code.specs.Payloads.{payload, decoded, IsRecorded, IsKeepable}
+use Rattle.record_code.proofs.KindsTold.{two_has_all_kinds}
 use Rattle.record_code.proofs.Commits.{payloads_are_read, what_is_read_is_a_payload}
 use Rattle.journal_file.specs.Commits.{commit_of}
 
@@ -47,19 +46,7 @@ run-keepable commit run client number seq = record { of_run = run; number = numb
 
 -- ---- versions
 
--- version 2 has the kinds of version 1
-kind_later : (k : Kind) → IsKindOf One k → IsKindOf Two k
-kind_later kind.Bool is = refl
-kind_later kind.Counter is = refl
-kind_later kind.Text is = refl
-kind_later kind.Set is = refl
-kind_later kind.Hash is = refl
-kind_later kind.List is = refl
-
-kinds_later : (deltas : Deltas) → AllByRecursion (λ pair. IsKindOf One pair.0.kind) deltas → AllByRecursion (λ pair. IsKindOf Two pair.0.kind) deltas
-kinds_later [] are = tt
-kinds_later (pair ∷ deltas) are = (kind_later pair.0.kind are.0, kinds_later deltas are.1)
-
+-- version 2 has all kinds, so those of version 1 too
 later : (commit : Commit) → IsRecorded One commit → IsRecorded Two commit
 later commit is = record {
   number = is.number;
@@ -67,7 +54,7 @@ later commit is = record {
   seq = is.seq;
   body = is.body;
   forms = is.forms;
-  kinds = kinds_later commit.deltas is.kinds;
+  kinds = two_has_all_kinds commit;
   room = is.room;
 }
 

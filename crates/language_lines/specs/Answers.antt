@@ -84,3 +84,21 @@ ListsAnswer =
     ∷ ((op.ListPush (codes "a") ∷ op.ListPush (codes "b") ∷ [], read.ListAt (pos 2)), item.Text [])
     ∷ ((op.ListPush (codes "a") ∷ op.ListPush (codes "b") ∷ [], read.ListAt (negsuc 0)), item.Text [])
     ∷ [])
+
+-- A raise lowers nothing, and `over` is false of the very value. Both ends of 64 bits can be raised to and held against.
+abbrev pub PeaksAnswer : Type 0
+PeaksAnswer =
+    Holds (answered kind.Peak)
+    ((([], read.Get), item.Int (pos 0))
+    ∷ ((op.Raise (pos 7) ∷ [], read.Get), item.Int (pos 7))
+    ∷ ((op.Raise (pos 7) ∷ op.Raise (pos 5) ∷ [], read.Get), item.Int (pos 7))
+    ∷ ((op.Raise (pos 5) ∷ op.Raise (pos 7) ∷ [], read.Get), item.Int (pos 7))
+    ∷ ((op.Raise (negsuc 4) ∷ [], read.Get), item.Int (pos 0))
+    ∷ ((op.Raise (negsuc 9223372036854775807) ∷ [], read.Get), item.Int (pos 0))
+    ∷ ((op.Raise (pos 9223372036854775807) ∷ op.Raise (negsuc 9223372036854775807) ∷ [], read.Get), item.Int (pos 9223372036854775807))
+    ∷ ((op.Raise (pos 7) ∷ [], read.PeakOver (pos 6)), item.Bool true)
+    ∷ ((op.Raise (pos 7) ∷ [], read.PeakOver (pos 7)), item.Bool false)
+    ∷ (([], read.PeakOver (negsuc 0)), item.Bool true)
+    ∷ (([], read.PeakOver (negsuc 9223372036854775807)), item.Bool true)
+    ∷ ((op.Raise (pos 9223372036854775807) ∷ [], read.PeakOver (pos 9223372036854775807)), item.Bool false)
+    ∷ [])

@@ -121,4 +121,7 @@ OthersAreRefused =
     ∷ codes "set(\"k\").add(\"a\", \"b\");"
     ∷ codes "emit set(\"k\").add(\"a\");"
     ∷ codes "peak(\"k\").put(1);"
+    ∷ codes "peak(\"k\").raise();"
+    ∷ codes "emit peak(\"k\").over();"
+    ∷ codes "let peak = 1;"
     ∷ []))

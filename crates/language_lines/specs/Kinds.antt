@@ -1,4 +1,4 @@
--- The six kinds: their order, their words, and what an address holds that was never written.
+-- The seven kinds: their order, their words, and what an address holds that was never written.
 use Rattle.std.specs.Prelude.{List, [], ◌∷◌, map, codes, pos, false}
 use Rattle.std.specs.FinMap as map_of
 use Rattle.std.specs.declared.cmp.Ordering.TheVariants.{Less, Equal, Greater}
@@ -12,18 +12,19 @@ use Rattle.language_lines.specs.Tables.{Holds}
 
 -- the kinds, in their order
 abbrev pub kinds : List Kind
-kinds = kind.Bool ∷ kind.Counter ∷ kind.Text ∷ kind.Set ∷ kind.Hash ∷ kind.List ∷ []
+kinds = kind.Bool ∷ kind.Counter ∷ kind.Text ∷ kind.Set ∷ kind.Hash ∷ kind.List ∷ kind.Peak ∷ []
 
--- how each kind stands to the six, in their order: each is below those behind it
+-- how each kind stands to the seven, in their order: each is below those behind it
 abbrev pub KindsRise : Type 0
 KindsRise =
     Holds (λ k. map (order.ghosts.cmp k) kinds)
-    ((kind.Bool, Equal ∷ Less ∷ Less ∷ Less ∷ Less ∷ Less ∷ [])
-    ∷ (kind.Counter, Greater ∷ Equal ∷ Less ∷ Less ∷ Less ∷ Less ∷ [])
-    ∷ (kind.Text, Greater ∷ Greater ∷ Equal ∷ Less ∷ Less ∷ Less ∷ [])
-    ∷ (kind.Set, Greater ∷ Greater ∷ Greater ∷ Equal ∷ Less ∷ Less ∷ [])
-    ∷ (kind.Hash, Greater ∷ Greater ∷ Greater ∷ Greater ∷ Equal ∷ Less ∷ [])
-    ∷ (kind.List, Greater ∷ Greater ∷ Greater ∷ Greater ∷ Greater ∷ Equal ∷ [])
+    ((kind.Bool, Equal ∷ Less ∷ Less ∷ Less ∷ Less ∷ Less ∷ Less ∷ [])
+    ∷ (kind.Counter, Greater ∷ Equal ∷ Less ∷ Less ∷ Less ∷ Less ∷ Less ∷ [])
+    ∷ (kind.Text, Greater ∷ Greater ∷ Equal ∷ Less ∷ Less ∷ Less ∷ Less ∷ [])
+    ∷ (kind.Set, Greater ∷ Greater ∷ Greater ∷ Equal ∷ Less ∷ Less ∷ Less ∷ [])
+    ∷ (kind.Hash, Greater ∷ Greater ∷ Greater ∷ Greater ∷ Equal ∷ Less ∷ Less ∷ [])
+    ∷ (kind.List, Greater ∷ Greater ∷ Greater ∷ Greater ∷ Greater ∷ Equal ∷ Less ∷ [])
+    ∷ (kind.Peak, Greater ∷ Greater ∷ Greater ∷ Greater ∷ Greater ∷ Greater ∷ Equal ∷ [])
     ∷ [])
 
 -- how each is written
@@ -36,9 +37,10 @@ KindsHaveWords =
     ∷ (kind.Set, codes "set")
     ∷ (kind.Hash, codes "hash")
     ∷ (kind.List, codes "list")
+    ∷ (kind.Peak, codes "peak")
     ∷ [])
 
--- `false`, 0, `""`, and nothing
+-- `false`, 0, `""`, nothing, and 0 again
 abbrev pub KindsHaveDefaults : Type 0
 KindsHaveDefaults =
     Holds default_of
@@ -48,4 +50,5 @@ KindsHaveDefaults =
     ∷ (kind.Set, value.Set map_of.empty)
     ∷ (kind.Hash, value.Hash map_of.empty)
     ∷ (kind.List, value.List [])
+    ∷ (kind.Peak, value.Peak (pos 0))
     ∷ [])

@@ -154,6 +154,7 @@ abbrev pub WritesLoad : Type 0
 WritesLoad =
     Holds load_of
     (((kind.Counter, write_word.Add, item.Int (pos 1) ∷ []), Some (0, 9))
+    ∷ ((kind.Peak, write_word.Raise, item.Int (pos 1) ∷ []), Some (0, 9))
     ∷ ((kind.Bool, write_word.Put, item.Bool true ∷ []), Some (0, 9))
     ∷ ((kind.Set, write_word.Clear, []), Some (0, 9))
     ∷ ((kind.Text, write_word.Put, item.Text (codes "abc") ∷ []), Some (0, 12))

@@ -93,6 +93,8 @@ writes =
     (op.ListRemove (codes "a")) (codes "remove \"a\"") (delta.List (listed.of_parts false (with_text map_of.empty (codes "a")) []))
     ∷ write (codes "list(\"k\").clear();") kind.List write_word.Clear []
     op.ListClear (codes "clear") (delta.List (listed.of_parts true map_of.empty []))
+    ∷ write (codes "peak(\"k\").raise(7);") kind.Peak write_word.Raise ((17, item.Int (pos 7)) ∷ [])
+    (op.Raise (pos 7)) (codes "raise 7") (delta.Raise (pos 7))
     ∷ []
 
 -- ---- reads
@@ -128,7 +130,8 @@ read_by text kind word arguments operation answers value observed decided clashe
       clashes = clashes;
     }
 
--- the table; a place is within the list in one row, and not in the next
+-- the table; a place is within the list in one row, and not in the next; a peak is held against a number that it is
+-- above, that it is itself, and that is as high as the raise
 abbrev pub reads : List Read
 reads =
     read_by (codes "emit bool(\"k\").get();") kind.Bool read_word.Get [] read.Get type.Bool
@@ -159,6 +162,16 @@ reads =
     (value.List (codes "p" ∷ [])) obs.ListAll (false ∷ false ∷ true ∷ []) (true ∷ true ∷ true ∷ [])
     ∷ read_by (codes "emit list(\"k\").all();") kind.List read_word.All [] read.ListAll type.Texts
     (value.List (codes "p" ∷ [])) obs.ListAll (false ∷ false ∷ true ∷ []) (true ∷ true ∷ true ∷ [])
+    ∷ read_by (codes "emit peak(\"k\").get();") kind.Peak read_word.Get [] read.Get type.Int
+    (value.Peak (pos 6)) (obs.PeakIs (pos 6)) (false ∷ []) (true ∷ [])
+    ∷ read_by (codes "emit peak(\"k\").get();") kind.Peak read_word.Get [] read.Get type.Int
+    (value.Peak (pos 7)) (obs.PeakIs (pos 7)) (false ∷ []) (false ∷ [])
+    ∷ read_by (codes "emit peak(\"k\").over(5);") kind.Peak read_word.Over ((21, item.Int (pos 5)) ∷ []) (read.PeakOver (pos 5)) type.Bool
+    (value.Peak (pos 6)) (obs.PeakOver (pos 5) true) (true ∷ []) (false ∷ [])
+    ∷ read_by (codes "emit peak(\"k\").over(6);") kind.Peak read_word.Over ((21, item.Int (pos 6)) ∷ []) (read.PeakOver (pos 6)) type.Bool
+    (value.Peak (pos 6)) (obs.PeakOver (pos 6) false) (true ∷ []) (true ∷ [])
+    ∷ read_by (codes "emit peak(\"k\").over(7);") kind.Peak read_word.Over ((21, item.Int (pos 7)) ∷ []) (read.PeakOver (pos 7)) type.Bool
+    (value.Peak (pos 6)) (obs.PeakOver (pos 7) false) (false ∷ []) (false ∷ [])
     ∷ []
 
 -- the writes of a kind

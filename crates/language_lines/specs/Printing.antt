@@ -43,6 +43,7 @@ AddressesArePrinted =
     ∷ (x_of kind.Set, codes "set(\"x\")")
     ∷ (x_of kind.Hash, codes "hash(\"x\")")
     ∷ (x_of kind.List, codes "list(\"x\")")
+    ∷ (x_of kind.Peak, codes "peak(\"x\")")
     ∷ (record { kind = kind.Text; key = 34 ∷ [] }, codes "text(\"\\\"\")")
     ∷ [])
 

@@ -95,8 +95,8 @@ MarksAreSpelled = Holds spelling (map turned marks)
 -- the words of operations, the names of types and what only looks like a word of the language are names
 abbrev pub names : List Bytes
 names =
-    codes "put" ∷ codes "add" ∷ codes "remove" ∷ codes "clear" ∷ codes "push"
-    ∷ codes "get" ∷ codes "has" ∷ codes "all" ∷ codes "fields" ∷ codes "at"
+    codes "put" ∷ codes "add" ∷ codes "remove" ∷ codes "clear" ∷ codes "push" ∷ codes "raise"
+    ∷ codes "get" ∷ codes "has" ∷ codes "all" ∷ codes "fields" ∷ codes "at" ∷ codes "over"
     ∷ codes "int" ∷ codes "texts" ∷ codes "lets" ∷ codes "in_" ∷ codes "ok" ∷ []
 
 -- none of them is reserved
@@ -114,7 +114,7 @@ OthersAreNone = Holds tokens_of (map (λ z. (z, t.Malformed ∷ [])) strays)
 
 -- ---- what a rule asks of a symbol
 
--- the word of a kind; `peak` is kept for one to come
+-- the word of a kind
 abbrev pub KindsAreNamed : Type 0
 KindsAreNamed =
     Holds kind_of
@@ -124,7 +124,8 @@ KindsAreNamed =
     ∷ (s.Set, Some kind.Set)
     ∷ (s.Hash, Some kind.Hash)
     ∷ (s.List, Some kind.List)
-    ∷ (s.Peak, None)
+    ∷ (s.Peak, Some kind.Peak)
+    ∷ (s.Len, None)
     ∷ [])
 
 -- `true` and `false`
@@ -166,6 +167,7 @@ KindsHaveWrites =
     ∷ (kind.Set, codes "add" ∷ codes "remove" ∷ codes "clear" ∷ [])
     ∷ (kind.Hash, codes "put" ∷ codes "remove" ∷ codes "clear" ∷ [])
     ∷ (kind.List, codes "remove" ∷ codes "clear" ∷ codes "push" ∷ [])
+    ∷ (kind.Peak, codes "raise" ∷ [])
     ∷ [])
 
 -- and those that read
@@ -178,4 +180,5 @@ KindsHaveReads =
     ∷ (kind.Set, codes "has" ∷ codes "all" ∷ [])
     ∷ (kind.Hash, codes "get" ∷ codes "has" ∷ codes "fields" ∷ [])
     ∷ (kind.List, codes "all" ∷ codes "at" ∷ [])
+    ∷ (kind.Peak, codes "get" ∷ codes "over" ∷ [])
     ∷ [])

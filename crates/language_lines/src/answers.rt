@@ -1,6 +1,6 @@
 //! What reads answer.
 
-ghost use Rattle.language_lines.specs.Answers.{BoolsAnswer, CountersAnswer, TextsAnswer, SetsAnswer, HashesAnswer, ListsAnswer};
+ghost use Rattle.language_lines.specs.Answers.{BoolsAnswer, CountersAnswer, TextsAnswer, SetsAnswer, HashesAnswer, ListsAnswer, PeaksAnswer};
 
 /// What each read answers behind writes.
 pub fn reads_answer()
@@ -10,4 +10,5 @@ pub fn reads_answer()
     ensures sets { SetsAnswer }
     ensures hashes { HashesAnswer }
     ensures lists { ListsAnswer }
+    ensures peaks { PeaksAnswer }
 {}

@@ -2,7 +2,7 @@
 
 ghost use Rattle.language_lines.specs.Kinds.{KindsRise, KindsHaveWords, KindsHaveDefaults};
 
-/// The six kinds.
+/// The seven kinds.
 pub fn kinds_are_as_written()
     ensures order { KindsRise }
     ensures words { KindsHaveWords }

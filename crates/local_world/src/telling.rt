@@ -62,7 +62,8 @@ fn last_taken(registry: &Registry, client: u32) -> u64
     }
 }
 
-/// Has the changes at an address told to a client, and those since it took last. For want of memory the same are told as before.
+/// Has the changes at an address told to a client, and those since it took last. For want of memory the same are told as
+/// before.
 pub(crate) fn tell(
     journal: &Journal<MemKeep>,
     registry: &mut Registry,
@@ -83,7 +84,7 @@ pub(crate) fn tell(
     registry.subscribe(client, address, &missed)
 }
 
-/// Has the changes at an address told to a client no longer. It takes no memory.
+/// Has the changes at an address told to a client no longer. It is never refused for want of memory.
 pub(crate) fn hush(
     journal: &Journal<MemKeep>,
     registry: &mut Registry,

@@ -203,7 +203,7 @@ impl World {
         Ok(())
     }
 
-    /// Has the changes at an address told to a client no longer. It takes no memory.
+    /// Has the changes at an address told to a client no longer. It is never refused for want of memory.
     pub(crate) fn unsubscribe(&mut self, client: u32, address: &Address)
         requires client { client < CLIENTS }
         requires short { IsShortAddress address.now }
@@ -224,8 +224,8 @@ impl World {
         Ok(feed)
     }
 
-    /// Lets a shard follow to the journal's end, which the client has seen then. It answers the front. For want of memory the
-    /// shard may have followed some of the way.
+    /// Lets a shard follow to the journal's end, which the client has seen then. It answers the front. For want of
+    /// memory the shard may have followed some of the way.
     pub fn follow(&mut self, client: u32, shard: u8) -> Result<u64, AllocError>
         requires client { client < CLIENTS }
         requires shard { shard < self.old.shards }

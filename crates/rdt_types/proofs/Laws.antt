@@ -7,10 +7,11 @@ use Rattle.rdt_types.specs.declared.mark.Mark.TheVariants as mark
 use Rattle.rdt_types.specs.declared.operation.WriteOp.TheVariants as op
 use Rattle.rdt_types.specs.declared.delta.Delta.{Delta}
 use Rattle.rdt_types.specs.declared.delta.Delta.TheVariants as delta
-use Rattle.rdt_types.specs.Values.{wrapping_sum, counter_in, set_in, hash_in, list_in}
+use Rattle.rdt_types.specs.Values.{wrapping_sum, counter_in, set_in, hash_in, list_in, peak_in}
 use Rattle.rdt_types.specs.Marks.{added, put_by}
 use Rattle.rdt_types.specs.Deltas.{apply, compose, DeltasWrite, CompositionsApplyInTurn, CompositionsAssociate}
-use Rattle.rdt_types.proofs.OneKind.{OfOneKind, of_one_kind, bools, puts, put_then_add, add_then_put, adds, texts, sets, hashes, lists}
+use Rattle.rdt_types.proofs.OneKind.{OfOneKind, of_one_kind, bools, puts, put_then_add, add_then_put, adds, texts, sets, hashes, lists, raises}
+use Rattle.rdt_types.proofs.Greater.{int_max-associates}
 use Rattle.rdt_types.proofs.Keyed as keyed
 use Rattle.rdt_types.proofs.Listed as listed
 
@@ -29,6 +30,7 @@ deltas_write op.HashClear v = ap value.Hash (keyed.applied-clearing put_by (hash
 deltas_write (op.ListPush x) v = ap value.List (listed.applied-pushing (list_in v) x)
 deltas_write (op.ListRemove x) v = ap value.List (listed.applied-removing (list_in v) x)
 deltas_write op.ListClear v = refl
+deltas_write (op.Raise n) v = refl
 
 -- sums that wrap are associative
 adds_in_turn : (m n : ℤ) (v : Value) → wrapping_sum (counter_in v) (wrapping_sum m n) ≡ wrapping_sum (wrapping_sum (counter_in v) m) n
@@ -45,6 +47,7 @@ in_turn first second v (texts x y) = refl
 in_turn first second v (sets d e) = ap value.Set (keyed.applied-composed added d e (set_in v))
 in_turn first second v (hashes d e) = ap value.Hash (keyed.applied-composed put_by d e (hash_in v))
 in_turn first second v (lists d e) = ap value.List (listed.applied-composed d e (list_in v))
+in_turn first second v (raises m n) = ap value.Peak (sym (int_max-associates (peak_in v) m n))
 
 -- two deltas of equal kinds are one of the pairs for which it holds
 pub compositions_apply_in_turn : CompositionsApplyInTurn
@@ -63,6 +66,7 @@ associates first second third p (texts x y) = refl
 associates first second third (sets d e) (sets e' f) = ap delta.Set (keyed.composed-composed added d e f)
 associates first second third (hashes d e) (hashes e' f) = ap delta.Hash (keyed.composed-composed put_by d e f)
 associates first second third (lists d e) (lists e' f) = ap delta.List (listed.composed-composed d e f)
+associates first second third (raises l m) (raises m' n) = ap delta.Raise (int_max-associates l m n)
 
 -- three deltas of equal kinds are two such pairs
 pub compositions_associate : CompositionsAssociate

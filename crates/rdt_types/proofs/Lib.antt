@@ -1,4 +1,5 @@
 pub mod OneKind
+pub mod Greater
 pub mod Laws
 pub mod Addresses
 pub mod Keyed

@@ -10,7 +10,7 @@ use Rattle.rdt_types.specs.declared.operation.WriteOp.TheVariants as op
 use Rattle.rdt_types.specs.Values.{kind_written}
 use Rattle.rdt_types.specs.Keyed.{Keyed}
 use Rattle.rdt_types.specs.Listed.{Listed}
-use Rattle.rdt_types.specs.Deltas.{kind_changed, delta_of, add_after, set_after, hash_after, list_after, compose}
+use Rattle.rdt_types.specs.Deltas.{kind_changed, delta_of, add_after, set_after, hash_after, list_after, raise_after, compose}
 
 -- a first delta and a second of its kind
 pub data OfOneKind : Delta → Delta → Type 0 where
@@ -23,6 +23,7 @@ pub data OfOneKind : Delta → Delta → Type 0 where
   sets : (d e : Keyed Bool) → OfOneKind (delta.Set d) (delta.Set e)
   hashes : (d e : Keyed Mark) → OfOneKind (delta.Hash d) (delta.Hash e)
   lists : (d e : Listed) → OfOneKind (delta.List d) (delta.List e)
+  raises : (m n : ℤ) → OfOneKind (delta.Raise m) (delta.Raise n)
 
 -- deltas whose kinds are equal, one row a pair of operations
 pub of_one_kind : (first second : Delta) → kind_changed first ≡ kind_changed second → OfOneKind first second
@@ -35,6 +36,7 @@ of_one_kind (delta.PutText x) (delta.PutText y) same = texts x y
 of_one_kind (delta.Set d) (delta.Set e) same = sets d e
 of_one_kind (delta.Hash d) (delta.Hash e) same = hashes d e
 of_one_kind (delta.List d) (delta.List e) same = lists d e
+of_one_kind (delta.Raise m) (delta.Raise n) same = raises m n
 of_one_kind first second same = absurd (cc)
 
 -- ---- kinds of deltas
@@ -53,6 +55,7 @@ kind-delta_of op.HashClear = refl
 kind-delta_of (op.ListPush x) = refl
 kind-delta_of (op.ListRemove x) = refl
 kind-delta_of op.ListClear = refl
+kind-delta_of (op.Raise n) = refl
 
 -- an addition after any delta is a delta of a counter
 kind-add_after : (first : Delta) (n : ℤ) → kind_changed (add_after first n) ≡ kind.Counter
@@ -75,6 +78,11 @@ kind-list_after : (first : Delta) (e : Listed) → kind_changed (list_after firs
 kind-list_after (delta.List d) e = refl
 kind-list_after first e = refl
 
+-- a raise after any delta is a delta of a peak
+kind-raise_after : (first : Delta) (n : ℤ) → kind_changed (raise_after first n) ≡ kind.Peak
+kind-raise_after (delta.Raise m) n = refl
+kind-raise_after first n = refl
+
 -- a composition is of the kind of its second delta
 pub kind-compose : (first second : Delta) → kind_changed (compose first second) ≡ kind_changed second
 kind-compose first (delta.PutBool b) = refl
@@ -84,3 +92,4 @@ kind-compose first (delta.PutText t) = refl
 kind-compose first (delta.Set e) = kind-set_after first e
 kind-compose first (delta.Hash e) = kind-hash_after first e
 kind-compose first (delta.List e) = kind-list_after first e
+kind-compose first (delta.Raise n) = kind-raise_after first n

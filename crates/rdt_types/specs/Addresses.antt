@@ -29,6 +29,9 @@ set-below-hash = refl
 hash-below-list : kinds.ghosts.cmp kind.Hash kind.List ≡ Less
 hash-below-list = refl
 
+list-below-peak : kinds.ghosts.cmp kind.List kind.Peak ≡ Less
+list-below-peak = refl
+
 -- ---- addresses: the kind decides, and the key where the kind is the same
 
 bool-z-below-counter-x : address_cmp (record { kind = kind.Bool; key = codes "z" }) (record { kind = kind.Counter; key = codes "x" }) ≡ Less

@@ -1,5 +1,6 @@
 -- Deltas: what a list of operations at one address comes to.
 use Rattle.std.specs.Prelude.{◌≡◌, ℤ, pos, negsuc, [], codes, Bool, true, false, Option, Some, None, refl}
+use Rattle.std.specs.Int.{int_max}
 use Rattle.rdt_types.specs.declared.address.Kind.{Kind}
 use Rattle.rdt_types.specs.declared.address.Kind.TheVariants as kind
 use Rattle.rdt_types.specs.declared.value.Value.{Value}
@@ -10,7 +11,7 @@ use Rattle.rdt_types.specs.declared.operation.WriteOp.{WriteOp}
 use Rattle.rdt_types.specs.declared.operation.WriteOp.TheVariants as op
 use Rattle.rdt_types.specs.declared.delta.Delta.{Delta}
 use Rattle.rdt_types.specs.declared.delta.Delta.TheVariants as delta
-use Rattle.rdt_types.specs.Values.{write, wrapping_sum, counter_in, set_in, hash_in, list_in}
+use Rattle.rdt_types.specs.Values.{write, wrapping_sum, counter_in, set_in, hash_in, list_in, peak_in}
 use Rattle.rdt_types.specs.Marks.{added, put_by}
 use Rattle.rdt_types.specs.Keyed as keyed
 use Rattle.rdt_types.specs.Keyed.{Keyed}
@@ -26,6 +27,7 @@ kind_changed (delta.PutText t) = kind.Text
 kind_changed (delta.Set d) = kind.Set
 kind_changed (delta.Hash d) = kind.Hash
 kind_changed (delta.List d) = kind.List
+kind_changed (delta.Raise n) = kind.Peak
 
 -- the delta of one operation
 abbrev pub delta_of : WriteOp → Delta
@@ -42,6 +44,7 @@ delta_of op.HashClear = delta.Hash keyed.clearing
 delta_of (op.ListPush x) = delta.List (listed.pushing x)
 delta_of (op.ListRemove x) = delta.List (listed.removing x)
 delta_of op.ListClear = delta.List listed.clearing
+delta_of (op.Raise n) = delta.Raise n
 
 -- the value after a delta
 abbrev pub apply : Delta → Value → Value
@@ -52,6 +55,7 @@ apply (delta.PutText t) v = value.Text t
 apply (delta.Set d) v = value.Set (keyed.applied added d (set_in v))
 apply (delta.Hash d) v = value.Hash (keyed.applied put_by d (hash_in v))
 apply (delta.List d) v = value.List (listed.applied d (list_in v))
+apply (delta.Raise n) v = value.Peak (int_max (peak_in v) n)
 
 -- the value after a delta that may be there
 abbrev pub apply_maybe : Option Delta → Value → Value
@@ -79,6 +83,11 @@ abbrev pub list_after : Delta → Listed → Delta
 list_after (delta.List d) e = delta.List (listed.composed d e)
 list_after first e = delta.List e
 
+-- a raise after another: the greater of the two
+abbrev pub raise_after : Delta → ℤ → Delta
+raise_after (delta.Raise m) n = delta.Raise (int_max m n)
+raise_after first n = delta.Raise n
+
 -- The delta that does the first and then the second, which are of one kind. A put forgets what was before it.
 abbrev pub compose : Delta → Delta → Delta
 compose first (delta.PutBool b) = delta.PutBool b
@@ -88,6 +97,7 @@ compose first (delta.PutText t) = delta.PutText t
 compose first (delta.Set e) = set_after first e
 compose first (delta.Hash e) = hash_after first e
 compose first (delta.List e) = list_after first e
+compose first (delta.Raise n) = raise_after first n
 
 -- the delta of an operation, applied, is the operation
 abbrev pub DeltasWrite : Type 0
@@ -119,3 +129,10 @@ up-then-down = refl
 -- putting a field and then clearing is clearing
 put-then-clear : compose (delta_of (op.HashPut (codes "f") [])) (delta_of op.HashClear) ≡ delta.Hash keyed.clearing
 put-then-clear = refl
+
+-- two raises are the higher one, in whichever order
+higher-raise-last : compose (delta.Raise (pos 3)) (delta.Raise (pos 7)) ≡ delta.Raise (pos 7)
+higher-raise-last = refl
+
+higher-raise-first : compose (delta.Raise (pos 7)) (delta.Raise (pos 3)) ≡ delta.Raise (pos 7)
+higher-raise-first = refl

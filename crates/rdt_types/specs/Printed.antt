@@ -17,6 +17,7 @@ word_of kind.Text = codes "text"
 word_of kind.Set = codes "set"
 word_of kind.Hash = codes "hash"
 word_of kind.List = codes "list"
+word_of kind.Peak = codes "peak"
 
 -- a hexadecimal digit, in lower case
 abbrev pub hex_digit : ℕ → ℕ

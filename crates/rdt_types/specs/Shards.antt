@@ -30,6 +30,9 @@ hash-h = refl
 list-l : shard_of (record { kind = kind.List; key = codes "l" }) 4 ≡ 3
 list-l = refl
 
+peak-p : shard_of (record { kind = kind.Peak; key = codes "p" }) 4 ≡ 2
+peak-p = refl
+
 -- where there is one shard it holds all
 only-shard :
     map (λ address. shard_of address 1)

@@ -1,6 +1,6 @@
 -- Values, and the operations that write them.
 use Rattle.std.specs.Prelude.{◌≡◌, ℤ, pos, negsuc, Bool, false, not, List, [], ◌∷◌, ◌++◌, refl}
-use Rattle.std.specs.Int.{w64, int_wrapping_add}
+use Rattle.std.specs.Int.{w64, int_wrapping_add, int_max}
 use Rattle.std.specs.List.{filter}
 use Rattle.std.specs.Ordering.{eq_by_cmp}
 use Rattle.std.specs.FinMap as map
@@ -24,6 +24,7 @@ default_of kind.Text = value.Text []
 default_of kind.Set = value.Set map.empty
 default_of kind.Hash = value.Hash map.empty
 default_of kind.List = value.List []
+default_of kind.Peak = value.Peak (pos 0)
 
 -- the kind of a value
 abbrev pub kind_of : Value → Kind
@@ -33,6 +34,7 @@ kind_of (value.Text t) = kind.Text
 kind_of (value.Set s) = kind.Set
 kind_of (value.Hash m) = kind.Hash
 kind_of (value.List items) = kind.List
+kind_of (value.Peak n) = kind.Peak
 
 -- the kind that an operation writes
 abbrev pub kind_written : WriteOp → Kind
@@ -49,6 +51,7 @@ kind_written op.HashClear = kind.Hash
 kind_written (op.ListPush x) = kind.List
 kind_written (op.ListRemove x) = kind.List
 kind_written op.ListClear = kind.List
+kind_written (op.Raise n) = kind.Peak
 
 -- What a value holds, by its kind. Of a value of another kind that is what a default holds: no operation meets one.
 abbrev pub bool_in : Value → Bool
@@ -80,13 +83,18 @@ abbrev pub list_in : Value → List Bytes
 list_in (value.List items) = items
 list_in _ = []
 
+-- the number of a peak
+abbrev pub peak_in : Value → ℤ
+peak_in (value.Peak n) = n
+peak_in _ = pos 0
+
 -- the items that aren't equal to a text
 abbrev pub others : Bytes → List Bytes → List Bytes
 others x items = filter (λ item. not (eq_by_cmp text_cmp item x)) items
 
 -- The value after one operation. A put replaces what was there, and an addition to a counter adds to it. Elements and
 -- fields are added, put and removed as of a set and a finite map. A push adds an item at the end, and a remove of a list
--- drops every equal item. A clear leaves nothing.
+-- drops every equal item. A clear leaves nothing. A raise leaves the greater of what was there and its own number.
 abbrev pub write : WriteOp → Value → Value
 write (op.PutBool b) v = value.Bool b
 write (op.PutCounter n) v = value.Counter n
@@ -101,6 +109,7 @@ write op.HashClear v = value.Hash map.empty
 write (op.ListPush x) v = value.List (list_in v ++ x ∷ [])
 write (op.ListRemove x) v = value.List (others x (list_in v))
 write op.ListClear v = value.List []
+write (op.Raise n) v = value.Peak (int_max (peak_in v) n)
 
 -- adding 1 to the greatest number gives the least
 addition-wraps : write (op.AddCounter (pos 1)) (value.Counter (pos 9223372036854775807)) ≡ value.Counter (negsuc 9223372036854775807)
@@ -109,3 +118,14 @@ addition-wraps = refl
 -- a remove of a list drops every equal item
 remove-drops-all : write (op.ListRemove (1 ∷ [])) (value.List ((1 ∷ []) ∷ (2 ∷ []) ∷ (1 ∷ []) ∷ [])) ≡ value.List ((2 ∷ []) ∷ [])
 remove-drops-all = refl
+
+-- a raise goes up, and never down
+raise-goes-up : write (op.Raise (pos 7)) (value.Peak (pos 5)) ≡ value.Peak (pos 7)
+raise-goes-up = refl
+
+raise-never-lowers : write (op.Raise (pos 3)) (value.Peak (pos 5)) ≡ value.Peak (pos 5)
+raise-never-lowers = refl
+
+-- an address that was never written holds 0, so a raise below it leaves 0
+raise-below-0 : write (op.Raise (negsuc 4)) (default_of kind.Peak) ≡ value.Peak (pos 0)
+raise-below-0 = refl

@@ -15,6 +15,7 @@ pub enum Kind {
     Set,
     Hash,
     List,
+    Peak,
 }
 
 impl Kind {
@@ -29,6 +30,7 @@ impl Kind {
             Kind::Set => b"set".as_slice(),
             Kind::Hash => b"hash".as_slice(),
             Kind::List => b"list".as_slice(),
+            Kind::Peak => b"peak".as_slice(),
         }
     }
 }

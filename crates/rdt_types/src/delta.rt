@@ -24,6 +24,8 @@ pub enum Delta {
     Set(SetDelta),
     Hash(HashDelta),
     List(ListDelta),
+    /// Raises to a number. A raise that changes nothing is a delta too.
+    Raise(i64),
 }
 
 impl ExactClone for Delta {
@@ -44,6 +46,7 @@ impl Delta {
             Delta::Set(_) => Kind::Set,
             Delta::Hash(_) => Kind::Hash,
             Delta::List(_) => Kind::List,
+            Delta::Raise(_) => Kind::Peak,
         }
     }
 }
@@ -70,6 +73,7 @@ pub fn delta_of(alloc: Global, op: &WriteOp) -> Result<Delta, AllocError>
         WriteOp::ListPush(item) => Delta::List(ListDelta::pushing(alloc, item)?),
         WriteOp::ListRemove(text) => Delta::List(ListDelta::removing(alloc, text)?),
         WriteOp::ListClear => Delta::List(ListDelta::clearing(alloc)),
+        WriteOp::Raise(n) => Delta::Raise(*n),
     })
 }
 
@@ -89,20 +93,73 @@ pub fn apply(alloc: Global, delta: &Delta, value: &Value) -> Result<Value, Alloc
         (Delta::Hash(d), _) => Value::Hash(d.applied(alloc, &TextMap::new(alloc))?),
         (Delta::List(d), Value::List(list)) => Value::List(d.applied(alloc, list)?),
         (Delta::List(d), _) => Value::List(d.applied(alloc, &TextList::new(alloc))?),
+        (Delta::Raise(n), Value::Peak(v)) => Value::Peak((*v).max(*n)),
+        (Delta::Raise(n), _) => Value::Peak(0.max(*n)),
     })
+}
+
+/// An addition after another delta of a counter: it goes into what is there.
+fn add_after(first: &Delta, n: i64) -> Delta
+    ensures { result ≡ spec.add_after first.now n }
+{
+    match first {
+        Delta::PutCounter(m) => Delta::PutCounter(m.wrapping_add(n)),
+        Delta::AddCounter(m) => Delta::AddCounter(m.wrapping_add(n)),
+        _ => Delta::AddCounter(n),
+    }
+}
+
+/// A delta of a set after another.
+fn set_after(alloc: Global, first: &Delta, second: &SetDelta) -> Result<Delta, AllocError>
+    ensures { IfOk result (λ d. d ≡ spec.set_after first.now second.now) }
+{
+    Ok(Delta::Set(match first {
+        Delta::Set(first) => first.composed(alloc, second)?,
+        _ => second.clone()?,
+    }))
+}
+
+/// A delta of a hash after another.
+fn hash_after(alloc: Global, first: &Delta, second: &HashDelta) -> Result<Delta, AllocError>
+    ensures { IfOk result (λ d. d ≡ spec.hash_after first.now second.now) }
+{
+    Ok(Delta::Hash(match first {
+        Delta::Hash(first) => first.composed(alloc, second)?,
+        _ => second.clone()?,
+    }))
+}
+
+/// A delta of a list after another.
+fn list_after(alloc: Global, first: &Delta, second: &ListDelta) -> Result<Delta, AllocError>
+    ensures { IfOk result (λ d. d ≡ spec.list_after first.now second.now) }
+{
+    Ok(Delta::List(match first {
+        Delta::List(first) => first.composed(alloc, second)?,
+        _ => second.clone()?,
+    }))
+}
+
+/// A raise after another: the greater of the two.
+fn raise_after(first: &Delta, n: i64) -> Delta
+    ensures { result ≡ spec.raise_after first.now n }
+{
+    match first {
+        Delta::Raise(m) => Delta::Raise((*m).max(n)),
+        _ => Delta::Raise(n),
+    }
 }
 
 /// One delta that does what the first does and then the second. A first one of another kind is forgotten.
 pub fn compose(alloc: Global, first: &Delta, second: &Delta) -> Result<Delta, AllocError>
     ensures { IfOk result (λ d. d ≡ spec.compose first.now second.now) }
 {
-    Ok(match (first, second) {
-        (Delta::PutCounter(m), Delta::AddCounter(n)) => Delta::PutCounter(m.wrapping_add(*n)),
-        (Delta::AddCounter(m), Delta::AddCounter(n)) => Delta::AddCounter(m.wrapping_add(*n)),
-        (Delta::Set(d), Delta::Set(e)) => Delta::Set(d.composed(alloc, e)?),
-        (Delta::Hash(d), Delta::Hash(e)) => Delta::Hash(d.composed(alloc, e)?),
-        (Delta::List(d), Delta::List(e)) => Delta::List(d.composed(alloc, e)?),
-        _ => second.clone()?,
+    Ok(match second {
+        Delta::AddCounter(n) => add_after(first, *n),
+        Delta::Set(second) => set_after(alloc, first, second)?,
+        Delta::Hash(second) => hash_after(alloc, first, second)?,
+        Delta::List(second) => list_after(alloc, first, second)?,
+        Delta::Raise(n) => raise_after(first, *n),
+        Delta::PutBool(_) | Delta::PutCounter(_) | Delta::PutText(_) => second.clone()?,
     })
 }
 

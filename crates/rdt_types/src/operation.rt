@@ -26,6 +26,8 @@ pub enum WriteOp {
     /// Takes out every equal item.
     ListRemove(Text),
     ListClear,
+    /// Raises a peak to a number, where it isn't as high.
+    Raise(i64),
 }
 
 impl ExactClone for WriteOp {
@@ -46,6 +48,7 @@ impl WriteOp {
             WriteOp::SetAdd(_) | WriteOp::SetRemove(_) | WriteOp::SetClear => Kind::Set,
             WriteOp::HashPut(_, _) | WriteOp::HashRemove(_) | WriteOp::HashClear => Kind::Hash,
             WriteOp::ListPush(_) | WriteOp::ListRemove(_) | WriteOp::ListClear => Kind::List,
+            WriteOp::Raise(_) => Kind::Peak,
         }
     }
 }

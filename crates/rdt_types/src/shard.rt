@@ -58,6 +58,7 @@ fn hashed_kind(kind: Kind) -> u32
         Kind::Set => hashed_all(0, b"set(".as_slice()),
         Kind::Hash => hashed_all(0, b"hash(".as_slice()),
         Kind::List => hashed_all(0, b"list(".as_slice()),
+        Kind::Peak => hashed_all(0, b"peak(".as_slice()),
     }
 }
 

@@ -19,6 +19,8 @@ pub enum Value {
     Set(TextSet),
     Hash(TextMap<Text>),
     List(TextList),
+    /// A number that only rises.
+    Peak(i64),
 }
 
 impl ExactClone for Value {
@@ -39,6 +41,7 @@ impl Value {
             Value::Set(_) => Kind::Set,
             Value::Hash(_) => Kind::Hash,
             Value::List(_) => Kind::List,
+            Value::Peak(_) => Kind::Peak,
         }
     }
 }
@@ -54,5 +57,6 @@ pub fn default_value(alloc: Global, kind: Kind) -> Value
         Kind::Set => Value::Set(TextSet::new(alloc)),
         Kind::Hash => Value::Hash(TextMap::new(alloc)),
         Kind::List => Value::List(TextList::new(alloc)),
+        Kind::Peak => Value::Peak(0),
     }
 }

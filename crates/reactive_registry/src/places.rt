@@ -113,7 +113,7 @@ fn is_free(edges: &EdgeSlab, number: u32) -> bool
 }
 
 impl Places {
-    /// No address has a subscriber. It takes no memory yet.
+    /// No address has a subscriber. It is never refused for want of memory.
     pub fn new(alloc: Global) -> Places
         ensures { (address : Address) (subscriber : ℕ) → links result address subscriber ≡ false }
     {
@@ -164,7 +164,7 @@ impl Places {
         }
     }
 
-    /// Takes a subscriber from an address. It takes no memory.
+    /// Takes a subscriber from an address. It is never refused for want of memory.
     pub fn unlink(&mut self, address: &Address, subscriber: u32)
         ensures { (a : Address) (s : ℕ) → links self.new a s ≡ with_link self.old address.now subscriber false a s }
     {
@@ -174,7 +174,8 @@ impl Places {
         }
     }
 
-    /// Takes a subscriber from all addresses, of which these are those where it stands. It takes no memory.
+    /// Takes a subscriber from all addresses, of which these are those where it stands. It is never refused for want of
+    /// memory.
     pub fn drop_subscriber(&mut self, addresses: &BTreeSet<Address>, subscriber: u32)
         ensures { (a : Address) (s : ℕ) → links self.new a s ≡ without_links self.old subscriber a s }
     {

@@ -70,7 +70,7 @@ fn subscribe_pair(
 }
 
 impl Registry {
-    /// Nobody has entered. It takes no memory yet.
+    /// Nobody has entered. It is never refused for want of memory.
     pub fn new(alloc: Global, front: u64) -> Registry
         ensures { result ≡ spec.empty front }
     {
@@ -122,7 +122,7 @@ impl Registry {
         Ok(self.front)
     }
 
-    /// Lets a subscriber go, with all that was kept of it. It takes no memory.
+    /// Lets a subscriber go, with all that was kept of it. It is never refused for want of memory.
     pub fn leave(&mut self, subscriber: u32)
         ensures front { self.new.front ≡ self.old.front }
         ensures gone { (s : ℕ) → kept_of self.new s ≡ with_kept self.old subscriber None s }

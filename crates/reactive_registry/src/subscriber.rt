@@ -81,7 +81,7 @@ fn feed_of(alloc: Global, to: u64, changes: &[Change]) -> Result<Feed, AllocErro
 }
 
 impl Subscriber {
-    /// No address, at a number. It takes no memory yet.
+    /// No address, at a number. It is never refused for want of memory.
     pub fn new(alloc: Global, front: u64) -> Subscriber
         ensures { result ≡ entered front }
     {
@@ -122,7 +122,7 @@ impl Subscriber {
         Ok(())
     }
 
-    /// Forgets the changes past a number. It takes no memory.
+    /// Forgets the changes past a number. It is never refused for want of memory.
     pub fn cut(&mut self, front: u64)
         ensures { self.new ≡ record self.old { changes = filter (λ change. nat_le change.number front) self.old.changes } }
     {
@@ -143,7 +143,7 @@ impl Subscriber {
         added
     }
 
-    /// Takes an address out, and what was kept of it. It takes no memory.
+    /// Takes an address out, and what was kept of it. It is never refused for want of memory.
     pub fn unsubscribe(&mut self, address: &Address)
         ensures has { (a : Address) → is_address self.new a ≡ (if is_at (address_cmp address.now) a then false else is_address self.old a) }
         ensures kept { self.new ≡ unsubscribed address.now self.old }

@@ -12,6 +12,7 @@ use Rattle.record_code.specs.declared.decode_error.DecodeError.TheVariants as de
 use Rattle.record_code.specs.Room.{HasRoom}
 use Rattle.record_code.specs.Payloads.{or_place, payload, decoded, IsKeepable}
 use Rattle.record_code.specs.code.Reads.{Reads, Decodes, Placed}
+use Rattle.record_code.proofs.KindsTold.{two_has_all_kinds}
 use Rattle.record_code.proofs.Commits.{payloads_are_read, runs_are_recorded, untold_are_refused}
 
 module _ {A B : Type 0} (seen : A → B) where
@@ -49,7 +50,7 @@ pub read_again : (commit : Commit) (answer : Result (List ℕ) AllocError) → I
     → decoded version.Two bytes ≡ Ok commit)
 read_again commit (Ok bytes) is room =
     λ kept. ap (decoded version.Two) is ∙ payloads_are_read version.Two commit
-    (runs_are_recorded version.Two commit kept room)
+    (runs_are_recorded version.Two commit kept room (two_has_all_kinds commit))
 read_again commit (Err error) is room = tt
 
 -- and what is of an untold client isn't read

@@ -25,7 +25,7 @@ use Rattle.journal_core.specs.Bodies.{ends_in_blank}
 use Rattle.commit_file.specs.declared.version.Version.{Version}
 use Rattle.record_code.specs.Spelling.{text_bytes, outcome_bytes, deltas_bytes}
 use Rattle.record_code.specs.Fields.{Reader}
-use Rattle.record_code.specs.Reading.{positive_at, client_at, is_body, body_at, outcome_at, suits, may_write}
+use Rattle.record_code.specs.Reading.{has_kinds, positive_at, client_at, is_body, body_at, outcome_at, suits, may_write}
 use Rattle.record_code.specs.Reading.{are_deltas, deltas_at}
 use Rattle.record_code.specs.Forms.{IsFiled, OnlyWhereOk, AreForms}
 use Rattle.record_code.specs.Room.{Always, Both, HaveRoom, DeltaHasRoom, HasRoom}
@@ -37,7 +37,7 @@ use Rattle.record_code.proofs.Codes.{pair_code, list_code, when_code}
 use Rattle.record_code.proofs.Maps.{true_of}
 use Rattle.record_code.proofs.OutcomeCodes.{outcome_code}
 use Rattle.record_code.proofs.DeltaCodes.{IsAddress, address_code, IsDelta, delta_code}
-use Rattle.record_code.proofs.KindsTold.{kind_same, kind_itself, all_kinds}
+use Rattle.record_code.proofs.KindsTold.{kind_same, kind_itself}
 use Rattle.record_code.proofs.Left.{runs_leave_forms}
 
 -- ---- numbers
@@ -86,15 +86,24 @@ not_false false e = refl
 body_short : LONGEST_BODY < 2 ^ 32
 body_short = let is : LONGEST_BODY ≡ 4096 = refl in omega (arith, is)
 
-body_code : IsCode IsKeptBody text_bytes body_at
-body_code =
-    reformed (when_code (text_code LONGEST_BODY body_short) is_body)
-    (λ text h. let b = each_of (not (ends_in_blank text)) (is_some (tree text)) h.1 in
-    record { text_is = record { short = h.0; trimmed = not_true _ b.0 }; has_tree = b.1 })
+-- a body as it is kept, of whose kinds the version has each
+abbrev IsBodyOf : Version → List ℕ → Type 0
+IsBodyOf version text = IsKeptBody text × (has_kinds version text ≡ true)
+
+body_code : (version : Version) → IsCode (IsBodyOf version) text_bytes (body_at version)
+body_code version =
+    reformed (when_code (text_code LONGEST_BODY body_short) (is_body version))
+    (λ text h.
+    let a = each_of (not (ends_in_blank text) && has_kinds version text) (is_some (tree text)) h.1 in
+    let b = each_of (not (ends_in_blank text)) (has_kinds version text) a.0 in (
+      record { text_is = record { short = h.0; trimmed = not_true _ b.0 }; has_tree = a.1 },
+      b.1,
+    ))
     (λ text h. (
-      h.text_is.short,
-      both_of (not (ends_in_blank text)) (is_some (tree text))
-          (not_false _ h.text_is.trimmed) h.has_tree,
+      h.0.text_is.short,
+      both_of (not (ends_in_blank text) && has_kinds version text) (is_some (tree text))
+          (both_of (not (ends_in_blank text)) (has_kinds version text) (not_false _ h.0.text_is.trimmed) h.1)
+          h.0.has_tree,
     ))
 
 -- ---- the deltas
@@ -203,7 +212,7 @@ payloads_are_read version c h =
     record {
       rising = h.forms.rising;
       each = h.forms.each;
-      kinds = h.kinds;
+      kinds = h.kinds.deltas;
       room = h.room.deltas;
       only =
           h.forms.only;
@@ -211,7 +220,7 @@ payloads_are_read version c h =
     let one = positive_code.again c.number (k ++ (s ++ (t ++ (o ++ (d ++ []))))) (h.number, h.room.number) in
     let two = client_code.again c.client (s ++ (t ++ (o ++ (d ++ [])))) h.client in
     let three = positive_code.again c.seq (t ++ (o ++ (d ++ []))) (h.seq, h.room.seq) in
-    let four = body_code.again c.body (o ++ (d ++ [])) h.body in
+    let four = (body_code version).again c.body (o ++ (d ++ [])) (h.body, h.kinds.body) in
     let five = outcome_code.again c.outcome (d ++ []) (h.forms.outcome, h.room.outcome) in
     let six = (deltas_code version c.outcome).again c.deltas [] kept in
     ap (decoded version) (fields n k s t o d) ∙ rw (one, two, three, four, five, six) refl
@@ -249,7 +258,7 @@ module _ (version : Version) (bytes : List ℕ) where
   behind_body n k s x = field bytes outcome_at x.1 >>= behind_outcome n k s x.0
 
   abbrev behind_seq : ℕ → ℕ → ℕ × List ℕ → Result Commit ℕ
-  behind_seq n k x = field bytes body_at x.1 >>= behind_body n k x.0
+  behind_seq n k x = field bytes (body_at version) x.1 >>= behind_body n k x.0
 
   abbrev behind_client : ℕ → ℕ × List ℕ → Result Commit ℕ
   behind_client n x = field bytes positive_at x.1 >>= behind_seq n x.0
@@ -281,8 +290,8 @@ module _ (version : Version) (bytes : List ℕ) where
       let k = taken client_code a.0.1 b.0 n.fits b.1 in
       let d = bind_ok (field bytes positive_at b.0.1) (behind_seq a.0.0 b.0.0) c b.2 in
       let s = taken positive_code b.0.1 d.0 k.fits d.1 in
-      let f = bind_ok (field bytes body_at d.0.1) (behind_body a.0.0 b.0.0 d.0.0) c d.2 in
-      let t = taken body_code d.0.1 f.0 s.fits f.1 in
+      let f = bind_ok (field bytes (body_at version) d.0.1) (behind_body a.0.0 b.0.0 d.0.0) c d.2 in
+      let t = taken (body_code version) d.0.1 f.0 s.fits f.1 in
       let g = bind_ok (field bytes outcome_at f.0.1) (behind_outcome a.0.0 b.0.0 d.0.0 f.0.0) c f.2 in
       let o = taken outcome_code f.0.1 g.0 t.fits g.1 in
       let h = bind_ok (field bytes (deltas_at version g.0.0) g.0.1)
@@ -300,9 +309,9 @@ module _ (version : Version) (bytes : List ℕ) where
         number = n.form.0;
         client = k.form;
         seq = s.form.0;
-        body = t.form;
+        body = t.form.0;
         forms = record { outcome = o.form.0; rising = w.form.rising; each = w.form.each; only = w.form.only };
-        kinds = w.form.kinds;
+        kinds = record { body = t.form.1; deltas = w.form.kinds };
         room = record {
           number = n.form.1;
           client = told_fits b.0.0 k.form;
@@ -320,7 +329,7 @@ what_is_read_is_a_payload version bytes c all e = read_so version bytes c (λ i.
 -- ---- what may be kept
 
 pub runs_are_recorded : RunsAreRecorded
-runs_are_recorded version c h room =
+runs_are_recorded version c h room kinds =
     let left = runs_leave_forms h.of_run.ran.body h.of_run.ran.values h.of_run.run h.of_run.ran.ran in
     let forms : AreForms c.outcome c.deltas =
     subst (λ (how : Outcome). AreForms how c.deltas) (sym h.of_run.outcome)
@@ -331,7 +340,7 @@ runs_are_recorded version c h room =
       seq = h.seq;
       body = record { text_is = h.of_run.body_text; has_tree = ap is_some h.of_run.ran.read };
       forms = forms;
-      kinds = all_kinds version c.deltas;
+      kinds = kinds;
       room = room;
     }
 

@@ -234,6 +234,7 @@ form_byte deltas.PutText = 3
 form_byte deltas.Set = 4
 form_byte deltas.Hash = 5
 form_byte deltas.List = 6
+form_byte deltas.Raise = 7
 
 -- a text that is named, and has nothing or a truth value beside it
 abbrev named : {M : Type 0} → List ℕ × M → Type 0
@@ -248,6 +249,7 @@ delta_again (delta.PutBool true) rest h = refl
 delta_again (delta.PutBool false) rest h = refl
 delta_again (delta.PutCounter n) rest h = rw (int_code.again n rest h.1) refl
 delta_again (delta.AddCounter n) rest h = rw (int_code.again n rest h.1) refl
+delta_again (delta.Raise n) rest h = rw (int_code.again n rest h.1) refl
 delta_again (delta.PutText text) rest h = rw (short_code.again text rest h.0) refl
 delta_again (delta.Set d) rest h =
     rw ((keyed_code truth_code added).again d rest (
@@ -278,6 +280,8 @@ delta_of_takes deltas.PutCounter rest z fits e = variant int_code IsDelta delta_
     (λ n. refl) (λ n h. (tt, h)) rest z fits e
 delta_of_takes deltas.AddCounter rest z fits e = variant int_code IsDelta delta_bytes (2 ∷ []) delta.AddCounter
     (λ n. refl) (λ n h. (tt, h)) rest z fits e
+delta_of_takes deltas.Raise rest z fits e = variant int_code IsDelta delta_bytes (7 ∷ []) delta.Raise (λ n. refl)
+    (λ n h. (tt, h)) rest z fits e
 delta_of_takes deltas.PutText rest z fits e = variant short_code IsDelta delta_bytes (3 ∷ []) delta.PutText (λ t. refl)
     (λ t h. (h, tt)) rest z fits e
 delta_of_takes deltas.Set rest z fits e =

@@ -31,7 +31,7 @@ use Rattle.rdt_types.specs.Keyed as keyed
 use Rattle.rdt_types.specs.Keyed.{Keyed, mark_after}
 use Rattle.rdt_types.specs.Listed as listed
 use Rattle.rdt_types.specs.Listed.{Listed, without}
-use Rattle.rdt_types.specs.Deltas.{delta_of, add_after, set_after, hash_after, list_after, compose}
+use Rattle.rdt_types.specs.Deltas.{delta_of, add_after, set_after, hash_after, list_after, raise_after, compose}
 use Rattle.rdt_types.specs.DeltaMaps.{Deltas, delta_at, after_maybe, with_delta}
 use Rattle.rdt_types.proofs.Addresses.{address_cmp-equal}
 use Rattle.rdt_types.proofs.OneKind.{kind-delta_of, kind-compose}
@@ -234,6 +234,11 @@ form-add_after (delta.PutCounter m) n = tt
 form-add_after (delta.AddCounter m) n = tt
 form-add_after first n = tt
 
+-- nor has a raise
+form-raise_after : (first : Delta) (n : ℤ) → HasForm (raise_after first n)
+form-raise_after (delta.Raise m) n = tt
+form-raise_after first n = tt
+
 -- a set's delta after another, or after none of its kind
 form-set_after : (first : Delta) (e : Keyed Bool) → HasForm first → HasForm (delta.Set e) → HasForm (set_after first e)
 form-set_after (delta.Set d) e one two = keyed-composed added OfSet d e one two
@@ -259,6 +264,7 @@ form-compose first (delta.PutText t) one two = two
 form-compose first (delta.Set e) one two = form-set_after first e one two
 form-compose first (delta.Hash e) one two = form-hash_after first e one two
 form-compose first (delta.List e) one two = form-list_after first e one two
+form-compose first (delta.Raise n) one two = form-raise_after first n
 
 -- an operation none of whose texts is longer
 abbrev pub IsShortWrite : WriteOp → Type 0
@@ -286,6 +292,7 @@ form-delta_of op.HashClear short = keyed-clearing put_by OfHash
 form-delta_of (op.ListPush x) short = listed-pushing x short
 form-delta_of (op.ListRemove x) short = listed-removing x short
 form-delta_of op.ListClear short = listed-clearing
+form-delta_of (op.Raise n) short = tt
 
 -- ---- deltas at addresses
 

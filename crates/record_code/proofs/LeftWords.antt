@@ -53,6 +53,7 @@ one_short kind.Text word i small = small_text i small
 one_short kind.Set word i small = text_short kind.Set word (text_in i) (small_text i small)
 one_short kind.Hash word i small = text_short kind.Hash word (text_in i) (small_text i small)
 one_short kind.List word i small = text_short kind.List word (text_in i) (small_text i small)
+one_short kind.Peak word i small = tt
 
 -- by the number of arguments: with none it clears, with one it writes that one, and with two it is a hash's
 pub write_short : (k : Kind) (word : WriteWord) (is : List Item) → AllSmall is → IsShortMaybe (write_of k word is)

@@ -6,14 +6,18 @@ use Rattle.plain_data.specs.Texts.{MapOf, text_cmp}
 use Rattle.rdt_types.specs.declared.address.Kind.TheVariants as kind
 use Rattle.rdt_types.specs.declared.delta.Delta.TheVariants as delta
 use Rattle.rdt_types.specs.declared.mark.Mark.{Mark}
+use Rattle.rdt_types.specs.declared.outcome.Outcome.TheVariants as outcome
 use Rattle.rdt_types.specs.declared.mark.Mark.TheVariants as mark
 use Rattle.rdt_types.specs.Keyed as keyed
 use Rattle.rdt_types.specs.Listed as listed
+use Rattle.txn_grammar.specs.declared.token.Token.TheVariants as token
+use Rattle.txn_grammar.specs.Spellings.{reserved_word}
+use Rattle.txn_grammar.specs.Lexer.{lex, token_at, word_at, word_token}
 use Rattle.commit_file.specs.declared.version.Version.TheVariants as version
 use Rattle.record_code.specs.Spelling.{truth_bytes, text_bytes, pair_bytes, list_bytes, nothing_bytes, mark_bytes}
 use Rattle.record_code.specs.Spelling.{address_bytes, delta_bytes}
-use Rattle.record_code.specs.Fields.{int_at, text_at, tag_at}
-use Rattle.record_code.specs.Reading.{address_at, delta_of, delta_at, item_of, item_at}
+use Rattle.record_code.specs.Fields.{int_at, text_at, tag_at, pair_at, each_at, list_at}
+use Rattle.record_code.specs.Reading.{suits_token, has_kinds, address_at, delta_of, delta_at, item_of, item_at, deltas_at}
 use Rattle.record_code.specs.Payloads.{decoded}
 
 -- ---- deltas as bytes
@@ -62,8 +66,15 @@ remove_and_push =
     6 ∷ (truth_bytes false ++ list_bytes (pair_bytes text_bytes nothing_bytes) pairs ++ list_bytes text_bytes only_b))
     (map.entries-from_sorted text_cmp ((codes "a", tt) ∷ []) tt)
 
+-- a peak is raised to 4
+raise_to_four : delta_bytes (delta.Raise (pos 4)) ≡ 7 ∷ 0 ∷ 0 ∷ 0 ∷ 0 ∷ 0 ∷ 0 ∷ 0 ∷ 4 ∷ []
+raise_to_four = refl
+
 counter_x : address_bytes (record { kind = kind.Counter; key = codes "x" }) ≡ 1 ∷ 0 ∷ 0 ∷ 0 ∷ 1 ∷ 120 ∷ []
 counter_x = refl
+
+peak_p : address_bytes (record { kind = kind.Peak; key = codes "p" }) ≡ 6 ∷ 0 ∷ 0 ∷ 0 ∷ 1 ∷ 112 ∷ []
+peak_p = refl
 
 -- ---- and read
 
@@ -75,18 +86,46 @@ read_text : delta_at (3 ∷ 0 ∷ 0 ∷ 0 ∷ 1 ∷ 97 ∷ 9 ∷ []) ≡ Some (d
 unfolding delta_at delta_of tag_at text_at
 read_text = refl
 
--- there is no form 7, and no kind 6 in either version
-no_form : delta_at (7 ∷ 0 ∷ []) ≡ None
+-- a raise to -2
+read_raise : delta_at (7 ∷ 255 ∷ 255 ∷ 255 ∷ 255 ∷ 255 ∷ 255 ∷ 255 ∷ 254 ∷ []) ≡ Some (delta.Raise (negsuc 1), [])
+unfolding delta_at delta_of tag_at int_at
+read_raise = refl
+
+read_peak : address_at version.Two (6 ∷ 0 ∷ 0 ∷ 0 ∷ 1 ∷ 112 ∷ []) ≡ Some
+    (record { kind = kind.Peak; key = codes "p" }, [])
+unfolding address_at tag_at text_at
+read_peak = refl
+
+-- there is no form 8, and no kind 7
+no_form : delta_at (8 ∷ 0 ∷ []) ≡ None
 unfolding delta_at tag_at
 no_form = refl
 
-no_kind : address_at version.Two (6 ∷ 0 ∷ 0 ∷ 0 ∷ 0 ∷ []) ≡ None
+no_kind : address_at version.Two (7 ∷ 0 ∷ 0 ∷ 0 ∷ 0 ∷ []) ≡ None
 unfolding address_at tag_at
 no_kind = refl
 
-no_kind-one : address_at version.One (6 ∷ 0 ∷ 0 ∷ 0 ∷ 0 ∷ []) ≡ None
+-- ---- without the newest kind
+
+-- in version 1 there is no kind 6
+no_peak : address_at version.One (6 ∷ 0 ∷ 0 ∷ 0 ∷ 0 ∷ []) ≡ None
 unfolding address_at tag_at
-no_kind-one = refl
+no_peak = refl
+
+-- and so no raise, since no address has its kind
+no_raise : deltas_at version.One (outcome.Ok [])
+    (0 ∷ 0 ∷ 0 ∷ 1 ∷ 1 ∷ 0 ∷ 0 ∷ 0 ∷ 1 ∷ 120 ∷ 7 ∷ 0 ∷ 0 ∷ 0 ∷ 0 ∷ 0 ∷ 0 ∷ 0 ∷ 4 ∷ []) ≡ None
+unfolding list_at each_at pair_at address_at delta_at delta_of tag_at text_at int_at
+no_raise = refl
+
+-- nor a body with its word
+no_peak-in-body : has_kinds version.One (codes "peak(\"b\").raise(1);") ≡ false
+unfolding lex token_at word_at word_token reserved_word
+no_peak-in-body = refl
+
+-- a text in quotes is no word
+peak-in-quotes : suits_token version.One (token.Text (codes "peak")) ≡ true
+peak-in-quotes = refl
 
 -- a truth value of 2 is none
 no_truth : item_at (1 ∷ 2 ∷ []) ≡ None

@@ -1,6 +1,6 @@
 -- Payloads: a commit as bytes, and which commit bytes are.
 use Rattle.std.specs.Prelude.{◌≡◌, ℕ, ◌-◌, ◌<◌, ◌≤◌, pos, List, [], ◌∷◌, ◌++◌, length, slice_get, codes, Option, Some}
-use Rattle.std.specs.Prelude.{None, IsSome, Result, Ok, Err, refl}
+use Rattle.std.specs.Prelude.{None, IsSome, Result, Ok, Err, true, refl}
 use Rattle.std.specs.Int.{w32, w64, to_be_bytes}
 use Rattle.std.specs.List.{AllByRecursion}
 use Rattle.rdt_types.specs.declared.address.Kind.{Kind}
@@ -14,7 +14,7 @@ use Rattle.journal_core.specs.Keeping.{IsOfRun}
 use Rattle.commit_file.specs.declared.version.Version.{Version}
 use Rattle.record_code.specs.Spelling.{text_bytes, outcome_bytes, deltas_bytes, kind_byte}
 use Rattle.record_code.specs.Fields.{Reader}
-use Rattle.record_code.specs.Reading.{positive_at, client_at, body_at, outcome_at, deltas_at, kinds_of}
+use Rattle.record_code.specs.Reading.{positive_at, client_at, body_at, outcome_at, deltas_at, kinds_of, has_kinds}
 use Rattle.record_code.specs.Forms.{AreForms}
 use Rattle.record_code.specs.Room.{HasRoom}
 
@@ -58,7 +58,7 @@ decoded version bytes = do
   number ← field bytes positive_at bytes
   client ← field bytes client_at number.1
   seq ← field bytes positive_at client.1
-  body ← field bytes body_at seq.1
+  body ← field bytes (body_at version) seq.1
   outcome ← field bytes outcome_at body.1
   deltas ← field bytes (deltas_at version outcome.0) outcome.1
   end ← field bytes end_at deltas.1
@@ -82,6 +82,11 @@ pub record IsKeptBody (text : List ℕ) : Type 0 where
 abbrev pub IsKindOf : Version → Kind → Type 0
 IsKindOf version kind = slice_get (kinds_of version) (kind_byte kind) ≡ Some kind
 
+-- The version has the kinds of the commit: those of its body, and those at which it writes.
+pub record HasKindsOf (version : Version) (commit : Commit) : Type 0 where
+  pub body : has_kinds version commit.body ≡ true
+  pub deltas : AllByRecursion (λ pair. IsKindOf version pair.0.kind) commit.deltas
+
 -- The commit has a payload of the version: each field has its form, and there is room for it.
 pub record IsRecorded (version : Version) (commit : Commit) : Type 0 where
   pub number : 1 ≤ commit.number
@@ -89,7 +94,7 @@ pub record IsRecorded (version : Version) (commit : Commit) : Type 0 where
   pub seq : 1 ≤ commit.seq
   pub body : IsKeptBody commit.body
   pub forms : AreForms commit.outcome commit.deltas
-  pub kinds : AllByRecursion (λ pair. IsKindOf version pair.0.kind) commit.deltas
+  pub kinds : HasKindsOf version commit
   pub room : HasRoom commit
 
 -- The commit may be kept: it is one of a run, its numbers are from 1, and its client is told of.

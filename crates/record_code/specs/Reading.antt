@@ -1,5 +1,6 @@
 -- How the fields of a payload are read, each in its form.
-use Rattle.std.specs.Prelude.{ℕ, Bool, true, false, ◌&&◌, not, is_some, List, [], ◌∷◌, nat_lt, Option, Some, None}
+use Rattle.std.specs.Prelude.{ℕ, Bool, true, false, ◌&&◌, not, is_some, List, [], ◌∷◌, length, nat_lt, Option, Some}
+use Rattle.std.specs.Prelude.{None}
 use Rattle.std.specs.Prelude.{if◌then◌else◌}
 use Rattle.std.specs.Int.{w32, w64}
 use Rattle.std.specs.List.{list_all}
@@ -25,6 +26,10 @@ use Rattle.rdt_types.specs.Keyed.{Keyed}
 use Rattle.rdt_types.specs.Listed as listed
 use Rattle.rdt_types.specs.Listed.{Listed}
 use Rattle.rdt_types.specs.Marks.{added, put_by}
+use Rattle.txn_grammar.specs.declared.token.Token.{Token}
+use Rattle.txn_grammar.specs.declared.token.Spot.{Spot}
+use Rattle.txn_grammar.specs.Tokens.{of_symbol, kind_of}
+use Rattle.txn_grammar.specs.Lexer.{lex}
 use Rattle.txn_lang.specs.declared.limits.TheConstants.{TEXT_LIMIT}
 use Rattle.txn_lang.specs.Tree.{tree}
 use Rattle.journal_core.specs.declared.limits.TheConstants.{LONGEST_BODY, FIRST_UNTOLD_CLIENT}
@@ -38,8 +43,37 @@ use Rattle.record_code.specs.declared.tags.DeltaTag.TheVariants as deltas
 use Rattle.record_code.specs.declared.tags.OutcomeTag.{OutcomeTag}
 use Rattle.record_code.specs.declared.tags.OutcomeTag.TheVariants as outcomes
 use Rattle.record_code.specs.declared.tags.TheConstants.{KINDS_ONE, KINDS_TWO, ITEM_TAGS, DELTA_TAGS, OUTCOME_TAGS}
+use Rattle.record_code.specs.Spelling.{kind_byte}
 use Rattle.record_code.specs.Fields.{Reader, ◌>>=◌, when, number_at, int_at, text_at, tag_at, truth_at, nothing_at}
 use Rattle.record_code.specs.Fields.{pair_at, list_at}
+
+-- ---- the kinds of a version
+
+-- the kinds that a version has, each at the place of its byte
+abbrev pub kinds_of : Version → List Kind
+kinds_of version.One = KINDS_ONE
+kinds_of version.Two = KINDS_TWO
+
+-- whether a version has a kind: there is a place for its byte
+abbrev pub has_kind : Version → Kind → Bool
+has_kind version kind = nat_lt (kind_byte kind) (length (kinds_of version))
+
+-- whether it has a kind that may be told
+abbrev pub has_told : Version → Option Kind → Bool
+has_told version None = true
+has_told version (Some kind) = has_kind version kind
+
+-- whether it has the kind whose word a token is, if it is one
+abbrev pub suits_token : Version → Token → Bool
+suits_token version token = has_told version (of_symbol kind_of token)
+
+-- the same of a token with its column
+abbrev pub suits_spot : Version → Spot → Bool
+suits_spot version spot = suits_token version spot.token
+
+-- Whether a version has the kinds of a body. The word of a kind is reserved: wherever it stands in a body it is the kind.
+abbrev pub has_kinds : Version → List ℕ → Bool
+has_kinds version text = list_all (suits_spot version) (lex text)
 
 -- ---- numbers and the body
 
@@ -51,20 +85,15 @@ positive_at = when (λ n. nat_lt 0 n) (number_at w64)
 abbrev pub client_at : Reader ℕ
 client_at = when (λ client. nat_lt client FIRST_UNTOLD_CLIENT) (number_at w32)
 
--- whether a text is that of a body, as it is kept
-abbrev pub is_body : List ℕ → Bool
-is_body text = not (ends_in_blank text) && is_some (tree text)
+-- whether a text is that of a body, as it is kept, and the version has its kinds
+abbrev pub is_body : Version → List ℕ → Bool
+is_body version text = not (ends_in_blank text) && has_kinds version text && is_some (tree text)
 
 -- the text of a body: any that may run, also one that writes
-abbrev pub body_at : Reader (List ℕ)
-body_at = when is_body (text_at LONGEST_BODY)
+abbrev pub body_at : Version → Reader (List ℕ)
+body_at version = when (is_body version) (text_at LONGEST_BODY)
 
 -- ---- addresses
-
--- the kinds that addresses have in a version, each at the place of its byte
-abbrev pub kinds_of : Version → List Kind
-kinds_of version.One = KINDS_ONE
-kinds_of version.Two = KINDS_TWO
 
 -- a text, which is no longer than texts may be
 abbrev pub short_at : Reader (List ℕ)
@@ -150,6 +179,9 @@ delta_of deltas.Hash bytes = do
 delta_of deltas.List bytes = do
   d ← listed_at bytes
   Some (delta.List d.0, d.1)
+delta_of deltas.Raise bytes = do
+  n ← int_at bytes
+  Some (delta.Raise n.0, n.1)
 
 unfoldable pub delta_at : Reader Delta
 delta_at bytes = do

@@ -60,6 +60,7 @@ DeltaHasRoom (delta.AddCounter n) = IsInt n
 DeltaHasRoom (delta.Set d) = KeyedHasRoom d
 DeltaHasRoom (delta.Hash d) = KeyedHasRoom d
 DeltaHasRoom (delta.List d) = ListedHasRoom d
+DeltaHasRoom (delta.Raise n) = IsInt n
 DeltaHasRoom _ = Unit {0}
 
 -- ---- a commit

@@ -51,6 +51,7 @@ kind_byte kind.Text = 2
 kind_byte kind.Set = 3
 kind_byte kind.Hash = 4
 kind_byte kind.List = 5
+kind_byte kind.Peak = 6
 
 -- an address: the byte of its kind, and its key
 abbrev pub address_bytes : Address → List ℕ
@@ -85,6 +86,7 @@ delta_byte (delta.PutText text) = 3
 delta_byte (delta.Set d) = 4
 delta_byte (delta.Hash d) = 5
 delta_byte (delta.List d) = 6
+delta_byte (delta.Raise n) = 7
 
 -- what a delta of each form says
 abbrev pub delta_parts : Delta → List ℕ
@@ -95,6 +97,7 @@ delta_parts (delta.PutText text) = text_bytes text
 delta_parts (delta.Set d) = keyed_bytes truth_bytes d
 delta_parts (delta.Hash d) = keyed_bytes mark_bytes d
 delta_parts (delta.List d) = listed_bytes d
+delta_parts (delta.Raise n) = int_bytes n
 
 -- a delta: the byte of its form, and what it says
 abbrev pub delta_bytes : Delta → List ℕ

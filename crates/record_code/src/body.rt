@@ -7,7 +7,9 @@ ghost use Rattle.record_code.specs.Reading.{is_body, body_at};
 ghost use Rattle.record_code.specs.code.Reads.{Reads, Tells};
 
 use crate::field_error::FieldError;
+use crate::kinds::has_kinds;
 use crate::texts::read_text;
+use commit_file::Version;
 use dtext::is_blank;
 use journal_core::LONGEST_BODY;
 use plain_data::Text;
@@ -43,21 +45,28 @@ fn with_tree(alloc: Global, text: Text) -> Result<Text, FieldError>
     }
 }
 
-/// The text back, where it is that of a body, as it is kept.
-fn as_kept(alloc: Global, text: Text) -> Result<Text, FieldError>
+/// The text back, where it is that of a body, as it is kept, and the version has its kinds.
+fn as_kept(alloc: Global, version: Version, text: Text) -> Result<Text, FieldError>
     requires { length text ≤ LONGEST_BODY }
-    ensures { Tells result text (is_body text) }
+    ensures { Tells result text (is_body version text) }
 {
     if ends_in_blank(text.as_slice()) {
+        return Err(FieldError::Malformed);
+    }
+    if !has_kinds(alloc, version, text.as_slice())? {
         return Err(FieldError::Malformed);
     }
     with_tree(alloc, text)
 }
 
-/// Reads the text of a body.
-pub(crate) fn read_body(alloc: Global, bytes: &[u8]) -> Result<(Text, &[u8]), FieldError>
-    ensures { Reads (λ read. (read.0, read.1.now)) result (body_at bytes.now) }
+/// Reads the text of a body in a payload of a version.
+pub(crate) fn read_body(
+    alloc: Global,
+    version: Version,
+    bytes: &[u8],
+) -> Result<(Text, &[u8]), FieldError>
+    ensures { Reads (λ read. (read.0, read.1.now)) result (body_at version bytes.now) }
 {
     let (text, rest) = read_text(alloc, LONGEST_BODY, bytes)?;
-    Ok((as_kept(alloc, text)?, rest))
+    Ok((as_kept(alloc, version, text)?, rest))
 }

@@ -131,12 +131,13 @@ fn client_field<'a>(whole: &[u8], rest: &'a [u8]) -> Result<(u32, &'a [u8]), Dec
 /// The field of a body.
 fn body_field<'a>(
     alloc: Global,
+    version: Version,
     whole: &[u8],
     rest: &'a [u8],
 ) -> Result<(Text, &'a [u8]), DecodeError>
-    ensures { Decodes (λ read. (read.0, read.1.now)) result (field whole.now body_at rest.now) }
+    ensures { Decodes (λ read. (read.0, read.1.now)) result (field whole.now (body_at version) rest.now) }
 {
-    placed(whole, rest, read_body(alloc, rest))
+    placed(whole, rest, read_body(alloc, version, rest))
 }
 
 /// The field of an outcome.
@@ -183,7 +184,7 @@ fn decode_by(alloc: Global, version: Version, bytes: &[u8]) -> Result<Commit, De
     let (number, rest) = number_field(bytes, bytes)?;
     let (client, rest) = client_field(bytes, rest)?;
     let (seq, rest) = number_field(bytes, rest)?;
-    let (body, rest) = body_field(alloc, bytes, rest)?;
+    let (body, rest) = body_field(alloc, version, bytes, rest)?;
     let (outcome, rest) = outcome_field(alloc, version, bytes, rest)?;
     let (deltas, rest) = deltas_field(alloc, version, &outcome, bytes, rest)?;
     end(bytes, rest)?;

@@ -1,46 +1,22 @@
 //! Fields of deltas and of the addresses at which they are.
 
 ghost use Rattle.std.specs.Prelude.{◌≡◌, ◌++◌, Option, OnOk};
-ghost use Rattle.record_code.specs.Spelling.{kind_byte, delta_byte, delta_parts};
-ghost use Rattle.record_code.specs.Reading.{kinds_of, map_of, map_at, keyed_of, listed_of, mark_of, delta_of};
-ghost use Rattle.record_code.specs.Fields.{tag_at};
+ghost use Rattle.record_code.specs.Spelling.{delta_byte, delta_parts};
+ghost use Rattle.record_code.specs.Reading.{map_of, map_at, keyed_of, listed_of, mark_of, delta_of};
 ghost use Rattle.record_code.specs.Room.{DeltaHasRoom};
 ghost use Rattle.record_code.specs.code.Reads.{Reads};
 
 use crate::field::{Field, read_list, write_list};
 use crate::field_error::FieldError;
+use crate::kinds::{byte_of, read_kind};
 use crate::numbers::{read_i64, read_tag, write_byte, write_i64};
-use crate::tags::{DELTA_TAGS, DeltaTag, KINDS_ONE, KINDS_TWO};
+use crate::tags::{DELTA_TAGS, DeltaTag};
 use commit_file::Version;
 use plain_data::{Text, TextMap, TextSet};
 use rdt_types::{
-    Address, Delta, HashDelta, KeyedDelta, Kind, Leaves, ListDelta, Mark, SetDelta, TextList,
+    Address, Delta, HashDelta, KeyedDelta, Leaves, ListDelta, Mark, SetDelta, TextList,
 };
 use std::alloc::{AllocError, Global};
-
-/// The byte of a kind.
-fn byte_of(kind: Kind) -> u8
-    ensures { result ≡ kind_byte kind }
-{
-    match kind {
-        Kind::Bool => 0,
-        Kind::Counter => 1,
-        Kind::Text => 2,
-        Kind::Set => 3,
-        Kind::Hash => 4,
-        Kind::List => 5,
-    }
-}
-
-/// Reads a kind of a version.
-fn read_kind(version: Version, bytes: &[u8]) -> Result<(Kind, &[u8]), FieldError>
-    ensures { Reads (λ read. (read.0, read.1.now)) result (tag_at (kinds_of version) bytes.now) }
-{
-    match version {
-        Version::One => read_tag(&KINDS_ONE, bytes),
-        Version::Two => read_tag(&KINDS_TWO, bytes),
-    }
-}
 
 impl Field for Address {
     ghost use Rattle.record_code.specs.Spelling.{address_bytes};
@@ -251,6 +227,10 @@ fn read_delta(
             let (d, rest) = ListDelta::read(alloc, version, bytes)?;
             Ok((Delta::List(d), rest))
         }
+        DeltaTag::Raise => {
+            let (number, rest) = read_i64(bytes)?;
+            Ok((Delta::Raise(number), rest))
+        }
     }
 }
 
@@ -266,6 +246,7 @@ fn byte_of_form(delta: &Delta) -> u8
         Delta::Set(_) => 4,
         Delta::Hash(_) => 5,
         Delta::List(_) => 6,
+        Delta::Raise(_) => 7,
     }
 }
 
@@ -282,6 +263,7 @@ fn write_parts(out: &mut Text, delta: &Delta) -> Result<(), AllocError>
         Delta::Set(d) => d.write(out),
         Delta::Hash(d) => d.write(out),
         Delta::List(d) => d.write(out),
+        Delta::Raise(number) => write_i64(out, *number),
     }
 }
 

@@ -11,6 +11,7 @@ mod deltas;
 mod encoding;
 mod field;
 mod field_error;
+mod kinds;
 mod laws;
 mod numbers;
 mod outcomes;
@@ -23,6 +24,9 @@ pub use decoding::{decode, decode_old};
 pub use encoding::encode;
 pub use field::Field;
 pub use field_error::FieldError;
-pub use laws::{payloads_are_read, runs_are_recorded, runs_leave_forms, what_is_read_is_a_payload};
+pub use laws::{
+    payloads_are_read, runs_are_recorded, runs_leave_forms, version_two_has_all_kinds,
+    what_is_read_is_a_payload,
+};
 pub use numbers::{read_i64, read_u32, read_u64, write_i64, write_u32, write_u64};
 pub use texts::{read_text, write_text};

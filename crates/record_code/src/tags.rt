@@ -21,6 +21,7 @@ pub enum DeltaTag {
     Set,
     Hash,
     List,
+    Raise,
 }
 
 /// How a body ended.
@@ -35,7 +36,7 @@ pub enum OutcomeTag {
 /// Whether something is so.
 pub const TRUTHS: [bool; 2] = [false, true];
 
-/// The kinds that addresses have in payloads of version 1.
+/// The kinds that bodies and addresses have in payloads of version 1.
 pub const KINDS_ONE: [Kind; 6] = [
     Kind::Bool,
     Kind::Counter,
@@ -45,21 +46,22 @@ pub const KINDS_ONE: [Kind; 6] = [
     Kind::List,
 ];
 
-/// The kinds that addresses have in payloads of version 2.
-pub const KINDS_TWO: [Kind; 6] = [
+/// The kinds that bodies and addresses have in payloads of version 2.
+pub const KINDS_TWO: [Kind; 7] = [
     Kind::Bool,
     Kind::Counter,
     Kind::Text,
     Kind::Set,
     Kind::Hash,
     Kind::List,
+    Kind::Peak,
 ];
 
 /// The types of emitted values.
 pub const ITEM_TAGS: [ItemTag; 4] = [ItemTag::Int, ItemTag::Bool, ItemTag::Text, ItemTag::Texts];
 
 /// The forms of deltas.
-pub const DELTA_TAGS: [DeltaTag; 7] = [
+pub const DELTA_TAGS: [DeltaTag; 8] = [
     DeltaTag::PutBool,
     DeltaTag::PutCounter,
     DeltaTag::AddCounter,
@@ -67,6 +69,7 @@ pub const DELTA_TAGS: [DeltaTag; 7] = [
     DeltaTag::Set,
     DeltaTag::Hash,
     DeltaTag::List,
+    DeltaTag::Raise,
 ];
 
 /// The ways in which bodies end.

@@ -109,6 +109,17 @@ touches-example = refl
 touches-elsewhere : touches ((counter (codes "x"), delta.AddCounter (pos 0)) ∷ []) (record { address = counter (codes "y"); obs = obs.CounterIs } ∷ []) ≡ false
 touches-elsewhere = refl
 
+-- the peak of a key
+abbrev peak : List ℕ → Address
+peak key = record { kind = kind.Peak; key = key }
+
+-- a raise touches who was told that the peak isn't above a number that the raise passes, and never who was told that it is
+touches-below : touches ((peak (codes "x"), delta.Raise (pos 50)) ∷ []) (record { address = peak (codes "x"); obs = obs.PeakOver (pos 10) false } ∷ []) ≡ true
+touches-below = refl
+
+touches-above : touches ((peak (codes "x"), delta.Raise (pos 50)) ∷ []) (record { address = peak (codes "x"); obs = obs.PeakOver (pos 10) true } ∷ []) ≡ false
+touches-above = refl
+
 -- a run that observed nothing is never touched
 touches-nothing : (changes : Deltas) → touches changes [] ≡ false
 touches-nothing changes = refl

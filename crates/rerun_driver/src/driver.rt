@@ -57,7 +57,7 @@ fn any_observes(roll: &Roll, numbers: &[u64], address: &Address) -> bool
 }
 
 impl Driver {
-    /// No watch yet. It takes no memory yet.
+    /// No watch yet. It is never refused for want of memory.
     pub fn new(alloc: Global) -> Driver
         ensures { result ≡ [] }
     {
@@ -120,7 +120,7 @@ impl Driver {
         Ok(())
     }
 
-    /// Forgets a watch. It answers whether it was there, and takes no memory.
+    /// Forgets a watch. It answers whether it was there, and is never refused for want of memory.
     pub fn unwatch(&mut self, name: &Text) -> bool
         ensures answer { result ≡ is_some (watch_of self.old name.now) }
         ensures gone { self.new ≡ spec.without_watch self.old name.now }
@@ -133,7 +133,8 @@ impl Driver {
         true
     }
 
-    /// Tells all watches of a feed: they become stale where its changes touch what they observed. It takes no memory.
+    /// Tells all watches of a feed: they become stale where its changes touch what they observed. It is never refused
+    /// for want of memory.
     pub fn advance(&mut self, feed: &Feed)
         ensures { self.new ≡ spec.all_told feed.now.changes self.old }
     {
@@ -154,7 +155,7 @@ impl Driver {
         }
     }
 
-    /// A watch takes the report of its run at a number. It takes no memory.
+    /// A watch takes the report of its run at a number. It is never refused for want of memory.
     pub fn settle(&mut self, name: &Text, number: u64, run: Run)
         requires there { IsSome (watch_of self.old name.now) }
         ensures { self.new ≡ spec.with_report self.old name.now number run }

@@ -120,7 +120,7 @@ impl Numbers {
         self.items.reserve(more)
     }
 
-    /// Puts a number among the others. It takes no memory.
+    /// Puts a number among the others. It is never refused for want of memory.
     pub fn put(&mut self, number: u64)
         requires { length self.old.0 < self.old.1 }
         ensures { self.new ≡ (with_number self.old.0 number, self.old.1) }
@@ -128,7 +128,7 @@ impl Numbers {
         put(&mut self.items, number)
     }
 
-    /// Takes a number out, where it is there. It takes no memory.
+    /// Takes a number out, where it is there. It is never refused for want of memory.
     pub fn take_out(&mut self, number: u64)
         ensures { self.new ≡ (without_number self.old.0 number, self.old.1) }
     {

@@ -36,7 +36,7 @@ fn put_in(set: &mut Numbers, number: u64) -> bool
 }
 
 impl Places {
-    /// Nobody stands anywhere. It takes no memory yet.
+    /// Nobody stands anywhere. It is never refused for want of memory.
     pub fn new(alloc: Global) -> Places
         ensures { (a : Address) → numbers_at result a ≡ [] }
     {
@@ -80,7 +80,7 @@ impl Places {
         }
     }
 
-    /// Takes a number from an address. It takes no memory.
+    /// Takes a number from an address. It is never refused for want of memory.
     pub fn take_out(&mut self, address: &Address, number: u64)
         ensures { (a : Address) → numbers_at self.new a
             ≡ (if is_at (address_cmp address.now) a then without_number (numbers_at self.old a) number else numbers_at self.old a) }

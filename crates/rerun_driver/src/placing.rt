@@ -35,7 +35,7 @@ fn put_all(places: &mut Places, observations: &[Seen], number: u64) -> bool
     true
 }
 
-/// Takes a number from each observed address. It takes no memory.
+/// Takes a number from each observed address. It is never refused for want of memory.
 pub(crate) fn take_all(places: &mut Places, observations: &[Seen], number: u64)
     ensures { (a : Address) (m : ℕ) → nat_eq number m ≡ false → stands places.new a m ≡ stands places.old a m }
 {

@@ -67,7 +67,7 @@ fn any_observes(watches: &[Watch], address: &Address) -> bool
 }
 
 impl Roll {
-    /// No watch yet. It takes no memory yet.
+    /// No watch yet. It is never refused for want of memory.
     pub fn new(alloc: Global) -> Roll
         ensures { result ≡ ([], []) }
     {
@@ -144,7 +144,7 @@ impl Roll {
         Ok(made)
     }
 
-    /// Forgets the watch of a name, and answers it with its number. It takes no memory.
+    /// Forgets the watch of a name, and answers it with its number. It is never refused for want of memory.
     pub fn remove(&mut self, name: &Text) -> Option<(u64, Watch)>
         ensures answer { is_some result ≡ is_some (watch_of self.old.1 name.now) }
         ensures gone { self.new.1 ≡ spec.without_watch self.old.1 name.now }
@@ -176,7 +176,7 @@ impl Roll {
         }
     }
 
-    /// Tells the watch of a number of changes, where there is one. It takes no memory.
+    /// Tells the watch of a number of changes, where there is one. It is never refused for want of memory.
     pub fn tell(&mut self, number: u64, changes: &DeltaMap)
         ensures { self.new ≡ told_at changes.now self.old number }
     {
@@ -185,7 +185,7 @@ impl Roll {
         }
     }
 
-    /// Tells all watches of changes. It takes no memory.
+    /// Tells all watches of changes. It is never refused for want of memory.
     pub fn tell_all(&mut self, changes: &DeltaMap)
         ensures { self.new ≡ (self.old.0, spec.all_told changes.now self.old.1) }
     {
@@ -195,7 +195,7 @@ impl Roll {
     }
 
     /// The watch of a name takes the report of its run at a number. It answers the number that it was given at its making,
-    /// and what its run before observed, and takes no memory.
+    /// and what its run before observed, and is never refused for want of memory.
     pub fn settle(&mut self, name: &Text, number: u64, run: Run) -> Option<(u64, SeenList)>
         ensures kept { self.new ≡ (self.old.0, spec.with_report self.old.1 name.now number run) }
         ensures answer { is_some result ≡ is_some (watch_of self.old.1 name.now) }

@@ -16,7 +16,7 @@ fn tell_set(roll: &mut Roll, numbers: &[u64], changes: &DeltaMap)
     }
 }
 
-/// Tells the watches that stand at the addresses of changes of these. It takes no memory.
+/// Tells the watches that stand at the addresses of changes of these. It is never refused for want of memory.
 pub(crate) fn tell_placed(roll: &mut Roll, places: &Places, changes: &DeltaMap)
     ensures { roll.new ≡ told_along places.now changes.now changes.now roll.old }
 {

@@ -37,7 +37,7 @@ fn touches_by<L: Ledger>(blank: Blank, changes: &DeltaMap, observations: &[Seen]
     false
 }
 
-/// Whether changes touch what was observed. It takes no memory.
+/// Whether changes touch what was observed. It is never refused for want of memory.
 pub(crate) fn touches(changes: &DeltaMap, observations: &[Seen]) -> bool
     ensures { result ≡ spec.touches changes.now observations.now }
 {

@@ -34,7 +34,8 @@ impl Watch {
         }
     }
 
-    /// Becomes stale where changes touch what it observed, and answers whether it wasn't before. It takes no memory.
+    /// Becomes stale where changes touch what it observed, and answers whether it wasn't before. It is never refused for
+    /// want of memory.
     pub(crate) fn tell(&mut self, changes: &DeltaMap) -> bool
         ensures told { self.new ≡ told changes.now self.old }
         ensures turned { result ≡ (not self.old.stale && spec.touches changes.now self.old.observations) }
@@ -46,7 +47,7 @@ impl Watch {
         self.stale
     }
 
-    /// Takes the report of a run, and answers what the run before observed. It takes no memory.
+    /// Takes the report of a run, and answers what the run before observed. It is never refused for want of memory.
     pub(crate) fn settle(&mut self, number: u64, run: Run) -> SeenList
         ensures kept { self.new ≡ settled number run self.old }
         ensures before { result ≡ self.old.observations }

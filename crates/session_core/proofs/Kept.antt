@@ -25,7 +25,7 @@ use Rattle.journal_core.specs.declared.ready.Ready.{Ready}
 use Rattle.version_shard.specs.declared.prepared.Prepared.{Prepared}
 use Rattle.docc_prepare.specs.declared.attempt.Attempt.{Attempt}
 use Rattle.docc_prepare.specs.declared.attempt.Next.TheVariants as next
-use Rattle.docc_prepare.specs.Attempts.{ran, based, in_shard, next_event, with_snap, with_front, ready_of, SnapFits, FrontFits, FrontsFit, Fits}
+use Rattle.docc_prepare.specs.Attempts.{ran, based, in_shard, next_event, with_snap, with_front, ready_of, AreAsked, SnapFits, FrontFits, FrontsFit, Fits}
 use Rattle.docc_prepare.specs.Calls.{Known, Call, Answer}
 use Rattle.docc_prepare.specs.Backends.{IsPrefix, IsGiven, CanValidate, CanPrepare, CanAppend, FitsNext, IsAnswered, SaysOfJournal, KeepsGiven, OwnRow}
 use Rattle.docc_prepare.proofs.Each.{each-more, each-push}
@@ -261,6 +261,7 @@ no-fronts journal a (done run) e =
 -- an attempt that has read and prepared nothing fits any journal
 pub unread-fits : (journal : Journal) (a : Attempt) → a.snaps ≡ [] → a.fronts ≡ [] → Fits journal a
 unread-fits journal a unread unprepared = record {
+  asked = subst (AreAsked a.body.body) (sym unread) AreAsked.none_yet;
   snaps = subst (AllByRecursion (SnapFits journal)) (sym unread) tt;
   fronts = no-fronts journal a (ran a) unprepared;
 }
@@ -287,6 +288,7 @@ module _ (k l : Known) (a : Attempt) (h : Holds k a) where
       → SaysOfJournal k l (Call.read address) (Answer.snap s) old new
       → Fits old a → Fits new (with_snap a address s)
   read-fits old new address s e base says fits = record {
+    asked = AreAsked.one_more address s fits.asked (needs a address e);
     snaps = each-inserted (SnapFits new) a.snaps address s (record { within = let w = says.within in omega arith; value = says.row })
         (fits-on old new a says.grows fits).snaps;
     fronts = no-fronts new (with_snap a address s) (ran (with_snap a address s))
@@ -340,6 +342,7 @@ module _ (k l : Known) (a : Attempt) (h : Holds k a) where
         (λ journal. Fits journal a)
         (λ journal. Fits journal (with_front a shard p.front)) k.journal l.journal
         (λ old new fits says. let on = fits-on old new a says.grows fits in record {
+          asked = on.asked;
           snaps = on.snaps;
           fronts = front-fits new shard p.front run (ran a) is on.fronts
               (record { within = let m = says.row.seen in let w = says.within in omega arith; bases = says.row.bases; clear = says.row.clear });

@@ -1,9 +1,10 @@
 -- What is printed is a spelling of its reply.
-use Rattle.std.proofs.Common.{◌≡◌, ◌≤◌, ℕ, [], ◌++◌, refl, ap, sym, ◌∙◌, subst, inl, inr, codes, append-nil}
-use Rattle.std.specs.Fmt.{decimal}
+use Rattle.std.proofs.Common.{◌≡◌, ◌≤◌, ℕ, ℤ, Bool, false, [], ◌++◌, refl, ap, sym, ◌∙◌, subst, inl, inr, codes, append-nil}
+use Rattle.std.specs.Fmt.{decimal, signed_decimal}
 use Rattle.plain_data.specs.Texts.{Bytes}
 use Rattle.predictive_parsing.specs.Rules.{Rule, Then, Pure, Of, Word, Behind}
 use Rattle.rdt_types.specs.declared.address.Kind.{Kind}
+use Rattle.rdt_types.specs.declared.address.Kind.TheVariants as kinds
 use Rattle.rdt_types.specs.declared.outcome.Outcome.{Outcome}
 use Rattle.rdt_types.specs.declared.operation.WriteOp.{WriteOp}
 use Rattle.rdt_types.specs.Printed.{printed_text, printed_address}
@@ -12,11 +13,12 @@ use Rattle.conflict_table.specs.declared.observation.Obs.{Obs}
 use Rattle.conflict_table.specs.declared.observation.Obs.TheVariants as obs
 use Rattle.conflict_table.specs.Observing.{kind_observed}
 use Rattle.abort_witness.specs.declared.witness.Witness.{Witness}
+use Rattle.abort_witness.specs.Naming.{IsPrintable}
 use Rattle.dtext.specs.Printing.{printed_outcome, printed_part}
-use Rattle.dtext.specs.Spellings.{TextRule, NaturalRule, AddressRule, OutcomeRule, PartOf}
+use Rattle.dtext.specs.Spellings.{TextRule, Fits64, NumberRule, NaturalRule, AddressRule, OutcomeRule, PartOf}
 use Rattle.dtext.specs.ReadBack.{FitsOutcome, FitsPart}
 use Rattle.dtext.proofs.PrintedBack.{text_made, address_made, outcome_made, part_of_made}
-use Rattle.session_text.specs.declared.limits.TheConstants.{LARGEST, LARGEST_SHARD, LARGEST_COLUMN}
+use Rattle.session_text.specs.declared.limits.TheConstants.{LARGEST, LARGEST_SHARD, LARGEST_COLUMN, LARGEST_CLIENT}
 use Rattle.session_text.specs.declared.reply.Reply.{Reply}
 use Rattle.session_text.specs.declared.reply.Reply.TheVariants as reply
 use Rattle.session_text.specs.declared.reply.Why.{Why}
@@ -94,25 +96,36 @@ name_made name us r =
 word_made : {A : Type 0} (w : Bytes) (a : A) (us : Bytes) → Of (λ _. a) (Word w) (w ++ us) a us
 word_made w a us = record { value = tt; middle = us; first = refl; second = record { is = refl; here = refl } }
 
+-- a number with its sign behind a word, whatever follows
+signed_made : (w : Bytes) (f : ℤ → Obs) (n : ℤ) (us : Bytes) → Fits64 n → Behind w (Of f NumberRule) (w ++ (signed_decimal n ++ us)) (f n) us
+signed_made w f n us h =
+    behind w (Of f NumberRule) (signed_decimal n ++ us) us (f n)
+    (of f NumberRule (signed_decimal n ++ us) us n (record { spelled = refl; fits = h }))
+
 -- row by row: an observation is printed as a spelling beside an address of the kind that it observes
-obs_made : (o : Obs) (us : Bytes) → FitsObs o → ObsOf (kind_observed o) (printed_obs o ++ us) o us
-obs_made obs.BoolIs us h = word_made (codes "whole") obs.BoolIs us
-obs_made obs.CounterIs us h = word_made (codes "whole") obs.CounterIs us
-obs_made obs.TextIs us h = word_made (codes "whole") obs.TextIs us
-obs_made (obs.SetHas x) us h =
+obs_made : (o : Obs) (us : Bytes) → FitsObs o → IsPrintable o → ObsOf (kind_observed o) (printed_obs o ++ us) o us
+obs_made obs.BoolIs us h is = word_made (codes "whole") obs.BoolIs us
+obs_made obs.CounterIs us h is = word_made (codes "whole") obs.CounterIs us
+obs_made obs.TextIs us h is = word_made (codes "whole") obs.TextIs us
+obs_made (obs.SetHas x) us h is =
     inl (behind (codes "has ") (Of obs.SetHas TextRule) (printed_text x ++ us) us (obs.SetHas x)
     (of obs.SetHas TextRule (printed_text x ++ us) us x (text_made x us)))
-obs_made obs.SetAll us h = inr (word_made (codes "all") obs.SetAll us)
-obs_made (obs.HashAt f) us h =
+obs_made obs.SetAll us h is = inr (word_made (codes "all") obs.SetAll us)
+obs_made (obs.HashAt f) us h is =
     inl (behind (codes "at ") (Of obs.HashAt TextRule) (printed_text f ++ us) us (obs.HashAt f)
     (of obs.HashAt TextRule (printed_text f ++ us) us f (text_made f us)))
-obs_made obs.HashAll us h = inr (word_made (codes "all") obs.HashAll us)
-obs_made (obs.ListAt i) us h = inl (of obs.ListAt (Numbered (codes "at ")) (codes "at " ++ (decimal i ++ us)) us i (numbered (codes "at ") i us h))
-obs_made obs.ListAll us h = inr (word_made (codes "all") obs.ListAll us)
+obs_made obs.HashAll us h is = inr (word_made (codes "all") obs.HashAll us)
+obs_made (obs.ListAt i) us h is = inl (of obs.ListAt (Numbered (codes "at ")) (codes "at " ++ (decimal i ++ us)) us i (numbered (codes "at ") i us h))
+obs_made obs.ListAll us h is = inr (word_made (codes "all") obs.ListAll us)
+obs_made (obs.PeakIs v) us h is = inl (signed_made (codes "is ") obs.PeakIs v us h)
+obs_made (obs.PeakOver n r) us h is =
+    subst (λ (t : Bool). ObsOf kinds.Peak (codes "over " ++ (signed_decimal n ++ us)) (obs.PeakOver n t) us) (sym is)
+    (inr (signed_made (codes "over ") (λ m. obs.PeakOver m false) n us h))
 
 -- so it is one beside every address of that kind
-obs_beside : (kind : Kind) (o : Obs) (us : Bytes) → kind_observed o ≡ kind → FitsObs o → ObsOf kind (printed_obs o ++ us) o us
-obs_beside kind o us e h = subst (λ k. ObsOf k (printed_obs o ++ us) o us) e (obs_made o us h)
+obs_beside : (kind : Kind) (o : Obs) (us : Bytes) → kind_observed o ≡ kind → FitsObs o → IsPrintable o
+    → ObsOf kind (printed_obs o ++ us) o us
+obs_beside kind o us e h n = subst (λ k. ObsOf k (printed_obs o ++ us) o us) e (obs_made o us h n)
 
 -- and so is a part beside every address of the kind that it writes
 part_beside : (kind : Kind) (p : WriteOp) (us : Bytes) → kind_written p ≡ kind → FitsPart p → PartOf kind (printed_part p ++ us) p us
@@ -133,7 +146,7 @@ witness_made w h =
       second = record {
         value = w.obs;
         middle = c;
-        first = behind (codes " ") (ObsOf k) (printed_obs w.obs ++ c) c w.obs (obs_beside k w.obs c h.kind.observed h.obs);
+        first = behind (codes " ") (ObsOf k) (printed_obs w.obs ++ c) c w.obs (obs_beside k w.obs c h.kind.observed h.obs h.printable);
         second = record {
           value = w.base;
           middle = d;
@@ -192,6 +205,11 @@ first_made r a ts h = record { value = r; middle = ts; first = refl; second = h 
 shard_made : (shard : ℕ) (us : Bytes) → shard ≤ LARGEST_SHARD → Behind (codes " ") (NaturalRule LARGEST_SHARD) (codes " " ++ (decimal shard ++ us)) shard us
 shard_made shard us h = behind (codes " ") (NaturalRule LARGEST_SHARD) (decimal shard ++ us) us shard (natural LARGEST_SHARD shard us h)
 
+-- and so does a client's
+client_made : (client : ℕ) (us : Bytes) → client ≤ LARGEST_CLIENT
+    → Behind (codes " ") (NaturalRule LARGEST_CLIENT) (codes " " ++ (decimal client ++ us)) client us
+client_made client us h = behind (codes " ") (NaturalRule LARGEST_CLIENT) (decimal client ++ us) us client (natural LARGEST_CLIENT client us h)
+
 -- reply by reply, from its parts in their order
 pub reply_made : (a : Reply) → Fits a → ReplyRule (printed_reply a) a []
 reply_made (reply.Commit n o) h =
@@ -244,6 +262,11 @@ reply_made (reply.Ahead n m) h =
     first_made word.Ahead (reply.Ahead n m) (codes " " ++ (decimal n ++ us))
     (next (Numbered (codes " ")) _ _ us [] n _ (numbered (codes " ") n us h.0)
     (of (reply.Ahead n) (Numbered (codes " ")) us [] m (last_number (codes " ") m h.1)))
+reply_made (reply.Held c n) h =
+    let us = codes " commit " ++ decimal n in
+    first_made word.Held (reply.Held c n) (codes " " ++ (decimal c ++ us))
+    (next (Behind (codes " ") (NaturalRule LARGEST_CLIENT)) _ _ us [] c _ (client_made c us h.0)
+    (of (reply.Held c) (Numbered (codes " commit ")) us [] n (last_number (codes " commit ") n h.1)))
 reply_made (reply.Full l) h =
     first_made word.Full (reply.Full l) (codes " " ++ decimal l)
     (of reply.Full Column (codes " " ++ decimal l) [] l (last_column l h))

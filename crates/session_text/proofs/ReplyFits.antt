@@ -1,5 +1,5 @@
 -- The reader of replies reads what their rule derives.
-use Rattle.std.proofs.Common.{◌≡◌, ℕ, Bool, true, not, ◌∷◌, ◌++◌, Option, Some, refl, ap, ◌∙◌, inl, inr, arith, codes}
+use Rattle.std.proofs.Common.{◌≡◌, ℕ, Bool, true, false, not, ◌∷◌, ◌++◌, Option, Some, refl, ap, ◌∙◌, inl, inr, arith, codes}
 use Rattle.plain_data.specs.Texts.{Bytes}
 use Rattle.predictive_parsing.specs.Reading.{Reader, and_then, next}
 use Rattle.predictive_parsing.specs.Rules.{Rule, Then, Or, Of, Word, Behind}
@@ -16,12 +16,12 @@ use Rattle.rdt_types.specs.declared.address.Kind.TheVariants as kinds
 use Rattle.conflict_table.specs.declared.observation.Obs.{Obs}
 use Rattle.conflict_table.specs.declared.observation.Obs.TheVariants as obs
 use Rattle.dtext.specs.Follows.{no_digit, no_more}
-use Rattle.dtext.specs.Spellings.{TextRule, NaturalRule, AddressRule, OutcomeRule}
+use Rattle.dtext.specs.Spellings.{TextRule, NumberRule, NaturalRule, AddressRule, OutcomeRule}
 use Rattle.dtext.proofs.TextFits.{text_fits}
-use Rattle.dtext.proofs.NumberFits.{natural_fits}
+use Rattle.dtext.proofs.NumberFits.{number_fits, natural_fits}
 use Rattle.dtext.proofs.FormFits.{address_fits, outcome_fits}
 use Rattle.dtext.proofs.PartFits.{part_of_fits}
-use Rattle.session_text.specs.declared.limits.TheConstants.{LARGEST, LARGEST_SHARD, LARGEST_COLUMN}
+use Rattle.session_text.specs.declared.limits.TheConstants.{LARGEST, LARGEST_SHARD, LARGEST_COLUMN, LARGEST_CLIENT}
 use Rattle.session_text.specs.declared.reply.Reply.TheVariants as reply
 use Rattle.session_text.specs.declared.reply.Why.TheVariants as why
 use Rattle.session_text.specs.declared.reply_word.ReplyWord.{ReplyWord}
@@ -33,9 +33,9 @@ use Rattle.session_text.specs.declared.why_word.TheConstants as whys
 use Rattle.session_text.specs.Printing.{word_of, why_of}
 use Rattle.session_text.specs.Lines.{NameRule}
 use Rattle.session_text.specs.Replies.{Numbered, ObsOf, Column, WhyForm, WhyRule, WitnessRule, Form, ReplyRule}
-use Rattle.session_text.specs.code.Replies.{numbered, whole_of, whole, all, set_obs, hash_obs, list_obs, obs_of, column}
-use Rattle.session_text.specs.code.Replies.{why_form, why_read, spaced_address, ending, spaced_name, witness, shard}
-use Rattle.session_text.specs.code.Replies.{commit, read, prepared, followed, at, ran, late, ahead_of, refused, form}
+use Rattle.session_text.specs.code.Replies.{numbered, whole_of, whole, all, set_obs, hash_obs, list_obs, peak_obs, obs_of, column}
+use Rattle.session_text.specs.code.Replies.{why_form, why_read, spaced_address, ending, spaced_name, witness, shard, client}
+use Rattle.session_text.specs.code.Replies.{commit, read, prepared, followed, at, ran, late, ahead_of, held, refused, form}
 use Rattle.session_text.specs.code.Replies.{reply_read}
 use Rattle.session_text.proofs.LineFits.{name_fits, no_word}
 
@@ -76,6 +76,11 @@ column_fits = behind_fits (codes " ") refl (natural_fits LARGEST_COLUMN (omega a
 shard_fits : Fits IsByte shard (Behind (codes " ") (NaturalRule LARGEST_SHARD)) no_digit
 unfolding shard
 shard_fits = behind_fits (codes " ") refl (natural_fits LARGEST_SHARD (omega arith) (omega arith))
+
+-- and a client's behind a space
+client_fits : Fits IsByte client (Behind (codes " ") (NaturalRule LARGEST_CLIENT)) no_digit
+unfolding client
+client_fits = behind_fits (codes " ") refl (natural_fits LARGEST_CLIENT (omega arith) (omega arith))
 
 -- an address ends with its bracket, so anything may follow it
 spaced_address_fits : Fits IsByte spaced_address (Behind (codes " ") AddressRule) any
@@ -216,6 +221,17 @@ list_obs_from ts us a (inr s) =
 list_obs_fits : Fits IsByte list_obs (ObsOf kinds.List) no_digit
 list_obs_fits = fits_as IsByte list_obs_to list_obs_from list_obs_factored
 
+-- the first letter tells a value from a number that it wasn't above
+peak_obs_fits : Fits IsByte peak_obs (ObsOf kinds.Peak) no_digit
+unfolding peak_obs
+peak_obs_fits =
+    either_fits IsByte (sees 105) _ _ (Behind (codes "is ") (Of obs.PeakIs NumberRule))
+    (Behind (codes "over ") (Of (λ n. obs.PeakOver n false) NumberRule)) no_digit
+    (behind_fits (codes "is ") refl (seen IsByte obs.PeakIs number_fits))
+    (behind_fits (codes "over ") refl (seen IsByte (λ n. obs.PeakOver n false) number_fits))
+    (λ ts us a r. ap (λ xs. sees 105 (next xs)) r.first)
+    (λ ts us a r e. ap (λ xs. sees 105 (next xs)) r.first)
+
 -- the kind decides
 obs_of_fits : (kind : Kind) → Fits IsByte (obs_of kind) (ObsOf kind) no_digit
 unfolding obs_of
@@ -225,6 +241,7 @@ obs_of_fits kinds.Text = whole_fits kinds.Text
 obs_of_fits kinds.Set = wide set_obs_fits
 obs_of_fits kinds.Hash = wide hash_obs_fits
 obs_of_fits kinds.List = list_obs_fits
+obs_of_fits kinds.Peak = peak_obs_fits
 
 -- ---- why a line is refused
 
@@ -334,6 +351,13 @@ ahead_fits =
     spaced refl (numbered_fits (codes " ") refl) (λ n. seen IsByte (reply.Ahead n) (numbered_fits (codes " ") refl))
     (λ a ts us b r. ap next r.first.first)
 
+-- the space before the hold's commit ends the client's number
+held_fits : Fits IsByte held (Form first.Held) no_digit
+unfolding held
+held_fits =
+    spaced refl client_fits (λ client. seen IsByte (reply.Held client) (numbered_fits (codes " commit ") refl))
+    (λ a ts us b r. ap next r.first.first)
+
 -- a reason behind a space
 refused_fits : Fits IsByte refused (Form first.Refused) no_digit
 unfolding refused
@@ -354,6 +378,7 @@ form_fits first.Idle = open_ended (pure_fits IsByte reply.Idle)
 form_fits first.Seen = closed (seen IsByte reply.Seen (numbered_fits (codes " ") refl))
 form_fits first.Late = closed late_fits
 form_fits first.Ahead = closed ahead_fits
+form_fits first.Held = closed held_fits
 form_fits first.Full = closed (seen IsByte reply.Full column_fits)
 form_fits first.Disk = open_ended (pure_fits IsByte reply.Disk)
 form_fits first.Dropped = open_ended (pure_fits IsByte reply.Dropped)
@@ -375,10 +400,11 @@ all_words first.Idle = inr (inr (inr (inr (inr (inr (inr (inr (inl refl))))))))
 all_words first.Seen = inr (inr (inr (inr (inr (inr (inr (inr (inr (inl refl)))))))))
 all_words first.Late = inr (inr (inr (inr (inr (inr (inr (inr (inr (inr (inl refl))))))))))
 all_words first.Ahead = inr (inr (inr (inr (inr (inr (inr (inr (inr (inr (inr (inl refl)))))))))))
-all_words first.Full = inr (inr (inr (inr (inr (inr (inr (inr (inr (inr (inr (inr (inl refl))))))))))))
-all_words first.Disk = inr (inr (inr (inr (inr (inr (inr (inr (inr (inr (inr (inr (inr (inl refl)))))))))))))
-all_words first.Dropped = inr (inr (inr (inr (inr (inr (inr (inr (inr (inr (inr (inr (inr (inr (inl refl))))))))))))))
-all_words first.Refused = inr (inr (inr (inr (inr (inr (inr (inr (inr (inr (inr (inr (inr (inr (inr (inl refl)))))))))))))))
+all_words first.Held = inr (inr (inr (inr (inr (inr (inr (inr (inr (inr (inr (inr (inl refl))))))))))))
+all_words first.Full = inr (inr (inr (inr (inr (inr (inr (inr (inr (inr (inr (inr (inr (inl refl)))))))))))))
+all_words first.Disk = inr (inr (inr (inr (inr (inr (inr (inr (inr (inr (inr (inr (inr (inr (inl refl))))))))))))))
+all_words first.Dropped = inr (inr (inr (inr (inr (inr (inr (inr (inr (inr (inr (inr (inr (inr (inr (inl refl)))))))))))))))
+all_words first.Refused = inr (inr (inr (inr (inr (inr (inr (inr (inr (inr (inr (inr (inr (inr (inr (inr (inl refl))))))))))))))))
 
 -- each is made of bytes
 word_bytes : (w : ReplyWord) → are_bytes (word_of w) ≡ true
@@ -394,6 +420,7 @@ word_bytes first.Idle = refl
 word_bytes first.Seen = refl
 word_bytes first.Late = refl
 word_bytes first.Ahead = refl
+word_bytes first.Held = refl
 word_bytes first.Full = refl
 word_bytes first.Disk = refl
 word_bytes first.Dropped = refl

@@ -1,7 +1,7 @@
 -- The printed form of replies, a row a reply: words and numbers with one space between each two. Texts, addresses, outcomes
 -- and parts are printed as data is.
-use Rattle.std.specs.Prelude.{◌≡◌, ℕ, true, [], ◌∷◌, ◌++◌, codes, pos, refl}
-use Rattle.std.specs.Fmt.{decimal, digits}
+use Rattle.std.specs.Prelude.{◌≡◌, ℕ, true, false, [], ◌∷◌, ◌++◌, codes, pos, refl}
+use Rattle.std.specs.Fmt.{decimal, signed_decimal, digits}
 use Rattle.plain_data.specs.Texts.{Bytes}
 use Rattle.rdt_types.specs.declared.address.Kind.TheVariants as kind
 use Rattle.rdt_types.specs.declared.operation.WriteOp.TheVariants as op
@@ -35,6 +35,7 @@ word_of word.Idle = codes "idle"
 word_of word.Seen = codes "seen"
 word_of word.Late = codes "late"
 word_of word.Ahead = codes "ahead"
+word_of word.Held = codes "held"
 word_of word.Full = codes "full"
 word_of word.Disk = codes "disk"
 word_of word.Dropped = codes "dropped"
@@ -67,6 +68,8 @@ printed_obs (obs.HashAt field) = codes "at " ++ printed_text field
 printed_obs obs.HashAll = codes "all"
 printed_obs (obs.ListAt place) = codes "at " ++ decimal place
 printed_obs obs.ListAll = codes "all"
+printed_obs (obs.PeakIs value) = codes "is " ++ signed_decimal value
+printed_obs (obs.PeakOver limit was_over) = codes "over " ++ signed_decimal limit
 
 -- why a line is refused, with the column where there is one
 abbrev pub printed_why : Why → Bytes
@@ -108,6 +111,7 @@ printed_reply reply.Idle = word_of word.Idle
 printed_reply (reply.Seen n) = worded word.Seen (decimal n)
 printed_reply (reply.Late n horizon) = worded word.Late (decimal n ++ (codes " " ++ decimal horizon))
 printed_reply (reply.Ahead n seen) = worded word.Ahead (decimal n ++ (codes " " ++ decimal seen))
+printed_reply (reply.Held client number) = worded word.Held (decimal client ++ (codes " commit " ++ decimal number))
 printed_reply (reply.Full limit) = worded word.Full (decimal limit)
 printed_reply reply.Disk = word_of word.Disk
 printed_reply reply.Dropped = word_of word.Dropped
@@ -131,6 +135,23 @@ abort-row :
     })) ≡ codes "abort set(\"s\") has \"a\" base 3 clash remove \"a\" commit 5"
 unfolding digits
 abort-row = refl
+
+-- a peak that wasn't above 60 at commit 4, and which commit 5 raised
+over-row :
+    printed_reply (reply.Abort (record {
+      address = record { kind = kind.Peak; key = codes "bid" };
+      obs = obs.PeakOver (pos 60) false;
+      base = 4;
+      part = op.Raise (pos 61);
+      number = 5;
+    })) ≡ codes "abort peak(\"bid\") over 60 base 4 clash raise 61 commit 5"
+unfolding digits
+over-row = refl
+
+-- the client whose hold bars, and the hold's commit
+held-row : printed_reply (reply.Held 0 2) ≡ codes "held 0 commit 2"
+unfolding digits
+held-row = refl
 
 -- a shard and its front
 prepared-row : printed_reply (reply.Prepared 3 12) ≡ codes "prepare 3 front 12"

@@ -1,6 +1,6 @@
 -- The spellings of replies, as rules, a row a reply. Texts in them are read as leniently as texts are; observations and
 -- parts are of the kind of the address beside them.
-use Rattle.std.specs.Prelude.{ℕ, codes}
+use Rattle.std.specs.Prelude.{ℕ, false, codes}
 use Rattle.plain_data.specs.Texts.{Bytes}
 use Rattle.predictive_parsing.specs.Rules.{Rule, ◌>>=◌, Pure, Or, Of, Word, Behind, SpelledBy, Whole}
 use Rattle.rdt_types.specs.declared.address.Kind.{Kind}
@@ -9,8 +9,8 @@ use Rattle.rdt_types.specs.declared.outcome.Outcome.{Outcome}
 use Rattle.conflict_table.specs.declared.observation.Obs.{Obs}
 use Rattle.conflict_table.specs.declared.observation.Obs.TheVariants as obs
 use Rattle.abort_witness.specs.declared.witness.Witness.{Witness}
-use Rattle.dtext.specs.Spellings.{TextRule, NaturalRule, AddressRule, OutcomeRule, PartOf}
-use Rattle.session_text.specs.declared.limits.TheConstants.{LARGEST, LARGEST_SHARD, LARGEST_COLUMN}
+use Rattle.dtext.specs.Spellings.{TextRule, NumberRule, NaturalRule, AddressRule, OutcomeRule, PartOf}
+use Rattle.session_text.specs.declared.limits.TheConstants.{LARGEST, LARGEST_SHARD, LARGEST_COLUMN, LARGEST_CLIENT}
 use Rattle.session_text.specs.declared.reply.Reply.{Reply}
 use Rattle.session_text.specs.declared.reply.Reply.TheVariants as reply
 use Rattle.session_text.specs.declared.reply.Why.{Why}
@@ -26,7 +26,7 @@ use Rattle.session_text.specs.Printing.{word_of, why_of}
 abbrev pub Numbered : Bytes → Rule ℕ ℕ
 Numbered word = Behind word (NaturalRule LARGEST)
 
--- an observation beside an address, whose kind decides
+-- An observation beside an address, whose kind decides. Of a peak an `over` was false: nothing clashes with one that was true.
 abbrev pub ObsOf : Kind → Rule ℕ Obs
 ObsOf kinds.Bool = Of (λ _. obs.BoolIs) (Word (codes "whole"))
 ObsOf kinds.Counter = Of (λ _. obs.CounterIs) (Word (codes "whole"))
@@ -34,6 +34,7 @@ ObsOf kinds.Text = Of (λ _. obs.TextIs) (Word (codes "whole"))
 ObsOf kinds.Set = Or (Behind (codes "has ") (Of obs.SetHas TextRule)) (Of (λ _. obs.SetAll) (Word (codes "all")))
 ObsOf kinds.Hash = Or (Behind (codes "at ") (Of obs.HashAt TextRule)) (Of (λ _. obs.HashAll) (Word (codes "all")))
 ObsOf kinds.List = Or (Of obs.ListAt (Numbered (codes "at "))) (Of (λ _. obs.ListAll) (Word (codes "all")))
+ObsOf kinds.Peak = Or (Behind (codes "is ") (Of obs.PeakIs NumberRule)) (Behind (codes "over ") (Of (λ n. obs.PeakOver n false) NumberRule))
 
 -- a column behind a space
 abbrev pub Column : Rule ℕ ℕ
@@ -106,6 +107,9 @@ Form word.Idle = Pure reply.Idle
 Form word.Seen = Of reply.Seen (Numbered (codes " "))
 Form word.Late = Twice reply.Late
 Form word.Ahead = Twice reply.Ahead
+Form word.Held = do
+  client ← Behind (codes " ") (NaturalRule LARGEST_CLIENT)
+  Of (reply.Held client) (Numbered (codes " commit "))
 Form word.Full = Of reply.Full Column
 Form word.Disk = Pure reply.Disk
 Form word.Dropped = Pure reply.Dropped

@@ -5,7 +5,7 @@ ghost use Rattle.predictive_parsing.specs.Reads.{Reads, OnlyRefuses};
 ghost use Rattle.dtext.specs.code.Reading.{natural};
 ghost use Rattle.session_text.specs.code.Replies as spec;
 
-use crate::limits::{LARGEST, LARGEST_COLUMN, LARGEST_SHARD};
+use crate::limits::{LARGEST, LARGEST_CLIENT, LARGEST_COLUMN, LARGEST_SHARD};
 use crate::line::name;
 use crate::observation::next_obs;
 use crate::reply::{Reply, Why};
@@ -47,6 +47,16 @@ fn shard(cursor: &mut Cursor<u8>) -> Result<u8, OrNoMemory<Refused>>
 {
     cursor.word(b" ")?;
     Ok(next_natural(cursor, LARGEST_SHARD)? as u8)
+}
+
+/// A client behind a space.
+#[tactic(auto, unfolding(crate::specs::code::Replies::client))]
+fn client(cursor: &mut Cursor<u8>) -> Result<u32, OrNoMemory<Refused>>
+    ensures read { Reads (spec.client cursor.old) result cursor.new }
+    ensures refusal { OnlyRefuses result }
+{
+    cursor.word(b" ")?;
+    Ok(next_natural(cursor, LARGEST_CLIENT)? as u32)
 }
 
 #[tactic(auto, unfolding(crate::specs::code::Replies::spaced_address))]
@@ -164,6 +174,15 @@ fn ahead_of(cursor: &mut Cursor<u8>) -> Result<Reply, OrNoMemory<Refused>>
     Ok(Reply::Ahead(number, numbered(cursor, b" ")?))
 }
 
+#[tactic(auto, unfolding(crate::specs::code::Replies::held))]
+fn held(cursor: &mut Cursor<u8>) -> Result<Reply, OrNoMemory<Refused>>
+    ensures read { Reads (spec.held cursor.old) result cursor.new }
+    ensures refusal { OnlyRefuses result }
+{
+    let client = client(cursor)?;
+    Ok(Reply::Held(client, numbered(cursor, b" commit ")?))
+}
+
 /// What stands behind the word for why a line is refused.
 #[tactic(auto, unfolding(crate::specs::code::Replies::why_form))]
 fn why_form(word: WhyWord, cursor: &mut Cursor<u8>) -> Result<Why, OrNoMemory<Refused>>
@@ -224,6 +243,7 @@ fn form(
         ReplyWord::Seen => Ok(Reply::Seen(numbered(cursor, b" ")?)),
         ReplyWord::Late => late(cursor),
         ReplyWord::Ahead => ahead_of(cursor),
+        ReplyWord::Held => held(cursor),
         ReplyWord::Full => Ok(Reply::Full(column(cursor)?)),
         ReplyWord::Disk => Ok(Reply::Disk),
         ReplyWord::Dropped => Ok(Reply::Dropped),

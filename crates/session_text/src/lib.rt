@@ -24,7 +24,9 @@ mod why_word;
 pub use laws::{
     columns_pin_answers, printed_replies_read_back, readers_are_rules, texts_have_one_value,
 };
-pub use limits::{LARGEST, LARGEST_COLUMN, LARGEST_SHARD, MOST_ATTEMPTS, NAME_REST};
+pub use limits::{
+    LARGEST, LARGEST_CLIENT, LARGEST_COLUMN, LARGEST_SHARD, MOST_ATTEMPTS, NAME_REST,
+};
 pub use print::{print_reply, push_reply};
 pub use read::{read_reply, read_verb};
 pub use reply::{Reply, Why};

@@ -12,5 +12,8 @@ pub const LARGEST_SHARD: u64 = 255;
 /// The largest limit and column in a reply, which is the largest `u32`.
 pub const LARGEST_COLUMN: u64 = 4294967295;
 
+/// The largest number of a client in a reply, which is the largest `u32`.
+pub const LARGEST_CLIENT: u64 = 4294967295;
+
 /// The most bytes of a name behind its first.
 pub const NAME_REST: usize = 31;

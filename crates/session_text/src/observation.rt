@@ -6,13 +6,13 @@ ghost use Rattle.session_text.specs.code.Replies as spec;
 
 use crate::answer::numbered;
 use conflict_table::Obs;
-use dtext::next_text;
+use dtext::{next_number, next_text};
 use plain_data::OrNoMemory;
 use predictive_parsing::{Cursor, Refused};
 use rdt_types::Kind;
 use std::alloc::Global;
 
-/// The observation of the whole value of a kind.
+/// The observation of the whole value of a kind. That of a peak has its value in it, and isn't asked for.
 fn whole_of(kind: Kind) -> Obs
     ensures { result ≡ spec.whole_of kind }
 {
@@ -23,6 +23,7 @@ fn whole_of(kind: Kind) -> Obs
         Kind::Set => Obs::SetAll,
         Kind::Hash => Obs::HashAll,
         Kind::List => Obs::ListAll,
+        Kind::Peak => Obs::PeakIs(0),
     }
 }
 
@@ -84,6 +85,21 @@ fn list_obs(cursor: &mut Cursor<u8>) -> Result<Obs, OrNoMemory<Refused>>
     }
 }
 
+/// The observation of a peak. One that was above the number is never in a reply, since nothing clashes with it.
+#[tactic(auto, unfolding(crate::specs::code::Replies::peak_obs))]
+fn peak_obs(cursor: &mut Cursor<u8>) -> Result<Obs, OrNoMemory<Refused>>
+    ensures read { Reads (spec.peak_obs cursor.old) result cursor.new }
+    ensures refusal { OnlyRefuses result }
+{
+    if cursor.sees_byte(b'i') {
+        cursor.word(b"is ")?;
+        Ok(Obs::PeakIs(next_number(cursor)?))
+    } else {
+        cursor.word(b"over ")?;
+        Ok(Obs::PeakOver(next_number(cursor)?, false))
+    }
+}
+
 /// The observation that is next, beside an address of this kind.
 #[tactic(auto, unfolding(crate::specs::code::Replies::obs_of))]
 pub(crate) fn next_obs(
@@ -98,5 +114,6 @@ pub(crate) fn next_obs(
         Kind::Set => set_obs(alloc, cursor),
         Kind::Hash => hash_obs(alloc, cursor),
         Kind::List => list_obs(cursor),
+        Kind::Peak => peak_obs(cursor),
     }
 }

@@ -1,7 +1,7 @@
 //! Printing replies.
 
 ghost use Rattle.std.specs.Prelude.{◌≡◌, ◌++◌, codes, IfOk, OnOk};
-ghost use Rattle.std.specs.Fmt.{decimal};
+ghost use Rattle.std.specs.Fmt.{decimal, signed_decimal};
 ghost use Rattle.dtext.specs.Printing.{printed_outcome};
 ghost use Rattle.rdt_types.specs.Printed.{printed_text, printed_address};
 ghost use Rattle.session_text.specs.Printing as spec;
@@ -11,7 +11,7 @@ use crate::reply_word::ReplyWord;
 use crate::why_word::WhyWord;
 use abort_witness::Witness;
 use conflict_table::Obs;
-use dtext::{push_address, push_natural, push_outcome, push_part, push_text};
+use dtext::{push_address, push_natural, push_number, push_outcome, push_part, push_text};
 use plain_data::Text;
 use predictive_parsing::Spelled;
 use rdt_types::{Address, Outcome};
@@ -33,6 +33,14 @@ fn push_named(out: &mut Text, word: &[u8], text: &Text) -> Result<(), AllocError
     push_text(out, text)
 }
 
+/// Adds a word, and a number of 64 bits with its sign behind it.
+fn push_signed(out: &mut Text, word: &[u8], number: i64) -> Result<(), AllocError>
+    ensures { OnOk result (out.new ≡ out.old ++ (word.now ++ signed_decimal number)) }
+{
+    out.extend_from_slice(word)?;
+    push_number(out, number)
+}
+
 fn push_obs(out: &mut Text, obs: &Obs) -> Result<(), AllocError>
     ensures { OnOk result (out.new ≡ out.old ++ spec.printed_obs obs.now) }
 {
@@ -42,6 +50,8 @@ fn push_obs(out: &mut Text, obs: &Obs) -> Result<(), AllocError>
         Obs::HashAt(field) => push_named(out, b"at ", field),
         Obs::ListAt(place) => push_counted(out, b"at ", *place),
         Obs::SetAll | Obs::HashAll | Obs::ListAll => out.extend_from_slice(b"all"),
+        Obs::PeakIs(value) => push_signed(out, b"is ", *value),
+        Obs::PeakOver(limit, _) => push_signed(out, b"over ", *limit),
     }
 }
 
@@ -190,6 +200,10 @@ pub fn push_reply(out: &mut Text, reply: &Reply) -> Result<(), AllocError>
         Reply::Seen(n) => push_numbered(out, ReplyWord::Seen, *n),
         Reply::Late(n, horizon) => push_both(out, ReplyWord::Late, *n, b" ", *horizon),
         Reply::Ahead(n, seen) => push_both(out, ReplyWord::Ahead, *n, b" ", *seen),
+        Reply::Held(client, number) => {
+            let client = u64::from(*client);
+            push_both(out, ReplyWord::Held, client, b" commit ", *number)
+        }
         Reply::Full(limit) => push_numbered(out, ReplyWord::Full, u64::from(*limit)),
         Reply::Disk => out.extend_from_slice(ReplyWord::Disk.bytes()),
         Reply::Dropped => out.extend_from_slice(ReplyWord::Dropped.bytes()),

@@ -31,6 +31,8 @@ pub enum Reply {
     Late(u64, u64),
     /// The first number is above the second, which was seen.
     Ahead(u64, u64),
+    /// A hold of the client bars the commit: the hold is the commit of this number.
+    Held(u32, u64),
     /// The journal holds as many commits as it may.
     Full(u32),
     /// The disk refused the commit.

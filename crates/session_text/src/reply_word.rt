@@ -17,6 +17,7 @@ pub(crate) enum ReplyWord {
     Seen,
     Late,
     Ahead,
+    Held,
     Full,
     Disk,
     Dropped,
@@ -24,7 +25,7 @@ pub(crate) enum ReplyWord {
 }
 
 /// All of them but the first.
-pub(crate) const OTHERS: [ReplyWord; 15] = [
+pub(crate) const OTHERS: [ReplyWord; 16] = [
     ReplyWord::Abort,
     ReplyWord::Read,
     ReplyWord::Prepare,
@@ -36,6 +37,7 @@ pub(crate) const OTHERS: [ReplyWord; 15] = [
     ReplyWord::Seen,
     ReplyWord::Late,
     ReplyWord::Ahead,
+    ReplyWord::Held,
     ReplyWord::Full,
     ReplyWord::Disk,
     ReplyWord::Dropped,
@@ -61,6 +63,7 @@ impl Spelled for ReplyWord {
             ReplyWord::Seen => b"seen".as_slice(),
             ReplyWord::Late => b"late".as_slice(),
             ReplyWord::Ahead => b"ahead".as_slice(),
+            ReplyWord::Held => b"held".as_slice(),
             ReplyWord::Full => b"full".as_slice(),
             ReplyWord::Disk => b"disk".as_slice(),
             ReplyWord::Dropped => b"dropped".as_slice(),

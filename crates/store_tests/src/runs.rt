@@ -1,4 +1,4 @@
-//! Bodies on values that no run can write, one byte past the limit, and how often an observation is listed.
+//! Bodies on values that no run can write, one byte past the limit or a peak below 0, and how often an observation is listed.
 
 use crate::bodies::checked;
 use conflict_table::Obs;
@@ -127,4 +127,32 @@ fn observations_are_listed_once(rt: HostRuntime) {
     let ten =
         br#"let t = ["a","b","c","d","e","f","g","h","i","j"]; for x in t { emit set("k").has(x); } for x in t { emit set("k").has(x); }"#;
     assert!(rt; lists(rt.alloc(), ten, 10));
+}
+
+/// A peak below 0.
+fn low_peak(alloc: Global) -> Result<Snaps, AllocError> {
+    snaps_of(alloc, Value::Peak(-5))
+}
+
+/// Whether a run observed that the peak is -5, over -6 and not over -5.
+fn carries_answers(run: &Option<Run>) -> bool {
+    match run {
+        Some(run) => match run.observations.as_slice() {
+            [whole, over, not_over] => {
+                whole.obs == Obs::PeakIs(-5)
+                    && over.obs == Obs::PeakOver(-6, true)
+                    && not_over.obs == Obs::PeakOver(-5, false)
+            }
+            _ => false,
+        },
+        None => false,
+    }
+}
+
+#[test]
+fn observations_of_a_peak_carry_what_was_answered(rt: HostRuntime) {
+    let source =
+        br#"emit peak("k").get(); emit peak("k").over(-6); emit peak("k").over(-5); emit peak("k").over(-6);"#;
+    let run = ran(rt.alloc(), source, &low_peak(rt.alloc()));
+    assert!(rt; carries_answers(&run));
 }

@@ -95,7 +95,7 @@ fn kind_read(alloc: Global, bytes: &[u8]) -> Option<Kind> {
 }
 
 /// Parts, each with the kind that its form tells.
-const FORMS: [(&[u8], Kind); 9] = [
+const FORMS: [(&[u8], Kind); 10] = [
     (b"put true", Kind::Bool),
     (b"put 1", Kind::Counter),
     (br#"put "a""#, Kind::Text),
@@ -105,6 +105,7 @@ const FORMS: [(&[u8], Kind); 9] = [
     (br#"remove "x""#, Kind::Set),
     (b"clear", Kind::Set),
     (br#"push "x""#, Kind::List),
+    (b"raise 1", Kind::Peak),
 ];
 
 #[test]
@@ -182,7 +183,7 @@ fn read_beside(alloc: Global, kind: Kind, bytes: &[u8]) -> Option<Text> {
 }
 
 /// Parts beside addresses of each kind.
-const BESIDE: [(Kind, &[u8]); 13] = [
+const BESIDE: [(Kind, &[u8]); 15] = [
     (Kind::Bool, b"put true"),
     (Kind::Counter, b"put 1"),
     (Kind::Counter, b"add -1"),
@@ -196,6 +197,8 @@ const BESIDE: [(Kind, &[u8]); 13] = [
     (Kind::List, br#"push "x""#),
     (Kind::List, br#"remove "x""#),
     (Kind::List, b"clear"),
+    (Kind::Peak, b"raise 0"),
+    (Kind::Peak, b"raise -1"),
 ];
 
 #[test]
@@ -207,11 +210,15 @@ fn parts_beside_addresses(rt: HostRuntime) {
 }
 
 /// Parts beside addresses of another kind.
-const ASTRAY: [(Kind, &[u8]); 4] = [
+const ASTRAY: [(Kind, &[u8]); 8] = [
     (Kind::Bool, b"put 1"),
     (Kind::Text, b"clear"),
     (Kind::Hash, br#"put "f""#),
     (Kind::List, br#"add "x""#),
+    (Kind::Peak, b"put 1"),
+    (Kind::Peak, br#"remove "x""#),
+    (Kind::Counter, b"raise 1"),
+    (Kind::Set, b"raise 1"),
 ];
 
 #[test]

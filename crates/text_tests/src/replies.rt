@@ -26,6 +26,22 @@ fn aborted(alloc: Global) -> Result<Reply, AllocError> {
     Ok(Reply::Abort(witness(alloc)?))
 }
 
+/// An abort for an `over` that was true, which no store tells: its text has no place for the answer.
+fn over_true(alloc: Global) -> Result<Reply, AllocError> {
+    let key = Text::from_slice(alloc, b"p")?;
+    let address = Address {
+        kind: Kind::Peak,
+        key,
+    };
+    Ok(Reply::Abort(Witness {
+        address,
+        obs: Obs::PeakOver(60, true),
+        base: 3,
+        part: WriteOp::Raise(61),
+        number: 4,
+    }))
+}
+
 fn ran(alloc: Global) -> Result<Reply, AllocError> {
     Ok(Reply::Ran(Text::from_slice(alloc, b"w")?, 5, Outcome::Spent))
 }
@@ -43,6 +59,8 @@ fn values_are_printed(rt: HostRuntime) {
     let alloc = rt.alloc();
     let abort = br#"abort hash("h") all base 3 clash clear commit 4"#.as_slice();
     assert!(rt; prints(alloc, &aborted(alloc), abort));
+    let over = br#"abort peak("p") over 60 base 3 clash raise 61 commit 4"#.as_slice();
+    assert!(rt; prints(alloc, &over_true(alloc), over));
     assert!(rt; prints(alloc, &ran(alloc), b"run w 5 spent"));
     assert!(rt; prints(alloc, &Ok(Reply::Refused(Why::NoAttempt)), b"refused none"));
 }

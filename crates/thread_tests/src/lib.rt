@@ -8,6 +8,10 @@
 #![tactic(auto)]
 
 #[cfg(test)]
+mod broken;
+#[cfg(test)]
+mod interrupted;
+#[cfg(test)]
 mod locks;
 #[cfg(test)]
 mod meeting;

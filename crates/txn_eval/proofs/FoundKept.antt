@@ -34,6 +34,8 @@ obs_by_parts (obs.HashAt x) (obs.HashAt y) = refl
 obs_by_parts obs.HashAll obs.HashAll = refl
 obs_by_parts (obs.ListAt i) (obs.ListAt j) = refl
 obs_by_parts obs.ListAll obs.ListAll = refl
+obs_by_parts (obs.PeakIs m) (obs.PeakIs n) = refl
+obs_by_parts (obs.PeakOver m r) (obs.PeakOver n s) = refl
 obs_by_parts _ _ = refl
 
 -- so what is listed is the same exactly where its key is

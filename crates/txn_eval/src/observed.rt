@@ -19,8 +19,8 @@ use txn_lang::{Seen, SeenList};
 /// So many observations are looked through one by one. Few bodies make more.
 const LOOKED_THROUGH: usize = 8;
 
-/// Observations in the order of their first making, each once. The first ones are looked through, and one behind them is found
-/// in a tree.
+/// Observations in the order of their first making, each once. The first ones are looked through, and one behind them is
+/// found in a tree.
 #[derive(Drop)]
 pub(crate) struct Observed {
     list: SeenList,
@@ -64,7 +64,7 @@ fn keep(keys: &mut BTreeSet<SeenKey>, key: SeenKey) -> Result<bool, AllocError>
 }
 
 impl Observed {
-    /// Nothing was observed. It takes no memory yet.
+    /// Nothing was observed. It is never refused for want of memory.
     pub fn new(alloc: Global) -> Observed
         ensures { result ≡ [] }
     {
@@ -110,8 +110,8 @@ impl Observed {
         }
     }
 
-    /// Forgets all but the first so many, unless one of those that it would forget may be in the tree. It answers whether there
-    /// are no more now: so it does where there were no more, and where none stands behind the first ones.
+    /// Forgets all but the first so many, unless one of those that it would forget may be in the tree. It answers
+    /// whether there are no more now: so it does where there were no more, and where none stands behind the first ones.
     pub fn cut(&mut self, count: usize) -> bool
         ensures answer { result ≡ (nat_le (length self.old) count || nat_le (length self.old) LOOKED_THROUGH) }
         ensures done { OnTrue result (self.new ≡ take count self.old) }
@@ -134,7 +134,7 @@ impl Observed {
         self.list.len()
     }
 
-    /// The observations in order. It takes no memory.
+    /// The observations in order. It is never refused for want of memory.
     pub fn into_list(self) -> SeenList
         ensures { result ≡ self }
     {

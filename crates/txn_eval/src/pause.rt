@@ -25,7 +25,7 @@ pub struct Pause {
 }
 
 impl Pause {
-    /// A run before its first statement. It takes no memory yet.
+    /// A run before its first statement. It is never refused for want of memory.
     pub(crate) fn first(alloc: Global) -> Pause
         ensures { result ≡ first_pause }
     {
@@ -44,7 +44,7 @@ impl Pause {
         }
     }
 
-    /// A run before its first statement, as every run comes to it. It takes no memory yet.
+    /// A run before its first statement, as every run comes to it. It is never refused for want of memory.
     pub fn begun(alloc: Global) -> Pause
         ensures { (stmts : List Stmt) (snaps : List (Address × Snap)) → IsPauseOf stmts snaps result }
     {

@@ -1,6 +1,7 @@
 //! Whole runs.
 
-ghost use Rattle.std.specs.Prelude.{◌≡◌, IfOk, []};
+ghost use Rattle.std.specs.Prelude.{◌≡◌, IfOk, OnErr, [], Err};
+ghost use Rattle.txn_lang.specs.declared.progress.Stop.TheVariants.{NoMemory};
 ghost use Rattle.txn_lang.specs.Execution.{begun, exec};
 ghost use Rattle.txn_lang.specs.Rules.{all_steps};
 ghost use Rattle.txn_eval.specs.Pausing.{IsPauseOf};
@@ -69,9 +70,10 @@ fn finished(run: Progress<Kept>) -> Step
     })
 }
 
-/// How a run ended.
+/// How a run ended. Nothing but want of memory is told as that.
 fn ended(alloc: Global, run: Progress<Kept>, ran: Result<(), Stop>) -> Result<Step, AllocError>
-    ensures { IfOk result (λ step. EndsAs ran run (ran_of step)) }
+    ensures ended { IfOk result (λ step. EndsAs ran run (ran_of step)) }
+    ensures told { OnErr result (ran ≡ Err NoMemory) }
 {
     match ran {
         Ok(()) => Ok(finished(run)),

@@ -9,7 +9,7 @@ use rdt_types::{Address, Kind};
 use std::alloc::AllocError;
 use txn_lang::Seen;
 
-/// Of what in a value an observation is.
+/// Of what in a value an observation is. Of a peak it carries the answer, as the observation does.
 #[derive(Drop, PartialEq, Eq, PartialOrd, Ord)]
 pub(crate) enum Part {
     /// All of it.
@@ -18,6 +18,10 @@ pub(crate) enum Part {
     At(Text),
     /// The item at a place.
     Place(u64),
+    /// The height of a peak.
+    Peak(i64),
+    /// Whether a peak is above a number.
+    Over(i64, bool),
 }
 
 /// What an observation says, in an order.
@@ -35,6 +39,8 @@ fn part_of(obs: &Obs) -> Result<Part, AllocError>
     Ok(match obs {
         Obs::SetHas(name) | Obs::HashAt(name) => Part::At(copied(name)?),
         Obs::ListAt(place) => Part::Place(*place),
+        Obs::PeakIs(n) => Part::Peak(*n),
+        Obs::PeakOver(n, is_over) => Part::Over(*n, *is_over),
         Obs::BoolIs | Obs::CounterIs | Obs::TextIs | Obs::SetAll | Obs::HashAll | Obs::ListAll =>
             Part::Whole,
     })

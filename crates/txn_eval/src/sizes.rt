@@ -1,6 +1,7 @@
 //! Sizes.
 
-ghost use Rattle.std.specs.Prelude.{◌≡◌};
+ghost use Rattle.std.specs.Prelude.{◌≡◌, ◌≢◌, Err};
+ghost use Rattle.txn_lang.specs.declared.progress.Stop.TheVariants.{NoMemory};
 ghost use Rattle.txn_lang.specs.Items as spec;
 ghost use Rattle.txn_lang.specs.Rules as rules;
 ghost use Rattle.txn_eval.specs.code.Answers.{Answers};
@@ -34,10 +35,11 @@ fn is_big(item: &Item) -> bool
     }
 }
 
-/// An item that is made, within the limits.
+/// An item that is made, within the limits. What is too big is never told as want of memory.
 #[inline(always)]
 pub(crate) fn sized(run: &Progress<Kept>, item: Item) -> Result<Item, Stop>
-    ensures { Answers result run.now (rules.sized item run.now) }
+    ensures rule { Answers result run.now (rules.sized item run.now) }
+    ensures told { result ≢ Err NoMemory }
 {
     if is_big(&item) {
         Err(Stop::Big)

@@ -55,7 +55,8 @@ pub(crate) fn read_of(
         (Kind::Hash, _) => ReadOp::HashFields,
         (Kind::List, ReadWord::At) => ReadOp::ListAt(first_int(items)),
         (Kind::List, _) => ReadOp::ListAll,
-        _ => ReadOp::Get,
+        (Kind::Peak, ReadWord::Over) => ReadOp::PeakOver(first_int(items)),
+        (Kind::Bool | Kind::Counter | Kind::Text | Kind::Peak, _) => ReadOp::Get,
     })
 }
 
@@ -108,7 +109,8 @@ fn write_with(
         Kind::Bool => Some(WriteOp::PutBool(bool_in(item))),
         Kind::Counter => counter_write(word, int_in(item)),
         Kind::Text => Some(WriteOp::PutText(text_of(alloc, item)?)),
-        _ => text_write(kind, word, text_of(alloc, item)?),
+        Kind::Set | Kind::Hash | Kind::List => text_write(kind, word, text_of(alloc, item)?),
+        Kind::Peak => Some(WriteOp::Raise(int_in(item))),
     })
 }
 

@@ -312,6 +312,7 @@ kind_opens column s.Text e = refl
 kind_opens column s.Set e = refl
 kind_opens column s.Hash e = refl
 kind_opens column s.List e = refl
+kind_opens column s.Peak e = refl
 kind_opens column _ e = absurd (cc)
 
 module _ (U E : Rule Spot Expr) where

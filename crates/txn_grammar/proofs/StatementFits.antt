@@ -155,6 +155,7 @@ kind_writes column s.Text e = refl
 kind_writes column s.Set e = refl
 kind_writes column s.Hash e = refl
 kind_writes column s.List e = refl
+kind_writes column s.Peak e = refl
 kind_writes column _ e = absurd (cc)
 
 module _ (E : Rule Spot Expr) (A : Rule Spot Expr) (P : Rule Spot Stmt) where

@@ -184,6 +184,7 @@ write_fits kind.Text = token_fits (write_of kind.Text) (t.Name (codes "put")) (o
 write_fits kind.Set = token_fits (write_of kind.Set) (t.Name (codes "add")) (operation write.Add 1) refl (codes "add", refl)
 write_fits kind.Hash = token_fits (write_of kind.Hash) (t.Name (codes "put")) (operation write.Put 2) refl (codes "put", refl)
 write_fits kind.List = token_fits (write_of kind.List) (t.Name (codes "push")) (operation write.Push 1) refl (codes "push", refl)
+write_fits kind.Peak = token_fits (write_of kind.Peak) (t.Name (codes "raise")) (operation write.Raise 1) refl (codes "raise", refl)
 
 -- and here is a read of each kind
 pub read_fits : (k : Kind) → Fits Spelled (one (at (read_of k))) (One (at (read_of k))) any
@@ -194,3 +195,4 @@ read_fits kind.Text = token_fits (read_of kind.Text) (t.Name (codes "get")) (ope
 read_fits kind.Set = token_fits (read_of kind.Set) (t.Name (codes "has")) (operation read.Has 1) refl (codes "has", refl)
 read_fits kind.Hash = token_fits (read_of kind.Hash) (t.Name (codes "has")) (operation read.Has 1) refl (codes "has", refl)
 read_fits kind.List = token_fits (read_of kind.List) (t.Name (codes "at")) (operation read.At 1) refl (codes "at", refl)
+read_fits kind.Peak = token_fits (read_of kind.Peak) (t.Name (codes "get")) (operation read.Get 0) refl (codes "get", refl)

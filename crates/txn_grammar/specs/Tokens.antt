@@ -92,7 +92,7 @@ relation_of other = None
 
 -- ---- kinds and their operations
 
--- the word of each kind; `peak` is kept for one to come
+-- the word of each kind
 abbrev pub kind_of : Symbol → Option Kind
 kind_of s.Bool = Some kind.Bool
 kind_of s.Counter = Some kind.Counter
@@ -100,6 +100,7 @@ kind_of s.Text = Some kind.Text
 kind_of s.Set = Some kind.Set
 kind_of s.Hash = Some kind.Hash
 kind_of s.List = Some kind.List
+kind_of s.Peak = Some kind.Peak
 kind_of other = None
 
 -- `==` on kinds
@@ -155,3 +156,16 @@ get_of_hash = refl
 get_of_counter : read_named kind.Counter (codes "get") ≡ Some (operation read.Get 0)
 unfolding read_named same_kind
 get_of_counter = refl
+
+-- a peak is raised to one number and is never put; `over` takes the number that it is held against
+raise_of_peak : write_named kind.Peak (codes "raise") ≡ Some (operation write.Raise 1)
+unfolding write_named same_kind
+raise_of_peak = refl
+
+no_put_of_peak : write_named kind.Peak (codes "put") ≡ None
+unfolding write_named same_kind
+no_put_of_peak = refl
+
+over_of_peak : read_named kind.Peak (codes "over") ≡ Some (operation read.Over 1)
+unfolding read_named same_kind
+over_of_peak = refl

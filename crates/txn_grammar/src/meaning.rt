@@ -75,7 +75,7 @@ pub fn relation_at(token: &Token) -> Option<Relation>
     }
 }
 
-/// The kind whose word the token is. `peak` is kept for one to come.
+/// The kind whose word the token is.
 pub fn kind_at(token: &Token) -> Option<Kind>
     ensures { result ≡ spec.of_symbol spec.kind_of token.now }
 {
@@ -86,6 +86,7 @@ pub fn kind_at(token: &Token) -> Option<Kind>
         Token::Symbol(Symbol::Set) => Some(Kind::Set),
         Token::Symbol(Symbol::Hash) => Some(Kind::Hash),
         Token::Symbol(Symbol::List) => Some(Kind::List),
+        Token::Symbol(Symbol::Peak) => Some(Kind::Peak),
         _ => None,
     }
 }
@@ -177,7 +178,8 @@ pub fn opener_of(token: &Token) -> Option<Opener>
             | Symbol::Text
             | Symbol::Set
             | Symbol::Hash
-            | Symbol::List,
+            | Symbol::List
+            | Symbol::Peak,
         ) => Some(Opener::Read),
         _ => None,
     }
@@ -208,7 +210,8 @@ pub fn nesting_of(token: &Token) -> Option<Nesting>
             | Symbol::Text
             | Symbol::Set
             | Symbol::Hash
-            | Symbol::List,
+            | Symbol::List
+            | Symbol::Peak,
         ) => Some(Nesting::Write),
         _ => None,
     }

@@ -11,7 +11,7 @@ pub struct Operation<W> {
 }
 
 /// The writes of each kind: its word's spelling, what it is, and the number of its arguments.
-pub const WRITES: [(Kind, &[u8], WriteWord, usize); 13] = [
+pub const WRITES: [(Kind, &[u8], WriteWord, usize); 14] = [
     (Kind::Bool, b"put", WriteWord::Put, 1),
     (Kind::Counter, b"put", WriteWord::Put, 1),
     (Kind::Counter, b"add", WriteWord::Add, 1),
@@ -25,10 +25,11 @@ pub const WRITES: [(Kind, &[u8], WriteWord, usize); 13] = [
     (Kind::List, b"push", WriteWord::Push, 1),
     (Kind::List, b"remove", WriteWord::Remove, 1),
     (Kind::List, b"clear", WriteWord::Clear, 0),
+    (Kind::Peak, b"raise", WriteWord::Raise, 1),
 ];
 
 /// The reads of each kind, likewise.
-pub const READS: [(Kind, &[u8], ReadWord, usize); 10] = [
+pub const READS: [(Kind, &[u8], ReadWord, usize); 12] = [
     (Kind::Bool, b"get", ReadWord::Get, 0),
     (Kind::Counter, b"get", ReadWord::Get, 0),
     (Kind::Text, b"get", ReadWord::Get, 0),
@@ -39,4 +40,6 @@ pub const READS: [(Kind, &[u8], ReadWord, usize); 10] = [
     (Kind::Hash, b"fields", ReadWord::Fields, 0),
     (Kind::List, b"at", ReadWord::At, 1),
     (Kind::List, b"all", ReadWord::All, 0),
+    (Kind::Peak, b"get", ReadWord::Get, 0),
+    (Kind::Peak, b"over", ReadWord::Over, 1),
 ];

@@ -23,7 +23,6 @@ pub enum Symbol {
     Set,
     Hash,
     List,
-    /// Kept for a kind to come: it begins nothing yet.
     Peak,
     /// `==`
     Equal,

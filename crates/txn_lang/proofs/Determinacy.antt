@@ -1,5 +1,6 @@
 -- A run rests on what it observed.
-use Rattle.std.proofs.Common.{lit≤, nat_eq, ◌≡◌, Bool, true, false, ◌||◌, ◌&&◌, List, [], ◌∷◌, ◌++◌, Option, Some, None, refl, ap, sym, ◌∙◌, subst, cond}
+use Rattle.std.proofs.Common.{lit≤, nat_eq, int_eq, ◌≡◌, ℤ, Bool, true, false, ◌||◌, ◌&&◌, List, [], ◌∷◌, ◌++◌, Option, Some, None, refl, ap, sym, ◌∙◌, subst, cond}
+use Rattle.std.specs.Bool.{beq}
 use Rattle.std.specs.List.{list_any, AllByRecursion}
 use denote.Enum.Bare.{same_true}
 use Rattle.std.specs.Cmp.Lexicographic.{pointwise}
@@ -16,6 +17,7 @@ use Rattle.rdt_types.specs.declared.outcome.Item.{Item}
 use Rattle.plain_data.specs.Texts.{Bytes}
 use Rattle.conflict_table.specs.declared.observation.Obs.TheVariants as obs
 use Rattle.std.proofs.lemmas.Bool.{eqb-true, false≢true}
+use Rattle.std.proofs.lemmas.Bool.Decides.{Decides-int_eq}
 use Rattle.rdt_types.specs.Values.{kind_written, default_of}
 use Rattle.conflict_table.specs.declared.read.ReadOp.{ReadOp}
 use Rattle.conflict_table.specs.Reads.{replay, answer, is_decided, observed}
@@ -50,7 +52,17 @@ text_same (a ∷ x) (b ∷ y) e = let both = and_parts (nat_eq a b) (pointwise n
 kind_same : (a b : Kind) → kind_eq.ghosts.eq a b ≡ true → a ≡ b
 kind_same a b e = same_true the_kind tt a b e
 
--- form by form: the test passes the same form alone, with the same text or the same place
+-- the test on truth values passes no two different ones
+bool_same : (a b : Bool) → beq a b ≡ true → a ≡ b
+bool_same true true e = refl
+bool_same false false e = refl
+bool_same _ _ e = absurd (false≢true e)
+
+-- nor does that on numbers
+int_same : (m n : ℤ) → int_eq m n ≡ true → m ≡ n
+int_same m n e = (Decides-int_eq m n).0 e
+
+-- form by form: the test passes the same form alone, with the same text, place, number or answer
 obs_same : (o p : Obs) → obs_eq.ghosts.eq o p ≡ true → o ≡ p
 obs_same obs.BoolIs obs.BoolIs e = refl
 obs_same obs.CounterIs obs.CounterIs e = refl
@@ -61,6 +73,10 @@ obs_same (obs.HashAt x) (obs.HashAt y) e = ap (λ t. obs.HashAt t) (text_same x 
 obs_same obs.HashAll obs.HashAll e = refl
 obs_same (obs.ListAt i) (obs.ListAt j) e = ap (λ k. obs.ListAt k) (eqb-true i j e)
 obs_same obs.ListAll obs.ListAll e = refl
+obs_same (obs.PeakIs m) (obs.PeakIs n) e = ap (λ k. obs.PeakIs k) (int_same m n e)
+obs_same (obs.PeakOver m a) (obs.PeakOver n b) e =
+    let both = and_parts (int_eq m n) (beq a b) e in
+    ap (λ k. obs.PeakOver k a) (int_same m n both.0) ∙ ap (λ r. obs.PeakOver n r) (bool_same a b both.1)
 obs_same _ _ e = absurd (false≢true e)
 
 -- kind, key and observation each pass their own test, so each is the same

@@ -44,7 +44,7 @@ place_within (pos i) false v = by (nat_lt i (length (list_in v))) refl
     by false e = tt
 place_within (negsuc i) takes_out v = tt
 
--- who observes a whole value observes no single place of it
+-- who observes a whole value observes no single place of it, and a peak's observation carries its value
 whole_within : (v : Value) → IsWithin (whole_observed v) v
 whole_within (value.Bool b) = tt
 whole_within (value.Text t) = tt
@@ -52,6 +52,7 @@ whole_within (value.Counter n) = tt
 whole_within (value.Set m) = tt
 whole_within (value.Hash m) = tt
 whole_within (value.List items) = tt
+whole_within (value.Peak n) = refl
 
 -- what a read observes can be observed of the value
 observed_within : (r : ReadOp) (takes_out : Bool) (v : Value) → IsWithin (observed_where r takes_out v) v
@@ -63,6 +64,7 @@ observed_within (read.HashHas f) takes_out v = tt
 observed_within (read.HashGet f) takes_out v = tt
 observed_within read.HashFields takes_out v = tt
 observed_within read.ListAll takes_out v = tt
+observed_within (read.PeakOver n) takes_out v = refl
 
 -- a short read observes no longer text
 observed_short : (r : ReadOp) (takes_out : Bool) (v : Value) → IsShortText (text_asked r) → IsShortText (text_in (observed_where r takes_out v))

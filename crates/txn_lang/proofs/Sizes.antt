@@ -144,4 +144,5 @@ read_short kind.Set read_word.Has is all = first_short is all
 read_short kind.Hash read_word.Has is all = first_short is all
 read_short kind.Hash read_word.Get is all = first_short is all
 read_short kind.List read_word.At is all = no_text_short
+read_short kind.Peak read_word.Over is all = no_text_short
 read_short _ _ is all = no_text_short

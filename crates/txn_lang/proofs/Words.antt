@@ -50,7 +50,7 @@ pair_fits : (k : Kind) (f t : Bytes) → IsOfKind k (pair_write k f t)
 pair_fits kind.Hash f t = refl
 pair_fits _ f t = tt
 
--- kind by kind: bools, counters and texts have writes of their own, and the others have those that take a text
+-- kind by kind: bools, counters, texts and peaks have writes of their own, and the others have those that take a text
 one_fits : (k : Kind) (word : WriteWord) (i : Item) → IsOfKind k (write_with k word i)
 one_fits kind.Bool word i = refl
 one_fits kind.Counter word i = counter_fits word (int_in i)
@@ -58,6 +58,7 @@ one_fits kind.Text word i = refl
 one_fits kind.Set word i = text_fits kind.Set word (text_in i)
 one_fits kind.Hash word i = text_fits kind.Hash word (text_in i)
 one_fits kind.List word i = text_fits kind.List word (text_in i)
+one_fits kind.Peak word i = refl
 
 -- by the number of arguments: with none it clears, with one it writes that one, and with two it is a hash's
 pub write_fits : (k : Kind) (word : WriteWord) (is : List Item) → IsOfKind k (write_of k word is)
@@ -90,4 +91,6 @@ read_suits kind.Hash read_word.Get is takes_out v e = refl
 read_suits kind.Hash word is takes_out v e = refl
 read_suits kind.List read_word.At is takes_out v e = place_suits (first_int is) takes_out (list_in v)
 read_suits kind.List word is takes_out v e = refl
+read_suits kind.Peak read_word.Over is takes_out v e = refl
+read_suits kind.Peak word is takes_out (value.Peak n) e = refl
 read_suits k word is takes_out v e = absurd (cc)

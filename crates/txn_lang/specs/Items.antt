@@ -155,7 +155,11 @@ read_of kind.Hash read_word.Get is = read.HashGet (first_text is)
 read_of kind.Hash _ is = read.HashFields
 read_of kind.List read_word.At is = read.ListAt (first_int is)
 read_of kind.List _ is = read.ListAll
-read_of _ _ is = read.Get
+read_of kind.Peak read_word.Over is = read.PeakOver (first_int is)
+read_of kind.Peak _ is = read.Get
+read_of kind.Bool _ is = read.Get
+read_of kind.Counter _ is = read.Get
+read_of kind.Text _ is = read.Get
 
 -- the writes of a set, a hash and a list that take one text
 abbrev pub text_write : Kind → WriteWord → Bytes → Option WriteOp
@@ -184,7 +188,10 @@ abbrev pub write_with : Kind → WriteWord → Item → Option WriteOp
 write_with kind.Bool _ i = Some (op.PutBool (bool_in i))
 write_with kind.Counter word i = counter_write word (int_in i)
 write_with kind.Text _ i = Some (op.PutText (text_in i))
-write_with k word i = text_write k word (text_in i)
+write_with kind.Peak _ i = Some (op.Raise (int_in i))
+write_with kind.Set word i = text_write kind.Set word (text_in i)
+write_with kind.Hash word i = text_write kind.Hash word (text_in i)
+write_with kind.List word i = text_write kind.List word (text_in i)
 
 -- the write of two arguments, which a hash alone has
 abbrev pub pair_write : Kind → Bytes → Bytes → Option WriteOp

@@ -11,8 +11,8 @@ use Rattle.txn_lang.specs.declared.run.Seen.{Seen}
 use Rattle.txn_lang.specs.States.{State, PartialState, known}
 use Rattle.txn_lang.specs.Execution.{exec, need, done}
 
--- The state has the value that was observed. A place that was observed is within that list, and where the value is of the
--- kind of its address, so is the observation.
+-- The state has the value that was observed, and it fits the observation: a place that was observed is within that list, and a
+-- peak is as it was answered. Where the value is of the kind of its address, so is the observation.
 pub record IsThere (s : PartialState) (z : Seen) : Type 0 where
   pub value : Value
   pub is : s z.address ≡ Some value

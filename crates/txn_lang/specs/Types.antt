@@ -64,23 +64,30 @@ abbrev pub may_begin : Operator → ItemType → Bool
 may_begin operator.Minus t = has_sum t
 may_begin o t = takes o t
 
--- what the arguments of a write are, by its kind: text, but for what a counter or a bool takes
+-- what the arguments of a write are, by its kind: text, but for what a bool, a counter or a peak takes
 abbrev pub written_type : Kind → ItemType
 written_type kind.Bool = type.Bool
 written_type kind.Counter = type.Int
-written_type _ = type.Text
+written_type kind.Peak = type.Int
+written_type kind.Text = type.Text
+written_type kind.Set = type.Text
+written_type kind.Hash = type.Text
+written_type kind.List = type.Text
 
--- what the arguments of a read are: text, but for the place of an item
+-- what the arguments of a read are: text, but for the place of an item, and for what a peak is held against
 abbrev pub asked_type : ReadWord → ItemType
 asked_type read_word.At = type.Int
+asked_type read_word.Over = type.Int
 asked_type _ = type.Text
 
 -- what a read answers
 abbrev pub answered_type : Kind → ReadWord → ItemType
 answered_type kind.Bool read_word.Get = type.Bool
 answered_type kind.Counter read_word.Get = type.Int
+answered_type kind.Peak read_word.Get = type.Int
 answered_type _ read_word.Get = type.Text
 answered_type _ read_word.Has = type.Bool
 answered_type _ read_word.All = type.Texts
 answered_type _ read_word.Fields = type.Texts
 answered_type _ read_word.At = type.Text
+answered_type _ read_word.Over = type.Bool

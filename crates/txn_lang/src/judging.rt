@@ -76,8 +76,8 @@ fn written_type(kind: Kind) -> Type
 {
     match kind {
         Kind::Bool => Type::Bool,
-        Kind::Counter => Type::Int,
-        _ => Type::Text,
+        Kind::Counter | Kind::Peak => Type::Int,
+        Kind::Text | Kind::Set | Kind::Hash | Kind::List => Type::Text,
     }
 }
 
@@ -85,7 +85,7 @@ fn asked_type(word: ReadWord) -> Type
     ensures { result ≡ types.asked_type word }
 {
     match word {
-        ReadWord::At => Type::Int,
+        ReadWord::At | ReadWord::Over => Type::Int,
         _ => Type::Text,
     }
 }
@@ -95,8 +95,8 @@ fn answered_type(kind: Kind, word: ReadWord) -> Type
 {
     match (kind, word) {
         (Kind::Bool, ReadWord::Get) => Type::Bool,
-        (Kind::Counter, ReadWord::Get) => Type::Int,
-        (_, ReadWord::Has) => Type::Bool,
+        (Kind::Counter, ReadWord::Get) | (Kind::Peak, ReadWord::Get) => Type::Int,
+        (_, ReadWord::Has) | (_, ReadWord::Over) => Type::Bool,
         (_, ReadWord::All) | (_, ReadWord::Fields) => Type::Texts,
         _ => Type::Text,
     }

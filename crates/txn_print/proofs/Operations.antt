@@ -60,7 +60,7 @@ pub read_again : (k : Kind) (n : Bytes) (op : Operation ReadWord) → read_named
 unfolding read_named same_kind
 read_again k n op e =
     let rows : List (Row ReadWord) = map (λ row. (row.0, row.1.now, row.2, row.3)) READS in
-    again_in read_name rows rows k n op (refl, (refl, (refl, (refl, (refl, (refl, (refl, (refl, (refl, (refl, tt)))))))))) e
+    again_in read_name rows rows k n op (refl, (refl, (refl, (refl, (refl, (refl, (refl, (refl, (refl, (refl, (refl, (refl, tt)))))))))))) e
 
 -- a write's word
 pub write_again : (k : Kind) (n : Bytes) (op : Operation WriteWord) → write_named k n ≡ Some op
@@ -68,4 +68,4 @@ pub write_again : (k : Kind) (n : Bytes) (op : Operation WriteWord) → write_na
 unfolding write_named same_kind
 write_again k n op e =
     let rows : List (Row WriteWord) = map (λ row. (row.0, row.1.now, row.2, row.3)) WRITES in
-    again_in write_name rows rows k n op (refl, (refl, (refl, (refl, (refl, (refl, (refl, (refl, (refl, (refl, (refl, (refl, (refl, tt))))))))))))) e
+    again_in write_name rows rows k n op (refl, (refl, (refl, (refl, (refl, (refl, (refl, (refl, (refl, (refl, (refl, (refl, (refl, (refl, tt)))))))))))))) e

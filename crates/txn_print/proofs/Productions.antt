@@ -346,6 +346,7 @@ module _ (Good : Piece → Type 0) where
     kind-symbol kind.Set = refl
     kind-symbol kind.Hash = refl
     kind-symbol kind.List = refl
+    kind-symbol kind.Peak = refl
 
     -- the kind's word, the key in parentheses, and the dot, one after another
     pub targeted_back : (E : Rule Spot Expr) (k : Kind) (ps : List Piece) (w : Expr) → Back Good bare E ps w

@@ -192,6 +192,8 @@ read_word read.Fields =
     written_word (t.Name (read_name read.Fields)) (slice_index (read_name read.Fields) 0) (drop 1 (read_name read.Fields)) refl refl refl refl refl
 read_word read.At =
     written_word (t.Name (read_name read.At)) (slice_index (read_name read.At) 0) (drop 1 (read_name read.At)) refl refl refl refl refl
+read_word read.Over =
+    written_word (t.Name (read_name read.Over)) (slice_index (read_name read.Over) 0) (drop 1 (read_name read.Over)) refl refl refl refl refl
 
 -- the words of writes are letters too, and none is reserved
 write_word : (w : WriteWord) → Good (spaced (t.Name (write_name w)))
@@ -206,6 +208,8 @@ write_word write.Clear =
     written_word (t.Name (write_name write.Clear)) (slice_index (write_name write.Clear) 0) (drop 1 (write_name write.Clear)) refl refl refl refl refl
 write_word write.Push =
     written_word (t.Name (write_name write.Push)) (slice_index (write_name write.Push) 0) (drop 1 (write_name write.Push)) refl refl refl refl refl
+write_word write.Raise =
+    written_word (t.Name (write_name write.Raise)) (slice_index (write_name write.Raise) 0) (drop 1 (write_name write.Raise)) refl refl refl refl refl
 
 -- the marks that stand without a space before or behind them begin no longer mark, whatever byte follows
 pub goods : Goods Good

@@ -60,6 +60,7 @@ kind_symbol kind.Text = s.Text
 kind_symbol kind.Set = s.Set
 kind_symbol kind.Hash = s.Hash
 kind_symbol kind.List = s.List
+kind_symbol kind.Peak = s.Peak
 
 -- the word of a write
 abbrev pub write_name : WriteWord → Bytes
@@ -68,6 +69,7 @@ write_name write.Add = codes "add"
 write_name write.Remove = codes "remove"
 write_name write.Clear = codes "clear"
 write_name write.Push = codes "push"
+write_name write.Raise = codes "raise"
 
 -- the word of a read
 abbrev pub read_name : ReadWord → Bytes
@@ -76,6 +78,7 @@ read_name read.Has = codes "has"
 read_name read.All = codes "all"
 read_name read.Fields = codes "fields"
 read_name read.At = codes "at"
+read_name read.Over = codes "over"
 
 -- ---- parts of several forms
 

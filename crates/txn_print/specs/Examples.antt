@@ -156,6 +156,12 @@ field : text (whole (joined (show_node (node.Read kind.Hash (quoted (codes "h"))
 unfolding spelling same_symbol
 field = refl
 
+-- what is held against a peak may be a sum, which needs no parentheses of its own
+height : text (whole (show_node (node.Read kind.Peak (quoted (codes "bid")) read.Over (joined x operator.Plus y ∷ []))))
+    ≡ codes "peak(\"bid\").over(x + y)"
+unfolding spelling same_symbol
+height = refl
+
 -- a quote and a newline
 escapes : text (whole (quoted (34 ∷ 10 ∷ []))) ≡ codes "\"\\\"\\n\""
 unfolding spelling same_symbol

@@ -102,6 +102,7 @@ pub(crate) fn kind_symbol(kind: Kind) -> Symbol
         Kind::Set => Symbol::Set,
         Kind::Hash => Symbol::Hash,
         Kind::List => Symbol::List,
+        Kind::Peak => Symbol::Peak,
     }
 }
 
@@ -115,6 +116,7 @@ pub(crate) fn write_name(word: WriteWord) -> &'static [u8]
         WriteWord::Remove => b"remove",
         WriteWord::Clear => b"clear",
         WriteWord::Push => b"push",
+        WriteWord::Raise => b"raise",
     }
 }
 
@@ -128,5 +130,6 @@ pub(crate) fn read_name(word: ReadWord) -> &'static [u8]
         ReadWord::All => b"all",
         ReadWord::Fields => b"fields",
         ReadWord::At => b"at",
+        ReadWord::Over => b"over",
     }
 }

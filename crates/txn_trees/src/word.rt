@@ -29,6 +29,7 @@ pub enum WriteWord {
     Remove,
     Clear,
     Push,
+    Raise,
 }
 
 /// What a read asks. Each kind has some of these.
@@ -39,4 +40,5 @@ pub enum ReadWord {
     All,
     Fields,
     At,
+    Over,
 }

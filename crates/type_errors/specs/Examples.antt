@@ -55,6 +55,26 @@ key-before-arguments = BlockFails.unsuited [] a_put [] 6 (record {
   at = refl;
 })
 
+-- ---- `peak("x").raise("a");`: the key is a text, and the height at 17 is no number
+
+abbrev a_raise : Stmt
+a_raise = stmt_at 1 (stmt.Write kind.Peak (text_expr (6, codes "x")) word.Raise (text_expr (17, codes "a") ∷ []))
+
+height-of-a-peak : BodyFails (body_of (a_raise, [])) 17
+unfolding out-StmtNode out-ExprNode denote.Hole.Carrier.out
+height-of-a-peak = BlockFails.unsuited [] a_raise [] 17 (record {
+  before = of_type type.Text (text_expr (6, codes "x")) ∷ [];
+  here = of_type type.Int (text_expr (17, codes "a"));
+  after = [];
+  split = refl;
+  first = type.Text;
+  begins_with = HasType.text (text_expr (6, codes "x")) (codes "x") refl;
+  suited = (record { own = type.Text; typed = HasType.text (text_expr (6, codes "x")) (codes "x") refl; tested = refl }, tt);
+  unsuited = record { own = type.Text; typed = HasType.text (text_expr (17, codes "a")) (codes "a") refl; tested = refl };
+  others = tt;
+  at = refl;
+})
+
 -- ---- `if true { emit x; } else { emit y; }`: the first block is told before the second, at 16
 
 abbrev emit_x : Stmt

@@ -26,9 +26,9 @@ struct Own {
     versions: Versions,
 }
 
-/// The versions of some addresses. The first address with a mark is found by it, since marks are quick to compare. What has the
-/// mark of an earlier address stands among the others, by its order: so a look-up is two searches in trees at most, whatever
-/// addresses were chosen.
+/// The versions of some addresses. The first address with a mark is found by it, since marks are quick to compare. What
+/// has the mark of an earlier address stands among the others, by its order: so a look-up is two searches in trees at
+/// most, whatever addresses were chosen.
 #[derive(Drop)]
 pub(crate) struct Kept {
     marked: BTreeMap<u64, Own>,
@@ -52,7 +52,7 @@ impl Model for Kept {
 }
 
 impl Kept {
-    /// No versions yet. It takes no memory.
+    /// No versions yet. It is never refused for want of memory.
     pub fn new(alloc: Global) -> Kept
         ensures { result ≡ [] }
     {
@@ -92,7 +92,7 @@ impl Kept {
         self.enter(own)
     }
 
-    /// Lets go of the versions of an address past a number. It takes no memory.
+    /// Lets go of the versions of an address past a number. It is never refused for want of memory.
     pub fn cut(&mut self, address: &Address, number: u64)
         ensures { (a : Address) → versions_of self.new a
             ≡ (if is_at (address_cmp address.now) a then spec.up_to number (versions_of self.old a) else versions_of self.old a) }

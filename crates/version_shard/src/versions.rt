@@ -38,7 +38,7 @@ impl Model for Versions {
 }
 
 impl Versions {
-    /// No version yet of a value. It takes no memory.
+    /// No version yet of a value. It is never refused for want of memory.
     pub fn new(alloc: Global, base: Value) -> Versions
         ensures { result ≡ spec.unversioned base }
     {
@@ -117,7 +117,7 @@ impl Versions {
         Ok(())
     }
 
-    /// Lets go of the versions past a number. It takes no memory.
+    /// Lets go of the versions past a number. It is never refused for want of memory.
     pub fn cut(&mut self, number: u64)
         ensures { self.new ≡ spec.up_to number self.old }
     {
@@ -146,7 +146,8 @@ impl Versions {
         }
     }
 
-    /// Lets go of the versions up to a horizon, of which the newest stays as the value before the others. It takes no memory.
+    /// Lets go of the versions up to a horizon, of which the newest stays as the value before the others. It is never
+    /// refused for want of memory.
     fn trim(&mut self, horizon: u64)
         ensures { self.new ≡ spec.trimmed horizon self.old }
     {
@@ -155,8 +156,8 @@ impl Versions {
         }
     }
 
-    /// The first version past the base of an observation that clashes with it. It makes a step at most for each version past
-    /// the base, and takes no memory.
+    /// The first version past the base of an observation that clashes with it. It makes a step at most for each version
+    /// past the base, and is never refused for want of memory.
     pub fn first_clash<L: Ledger>(&self, based: &Based, steps: &mut Steps<L>) -> Option<&Version>
         ensures first { option_copied result ≡ first_clashing based.now.obs (spec.past based.now.base self.now.later) }
         ensures steps { steps.new ≤ steps.old + length (spec.past based.now.base self.now.later) }

@@ -125,3 +125,27 @@ list-cleared-place = (refl, refl)
 
 list-cleared : Decides (op.ListClear ∷ op.ListPush (codes "n") ∷ []) read.ListAll o-p-o (item.Texts (codes "n" ∷ []))
 list-cleared = (refl, refl)
+
+-- a peak is observed with its height, whatever was raised before, and the answer is the greater of the two
+peak-read : Observes [] read.Get (value.Peak (pos 40)) (item.Int (pos 40)) (obs.PeakIs (pos 40))
+peak-read = (refl, refl)
+
+peak-raised : Observes (op.Raise (pos 50) ∷ []) read.Get (value.Peak (pos 40)) (item.Int (pos 50)) (obs.PeakIs (pos 40))
+peak-raised = (refl, refl)
+
+peak-raised-lower : Observes (op.Raise (pos 30) ∷ []) read.Get (value.Peak (pos 40)) (item.Int (pos 40)) (obs.PeakIs (pos 40))
+peak-raised-lower = (refl, refl)
+
+-- whether it is above a number is observed with the answer
+over-less : Observes [] (read.PeakOver (negsuc 0)) (value.Peak (pos 0)) (item.Bool true) (obs.PeakOver (negsuc 0) true)
+over-less = (refl, refl)
+
+not-over-itself : Observes [] (read.PeakOver (pos 40)) (value.Peak (pos 40)) (item.Bool false) (obs.PeakOver (pos 40) false)
+not-over-itself = (refl, refl)
+
+-- a raise above the number decides it, and one to the number itself doesn't
+raised-above : Decides (op.Raise (pos 41) ∷ op.Raise (pos 1) ∷ []) (read.PeakOver (pos 40)) (value.Peak (pos 7)) (item.Bool true)
+raised-above = (refl, refl)
+
+raised-to-it : Observes (op.Raise (pos 40) ∷ []) (read.PeakOver (pos 40)) (value.Peak (pos 7)) (item.Bool false) (obs.PeakOver (pos 40) false)
+raised-to-it = (refl, refl)

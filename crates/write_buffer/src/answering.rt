@@ -14,12 +14,12 @@ ghost use Rattle.conflict_table.specs.Reads as reads;
 ghost use Rattle.write_buffer.specs.code.Kept.{kept_from};
 
 use crate::keys::{key_set, keys_of, keys_over};
-use conflict_table::{ReadOp, counter_in, has_element};
+use conflict_table::{ReadOp, counter_in, has_element, peak_in};
 use plain_data::{ExactClone, Text, TextSet};
 use rdt_types::{Delta, HashDelta, Item, ListDelta, Mark, SetDelta, TextList, Value};
 use std::alloc::{AllocError, Global};
 
-/// The whole of a bool, a counter or a text.
+/// The whole of a bool, a counter, a text or a peak.
 fn whole(alloc: Global, value: &Value) -> Result<Item, AllocError>
     ensures { IfOk result (λ i. i ≡ reads.whole value.now) }
 {
@@ -27,7 +27,8 @@ fn whole(alloc: Global, value: &Value) -> Result<Item, AllocError>
         Value::Bool(b) => Item::Bool(*b),
         Value::Counter(n) => Item::Int(*n),
         Value::Text(text) => Item::Text(text.clone()?),
-        _ => Item::Text(Text::new(alloc)),
+        Value::Set(_) | Value::Hash(_) | Value::List(_) => Item::Text(Text::new(alloc)),
+        Value::Peak(n) => Item::Int(*n),
     })
 }
 
@@ -41,7 +42,8 @@ fn get(alloc: Global, own: Option<&Delta>, value: &Value) -> Result<Item, AllocE
         Some(Delta::PutCounter(n)) => Item::Int(*n),
         Some(Delta::AddCounter(n)) => Item::Int(counter_in(value).wrapping_add(*n)),
         Some(Delta::PutText(text)) => Item::Text(text.clone()?),
-        _ => Item::Text(Text::new(alloc)),
+        Some(Delta::Set(_) | Delta::Hash(_) | Delta::List(_)) => Item::Text(Text::new(alloc)),
+        Some(Delta::Raise(n)) => Item::Int(peak_in(value).max(*n)),
     })
 }
 
@@ -289,6 +291,19 @@ fn list_at<'a>(own: Option<&'a Delta>, place: usize, value: &'a Value) -> Option
     }
 }
 
+/// The height of a peak over which the own delta lies.
+fn height(own: Option<&Delta>, value: &Value) -> i64
+    ensures { result ≡ values.peak_in (composed.left_by (option_copied own.entry) value.now) }
+{
+    match own {
+        None => peak_in(value),
+        Some(own) => match own {
+            Delta::Raise(n) => peak_in(value).max(*n),
+            _ => 0,
+        },
+    }
+}
+
 /// What a read answers of a value over which the own delta lies.
 pub(crate) fn answer(
     alloc: Global,
@@ -315,5 +330,6 @@ pub(crate) fn answer(
             Ok(Item::Text(text_or_empty(alloc, found)?))
         }
         ReadOp::ListAll => Ok(Item::Texts(list_all(alloc, own, value)?)),
+        ReadOp::PeakOver(n) => Ok(Item::Bool(*n < height(own, value))),
     }
 }

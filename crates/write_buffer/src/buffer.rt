@@ -35,7 +35,7 @@ impl Model for Buffer {
 }
 
 impl Buffer {
-    /// Nothing written, which takes no memory yet.
+    /// Nothing written.
     pub fn new(alloc: Global) -> Buffer
         ensures { result ≡ [] }
     {

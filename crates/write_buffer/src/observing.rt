@@ -7,7 +7,7 @@ ghost use Rattle.conflict_table.specs.Clashes as clashes;
 ghost use Rattle.conflict_table.specs.Composed as composed;
 ghost use Rattle.conflict_table.specs.Reads as reads;
 
-use conflict_table::{Obs, ReadOp};
+use conflict_table::{Obs, ReadOp, is_over};
 use plain_data::Text;
 use rdt_types::{Delta, Value};
 use std::alloc::AllocError;
@@ -56,6 +56,16 @@ fn removes(own: Option<&Delta>) -> bool
     }
 }
 
+/// Whether a peak is raised above a number.
+fn raises_above(own: Option<&Delta>, n: i64) -> bool
+    ensures { result ≡ composed.if_any (clashes.raises_above n) (option_copied own.entry) }
+{
+    match own {
+        Some(Delta::Raise(m)) => n < *m,
+        _ => false,
+    }
+}
+
 /// Whether the own delta decides a read.
 pub(crate) fn is_decided(read: &ReadOp, own: Option<&Delta>) -> bool
     ensures { result ≡ composed.is_decided_by read.now (option_copied own.entry) }
@@ -65,17 +75,19 @@ pub(crate) fn is_decided(read: &ReadOp, own: Option<&Delta>) -> bool
         ReadOp::SetHas(key) | ReadOp::HashHas(key) | ReadOp::HashGet(key) => settles(own, key),
         ReadOp::SetAll | ReadOp::HashFields | ReadOp::ListAll => clears(own),
         ReadOp::ListAt(place) => *place < 0 || clears(own),
+        ReadOp::PeakOver(n) => raises_above(own, *n),
     }
 }
 
-/// The whole of a bool, a counter or a text, as it is observed.
+/// The whole of a bool, a counter, a text or a peak, as it is observed.
 fn whole_observed(value: &Value) -> Obs
     ensures { result ≡ reads.whole_observed value.now }
 {
     match value {
         Value::Bool(_) => Obs::BoolIs,
         Value::Text(_) => Obs::TextIs,
-        _ => Obs::CounterIs,
+        Value::Counter(_) | Value::Set(_) | Value::Hash(_) | Value::List(_) => Obs::CounterIs,
+        Value::Peak(n) => Obs::PeakIs(*n),
     }
 }
 
@@ -116,5 +128,6 @@ pub(crate) fn observed(read: &ReadOp, own: Option<&Delta>, value: &Value) -> Res
         ReadOp::HashFields => Obs::HashAll,
         ReadOp::ListAt(place) => place_observed(*place, removes(own), value),
         ReadOp::ListAll => Obs::ListAll,
+        ReadOp::PeakOver(n) => Obs::PeakOver(*n, is_over(value, *n)),
     })
 }

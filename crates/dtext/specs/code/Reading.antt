@@ -153,7 +153,7 @@ kind_among (kind ∷ kinds) byte = if begins byte (word_of kind) then kind else 
 
 -- the kind whose word begins with the byte
 abbrev pub kind_by : ℕ → Kind
-kind_by = kind_among (kinds.Bool ∷ kinds.Counter ∷ kinds.Text ∷ kinds.Set ∷ kinds.Hash ∷ [])
+kind_by = kind_among (kinds.Bool ∷ kinds.Counter ∷ kinds.Text ∷ kinds.Set ∷ kinds.Hash ∷ kinds.Peak ∷ [])
 
 -- the same of what is ahead
 abbrev pub kind_ahead : Option ℕ → Kind
@@ -275,9 +275,21 @@ clearing kind = of (λ _. cleared kind) (word (codes "clear"))
 unfoldable pub remove_or_clear : Kind → Reader ℕ WriteOp
 remove_or_clear kind = either (sees 114) (removal kind) (clearing kind)
 
+-- the rest of `raise`
+abbrev pub raise : Reader ℕ WriteOp
+raise = behind (codes "aise ") (of op.Raise number)
+
+-- the rest of `remove`, which is a set's where no kind is known
+abbrev pub remove : Reader ℕ WriteOp
+remove = behind (codes "emove ") (of op.SetRemove text)
+
+-- `raise` and `remove` begin alike
+unfoldable pub raise_or_remove : Reader ℕ WriteOp
+raise_or_remove = behind (codes "r") (either (sees 97) raise remove)
+
 -- one write alone: the byte ahead tells its word
 unfoldable pub part : Reader ℕ WriteOp
-part = either (sees 112) put_or_push (either (sees 97) addition (remove_or_clear kinds.Set))
+part = either (sees 112) put_or_push (either (sees 97) addition (either (sees 114) raise_or_remove (clearing kinds.Set)))
 
 -- ---- one write beside an address
 
@@ -312,6 +324,10 @@ hash_part = either (sees 112) (behind (codes "put ") field) (remove_or_clear kin
 unfoldable pub list_part : Reader ℕ WriteOp
 list_part = either (sees 112) (behind (codes "push ") (of op.ListPush text)) (remove_or_clear kinds.List)
 
+-- `raise` and a number
+unfoldable pub peak_part : Reader ℕ WriteOp
+peak_part = behind (codes "raise ") (of op.Raise number)
+
 -- the kind of the address decides
 abbrev pub part_of : Kind → Reader ℕ WriteOp
 part_of kinds.Bool = bool_part
@@ -320,3 +336,4 @@ part_of kinds.Text = text_part
 part_of kinds.Set = set_part
 part_of kinds.Hash = hash_part
 part_of kinds.List = list_part
+part_of kinds.Peak = peak_part

@@ -1,6 +1,6 @@
 -- The readers of replies, as functions: the code is proved equal to them. Judge by the rules of specs/Replies: the law
 -- `readers_are_rules` ties the reader of replies to its rule.
-use Rattle.std.specs.Prelude.{ℕ, codes}
+use Rattle.std.specs.Prelude.{ℕ, false, pos, codes}
 use Rattle.plain_data.specs.Texts.{Bytes}
 use Rattle.predictive_parsing.specs.Reading.{Reader, ◌>>=◌, pure, either, of}
 use Rattle.predictive_parsing.specs.Bytes.{sees, word, behind}
@@ -12,8 +12,8 @@ use Rattle.rdt_types.specs.declared.outcome.Outcome.{Outcome}
 use Rattle.conflict_table.specs.declared.observation.Obs.{Obs}
 use Rattle.conflict_table.specs.declared.observation.Obs.TheVariants as obs
 use Rattle.abort_witness.specs.declared.witness.Witness.{Witness}
-use Rattle.dtext.specs.code.Reading.{text, natural, address, outcome, part_of}
-use Rattle.session_text.specs.declared.limits.TheConstants.{LARGEST, LARGEST_SHARD, LARGEST_COLUMN}
+use Rattle.dtext.specs.code.Reading.{text, number, natural, address, outcome, part_of}
+use Rattle.session_text.specs.declared.limits.TheConstants.{LARGEST, LARGEST_SHARD, LARGEST_COLUMN, LARGEST_CLIENT}
 use Rattle.session_text.specs.declared.reply.Reply.{Reply}
 use Rattle.session_text.specs.declared.reply.Reply.TheVariants as reply
 use Rattle.session_text.specs.declared.reply.Why.{Why}
@@ -31,7 +31,7 @@ use Rattle.session_text.specs.code.Lines.{name}
 unfoldable pub numbered : Bytes → Reader ℕ ℕ
 numbered w = behind w (natural LARGEST)
 
--- what all of a kind's value is observed by
+-- what all of a kind's value is observed by; of a peak, whose observation has the value in it, it isn't asked for
 abbrev pub whole_of : Kind → Obs
 whole_of kinds.Bool = obs.BoolIs
 whole_of kinds.Counter = obs.CounterIs
@@ -39,6 +39,7 @@ whole_of kinds.Text = obs.TextIs
 whole_of kinds.Set = obs.SetAll
 whole_of kinds.Hash = obs.HashAll
 whole_of kinds.List = obs.ListAll
+whole_of kinds.Peak = obs.PeakIs (pos 0)
 
 -- the word for a whole value
 unfoldable pub whole : Kind → Reader ℕ Obs
@@ -60,6 +61,10 @@ hash_obs = behind (codes "a") (either (sees 116) (behind (codes "t ") (of obs.Ha
 unfoldable pub list_obs : Reader ℕ Obs
 list_obs = behind (codes "a") (either (sees 116) (of obs.ListAt (numbered (codes "t "))) (of (λ _. obs.ListAll) (word (codes "ll"))))
 
+-- of a peak, whose `over` was false
+unfoldable pub peak_obs : Reader ℕ Obs
+peak_obs = either (sees 105) (behind (codes "is ") (of obs.PeakIs number)) (behind (codes "over ") (of (λ n. obs.PeakOver n false) number))
+
 -- beside an address
 unfoldable pub obs_of : Kind → Reader ℕ Obs
 obs_of kinds.Bool = whole kinds.Bool
@@ -68,6 +73,7 @@ obs_of kinds.Text = whole kinds.Text
 obs_of kinds.Set = set_obs
 obs_of kinds.Hash = hash_obs
 obs_of kinds.List = list_obs
+obs_of kinds.Peak = peak_obs
 
 -- a column behind a space
 unfoldable pub column : Reader ℕ ℕ
@@ -117,6 +123,10 @@ witness = do
 unfoldable pub shard : Reader ℕ ℕ
 shard = behind (codes " ") (natural LARGEST_SHARD)
 
+-- a client
+unfoldable pub client : Reader ℕ ℕ
+client = behind (codes " ") (natural LARGEST_CLIENT)
+
 -- the first word tells the form, each a reader of its own
 unfoldable pub commit : Reader ℕ Reply
 commit = do
@@ -159,6 +169,11 @@ ahead_of = do
   number ← numbered (codes " ")
   of (reply.Ahead number) (numbered (codes " "))
 
+unfoldable pub held : Reader ℕ Reply
+held = do
+  client ← client
+  of (reply.Held client) (numbered (codes " commit "))
+
 -- why, behind a space
 unfoldable pub refused : Reader ℕ Reply
 refused = of reply.Refused (behind (codes " ") why_read)
@@ -177,6 +192,7 @@ form first.Idle = pure reply.Idle
 form first.Seen = of reply.Seen (numbered (codes " "))
 form first.Late = late
 form first.Ahead = ahead_of
+form first.Held = held
 form first.Full = of reply.Full column
 form first.Disk = pure reply.Disk
 form first.Dropped = pure reply.Dropped

@@ -14,12 +14,20 @@ use Rattle.txn_eval.specs.declared.seen_key.Part.TheVariants as part
 use Rattle.txn_eval.specs.declared.seen_key.SeenKey.{SeenKey}
 use Rattle.txn_eval.specs.contracts.seen_key.SeenKeyOrd.TheImpl as order
 
--- of what in a value an observation is: what is at an element or a field, the item at a place, or all of it
+-- of what in a value an observation is: what is at an element or a field, the item at a place, how high a peak is or
+-- whether it is above a number, each with its answer, or all of it
 abbrev pub part_of : Obs → Part
 part_of (obs.SetHas x) = part.At x
 part_of (obs.HashAt f) = part.At f
 part_of (obs.ListAt i) = part.Place i
-part_of _ = part.Whole
+part_of (obs.PeakIs n) = part.Peak n
+part_of (obs.PeakOver n r) = part.Over n r
+part_of obs.BoolIs = part.Whole
+part_of obs.CounterIs = part.Whole
+part_of obs.TextIs = part.Whole
+part_of obs.SetAll = part.Whole
+part_of obs.HashAll = part.Whole
+part_of obs.ListAll = part.Whole
 
 -- the kind of the value is that of the observation, and so nothing of it is left out
 abbrev pub key_of : Seen → SeenKey

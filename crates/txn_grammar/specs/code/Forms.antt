@@ -55,6 +55,7 @@ opener_of s.Text = Some opener.Read
 opener_of s.Set = Some opener.Read
 opener_of s.Hash = Some opener.Read
 opener_of s.List = Some opener.Read
+opener_of s.Peak = Some opener.Read
 opener_of _ = None
 
 -- ---- statements
@@ -76,6 +77,7 @@ nesting_of s.Text = Some nesting.Write
 nesting_of s.Set = Some nesting.Write
 nesting_of s.Hash = Some nesting.Write
 nesting_of s.List = Some nesting.Write
+nesting_of s.Peak = Some nesting.Write
 nesting_of _ = None
 
 -- each of them by a token

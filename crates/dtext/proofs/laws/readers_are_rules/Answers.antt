@@ -1,5 +1,5 @@
 use Rattle.dtext.proofs.TextFits.{text_fits}
-use Rattle.dtext.proofs.NumberFits.{natural_fits, positive_fits}
+use Rattle.dtext.proofs.NumberFits.{number_fits, natural_fits, positive_fits}
 use Rattle.dtext.proofs.FormFits.{address_fits, item_fits, outcome_fits}
 use Rattle.dtext.proofs.PartFits.{part_fits, part_of_fits}
 use Rattle.dtext.proofs.laws.readers_are_rules.Goals as goal
@@ -7,6 +7,7 @@ use Rattle.dtext.proofs.laws.readers_are_rules.Goals as goal
 pub returns : goal.returns
 returns c = record {
   texts = text_fits;
+  numbers = number_fits;
   naturals = natural_fits;
   positives = positive_fits;
   addresses = address_fits;

@@ -25,4 +25,9 @@ returns-clause-clashes c =
     ∷ (some-none (Unit {0}) i ∷ some-one (codes "a") tt i ∷ true ∷ [])
     ∷ (ap (λ b. b || true) (some-none (Unit {0})) i ∷ ap (λ b. b || false) (some-one (codes "a") tt) i ∷ true ∷ [])
     ∷ (ap (λ b. b || true) (some-none (Unit {0})) i ∷ ap (λ b. b || false) (some-one (codes "a") tt) i ∷ true ∷ [])
+    ∷ (true ∷ [])
+    ∷ (false ∷ [])
+    ∷ (false ∷ [])
+    ∷ (true ∷ [])
+    ∷ (false ∷ [])
     ∷ []

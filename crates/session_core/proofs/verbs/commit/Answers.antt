@@ -1,9 +1,11 @@
-use Rattle.std.proofs.Common.{◌-◌, sym, ap, ◌∙◌}
+use Rattle.std.proofs.Common.{◌-◌, sym, ap, subst, ◌∙◌}
 use Rattle.docc_prepare.specs.declared.attempt.Attempt.{Attempt}
 use Rattle.call_programs.specs.Programs.{Program, bind}
 use Rattle.call_programs.proofs.Programs.{here, and_then, bound}
 use Rattle.session_core.specs.Events.{said}
+use Rattle.session_core.specs.Holding.{Holds}
 use Rattle.session_core.specs.Verbs.{try_times, closing, tries_at}
+use Rattle.session_core.proofs.Kept.{opened-holds}
 use Rattle.session_core.proofs.Performing.{is_none, busy_is, free_is, ended_as}
 use Rattle.session_core.proofs.Stopping.{does_fail, short_in, short_of}
 use Rattle.session_core.proofs.verbs.commit.Goals as goal
@@ -30,3 +32,10 @@ returns-clause-plays g c =
     and_then (here free) (bound (closing s) c.in_ok-reply.ensures.plays
     (here (ap (λ t. Program.ends (t, said c.in_ok-reply.reply))
     (ended_as s s.attempt c.next_seq-session.result c.in_ok-reply.reply none c.next_seq-session.ensures))))
+
+-- an attempt that has read nothing holds
+pub try_times-requires-clause-holds : goal.try_times-requires-clause-holds
+try_times-requires-clause-holds g c =
+    let known = g.B.Backend.known c.args.backend.now in
+    subst (Holds known) (sym c.opened-attempt.ensures)
+    (opened-holds known c.args.session.now c.args.body c.requires.attends c.requires.ready)
