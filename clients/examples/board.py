@@ -26,6 +26,11 @@ DONE = 'let card = ?; let by = ?; if hash("state").get(card) == by { hash("state
 SHOW = 'for card in list("cards").all() { emit card + ": " + hash("state").get(card); }'
 
 
+def say(line):
+    """Prints a line in one piece, since several threads do."""
+    print(f"{line}\n", end="", flush=True)
+
+
 def edit(host, port, name):
     """Adds the cards that are missing, and takes each card that is open."""
     with diamond.connect(host, port) as client:
@@ -35,9 +40,9 @@ def edit(host, port, name):
             taken = client.try_(16, TAKE, card, name)
             if taken.outcome == "ok":
                 client.try_(16, DONE, card, name)
-                print(f"{name} did: {card}", flush=True)
+                say(f"{name} did: {card}")
             else:
-                print(f"{name} leaves it: {card} ({taken.text})", flush=True)
+                say(f"{name} leaves it: {card} ({taken.text})")
 
 
 def show(host, port):
@@ -51,7 +56,7 @@ def show(host, port):
         screen.watch("board", SHOW, call=draw)
         while len(board) < len(CARDS) or not all(line.endswith(", done") for line in board):
             number = screen.wait()
-            print(f"after {number} commits: {'; '.join(board)}", flush=True)
+            say(f"after {number} commits: {'; '.join(board)}")
     return board
 
 

@@ -36,6 +36,9 @@ class Scripts(unittest.TestCase):
     def test_the_poll(self):
         self.answered("poll")
 
+    def test_the_auction(self):
+        self.answered("auction")
+
 
 class Programs(unittest.TestCase):
     def shown(self, name, sessions):
@@ -53,6 +56,20 @@ class Programs(unittest.TestCase):
 
     def test_the_poll(self):
         self.assertEqual(self.shown("poll", 9)[-1], "tea 5, coffee 3")
+
+    def test_the_auction(self):
+        said = self.shown("auction", 5)
+        bids = [re.fullmatch("(ann|bob|cay) bids ([0-9]+): (it counts|too low|closed)", line) for line in said if " bids " in line]
+        self.assertEqual(len(bids), 7)
+        counted = sorted((int(bid[2]), bid[1]) for bid in bids if bid[3] == "it counts")
+        price, leader = counted[-1]
+        self.assertGreaterEqual(price, 150)
+        self.assertEqual(said[-2:], [f"bids: {', '.join(f'{name} {amount}' for amount, name in counted)}", f"sold to {leader} for {price}"])
+        self.assertEqual(said.count("seller: 150 is bid"), 1)
+        *shown, end = [line for line in said if line.startswith("screen: ")]
+        self.assertEqual(end, f"screen: {price} {leader} closed")
+        rising = [f"screen: {amount} {name}" for amount, name in [(99, "nobody"), *counted]]
+        self.assertEqual(shown, [line for line in rising if line in shown])
 
 
 if __name__ == "__main__":
