@@ -13,7 +13,7 @@ import net from "node:net";
 const LONGEST_LINE = 4096;
 const TEXT = String.raw`"[^"\\]*(?:\\.[^"\\]*)*"`;
 const TOKEN = new RegExp(String.raw`\[(?:${TEXT}(?:,${TEXT})*)?\]|${TEXT}|-?[0-9]+|[a-z]+`, "g");
-const SEEN = String.raw`([a-z]+)\((${TEXT})\) ([a-z]+(?: [0-9]+| ${TEXT})?)`;
+const SEEN = String.raw`([a-z]+)\((${TEXT})\) ([a-z]+(?: -?[0-9]+| ${TEXT})?)`;
 const ABORT = new RegExp(`^abort ${SEEN} base ([0-9]+) clash (.+) commit ([0-9]+)$`, "s");
 
 /** What all errors here are. `line` (string) is the line that was sent, or wasn't. */
@@ -139,13 +139,13 @@ export class Client {
 
   /** Commits the body, once. @param {string} body @returns {Promise<Answer>} */
   async do(body) {
-    return this.#ask(`do ${body}`);
+    return this.#ask("do ", body);
   }
 
   /** The same, anew after each abort, 1 to 16 times. @param {number} times @param {string} body @returns {Promise<Answer>} */
   async tryTimes(times, body) {
     if (!(Number.isInteger(times) && times >= 1 && times <= 16)) throw new NotSent(`not from 1 to 16: ${times}`, body);
-    return this.#ask(`try ${times} ${body}`);
+    return this.#ask(`try ${times} `, body);
   }
 
   /**
@@ -154,7 +154,7 @@ export class Client {
    */
   async look(body, { at } = {}) {
     if (at !== undefined && !(Number.isSafeInteger(at) && at >= 0)) throw new NotSent(`no number of commits: ${at}`, body);
-    return this.#ask(at === undefined ? `look ${body}` : `at ${at} ${body}`);
+    return this.#ask(at === undefined ? "look " : `at ${at} `, body);
   }
 
   /**
@@ -162,28 +162,29 @@ export class Client {
    * @param {string} name @param {string} body @param {(report: Answer) => void} call @returns {Promise<Answer>}
    */
   async watch(name, body, call) {
-    return this.#ask(`watch ${name} ${body}`, name ?? "", call);
+    if (typeof call !== "function") throw new NotSent("no function to call", body);
+    return this.#ask(`watch ${name} `, body, name ?? "", call);
   }
 
   /** Forgets the watch. @param {string} name */
   async unwatch(name) {
-    await this.#ask(`unwatch ${name}`, name ?? "");
+    await this.#ask("unwatch ", name, name ?? "");
   }
 
   /** Calls with a report of each touched watch. All hold on as many commits as it says. @returns {Promise<number>} */
   async sync() {
-    return Number((await this.#ask("sync")).replace("current ", ""));
+    return Number((await this.#ask("sync", "")).replace("current ", ""));
   }
 
   /** The same, once there is a commit past those that this client has seen. @returns {Promise<number>} */
   async wait() {
-    return Number((await this.#ask("wait")).replace("current ", ""));
+    return Number((await this.#ask("wait", "")).replace("current ", ""));
   }
 
   /** A line with one reply, as `begin` and `go`. @param {string} line @returns {Promise<Answer | string>} */
   async raw(line) {
     if (/^\s*(#|$|(watch|sync|wait)(\s|$))/.test(line)) throw new NotSent("this line has no reply, or several", line);
-    return this.#ask(line);
+    return this.#ask("", line);
   }
 
   /** Ends the session, behind the answers to what was sent; a `wait` is given up. @returns {Promise<void>} */
@@ -197,17 +198,16 @@ export class Client {
     return this.#asked.at(-1)?.line === "wait";
   }
 
-  async #ask(line, name, call) {
-    const octets = Buffer.from(`${line}\n`);
+  async #ask(verb, body, name, call) {
+    const line = `${verb}${body}`;
     const named = name === undefined || /^[a-z][a-z0-9_]{0,31}$/.test(name);
-    if (!named || !line.isWellFormed() || line.includes("\n") || octets.length > LONGEST_LINE + 1) {
-      throw new NotSent("not a line of at most 4,096 bytes, or with a name that is none", line);
-    }
+    const fits = typeof body === "string" && /^[^\n\p{Cs}]*$/u.test(line) && Buffer.byteLength(line) <= LONGEST_LINE;
+    if (!named || !fits) throw new NotSent("not a line of at most 4,096 bytes, or with a name that is none", line);
     if (this.#gone) throw new Lost(`not sent: ${this.#gone}`, line);
     if (this.#waits()) throw new NotSent("this client waits", line);
     const replies = await new Promise((resolve, reject) => {
       this.#asked.push({ line, name, call, replies: [], resolve, reject });
-      this.#socket.write(octets);
+      this.#socket.write(`${line}\n`);
     });
     const last = replies.at(-1);
     if (last.outcome && last.name) this.#calls.set(name, call);

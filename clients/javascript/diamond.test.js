@@ -6,6 +6,7 @@ import assert from "node:assert/strict";
 import { spawn } from "node:child_process";
 import { once } from "node:events";
 import net from "node:net";
+import { createInterface } from "node:readline";
 import { test } from "node:test";
 import { setTimeout as sleep } from "node:timers/promises";
 import { fileURLToPath } from "node:url";
@@ -22,8 +23,8 @@ async function start(sessions, ...words) {
   let output = "";
   server.stdout.on("data", (said) => (output += said));
   const ended = once(server, "close").then(([status]) => ({ status, output }));
-  const [said] = await once(server.stderr, "data");
-  const found = /^diamond: listening at 127\.0\.0\.1:(\d+)\n$/.exec(said);
+  const [said] = await once(createInterface(server.stderr), "line");
+  const found = /^diamond: listening at 127\.0\.0\.1:(\d+)$/.exec(said);
   if (!found) server.kill("SIGKILL");
   assert.ok(found, `${PROGRAM} said: ${said}`);
   return { server, port: Number(found[1]), ended };
@@ -105,6 +106,8 @@ test("aborts are read", async () => {
     ['hash("h") at "7" base 3 clash put "7" " commit 9" commit 4', ["hash", "h"], ["at", "7"], 3, ["put", "7", " commit 9"], 4],
     ['list("l") at 7 base 3 clash remove "\xff" commit 4', ["list", "l"], ["at", 7], 3, ["remove", Buffer.from([255])], 4],
     ['list("l") all base 3 clash push "x" commit 12', ["list", "l"], ["all"], 3, ["push", "x"], 12],
+    ['peak("p") is 61 base 5 clash raise 9223372036854775807 commit 6', ["peak", "p"], ["is", 61], 5, ["raise", 2n ** 63n - 1n], 6],
+    ['peak("p") over -60 base 4 clash raise -59 commit 5', ["peak", "p"], ["over", -60], 4, ["raise", -59], 5],
   ];
   for (const [reply, address, observation, base, part, commit] of rows) {
     await answering(`abort ${reply}\n`, async (client) => {
@@ -159,6 +162,29 @@ test("an abort says all", () =>
     const facts = { address: ["counter", "tickets"], observation: ["whole"], base: 1, part: ["put", 9], commit: 2, line: "go" };
     await assert.rejects(two.raw("go"), (fault) => fault instanceof Aborted && (assert.deepEqual({ ...fault }, { name: "Aborted", ...facts }), true));
     assert.deepEqual(await two.tryTimes(3, `${less} emit counter("tickets").get();`), { number: 3, outcome: "ok", items: [8] });
+  }));
+
+test("a peak disturbs whom it must", () =>
+  served(3, async (one, two, screen) => {
+    const told = [];
+    const most = 2n ** 63n - 1n;
+    await screen.watch("high", body`emit peak("p").over(${9});`, ({ items }) => told.push(...items));
+    for (const [client, read] of [[one, 'emit peak("p").over(9);'], [two, 'emit peak("p").get();']]) {
+      await client.raw(`begin ${read}`);
+      assert.equal(await client.raw("step"), 'read peak("p") base 0');
+    }
+    await screen.do(body`peak("p").raise(${9});`);
+    assert.deepEqual(await one.raw("go"), { number: 2, outcome: "ok", items: [false] });
+    const address = ["peak", "p"];
+    await assert.rejects(two.raw("go"), { name: "Aborted", address, observation: ["is", 0], base: 0, part: ["raise", 9], commit: 1 });
+    await one.raw('begin emit peak("p").over(9);');
+    await one.raw("step");
+    assert.deepEqual([await screen.sync(), told], [2, [false]]);
+    await screen.do(body`peak("p").raise(${most});`);
+    await assert.rejects(one.raw("go"), { name: "Aborted", address, observation: ["over", 9], base: 2, part: ["raise", most], commit: 3 });
+    await screen.do(body`peak("p").raise(${10});`);
+    assert.deepEqual([await screen.sync(), told], [4, [false, true]]);
+    assert.deepEqual((await screen.look('emit peak("p").get();')).items, [most]);
   }));
 
 test("refusals name their cause and column", () =>
@@ -341,20 +367,28 @@ test("bad input is not sent", () =>
   served(1, async (client) => {
     const fitting = "emit 1;".padEnd(4096 - "do ".length);
     const rows = [
+      () => client.do(),
+      () => client.do(7),
+      () => client.do(Buffer.from("emit 1;")),
       () => client.do("emit 1;\nemit 2;"),
       () => client.do(`${fitting} `),
       () => client.do(`emit "${"é".repeat(2048)}";`),
       () => client.do('emit "\ud800";'),
       () => client.look("emit 1;", { at: -1 }),
       () => client.look("emit 1;", { at: 1.5 }),
+      () => client.look("emit 1;", { at: "1" }),
       () => client.tryTimes(0, "emit 1;"),
       () => client.tryTimes(17, "emit 1;"),
+      () => client.tryTimes("3", "emit 1;"),
       () => client.watch("Seats", "emit 1;", nothing),
       () => client.watch("a b", "emit 1;", nothing),
       () => client.watch("", "emit 1;", nothing),
       () => client.watch("a\n", "emit 1;", nothing),
       () => client.watch("a".repeat(33), "emit 1;", nothing),
+      () => client.watch(undefined, "emit 1;", nothing),
+      () => client.watch("a", "emit 1;"),
       () => client.unwatch(undefined),
+      () => client.raw(),
       () => client.raw(""),
       () => client.raw(" \t"),
       () => client.raw("# do emit 1;"),

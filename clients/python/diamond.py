@@ -22,7 +22,7 @@ _BYTES = ("utf-8", "surrogateescape")
 _LINE = re.compile(r"[^\n\ud800-\udc7f\udd00-\udfff]*")
 _TEXT = r'"[^"\\]*(?:\\.[^"\\]*)*"'
 _TOKEN = re.compile(rf"\[(?:{_TEXT}(?:,{_TEXT})*)?\]|{_TEXT}|-?[0-9]+|[a-z]+")
-_ABORT = re.compile(rf"abort ([a-z]+)\(({_TEXT})\) ([a-z]+(?: [0-9]+| {_TEXT})?) base (\d+) clash (.+) commit (\d+)")
+_ABORT = re.compile(rf"abort ([a-z]+)\(({_TEXT})\) ([a-z]+(?: -?[0-9]+| {_TEXT})?) base (\d+) clash (.+) commit (\d+)")
 
 
 class Error(Exception):
@@ -156,23 +156,23 @@ class Client(contextlib.AbstractContextManager):
 
     def try_(self, times: int, body: str, *values: Value) -> Answer:
         """The same, and anew after each abort, 1 to 16 times at most."""
-        if times not in range(1, 17):
+        if not (isinstance(times, int) and 1 <= times <= 16):
             raise NotSent(f"not a number of times from 1 to 16: {times}", body)
         return self._ask(f"try {times:d} {fill(body, *values)}")
 
     def look(self, body: str, *values: Value, at: int | None = None) -> Answer:
         """Runs a body that only reads, on all commits or on the first `at`."""
-        if at is not None and at not in range(2**64):
+        if not (at is None or isinstance(at, int) and 0 <= at < 2**64):
             raise NotSent(f"not a number of commits: {at}", body)
         return self._ask(f"{'look' if at is None else f'at {at:d}'} {fill(body, *values)}")
 
     def watch(self, name: str, body: str, *values: Value, call: Callable[[Answer], Any]) -> Answer:
         """Keeps a body that only reads as a watch, and calls with each report; the first is answered, too."""
-        return self._ask(f"watch {name} {fill(body, *values)}", name, call)
+        return self._ask(f"watch {name} {fill(body, *values)}", str(name), call)
 
     def unwatch(self, name: str) -> None:
         """Forgets the watch."""
-        self._ask(f"unwatch {name}", name)
+        self._ask(f"unwatch {name}", str(name))
 
     def sync(self) -> int:
         """Calls with a report of each watch that was touched. All watches hold on as many commits as it answers."""

@@ -5,7 +5,9 @@ Each test serves sessions of its own, as many as it connects, and the server has
 import contextlib
 import os
 import pathlib
+import pty
 import re
+import select
 import signal
 import socket
 import subprocess
@@ -132,6 +134,8 @@ class Replies(unittest.TestCase):
             (b'hash("h") at "7" base 3 clash put "7" " commit 9" commit 4', ("hash", "h"), ("at", "7"), 3, ("put", "7", " commit 9"), 4),
             (b'list("l") at 7 base 3 clash remove "\xff" commit 4', ("list", "l"), ("at", 7), 3, ("remove", "\udcff"), 4),
             (b'list("l") all base 3 clash push "x" commit 12', ("list", "l"), ("all",), 3, ("push", "x"), 12),
+            (b'peak("p") is 61 base 5 clash raise 9223372036854775807 commit 6', ("peak", "p"), ("is", 61), 5, ("raise", 2**63 - 1), 6),
+            (b'peak("p") over -60 base 4 clash raise -59 commit 5', ("peak", "p"), ("over", -60), 4, ("raise", -59), 5),
         ]
         for reply, *facts in rows:
             with answering(b"abort " + reply + b"\n") as client, self.assertRaises(diamond.Aborted) as caught:
@@ -203,6 +207,32 @@ class Sessions(unittest.TestCase):
         fault = caught.exception
         self.assertEqual((fault.address, fault.observation, fault.base), (("counter", "tickets"), ("whole",), 1))
         self.assertEqual((fault.part, fault.commit, fault.line), (("put", 9), 2, "go"))
+
+    def test_a_peak_disturbs_whom_it_must(self):
+        told = []
+        with served(3) as port, connect(port) as one, connect(port) as two, connect(port) as screen:
+            screen.watch("high", 'emit peak("p").over(?);', 9, call=lambda report: told.extend(report.items))
+            for client, body in [(one, 'emit peak("p").over(9);'), (two, 'emit peak("p").get();')]:
+                client.raw(f"begin {body}")
+                self.assertEqual(client.raw("step"), 'read peak("p") base 0')
+            screen.do('peak("p").raise(?);', 9)
+            self.assertEqual(one.raw("go"), diamond.Answer(2, "ok", [False]))
+            with self.assertRaises(diamond.Aborted) as read:
+                two.raw("go")
+            one.raw('begin emit peak("p").over(9);')
+            one.raw("step")
+            self.assertEqual((screen.sync(), told), (2, [False]))
+            screen.do('peak("p").raise(?);', 2**63 - 1)
+            with self.assertRaises(diamond.Aborted) as over:
+                one.raw("go")
+            screen.do('peak("p").raise(?);', 10)
+            self.assertEqual((screen.sync(), told), (4, [False, True]))
+            self.assertEqual(screen.look('emit peak("p").get();').items, [2**63 - 1])
+        rows = [(read, ("is", 0), 0, ("raise", 9), 1), (over, ("over", 9), 2, ("raise", 2**63 - 1), 3)]
+        for caught, *facts in rows:
+            fault = caught.exception
+            self.assertEqual(fault.address, ("peak", "p"))
+            self.assertEqual([fault.observation, fault.base, fault.part, fault.commit], facts)
 
     def test_refusals_name_their_cause_and_column(self):
         rows = [
@@ -444,14 +474,19 @@ class Ends(unittest.TestCase):
             lambda client: client.do("emit \ud800;"),
             lambda client: client.look("emit 1;\n"),
             lambda client: client.look("emit 1;", at=-1),
+            lambda client: client.look("emit 1;", at=1.5),
+            lambda client: client.look("emit 1;", at="1"),
             lambda client: client.try_(0, "emit 1;"),
             lambda client: client.try_(17, "emit 1;"),
+            lambda client: client.try_(3.0, "emit 1;"),
             lambda client: client.watch("Seats", "emit 1;", call=print_nothing),
             lambda client: client.watch("a b", "emit 1;", call=print_nothing),
             lambda client: client.watch("", "emit 1;", call=print_nothing),
             lambda client: client.watch("a\n", "emit 1;", call=print_nothing),
             lambda client: client.watch("a" * 33, "emit 1;", call=print_nothing),
+            lambda client: client.watch(None, "emit 1;", call=print_nothing),
             lambda client: client.unwatch("1st"),
+            lambda client: client.unwatch(None),
             lambda client: client.raw(""),
             lambda client: client.raw(" \t"),
             lambda client: client.raw("# do emit 1;"),
@@ -468,6 +503,29 @@ class Ends(unittest.TestCase):
             self.assertEqual(client.watch("a" * 32, "emit 1;", call=print_nothing).name, "a" * 32)
         with self.assertRaises(diamond.Lost):
             client.do("emit 1;")
+
+
+class Terminal(unittest.TestCase):
+    def test_each_line_of_a_script_is_answered_as_it_is_typed(self):
+        ours, theirs = pty.openpty()
+        self.addCleanup(os.close, ours)
+        run = subprocess.Popen([PROGRAM, "run"], stdin=theirs, stdout=theirs, stderr=theirs)
+        os.close(theirs)
+        self.addCleanup(run.wait)
+        self.addCleanup(run.kill)
+        rows = [
+            ('1 do set("seats").add("A1");', "1 commit 1 ok"),
+            ('2 look emit set("seats").all();', '2 at 1 ok ["A1"]'),
+            ("2 sit", "2 refused verb"),
+        ]
+        for line, reply in rows:
+            os.write(ours, f"{line}\n".encode())
+            wanted, shown = f"{line}\r\n{reply}\r\n", ""
+            while len(shown) < len(wanted) and select.select([ours], [], [], 30)[0]:
+                shown += os.read(ours, 4096).decode()
+            self.assertEqual(shown, wanted)
+        os.write(ours, b"\x04")
+        self.assertEqual(run.wait(30), 0)
 
 
 class Audits(unittest.TestCase):
