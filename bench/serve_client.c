@@ -1,9 +1,10 @@
-// Sessions over the loopback, with `diamond serve` or with Redis. Each begins its next transaction when the reply to the last one
-// has come. A transaction adds 1 to the session's own counter, or reads a counter that all share and writes 1 more, with 16
-// tries at most. It prints how many were committed, how many ended by an abort, the seconds from the first message to the last
+// Sessions over the loopback, with `diamond serve` or with Redis. A transaction adds 1 to the session's own counter, or reads a
+// counter that all share and writes 1 more, with 16 tries at most. Each session has so many transactions in flight: it begins as
+// many at first, sent together, and for those whose replies one read has brought as many again. A raise of the shared counter is
+// alone in flight. It prints how many were committed, how many ended by an abort, the seconds from the first message to the last
 // reply, and how much of a processor this client took, in percent.
 //
-// usage: serve_client diamond|redis own|one SESSIONS TRANSACTIONS SECONDS PORT
+// usage: serve_client diamond|redis own|one SESSIONS IN_FLIGHT TRANSACTIONS SECONDS PORT
 #include <arpa/inet.h>
 #include <netinet/tcp.h>
 #include <poll.h>
@@ -17,19 +18,23 @@
 #include <time.h>
 #include <unistd.h>
 
-enum { MOST_SESSIONS = 64, MOST_TRIES = 16, ROOM = 1024, PATIENCE_MILLISECONDS = 10000 };
+enum { MOST_SESSIONS = 64, MOST_IN_FLIGHT = 64, MOST_TRIES = 16, ROOM = 4096, PATIENCE_MILLISECONDS = 10000 };
 
 enum outcome { UNFINISHED, COMMITTED, ABORTED };
 
 struct session {
     int number;
+    int in_flight; // how many transactions have begun and not ended
     int tries;
     bool has_read; // with Redis, on the shared counter: the last message was the one that writes
-    size_t length;
-    char reply[ROOM]; // as much of it as has come, and a zero
+    size_t to_send;
+    char messages[ROOM];
+    size_t from, to;
+    char replies[ROOM]; // what has come and isn't told yet lies between the two places, and a zero behind it
 };
 
 static bool with_redis, is_shared;
+static int most_in_flight;
 static long most_transactions;
 static double deadline;
 
@@ -64,16 +69,20 @@ static int connected(int port) {
     return link;
 }
 
-// Sends a message at once, and forgets the last reply.
+// Adds a message to those that are to be sent.
 static void say(struct session *session, const char *format, ...) {
-    char message[ROOM];
     va_list parts;
     va_start(parts, format);
-    int length = vsnprintf(message, sizeof message, format, parts);
+    session->to_send += vsnprintf(session->messages + session->to_send, ROOM - session->to_send, format, parts);
     va_end(parts);
-    session->length = 0;
-    session->reply[0] = 0;
-    if (send(links[session->number].fd, message, length, MSG_NOSIGNAL) != length) fail("this was not sent:", message);
+    if (session->to_send >= ROOM) fail("there is no room for", "a message");
+}
+
+static void send_messages(struct session *session) {
+    ssize_t length = session->to_send;
+    if (length > 0 && send(links[session->number].fd, session->messages, length, MSG_NOSIGNAL) != length)
+        fail("this was not sent:", session->messages);
+    session->to_send = 0;
 }
 
 // Says the first message of a transaction.
@@ -89,14 +98,17 @@ static void begin(struct session *session) {
         say(session, "do counter(\"x%02d\").add(1);\n", session->number);
 }
 
-// Begins the next transaction, if there is to be one. Else it closes the link.
-static void begin_next(struct session *session) {
-    if (begun < most_transactions && now() < deadline) {
+// Begins transactions until so many are in flight as are to be, or there are to be no more, and sends what was said. With none in
+// flight it closes the link.
+static void go_on(struct session *session) {
+    while (session->in_flight < most_in_flight && begun < most_transactions && now() < deadline) {
         begun++;
+        session->in_flight++;
         session->tries = 1;
         begin(session);
-        return;
     }
+    send_messages(session);
+    if (session->in_flight > 0) return;
     close(links[session->number].fd);
     links[session->number].fd = -1; // poll passes over it
     running--;
@@ -104,9 +116,11 @@ static void begin_next(struct session *session) {
 
 static bool begins(const char *text, const char *with) { return strncmp(text, with, strlen(with)) == 0; }
 
-// The line at a place of the reply, or NULL where it hasn't come whole.
+static const char *first_reply(const struct session *session) { return session->replies + session->from; }
+
+// The line at a place of what has come, or NULL where it hasn't come whole.
 static const char *line_at(const struct session *session, int place) {
-    const char *line = session->reply;
+    const char *line = first_reply(session);
     for (;;) {
         const char *newline = strchr(line, '\n');
         if (newline == NULL || place == 0) return newline == NULL ? NULL : line;
@@ -115,17 +129,26 @@ static const char *line_at(const struct session *session, int place) {
     }
 }
 
-static enum outcome diamond_outcome(const struct session *session) {
-    if (line_at(session, 0) == NULL) return UNFINISHED;
-    if (begins(session->reply, "commit ") && strstr(session->reply, " ok\n") != NULL) return COMMITTED;
-    if (begins(session->reply, "abort ") || begins(session->reply, "late ")) return ABORTED;
-    fail("this is no end of an attempt:", session->reply);
+// So many lines, which have come whole, are told.
+static void drop_lines(struct session *session, int count) {
+    for (; count > 0; count--) session->from = strchr(first_reply(session), '\n') + 1 - session->replies;
+}
+
+static enum outcome diamond_outcome(struct session *session) {
+    const char *reply = line_at(session, 0);
+    if (reply == NULL) return UNFINISHED;
+    drop_lines(session, 1);
+    if (begins(reply, "commit ") && begins(first_reply(session) - 4, " ok\n")) return COMMITTED;
+    if (begins(reply, "abort ") || begins(reply, "late ")) return ABORTED;
+    fail("this is no end of an attempt:", reply);
     return UNFINISHED;
 }
 
-static enum outcome redis_added(const struct session *session) {
-    if (line_at(session, 0) == NULL) return UNFINISHED;
-    if (session->reply[0] != ':') fail("this is no reply to INCR:", session->reply);
+static enum outcome redis_added(struct session *session) {
+    const char *reply = line_at(session, 0);
+    if (reply == NULL) return UNFINISHED;
+    if (reply[0] != ':') fail("this is no reply to INCR:", reply);
+    drop_lines(session, 1);
     return COMMITTED;
 }
 
@@ -135,6 +158,7 @@ static enum outcome redis_read(struct session *session) {
     const char *value = line_at(session, 2);
     if (value == NULL) return UNFINISHED;
     int length = snprintf(text, sizeof text, "%ld", atol(value) + 1);
+    drop_lines(session, 3);
     session->has_read = true;
     say(session, "*1\r\n$5\r\nMULTI\r\n*3\r\n$3\r\nSET\r\n$3\r\nx00\r\n$%d\r\n%s\r\n*1\r\n$4\r\nEXEC\r\n", length, text);
     return UNFINISHED;
@@ -144,8 +168,13 @@ static enum outcome redis_read(struct session *session) {
 static enum outcome redis_written(struct session *session) {
     const char *executed = line_at(session, 2);
     if (executed == NULL) return UNFINISHED;
-    if (begins(executed, "*1\r")) return line_at(session, 3) == NULL ? UNFINISHED : COMMITTED;
-    if (!begins(executed, "*-1\r")) fail("this is no reply to EXEC:", session->reply);
+    if (begins(executed, "*1\r")) {
+        if (line_at(session, 3) == NULL) return UNFINISHED;
+        drop_lines(session, 4);
+        return COMMITTED;
+    }
+    if (!begins(executed, "*-1\r")) fail("this is no reply to EXEC:", executed);
+    drop_lines(session, 3);
     if (session->tries == MOST_TRIES) return ABORTED;
     session->tries++;
     begin(session);
@@ -159,20 +188,23 @@ static enum outcome outcome_of(struct session *session) {
 }
 
 static void receive(struct session *session) {
-    char *free_room = session->reply + session->length;
-    ssize_t count = read(links[session->number].fd, free_room, ROOM - 1 - session->length);
-    if (count <= 0) fail("the link ended behind:", session->reply);
-    session->length += count;
-    session->reply[session->length] = 0;
-    enum outcome outcome = outcome_of(session);
-    if (outcome == UNFINISHED) return;
-    commits += outcome == COMMITTED;
-    aborts += outcome == ABORTED;
-    begin_next(session);
+    ssize_t count = read(links[session->number].fd, session->replies + session->to, ROOM - 1 - session->to);
+    if (count <= 0) fail("the link ended behind:", first_reply(session));
+    session->to += count;
+    session->replies[session->to] = 0;
+    for (enum outcome outcome; (outcome = outcome_of(session)) != UNFINISHED;) {
+        commits += outcome == COMMITTED;
+        aborts += outcome == ABORTED;
+        session->in_flight--;
+    }
+    session->to -= session->from;
+    memmove(session->replies, first_reply(session), session->to + 1);
+    session->from = 0;
+    go_on(session);
 }
 
 static void run(int count) {
-    for (int number = 0; number < count; number++) begin_next(&sessions[number]);
+    for (int number = 0; number < count; number++) go_on(&sessions[number]);
     while (running > 0) {
         if (poll(links, count, PATIENCE_MILLISECONDS) <= 0) fail("there is no", "reply");
         for (int number = 0; number < count; number++)
@@ -181,18 +213,20 @@ static void run(int count) {
 }
 
 int main(int arguments, char **argument) {
-    if (arguments != 7) fail("usage:", "serve_client diamond|redis own|one SESSIONS TRANSACTIONS SECONDS PORT");
+    if (arguments != 8) fail("usage:", "serve_client diamond|redis own|one SESSIONS IN_FLIGHT TRANSACTIONS SECONDS PORT");
     with_redis = strcmp(argument[1], "redis") == 0;
     is_shared = strcmp(argument[2], "one") == 0;
     running = atoi(argument[3]);
-    most_transactions = atol(argument[4]);
+    most_in_flight = atoi(argument[4]);
+    most_transactions = atol(argument[5]);
     if (running < 1 || running > MOST_SESSIONS) fail("there can't be so many sessions:", argument[3]);
+    if (most_in_flight < 1 || most_in_flight > (is_shared ? 1 : MOST_IN_FLIGHT)) fail("there can't be so many in flight:", argument[4]);
     for (int number = 0; number < running; number++) {
         sessions[number].number = number;
-        links[number] = (struct pollfd){.fd = connected(atoi(argument[6])), .events = POLLIN};
+        links[number] = (struct pollfd){.fd = connected(atoi(argument[7])), .events = POLLIN};
     }
     double start = now();
-    deadline = start + atof(argument[5]);
+    deadline = start + atof(argument[6]);
     run(running);
     double seconds = now() - start;
     printf("%ld %ld %.6f %.0f\n", commits, aborts, seconds, 100 * processor_seconds() / seconds);
