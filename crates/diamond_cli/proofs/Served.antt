@@ -38,10 +38,11 @@ no-clients kept none = subst AreClients (sym none) (λ k d within. absurd (omega
 pub none-follow : (kept : Journal) → kept ≡ [] → IsLawful Follows (length kept) kept
 none-follow kept none = subst (λ (j : Journal). IsLawful Follows (length j) j) (sym none) tt
 
--- the settings of a first pass are those of its store
+-- the settings of a first pass are those of its store, which took its first commits on trust
 first-set : (base : ℕ) (front : tokens.Known Commit) (settings : Settings) (first : Passed) → IsFirst base front settings first
-    → setting_of (known_of first) ≡ record { shards = settings.shards; window = settings.window; limit = settings.limit }
-first-set base front settings first is = rw (is.shards, is.window, is.limit) refl
+    → base ≡ length front.seen → setting_of (known_of first)
+    ≡ record { trusted = length front.seen; shards = settings.shards; window = settings.window; limit = settings.limit }
+first-set base front settings first is whole = rw (is.trusted ∙ whole, is.shards, is.window, is.limit) refl
 
 -- clients that are below a number are below a greater one
 below-more : (low more : ℕ) (kept : Journal) → NamesBelow client_of low kept → All (λ (commit : Commit). commit.client < low + more) kept
@@ -60,7 +61,7 @@ has-served told settings sessions first named g tally journal base after origin 
       pass = last;
       low = named + joined.draws;
       high = named + last.draws;
-      set = ap (λ (p : Passed). setting_of (known_of p)) learns.rest ∙ first-set base front settings joined is;
+      set = ap (λ (p : Passed). setting_of (known_of p)) learns.rest ∙ first-set base front settings joined is whole;
       served = served;
       knows = subst (λ (j : Journal). IsPrefix j last.journal) is.journal learns.begins;
       begins = begins;

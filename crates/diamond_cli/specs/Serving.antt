@@ -30,14 +30,15 @@ IsAmong statuses status = IsTrue (list_any (λ s. s == status) statuses)
 -- ---- the links
 
 -- WHAT CAME OF THE LINKS, of a store that began with the commits `kept`: its journal at its end begins with them and is legal, with
--- nothing but them taken on trust; and one prefix of it explains the sessions of all links, under these settings. The keeper's count of
--- faults was `before` when the store was made, and is `after` at its end.
+-- nothing but them taken on trust; and one prefix of it explains the sessions of all links, under these settings, by which none of the
+-- commits that were kept is a hold. The keeper's count of faults was `before` when the store was made, and is `after` at its end.
 pub record HasServed {L : Type 0} (told : L → Both) (settings : Settings) (sessions : ℕ) (g : Gatherings L) (kept : Journal) (before after : ℕ)
     (tally : Tally) (journal : Journal) : Type 0 where
   pub pass : Passed  -- what was known of the store when all sessions had ended
   pub low : ℕ  -- the links' clients have numbers from `low` to below `high`
   pub high : ℕ
-  pub set : setting_of (known_of pass) ≡ record { shards = settings.shards; window = settings.window; limit = settings.limit }
+  pub set : setting_of (known_of pass)
+      ≡ record { trusted = length kept; shards = settings.shards; window = settings.window; limit = settings.limit }
   pub served : ServedAll told pass low high sessions g tally
   pub knows : IsPrefix kept pass.journal
   pub begins : IsPrefix pass.journal journal

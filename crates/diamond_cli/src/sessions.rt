@@ -5,7 +5,7 @@ ghost use Rattle.plain_data.specs.Histories.{IsLawful};
 ghost use Rattle.history_lock.specs.Entries.{NamesBelow};
 ghost use Rattle.diamond_store.specs.Appending.{client_of};
 ghost use Rattle.diamond_store.specs.Following.{Follows};
-ghost use Rattle.diamond_store.specs.Numbers.{faults_in, home_in, HasSettings};
+ghost use Rattle.diamond_store.specs.Numbers.{faults_in, from_in, home_in, HasSettings};
 ghost use Rattle.diamond_store.specs.Opening.{AreClients};
 ghost use Rattle.diamond_server.specs.Promises.{sides};
 ghost use Rattle.diamond_server.specs.Accounts.{gatherings};
@@ -43,6 +43,7 @@ fn serve_over<Li: Listener, K: Keep + Send, N: Naming + Send + Sync, R: Threads 
     requires lock { opened.lock ≡ N.lock }
     requires settings { HasSettings opened.lock.origin settings.now }
     requires author { opened.front.author ≡ None }
+    requires from { from_in opened.lock.origin ≡ opened.lock.base }
     requires base { opened.lock.base ≡ length opened.front.seen }
     requires lawful { IsLawful Follows (length opened.front.seen) opened.front.seen }
     requires clients { NamesBelow client_of opened.lock.first opened.front.seen }

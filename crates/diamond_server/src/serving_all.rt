@@ -141,7 +141,8 @@ fn run_all<
     Ok((join_all(rt, alloc, store, pass, begun)?, failed))
 }
 
-/// Accepts up to so many links, and begins a session of each. There is room for a link before it is accepted, so none is lost.
+/// Accepts up to so many links, and begins a session of each. There is memory for all of them before the first is accepted, so none
+/// is lost.
 fn accept_all<
     's,
     'e: 's,
@@ -166,7 +167,7 @@ fn accept_all<
         (gatherings Li.Listener listener.old listener.new) r.0.items r.1) }
 {
     let _seen = pass.seen();
-    let mut begun = Vec::new(alloc);
+    let mut begun = Vec::with_capacity(alloc, sessions as usize)?;
     for _turn in 0..sessions {
         begun.reserve(1)?;
         match listener.accept() {
@@ -221,7 +222,7 @@ fn join_all<L: End + Drop, K: Keep, G: Gate + Drop, N: Naming, R: Threads>(
     ensures near { IfOk result (λ ended. All (IsNear pass.new) ended.items) }
 {
     let _seen = pass.seen();
-    let mut all = Vec::new(alloc);
+    let mut all = Vec::with_capacity(alloc, begun.len())?;
     for session in begun {
         let mut ended = session.join(rt);
         ended.lend(store, pass);

@@ -1,5 +1,5 @@
 -- What an append is answered, from what the journal decided.
-use Rattle.std.proofs.Common.{◌≡◌, ℕ, ◌+◌, ◌≤◌, ◌<◌, ◌==◌, Bool, true, false, cond, List, [], ◌∷◌, ◌++◌, length, Result, inl, inr}
+use Rattle.std.proofs.Common.{◌≡◌, ℕ, ◌+◌, ◌≤◌, ◌<◌, ◌==◌, Bool, true, false, cond, List, [], ◌∷◌, ◌++◌, length, None, Result, inl, inr}
 use Rattle.std.proofs.Common.{refl, sym, ap, ◌∙◌, subst, arith}
 use Rattle.std.specs.Prelude.{nat_lt}
 use Rattle.std.proofs.lemmas.List.{length-append}
@@ -14,9 +14,12 @@ use Rattle.rdt_types.specs.declared.settings.Settings.{Settings}
 use Rattle.txn_lang.specs.declared.commit.Commit.{Commit}
 use Rattle.txn_lang.specs.States.{Journal}
 use Rattle.txn_lang.specs.Journals.{own}
+use Rattle.journal_core.specs.declared.hold.Barred.{Barred}
 use Rattle.journal_core.specs.declared.ready.Ready.{Ready}
+use Rattle.journal_core.specs.Holds.{bars}
 use Rattle.journal_core.specs.Pairs.{pairs}
 use Rattle.journal_core.specs.Readies.{made_of}
+use Rattle.journal_core.proofs.Holding.{barred-within}
 use Rattle.docc_prepare.specs.Attempts.{ready_of}
 use Rattle.docc_prepare.specs.Calls.{Call, Answer, is_fault}
 use Rattle.docc_prepare.specs.Backends.{CanAppend, IsAnswered, Gives, Shows, Row, OwnRow, subscribed_after, taken_after, denied_after, KnowsDenials}
@@ -30,10 +33,10 @@ use Rattle.diamond_store.specs.Appending.{Adds}
 use Rattle.diamond_store.specs.Books.{denials_after}
 use Rattle.diamond_store.specs.Decided.{answer_of, append_answered}
 use Rattle.diamond_store.specs.Following.{Follows}
-use Rattle.diamond_store.specs.Numbers.{shards_in, limit_in}
+use Rattle.diamond_store.specs.Numbers.{shards_in, limit_in, from_in}
 use Rattle.diamond_store.specs.Owing.{IsOwed}
 use Rattle.diamond_store.specs.Passes.{Passed, passed, known_of, is_in, IsPass}
-use Rattle.diamond_store.specs.Settling.{IsClear, Settles}
+use Rattle.diamond_store.specs.Settling.{IsClear, IsUnbarred, Settles}
 use Rattle.diamond_store.proofs.Sound.{lawful-sound}
 use Rattle.diamond_store.proofs.Prefixes.{length-prefix}
 use Rattle.diamond_store.proofs.Known.{Grows, answered, front-of}
@@ -85,7 +88,8 @@ rose-by-one known entered now up is most = by (entered == last_count) refl
 
 module _ (numbers : List ℕ) (m client : ℕ) (old new : tokens.Known Commit) (s taken : ℕ) (settings : Settings)
     (pass : IsPass numbers client old s taken settings) (subscribed : List Address) (denied : ℕ)
-    (ready : Ready) (mine : ready.client ≡ client) (owed : IsOwed (shards_in numbers) old.seen ready) (lawful : IsLawful Follows m new.seen) where
+    (ready : Ready) (mine : ready.client ≡ client) (owed : IsOwed (shards_in numbers) old.seen ready) (lawful : IsLawful Follows m new.seen)
+    (from : from_in numbers ≡ m) where
   -- the pass before the call
   abbrev before : Passed
   before = passed m client old s subscribed taken denied settings
@@ -93,6 +97,12 @@ module _ (numbers : List ℕ) (m client : ℕ) (old new : tokens.Known Commit) (
   -- the pass after it, which has seen all
   abbrev after : ℕ → Passed
   after denied' = passed m client new (length new.seen) subscribed taken denied' settings
+
+  -- what bars by the numbers that the store keeps is what bars the pass
+  bars-mine : (journal : Journal) → bars m journal client ready.run.deltas ≡ bars (from_in numbers) journal ready.client ready.run.deltas
+  bars-mine journal =
+      ap (λ (n : ℕ). bars n journal client ready.run.deltas) (sym from)
+      ∙ ap (λ (c : ℕ). bars (from_in numbers) journal c ready.run.deltas) (sym mine)
 
   module _ (d : Decision) (adds : Adds m numbers old ready d new) where
     -- the journal as it was when its lock was taken
@@ -112,6 +122,10 @@ module _ (numbers : List ℕ) (m client : ℕ) (old new : tokens.Known Commit) (
     -- without a clash past the fronts no commit clashes
     clear_then : IsClear (shards_in numbers) ready journal → pairs ready.based journal ≡ []
     clear_then = all-clear m (shards_in numbers) journal ready owed_then adds.sound
+
+    -- what bars not then bars not in a journal that stayed
+    unbarred-stays : IsUnbarred (from_in numbers) ready journal → new.seen ≡ journal → bars m new.seen client ready.run.deltas ≡ None
+    unbarred-stays free same = bars-mine new.seen ∙ ap (λ (j : Journal). bars (from_in numbers) j ready.client ready.run.deltas) same ∙ free
 
     -- the counts know no less
     denials-up : adds.entered.count ≤ new.count → old.count ≤ new.count
@@ -157,8 +171,8 @@ module _ (numbers : List ℕ) (m client : ℕ) (old new : tokens.Known Commit) (
         answered before (after denied) (grows denied (stays same) (omega arith)) (Call.append ready) a fine told tak den
         (denials (denials-up (omega arith))) gives shows row (own_row (own-stays same))
 
-  -- by the decision: a clash names the journal's least pair, a full journal and a denial have none, and else the commit stands at
-  -- the journal's end
+  -- by the decision: a clash names the journal's least pair, a hold is one that bars, a full journal and a denial have neither, and
+  -- else the commit stands at the journal's end
   pub was-appended : (known knows : ℕ) (d : Decision) → Adds m numbers old ready d new → new.count ≤ last_count
       → IsAnswered (known_of before) (Call.append ready) (append_answered (answer_of d known knows)) (known_of (after (denials_after denied d)))
   was-appended known knows (decision.Clash witness) adds most =
@@ -173,54 +187,73 @@ module _ (numbers : List ℕ) (m client : ℕ) (old new : tokens.Known Commit) (
         least = ap (λ (j : Journal). least_witness ready.based j) same ∙ least;
         seen = subst (λ (j : Journal). witness.number ≤ length j) (sym same) within.0;
       }) (λ own. own)
+  was-appended known knows (decision.Held barred) adds most =
+      let d = decision.Held barred in
+      let journal = adds.entered.seen in
+      let same = adds.settles.2 in
+      let held = bars-mine journal ∙ adds.settles.1 in
+      let within = barred-within m journal client ready.run.deltas barred adds.sound.orderly.numbered held in
+      refused d adds (Answer.held barred.client barred.at) same adds.count refl (λ b. refl) refl refl (λ up. up) tt tt
+      (record {
+        clear = ap (λ (j : Journal). pairs ready.based j) same ∙ clear_then d adds adds.settles.0;
+        barred = ap (λ (j : Journal). bars m j client ready.run.deltas) same ∙ held;
+        seen = subst (λ (j : Journal). barred.at ≤ length j) (sym same) within;
+      }) (λ own. own)
   was-appended known knows (decision.Full told) adds most =
       let d = decision.Full told in
-      let same = adds.settles.3 in
+      let same = adds.settles.4 in
       refused d adds (Answer.full told) same adds.count refl (λ b. refl) refl refl (λ up. up) tt tt
       (record {
-        limit_is = adds.settles.1 ∙ sym pass.settings.limit;
-        seen = subst (λ (j : Journal). told ≤ length j) (sym same) (let a = adds.settles.1 in let b = adds.settles.2 in omega arith);
+        limit_is = adds.settles.2 ∙ sym pass.settings.limit;
+        seen = subst (λ (j : Journal). told ≤ length j) (sym same) (let a = adds.settles.2 in let b = adds.settles.3 in omega arith);
         clear = ap (λ (j : Journal). pairs ready.based j) same ∙ clear_then d adds adds.settles.0;
+        unbarred = unbarred-stays d adds adds.settles.1 same;
       }) (λ own. own)
   was-appended known knows decision.Denied adds most =
       let d = decision.Denied in
-      let same = adds.settles.1 in
+      let same = adds.settles.2 in
       let up : adds.entered.count ≤ new.count = one_more-up adds.entered.count new.count adds.count most in
       answered before (after (one_more denied)) (grows d adds (one_more denied) (stays d adds same) up) (Call.append ready) Answer.disk refl
       (λ b. refl) refl refl (rose-by-one old.count adds.entered.count new.count adds.later.count adds.count most) tt tt
-      (ap (λ (j : Journal). pairs ready.based j) same ∙ clear_then d adds adds.settles.0) (own-stays d adds same)
+      (record {
+        clear = ap (λ (j : Journal). pairs ready.based j) same ∙ clear_then d adds adds.settles.0;
+        unbarred = unbarred-stays d adds adds.settles.1 same;
+      }) (own-stays d adds same)
   was-appended known knows (decision.Number number) adds most =
       let d = decision.Number number in
       let journal = adds.entered.seen in
       let made = made_of journal ready in
-      let grown : new.seen ≡ journal ++ made ∷ [] = adds.settles.2 in
+      let grown : new.seen ≡ journal ++ made ∷ [] = adds.settles.3 in
       let long : length new.seen ≡ length journal + 1 = ap length grown ∙ length-append journal (made ∷ []) in
       answered before (after denied) (grows d adds denied (made ∷ [], sym grown) (omega (arith, adds.count))) (Call.append ready) (Answer.number number)
-      refl (λ b. refl) refl refl (denials-up d adds (omega (arith, adds.count))) tt (omega (arith, adds.settles.1)) (
+      refl (λ b. refl) refl refl (denials-up d adds (omega (arith, adds.count))) tt (omega (arith, adds.settles.2)) (
         refl,
         record {
           before = journal;
           grown = front-of old.seen journal adds.later.seen;
           same_own = own_then d adds;
           clear = clear_then d adds adds.settles.0;
-          numbered = adds.settles.1;
-          within = let n = adds.settles.1 in let room = adds.settles.3 in let limit = pass.settings.limit in omega arith;
+          unbarred = bars-mine journal ∙ adds.settles.1;
+          numbered = adds.settles.2;
+          within = let n = adds.settles.2 in let room = adds.settles.4 in let limit = pass.settings.limit in omega arith;
           added = grown;
         },
       ) tt
 
 -- what the journal settles goes on after the journal
-pub settled-grows : (shards limit : ℕ) (ready : Ready) (old : Journal) (d : Decision) (new : Journal) → Settles shards limit ready old d new → IsPrefix old new
-settled-grows shards limit ready old (decision.Number n) new s = (made_of old ready ∷ [], sym s.2)
-settled-grows shards limit ready old (decision.Clash w) new s = subst (IsPrefix old) (sym s.1) (IsPrefix-self old)
-settled-grows shards limit ready old (decision.Full l) new s = subst (IsPrefix old) (sym s.3) (IsPrefix-self old)
-settled-grows shards limit ready old decision.Denied new s = subst (IsPrefix old) (sym s.1) (IsPrefix-self old)
+pub settled-grows : (from shards limit : ℕ) (ready : Ready) (old : Journal) (d : Decision) (new : Journal)
+    → Settles from shards limit ready old d new → IsPrefix old new
+settled-grows from shards limit ready old (decision.Number n) new s = (made_of old ready ∷ [], sym s.3)
+settled-grows from shards limit ready old (decision.Clash w) new s = subst (IsPrefix old) (sym s.1) (IsPrefix-self old)
+settled-grows from shards limit ready old (decision.Held b) new s = subst (IsPrefix old) (sym s.2) (IsPrefix-self old)
+settled-grows from shards limit ready old (decision.Full l) new s = subst (IsPrefix old) (sym s.4) (IsPrefix-self old)
+settled-grows from shards limit ready old decision.Denied new s = subst (IsPrefix old) (sym s.2) (IsPrefix-self old)
 
 -- the pass that has seen all goes on being one
 pub pass-appended : (numbers : List ℕ) (m client : ℕ) (old new : tokens.Known Commit) (s taken n : ℕ) (settings : Settings) (ready : Ready) (d : Decision)
     → IsPass numbers client old s taken settings → Adds m numbers old ready d new → n ≡ length new.seen → IsPass numbers client new n taken settings
 pass-appended numbers m client old new s taken n settings ready d pass adds is =
-    let more = settled-grows (shards_in numbers) (limit_in numbers) ready adds.entered.seen d new.seen adds.settles in
+    let more = settled-grows (from_in numbers) (shards_in numbers) (limit_in numbers) ready adds.entered.seen d new.seen adds.settles in
     let first = length-prefix old.seen adds.entered.seen adds.later.seen in
     let second = length-prefix adds.entered.seen new.seen more in
     let within = pass.within in
@@ -235,16 +268,17 @@ pass-appended numbers m client old new s taken n settings ready d pass adds is =
 -- the same of numbers and an answer that are found to be those
 pub was-appended-at : (numbers : List ℕ) (m client : ℕ) (old new : tokens.Known Commit) (s taken n : ℕ) (settings : Settings)
     → (pass : IsPass numbers client old s taken settings) → (subscribed : List Address) (denied denied' : ℕ) (ready : Ready)
-    → CanAppend (known_of (passed m client old s subscribed taken denied settings)) ready → IsLawful Follows m new.seen → (known knows : ℕ) (d : Decision)
-    → Adds m numbers old ready d new → new.count ≤ last_count → (answer : Result ℕ StoreAppendError) → answer ≡ answer_of d known knows
+    → CanAppend (known_of (passed m client old s subscribed taken denied settings)) ready → IsLawful Follows m new.seen → from_in numbers ≡ m
+    → (known knows : ℕ) (d : Decision) → Adds m numbers old ready d new → new.count ≤ last_count → (answer : Result ℕ StoreAppendError) → answer ≡ answer_of d known knows
     → n ≡ length new.seen → denied' ≡ denials_after denied d
     → IsAnswered (known_of (passed m client old s subscribed taken denied settings)) (Call.append ready) (append_answered answer)
     (known_of (passed m client new n subscribed taken denied' settings))
-was-appended-at numbers m client old new s taken n settings pass subscribed denied denied' ready can lawful known knows d adds most answer is whole counted =
+was-appended-at numbers m client old new s taken n settings pass subscribed denied denied' ready can lawful from known knows d adds most answer is whole
+    counted =
     let p = passed m client old s subscribed taken denied settings in
     let mine : ready.client ≡ client = ap (λ (r : Ready). r.client) can.made in
     let owed = subst (λ (k : ℕ). IsOwed k old.seen ready) pass.settings.shards (owed-by p ready can) in
-    let here = was-appended numbers m client old new s taken settings pass subscribed denied ready mine owed lawful known knows d adds most in
+    let here = was-appended numbers m client old new s taken settings pass subscribed denied ready mine owed lawful from known knows d adds most in
     let seen = subst (λ (k : ℕ). IsAnswered (known_of p) (Call.append ready) (append_answered (answer_of d known knows))
     (known_of (passed m client new k subscribed taken (denials_after denied d) settings))) (sym whole) here in
     let denies = subst (λ (k : ℕ). IsAnswered (known_of p) (Call.append ready) (append_answered (answer_of d known knows))

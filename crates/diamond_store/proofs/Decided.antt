@@ -1,113 +1,82 @@
--- What the journal decides is what the store says of it, and a count of denials keeps to the keeper's count.
-use Rattle.std.proofs.Common.{◌≡◌, ℕ, ◌+◌, ◌≤◌, ◌<◌, ◌==◌, Bool, true, false, cond, [], ◌∷◌, ◌++◌, length, Result, Ok, Err}
+-- A book of holds goes on with its journal, and a count of denials keeps to the count of the keeper.
+use Rattle.std.proofs.Common.{◌≡◌, ℕ, ◌+◌, ◌≤◌, ◌==◌, Bool, true, false, cond, List, [], ◌∷◌, ◌++◌, length, Result, Ok, Err}
 use Rattle.std.proofs.Common.{inl, inr, refl, sym, ap, ◌∙◌, subst, arith}
-use Rattle.std.specs.Prelude.{OnOk, OnErr}
+use Rattle.std.specs.Prelude.{OnOk, Some, None, ◌&&◌, nat_lt, slice_get}
+use Rattle.std.proofs.lemmas.Bool.{and_parts}
 use Rattle.std.proofs.lemmas.Bool.Decides.{nat_tests}
-use Rattle.dio_core.specs.Counts.{one_more, last_count, Rose}
-use Rattle.abort_witness.specs.declared.witness.Found.{Found}
-use Rattle.abort_witness.specs.declared.witness.Witness.{Witness}
-use Rattle.abort_witness.specs.Kinds.{IsOfOneKind}
-use Rattle.journal_core.specs.declared.ready.Ready.{Ready}
-use Rattle.journal_core.specs.declared.appended.Appended.TheVariants as appended
+use Rattle.dio_core.specs.Counts.{one_more, last_count}
+use Rattle.txn_lang.specs.declared.commit.Commit.{Commit}
+use Rattle.txn_lang.specs.declared.run.Seen.{Seen}
 use Rattle.txn_lang.specs.States.{Journal}
-use Rattle.journal_core.specs.Journals.{Standing, Decides, found_past}
+use Rattle.journal_core.specs.declared.ready.Ready.{Ready}
+use Rattle.journal_core.specs.Holds.{says_hold, is_hold, observed_alone}
+use Rattle.journal_core.specs.Journals.{Standing, found_past, commit_at}
+use Rattle.journal_core.specs.Pairs.{AreNumbered}
 use Rattle.journal_core.specs.Readies.{made_of}
-use Rattle.journal_core.specs.Witnesses.{IsWitnessOf}
+use Rattle.journal_core.proofs.Witnessed.{commit-there}
+use Rattle.hold_core.specs.Books.{Holding, first_holding, with_commit, book_of}
+use Rattle.hold_core.proofs.Beside.{book-first, book-grows}
 use Rattle.diamond_store.specs.declared.decision.Decision.{Decision}
 use Rattle.diamond_store.specs.declared.decision.Decision.TheVariants as decision
-use Rattle.diamond_store.specs.Books.{denials_after, IsAtMostRise}
-use Rattle.diamond_store.specs.Settling.{CountsFaults, HasSettled, IsAsBefore}
+use Rattle.diamond_store.specs.Books.{denials_after, IsAtMostRise, IsBookOf}
+use Rattle.diamond_store.specs.Settling.{CanSettle, CountsFaults, IsEnteredWith}
 
--- what holds anyway holds at an error
-pub on_err : {A E : Type 0} (r : Result A E) (P : Type 0) → P → OnErr r P
-on_err (Ok a) P p = tt
-on_err (Err e) P p = p
-
--- and at a success
+-- what holds anyway holds at a success
 pub on_ok : {A E : Type 0} (r : Result A E) (P : Type 0) → P → OnOk r P
 on_ok (Ok a) P p = p
 on_ok (Err e) P p = tt
 
-module _ (ready : Ready) (old mid : Standing) (same : mid ≡ record old { room = mid.room }) where
-  -- what was made ready beforehand is memory alone, so the pair past the fronts is the same
-  found-same : found_past ready old ≡ found_past ready mid
-  found-same = sym (ap (λ (s : Standing). found_past ready s) same)
+-- a new book is that of the commits that are kept already
+pub book-opened : (kept journal : Journal) (book : Holding) (n : ℕ) → AreNumbered kept → journal ≡ kept → n ≡ length journal → book ≡ first_holding n
+    → IsBookOf book journal
+book-opened kept journal book n numbered same is first =
+    let at : book ≡ first_holding (length journal) = first ∙ ap first_holding is in
+    at
+    ∙ book-first journal (subst AreNumbered (sym same) numbered)
+    ∙ ap (λ (k : ℕ). book_of k journal) (sym (ap (λ (b : Holding). b.from) at))
 
-  -- and so is the room for one more
-  room-same : length mid.commits < mid.limit → length old.commits < old.limit
-  room-same room = subst (λ (s : Standing). length s.commits < s.limit) same room
+-- the last of a journal stands behind the others
+last-there : (journal : Journal) (commit : Commit) → slice_get (journal ++ commit ∷ []) (length journal) ≡ Some commit
+last-there [] commit = refl
+last-there (first ∷ journal) commit = last-there journal commit
 
-  -- a journal that stayed then is as before
-  pub as-before : (new : Standing) → new ≡ mid → IsAsBefore old new
-  as-before new stays = let all = stays ∙ same in record {
-    shards = ap (λ (s : Standing). s.shards) all;
-    limit = ap (λ (s : Standing). s.limit) all;
-    commits = ap (λ (s : Standing). s.commits) all;
-    faults = ap (λ (s : Standing). s.faults) all;
-    home = ap (λ (s : Standing). s.home) all;
-  }
+-- what a journal has at the number of its last commit is that one
+last-is : (journal grown : Journal) (last found : Commit) (number : ℕ) → grown ≡ journal ++ last ∷ [] → number ≡ length journal + 1
+    → Some found ≡ commit_at grown number → found ≡ last
+last-is journal grown last found number grows next there =
+    let behind : Journal = journal ++ last ∷ [] in
+    let at : commit_at behind number ≡ Some last = commit-there behind (length journal) number next ∙ last-there journal last in
+    let both : Some found ≡ Some last = there ∙ ap (λ (j : Journal). commit_at j number) grows ∙ at in
+    cc
 
-  -- the commit was added
-  pub by-number : (n : ℕ) (new : Standing) → Decides ready mid (appended.Number n) new → HasSettled ready old (decision.Number n) new
-  by-number n new d = record {
-    shards = ap (λ (s : Standing). s.shards) d.2 ∙ ap (λ (s : Standing). s.shards) same;
-    limit = ap (λ (s : Standing). s.limit) d.2 ∙ ap (λ (s : Standing). s.limit) same;
-    home = ap (λ (s : Standing). s.home) d.2 ∙ ap (λ (s : Standing). s.home) same;
-    settles = (
-      found-same ∙ d.0.clear,
-      d.1 ∙ ap (λ (s : Standing). length s.commits + 1) same,
-      ap (λ (s : Standing). s.commits) d.2 ∙ ap (λ (s : Standing). s.commits ++ made_of s.commits ready ∷ []) same,
-      room-same d.0.below,
-    );
-    counts = ap (λ (s : Standing). s.faults) d.2 ∙ ap (λ (s : Standing). s.faults) same;
-  }
+-- the book that is told of the last commit is that of the journal with it
+pub book-extended : (journal grown : Journal) (last found : Commit) (number : ℕ) (seen : List Seen) (book new : Holding)
+    → grown ≡ journal ++ last ∷ [] → number ≡ length journal + 1 → Some found ≡ commit_at grown number → IsBookOf book journal
+    → IsEnteredWith book.from journal last seen → new ≡ with_commit book found seen → IsBookOf new grown
+book-extended journal grown last found number seen book new grows next there is entered told =
+    told
+    ∙ ap (λ (c : Commit). with_commit book c seen) (last-is journal grown last found number grows next there)
+    ∙ ap (λ (b : Holding). with_commit b last seen) is
+    ∙ book-grows book.from journal last seen entered
+    ∙ ap (book_of book.from) (sym grows)
+    ∙ ap (λ (n : ℕ). book_of n grown) (sym (ap (λ (b : Holding). b.from) told))
 
-  -- a commit clashes, of which this is the witness
-  pub by-clash : (found : Found) (w : Witness) (new : Standing) → Decides ready mid (appended.Clash found) new
-      → IsWitnessOf ready.based new.commits found w → IsOfOneKind w → HasSettled ready old (decision.Clash w) new
-  by-clash found w new d names kinds = let whole = as-before new d.1 in record {
-    shards = whole.shards;
-    limit = whole.limit;
-    home = whole.home;
-    settles = (
-      record {
-        found = found;
-        least = found-same ∙ d.0;
-        names = subst (λ (j : Journal). IsWitnessOf ready.based j found w) whole.commits names;
-        kinds = kinds;
-      },
-      whole.commits,
-    );
-    counts = whole.faults;
-  }
+-- a commit that is a hold says so
+hold-says : (from : ℕ) (commit : Commit) → is_hold from commit ≡ true → says_hold commit.outcome ≡ true
+hold-says from commit is =
+    let late = nat_lt from commit.number in
+    let says = says_hold commit.outcome in
+    (and_parts late says (and_parts (late && says) (length commit.deltas == 0) is).0).1
 
-  -- the journal takes no more
-  pub by-full : (limit : ℕ) (new : Standing) → Decides ready mid (appended.Full limit) new → HasSettled ready old (decision.Full limit) new
-  by-full limit new d = let whole = as-before new d.1 in record {
-    shards = whole.shards;
-    limit = whole.limit;
-    home = whole.home;
-    settles = (
-      found-same ∙ d.0.clear,
-      d.0.limit_is ∙ ap (λ (s : Standing). s.limit) same,
-      subst (λ (s : Standing). s.limit ≤ length s.commits) same d.0.reached,
-      whole.commits,
-    );
-    counts = whole.faults;
-  }
-
-  -- the keeper failed
-  pub by-fault : (first second : ℕ) (new : Standing) → Decides ready mid (appended.DiskFault first second) new
-      → HasSettled ready old decision.Denied new
-  by-fault first second new d = record {
-    shards = ap (λ (s : Standing). s.shards) d.3 ∙ ap (λ (s : Standing). s.shards) same;
-    limit = ap (λ (s : Standing). s.limit) d.3 ∙ ap (λ (s : Standing). s.limit) same;
-    home = ap (λ (s : Standing). s.home) d.3 ∙ ap (λ (s : Standing). s.home) same;
-    settles = (found-same ∙ d.0.clear, ap (λ (s : Standing). s.commits) d.3 ∙ ap (λ (s : Standing). s.commits) same, room-same d.0.below);
-    counts =
-        subst (λ (n : ℕ). Rose old.faults n) (sym (ap (λ (s : Standing). s.faults) d.3))
-        (subst (λ (n : ℕ). Rose n second) (d.1 ∙ ap (λ (s : Standing). s.faults) same) d.2);
-  }
+-- what was copied is what the commit's body observes, where that is a hold: nothing clashes, so it observes there what its run did
+pub held-alone : (book : Holding) (ready : Ready) (old mid : Standing) (seen : List Seen) (commit : Commit) → mid ≡ record old { room = mid.room }
+    → CanSettle old.shards ready old.commits → commit ≡ made_of mid.commits ready → None ≡ found_past ready mid
+    → (says_hold ready.run.outcome ≡ true → seen ≡ ready.run.observations) → IsEnteredWith book.from mid.commits commit seen
+held-alone book ready old mid seen commit same can made clear copied is =
+    let says = hold-says book.from (made_of mid.commits ready) (subst (λ (c : Commit). is_hold book.from c ≡ true) made is) in
+    let before : found_past ready old ≡ None = sym (ap (λ (s : Standing). found_past ready s) same) ∙ sym clear in
+    let alone = subst (λ (s : Standing). observed_alone s.commits (made_of s.commits ready) ≡ ready.run.observations) (sym same) (can.observed before) in
+    copied says ∙ sym alone ∙ ap (observed_alone mid.commits) (sym made)
 
 -- one more is at most one more than before
 one_more-by : (n : ℕ) → one_more n ≤ n + 1
@@ -125,4 +94,5 @@ rise-kept first denials faults later decision.Denied (inr last) (inl rose) = inr
 rise-kept first denials faults later decision.Denied most (inr both) = inr (let b = both.1 in omega arith)
 rise-kept first denials faults later (decision.Number n) most same = subst (IsAtMostRise first denials) (sym same) most
 rise-kept first denials faults later (decision.Clash w) most same = subst (IsAtMostRise first denials) (sym same) most
+rise-kept first denials faults later (decision.Held b) most same = subst (IsAtMostRise first denials) (sym same) most
 rise-kept first denials faults later (decision.Full l) most same = subst (IsAtMostRise first denials) (sym same) most

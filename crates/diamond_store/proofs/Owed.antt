@@ -12,10 +12,12 @@ use Rattle.abort_witness.specs.declared.witness.Found.{Found}
 use Rattle.abort_witness.specs.declared.witness.Witness.{Witness}
 use Rattle.abort_witness.specs.Kinds.{IsBasedOfOneKind}
 use Rattle.txn_lang.specs.States.{Journal, known, left_by}
+use Rattle.txn_lang.specs.Execution.{done, exec}
 use Rattle.txn_lang.specs.Journals.{own}
 use Rattle.txn_lang.specs.Tree.{tree}
 use Rattle.txn_eval.specs.Running.{values_of}
 use Rattle.journal_core.specs.declared.ready.Ready.{Ready}
+use Rattle.journal_core.specs.Holds.{observed_alone, seen_behind, seen_by}
 use Rattle.journal_core.specs.Pairs.{pairs, least_pair, past_fronts}
 use Rattle.journal_core.specs.Readies.{IsRunOf, made_of}
 use Rattle.journal_core.proofs.OfRuns.{kinds-of-run}
@@ -88,15 +90,35 @@ module _ (m shards : ℕ) (journal : Journal) (ready : Ready) (owed : IsOwed sha
       subst (λ (text : List ℕ). IsRunOf text ready.run) (sym body-is)
       (record { body = owed.attempt.body.body; values = values_of owed.attempt.snaps; read = owed.text; ran = owed.runs })
 
-  -- so the journal may decide on it
-  pub can-settle : CanSettle ready journal
-  can-settle = record { run = run-owed; body_text = owed.body_text; next = owed.next; kinds = kinds-owed; few = owed.few }
+  -- it is the text's
+  read-owed : tree ready.body ≡ Some owed.attempt.body.body
+  read-owed = ap tree body-is ∙ owed.text
 
-  -- without a clash its commit may follow: its body runs on what the journal leaves as it ran
+  -- without a clash it runs on what the journal leaves as it ran
+  ran-alone : IsClear shards ready journal → exec owed.attempt.body.body (known (left_by journal)) ≡ done ready.run
+  ran-alone clear =
+      let undisturbed = ap (λ (bs : List Based). pairs bs journal) (sym based-is) ∙ all-clear clear in
+      runs_as_it_ran journal owed.attempt ready.run sound.orderly (record { fits = owed.fits; runs = owed.runs; undisturbed = undisturbed })
+
+  -- so it observes there what it observed
+  observed-owed : IsClear shards ready journal → observed_alone journal (made_of journal ready) ≡ ready.run.observations
+  observed-owed clear = ap (seen_behind journal) read-owed ∙ ap seen_by (ran-alone clear)
+
+  -- so the journal may decide on it
+  pub can-settle : CanSettle shards ready journal
+  can-settle = record {
+    run = run-owed;
+    body_text = owed.body_text;
+    next = owed.next;
+    kinds = kinds-owed;
+    few = owed.few;
+    observed = observed-owed;
+  }
+
+  -- and its commit may follow
   pub follows : IsClear shards ready journal → IsStrictlySortedBy address_cmp (keys_of ready.run.deltas) → Follows m journal (made_of journal ready)
   follows clear rising =
-      let undisturbed = ap (λ (bs : List Based). pairs bs journal) (sym based-is) ∙ all-clear clear in
-      let ran = runs_as_it_ran journal owed.attempt ready.run sound.orderly (record { fits = owed.fits; runs = owed.runs; undisturbed = undisturbed }) in
+      let ran = ran-alone clear in
       record {
         legal = record {
           number = refl;
@@ -104,7 +126,7 @@ module _ (m shards : ℕ) (journal : Journal) (ready : Ready) (owed : IsOwed sha
           runs = λ past. record {
             body = owed.attempt.body.body;
             run = ready.run;
-            read = ap tree body-is ∙ owed.text;
+            read = read-owed;
             ran = ran;
             outcome = refl;
             deltas = refl;

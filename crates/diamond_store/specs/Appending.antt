@@ -6,7 +6,7 @@ use Rattle.txn_lang.specs.declared.commit.Commit.{Commit}
 use Rattle.journal_core.specs.declared.ready.Ready.{Ready}
 use Rattle.diamond_store.specs.declared.decision.Decision.{Decision}
 use Rattle.diamond_store.specs.Following.{IsSound}
-use Rattle.diamond_store.specs.Numbers.{shards_in, limit_in}
+use Rattle.diamond_store.specs.Numbers.{shards_in, limit_in, from_in}
 use Rattle.diamond_store.specs.Settling.{Settles}
 use Rattle.diamond_store.specs.Books.{denials_after}
 
@@ -18,7 +18,7 @@ client_of commit = commit.client
 pub record Adds (m : ℕ) (numbers : List ℕ) (old : Known Commit) (ready : Ready) (decision : Decision) (new : Known Commit) : Type 0 where
   pub entered : Known Commit
   pub later : IsLater client_of old entered
-  pub settles : Settles (shards_in numbers) (limit_in numbers) ready entered.seen decision new.seen
+  pub settles : Settles (from_in numbers) (shards_in numbers) (limit_in numbers) ready entered.seen decision new.seen
   pub sound : IsSound m entered.seen
   pub count : new.count ≡ denials_after entered.count decision
   pub rest : new ≡ record entered { seen = new.seen; count = new.count }

@@ -10,6 +10,7 @@ use Rattle.diamond_store.specs.declared.answer.StoreAppendError.TheVariants as e
 abbrev pub answer_of : Decision → ℕ → ℕ → Result ℕ StoreAppendError
 answer_of (decision.Number number) known knows = Ok number
 answer_of (decision.Clash witness) known knows = Err (error.Clash witness)
+answer_of (decision.Held barred) known knows = Err (error.Held barred)
 answer_of (decision.Full limit) known knows = Err (error.Full limit)
 answer_of decision.Denied known knows = Err (error.Disk known knows)
 
@@ -17,6 +18,7 @@ answer_of decision.Denied known knows = Err (error.Disk known knows)
 abbrev pub append_answered : Result ℕ StoreAppendError → Answer
 append_answered (Ok number) = Answer.number number
 append_answered (Err (error.Clash witness)) = Answer.clash witness
+append_answered (Err (error.Held barred)) = Answer.held barred.client barred.at
 append_answered (Err (error.Full limit)) = Answer.full limit
 append_answered (Err (error.Disk known knows)) = Answer.disk
 append_answered (Err error.Fault) = Answer.failed true

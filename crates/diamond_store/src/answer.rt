@@ -5,12 +5,15 @@ ghost use Rattle.diamond_store.specs.Decided.{answer_of};
 
 use crate::decision::Decision;
 use abort_witness::Witness;
+use journal_core::Barred;
 
-/// Why nothing was committed. They are tested in the order clash, full, disk.
+/// Why nothing was committed. They are tested in the order clash, held, full, disk.
 #[derive(Debug, Drop)]
 pub enum StoreAppendError {
     /// A commit clashes with an observation.
     Clash(Witness),
+    /// A live hold of another client bars the commit.
+    Held(Barred),
     /// The journal has as many commits as its limit, which is named.
     Full(u32),
     /// The keeper denied the commit. Of so many denials the pass knew before the call, and of so many it knows now.
@@ -27,6 +30,7 @@ pub(crate) fn answer(decision: Decision, known: u64, knows: u64) -> Result<u64, 
     match decision {
         Decision::Number(number) => Ok(number),
         Decision::Clash(witness) => Err(StoreAppendError::Clash(witness)),
+        Decision::Held(barred) => Err(StoreAppendError::Held(barred)),
         Decision::Full(limit) => Err(StoreAppendError::Full(limit)),
         Decision::Denied => Err(StoreAppendError::Disk(known, knows)),
     }

@@ -1,29 +1,35 @@
-//! What lies under the journal's lock: the journal, and how many appends its keeper denied.
+//! What lies under the journal's lock: the journal with the book of its live holds, and how many appends its keeper denied.
 
 ghost use Rattle.std.specs.Prelude.{◌≡◌, ◌≤◌, true, length, IfOk, OnErr, IfSome};
 ghost use Rattle.journal_core.specs.Changes.{changes, between, of_address, of_shard};
+ghost use Rattle.journal_core.specs.Journals.{CanAdd};
 ghost use Rattle.journal_core.specs.Kinds.{HasKinds};
 ghost use Rattle.journal_core.specs.Pairs.{AreNumbered};
 ghost use Rattle.journal_core.specs.Tails.{HasAll};
-ghost use Rattle.diamond_store.specs.Books.{denials_after, numbers, IsAtMostRise};
-ghost use Rattle.diamond_store.specs.Numbers.{numbers_of};
-ghost use Rattle.diamond_store.specs.Settling.{CanSettle, HasSettled, IsAsBefore, Settles, IfDenied};
+ghost use Rattle.diamond_store.specs.Books.{denials_after, numbers, IsAtMostRise, IsBookOf};
+ghost use Rattle.diamond_store.specs.Numbers.{numbers_with};
+ghost use Rattle.diamond_store.specs.Settling.{AddsOne, CanSettle, HasSettled, IsAsBefore, IsEnteredWith, Settles, IfDenied};
 
 use crate::decision::{Decision, counted};
 use change_feed::Tail;
 use conflict_table::Steps;
 use history_lock::Stands;
-use journal_core::{Appended, Journal, Keep, Ready};
+use hold_core::{HoldBook, seen_to_hold};
+use journal_core::{Appended, Journal, Keep, Ready, Slot};
 use rdt_types::{Address, Settings};
 use std::alloc::{AllocError, Global};
 use std::marker::{Brand, Model};
 use std::sync::ledger::{Blank, Ledger};
-use txn_lang::{Commit, CommitList};
+use txn_lang::{Commit, CommitList, SeenList};
 
-/// The journal of a store, and how many appends its keeper denied. It lies under the store's lock.
+/// The journal of a store with the book of its live holds, and how many appends its keeper denied. It lies under the store's
+/// lock.
 #[derive(Drop)]
 pub struct Book<K: Keep> {
+    alloc: Global,
     journal: Journal<K>,
+    // The live holds of the journal.
+    holds: HoldBook,
     settings: Settings,
     // How long the journal is.
     entries: u64,
@@ -35,18 +41,19 @@ impl<K: Keep> Model for Book<K> {
     ghost use Rattle.std.specs.Prelude.{◌≡◌, length};
     ghost use Rattle.txn_lang.specs.contracts.commit.Commit as commit;
     ghost use Rattle.journal_core.specs.Journals.{standing_code};
-    ghost use Rattle.diamond_store.specs.Books.{Booked, booked_code, IsAtMostRise};
+    ghost use Rattle.diamond_store.specs.Books.{Booked, booked_code, IsAtMostRise, IsBookOf};
 
     ghost Value = { Booked };
 
     ghost coded = { booked_code (standing_code commit.the_row.coded) };
 
-    ghost view = { λ b. record { journal = b.journal; window = b.settings.window; denials = b.denials; first = b.first_faults } };
+    ghost view = { λ b. record { journal = b.journal; window = b.settings.window; from = b.holds.from; denials = b.denials; first = b.first_faults } };
 
     ghost invariant = { λ b. record {
       shards : b.journal.shards ≡ b.settings.shards;
       limit : b.journal.limit ≡ b.settings.limit;
       entries : b.entries ≡ length b.journal.commits;
+      holds : IsBookOf b.holds b.journal.commits;
       counted : IsAtMostRise b.first_faults b.denials b.journal.faults;
     } };
 }
@@ -76,31 +83,65 @@ impl<K: Keep> Stands for Book<K> {
     }
 }
 
+/// Adds the slot's commit, where nothing clashes and nothing bars, or says why not. The book of holds goes on with the journal.
+fn extend<K: Keep>(
+    journal: &mut Journal<K>,
+    holds: &mut HoldBook,
+    slot: Slot,
+    observations: SeenList,
+) -> Decision
+    requires can { CanAdd K.stands_for slot journal.old }
+    requires holds { IsBookOf holds.old journal.old.commits }
+    requires observed { IsEnteredWith holds.old.from journal.old.commits slot.commit observations }
+    ensures adds { AddsOne slot.commit journal.old result journal.new }
+    ensures holds { IsBookOf holds.new journal.new.commits }
+    ensures from { holds.new.from ≡ holds.old.from }
+    ensures may_fail { IfDenied result (K.may_fail ≡ true) }
+{
+    match journal.append_clear(slot) {
+        Appended::Number(number) => {
+            let Some(commit) = journal.commit(number) else {
+                unreachable!()
+            };
+            holds.added(commit, observations);
+            Decision::Number(number)
+        }
+        Appended::Clash(_) => unreachable!(),
+        Appended::Full(limit) => Decision::Full(limit),
+        Appended::DiskFault(_, _) => Decision::Denied,
+    }
+}
+
 /// Adds the commit of what is ready to the journal, or says why not. For want of memory the commits are as before.
 fn decide<K: Keep, L: Ledger>(
     blank: Blank,
+    alloc: Global,
     journal: &mut Journal<K>,
+    holds: &mut HoldBook,
     ready: &Ready,
 ) -> Result<Decision, AllocError>
     requires name { blank.name ≡ L.name }
     requires parts { blank.parts ≡ L.parts }
     requires one { blank.parts ≡ 1 }
-    requires can { CanSettle ready.now journal.old.commits }
-    ensures settled { IfOk result (λ decision. HasSettled ready.now journal.old decision journal.new) }
+    requires can { CanSettle journal.old.shards ready.now journal.old.commits }
+    requires holds { IsBookOf holds.old journal.old.commits }
+    ensures settled { IfOk result (λ decision. HasSettled holds.old.from ready.now journal.old decision journal.new) }
+    ensures holds { IsBookOf holds.new journal.new.commits }
+    ensures from { holds.new.from ≡ holds.old.from }
     ensures err { OnErr result (IsAsBefore journal.old journal.new) }
     ensures may_fail { IfOk result (λ decision. IfDenied decision (K.may_fail ≡ true)) }
 {
     let slot = journal.reserve(ready)?;
+    let observations = seen_to_hold(alloc, &ready.run)?;
     let mut steps = Steps::<L>::new(blank);
-    match journal.append(ready, slot, &mut steps) {
-        Appended::Number(number) => Ok(Decision::Number(number)),
-        Appended::Clash(found) => {
-            let witness = journal.witness(ready, &found)?;
-            Ok(Decision::Clash(witness))
-        }
-        Appended::Full(limit) => Ok(Decision::Full(limit)),
-        Appended::DiskFault(_, _) => Ok(Decision::Denied),
+    if let Some(found) = journal.clashes(ready, &mut steps) {
+        let witness = journal.witness(ready, &found)?;
+        return Ok(Decision::Clash(witness));
     }
+    if let Some(barred) = holds.bars(ready.client, &ready.run.deltas, &mut steps) {
+        return Ok(Decision::Held(barred));
+    }
+    Ok(extend(journal, holds, slot, observations))
 }
 
 impl<K: Keep> Book<K> {
@@ -116,13 +157,17 @@ impl<K: Keep> Book<K> {
         requires told { IfSome (K.kept keeper) (λ list. list ≡ kept) }
         ensures commits { IfOk result (λ book. book.journal.commits ≡ kept) }
         ensures denials { IfOk result (λ book. book.denials ≡ 0) }
-        ensures numbers { IfOk result (λ book. numbers book ≡ numbers_of (K.keep_faults keeper) settings.now.shards settings.now.window settings.now.limit (K.home keeper)) }
+        ensures numbers { IfOk result (λ book.
+            numbers book ≡ numbers_with settings.now (K.keep_faults keeper) (length kept) (K.home keeper)) }
     {
         let first_faults = keeper.keep_faults();
         let journal = Journal::new(alloc, settings, keeper, kept)?;
         let entries = journal.length();
+        let holds = HoldBook::new(alloc, entries)?;
         Ok(Book {
+            alloc,
             journal,
+            holds,
             settings: *settings,
             entries,
             denials: 0,
@@ -133,16 +178,23 @@ impl<K: Keep> Book<K> {
     /// Adds the commit of what is ready, or says why not. A denial is counted. For want of memory the commits are as
     /// before.
     pub(crate) fn append(&mut self, ready: &Ready) -> Result<Decision, AllocError>
-        requires can { CanSettle ready.now self.old.journal.commits }
+        requires can { CanSettle self.old.journal.shards ready.now self.old.journal.commits }
         ensures settles { IfOk result (λ decision.
-            Settles self.old.journal.shards self.old.journal.limit ready.now self.old.journal.commits decision self.new.journal.commits) }
+            Settles self.old.from self.old.journal.shards self.old.journal.limit ready.now self.old.journal.commits decision
+            self.new.journal.commits) }
         ensures denials { IfOk result (λ decision. self.new.denials ≡ denials_after self.old.denials decision) }
         ensures err { OnErr result (self.new.journal.commits ≡ self.old.journal.commits) }
         ensures err_denials { OnErr result (self.new.denials ≡ self.old.denials) }
         ensures numbers { numbers self.new ≡ numbers self.old }
         ensures may_fail { IfOk result (λ decision. IfDenied decision (K.may_fail ≡ true)) }
     {
-        let decision = decide::<K, Brand>(Blank::new(1), &mut self.journal, ready)?;
+        let decision = decide::<K, Brand>(
+            Blank::new(1),
+            self.alloc,
+            &mut self.journal,
+            &mut self.holds,
+            ready,
+        )?;
         self.entries = self.journal.length();
         self.denials = counted(&decision, self.denials);
         Ok(decision)

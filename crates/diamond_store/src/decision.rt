@@ -4,14 +4,17 @@ ghost use Rattle.std.specs.Prelude.{◌≡◌};
 ghost use Rattle.diamond_store.specs.Books.{denials_after};
 
 use abort_witness::Witness;
+use journal_core::Barred;
 
-/// The journal's decision. The tests stand in the order clash, full, denied; a number is what is left.
+/// The journal's decision. The tests stand in the order clash, held, full, denied; a number is what is left.
 #[derive(Debug, Drop)]
 pub enum Decision {
     /// The commit was added, and has this number.
     Number(u64),
     /// A commit past the prepared fronts clashes with an observation.
     Clash(Witness),
+    /// A live hold of another client bars the commit.
+    Held(Barred),
     /// The journal has as many commits as its limit, which is named.
     Full(u32),
     /// The keeper failed, and counted it.

@@ -1,6 +1,7 @@
 //! The shared store: the one journal, and shards that follow it, for any number of threads. Each client has a [`Pass`], which
 //! knows a prefix of the journal; each call on a [`Store`] is one step on one locked object, and keeps the promises of every
-//! backend. The journal lies behind a `history_lock`; each shard, and the registry of subscriptions, behind a lock of its own.
+//! backend. The journal lies behind a `history_lock`, with the book of its live holds; each shard, and the registry of
+//! subscriptions, behind a lock of its own.
 #![tactic(auto)]
 
 mod answer;

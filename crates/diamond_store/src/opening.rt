@@ -7,7 +7,7 @@ ghost use Rattle.history_lock.specs.Tokens.{newborn};
 ghost use Rattle.plain_data.specs.Histories.{IsLawful};
 ghost use Rattle.diamond_store.specs.Appending.{client_of};
 ghost use Rattle.diamond_store.specs.Following.{Follows};
-ghost use Rattle.diamond_store.specs.Numbers.{faults_in, home_in, HasSettings};
+ghost use Rattle.diamond_store.specs.Numbers.{faults_in, from_in, home_in, HasSettings};
 ghost use Rattle.diamond_store.specs.Opening as opening;
 ghost use Rattle.diamond_store.specs.Opening.{AreClients};
 
@@ -58,6 +58,7 @@ pub fn open<K: Keep>(
     ensures front { IfOk result (λ opened. opened.front ≡ newborn kept 0) }
     ensures base { IfOk result (λ opened. opened.lock.base ≡ length kept) }
     ensures settings { IfOk result (λ opened. HasSettings opened.lock.origin settings.now) }
+    ensures from { IfOk result (λ opened. from_in opened.lock.origin ≡ opened.lock.base) }
     ensures faults { IfOk result (λ opened. faults_in opened.lock.origin ≡ K.keep_faults keeper) }
     ensures home { IfOk result (λ opened. home_in opened.lock.origin ≡ K.home keeper) }
     ensures first { IfOk result (λ opened. opened.lock.first ≡ opening.past_clients kept) }

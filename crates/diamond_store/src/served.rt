@@ -33,6 +33,7 @@ fn plain(answer: Result<u64, StoreAppendError>) -> Result<u64, AppendError>
     match answer {
         Ok(number) => Ok(number),
         Err(StoreAppendError::Clash(witness)) => Err(AppendError::Clash(witness)),
+        Err(StoreAppendError::Held(barred)) => Err(AppendError::Held(barred)),
         Err(StoreAppendError::Full(limit)) => Err(AppendError::Full(limit)),
         Err(StoreAppendError::Disk(_, _)) => Err(AppendError::Disk),
         Err(StoreAppendError::Fault) => Err(AppendError::Fault),

@@ -7,7 +7,7 @@ ghost use Rattle.docc_prepare.specs.Calls.{Call, Answer, number_answered, snap_a
 ghost use Rattle.docc_prepare.specs.Backends.{CanPrepare, CanAppend, IsAnswered};
 ghost use Rattle.diamond_store.specs.Answers.{Learns, Meets, Joins, IsFirst, AllDrawn};
 ghost use Rattle.diamond_store.specs.Decided.{append_answered, IfDisk};
-ghost use Rattle.diamond_store.specs.Numbers.{HasSettings};
+ghost use Rattle.diamond_store.specs.Numbers.{from_in, HasSettings};
 ghost use Rattle.diamond_store.specs.Passes.{known_of};
 
 use crate::answer::{StoreAppendError, answer};
@@ -48,7 +48,7 @@ pub struct Store<K: Keep, G: Gate + Drop, N: Naming> {
 impl<K: Keep, G: Gate + Drop, N: Naming> Model for Store<K, G, N> {
     ghost use Rattle.std.specs.Prelude.{◌≡◌, ℕ, length};
     ghost use Rattle.std.specs.Coded.{coded_ℕ};
-    ghost use Rattle.diamond_store.specs.Numbers.{HasSettings};
+    ghost use Rattle.diamond_store.specs.Numbers.{from_in, HasSettings};
 
     ghost Value = { ℕ };
 
@@ -59,6 +59,7 @@ impl<K: Keep, G: Gate + Drop, N: Naming> Model for Store<K, G, N> {
     ghost invariant = { λ s. record {
       made : length s.shards.items ≡ s.settings.shards;
       settings : HasSettings N.lock.origin s.settings;
+      from : from_in N.lock.origin ≡ N.lock.base;
     } };
 }
 
@@ -92,6 +93,7 @@ impl<K: Keep, G: Gate + Drop, N: Naming> Store<K, G, N> {
     ) -> Result<(Store<K, G, N>, Pass<K, N>), AllocError>
         requires lock { opened.lock ≡ N.lock }
         requires settings { HasSettings opened.lock.origin settings.now }
+        requires from { from_in opened.lock.origin ≡ opened.lock.base }
         requires author { opened.front.author ≡ None }
         ensures pass { IfOk result (λ both. IsFirst opened.lock.base opened.front settings.now both.1) }
     {
@@ -180,7 +182,7 @@ impl<K: Keep, G: Gate + Drop, N: Naming> Store<K, G, N> {
         validation.answer
     }
 
-    /// Validates the rest, and commits.
+    /// Validates the rest, asks the live holds, and commits.
     pub fn append<R: Wait>(
         &self,
         rt: &R,

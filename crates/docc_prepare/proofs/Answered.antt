@@ -23,16 +23,19 @@ use Rattle.abort_witness.specs.Kinds.{IsBasedOfOneKind}
 use Rattle.txn_lang.specs.declared.commit.Commit.{Commit}
 use Rattle.txn_lang.specs.States.{Journal, state}
 use Rattle.journal_core.specs.declared.ready.Ready.{Ready}
+use Rattle.journal_core.specs.declared.hold.Barred.{Barred}
 use Rattle.journal_core.specs.Changes.{changes, up_to, between}
 use Rattle.journal_core.specs.Pairs.{pairs}
 use Rattle.journal_core.specs.Readies.{made_of}
+use Rattle.journal_core.proofs.Holding.{barred-within}
 use Rattle.docc_prepare.specs.Serial.{AreOfTheirKinds, IsOrderly}
 use Rattle.docc_prepare.specs.Witnesses.{witness_of, least_witness}
 use Rattle.docc_prepare.specs.Calls.{Known, Call, Answer, is_fault}
 use Rattle.docc_prepare.specs.Backends.{CanValidate, CanPrepare, CanAppend, CanCall, IsTaken, Row, OwnRow, SaysOfJournal, Shows, Keeps}
 use Rattle.docc_prepare.specs.Backends.{Gives, subscribed_after, taken_after, denied_after, KnowsDenials, IsAnswered}
 use Rattle.docc_prepare.specs.Stores.{Store, CLIENTS, front_of, seen_by, saw, moved, committed, telling, took, least_base, late_base, validated}
-use Rattle.docc_prepare.specs.Stores.{witness_past, decided, read_back, feed_for, step, HasStalled, Does, IsSound, known_by, StepsAreAnswered}
+use Rattle.docc_prepare.specs.Stores.{witness_past, barred_by, decided, read_back, feed_for, step, HasStalled, Does, IsSound}
+use Rattle.docc_prepare.specs.Stores.{known_by, StepsAreAnswered}
 use Rattle.docc_prepare.proofs.Each.{each-more, each-take, each-filter}
 use Rattle.docc_prepare.proofs.OfOneKind.{kind-left}
 use Rattle.docc_prepare.proofs.Growing.{legal_is_orderly}
@@ -256,10 +259,11 @@ module _ (s : Store) (sound : IsSound s) (c : ℕ) (ours : c < CLIENTS) where
         let n = sound.seen c in
         answered u (Call.append ready) a (step-grows s c Call.refresh) refl (omega arith) (omega arith) (counted, told, taken, denied, denials) gives says
 
-    -- without a clash and with room the commit goes behind the journal, which stays legal, and no pair is among those before it
-    added : witness_past s ready ≡ None → length s.journal < s.limit
+    -- Without a clash or a hold that bars, and with room, the commit goes behind the journal, which stays legal, and no pair is
+    -- among those before it.
+    added : witness_past s ready ≡ None → barred_by s c ready ≡ None → length s.journal < s.limit
         → IsAnswered k (Call.append ready) (Answer.number (length s.journal + 1)) (known_by (saw (committed s ready) c (length s.journal + 1)) c)
-    added none room =
+    added none unbarred room =
         let e = seen-set (length s.journal + 1) in
         let n = sound.seen c in
         let l = length-append s.journal (made_of s.journal ready ∷ []) in record {
@@ -288,6 +292,7 @@ module _ (s : Store) (sound : IsSound s) (c : ℕ) (ours : c < CLIENTS) where
                 grown = take-length s.journal;
                 same_own = refl;
                 clear = all-clear s sound c ready can.attempt of none;
+                unbarred = unbarred;
                 numbered = refl;
                 within = omega arith;
                 added = refl;
@@ -297,21 +302,28 @@ module _ (s : Store) (sound : IsSound s) (c : ℕ) (ours : c < CLIENTS) where
           };
         }
 
-    -- by the decision: a clash names the journal's least pair, a full journal has none, and else the commit is added
-    decided-by : (w : Option Witness) (full : Bool) → witness_past s ready ≡ w → nat_le s.limit (length s.journal) ≡ full
-        → IsAnswered k (Call.append ready) (decided s c ready w full).1 (known_by (decided s c ready w full).0 c)
-    decided-by (Some w) full ew ef =
+    -- By the decision: a clash names the journal's least pair, and without one a hold bars that is in the journal, or nothing
+    -- bars and the journal is full, or the commit is added.
+    decided-by : (w : Option Witness) (b : Option Barred) (full : Bool) → witness_past s ready ≡ w → barred_by s c ready ≡ b
+        → nat_le s.limit (length s.journal) ≡ full
+        → IsAnswered k (Call.append ready) (decided s c ready w b full).1 (known_by (decided s c ready w b full).0 c)
+    decided-by (Some w) b full ew eb ef =
         let least = ap (option_and_then (witness_of ready.based s.journal)) (sym (found-is s sound c ready can.attempt of)) ∙ ew in
         let within = witness-within ready.based s.journal w orderly (one-kinds s sound c ready can.attempt of) least in
         let number = within.0 in
         let e = seen-set (length s.journal) in
         refused (Answer.clash w) refl (λ b. refl) refl refl (omega arith) tt (within.1, record { least = least; seen = omega arith }, refl)
-    decided-by None true ew ef =
+    decided-by None (Some barred) full ew eb ef =
+        let within = barred-within 0 s.journal c ready.run.deltas barred orderly.numbered eb in
+        let e = seen-set (length s.journal) in
+        refused (Answer.held barred.client barred.at) refl (λ b. refl) refl refl (omega arith) tt
+        (tt, record { clear = all-clear s sound c ready can.attempt of ew; barred = eb; seen = omega arith }, refl)
+    decided-by None None true ew eb ef =
         let reached = reached-is s.limit (length s.journal) ef in
         let e = seen-set (length s.journal) in
         refused (Answer.full s.limit) refl (λ b. refl) refl refl (omega arith) tt
-        (tt, record { limit_is = refl; seen = omega arith; clear = all-clear s sound c ready can.attempt of ew }, refl)
-    decided-by None false ew ef = let room : length s.journal < s.limit = grind (arith, nat_tests) in added ew room
+        (tt, record { limit_is = refl; seen = omega arith; clear = all-clear s sound c ready can.attempt of ew; unbarred = eb }, refl)
+    decided-by None None false ew eb ef = let room : length s.journal < s.limit = grind (arith, nat_tests) in added ew eb room
 
   -- ---- what a client is told of
 
@@ -386,7 +398,8 @@ module _ (s : Store) (sound : IsSound s) (c : ℕ) (ours : c < CLIENTS) where
   step-answered (Call.prepare shard based) can =
       validated-by shard based can (late_base (front_of s shard - s.window) (least_base based))
       (least_witness based (take (front_of s shard) s.journal)) refl refl
-  step-answered (Call.append ready) can = decided-by ready can (witness_past s ready) (nat_le s.limit (length s.journal)) refl refl
+  step-answered (Call.append ready) can =
+      decided-by ready can (witness_past s ready) (barred_by s c ready) (nat_le s.limit (length s.journal)) refl refl refl
   step-answered (Call.read_at a n) can = read-back a n (max (front_of s (shard_of a s.shards)) n) can.1 refl (step-grows s c (Call.read_at a n))
   step-answered (Call.subscribe a) can = subscribed-answered a
   step-answered (Call.unsubscribe a) can = unsubscribed-answered a

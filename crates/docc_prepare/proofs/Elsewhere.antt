@@ -15,11 +15,12 @@ use Rattle.txn_lang.specs.declared.commit.Commit.{Commit}
 use Rattle.txn_lang.specs.States.{Journal}
 use Rattle.txn_lang.specs.Journals.{own}
 use Rattle.journal_core.specs.declared.ready.Ready.{Ready}
+use Rattle.journal_core.specs.declared.hold.Barred.{Barred}
 use Rattle.journal_core.specs.Readies.{made_of}
 use Rattle.docc_prepare.specs.Calls.{Known, Call, Answer}
 use Rattle.docc_prepare.specs.Backends.{CanCall, HasGrown, IsLater}
-use Rattle.docc_prepare.specs.Stores.{Store, front_of, seen_by, saw, committed, telling, witness_past, decided, step, followed, HasStalled, IsSound}
-use Rattle.docc_prepare.specs.Stores.{known_by, StepsLeaveOthers, ShardsFollow}
+use Rattle.docc_prepare.specs.Stores.{Store, front_of, seen_by, saw, committed, telling, witness_past, barred_by, decided, step}
+use Rattle.docc_prepare.specs.Stores.{followed, HasStalled, IsSound, known_by, StepsLeaveOthers, ShardsFollow}
 use Rattle.docc_prepare.proofs.Stored.{step-sound, followed-sound, with_fronts, stalled-sound, Grown, step-grows, followed-grows, stalled-grows}
 use Rattle.docc_prepare.proofs.Stored.{same-client, kept-given, does-one}
 use Rattle.docc_prepare.proofs.Answered.{owed-soundly}
@@ -74,13 +75,18 @@ module _ (s : Store) (sound : IsSound s) (c d : ℕ) (others : d ≢ c) where
   not-mine : (d == c) ≡ false
   not-mine = not-equal d c (λ e. others (sym e))
 
+  -- a refusal changes only what the calling client has seen
+  refused-later : IsSound (saw s c (length s.journal)) → Grown s (saw s c (length s.journal)) → IsLater k (known_by (saw s c (length s.journal)) d)
+  refused-later now grows = later (saw s c (length s.journal)) now grows (unseen (length s.journal)) (λ a. refl) refl ungrown
+
   -- by the decision: a refusal leaves the journal as it is, and a commit is the calling client's own
-  decided-later : (ready : Ready) (w : Option Witness) (full : Bool) → ready.client ≡ c → IsSound (decided s c ready w full).0
-      → Grown s (decided s c ready w full).0
-      → IsLater k (known_by (decided s c ready w full).0 d)
-  decided-later ready (Some w) full ours now grows = later (saw s c (length s.journal)) now grows (unseen (length s.journal)) (λ a. refl) refl ungrown
-  decided-later ready None true ours now grows = later (saw s c (length s.journal)) now grows (unseen (length s.journal)) (λ a. refl) refl ungrown
-  decided-later ready None false ours now grows =
+  decided-later : (ready : Ready) (w : Option Witness) (b : Option Barred) (full : Bool) → ready.client ≡ c → IsSound (decided s c ready w b full).0
+      → Grown s (decided s c ready w b full).0
+      → IsLater k (known_by (decided s c ready w b full).0 d)
+  decided-later ready (Some w) b full ours now grows = refused-later now grows
+  decided-later ready None (Some barred) full ours now grows = refused-later now grows
+  decided-later ready None None true ours now grows = refused-later now grows
+  decided-later ready None None false ours now grows =
       later (saw (committed s ready) c (length s.journal + 1)) now grows (unseen (length s.journal + 1)) (λ a. refl) refl
       (record {
         grows = take-append_seam s.journal (made_of s.journal ready ∷ []);
@@ -100,7 +106,8 @@ module _ (s : Store) (sound : IsSound s) (c d : ℕ) (others : d ≢ c) where
       later (step s c (Call.read a)).0 now grows (unseen (max (front_of s (shard_of a s.shards)) (seen_by s c))) (λ b. refl) refl ungrown
   later-by (Call.prepare shard based) ours now grows =
       later (step s c (Call.prepare shard based)).0 now grows (unseen (max (seen_by s c) (front_of s shard))) (λ a. refl) refl ungrown
-  later-by (Call.append ready) ours now grows = decided-later ready (witness_past s ready) (nat_le s.limit (length s.journal)) ours now grows
+  later-by (Call.append ready) ours now grows =
+      decided-later ready (witness_past s ready) (barred_by s c ready) (nat_le s.limit (length s.journal)) ours now grows
   later-by (Call.read_at a n) ours now grows = later (step s c (Call.read_at a n)).0 now grows refl (λ b. refl) refl ungrown
   later-by (Call.subscribe a) ours now grows =
       later (telling s c a true) now grows refl (λ b. others-told (d == c) (is_at (address_cmp a) b) true (s.subscribed d b) not-mine) refl ungrown

@@ -12,10 +12,12 @@ use Rattle.rdt_types.specs.Addresses.{address_cmp}
 use Rattle.change_feed.specs.Pending.{pending}
 use Rattle.txn_lang.specs.States.{Journal}
 use Rattle.txn_lang.specs.Journals.{IsLegal, own}
+use Rattle.journal_core.specs.declared.ready.Ready.{Ready}
 use Rattle.journal_core.specs.Changes.{changes, between}
+use Rattle.journal_core.specs.Holds.{bars}
 use Rattle.docc_prepare.specs.Calls.{Known, Call, Answer, is_fault}
-use Rattle.docc_prepare.specs.Backends.{IsPrefix, IsBelowHorizon, Row, OwnRow, SaysOfJournal, Shows, IsSameClient, KeepsGiven, Keeps}
-use Rattle.docc_prepare.specs.Backends.{subscribed_after, taken_after, denied_after, KnowsDenials, IsAnswered, HasGrown, IsLater, OthersCountAsWithin}
+use Rattle.docc_prepare.specs.Backends.{IsPrefix, IsBelowHorizon, IsUnbarred, Row, OwnRow, SaysOfJournal, Shows, IsSameClient, KeepsGiven}
+use Rattle.docc_prepare.specs.Backends.{Keeps, subscribed_after, taken_after, denied_after, KnowsDenials, IsAnswered, HasGrown, IsLater, OthersCountAsWithin}
 
 -- ---- prefixes and counts
 
@@ -100,6 +102,12 @@ module _ (k l m : Known) (later : IsLater k l) where
   horizon-since number horizon journal late =
       let behind = late.behind in let window = later.client.window in record { below = late.below; behind = omega arith }
 
+  -- it is the same client, and as many commits were trusted, so the same holds bar
+  unbarred-since : (ready : Ready) (journal : Journal) → IsUnbarred l ready journal → IsUnbarred k ready journal
+  unbarred-since ready journal unbarred =
+      subst (λ (c : ℕ). bars k.trusted journal c ready.run.deltas ≡ None) later.client.client
+      (subst (λ (n : ℕ). bars n journal l.client ready.run.deltas ≡ None) later.client.trusted unbarred)
+
   -- by the row: it goes by what the client knew, which is the same, and by a journal that had only grown
   row-since : (old mid new : Journal) → HasGrown k old mid → (c : Call) (a : Answer) → Row l m mid new c a → Row k m old new c a
   row-since old mid new grown (Call.prepare shard based) (Answer.prepared p) row =
@@ -112,6 +120,7 @@ module _ (k l m : Known) (later : IsLater k l) where
       grown = prefix-again old mid row.1.before grown.grows row.1.grown;
       same_own = own-since old mid row.1.before grown row.1.same_own;
       clear = row.1.clear;
+      unbarred = unbarred-since ready row.1.before row.1.unbarred;
       numbered = row.1.numbered;
       within = let limit = later.client.limit in let few = row.1.within in omega arith;
       added = row.1.added;

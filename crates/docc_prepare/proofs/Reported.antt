@@ -13,8 +13,9 @@ use Rattle.txn_lang.specs.declared.run.Run.{Run}
 use Rattle.txn_lang.specs.States.{Journal, known, left_by, state}
 use Rattle.txn_lang.specs.Execution.{exec}
 use Rattle.journal_core.specs.declared.ready.Ready.{Ready}
+use Rattle.journal_core.specs.declared.hold.Barred.{Barred}
 use Rattle.docc_prepare.specs.Calls.{Call}
-use Rattle.docc_prepare.specs.Stores.{Store, front_of, seen_by, witness_past, decided, step, followed, IsSound}
+use Rattle.docc_prepare.specs.Stores.{Store, front_of, seen_by, witness_past, barred_by, decided, step, followed, IsSound}
 use Rattle.docc_prepare.specs.Worlds.{Reported, RunsAt, IsReported, with_run}
 use Rattle.docc_prepare.proofs.Each.{each-more}
 use Rattle.docc_prepare.proofs.Stored.{rises, Grown}
@@ -35,17 +36,19 @@ no-less n = omega arith
 
 module _ (s : Store) (c : ℕ) (sound : IsSound s) where
   -- by the decision: it has seen the journal's end then, and that isn't below what it had seen
-  decided-rises : (ready : Ready) (w : Option Witness) (full : Bool) (d : ℕ) → seen_by s d ≤ seen_by (decided s c ready w full).0 d
-  decided-rises ready (Some w) full d = rises s.seens c (length s.journal) d (sound.seen c)
-  decided-rises ready None true d = rises s.seens c (length s.journal) d (sound.seen c)
-  decided-rises ready None false d = rises s.seens c (length s.journal + 1) d (let u = sound.seen c in omega arith)
+  decided-rises : (ready : Ready) (w : Option Witness) (b : Option Barred) (full : Bool) (d : ℕ)
+      → seen_by s d ≤ seen_by (decided s c ready w b full).0 d
+  decided-rises ready (Some w) b full d = rises s.seens c (length s.journal) d (sound.seen c)
+  decided-rises ready None (Some barred) full d = rises s.seens c (length s.journal) d (sound.seen c)
+  decided-rises ready None None true d = rises s.seens c (length s.journal) d (sound.seen c)
+  decided-rises ready None None false d = rises s.seens c (length s.journal + 1) d (let u = sound.seen c in omega arith)
 
   -- by the call: no client has seen less after it
   pub step-rises : (call : Call) (d : ℕ) → seen_by s d ≤ seen_by (step s c call).0 d
   step-rises Call.refresh d = rises s.seens c (length s.journal) d (sound.seen c)
   step-rises (Call.read a) d = rises s.seens c (max (front_of s (shard_of a s.shards)) (seen_by s c)) d (omega arith)
   step-rises (Call.prepare shard based) d = rises s.seens c (max (seen_by s c) (front_of s shard)) d (omega arith)
-  step-rises (Call.append ready) d = decided-rises ready (witness_past s ready) (nat_le s.limit (length s.journal)) d
+  step-rises (Call.append ready) d = decided-rises ready (witness_past s ready) (barred_by s c ready) (nat_le s.limit (length s.journal)) d
   step-rises (Call.read_at a n) d = no-less (seen_by s d)
   step-rises (Call.subscribe a) d = no-less (seen_by s d)
   step-rises (Call.unsubscribe a) d = no-less (seen_by s d)

@@ -4,8 +4,10 @@ use Rattle.std.proofs.Common.{subst, arith}
 use Rattle.std.specs.Prelude.{nat_lt, nat_le}
 use Rattle.abort_witness.specs.declared.witness.Witness.{Witness}
 use Rattle.journal_core.specs.declared.ready.Ready.{Ready}
+use Rattle.journal_core.specs.declared.hold.Barred.{Barred}
 use Rattle.docc_prepare.specs.Calls.{Call, Answer}
-use Rattle.docc_prepare.specs.Stores.{Store, front_of, late_base, least_base, validated, decided, witness_past, step, HasStalled, Does, IsSound, StepsMayBeDone}
+use Rattle.docc_prepare.specs.Stores.{Store, front_of, late_base, least_base, validated, decided, witness_past, barred_by, step, HasStalled}
+use Rattle.docc_prepare.specs.Stores.{Does, IsSound, StepsMayBeDone}
 
 -- an answer that is no failure
 abbrev Succeeds : Answer → Type 0
@@ -22,6 +24,7 @@ done-by s t client c (Answer.feed f) e ok = e
 done-by s t client c Answer.done e ok = e
 done-by s t client c (Answer.late n horizon) e ok = e
 done-by s t client c (Answer.clash w) e ok = e
+done-by s t client c (Answer.held holder at) e ok = e
 done-by s t client c (Answer.full limit) e ok = e
 done-by s t client c Answer.disk e ok = e
 done-by s t client c (Answer.failed by_fault) e ok = absurd ok
@@ -32,11 +35,13 @@ validated-succeeds shard front horizon (Some base) w = tt
 validated-succeeds shard front horizon None (Some w) = tt
 validated-succeeds shard front horizon None None = tt
 
--- an append clashes, is full or gives a number
-decided-succeeds : (s : Store) (client : ℕ) (ready : Ready) (w : Option Witness) (full : Bool) → Succeeds (decided s client ready w full).1
-decided-succeeds s client ready (Some w) full = tt
-decided-succeeds s client ready None true = tt
-decided-succeeds s client ready None false = tt
+-- an append clashes, is held or full, or gives a number
+decided-succeeds : (s : Store) (client : ℕ) (ready : Ready) (w : Option Witness) (b : Option Barred) (full : Bool)
+    → Succeeds (decided s client ready w b full).1
+decided-succeeds s client ready (Some w) b full = tt
+decided-succeeds s client ready None (Some barred) full = tt
+decided-succeeds s client ready None None true = tt
+decided-succeeds s client ready None None false = tt
 
 -- one of two answers that are no failures is none
 either-succeeds : (b : Bool) (x y : Answer) → Succeeds x → Succeeds y → Succeeds (cond b x y)
@@ -57,7 +62,7 @@ step-does s client (Call.prepare shard based) sound =
     (validated-succeeds shard front (front - s.window) (late_base (front - s.window) (least_base based)) _)
 step-does s client (Call.append ready) sound =
     done-by s (step s client (Call.append ready)).0 client (Call.append ready) (step s client (Call.append ready)).1 refl
-    (decided-succeeds s client ready (witness_past s ready) (nat_le s.limit (length s.journal)))
+    (decided-succeeds s client ready (witness_past s ready) (barred_by s client ready) (nat_le s.limit (length s.journal)))
 step-does s client (Call.read_at address number) sound =
     done-by s (step s client (Call.read_at address number)).0 client (Call.read_at address number) (step s client (Call.read_at address number)).1 refl
     (either-succeeds (nat_lt number _) _ _ tt tt)
@@ -79,7 +84,8 @@ waits-alone s client (Call.prepare shard based) f e =
     absurd (no-failure (step s client (Call.prepare shard based)).1 f
     (validated-succeeds shard front (front - s.window) (late_base (front - s.window) (least_base based)) _) e)
 waits-alone s client (Call.append ready) f e =
-    absurd (no-failure (step s client (Call.append ready)).1 f (decided-succeeds s client ready (witness_past s ready) (nat_le s.limit (length s.journal))) e)
+    absurd (no-failure (step s client (Call.append ready)).1 f
+    (decided-succeeds s client ready (witness_past s ready) (barred_by s client ready) (nat_le s.limit (length s.journal))) e)
 waits-alone s client (Call.read_at address number) f e =
     absurd (no-failure (step s client (Call.read_at address number)).1 f (either-succeeds (nat_lt number _) _ _ tt tt) e)
 waits-alone s client (Call.subscribe address) f e = absurd (cc)

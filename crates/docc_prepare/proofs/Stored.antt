@@ -17,6 +17,7 @@ use Rattle.txn_lang.specs.Execution.{done}
 use Rattle.txn_lang.specs.Journals.{IsLegal, own, commit_of}
 use Rattle.txn_lang.specs.Tree.{tree}
 use Rattle.journal_core.specs.declared.ready.Ready.{Ready}
+use Rattle.journal_core.specs.declared.hold.Barred.{Barred}
 use Rattle.journal_core.specs.Pairs.{pairs, least_pair, past_fronts}
 use Rattle.journal_core.specs.Readies.{made_of}
 use Rattle.docc_prepare.specs.declared.attempt.Attempt.{Attempt}
@@ -25,8 +26,8 @@ use Rattle.docc_prepare.specs.Serial.{IsOrderly}
 use Rattle.docc_prepare.specs.Witnesses.{witness_of}
 use Rattle.docc_prepare.specs.Calls.{Call, Answer}
 use Rattle.docc_prepare.specs.Backends.{IsSameClient, KeepsGiven}
-use Rattle.docc_prepare.specs.Stores.{Store, CLIENTS, front_of, seen_by, saw, moved, committed, telling, took, found_past, witness_past, decided}
-use Rattle.docc_prepare.specs.Stores.{step, followed, HasStalled, Does, IsSound, known_by, FirstStoreIsSound}
+use Rattle.docc_prepare.specs.Stores.{Store, CLIENTS, front_of, seen_by, saw, moved, committed, telling, took, found_past, witness_past}
+use Rattle.docc_prepare.specs.Stores.{barred_by, decided, step, followed, HasStalled, Does, IsSound, known_by, FirstStoreIsSound}
 use Rattle.docc_prepare.proofs.Missing.{none-of-least}
 use Rattle.docc_prepare.proofs.Undisturbed.{appending_stays_legal, observed_of_one_kind}
 use Rattle.docc_prepare.proofs.Growing.{legal_is_orderly}
@@ -218,12 +219,13 @@ StepsSoundly s c call = Unit {0}
 
 module _ (s : Store) (c : ℕ) (sound : IsSound s) where
   -- by the decision: a refusal changes only what was seen, and a commit is legal and has room
-  decided-sound : (ready : Ready) (o : Option Witness) (full : Bool) → nat_le s.limit (length s.journal) ≡ full
+  decided-sound : (ready : Ready) (o : Option Witness) (b : Option Barred) (full : Bool) → nat_le s.limit (length s.journal) ≡ full
       → (o ≡ None → IsLegal 0 (committed s ready).journal)
-      → IsSound (decided s c ready o full).0
-  decided-sound ready (Some w) full e legal = saw-sound s c (length s.journal) sound (omega arith)
-  decided-sound ready None true e legal = saw-sound s c (length s.journal) sound (omega arith)
-  decided-sound ready None false e legal =
+      → IsSound (decided s c ready o b full).0
+  decided-sound ready (Some w) b full e legal = saw-sound s c (length s.journal) sound (omega arith)
+  decided-sound ready None (Some barred) full e legal = saw-sound s c (length s.journal) sound (omega arith)
+  decided-sound ready None None true e legal = saw-sound s c (length s.journal) sound (omega arith)
+  decided-sound ready None None false e legal =
       let room : length s.journal < s.limit = grind (arith, nat_tests) in
       let l = length-append s.journal (made_of s.journal ready ∷ []) in
       saw-sound (committed s ready) c (length s.journal + 1) (committed-sound s ready sound room (legal refl)) (omega arith)
@@ -241,7 +243,8 @@ module _ (s : Store) (c : ℕ) (sound : IsSound s) where
       let r = sound.reached shard in
       let n = sound.seen c in
       saw-sound s c (max (seen_by s c) (front_of s shard)) sound (omega arith)
-  step-sound (Call.append ready) h = decided-sound ready (witness_past s ready) (nat_le s.limit (length s.journal)) refl h
+  step-sound (Call.append ready) h =
+      decided-sound ready (witness_past s ready) (barred_by s c ready) (nat_le s.limit (length s.journal)) refl h
   step-sound (Call.read_at address number) h =
       let k = shard_of address s.shards in
       let r = sound.reached k in
@@ -287,10 +290,11 @@ module _ (s : Store) where
     saw-grown n = same-grown (set s.seens c n) s.subscribed s.taken
 
     -- by the decision: a refusal changes only what was seen, and a commit goes behind the journal
-    decided-grows : (ready : Ready) (w : Option Witness) (full : Bool) → Grown s (decided s c ready w full).0
-    decided-grows ready (Some w) full = saw-grown (length s.journal)
-    decided-grows ready None true = saw-grown (length s.journal)
-    decided-grows ready None false =
+    decided-grows : (ready : Ready) (w : Option Witness) (b : Option Barred) (full : Bool) → Grown s (decided s c ready w b full).0
+    decided-grows ready (Some w) b full = saw-grown (length s.journal)
+    decided-grows ready None (Some barred) full = saw-grown (length s.journal)
+    decided-grows ready None None true = saw-grown (length s.journal)
+    decided-grows ready None None false =
         record { shards = refl; window = refl; limit = refl; more = made_of s.journal ready ∷ []; journal = refl; risen = λ i. omega arith }
 
     -- a front that is set no lower has risen, and the others stay
@@ -304,7 +308,7 @@ module _ (s : Store) where
         let f = max (front_of s (shard_of a s.shards)) (seen_by s c) in
         moved-grown (shard_of a s.shards) (max (front_of s (shard_of a s.shards)) (seen_by s c)) (set s.seens c f) (omega arith)
     step-grows (Call.prepare shard based) = saw-grown (max (seen_by s c) (front_of s shard))
-    step-grows (Call.append ready) = decided-grows ready (witness_past s ready) (nat_le s.limit (length s.journal))
+    step-grows (Call.append ready) = decided-grows ready (witness_past s ready) (barred_by s c ready) (nat_le s.limit (length s.journal))
     step-grows (Call.read_at a n) = moved-grown (shard_of a s.shards) (max (front_of s (shard_of a s.shards)) n) s.seens (omega arith)
     step-grows (Call.subscribe a) = same-grown s.seens (telling s c a true).subscribed s.taken
     step-grows (Call.unsubscribe a) = same-grown s.seens (telling s c a false).subscribed s.taken

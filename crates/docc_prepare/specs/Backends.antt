@@ -25,6 +25,7 @@ use Rattle.txn_lang.specs.Tree.{tree}
 use Rattle.journal_core.specs.declared.ready.Ready.{Ready}
 use Rattle.journal_core.specs.Bodies.{IsBodyText}
 use Rattle.journal_core.specs.Changes.{changes, between, adding}
+use Rattle.journal_core.specs.Holds.{bars}
 use Rattle.journal_core.specs.Pairs.{pairs}
 use Rattle.journal_core.specs.Readies.{made_of}
 use Rattle.docc_prepare.specs.declared.attempt.Attempt.{Attempt}
@@ -114,22 +115,39 @@ pub record IsLeastBase (based : List Based) (base : ℕ) : Type 0 where
   pub is : observation.base ≡ base
   pub least : AllByRecursion (λ b. base ≤ b.base) based
 
--- The commit that is made of what was handed on stands at the end, behind commits of others, of which none clashes. The journal
--- had room for it.
+-- no live hold of another client bars what was handed on
+abbrev pub IsUnbarred : Known → Ready → Journal → Type 0
+IsUnbarred k ready journal = bars k.trusted journal k.client ready.run.deltas ≡ None
+
+-- The commit that is made of what was handed on stands at the end, behind commits of others, of which none clashes and none bars.
+-- The journal had room for it.
 pub record IsAdded (k : Known) (ready : Ready) (number : ℕ) (old new : Journal) : Type 0 where
   pub before : Journal
   pub grown : IsPrefix old before
   pub same_own : own k.client before ≡ own k.client old
   pub clear : pairs ready.based before ≡ []
+  pub unbarred : IsUnbarred k ready before
   pub numbered : number ≡ length before + 1
   pub within : number ≤ k.limit
   pub added : new ≡ before ++ made_of before ready ∷ []
+
+-- Nothing clashes, but the hold of a number bars, which is this client's. The client has seen it.
+pub record IsHeldBy (l : Known) (ready : Ready) (client number : ℕ) (journal : Journal) : Type 0 where
+  pub clear : pairs ready.based journal ≡ []
+  pub barred : bars l.trusted journal l.client ready.run.deltas ≡ Some (record { client = client; at = number })
+  pub seen : number ≤ l.seen
 
 -- the journal has as many commits as its limit, and the client has seen as many
 pub record IsFullAt (l : Known) (ready : Ready) (limit : ℕ) (journal : Journal) : Type 0 where
   pub limit_is : limit ≡ l.limit
   pub seen : limit ≤ l.seen
   pub clear : pairs ready.based journal ≡ []
+  pub unbarred : IsUnbarred l ready journal
+
+-- nothing clashes and nothing bars: it was the disk's alone
+pub record IsDenied (l : Known) (ready : Ready) (journal : Journal) : Type 0 where
+  pub clear : pairs ready.based journal ≡ []
+  pub unbarred : IsUnbarred l ready journal
 
 -- at each subscribed address there is what is pending since the last take, and elsewhere nothing
 abbrev pub IsTaken : Known → ℕ → Fed → Journal → Type 0
@@ -147,8 +165,9 @@ Row k l old new (Call.prepare shard based) (Answer.late base horizon) = IsLeastB
 Row k l old new (Call.prepare shard based) (Answer.clash w) = IsClash l based new w
 Row k l old new (Call.append ready) (Answer.number n) = (l.seen ≡ length new) × IsAdded k ready n old new
 Row k l old new (Call.append ready) (Answer.clash w) = IsClash l ready.based new w
+Row k l old new (Call.append ready) (Answer.held client number) = IsHeldBy l ready client number new
 Row k l old new (Call.append ready) (Answer.full limit) = IsFullAt l ready limit new
-Row k l old new (Call.append ready) Answer.disk = pairs ready.based new ≡ []
+Row k l old new (Call.append ready) Answer.disk = IsDenied l ready new
 Row k l old new (Call.read_at address number) (Answer.value v) = v ≡ state new number address
 Row k l old new (Call.read_at address number) (Answer.late n horizon) = IsBelowHorizon k number horizon new
 Row k l old new (Call.subscribe address) Answer.done = Unit {0}
@@ -182,6 +201,7 @@ Shows k l (Call.prepare shard based) (Answer.late base horizon) = Unit {0}
 Shows k l (Call.prepare shard based) (Answer.clash w) = IsOfOneKind w
 Shows k l (Call.append ready) (Answer.number n) = n ≡ l.seen
 Shows k l (Call.append ready) (Answer.clash w) = IsOfOneKind w
+Shows k l (Call.append ready) (Answer.held client number) = Unit {0}
 Shows k l (Call.append ready) (Answer.full limit) = Unit {0}
 Shows k l (Call.append ready) Answer.disk = Unit {0}
 Shows k l (Call.read_at address number) (Answer.value v) = (l.seen ≡ k.seen) × (kind_of v ≡ address.kind)

@@ -60,6 +60,8 @@ pub data Answer : Type 0 where
   done : Answer
   late : ℕ → ℕ → Answer
   clash : Witness → Answer
+  -- the live hold of another client bars, whose client and number these are
+  held : ℕ → ℕ → Answer
   full : ℕ → Answer
   disk : Answer
   -- by a fault of the store (true), or for want of memory (false)
@@ -104,6 +106,7 @@ front_answered (Err prepare_error.NoMemory) = Answer.failed false
 abbrev pub commit_answered : Result ℕ AppendError → Answer
 commit_answered (Ok n) = Answer.number n
 commit_answered (Err (append_error.Clash w)) = Answer.clash w
+commit_answered (Err (append_error.Held barred)) = Answer.held barred.client barred.at
 commit_answered (Err (append_error.Full limit)) = Answer.full limit
 commit_answered (Err append_error.Disk) = Answer.disk
 commit_answered (Err append_error.Fault) = Answer.failed true

@@ -7,6 +7,8 @@ use Rattle.rdt_types.specs.declared.address.Kind.TheVariants as kind
 use Rattle.rdt_types.specs.declared.address.Address.{Address}
 use Rattle.rdt_types.specs.declared.delta.Delta.TheVariants as delta
 use Rattle.rdt_types.specs.declared.operation.WriteOp.TheVariants as op
+use Rattle.rdt_types.specs.declared.outcome.Item.TheVariants as item
+use Rattle.rdt_types.specs.declared.outcome.Outcome.TheVariants as outcome
 use Rattle.rdt_types.specs.declared.value.Value.TheVariants as value
 use Rattle.rdt_types.specs.Addresses.{address_cmp}
 use Rattle.rdt_types.specs.Shards.{shard_of}
@@ -18,7 +20,9 @@ use Rattle.abort_witness.specs.declared.witness.Witness.{Witness}
 use Rattle.txn_lang.specs.States.{Journal, state}
 use Rattle.txn_lang.specs.Journals.{IsLegal}
 use Rattle.journal_core.specs.declared.ready.Ready.{Ready}
+use Rattle.journal_core.specs.declared.hold.Barred.{Barred}
 use Rattle.journal_core.specs.Changes.{changes, between, adding}
+use Rattle.journal_core.specs.Holds.{bars}
 use Rattle.journal_core.specs.Pairs.{least_pair, past_fronts}
 use Rattle.journal_core.specs.Readies.{made_of}
 pub use Rattle.version_shard.specs.Bases.{least_base, late_base}
@@ -105,19 +109,26 @@ prepare_at s client shard based front = (
 abbrev pub found_past : Store → Ready → Option Found
 found_past s ready = least_pair (past_fronts s.shards ready.fronts ready.based) s.journal
 
--- a clash past the fronts, where there is one, else full where the journal takes no more, and else the commit
-abbrev pub decided : Store → ℕ → Ready → Option Witness → Bool → Store × Answer
-decided s client ready (Some witness) full = (saw s client (length s.journal), Answer.clash witness)
-decided s client ready None true = (saw s client (length s.journal), Answer.full s.limit)
-decided s client ready None false = (saw (committed s ready) client (length s.journal + 1), Answer.number (length s.journal + 1))
+-- a clash past the fronts, where there is one, else held where a live hold bars, else full where the journal takes no more, and
+-- else the commit
+abbrev pub decided : Store → ℕ → Ready → Option Witness → Option Barred → Bool → Store × Answer
+decided s client ready (Some witness) barred full = (saw s client (length s.journal), Answer.clash witness)
+decided s client ready None (Some barred) full = (saw s client (length s.journal), Answer.held barred.client barred.at)
+decided s client ready None None true = (saw s client (length s.journal), Answer.full s.limit)
+decided s client ready None None false = (saw (committed s ready) client (length s.journal + 1), Answer.number (length s.journal + 1))
 
 -- the witness of that pair
 abbrev pub witness_past : Store → Ready → Option Witness
 witness_past s ready = option_and_then (witness_of ready.based s.journal) (found_past s ready)
 
--- an append: the least clash past the fronts aborts it, and a full journal refuses it
+-- the live hold that bars it, if there is one
+abbrev pub barred_by : Store → ℕ → Ready → Option Barred
+barred_by s client ready = bars 0 s.journal client ready.run.deltas
+
+-- an append: the least clash past the fronts aborts it, and a live hold or a full journal refuses it
 abbrev pub append_to : Store → ℕ → Ready → Store × Answer
-append_to s client ready = decided s client ready (witness_past s ready) (nat_le s.limit (length s.journal))
+append_to s client ready =
+    decided s client ready (witness_past s ready) (barred_by s client ready) (nat_le s.limit (length s.journal))
 
 -- a read at a number lets its shard follow to it
 abbrev pub read_back : Store → Address → ℕ → ℕ → Store × Answer
@@ -275,6 +286,27 @@ prepare-example :
     (step (followed with_one 5 1) 5 (Call.prepare 1 (read_at_base 0 ∷ []))).1
     ≡ Answer.clash (record { address = counter (codes "x"); obs = obs.CounterIs; base = 0; part = op.AddCounter (pos 1); number = 1 })
 prepare-example = refl
+
+-- a hold that bars is named before a full journal
+decided-held : (ready : Ready) → decided with_one 5 ready None (Some (record { client = 0; at = 1 })) true ≡ (saw with_one 5 1, Answer.held 0 1)
+decided-held ready = refl
+
+-- and a clash before a hold
+decided-clash : (ready : Ready) (w : Witness) (barred : Option Barred) → (decided with_one 5 ready (Some w) barred true).1 ≡ Answer.clash w
+decided-clash ready w barred = refl
+
+-- a commit that writes is no hold, and bars nobody
+barred-by-none : (ready : Ready) → barred_by with_one 5 ready ≡ None
+barred-by-none ready = refl
+
+-- a store in which client 0 has committed a hold
+abbrev with_hold_of_0 : Store
+with_hold_of_0 =
+    record with_one { journal = record (adding 1 (codes "x")) { outcome = outcome.Ok (item.Text (codes "hold") ∷ []); deltas = [] } ∷ [] }
+
+-- which doesn't bar that client
+barred-by-own : (ready : Ready) → barred_by with_hold_of_0 0 ready ≡ None
+barred-by-own ready = refl
 
 -- a client is told what it asked for, and to where that goes
 take-example :

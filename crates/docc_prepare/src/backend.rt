@@ -8,7 +8,7 @@ ghost use Rattle.docc_prepare.specs.Backends.{Goes, CanPrepare, CanAppend};
 
 use abort_witness::{BasedList, Witness};
 use change_feed::Feed;
-use journal_core::Ready;
+use journal_core::{Barred, Ready};
 use rdt_types::{Address, Value};
 use txn_lang::Snap;
 use version_shard::Prepared;
@@ -33,11 +33,13 @@ pub enum PrepareError {
     NoMemory,
 }
 
-/// Why nothing was committed. They are tested in the order clash, full, disk.
+/// Why nothing was committed. They are tested in the order clash, held, full, disk.
 #[derive(Debug, Drop)]
 pub enum AppendError {
     /// A commit clashes with an observation.
     Clash(Witness),
+    /// A live hold of another client bars the commit.
+    Held(Barred),
     /// The journal has as many commits as its limit, which is named.
     Full(u32),
     /// The disk denied the commit.

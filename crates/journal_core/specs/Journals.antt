@@ -112,6 +112,15 @@ Adds commit old (appended.Number number) new = (number ≡ commit.number) × (ne
 Adds commit old (appended.DiskFault before after) new = (before ≡ old.faults) × Rose before after × (new ≡ record old { faults = after })
 Adds commit old _ new = ⊥
 
+-- What an append answers and leaves where nothing clashes. The limit comes first: where it is reached, nothing changes. Below it
+-- the commit is added, or the keeper failed.
+abbrev pub AddsBelow : Commit → Standing → Appended → Standing → Type 0
+AddsBelow commit old (appended.Clash found) new = ⊥
+AddsBelow commit old (appended.Full limit) new = (limit ≡ old.limit) × (old.limit ≤ length old.commits) × (new ≡ old)
+AddsBelow commit old (appended.DiskFault before after) new =
+    (length old.commits < old.limit) × (before ≡ old.faults) × Rose before after × (new ≡ record old { faults = after })
+AddsBelow commit old (appended.Number number) new = (length old.commits < old.limit) × (number ≡ commit.number) × (new ≡ with_commit old commit)
+
 -- ---- worked lines
 
 abbrev counter : Address

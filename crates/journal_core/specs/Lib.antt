@@ -8,4 +8,5 @@ pub mod Keeping
 pub mod Limits
 pub mod Journals
 pub mod Witnesses
+pub mod Holds
 pub mod code

@@ -175,10 +175,29 @@ impl<K: Keep> Journal<K> {
         ensures may_fail { IfDiskFault result (K.may_fail ≡ true) }
         ensures steps { steps.new ≤ steps.old + most_steps (past_fronts self.old.shards ready.now.fronts ready.now.based) (spec.changes self.old.commits) }
     {
-        let (based, fronts) = (ready.based.as_slice(), ready.fronts.as_slice());
-        if let Some(found) = self.log.least_past(based, fronts, steps) {
+        if let Some(found) = self.clashes(ready, steps) {
             return Appended::Clash(found);
         }
+        self.append_clear(slot)
+    }
+
+    /// The clash past the prepared fronts that refuses an append, the least of them, if there is one. It takes no memory.
+    pub fn clashes<L: Ledger>(&self, ready: &Ready, steps: &mut Steps<L>) -> Option<Found>
+        requires places { HavePlaces ready.now.based }
+        ensures least { result ≡ journals.found_past ready.now self.now }
+        ensures steps { steps.new ≤ steps.old + most_steps (past_fronts self.now.shards ready.now.fronts ready.now.based) (spec.changes self.now.commits) }
+    {
+        let (based, fronts) = (ready.based.as_slice(), ready.fronts.as_slice());
+        self.log.least_past(based, fronts, steps)
+    }
+
+    /// What is left of an append where nothing clashes: adds the slot's commit, or says why not, at the limit or by a fault
+    /// of the keeper. It takes no memory.
+    pub fn append_clear(&mut self, slot: Slot) -> Appended
+        requires can_add { journals.CanAdd K.stands_for slot self.old }
+        ensures adds { journals.AddsBelow slot.commit self.old result self.new }
+        ensures may_fail { IfDiskFault result (K.may_fail ≡ true) }
+    {
         let limit = self.settings.limit;
         if self.length() >= limit as u64 {
             return Appended::Full(limit);

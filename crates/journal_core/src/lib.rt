@@ -4,12 +4,15 @@
 //!
 //! Read first `specs/Journals.antt` (what an append answers and leaves) and `specs/Pairs.antt` (the pairs of an observation
 //! and a commit, and their order). `specs/Changes.antt` says what a tail has, and `specs/Keeping.antt` what a keeper keeps.
+//! `specs/Holds.antt` says which commits are holds and whom they bar: an append is two calls, `clashes` and `append_clear`, so
+//! that a store can ask that between them.
 #![tactic(auto)]
 
 mod appended;
 mod by_shard;
 mod copying;
 mod deciding;
+mod hold;
 mod journal;
 mod keep;
 mod laws;
@@ -24,10 +27,11 @@ mod tails;
 mod walk;
 
 pub use appended::Appended;
+pub use hold::{Barred, Hold};
 pub use journal::Journal;
 pub use keep::{Keep, KeepFault, MemKeep};
 pub use laws::{least_is_first, least_pair_is_least};
 pub use lent::LentTail;
-pub use limits::{FIRST_UNTOLD_CLIENT, LONGEST_BODY};
+pub use limits::{FIRST_UNTOLD_CLIENT, HOLD_LASTS, LONGEST_BODY};
 pub use ready::{FrontList, PreparedFront, Ready};
 pub use slot::Slot;

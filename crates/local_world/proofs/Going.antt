@@ -13,6 +13,7 @@ use Rattle.abort_witness.specs.declared.witness.Based.{Based}
 use Rattle.abort_witness.specs.declared.witness.Witness.{Witness}
 use Rattle.txn_lang.specs.declared.snaps.Snap.{Snap}
 use Rattle.txn_lang.specs.States.{Journal, state}
+use Rattle.journal_core.specs.declared.hold.Barred.{Barred}
 use Rattle.journal_core.specs.declared.ready.Ready.{Ready}
 use Rattle.reactive_registry.specs.Registered.{Registered, is_subscribed}
 use Rattle.docc_prepare.specs.Calls.{Call, Answer}
@@ -117,30 +118,34 @@ does-read_at old client address number fronts a moved is =
     (ap (λ (ns : List ℕ). let p : Store × Answer = (t ns, back_at old.journal old.window address number front) in p) moved))
 
 -- an answer to an append is that of the step
-does-decided : (s t : Store) (client : ℕ) (ready : Ready) (o : Option Witness) (full : Bool) → t ≡ (decided s client ready o full).0
-    → (decided s client ready o full ≡ append_to s client ready) → Does s client (Call.append ready) (decided s client ready o full).1 t
-does-decided s t client ready (Some w) full left is = ap (λ (x : Store). let p : Store × Answer = (x, Answer.clash w) in p) left ∙ is
-does-decided s t client ready None true left is = ap (λ (x : Store). let p : Store × Answer = (x, Answer.full s.limit) in p) left ∙ is
-does-decided s t client ready None false left is = ap (λ (x : Store). let p : Store × Answer = (x, Answer.number (length s.journal + 1)) in p) left ∙ is
+does-decided : (s t : Store) (client : ℕ) (ready : Ready) (o : Option Witness) (b : Option Barred) (full : Bool) → t ≡ (decided s client ready o b full).0
+    → (decided s client ready o b full ≡ append_to s client ready) → Does s client (Call.append ready) (decided s client ready o b full).1 t
+does-decided s t client ready (Some w) b full left is = ap (λ (x : Store). let p : Store × Answer = (x, Answer.clash w) in p) left ∙ is
+does-decided s t client ready None (Some b) full left is = ap (λ (x : Store). let p : Store × Answer = (x, Answer.held b.client b.at) in p) left ∙ is
+does-decided s t client ready None None true left is = ap (λ (x : Store). let p : Store × Answer = (x, Answer.full s.limit) in p) left ∙ is
+does-decided s t client ready None None false left is = ap (λ (x : Store). let p : Store × Answer = (x, Answer.number (length s.journal + 1)) in p) left ∙ is
 
 -- by the decision: what a client has seen is the length of the journal that is left
-left-by : (s : Store) (client : ℕ) (ready : Ready) (o : Option Witness) (full : Bool) (left : Journal) → left ≡ (decided s client ready o full).0.journal
-    → (let t : Store = record s { journal = left; seens = set s.seens client (length left) } in t) ≡ (decided s client ready o full).0
-left-by s client ready (Some w) full left is = ap (λ (j : Journal). let t : Store = record s { journal = j; seens = set s.seens client (length j) } in t) is
-left-by s client ready None true left is = ap (λ (j : Journal). let t : Store = record s { journal = j; seens = set s.seens client (length j) } in t) is
-left-by s client ready None false left is =
+left-by : (s : Store) (client : ℕ) (ready : Ready) (o : Option Witness) (b : Option Barred) (full : Bool) (left : Journal)
+    → left ≡ (decided s client ready o b full).0.journal
+    → (let t : Store = record s { journal = left; seens = set s.seens client (length left) } in t) ≡ (decided s client ready o b full).0
+left-by s client ready (Some w) b full left is = ap (λ (j : Journal). let t : Store = record s { journal = j; seens = set s.seens client (length j) } in t) is
+left-by s client ready None (Some b) full left is = ap (λ (j : Journal). let t : Store = record s { journal = j; seens = set s.seens client (length j) } in t) is
+left-by s client ready None None true left is = ap (λ (j : Journal). let t : Store = record s { journal = j; seens = set s.seens client (length j) } in t) is
+left-by s client ready None None false left is =
     ap (λ (j : Journal). let t : Store = record s { journal = j; seens = set s.seens client (length j) } in t) is
-    ∙ ap (λ (n : ℕ). let t : Store = record s { journal = (decided s client ready None false).0.journal; seens = set s.seens client n } in t)
+    ∙ ap (λ (n : ℕ). let t : Store = record s { journal = (decided s client ready None None false).0.journal; seens = set s.seens client n } in t)
     (length-append s.journal _)
 
 -- what was decided is the step's answer, and the journal that is left is the step's
-pub does-append : (old : Stored) (client : ℕ) (ready : Ready) (a : Answer) (left : Journal) → IsDecided (store_of old) client ready a left
-    → Does (store_of old) client (Call.append ready) a (store_of (record old { journal = left; seens = set old.seens client (length left) }))
-does-append old client ready a left decides =
+pub does-append : (old : Stored) (ready : Ready) (a : Answer) (left : Journal) → IsDecided (store_of old) ready a left
+    → Does (store_of old) ready.client (Call.append ready) a (store_of (record old { journal = left; seens = set old.seens ready.client (length left) }))
+does-append old ready a left decides =
     let s = store_of old in
-    let t = store_of (record old { journal = left; seens = set old.seens client (length left) }) in
-    subst (λ b. Does s client (Call.append ready) b t) (sym decides.answer)
-    (does-decided s t client ready _ _ (left-by s client ready _ _ left decides.journal) refl)
+    let c = ready.client in
+    let t = store_of (record old { journal = left; seens = set old.seens c (length left) }) in
+    subst (λ b. Does s c (Call.append ready) b t) (sym decides.answer)
+    (does-decided s t c ready _ _ _ (left-by s c ready _ _ _ left decides.journal) refl)
 
 -- who is told changes at one address
 pub does-told : (old : Stored) (client : ℕ) (address : Address) (told : Bool) (registry : Registered)

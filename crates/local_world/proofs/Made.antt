@@ -13,6 +13,7 @@ use Rattle.rdt_types.specs.declared.limits.TheConstants.{LEAST_SHARDS}
 use Rattle.rdt_types.specs.declared.settings.Settings.{Settings}
 use Rattle.txn_lang.specs.States.{Journal}
 use Rattle.journal_core.specs.Journals.{Standing}
+use Rattle.hold_core.specs.Books.{Holding, first_holding, book_of}
 use Rattle.version_shard.specs.Shards.{Sharded}
 use Rattle.reactive_registry.specs.Registered.{Kept, Registered, entered, is_address, is_subscribed}
 use Rattle.reactive_registry.specs.Standing.{KeptFor}
@@ -78,15 +79,16 @@ module _ (registry : Registered) (made : IsEntered CLIENTS registry) where
         (first_store_is_sound settings.shards settings.window settings.limit
         (let some : LEAST_SHARDS ≤ settings.shards = settings.shards_in_range.0 in omega arith))
 
-    -- its shards and its registry stand for the journal without commits
-    pub first-kept : standing.shards ≡ settings.shards → standing.limit ≡ settings.limit → AreHeld [] settings shards
-        → IsKept settings standing shards seens registry
-    first-kept all_shards limit held = record {
+    -- its shards, its registry and its book stand for the journal without commits
+    pub first-kept : (book : Holding) → book ≡ first_holding 0 → standing.shards ≡ settings.shards → standing.limit ≡ settings.limit
+        → AreHeld [] settings shards → IsKept settings standing shards seens registry book
+    first-kept book empty all_shards limit held = record {
       sound = first-sound;
       all_shards = all_shards;
       limit_is = limit;
       held = subst (λ (j : Journal). AreHeld j settings shards) (sym bare) held;
       following = subst (λ (j : Journal). IsFollowing j registry) (sym bare) following-first;
+      book_is = empty ∙ ap (book_of 0) (sym bare);
     }
 
 -- ---- shards that have followed nothing

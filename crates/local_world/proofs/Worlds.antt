@@ -16,11 +16,14 @@ use Rattle.abort_witness.specs.Kinds.{IsBasedOfOneKind}
 use Rattle.txn_lang.specs.Journals.{IsLegal, own}
 use Rattle.txn_lang.specs.Tree.{tree}
 use Rattle.txn_eval.specs.Running.{values_of}
+use Rattle.journal_core.specs.declared.hold.Barred.{Barred}
 use Rattle.journal_core.specs.declared.ready.Ready.{Ready}
-use Rattle.journal_core.specs.Pairs.{least_pair, past_fronts, AreNumbered}
+use Rattle.journal_core.specs.Holds.{observed_alone, seen_behind, seen_by}
+use Rattle.journal_core.specs.Pairs.{pairs, least_pair, past_fronts, AreNumbered}
 use Rattle.journal_core.specs.Readies.{made_of}
 use Rattle.abort_witness.specs.declared.witness.Witness.{Witness}
-use Rattle.journal_core.specs.Journals.{Standing}
+use Rattle.journal_core.specs.Journals.{Standing, found_past}
+use Rattle.hold_core.specs.Books.{Holding, book_of}
 use Rattle.version_shard.specs.Shards.{Sharded}
 use Rattle.version_shard.specs.Standing.{Holds}
 use Rattle.reactive_registry.specs.Registered.{Registered, is_subscribed}
@@ -29,6 +32,8 @@ use Rattle.docc_prepare.specs.Backends.{CanCall, CanValidate, CanPrepare, CanApp
 use Rattle.docc_prepare.specs.Witnesses.{least_witness}
 use Rattle.docc_prepare.proofs.Each.{each-more}
 use Rattle.docc_prepare.proofs.Growing.{legal_is_orderly}
+use Rattle.docc_prepare.proofs.Missing.{none-of-least}
+use Rattle.docc_prepare.proofs.Undisturbed.{runs_as_it_ran}
 use Rattle.docc_prepare.proofs.Stored.{IsOf, one-kinds, found-is, stalled-sound, followed-sound}
 use Rattle.docc_prepare.proofs.Nexts.{appends}
 use Rattle.docc_prepare.specs.declared.limits.TheConstants.{CLIENTS}
@@ -43,14 +48,15 @@ use Rattle.local_world.proofs.Going.{goes_by, sound_after, stalled, unchanged, t
 use Rattle.local_world.proofs.Going.{does-told, does-take}
 
 -- what an append leaves is the journal, or one commit more
-left-cases : (s : Store) (client : ℕ) (ready : Ready) (o : Option Witness) (full : Bool) (left : Journal) → left ≡ (decided s client ready o full).0.journal
-    → (left ≡ s.journal) ⊎ (left ≡ s.journal ++ made_of s.journal ready ∷ [])
-left-cases s client ready (Some w) full left is = inl is
-left-cases s client ready None true left is = inl is
-left-cases s client ready None false left is = inr is
+left-cases : (s : Store) (client : ℕ) (ready : Ready) (o : Option Witness) (b : Option Barred) (full : Bool) (left : Journal)
+    → left ≡ (decided s client ready o b full).0.journal → (left ≡ s.journal) ⊎ (left ≡ s.journal ++ made_of s.journal ready ∷ [])
+left-cases s client ready (Some w) b full left is = inl is
+left-cases s client ready None (Some b) full left is = inl is
+left-cases s client ready None None true left is = inl is
+left-cases s client ready None None false left is = inr is
 
 module _ (settings : Settings) (standing : Standing) (shards : List Sharded) (seens : List ℕ) (registry : Registered)
-    (kept : IsKept settings standing shards seens registry) (client : ℕ) (below : client < CLIENTS) where
+    (book : Holding) (kept : IsKept settings standing shards seens registry book) (client : ℕ) (below : client < CLIENTS) where
   -- the world before the call
   abbrev old : Stored
   old = stored settings standing.commits shards seens registry
@@ -63,17 +69,16 @@ module _ (settings : Settings) (standing : Standing) (shards : List Sharded) (se
       subst (λ (o : Stored). GoesBy o client c a new) is (goes_by old new client c a kept.sound below here (does here))
 
   -- what goes by the step is a sound store, and the parts stand for its journal as before
-  pub stays : (standing' : Standing) (shards' : List Sharded) (seens' : List ℕ) (registry' : Registered) (c : Call) (a : Answer)
-      → CanCall (known_by (store_of old) client) c → Does (store_of old) client c a (store_of (stored settings standing'.commits shards' seens' registry'))
-      → standing'.shards ≡ standing.shards → standing'.limit ≡ standing.limit → AreHeld standing'.commits settings shards'
-      → IsFollowing standing'.commits registry'
-      → IsKept settings standing' shards' seens' registry'
-  stays standing' shards' seens' registry' c a can does all_shards limit held following = record {
-    sound = sound_after (store_of old) (store_of (stored settings standing'.commits shards' seens' registry')) client c a kept.sound below can does;
-    all_shards = all_shards ∙ kept.all_shards;
-    limit_is = limit ∙ kept.limit_is;
+  pub stays : (shards' : List Sharded) (seens' : List ℕ) (registry' : Registered) (c : Call) (a : Answer)
+      → CanCall (known_by (store_of old) client) c → Does (store_of old) client c a (store_of (stored settings standing.commits shards' seens' registry'))
+      → AreHeld standing.commits settings shards' → IsFollowing standing.commits registry' → IsKept settings standing shards' seens' registry' book
+  stays shards' seens' registry' c a can does held following = record {
+    sound = sound_after (store_of old) (store_of (stored settings standing.commits shards' seens' registry')) client c a kept.sound below can does;
+    all_shards = kept.all_shards;
+    limit_is = kept.limit_is;
     held = held;
     following = following;
+    book_is = kept.book_is;
   }
 
   -- the client is one of those whose number of seen commits is kept
@@ -192,6 +197,25 @@ module _ (settings : Settings) (standing : Standing) (shards : List Sharded) (se
       next = can.told.seq;
     }
 
+    -- it is this client's
+    mine : ready.client ≡ client
+    mine = ap (λ (r : Ready). r.client) of.made
+
+    -- without a pair the attempt's body runs behind the whole journal as it ran
+    runs-alone : least_pair ready.based standing.commits ≡ None → observed_alone standing.commits (made_of standing.commits ready) ≡ ready.run.observations
+    runs-alone none =
+        let clear : pairs ready.based standing.commits ≡ [] = none-of-least (pairs ready.based standing.commits) none in
+        ap (λ (r : Ready). seen_behind standing.commits (tree r.body)) of.made
+        ∙ ap (seen_behind standing.commits) of.text
+        ∙ ap seen_by (runs_as_it_ran standing.commits can.attempt ready.run (legal_is_orderly standing.commits kept.sound.legal)
+        (record { fits = of.fits; runs = of.runs; undisturbed = ap (λ (r : Ready). pairs r.based standing.commits) (sym of.made) ∙ clear }))
+
+    -- to look past the fronts is to look at all
+    looks-at-all : found_past ready standing ≡ least_pair ready.based standing.commits
+    looks-at-all =
+        ap (λ (n : ℕ). least_pair (past_fronts n ready.fronts ready.based) standing.commits) kept.all_shards
+        ∙ found-is (store_of old) kept.sound client ready can.attempt of
+
     -- the attempt fits the journal and its run is done, so the journal may decide on what it hands on
     pub may-decide : MayDecide ready standing
     may-decide = record {
@@ -203,12 +227,11 @@ module _ (settings : Settings) (standing : Standing) (shards : List Sharded) (se
         ran = of.runs;
       };
       body_text = can.body_text;
-      next = of.next ∙ ap (λ (n : ℕ). length (own n standing.commits) + 1) (sym (ap (λ (r : Ready). r.client) of.made));
-      spared =
-          ap (λ (n : ℕ). least_pair (past_fronts n ready.fronts ready.based) standing.commits) kept.all_shards
-          ∙ found-is (store_of old) kept.sound client ready can.attempt of;
+      next = of.next ∙ ap (λ (n : ℕ). length (own n standing.commits) + 1) (sym mine);
+      spared = looks-at-all;
       kinds = one-kinds (store_of old) kept.sound client ready can.attempt of;
       few = can.few;
+      alone = λ clear. runs-alone (sym looks-at-all ∙ clear);
     }
 
     -- the store of the world has the journal's commits and settings
@@ -217,33 +240,36 @@ module _ (settings : Settings) (standing : Standing) (shards : List Sharded) (se
 
     -- what the journal decides is the step's answer and leaves the step's journal, which the client has then seen
     pub appending : (a : Answer) (standing' : Standing) (seens' : List ℕ) (n : ℕ)
-        → ((s : Store) (c : ℕ) → HasJournal s standing → IsDecided s c ready a standing'.commits) → n ≡ length standing'.commits → seens' ≡ set seens client n
+        → ((s : Store) → HasJournal s standing → IsDecided s ready a standing'.commits) → n ≡ length standing'.commits → seens' ≡ set seens client n
         → Does (store_of old) client (Call.append ready) a (store_of (stored settings standing'.commits shards seens' registry))
     appending a standing' seens' n decides number seen =
-        subst (λ (ns : List ℕ). Does (store_of old) client (Call.append ready) a (store_of (stored settings standing'.commits shards ns registry)))
-        (sym (seen ∙ ap (set seens client) number))
-        (does-append old client ready a standing'.commits (decides (store_of old) client has-journal))
+        let after : List ℕ → Store = λ ns. store_of (stored settings standing'.commits shards ns registry) in
+        subst (λ (ns : List ℕ). Does (store_of old) client (Call.append ready) a (after ns)) (sym (seen ∙ ap (set seens client) number))
+        (subst (λ (c : ℕ). Does (store_of old) c (Call.append ready) a (after (set seens c (length standing'.commits)))) mine
+        (does-append old ready a standing'.commits (decides (store_of old) has-journal)))
 
     -- what the store's journal is after it: the same, or one commit longer
     pub held-after : (later : Journal) → AreHeld (standing.commits ++ later) settings shards
     held-after later = held-all-longer standing.commits later settings shards kept.held
 
     -- the shards and the registry go on standing for it
-    pub appended : (a : Answer) (standing' : Standing) (seens' : List ℕ) (n : ℕ)
-        → ((s : Store) (c : ℕ) → HasJournal s standing → IsDecided s c ready a standing'.commits) → n ≡ length standing'.commits → seens' ≡ set seens client n
-        → standing'.shards ≡ standing.shards → standing'.limit ≡ standing.limit → IsKept settings standing' shards seens' registry
-    appended a standing' seens' n decides number seen all_shards limit =
+    pub appended : (a : Answer) (standing' : Standing) (seens' : List ℕ) (n : ℕ) (book' : Holding)
+        → ((s : Store) → HasJournal s standing → IsDecided s ready a standing'.commits) → n ≡ length standing'.commits → seens' ≡ set seens client n
+        → standing'.shards ≡ standing.shards → standing'.limit ≡ standing.limit → book' ≡ book_of 0 standing'.commits
+        → IsKept settings standing' shards seens' registry book'
+    appended a standing' seens' n book' decides number seen all_shards limit book_is =
         let new : Store = store_of (stored settings standing'.commits shards seens' registry) in
         let sound : IsSound new = sound_after (store_of old) new client (Call.append ready) a kept.sound below can
         (appending a standing' seens' n decides number seen) in
         let orderly = legal_is_orderly standing'.commits sound.legal in
-        elim (left-cases (store_of old) client ready _ _ standing'.commits (decides (store_of old) client has-journal).journal) [
+        elim (left-cases (store_of old) ready.client ready _ _ _ standing'.commits (decides (store_of old) has-journal).journal) [
           | inl e ↦ record {
             sound = sound;
             all_shards = all_shards ∙ kept.all_shards;
             limit_is = limit ∙ kept.limit_is;
             held = subst (λ (j : Journal). AreHeld j settings shards) (sym e) kept.held;
             following = subst (λ (j : Journal). IsFollowing j registry) (sym e) kept.following;
+            book_is = book_is;
           }
           | inr e ↦ record {
             sound = sound;
@@ -254,18 +280,20 @@ module _ (settings : Settings) (standing : Standing) (shards : List Sharded) (se
             following = subst (λ (j : Journal). IsFollowing j registry) (sym e)
                 (following-longer standing.commits (made_of standing.commits ready ∷ []) registry (legal_is_orderly standing.commits kept.sound.legal).numbered
                 (subst AreNumbered e orderly.numbered) kept.following);
+            book_is = book_is;
           }
         ]
 
     -- for want of memory nothing was appended
-    pub not_appended : (standing' : Standing) → standing'.commits ≡ standing.commits → standing'.shards ≡ standing.shards → standing'.limit ≡ standing.limit
-        → IsKept settings standing' shards seens registry
-    not_appended standing' same all_shards limit = record {
+    pub not_appended : (standing' : Standing) (book' : Holding) → standing'.commits ≡ standing.commits → standing'.shards ≡ standing.shards
+        → standing'.limit ≡ standing.limit → book' ≡ book_of 0 standing'.commits → IsKept settings standing' shards seens registry book'
+    not_appended standing' book' same all_shards limit book_is = record {
       sound = subst (λ (j : Journal). IsSound (store_of (stored settings j shards seens registry))) (sym same) kept.sound;
       all_shards = all_shards ∙ kept.all_shards;
       limit_is = limit ∙ kept.limit_is;
       held = subst (λ (j : Journal). AreHeld j settings shards) (sym same) kept.held;
       following = subst (λ (j : Journal). IsFollowing j registry) (sym same) kept.following;
+      book_is = book_is;
     }
 
     -- for want of memory the journal stays as it is, and the store with it
@@ -292,22 +320,24 @@ module _ (settings : Settings) (standing : Standing) (shards : List Sharded) (se
         ∙ ap (made (set (fronts_of shards) shard (length standing.commits))) (seen ∙ ap (λ (k : ℕ). set seens client (max (get_or seens client 0) k)) end)
 
     -- a shard that follows leaves a sound store, and the other parts as they are
-    pub followed-kept : AreHeld standing.commits settings shards' → IsKept settings standing shards' seens' registry
+    pub followed-kept : AreHeld standing.commits settings shards' → IsKept settings standing shards' seens' registry book
     followed-kept held = record {
       sound = subst IsSound (sym followed-to) (followed-sound (store_of old) client kept.sound shard);
       all_shards = kept.all_shards;
       limit_is = kept.limit_is;
       held = held;
       following = kept.following;
+      book_is = kept.book_is;
     }
 
   -- for want of memory it may have followed some of the way
   pub stalled-kept : (shards' : List Sharded) → HaveRisen standing.commits (fronts_of shards) (fronts_of shards') → AreHeld standing.commits settings shards'
-      → IsKept settings standing shards' seens registry
+      → IsKept settings standing shards' seens registry book
   stalled-kept shards' risen held = record {
     sound = stalled-sound (store_of old) (store_of (stored settings standing.commits shards' seens registry)) kept.sound (want shards' risen);
     all_shards = kept.all_shards;
     limit_is = kept.limit_is;
     held = held;
     following = kept.following;
+    book_is = kept.book_is;
   }

@@ -1,15 +1,18 @@
 -- What the journal of a world decides, as the store does.
-use Rattle.std.specs.Prelude.{◌≡◌, ℕ, ◌+◌, length}
+use Rattle.std.specs.Prelude.{◌≡◌, ◌+◌, true, List, length, None}
 use Rattle.std.specs.List.{AllByRecursion}
 use Rattle.abort_witness.specs.Kinds.{IsBasedOfOneKind}
 use Rattle.abort_witness.specs.Pairs.{HavePlaces}
+use Rattle.txn_lang.specs.declared.commit.Commit.{Commit}
+use Rattle.txn_lang.specs.declared.run.Seen.{Seen}
 use Rattle.txn_lang.specs.States.{Journal}
 use Rattle.txn_lang.specs.Journals.{IsLegal, own}
 use Rattle.journal_core.specs.declared.ready.Ready.{Ready}
 use Rattle.journal_core.specs.Bodies.{IsBodyText}
+use Rattle.journal_core.specs.Holds.{is_hold, observed_alone}
 use Rattle.journal_core.specs.Journals.{Standing, found_past}
 use Rattle.journal_core.specs.Pairs.{least_pair}
-use Rattle.journal_core.specs.Readies.{IsRunOf}
+use Rattle.journal_core.specs.Readies.{IsRunOf, made_of}
 use Rattle.docc_prepare.specs.Calls.{Answer}
 use Rattle.docc_prepare.specs.Stores.{Store, append_to}
 
@@ -24,6 +27,12 @@ pub record MayDecide (ready : Ready) (standing : Standing) : Type 0 where
   pub spared : found_past ready standing ≡ least_pair ready.based standing.commits
   pub kinds : AllByRecursion IsBasedOfOneKind ready.based
   pub few : HavePlaces ready.based
+  -- where nothing clashes the body observes on what the journal leaves what its run observed
+  pub alone : found_past ready standing ≡ None → observed_alone standing.commits (made_of standing.commits ready) ≡ ready.run.observations
+
+-- where the commit is a hold, these are what its body observes behind the journal
+abbrev pub IsEnteredWith : Journal → Commit → List Seen → Type 0
+IsEnteredWith journal commit observations = is_hold 0 commit ≡ true → observations ≡ observed_alone journal commit
 
 -- the store has this journal, and its settings
 pub record HasJournal (s : Store) (standing : Standing) : Type 0 where
@@ -32,6 +41,6 @@ pub record HasJournal (s : Store) (standing : Standing) : Type 0 where
   pub limit : s.limit ≡ standing.limit
 
 -- The journal has decided as the store does: the answer is the store's, and the journal that of the store after it.
-pub record IsDecided (s : Store) (client : ℕ) (ready : Ready) (a : Answer) (left : Journal) : Type 0 where
-  pub answer : a ≡ (append_to s client ready).1
-  pub journal : left ≡ (append_to s client ready).0.journal
+pub record IsDecided (s : Store) (ready : Ready) (a : Answer) (left : Journal) : Type 0 where
+  pub answer : a ≡ (append_to s ready.client ready).1
+  pub journal : left ≡ (append_to s ready.client ready).0.journal

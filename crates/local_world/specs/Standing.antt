@@ -8,6 +8,7 @@ use Rattle.rdt_types.specs.declared.settings.Settings.{Settings}
 use Rattle.txn_lang.specs.States.{Journal}
 use Rattle.journal_core.specs.Changes.{changes, up_to}
 use Rattle.journal_core.specs.Journals.{Standing}
+use Rattle.hold_core.specs.Books.{Holding, book_of}
 use Rattle.version_shard.specs.Shards.{Sharded}
 use Rattle.version_shard.specs.Standing.{Holds}
 use Rattle.change_feed.specs.Feeds.{Fed}
@@ -81,9 +82,11 @@ stored settings journal shards seens registry = record {
 }
 
 -- The store is sound, and the parts of the world stand for its journal.
-pub record IsKept (settings : Settings) (standing : Standing) (shards : List Sharded) (seens : List ℕ) (registry : Registered) : Type 0 where
+pub record IsKept (settings : Settings) (standing : Standing) (shards : List Sharded) (seens : List ℕ) (registry : Registered) (book : Holding) : Type 0 where
   pub sound : IsSound (store_of (stored settings standing.commits shards seens registry))
   pub all_shards : standing.shards ≡ settings.shards
   pub limit_is : standing.limit ≡ settings.limit
   pub held : AreHeld standing.commits settings shards
   pub following : IsFollowing standing.commits registry
+  -- every commit was run, so the book has the holds of the whole journal
+  pub book_is : book ≡ book_of 0 standing.commits

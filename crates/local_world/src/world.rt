@@ -1,4 +1,4 @@
-//! The world: a journal, shards that follow it, what each client has seen, and a registry.
+//! The world: a journal, the book of its live holds, shards that follow it, what each client has seen, and a registry.
 
 ghost use Rattle.std.specs.Prelude.{◌≡◌, ◌<◌, ◌≤◌, length, IfOk, OnErr};
 ghost use Rattle.rdt_types.specs.declared.limits.TheConstants.{LEAST_SHARDS, MOST_SHARDS};
@@ -18,6 +18,7 @@ use crate::view::View;
 use abort_witness::BasedList;
 use change_feed::Feed;
 use docc_prepare::{AppendError, PrepareError, ReadAtError, StoreError};
+use hold_core::HoldBook;
 use journal_core::{Journal, MemKeep, Ready};
 use plain_data::Sequence;
 use rdt_types::{Address, Settings, Value};
@@ -32,8 +33,10 @@ use version_shard::{Prepared, Shard};
 /// registry keeps of each.
 #[derive(Drop)]
 pub struct World {
+    alloc: Global,
     settings: Settings,
     journal: Journal<MemKeep>,
+    holds: HoldBook,
     shards: Vec<Shard>,
     seens: Sequence<u64>,
     registry: Registry,
@@ -53,7 +56,7 @@ impl Model for World {
 
     ghost view = { λ w. stored w.settings w.journal.commits w.shards.items w.seens w.registry };
 
-    ghost invariant = { λ w. IsKept w.settings w.journal w.shards.items w.seens w.registry };
+    ghost invariant = { λ w. IsKept w.settings w.journal w.shards.items w.seens w.registry w.holds };
 }
 
 impl World {
@@ -63,12 +66,15 @@ impl World {
         ensures sound { IfOk result (λ world. IsSound (store_of world)) }
     {
         let journal = Journal::new(alloc, settings, MemKeep, CommitList::new(alloc))?;
+        let holds = HoldBook::new(alloc, 0)?;
         let shards = empty_shards(alloc, settings)?;
         let seens = nothing_seen(alloc)?;
         let registry = all_entered(alloc)?;
         Ok(World {
+            alloc,
             settings: *settings,
             journal,
+            holds,
             shards,
             seens,
             registry,
@@ -154,13 +160,19 @@ impl World {
         answer
     }
 
-    /// Validates the rest, and commits.
+    /// Validates the rest, asks the live holds, and commits.
     pub(crate) fn append(&mut self, client: u32, ready: &Ready) -> Result<u64, AppendError>
         requires client { client < CLIENTS }
         requires can { CanAppend (known_by (store_of self.old) client) ready.now }
         ensures { GoesBy self.old client (Call.append ready.now) (commit_answered result) self.new }
     {
-        let Ok(answer) = decide::<Brand>(Blank::new(1), &mut self.journal, ready) else {
+        let Ok(answer) = decide::<Brand>(
+            self.alloc,
+            Blank::new(1),
+            &mut self.journal,
+            &mut self.holds,
+            ready,
+        ) else {
             return Err(AppendError::NoMemory);
         };
         self.seens.set(client as usize, self.journal.length());

@@ -29,13 +29,13 @@ use Rattle.script_runner.specs.Play.{play_line}
 
 -- the settings of a store, as far as answers go by them
 abbrev pub setting_in : Store → Setting
-setting_in s = record { shards = s.shards; window = s.window; limit = s.limit }
+setting_in s = record { trusted = 0; shards = s.shards; window = s.window; limit = s.limit }
 
 -- the same settings, field by field
 same-setting-in : (s t : Store) (client : ℕ) → IsSameClient (known_by s client) (known_by t client) → setting_in t ≡ setting_in s
-same-setting-in s t client same = ap (λ (n : ℕ). record { shards = n; window = t.window; limit = t.limit }) same.shards
-    ∙ (ap (λ (n : ℕ). record { shards = s.shards; window = n; limit = t.limit }) same.window
-    ∙ ap (λ (n : ℕ). record { shards = s.shards; window = s.window; limit = n }) same.limit)
+same-setting-in s t client same = ap (λ (n : ℕ). record { trusted = 0; shards = n; window = t.window; limit = t.limit }) same.shards
+    ∙ (ap (λ (n : ℕ). record { trusted = 0; shards = s.shards; window = n; limit = t.limit }) same.window
+    ∙ ap (λ (n : ℕ). record { trusted = 0; shards = s.shards; window = s.window; limit = n }) same.limit)
 
 -- What calls of a client leave: a sound store of the same settings; and every other client's session goes on, and has seen no more.
 pub record CallsLeave (s : Store) (client : ℕ) (t : Store) : Type 0 where

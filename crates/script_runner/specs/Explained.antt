@@ -10,9 +10,9 @@ use Rattle.session_core.specs.declared.turn.Turn.TheVariants as turn
 use Rattle.session_core.specs.Explained.{Setting, Story, story_of, IsShown, IsPassed, story_after}
 use Rattle.script_runner.specs.Play.{Told, first_session, play}
 
--- the settings of a script, as far as answers go by them
+-- the settings of a script, as far as answers go by them: its store begins without commits, so each was run
 abbrev pub setting_of : Settings → Setting
-setting_of settings = record { shards = settings.shards; window = settings.window; limit = settings.limit }
+setting_of settings = record { trusted = 0; shards = settings.shards; window = settings.window; limit = settings.limit }
 
 -- a client's story before its first line: nothing was shown
 abbrev pub first_story : ℕ → Story

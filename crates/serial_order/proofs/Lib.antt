@@ -1,2 +1,3 @@
 mod Serial
 mod Growing
+mod Holding

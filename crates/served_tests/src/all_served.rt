@@ -1,7 +1,7 @@
 //! Tests of all sessions of a listener.
 
 ghost use Rattle.std.specs.Prelude.{◌≡◌, None};
-ghost use Rattle.diamond_store.specs.Numbers.{HasSettings};
+ghost use Rattle.diamond_store.specs.Numbers.{from_in, HasSettings};
 
 use diamond_server::{NO_CLIENT, serve_all};
 use diamond_store::{Book, Gate, Open, Store, open};
@@ -41,6 +41,7 @@ fn serve_over<
     requires lock { opened.lock ≡ N.lock }
     requires settings { HasSettings opened.lock.origin settings.now }
     requires author { opened.front.author ≡ None }
+    requires from { from_in opened.lock.origin ≡ opened.lock.base }
     requires whole { opened.lock.base ≡ 0 }
 {
     let (store, mut pass) = Store::<K, G, N>::new(alloc, settings, opened, gate)?;

@@ -2,7 +2,7 @@
 
 ghost use Rattle.std.specs.Prelude.{◌≡◌, None, []};
 ghost use Rattle.txn_lang.specs.Journals.{own};
-ghost use Rattle.diamond_store.specs.Numbers.{HasSettings};
+ghost use Rattle.diamond_store.specs.Numbers.{from_in, HasSettings};
 
 use diamond_server::{STORE_FAULT, serve_session};
 use diamond_store::{Book, JoinError, Open, Pass, Served, Store, open};
@@ -55,6 +55,7 @@ fn serve_first<K: End, N: Naming, R: Wait>(
     requires lock { opened.lock ≡ N.lock }
     requires settings { HasSettings opened.lock.origin settings.now }
     requires author { opened.front.author ≡ None }
+    requires from { from_in opened.lock.origin ≡ opened.lock.base }
     requires whole { opened.lock.base ≡ 0 }
 {
     let (store, pass) = TestStore::<N>::new(alloc, settings, opened, Open)?;
@@ -301,6 +302,7 @@ fn serve_two<N: Naming + Send + Sync, R: Threads + Wait + Abort + Sync>(
     requires lock { opened.lock ≡ N.lock }
     requires settings { HasSettings opened.lock.origin settings.now }
     requires author { opened.front.author ≡ None }
+    requires from { from_in opened.lock.origin ≡ opened.lock.base }
     requires whole { opened.lock.base ≡ 0 }
 {
     let (store, mut first) = TestStore::<N>::new(alloc, settings, opened, Open)?;
@@ -333,28 +335,58 @@ fn is_whole(served: &(MemLink, u8), replies: &[u8]) -> bool {
     served.1 == WHOLE && served.0.sink.taken() == replies
 }
 
-fn are_whole(both: &Result<Both, AllocError>, one: &[u8], two: &[u8]) -> bool {
+/// What each of two clients says, and what it is answered.
+struct Talk {
+    first: &'static [u8],
+    answers: &'static [u8],
+    second: &'static [u8],
+    second_answers: &'static [u8],
+}
+
+static TALKS: [Talk; 2] = [
+    // Each waits for what the other commits.
+    Talk {
+        first: b"watch w emit counter(\"x\").get();\ndo counter(\"y\").add(1);\nwait\nquit\n",
+        answers: b"run w 0 ok 0\ncommit 1 ok\nrun w 2 ok 1\ncurrent 2\ndropped\n",
+        second: b"wait\ndo counter(\"x\").add(1);\nquit\n",
+        second_answers: b"current 1\ncommit 2 ok\ndropped\n",
+    },
+    // What the first holds the second may not disturb, until the first has committed.
+    Talk {
+        first: b"do emit \"hold\"; emit counter(\"x\").get();\nwait\ndo counter(\"x\").put(counter(\"x\").get() + 1);\nquit\n",
+        answers: b"commit 1 ok \"hold\" 0\ncurrent 2\ncommit 3 ok\ndropped\n",
+        second: b"wait\ndo counter(\"x\").add(5);\ntry 2 counter(\"x\").put(counter(\"x\").get() + 5);\ndo emit 1;\nwait\ndo counter(\"x\").add(5); emit counter(\"x\").get();\nquit\n",
+        second_answers: b"current 1\nheld 0 commit 1\nheld 0 commit 1\ncommit 2 ok 1\ncurrent 3\ncommit 4 ok 6\ndropped\n",
+    },
+];
+
+/// The talks, so that the proof of a test doesn't go through them.
+fn talks() -> &'static [Talk] {
+    &TALKS
+}
+
+/// Whether both links came to their ends, and were answered as a talk says.
+fn are_answered_so(both: &Result<Both, AllocError>, talk: &Talk) -> bool {
     match both {
-        Ok((first, second)) => is_whole(first, one) && is_whole(second, two),
+        Ok((one, two)) => is_whole(one, talk.answers) && is_whole(two, talk.second_answers),
         Err(_) => false,
     }
 }
 
-/// Each of two sessions waits for what the other commits.
-#[test]
-fn sessions_wait_for_each_other(rt: HostRuntime) {
-    let alloc = rt.alloc();
-    let watcher = b"watch w emit counter(\"x\").get();\ndo counter(\"y\").add(1);\nwait\nquit\n";
-    let waiter = b"wait\ndo counter(\"x\").add(1);\nquit\n";
-    let watched = b"run w 0 ok 0\ncommit 1 ok\nrun w 2 ok 1\ncurrent 2\ndropped\n";
-    let waited = b"current 1\ncommit 2 ok\ndropped\n";
+/// Whether two sessions over one store come to a talk.
+fn is_talk<R: Threads + Wait + Abort + Sync>(rt: &R, alloc: Global, talk: &Talk) -> bool {
     match (
-        MemLink::new(alloc, watcher, 16, &[], &[]),
-        MemLink::new(alloc, waiter, 16, &[], &[]),
+        MemLink::new(alloc, talk.first, 16, &[], &[]),
+        MemLink::new(alloc, talk.second, 16, &[], &[]),
     ) {
-        (Ok(one), Ok(two)) => {
-            assert!(rt; are_whole(&both_served(&rt, alloc, one, two), watched, waited));
-        }
-        _ => assert!(rt; false),
+        (Ok(one), Ok(two)) => are_answered_so(&both_served(rt, alloc, one, two), talk),
+        _ => false,
+    }
+}
+
+#[test]
+fn sessions_wait_and_hold_each_other_back(rt: HostRuntime) {
+    for (number, talk) in talks().iter().enumerate() {
+        assert!(rt; is_talk(&rt, rt.alloc(), talk), "talk {number}");
     }
 }

@@ -131,7 +131,7 @@ module _ (w : Asking) (first : Journal) (before : w.begun ≤ w.low) where
               then_.1.0,
               moved_so l then_.0 m (held c l here a on holds answer m step e)
                   (subst (DrivePasses w then_.0 l.seen here left) e
-                  (go-explained w c l old then_.0 at.set at.low before at.there left a driven fits (next_event a) answer refl step says)),
+                  (go-explained w c l old then_.0 at.set at.low before at.there on.client left a driven fits (next_event a) answer refl step says)),
             ),
           )
 
@@ -247,7 +247,7 @@ module _ (w : Asking) (first : Journal) (before : w.begun ≤ w.low) where
             (
               then_.1.0,
               subst (StepPasses w then_.0 l.seen here) e
-                  (step-explained w c l old then_.0 at.set at.low before at.there a el eo (next_event a) answer refl step then_.1.1
+                  (step-explained w c l old then_.0 at.set at.low before at.there on.client a el eo (next_event a) answer refl step then_.1.1
                   (fitting l then_.0 answer step then_.1.0.told)),
             ),
           )
@@ -293,7 +293,7 @@ module _ (w : Asking) (first : Journal) (before : w.begun ≤ w.low) where
                 then_.0,
                 (
                   then_.1.0,
-                  late-over w c l old then_.0 at.set at.low before at.there t n body snaps m horizon looked step.shows.1
+                  late-over w c l old then_.0 at.set at.low t n body snaps m horizon looked step.shows.1
                       (let b = says.row.below in let same = step.shows.1 in omega arith) says.row.behind says.grows step.goes_on.seen,
                 ),
               )

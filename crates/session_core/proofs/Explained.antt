@@ -35,13 +35,14 @@ where-told R (Some c) None a b e f told = absurd (cc)
 where-told R (Some c) (Some d) a b e f told = let left : c ≡ a = cc in let right : d ≡ b = cc in subst (λ z. R z b) left (subst (R c) right told)
 
 -- the settings, by their numbers
-abbrev set_with : ℕ → ℕ → ℕ → Setting
-set_with shards window limit = record { shards = shards; window = window; limit = limit }
+abbrev set_with : ℕ → ℕ → ℕ → ℕ → Setting
+set_with trusted shards window limit = record { trusted = trusted; shards = shards; window = window; limit = limit }
 
 -- one store keeps its settings, number by number
 pub same-setting : (k l : Known) → IsSameClient k l → setting_of l ≡ setting_of k
-same-setting k l same = ap (λ (n : ℕ). set_with n l.window l.limit) same.shards
-    ∙ (ap (λ (n : ℕ). set_with k.shards n l.limit) same.window ∙ ap (λ (n : ℕ). set_with k.shards k.window n) same.limit)
+same-setting k l same = ap (λ (n : ℕ). set_with n l.shards l.window l.limit) same.trusted
+    ∙ (ap (λ (n : ℕ). set_with k.trusted n l.window l.limit) same.shards
+    ∙ (ap (λ (n : ℕ). set_with k.trusted k.shards n l.limit) same.window ∙ ap (λ (n : ℕ). set_with k.trusted k.shards k.window n) same.limit))
 
 -- ---- a line
 

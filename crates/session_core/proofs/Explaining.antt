@@ -27,13 +27,14 @@ use Rattle.txn_lang.proofs.Determinacy.{runs_are_determined}
 use Rattle.txn_lang.proofs.Observed.{observed_is_there}
 use Rattle.txn_eval.specs.Running.{values_of}
 use Rattle.journal_core.specs.declared.ready.PreparedFront.{PreparedFront}
+use Rattle.journal_core.specs.Holds.{bars}
 use Rattle.docc_prepare.specs.declared.attempt.Attempt.{Attempt}
 use Rattle.docc_prepare.specs.declared.attempt.Next.{Next}
 use Rattle.docc_prepare.specs.declared.attempt.Next.TheVariants as next
 use Rattle.docc_prepare.specs.Attempts.{SnapList, base_in, with_base, based, in_shard, has_front, lesser, least_unprepared, next_event}
 use Rattle.docc_prepare.specs.Attempts.{with_snap, with_front, Fits}
 use Rattle.docc_prepare.specs.Calls.{Known, Call, Answer}
-use Rattle.docc_prepare.specs.Calls.Answer.{number, snap, prepared, late, clash, full, disk}
+use Rattle.docc_prepare.specs.Calls.Answer.{number, snap, prepared, late, clash, held, full, disk}
 use Rattle.docc_prepare.specs.Backends.{IsPrefix, IsAnswered, SaysOfJournal}
 use Rattle.docc_prepare.proofs.Each.{each-more}
 use Rattle.docc_prepare.proofs.EachRead.{each-inserted, found}
@@ -50,7 +51,7 @@ use Rattle.session_core.specs.Explained.{IsOutcomeAt, PlainPasses, low_by, low_a
 use Rattle.session_core.specs.Explained.{setting_of, AreFrom}
 use Rattle.session_core.proofs.After.{session_after}
 use Rattle.session_core.proofs.Same.{attempt_same}
-use Rattle.session_core.proofs.Grown.{prefix-shorter, prefix-of, none-in-front}
+use Rattle.session_core.proofs.Grown.{prefix-whole, prefix-shorter, prefix-of, none-in-front}
 
 -- ---- what explains a line on its way
 
@@ -263,19 +264,48 @@ module _ (w : Asking) (journal : Journal) (seen : ℕ) (below : w.low ≤ seen) 
 
 -- ---- one step, from a told journal to another
 
+-- the window is that of the settings
+window-is : (w : Asking) (k : Known) → setting_of k ≡ w.set → k.window ≡ w.set.window
+window-is w k is = ap (λ (set : Setting). set.window) is
+
+module _ (w : Asking) (k l : Known) (old new : Journal) (is : setting_of k ≡ w.set) (below : w.low ≤ k.seen) where
+  -- a look's late number
+  pub late-over : (t : Session) (n : ℕ) (body : Checked) (snaps : SnapList) (m horizon : ℕ) → IsLooked w old k.seen t n body snaps → m ≡ n → m < horizon
+      → horizon + k.window ≤ length new
+      → IsPrefix old new → k.seen ≤ l.seen → IsOver w new l.seen t (said (reply.Late m horizon))
+  late-over t n body snaps m horizon h same under behind grows up = by h.at
+    where
+      within : m ≤ length new
+      within = let there = h.there in let more = prefix-shorter old new grows in omega arith
+
+      by : LooksAt w n body → IsOver w new l.seen t (said (reply.Late m horizon))
+      by (LooksAt.at_seen el from_low) = over-is w w.attempt (asked.Look body) new l.seen t (said (reply.Late m horizon)) refl el (record {
+        passes = (record { not_back = omega arith; within = within }, record { below = under; behind = let is_window = window-is w k is in omega arith });
+        session = h.session;
+        shown = omega arith;
+      })
+      by (LooksAt.at_named el) = over-is w w.attempt (asked.At n body) new l.seen t (said (reply.Late m horizon)) refl el (record {
+        passes = (same, record { below = under; behind = let is_window = window-is w k is in omega arith });
+        session = h.session;
+        shown = omega arith;
+      })
+
 module _ (w : Asking) (k l : Known) (old new : Journal) (is : setting_of k ≡ w.set) (below : w.low ≤ k.seen) (before : w.begun ≤ w.low)
-    (seen_there : k.seen ≤ length old) where
+    (seen_there : k.seen ≤ length old) (mine : w.session.client ≡ k.client) where
   -- the session while its attempt is under way
   abbrev here : Session
   here = closed w.session
 
-  -- the window is that of the settings
-  window-is : k.window ≡ w.set.window
-  window-is = ap (λ (set : Setting). set.window) is
-
-  -- so is the limit
+  -- the limit is that of the settings, too
   limit-is : k.limit ≡ w.set.limit
   limit-is = ap (λ (set : Setting). set.limit) is
+
+  -- what bars the client is what the backend knows to bar it
+  bars-is : (c : Known) → c.trusted ≡ k.trusted → c.client ≡ k.client → (journal : Journal) (run : Run)
+      → bars w.set.trusted journal w.session.client run.deltas ≡ bars c.trusted journal c.client run.deltas
+  bars-is c trusted client journal run =
+      ap (λ (m : ℕ). bars m journal w.session.client run.deltas) (sym (trusted ∙ ap (λ (set : Setting). set.trusted) is))
+      ∙ ap (λ (n : ℕ). bars c.trusted journal n run.deltas) (mine ∙ sym client)
 
   -- an end passes, and shows no number above what is seen then
   abbrev Ends : Option Attempt → Attempt → Reply → Type 0
@@ -294,7 +324,7 @@ module _ (w : Asking) (k l : Known) (old new : Journal) (is : setting_of k ≡ w
           run = run;
           next = e;
           least = says.row.0;
-          late = record { below = says.row.1.below; behind = let b = says.row.1.behind in let same = window-is in omega arith };
+          late = record { below = says.row.1.below; behind = let b = says.row.1.behind in let same = window-is w k is in omega arith };
         },
         let up = event.goes_on.seen in omega arith,
       )
@@ -313,6 +343,7 @@ module _ (w : Asking) (k l : Known) (old new : Journal) (is : setting_of k ≡ w
           number = says.row.1.numbered;
           above = let m = says.row.1.numbered in let more = prefix-shorter old says.row.1.before says.row.1.grown in omega arith;
           clear = says.row.1.clear;
+          unbarred = bars-is k refl refl says.row.1.before run ∙ says.row.1.unbarred;
           outcome_is = refl;
         },
         let up = event.goes_on.seen in let n = event.shows in omega arith,
@@ -320,6 +351,19 @@ module _ (w : Asking) (k l : Known) (old new : Journal) (is : setting_of k ≡ w
   end-passes o a (next.Append run) (clash x) r e event says h =
       subst (Ends o a) (let same : reply.Abort x ≡ r = cc in same)
       (IsAborted.at_append run e says.row.least, let up = event.goes_on.seen in let n = says.row.seen in omega arith)
+  end-passes o a (next.Append run) (held client at) r e event says h =
+      subst (Ends o a) (let same : reply.Held client at ≡ r = cc in same) (
+        record {
+          run = run;
+          next = e;
+          first = length new;
+          shown = record { not_back = let up = event.goes_on.seen in let there = says.within in omega arith; within = omega arith };
+          clear = none-in-front (based_all a run) new (length new) says.row.clear;
+          barred = ap (λ (front : Journal). bars w.set.trusted front w.session.client run.deltas) (prefix-whole new)
+              ∙ (bars-is l event.client.trusted event.client.client new run ∙ says.row.barred);
+        },
+        let up = event.goes_on.seen in let there = says.row.seen in omega arith,
+      )
   end-passes o a (next.Append run) (full limit) r e event says h =
       subst (Ends o a) (let same : reply.Full limit ≡ r = cc in same) (
         record {
@@ -379,6 +423,9 @@ module _ (w : Asking) (k l : Known) (old new : Journal) (is : setting_of k ≡ w
     step-explained (next.Append run) (clash x) e event says fits =
         let p = end-passes (Some a) a (next.Append run) (clash x) (reply.Abort x) e event says refl in
         shown (ended here (reply.Abort x)) (reply.Abort x) (record { passes = p.0; session = refl; shown = p.1 })
+    step-explained (next.Append run) (held client at) e event says fits =
+        let p = end-passes (Some a) a (next.Append run) (held client at) (reply.Held client at) e event says refl in
+        shown (ended here (reply.Held client at)) (reply.Held client at) (record { passes = p.0; session = refl; shown = p.1 })
     step-explained (next.Append run) (full limit) e event says fits =
         let p = end-passes (Some a) a (next.Append run) (full limit) (reply.Full limit) e event says refl in
         shown (ended here (reply.Full limit)) (reply.Full limit) (record { passes = p.0; session = refl; shown = p.1 })
@@ -461,29 +508,10 @@ module _ (w : Asking) (k l : Known) (old new : Journal) (is : setting_of k ≡ w
         end-explained (reply.Commit n run.outcome) (λ o. end-passes o a (next.Append run) (number n) (reply.Commit n run.outcome) e event says refl)
     go-explained (next.Append run) (clash x) e event says =
         end-explained (reply.Abort x) (λ o. end-passes o a (next.Append run) (clash x) (reply.Abort x) e event says refl)
+    go-explained (next.Append run) (held client at) e event says =
+        end-explained (reply.Held client at) (λ o. end-passes o a (next.Append run) (held client at) (reply.Held client at) e event says refl)
     go-explained (next.Append run) (full limit) e event says =
         end-explained (reply.Full limit) (λ o. end-passes o a (next.Append run) (full limit) (reply.Full limit) e event says refl)
     go-explained (next.Append run) disk e event says =
         end-explained reply.Disk (λ o. end-passes o a (next.Append run) disk reply.Disk e event says refl)
     go-explained e answer is_next event says = tt
-
-  -- a look's late number
-  pub late-over : (t : Session) (n : ℕ) (body : Checked) (snaps : SnapList) (m horizon : ℕ) → IsLooked w old k.seen t n body snaps → m ≡ n → m < horizon
-      → horizon + k.window ≤ length new
-      → IsPrefix old new → k.seen ≤ l.seen → IsOver w new l.seen t (said (reply.Late m horizon))
-  late-over t n body snaps m horizon h same under behind grows up = by h.at
-    where
-      within : m ≤ length new
-      within = let there = h.there in let more = prefix-shorter old new grows in omega arith
-
-      by : LooksAt w n body → IsOver w new l.seen t (said (reply.Late m horizon))
-      by (LooksAt.at_seen el from_low) = over-is w w.attempt (asked.Look body) new l.seen t (said (reply.Late m horizon)) refl el (record {
-        passes = (record { not_back = omega arith; within = within }, record { below = under; behind = let is_window = window-is in omega arith });
-        session = h.session;
-        shown = omega arith;
-      })
-      by (LooksAt.at_named el) = over-is w w.attempt (asked.At n body) new l.seen t (said (reply.Late m horizon)) refl el (record {
-        passes = (same, record { below = under; behind = let is_window = window-is in omega arith });
-        session = h.session;
-        shown = omega arith;
-      })

@@ -271,17 +271,6 @@ maybe-unread : (o : Option Journal) (a : Attempt) → a.snaps ≡ [] → a.front
 maybe-unread None a unread unprepared = tt
 maybe-unread (Some journal) a unread unprepared = unread-fits journal a unread unprepared
 
--- an attempt that begins anew has read and prepared nothing, and its body and shards are as before
-pub afresh-holds : (k : Known) (a : Attempt) → Holds k a → Holds k (afresh a)
-afresh-holds k a h = record {
-  shards = h.shards;
-  text = h.text;
-  body_text = h.body_text;
-  reads = tt;
-  fronts = unread-fronts k (afresh a) (ran (afresh a)) refl;
-  told = maybe-unread k.journal (afresh a) refl refl;
-}
-
 module _ (k l : Known) (a : Attempt) (h : Holds k a) where
   -- the value that was read is the journal's at its base, and while the run needs a value there are no fronts
   read-fits : (old new : Journal) (address : Address) (s : Snap) → next_event a ≡ next.Read address → s.base ≡ l.seen

@@ -61,6 +61,10 @@ module _ (k l : Known) (s : Session) (a : Attempt) (is : Attends k (closed s)) (
   held-by (next.Append run) (clash w) m e event h =
       end (event_call s a (next.Append run)) (clash w) (reply.Abort w) m h (closed-on k l (closed s) (event_call s a (next.Append run))
       (clash w) event (λ old new own. own) event.goes_on.subscribed event.goes_on.taken is) event
+  held-by (next.Append run) (Answer.held client at) m e event h =
+      end (event_call s a (next.Append run)) (Answer.held client at) (reply.Held client at) m h
+      (closed-on k l (closed s) (event_call s a (next.Append run)) (Answer.held client at) event (λ old new own. own)
+      event.goes_on.subscribed event.goes_on.taken is) event
   held-by (next.Append run) (full limit) m e event h =
       end (event_call s a (next.Append run)) (full limit) (reply.Full limit) m h
       (closed-on k l (closed s) (event_call s a (next.Append run)) (full limit) event (λ old new own. own)

@@ -74,6 +74,7 @@ event_answers k l s a (next.Prepare shard run) (clash w) shows ok none = absurd 
 event_answers k l s a (next.Prepare shard run) answer shows ok none = absurd shows
 event_answers k l s a (next.Append run) (number n) shows ok none = absurd (cc)
 event_answers k l s a (next.Append run) (clash w) shows ok none = absurd (cc)
+event_answers k l s a (next.Append run) (Answer.held client at) shows ok none = absurd (cc)
 event_answers k l s a (next.Append run) (full limit) shows ok none = absurd (cc)
 event_answers k l s a (next.Append run) disk shows ok none = absurd (cc)
 event_answers k l s a (next.Append run) answer shows ok none = absurd shows
@@ -100,6 +101,8 @@ moved_spent calls a (next.Append run) (number n) m e spent is =
     subst (MovedSpent calls) (let same : moved.End a (reply.Commit n run.outcome) ≡ m = cc in same) tt
 moved_spent calls a (next.Append run) (clash w) m e spent is =
     subst (MovedSpent calls) (let same : moved.End a (reply.Abort w) ≡ m = cc in same) tt
+moved_spent calls a (next.Append run) (Answer.held client at) m e spent is =
+    subst (MovedSpent calls) (let same : moved.End a (reply.Held client at) ≡ m = cc in same) tt
 moved_spent calls a (next.Append run) (full limit) m e spent is =
     subst (MovedSpent calls) (let same : moved.End a (reply.Full limit) ≡ m = cc in same) tt
 moved_spent calls a (next.Append run) disk m e spent is = subst (MovedSpent calls) (let same : moved.End a reply.Disk ≡ m = cc in same) tt

@@ -7,6 +7,7 @@ use Rattle.session_text.specs.declared.reply.Reply.TheVariants as reply
 use Rattle.txn_lang.specs.declared.checked.Checked.{Checked}
 use Rattle.txn_lang.specs.Execution.{exec}
 use Rattle.txn_lang.specs.States.{Journal, known, left_by}
+use Rattle.journal_core.specs.Holds.{bars}
 use Rattle.journal_core.specs.Pairs.{pairs}
 use Rattle.docc_prepare.specs.declared.attempt.Attempt.{Attempt}
 use Rattle.docc_prepare.specs.Attempts.{with_snap, with_front}
@@ -52,12 +53,21 @@ module _ (set : Setting) (old new : Journal) (grows : IsPrefix old new) where
     number = h.number;
     above = h.above;
     clear = h.clear;
+    unbarred = h.unbarred;
     outcome_is = h.outcome_is;
   }
   end-stays low s a (reply.Abort w) (IsAborted.at_prepare shard run e least) = IsAborted.at_prepare shard run e
       (witness-stays (based_here a shard run) old new w grows least)
   end-stays low s a (reply.Abort w) (IsAborted.at_append run e least) = IsAborted.at_append run e
       (witness-stays (based_all a run) old new w grows least)
+  end-stays low s a (reply.Held client number) h = let same = prefix-take old new h.first grows h.shown.within in record {
+    run = h.run;
+    next = h.next;
+    first = h.first;
+    shown = shown-stays low h.first h.shown;
+    clear = ap (pairs (based_all a h.run)) same ∙ h.clear;
+    barred = ap (λ (front : Journal). bars set.trusted front s.client h.run.deltas) same ∙ h.barred;
+  }
   end-stays low s a (reply.Late base horizon)
       h = record { shard = h.shard; run = h.run; next = h.next; least = h.least; late = late-stays base horizon h.late }
   end-stays low s a (reply.Full limit) h = record {
@@ -85,6 +95,7 @@ module _ (set : Setting) (old new : Journal) (grows : IsPrefix old new) where
   step-stays y a (reply.Prepared shard front) h = (h.0, fits-on old new (with_front a shard front) grows h.1)
   step-stays y a (reply.Commit n outcome) h = end-stays y.low y.attempting a (reply.Commit n outcome) h
   step-stays y a (reply.Abort w) h = end-stays y.low y.attempting a (reply.Abort w) h
+  step-stays y a (reply.Held client number) h = end-stays y.low y.attempting a (reply.Held client number) h
   step-stays y a (reply.Late base horizon) h = end-stays y.low y.attempting a (reply.Late base horizon) h
   step-stays y a (reply.Full limit) h = end-stays y.low y.attempting a (reply.Full limit) h
   step-stays y a reply.Disk h = h

@@ -18,7 +18,7 @@ use Rattle.docc_prepare.specs.declared.attempt.Next.TheVariants as next
 use Rattle.docc_prepare.specs.Attempts.{SnapList, next_event}
 use Rattle.docc_prepare.specs.Calls.{Known, Call, Answer}
 use Rattle.docc_prepare.specs.Calls.Call.{refresh, append, read_at}
-use Rattle.docc_prepare.specs.Calls.Answer.{number, snap, prepared, value, late, clash, full, disk}
+use Rattle.docc_prepare.specs.Calls.Answer.{number, snap, prepared, value, late, clash, held, full, disk}
 use Rattle.docc_prepare.specs.Backends.{IsAnswered, SaysOfJournal}
 use Rattle.call_programs.specs.Programs.{Program, bind, Succeeds, Always}
 use Rattle.call_programs.proofs.Programs.{always_bind}
@@ -136,6 +136,8 @@ event_tells k c s a mine before = (before, λ answer l step ok. by l (next_event
     by l (next.Prepare shard run) (clash w) step = plain_said k l (reply.Abort w ∷ []) (refl, tt) (said l (next.Prepare shard run) (clash w) step)
     by l (next.Append run) (number n) step = said l (next.Append run) (number n) step run.outcome
     by l (next.Append run) (clash w) step = plain_said k l (reply.Abort w ∷ []) (refl, tt) (said l (next.Append run) (clash w) step)
+    by l (next.Append run) (held client at) step =
+        plain_said k l (reply.Held client at ∷ []) (refl, tt) (said l (next.Append run) (held client at) step)
     by l (next.Append run) (full limit) step = plain_said k l (reply.Full limit ∷ []) (refl, tt) (said l (next.Append run) (full limit) step)
     by l (next.Append run) disk step = said l (next.Append run) disk step
     by l e answer step = tt

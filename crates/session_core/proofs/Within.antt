@@ -15,7 +15,7 @@ use Rattle.docc_prepare.specs.declared.attempt.Next.{Next}
 use Rattle.docc_prepare.specs.declared.attempt.Next.TheVariants as next
 use Rattle.docc_prepare.specs.Attempts.{SnapList, next_event}
 use Rattle.docc_prepare.specs.Calls.{Call, Answer}
-use Rattle.docc_prepare.specs.Calls.Answer.{number, snap, prepared, value, late, clash, full, disk}
+use Rattle.docc_prepare.specs.Calls.Answer.{number, snap, prepared, value, late, clash, held, full, disk}
 use Rattle.call_programs.specs.Programs.{Program, bind}
 use Rattle.call_programs.specs.Safe.{CanSpend, Spends, IsWithin}
 use Rattle.call_programs.proofs.Safe.{then_within}
@@ -62,6 +62,7 @@ event_within n calls s a some spent = (some, λ answer m e ok. by m e (next_even
     by m e (next.Prepare shard run) is (clash w) = (e, tt)
     by m e (next.Append run) is (number k) = (e, tt)
     by m e (next.Append run) is (clash w) = (e, tt)
+    by m e (next.Append run) is (held client at) = (e, tt)
     by m e (next.Append run) is (full limit) = (e, tt)
     by m e (next.Append run) is disk = (e, tt)
     by m e event is answer = tt

@@ -12,7 +12,7 @@ use Rattle.docc_prepare.specs.declared.attempt.Next.TheVariants as next
 use Rattle.docc_prepare.specs.Attempts.{in_shard, based, next_event, with_snap, with_front, ready_of}
 use Rattle.docc_prepare.specs.Calls.{Call, Answer}
 use Rattle.docc_prepare.specs.Calls.Call.{read, prepare, append}
-use Rattle.docc_prepare.specs.Calls.Answer.{number, snap, prepared, late, clash, full, disk}
+use Rattle.docc_prepare.specs.Calls.Answer.{number, snap, prepared, late, clash, held, full, disk}
 use Rattle.client_watches.specs.declared.watching.Watching.{Watching}
 use Rattle.session_core.specs.declared.session.Session.{Session}
 use Rattle.session_core.specs.declared.moved.Moved.{Moved}
@@ -86,6 +86,7 @@ moved_at a (next.Prepare shard run) (late base horizon) = Some (moved.End a (rep
 moved_at a (next.Prepare shard run) (clash w) = Some (moved.End a (reply.Abort w))
 moved_at a (next.Append run) (number n) = Some (moved.End a (reply.Commit n run.outcome))
 moved_at a (next.Append run) (clash w) = Some (moved.End a (reply.Abort w))
+moved_at a (next.Append run) (held client at) = Some (moved.End a (reply.Held client at))
 moved_at a (next.Append run) (full limit) = Some (moved.End a (reply.Full limit))
 moved_at a (next.Append run) disk = Some (moved.End a reply.Disk)
 moved_at a n answer = None

@@ -22,6 +22,7 @@ use Rattle.txn_lang.specs.declared.run.Run.{Run}
 use Rattle.txn_lang.specs.declared.snaps.Snap.{Snap}
 use Rattle.txn_lang.specs.States.{Journal, state}
 use Rattle.journal_core.specs.Changes.{adding}
+use Rattle.journal_core.specs.Holds.{bars}
 use Rattle.journal_core.specs.Pairs.{pairs}
 use Rattle.docc_prepare.specs.declared.attempt.Attempt.{Attempt}
 use Rattle.docc_prepare.specs.declared.attempt.Next.TheVariants as next
@@ -40,8 +41,9 @@ use Rattle.session_core.specs.declared.turn.Turn.{Turn}
 use Rattle.session_core.specs.declared.turn.Turn.TheVariants as turn
 use Rattle.session_core.specs.Events.{seq_after, opened, said}
 
--- the store's settings, as far as replies tell of them
+-- the store's settings, as far as replies tell of them, and with how many commits, which nobody ran again, it was made
 pub record Setting : Type 0 where
+  pub trusted : ℕ
   pub shards : ℕ
   pub window : ℕ
   pub limit : ℕ
@@ -95,8 +97,8 @@ abbrev pub commit_by : Attempting → Attempt → Run → ℕ → Commit
 commit_by s a run n = record { number = n; client = s.client; seq = s.seq; body = a.body.source; outcome = run.outcome; deltas = run.deltas }
 
 -- The commit that is named stands at its number, by the client, with its next seq and the body's text, outcome and writes,
--- behind commits with which nothing that was observed clashes, past all that was shown.
-pub record IsCommitted (low : ℕ) (journal : Journal) (s : Attempting) (a : Attempt) (n : ℕ) (outcome : Outcome) : Type 0 where
+-- past all that was shown. Of the commits before it none clashes with what was observed, and no hold bars it.
+pub record IsCommitted (set : Setting) (low : ℕ) (journal : Journal) (s : Attempting) (a : Attempt) (n : ℕ) (outcome : Outcome) : Type 0 where
   pub run : Run
   pub next : next_event a ≡ next.Append run
   pub before : Journal
@@ -104,6 +106,7 @@ pub record IsCommitted (low : ℕ) (journal : Journal) (s : Attempting) (a : Att
   pub number : n ≡ length before + 1
   pub above : low < n
   pub clear : pairs (based_all a run) before ≡ []
+  pub unbarred : bars set.trusted before s.client run.deltas ≡ None
   pub outcome_is : outcome ≡ run.outcome
 
 -- The least pair is named: of what was observed in the shard that is prepared next; or of all that was observed.
@@ -111,6 +114,16 @@ pub data IsAborted (journal : Journal) (a : Attempt) (w : Witness) : Type 0 wher
   at_prepare : (shard : ℕ) (run : Run) → next_event a ≡ next.Prepare shard run → least_witness (based_here a shard run) journal ≡ Some w
       → IsAborted journal a w
   at_append : (run : Run) → next_event a ≡ next.Append run → least_witness (based_all a run) journal ≡ Some w → IsAborted journal a w
+
+-- Of some first commits of the journal, not fewer than were shown, none clashes; and behind them a live hold bars, whose client
+-- and number are named.
+pub record IsHeldBack (set : Setting) (low : ℕ) (journal : Journal) (s : Attempting) (a : Attempt) (client number : ℕ) : Type 0 where
+  pub run : Run
+  pub next : next_event a ≡ next.Append run
+  pub first : ℕ
+  pub shown : IsShown low journal first
+  pub clear : pairs (based_all a run) (take first journal) ≡ []
+  pub barred : bars set.trusted (take first journal) s.client run.deltas ≡ Some (record { client = client; at = number })
 
 -- The least base in the shard that is prepared next is below a horizon.
 pub record IsLateAttempt (set : Setting) (journal : Journal) (a : Attempt) (base horizon : ℕ) : Type 0 where
@@ -135,10 +148,12 @@ pub record IsAppended (a : Attempt) : Type 0 where
 
 -- an end, a row a reply
 abbrev pub EndPasses : Setting → Journal → ℕ → Attempting → Attempt → Reply → Type 0
--- it stands at its number with this outcome, and nothing before it clashes with what it observed
-EndPasses set journal low s a (reply.Commit n outcome) = IsCommitted low journal s a n outcome
+-- it stands at its number with this outcome, and nothing before it clashes with what it observed or bars it
+EndPasses set journal low s a (reply.Commit n outcome) = IsCommitted set low journal s a n outcome
 -- the least pair of an observation and a commit that clash is named
 EndPasses set journal low s a (reply.Abort w) = IsAborted journal a w
+-- nothing clashes, but the live hold of a client bars, and both are named
+EndPasses set journal low s a (reply.Held client number) = IsHeldBack set low journal s a client number
 -- the least base in the shard that comes next is below its horizon
 EndPasses set journal low s a (reply.Late base horizon) = IsLateAttempt set journal a base horizon
 -- the journal has as many commits as it may, and none of them clashes
@@ -285,6 +300,7 @@ low_by low (reply.Read address base) = max low base
 low_by low (reply.Prepared shard front) = max low front
 low_by low (reply.Commit n outcome) = max low n
 low_by low (reply.Abort w) = max low w.number
+low_by low (reply.Held client number) = max low number
 low_by low (reply.Full limit) = max low limit
 low_by low (reply.Ran name n outcome) = max low n
 low_by low (reply.Current n) = max low n
@@ -379,7 +395,7 @@ Explains set journal y (l ∷ ls) [] = ⊥
 
 -- the settings of the store, as a client knows them
 abbrev pub setting_of : Known → Setting
-setting_of k = record { shards = k.shards; window = k.window; limit = k.limit }
+setting_of k = record { trusted = k.trusted; shards = k.shards; window = k.window; limit = k.limit }
 
 -- of a journal that is told, which may have grown
 pub record LinePasses (k l : Known) (y : Story) (line : Line) (t : Turn) (after : Session) (old new : Journal) : Type 0 where
@@ -449,6 +465,10 @@ at-shows-nothing outcome = refl
 
 look-shows : (outcome : Outcome) → looked_at 3 (reply.At 5 outcome) ≡ 5
 look-shows outcome = refl
+
+-- `held` shows the number of the hold
+held-shows : low_by 3 (reply.Held 0 5) ≡ 5
+held-shows = refl
 
 -- `late` shows nothing
 late-shows-nothing : low_by 3 (reply.Late 4 9) ≡ 3

@@ -255,6 +255,9 @@ abort-tries-again :
     (more : Attempt → Program Reply) (a : Attempt) (w : Witness) → then_again more (a, reply.Abort w) ≡ more (afresh a)
 abort-tries-again more a w = refl
 
+held-is-shown : (more : Attempt → Program Reply) (a : Attempt) → then_again more (a, reply.Held 0 2) ≡ Program.ends (reply.Held 0 2)
+held-is-shown more a = refl
+
 full-is-shown : (more : Attempt → Program Reply) (a : Attempt) → then_again more (a, reply.Full 9) ≡ Program.ends (reply.Full 9)
 full-is-shown more a = refl
 

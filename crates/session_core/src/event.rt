@@ -19,7 +19,7 @@ use crate::remembered::{Ran, Remembered};
 use crate::session::Session;
 use abort_witness::BasedList;
 use docc_prepare::{AppendError, Attempt, Backend, Next, PrepareError, StoreError};
-use journal_core::Ready;
+use journal_core::{Barred, Ready};
 use rdt_types::{Address, Outcome};
 use session_text::Reply;
 use std::alloc::{AllocError, Global};
@@ -96,6 +96,7 @@ fn after_append(
         Ok(number) => Ok(Reply::Commit(number, outcome)),
         Err(error) => match error {
             AppendError::Clash(witness) => Ok(Reply::Abort(witness)),
+            AppendError::Held(Barred { client, at }) => Ok(Reply::Held(client, at)),
             AppendError::Full(limit) => Ok(Reply::Full(limit)),
             AppendError::Disk => Ok(Reply::Disk),
             AppendError::Fault => Err(SessionError::StoreFault),

@@ -3,7 +3,7 @@
 //! client_watches).
 
 ghost use Rattle.std.specs.Prelude.{◌≡◌, None};
-ghost use Rattle.diamond_store.specs.Numbers.{HasSettings};
+ghost use Rattle.diamond_store.specs.Numbers.{from_in, HasSettings};
 
 use crate::broken::Broken;
 use crate::meeting::{Founder, is_printed, turn_text};
@@ -168,6 +168,7 @@ fn ends_in<N: Naming, R: Wait + Abort>(
 ) -> bool
     requires lock { opened.lock ≡ N.lock }
     requires settings { HasSettings opened.lock.origin settings.now }
+    requires from { from_in opened.lock.origin ≡ opened.lock.base }
     requires author { opened.front.author ≡ None }
     requires empty { opened.lock.base ≡ 0 }
 {

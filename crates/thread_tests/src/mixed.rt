@@ -1,7 +1,7 @@
 //! Eight clients in threads, with lines of every kind: what they were answered is held against their journal, run in one thread.
 
 ghost use Rattle.std.specs.Prelude.{◌≡◌, ◌<◌, None};
-ghost use Rattle.diamond_store.specs.Numbers.{HasSettings};
+ghost use Rattle.diamond_store.specs.Numbers.{from_in, HasSettings};
 
 use crate::meeting::Founder;
 use crate::replay::{Script, replies_stand, reply_of};
@@ -202,6 +202,7 @@ fn in_eight_threads<N: Naming + Send + Sync, R: Threads + Wait + Abort + Sync>(
 ) -> Result<Ran, AllocError>
     requires lock { opened.lock ≡ N.lock }
     requires settings { HasSettings opened.lock.origin settings.now }
+    requires from { from_in opened.lock.origin ≡ opened.lock.base }
     requires author { opened.front.author ≡ None }
     requires empty { opened.lock.base ≡ 0 }
 {

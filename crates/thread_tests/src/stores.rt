@@ -2,7 +2,7 @@
 
 ghost use Rattle.std.specs.Prelude.{◌≡◌, IfOk, None};
 ghost use Rattle.txn_lang.specs.Short.{IsShortAddress};
-ghost use Rattle.diamond_store.specs.Numbers.{HasSettings};
+ghost use Rattle.diamond_store.specs.Numbers.{from_in, HasSettings};
 
 use diamond_store::{Book, Open, Served, Store, open};
 use docc_prepare::Backend;
@@ -68,6 +68,7 @@ fn new_store<N: Naming, R: Wait>(
 ) -> bool
     requires lock { opened.lock ≡ N.lock }
     requires settings { HasSettings opened.lock.origin settings.now }
+    requires from { from_in opened.lock.origin ≡ opened.lock.base }
     requires author { opened.front.author ≡ None }
     requires short { IsShortAddress address.now }
 {

@@ -1,7 +1,7 @@
 //! Tries of a client over a store on which a rival is faster, as nobody can be between the events of a script's line.
 
 ghost use Rattle.std.specs.Prelude.{◌≡◌, None};
-ghost use Rattle.diamond_store.specs.Numbers.{HasSettings};
+ghost use Rattle.diamond_store.specs.Numbers.{from_in, HasSettings};
 ghost use Rattle.diamond_store.specs.Passes.{known_of};
 ghost use Rattle.session_core.specs.Holding.{Follows};
 
@@ -71,6 +71,21 @@ const OTHER_RAISED_AND_SEEN: &[&[u8]] = &[
     br#"look emit counter("x").get();"#,
 ];
 
+/// It holds what it has read of the counter.
+const HELD: &[&[u8]] = &[br#"do emit "hold"; emit counter("x").get();"#];
+
+/// It raises the counter first.
+const RAISED_AND_HELD: &[&[u8]] = &[
+    br#"do counter("x").add(1);"#,
+    br#"do emit "hold"; emit counter("x").get();"#,
+];
+
+/// It holds, and then commits what it held for.
+const HELD_AND_PUT: &[&[u8]] = &[
+    br#"do emit "hold"; emit counter("x").get();"#,
+    br#"do counter("x").put(counter("x").get() + 1);"#,
+];
+
 /// A try while the rival raises the counter so many times, each time before an append: how often, the line, the reply, and how
 /// often the rival would still do so.
 type Overtaken = (u32, &'static [u8], &'static [u8], u32);
@@ -129,7 +144,7 @@ static OVERTAKEN: [Overtaken; 8] = [
     ),
 ];
 
-static OTHERS: [Try; 6] = [
+static OTHERS: [Try; 11] = [
     // Refused at the preparing, by the shard.
     Try {
         size: Size::Standard,
@@ -188,6 +203,66 @@ static OTHERS: [Try; 6] = [
         line: br#"try 3 counter("x").put(counter("x").get() + 1);"#,
         reply: b"full 1",
         left: 1,
+    },
+    // Not where the hold of another client bars: its client and number are named.
+    Try {
+        size: Size::Standard,
+        plan: Plan {
+            moment: Moment::Append,
+            lines: HELD,
+            times: 2,
+        },
+        line: br#"try 3 counter("x").put(counter("x").get() + 1);"#,
+        reply: b"held 1 commit 1",
+        left: 1,
+    },
+    // It bars what has read nothing, too, and though the journal is full;
+    Try {
+        size: Size::JournalOfOne,
+        plan: Plan {
+            moment: Moment::Append,
+            lines: HELD,
+            times: 1,
+        },
+        line: br#"do counter("x").add(5);"#,
+        reply: b"held 1 commit 1",
+        left: 0,
+    },
+    // but not what writes elsewhere.
+    Try {
+        size: Size::Standard,
+        plan: Plan {
+            moment: Moment::Append,
+            lines: HELD,
+            times: 1,
+        },
+        line: br#"do counter("y").add(5);"#,
+        reply: b"commit 2 ok",
+        left: 0,
+    },
+    // A clash comes first.
+    Try {
+        size: Size::Standard,
+        plan: Plan {
+            moment: Moment::Append,
+            lines: RAISED_AND_HELD,
+            times: 1,
+        },
+        line: br#"do counter("x").put(counter("x").get() + 1);"#,
+        reply: br#"abort counter("x") whole base 0 clash add 1 commit 1"#,
+        left: 0,
+    },
+    // Whoever holds is not barred, and its next commit ends the hold.
+    Try {
+        size: Size::Standard,
+        plan: Plan {
+            moment: Moment::Append,
+            lines: HELD_AND_PUT,
+            times: 1,
+        },
+        line: br#"do counter("x").add(5);"#,
+        reply: b"commit 3 ok",
+        left: 0,
     },
     // The first attempt is refused for the clash, though the journal is full; the second finds it full.
     Try {
@@ -260,6 +335,7 @@ fn tried<N: Naming, R: Wait + Abort>(
 ) -> bool
     requires lock { opened.lock ≡ N.lock }
     requires settings { HasSettings opened.lock.origin settings.now }
+    requires from { from_in opened.lock.origin ≡ opened.lock.base }
     requires author { opened.front.author ≡ None }
     requires empty { opened.lock.base ≡ 0 }
 {

@@ -1,7 +1,7 @@
 //! Sessions of two clients on one store, each in a thread of its own.
 
 ghost use Rattle.std.specs.Prelude.{◌≡◌, None};
-ghost use Rattle.diamond_store.specs.Numbers.{HasSettings};
+ghost use Rattle.diamond_store.specs.Numbers.{from_in, HasSettings};
 
 use crate::meeting::Founder;
 use crate::talker::{Newcomer, Talker, TestPass, TestStore};
@@ -128,6 +128,7 @@ fn in_two_threads<N: Naming + Send + Sync, R: Threads + Wait + Abort + Sync>(
 ) -> Result<Done, AllocError>
     requires lock { opened.lock ≡ N.lock }
     requires settings { HasSettings opened.lock.origin settings.now }
+    requires from { from_in opened.lock.origin ≡ opened.lock.base }
     requires author { opened.front.author ≡ None }
     requires empty { opened.lock.base ≡ 0 }
 {
@@ -221,6 +222,7 @@ fn wait_on_its_own<N: Naming + Send + Sync, R: Threads + Wait + Abort + Sync>(
 )
     requires lock { opened.lock ≡ N.lock }
     requires settings { HasSettings opened.lock.origin settings.now }
+    requires from { from_in opened.lock.origin ≡ opened.lock.base }
     requires author { opened.front.author ≡ None }
     requires empty { opened.lock.base ≡ 0 }
 {

@@ -1,7 +1,7 @@
 //! A watch of one client on a store, beside what another client commits there.
 
 ghost use Rattle.std.specs.Prelude.{◌≡◌, None};
-ghost use Rattle.diamond_store.specs.Numbers.{HasSettings};
+ghost use Rattle.diamond_store.specs.Numbers.{from_in, HasSettings};
 
 use crate::meeting::{Founder, is_printed, turn_text};
 use crate::talker::{Talker, TestStore};
@@ -113,6 +113,7 @@ fn watched<N: Naming, R: Wait + Abort>(
 )
     requires lock { opened.lock ≡ N.lock }
     requires settings { HasSettings opened.lock.origin settings.now }
+    requires from { from_in opened.lock.origin ≡ opened.lock.base }
     requires author { opened.front.author ≡ None }
     requires empty { opened.lock.base ≡ 0 }
 {

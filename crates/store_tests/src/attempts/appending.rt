@@ -175,6 +175,25 @@ fn decided<L: Ledger, K: Keep>(
     journal.append(ready, slot, &mut Steps::<L>::new(blank))
 }
 
+/// What the journal answers to a slot by the two parts of an append, or nothing where something clashes.
+fn cleared<L: Ledger, K: Keep>(
+    blank: Blank,
+    journal: &mut Journal<K>,
+    ready: &Ready,
+    slot: Slot,
+) -> Option<Appended>
+    requires name { blank.name ≡ L.name }
+    requires parts { blank.parts ≡ L.parts }
+    requires one { blank.parts ≡ 1 }
+    requires can { CanAppend K.stands_for ready.now slot journal.old }
+    requires few { length ready.now.based < 2 ^ 32 }
+{
+    match journal.clashes(ready, &mut Steps::<L>::new(blank)) {
+        Some(_found) => None,
+        None => Some(journal.append_clear(slot)),
+    }
+}
+
 /// What a witness says in short.
 fn clash(witness: &Witness) -> End {
     if witness.address.key.as_slice() == b"x".as_slice() {
@@ -291,8 +310,8 @@ fn goes_first(
     let number = slot.commit.number;
     let other = number_of(&journal.reserve(second));
     let length = journal.length();
-    let answer = decided::<Brand, MemKeep>(Blank::new(1), journal, first, slot);
-    Ok((number, other, length) == (4, Some(4), 3) && answer == Appended::Number(4))
+    let answer = cleared::<Brand, MemKeep>(Blank::new(1), journal, first, slot);
+    Ok((number, other, length) == (4, Some(4), 3) && answer == Some(Appended::Number(4)))
 }
 
 /// Whether that is so of two clients that read the counter `x` at 3.

@@ -4,21 +4,17 @@ use Rattle.plain_data.specs.Histories.{IsLawful}
 use Rattle.txn_lang.specs.declared.commit.Commit.{Commit}
 use Rattle.diamond_store.specs.Books.{Booked, numbers}
 use Rattle.diamond_store.specs.Following.{Follows}
-use Rattle.diamond_store.specs.Numbers.{shards_in}
-use Rattle.diamond_store.specs.Settling.{CanSettle}
-use Rattle.diamond_store.proofs.Added.{settle-now, settles-here, lawful-book, adds-says}
+use Rattle.diamond_store.proofs.Added.{settle-here, settles-here, lawful-book, adds-says}
 use Rattle.diamond_store.proofs.Sound.{lawful-sound}
 use Rattle.diamond_store.proofs.appending.add.Goals as goal
 
 pub append-decision-requires : goal.append-decision-requires
 append-decision-requires g c =
-    let t = c.enter-guard.new.front in
-    let list : t.seen ≡ c.deref_mut.result.now.journal.commits =
-    c.enter-guard.ensures.value.seen ∙ ap (λ (b : Booked). b.journal.commits) (sym c.deref_mut.ensures.value) in
     record {
-      can =
-          subst (CanSettle c.args.ready.now) list (settle-now g.N.Naming.lock.base (shards_in g.N.Naming.lock.origin) c.args.token.now t c.args.ready.now
-          c.requires.author c.requires.owed c.enter-guard.ensures.later c.enter-guard.ensures.lawful);
+      can = settle-here g.N.Naming.lock.base g.N.Naming.lock.origin c.args.token.now c.enter-guard.new.front c.args.ready.now c.requires.author
+          c.requires.owed c.enter-guard.ensures.later c.enter-guard.ensures.lawful c.deref_mut.result.now
+          (c.enter-guard.ensures.value.seen ∙ ap (λ (b : Booked). b.journal.commits) (sym c.deref_mut.ensures.value))
+          (ap numbers c.deref_mut.ensures.value ∙ c.enter-guard.ensures.origin);
     }
 
 pub leave-requires-clause-lawful : goal.leave-requires-clause-lawful

@@ -31,6 +31,6 @@ returns-clause-answered g c =
     let p = c.pass.inside in
     rw (← c.pass.view_is) (was-appended-at g.N.Naming.lock.origin g.N.Naming.lock.base p.client p.front c.add.new.token p.seen p.taken
     c.entries-pass-inside.result p.settings c.pass.invariant p.subscribed.keys p.denied c.counted-pass-inside.result c.args.ready.now
-    (subst (λ (q : Passed). CanAppend (known_of q) c.args.ready.now) (sym c.pass.view_is) c.requires) c.add.ensures.lawful c.count-known.result
+    (subst (λ (q : Passed). CanAppend (known_of q) c.args.ready.now) (sym c.pass.view_is) c.requires) c.add.ensures.lawful c.self.invariant.from c.count-known.result
     c.count.result c.in-Ok.decision c.in-Ok.ensures.adds (let is = c.count.ensures.count in omega arith) c.answer.result c.answer.ensures
     c.entries-pass-inside.ensures c.counted-pass-inside.ensures)

@@ -14,25 +14,25 @@ pub validate_in-requires-clause-here : goal.validate_in-requires-clause-here
 validate_in-requires-clause-here c =
     subst (λ bs. AllByRecursion (λ b. shard_of b.address c.index-here.result.now.shards ≡ c.index-here.result.now.number) bs)
     (sym c.as_slice.ensures) (all-here c.self.inside.settings c.self.inside.journal c.self.inside.shards.items c.self.inside.seens
-    c.self.inside.registry c.self.invariant c.args.client c.requires.client c.args.shard c.args.based.now c.index-here.result.now
+    c.self.inside.registry c.self.inside.holds c.self.invariant c.args.client c.requires.client c.args.shard c.args.based.now c.index-here.result.now
     (subst (λ (o : Stored). CanPrepare (known_by (store_of o) c.args.client) c.args.shard c.args.based.now)
     (sym c.self.view_is) c.requires.can) c.index-here.ensures)
 
 pub validate_in-requires-clause-kinds : goal.validate_in-requires-clause-kinds
 validate_in-requires-clause-kinds c =
     subst (AllByRecursion IsBasedOfOneKind) (sym c.as_slice.ensures) (all-kinds c.self.inside.settings c.self.inside.journal
-    c.self.inside.shards.items c.self.inside.seens c.self.inside.registry c.self.invariant c.args.client c.requires.client c.args.shard
+    c.self.inside.shards.items c.self.inside.seens c.self.inside.registry c.self.inside.holds c.self.invariant c.args.client c.requires.client c.args.shard
     c.args.based.now c.index-here.result.now (subst (λ (o : Stored). CanPrepare
     (known_by (store_of o) c.args.client) c.args.shard c.args.based.now) (sym c.self.view_is) c.requires.can) c.index-here.ensures)
 
 pub set-requires : goal.set-requires
 set-requires c =
-    client-there c.self.inside.settings c.self.inside.journal c.self.inside.shards.items c.self.inside.seens c.self.inside.registry c.self.invariant
+    client-there c.self.inside.settings c.self.inside.journal c.self.inside.shards.items c.self.inside.seens c.self.inside.registry c.self.inside.holds c.self.invariant
     c.args.client c.requires.client
 
 pub returns-in_default : goal.returns-in_default
 returns-in_default c =
-    goes c.self.inside.settings c.self.inside.journal c.self.inside.shards.items c.self.inside.seens c.self.inside.registry c.self.invariant
+    goes c.self.inside.settings c.self.inside.journal c.self.inside.shards.items c.self.inside.seens c.self.inside.registry c.self.inside.holds c.self.invariant
     c.args.client c.requires.client
     c.args.self.now c.args.self.now (Call.prepare c.args.shard c.args.based.now) (Answer.failed false) c.self.view_is (c.requires.can)
     (λ can. (
@@ -40,17 +40,17 @@ returns-in_default c =
       subst (λ (o : Stored). HasStalled (store_of (stored c.self.inside.settings c.self.inside.journal.commits c.self.inside.shards.items
           c.self.inside.seens c.self.inside.registry)) (store_of o))
           c.self.view_is (want_nothing c.self.inside.settings c.self.inside.journal c.self.inside.shards.items c.self.inside.seens
-          c.self.inside.registry c.self.invariant c.args.client c.requires.client),
+          c.self.inside.registry c.self.inside.holds c.self.invariant c.args.client c.requires.client),
     ))
 
 pub invariant_of-self : goal.invariant_of-self
 invariant_of-self c =
-    stays c.self.inside.settings c.self.inside.journal c.self.inside.shards.items c.self.inside.seens c.self.inside.registry c.self.invariant
+    stays c.self.inside.settings c.self.inside.journal c.self.inside.shards.items c.self.inside.seens c.self.inside.registry c.self.inside.holds c.self.invariant
     c.args.client c.requires.client
-    c.self.inside.journal c.self.inside.shards.items c.set.new.self c.self.inside.registry (Call.prepare c.args.shard c.args.based.now)
+    c.self.inside.shards.items c.set.new.self c.self.inside.registry (Call.prepare c.args.shard c.args.based.now)
     (front_answered c.in-Ok.answer) (subst (λ (o : Stored). CanPrepare (known_by (store_of o) c.args.client) c.args.shard c.args.based.now)
     (sym c.self.view_is) c.requires.can)
-    (preparing c.self.inside.settings c.self.inside.journal c.self.inside.shards.items c.self.inside.seens c.self.inside.registry c.self.invariant
+    (preparing c.self.inside.settings c.self.inside.journal c.self.inside.shards.items c.self.inside.seens c.self.inside.registry c.self.inside.holds c.self.invariant
     c.args.client c.requires.client c.args.shard c.args.based.now c.index-here.result.now
     (subst (λ (o : Stored). CanPrepare (known_by (store_of o) c.args.client) c.args.shard c.args.based.now)
     (sym c.self.view_is) c.requires.can) c.index-here.ensures (front_answered c.in-Ok.answer) c.set.new.self c.as_slice.result.now
@@ -58,15 +58,15 @@ invariant_of-self c =
     ∙ ap (λ (n : ℕ). set c.self.inside.seens c.args.client (max n c.front-front.result))
     (ap (λ ns. get_or ns c.args.client 0) c.as_slice-2.ensures) ∙ ap (λ (n : ℕ). set c.self.inside.seens c.args.client
     (max (get_or c.self.inside.seens c.args.client 0) n)) c.front-front.ensures))
-    refl refl (c.self.invariant.held) (c.self.invariant.following)
+    c.self.invariant.held (c.self.invariant.following)
 
 pub returns : goal.returns
 returns c =
-    goes c.self.inside.settings c.self.inside.journal c.self.inside.shards.items c.self.inside.seens c.self.inside.registry c.self.invariant
+    goes c.self.inside.settings c.self.inside.journal c.self.inside.shards.items c.self.inside.seens c.self.inside.registry c.self.inside.holds c.self.invariant
     c.args.client c.requires.client
     c.args.self.now (stored c.self.inside.settings c.self.inside.journal.commits c.self.inside.shards.items c.set.new.self c.self.inside.registry)
     (Call.prepare c.args.shard c.args.based.now) (front_answered c.in-Ok.answer) c.self.view_is (c.requires.can)
-    (λ can. preparing c.self.inside.settings c.self.inside.journal c.self.inside.shards.items c.self.inside.seens c.self.inside.registry
+    (λ can. preparing c.self.inside.settings c.self.inside.journal c.self.inside.shards.items c.self.inside.seens c.self.inside.registry c.self.inside.holds
     c.self.invariant c.args.client c.requires.client c.args.shard c.args.based.now c.index-here.result.now
     (subst (λ (o : Stored). CanPrepare (known_by (store_of o) c.args.client) c.args.shard c.args.based.now)
     (sym c.self.view_is) c.requires.can) c.index-here.ensures (front_answered c.in-Ok.answer) c.set.new.self c.as_slice.result.now

@@ -9,7 +9,7 @@ use Rattle.local_world.specs.Standing.{fronts_of}
 pub bounds-as_slice-client : goal.bounds-as_slice-client
 bounds-as_slice-client c =
     subst (λ ns. c.args.client < length ns) (sym c.as_slice.ensures) (client-there c.self.inside.settings c.self.inside.journal
-    c.self.inside.shards.items c.self.inside.seens c.self.inside.registry c.self.invariant c.args.client c.requires.client)
+    c.self.inside.shards.items c.self.inside.seens c.self.inside.registry c.self.inside.holds c.self.invariant c.args.client c.requires.client)
 
 pub read_in-requires-clause-legal : goal.read_in-requires-clause-legal
 read_in-requires-clause-legal c =
@@ -26,59 +26,59 @@ read_in-requires-clause-held c =
 pub read_in-requires-clause-within : goal.read_in-requires-clause-within
 read_in-requires-clause-within c =
     subst (λ ns. get_or ns c.args.client 0 ≤ length c.self.inside.journal.commits) (sym c.as_slice.ensures)
-    (seen-within c.self.inside.settings c.self.inside.journal c.self.inside.shards.items c.self.inside.seens c.self.inside.registry
+    (seen-within c.self.inside.settings c.self.inside.journal c.self.inside.shards.items c.self.inside.seens c.self.inside.registry c.self.inside.holds
     c.self.invariant c.args.client c.requires.client)
 
 pub set-requires : goal.set-requires
 set-requires c =
-    client-there c.self.inside.settings c.self.inside.journal c.self.inside.shards.items c.self.inside.seens c.self.inside.registry c.self.invariant
+    client-there c.self.inside.settings c.self.inside.journal c.self.inside.shards.items c.self.inside.seens c.self.inside.registry c.self.inside.holds c.self.invariant
     c.args.client c.requires.client
 
 pub invariant_of-self : goal.invariant_of-self
 invariant_of-self c =
-    stays c.self.inside.settings c.self.inside.journal c.self.inside.shards.items c.self.inside.seens c.self.inside.registry c.self.invariant
+    stays c.self.inside.settings c.self.inside.journal c.self.inside.shards.items c.self.inside.seens c.self.inside.registry c.self.inside.holds c.self.invariant
     c.args.client c.requires.client
-    c.self.inside.journal c.read_in.new.shards.items c.self.inside.seens c.self.inside.registry (Call.read c.args.address.now) (Answer.failed false)
+    c.read_in.new.shards.items c.self.inside.seens c.self.inside.registry (Call.read c.args.address.now) (Answer.failed false)
     (c.requires.short)
     ((
       refl,
-      want c.self.inside.settings c.self.inside.journal c.self.inside.shards.items c.self.inside.seens c.self.inside.registry c.self.invariant
+      want c.self.inside.settings c.self.inside.journal c.self.inside.shards.items c.self.inside.seens c.self.inside.registry c.self.inside.holds c.self.invariant
           c.args.client c.requires.client c.read_in.new.shards.items c.read_in.ensures.risen,
     ))
-    refl refl (c.read_in.ensures.held) (c.self.invariant.following)
+    c.read_in.ensures.held (c.self.invariant.following)
 
 pub returns-in_default : goal.returns-in_default
 returns-in_default c =
-    goes c.self.inside.settings c.self.inside.journal c.self.inside.shards.items c.self.inside.seens c.self.inside.registry c.self.invariant
+    goes c.self.inside.settings c.self.inside.journal c.self.inside.shards.items c.self.inside.seens c.self.inside.registry c.self.inside.holds c.self.invariant
     c.args.client c.requires.client
     c.args.self.now (stored c.self.inside.settings c.self.inside.journal.commits c.read_in.new.shards.items c.self.inside.seens
     c.self.inside.registry) (Call.read c.args.address.now) (Answer.failed false) c.self.view_is (c.requires.short)
     (λ can. (
       refl,
-      want c.self.inside.settings c.self.inside.journal c.self.inside.shards.items c.self.inside.seens c.self.inside.registry
+      want c.self.inside.settings c.self.inside.journal c.self.inside.shards.items c.self.inside.seens c.self.inside.registry c.self.inside.holds
           c.self.invariant c.args.client c.requires.client c.read_in.new.shards.items c.read_in.ensures.risen,
     ))
 
 pub invariant_of-self-2 : goal.invariant_of-self-2
 invariant_of-self-2 c =
-    stays c.self.inside.settings c.self.inside.journal c.self.inside.shards.items c.self.inside.seens c.self.inside.registry c.self.invariant
+    stays c.self.inside.settings c.self.inside.journal c.self.inside.shards.items c.self.inside.seens c.self.inside.registry c.self.inside.holds c.self.invariant
     c.args.client c.requires.client
-    c.self.inside.journal c.read_in.new.shards.items c.set.new.self c.self.inside.registry (Call.read c.args.address.now) (Answer.snap c.in-Ok.snap)
+    c.read_in.new.shards.items c.set.new.self c.self.inside.registry (Call.read c.args.address.now) (Answer.snap c.in-Ok.snap)
     (c.requires.short)
-    (reading c.self.inside.settings c.self.inside.journal c.self.inside.shards.items c.self.inside.seens c.self.inside.registry c.self.invariant
+    (reading c.self.inside.settings c.self.inside.journal c.self.inside.shards.items c.self.inside.seens c.self.inside.registry c.self.inside.holds c.self.invariant
     c.args.client c.requires.client c.args.address.now c.read_in.new.shards.items c.set.new.self c.in-Ok.snap
     (c.in-Ok.ensures.base ∙ ap (max (get_or (fronts_of c.self.inside.shards.items)
     (shard_of c.args.address.now c.self.inside.settings.shards) 0)) (ap (λ ns. get_or ns c.args.client 0) c.as_slice.ensures))
     c.in-Ok.ensures.value c.in-Ok.ensures.ok c.set.ensures)
-    refl refl (c.read_in.ensures.held) (c.self.invariant.following)
+    c.read_in.ensures.held (c.self.invariant.following)
 
 pub returns : goal.returns
 returns c =
-    goes c.self.inside.settings c.self.inside.journal c.self.inside.shards.items c.self.inside.seens c.self.inside.registry c.self.invariant
+    goes c.self.inside.settings c.self.inside.journal c.self.inside.shards.items c.self.inside.seens c.self.inside.registry c.self.inside.holds c.self.invariant
     c.args.client c.requires.client
     c.args.self.now (stored c.self.inside.settings c.self.inside.journal.commits c.read_in.new.shards.items c.set.new.self c.self.inside.registry)
     (Call.read c.args.address.now) (Answer.snap c.in-Ok.snap) c.self.view_is (c.requires.short)
-    (λ can. reading c.self.inside.settings c.self.inside.journal c.self.inside.shards.items c.self.inside.seens c.self.inside.registry
+    (λ can. reading c.self.inside.settings c.self.inside.journal c.self.inside.shards.items c.self.inside.seens c.self.inside.registry c.self.inside.holds
     c.self.invariant c.args.client c.requires.client c.args.address.now c.read_in.new.shards.items c.set.new.self c.in-Ok.snap
     (c.in-Ok.ensures.base ∙ ap (max (get_or (fronts_of c.self.inside.shards.items)
     (shard_of c.args.address.now c.self.inside.settings.shards) 0)) (ap (λ ns. get_or ns c.args.client 0) c.as_slice.ensures))

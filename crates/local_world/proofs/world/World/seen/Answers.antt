@@ -6,7 +6,7 @@ use Rattle.local_world.proofs.world.World.seen.Goals as goal
 
 pub bounds-as_slice-client : goal.bounds-as_slice-client
 bounds-as_slice-client c = subst (λ ns. c.args.client < length ns) (sym c.as_slice.ensures)
-    (client-there c.self.inside.settings c.self.inside.journal c.self.inside.shards.items c.self.inside.seens c.self.inside.registry c.self.invariant
+    (client-there c.self.inside.settings c.self.inside.journal c.self.inside.shards.items c.self.inside.seens c.self.inside.registry c.self.inside.holds c.self.invariant
     c.args.client c.requires)
 
 pub returns : goal.returns

@@ -14,49 +14,49 @@ take_all-requires-clause-following c =
 
 pub set-requires : goal.set-requires
 set-requires c =
-    client-there c.self.inside.settings c.self.inside.journal c.self.inside.shards.items c.self.inside.seens c.self.inside.registry c.self.invariant
+    client-there c.self.inside.settings c.self.inside.journal c.self.inside.shards.items c.self.inside.seens c.self.inside.registry c.self.inside.holds c.self.invariant
     c.args.client c.requires.client
 
 pub invariant_of-self : goal.invariant_of-self
 invariant_of-self c =
-    stays c.self.inside.settings c.self.inside.journal c.self.inside.shards.items c.self.inside.seens c.self.inside.registry c.self.invariant
+    stays c.self.inside.settings c.self.inside.journal c.self.inside.shards.items c.self.inside.seens c.self.inside.registry c.self.inside.holds c.self.invariant
     c.args.client c.requires.client
-    c.self.inside.journal c.self.inside.shards.items c.self.inside.seens c.take_all.new.registry (Call.take) (Answer.failed false) (tt)
+    c.self.inside.shards.items c.self.inside.seens c.take_all.new.registry (Call.take) (Answer.failed false) (tt)
     ((
       refl,
-      not_taking c.self.inside.settings c.self.inside.journal c.self.inside.shards.items c.self.inside.seens c.self.inside.registry
+      not_taking c.self.inside.settings c.self.inside.journal c.self.inside.shards.items c.self.inside.seens c.self.inside.registry c.self.inside.holds
           c.self.invariant c.args.client c.requires.client c.take_all.new.registry c.take_all.ensures.told c.in_default.ensures.err,
     ))
-    refl refl (c.self.invariant.held) (c.take_all.ensures.following)
+    c.self.invariant.held (c.take_all.ensures.following)
 
 pub returns-in_default : goal.returns-in_default
 returns-in_default c =
-    goes c.self.inside.settings c.self.inside.journal c.self.inside.shards.items c.self.inside.seens c.self.inside.registry c.self.invariant
+    goes c.self.inside.settings c.self.inside.journal c.self.inside.shards.items c.self.inside.seens c.self.inside.registry c.self.inside.holds c.self.invariant
     c.args.client c.requires.client
     c.args.self.now (stored c.self.inside.settings c.self.inside.journal.commits c.self.inside.shards.items c.self.inside.seens
     c.take_all.new.registry) (Call.take) (Answer.failed false) c.self.view_is (tt)
     (λ can. (
       refl,
-      not_taking c.self.inside.settings c.self.inside.journal c.self.inside.shards.items c.self.inside.seens c.self.inside.registry
+      not_taking c.self.inside.settings c.self.inside.journal c.self.inside.shards.items c.self.inside.seens c.self.inside.registry c.self.inside.holds
           c.self.invariant c.args.client c.requires.client c.take_all.new.registry c.take_all.ensures.told c.in_default.ensures.err,
     ))
 
 pub invariant_of-self-2 : goal.invariant_of-self-2
 invariant_of-self-2 c =
-    stays c.self.inside.settings c.self.inside.journal c.self.inside.shards.items c.self.inside.seens c.self.inside.registry c.self.invariant
+    stays c.self.inside.settings c.self.inside.journal c.self.inside.shards.items c.self.inside.seens c.self.inside.registry c.self.inside.holds c.self.invariant
     c.args.client c.requires.client
-    c.self.inside.journal c.self.inside.shards.items c.set.new.self c.take_all.new.registry (Call.take) (Answer.feed c.in-Ok.feed) (tt)
-    (taking c.self.inside.settings c.self.inside.journal c.self.inside.shards.items c.self.inside.seens c.self.inside.registry c.self.invariant
+    c.self.inside.shards.items c.set.new.self c.take_all.new.registry (Call.take) (Answer.feed c.in-Ok.feed) (tt)
+    (taking c.self.inside.settings c.self.inside.journal c.self.inside.shards.items c.self.inside.seens c.self.inside.registry c.self.inside.holds c.self.invariant
     c.args.client c.requires.client c.in-Ok.feed c.set.new.self c.take_all.new.registry c.in-Ok.ensures.feed c.take_all.ensures.told
     c.in-Ok.ensures.taken (c.set.ensures ∙ ap (set c.self.inside.seens c.args.client) c.to.ensures))
-    refl refl (c.self.invariant.held) (c.take_all.ensures.following)
+    c.self.invariant.held (c.take_all.ensures.following)
 
 pub returns : goal.returns
 returns c =
-    goes c.self.inside.settings c.self.inside.journal c.self.inside.shards.items c.self.inside.seens c.self.inside.registry c.self.invariant
+    goes c.self.inside.settings c.self.inside.journal c.self.inside.shards.items c.self.inside.seens c.self.inside.registry c.self.inside.holds c.self.invariant
     c.args.client c.requires.client
     c.args.self.now (stored c.self.inside.settings c.self.inside.journal.commits c.self.inside.shards.items c.set.new.self c.take_all.new.registry)
     (Call.take) (Answer.feed c.in-Ok.feed) c.self.view_is (tt)
-    (λ can. taking c.self.inside.settings c.self.inside.journal c.self.inside.shards.items c.self.inside.seens c.self.inside.registry
+    (λ can. taking c.self.inside.settings c.self.inside.journal c.self.inside.shards.items c.self.inside.seens c.self.inside.registry c.self.inside.holds
     c.self.invariant c.args.client c.requires.client c.in-Ok.feed c.set.new.self c.take_all.new.registry c.in-Ok.ensures.feed
     c.take_all.ensures.told c.in-Ok.ensures.taken (c.set.ensures ∙ ap (set c.self.inside.seens c.args.client) c.to.ensures))

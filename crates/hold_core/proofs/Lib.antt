@@ -1,0 +1,10 @@
+mod AtAddress
+pub mod Beside
+pub mod Covered
+pub mod Ends
+mod Keeping
+pub mod LeastBars
+pub mod Listed
+mod Marked
+mod Places
+mod Rising

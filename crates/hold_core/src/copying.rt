@@ -1,0 +1,27 @@
+//! Copies of what a run observed.
+
+ghost use Rattle.std.specs.Prelude.{◌≡◌, true, IfOk};
+ghost use Rattle.journal_core.specs.Holds as holds;
+
+use crate::telling::says_hold;
+use plain_data::copied;
+use std::alloc::{AllocError, Global};
+use txn_lang::{Run, SeenList};
+
+/// The same observations once more.
+pub fn copy_seen(list: &SeenList) -> Result<SeenList, AllocError>
+    ensures { IfOk result (λ copy. copy ≡ list.now) }
+{
+    copied(list)
+}
+
+/// What a run observed, where its commit may be a hold. What is no hold isn't copied.
+pub fn seen_to_hold(alloc: Global, run: &Run) -> Result<SeenList, AllocError>
+    ensures { IfOk result (λ seen. holds.says_hold run.now.outcome ≡ true → seen ≡ run.now.observations) }
+{
+    if says_hold(&run.outcome) {
+        copy_seen(&run.observations)
+    } else {
+        Ok(SeenList::new(alloc))
+    }
+}
