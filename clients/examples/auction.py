@@ -6,6 +6,7 @@
 The peak `bid` has the highest bid, the text `leader` says whose it is, and the list `bids` has all that counted.
 docs/AUCTION.md explains it.
 """
+import contextlib
 import pathlib
 import random
 import sys
@@ -23,6 +24,8 @@ BID = (
     ' peak("bid").raise(mine); text("leader").put(who); list("bids").push(who + " " + str(mine));'
 )
 
+HOLD = 'emit "hold"; emit text("leader").get(); emit peak("bid").get();'
+
 CLOSE = 'bool("closed").put(true); emit text("leader").get(); emit peak("bid").get();'
 
 SHOW = 'emit peak("bid").get(); emit text("leader").get(); emit bool("closed").get();'
@@ -35,13 +38,27 @@ def say(line):
     print(f"{line}\n", end="", flush=True)
 
 
+def answered(client, mine, name):
+    """The answer to a bid, which is made again while the auctioneer holds the auction."""
+    while True:
+        with contextlib.suppress(diamond.Held):
+            return client.try_(16, BID, mine, name)
+        time.sleep(0.1)
+
+
 def bid(host, port, name, amounts):
     """Makes bids, each after some thought."""
     with diamond.connect(host, port) as client:
         for mine in amounts:
             time.sleep(random.random())
-            answer = client.try_(16, BID, mine, name)
+            answer = answered(client, mine, name)
             say(f"{name} bids {mine}: {answer.text or 'it counts'}")
+
+
+def ask_bank(leader, price):
+    """Asks whether the leader can pay. The bank takes its time, and says yes to all."""
+    time.sleep(0.5)
+    say(f"bank: {leader} can pay {price}")
 
 
 def show(host, port):
@@ -60,7 +77,7 @@ def show(host, port):
 
 
 def sell(seller):
-    """The seller's screen, and the hammer, which falls a second after the least price was bid: says whose the vase is then."""
+    """The seller's screen, and the hammer, which falls once the least price was bid and can be paid: says whose the vase is."""
     told = []
 
     def tell(report):
@@ -71,7 +88,9 @@ def sell(seller):
     while not told[-1]:
         seller.wait()
     time.sleep(1)
-    leader, price = seller.try_(16, CLOSE).items
+    _, leader, price = seller.try_(16, HOLD).items
+    ask_bank(leader, price)
+    seller.do(CLOSE)  # leader and price are as they were held: no other bid has counted since
     seller.sync()  # tells nothing: no bid past the least price touches this screen
     return f"sold to {leader} for {price}"
 

@@ -66,6 +66,7 @@ class Programs(unittest.TestCase):
         self.assertGreaterEqual(price, 150)
         self.assertEqual(said[-2:], [f"bids: {', '.join(f'{name} {amount}' for amount, name in counted)}", f"sold to {leader} for {price}"])
         self.assertEqual(said.count("seller: 150 is bid"), 1)
+        self.assertEqual(said.count(f"bank: {leader} can pay {price}"), 1)
         *shown, end = [line for line in said if line.startswith("screen: ")]
         self.assertEqual(end, f"screen: {price} {leader} closed")
         rising = [f"screen: {amount} {name}" for amount, name in [(99, "nobody"), *counted]]

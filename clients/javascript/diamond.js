@@ -26,18 +26,16 @@ export class DiamondError extends Error {
 
 /** Bad input, or a line while this client waits: it was refused here, and nothing was sent. */
 export class NotSent extends DiamondError {}
-/**
- * The server did not do the line, and no data changed. `cause` (string): "long", "verb", "syntax", "type", "writes",
+/** The server did not do the line, and no data changed. `cause` (string): "long", "verb", "syntax", "type", "writes",
  * "name", "busy", "none"; or "late", "ahead", "full", "disk", with their `numbers` (number[]) of docs/SCRIPTS.md.
- * `column` (number or null): where in the body, in bytes from 1, counted from its first that is no blank.
- */
+ * `column` (number or null): where in the body, in bytes from 1, counted from its first that is no blank. */
 export class Refused extends DiamondError {}
-/**
- * A commit was in the way: docs/ABORTS.md. Nothing was written, and it may be sent again. `observation` (Value[]), as
+/** A commit was in the way: docs/ABORTS.md. Nothing was written, and it may be sent again. `observation` (Value[]), as
  * ["has", "A1"], was made at `address` (kind and key) on the first `base` (number) commits; `commit` (number) came later,
- * and did `part` (Value[]), as ["add", "A1"], there.
- */
+ * and did `part` (Value[]), as ["add", "A1"], there. */
 export class Aborted extends DiamondError {}
+/** The hold that `client` (number) made by commit `commit` (number) bars it: docs/ABORTS.md. It may be sent again later. */
+export class Held extends DiamondError {}
 /** The connection is gone. The line wasn't sent, or is one that commits nothing: no commit is in doubt. */
 export class Lost extends DiamondError {}
 /** The connection went between the line and its answer: whether it was committed, only the data says. */
@@ -55,9 +53,8 @@ export function quote(text) {
 /** The value as an expression of a body. @param {Value | Uint8Array} value @returns {string} */
 export function literal(value) {
   if (typeof value === "boolean" || Number.isSafeInteger(value)) return String(value);
-  if (typeof value === "bigint" && BigInt.asIntN(64, value) === value) {
-    return value > -(2n ** 63n) ? String(value) : `(${value + 1n} - 1)`;
-  }
+  const fits = typeof value === "bigint" && BigInt.asIntN(64, value) === value;
+  if (fits) return value > -(2n ** 63n) ? String(value) : `(${value + 1n} - 1)`;
   return Array.isArray(value) ? `[${value.map(quote).join(", ")}]` : quote(value);
 }
 
@@ -101,6 +98,8 @@ function read(reply, line) {
     const seen = { address: [kind, valueOf(key)], observation: valuesOf(observation), base: Number(base) };
     return new Aborted(reply, line, { ...seen, part: valuesOf(part), commit: Number(commit) });
   }
+  const [, client, hold] = /^held ([0-9]+) commit ([0-9]+)$/.exec(reply) ?? [];
+  if (client) return new Held(reply, line, { client: Number(client), commit: Number(hold) });
   if (/^(refused|late|ahead|full|disk)\b/.test(reply)) {
     const [cause, ...numbers] = valuesOf(reply.replace("refused ", ""));
     const column = reply.startsWith("refused") ? (numbers.pop() ?? null) : null;

@@ -10,7 +10,7 @@ import { createInterface } from "node:readline";
 import { test } from "node:test";
 import { setTimeout as sleep } from "node:timers/promises";
 import { fileURLToPath } from "node:url";
-import { Aborted, Lost, NotSent, Refused, Unknown, body, connect, literal, quote } from "./diamond.js";
+import { Aborted, Held, Lost, NotSent, Refused, Unknown, body, connect, literal, quote } from "./diamond.js";
 
 const PROGRAM = process.env.DIAMOND || fileURLToPath(new URL("../../crates/diamond/out/diamond", import.meta.url));
 const EVERY_BYTE = Buffer.from(Array.from({ length: 256 }, (_, byte) => byte));
@@ -116,8 +116,16 @@ test("aborts are read", async () => {
   }
 });
 
+test("what is held is read", async () => {
+  for (const line of ["go", "step", "do emit 1;"]) {
+    await answering("held 63 commit 4294967296\n", async (client) => {
+      await assert.rejects(client.raw(line), { name: "Held", client: 63, commit: 4294967296, line });
+    });
+  }
+});
+
 test("what was not answered is unknown", async () => {
-  for (const reply of ["", "commit 1", "commit 1 ok", "HTTP/1.1 400 Bad Request\n", null]) {
+  for (const reply of ["", "commit 1", "commit 1 ok", "HTTP/1.1 400 Bad Request\n", "held 1 commit\n", null]) {
     await answering(reply, async (client) => {
       await assert.rejects(client.do("emit 1;"), { name: "Unknown", line: "do emit 1;" });
       await assert.rejects(client.do("emit 1;"), Lost);
@@ -162,6 +170,23 @@ test("an abort says all", () =>
     const facts = { address: ["counter", "tickets"], observation: ["whole"], base: 1, part: ["put", 9], commit: 2, line: "go" };
     await assert.rejects(two.raw("go"), (fault) => fault instanceof Aborted && (assert.deepEqual({ ...fault }, { name: "Aborted", ...facts }), true));
     assert.deepEqual(await two.tryTimes(3, `${less} emit counter("tickets").get();`), { number: 3, outcome: "ok", items: [8] });
+  }));
+
+test("a hold bars others until the next commit of its client", () =>
+  served(2, async (one, two) => {
+    await one.raw(`begin ${NEXT}`);
+    await one.raw("step");
+    await two.do('counter("x").add(5);');
+    await assert.rejects(one.raw("go"), Aborted);
+    const held = await one.tryTimes(16, 'emit "hold"; emit counter("x").get();');
+    assert.deepEqual(held, { number: 2, outcome: "ok", items: ["hold", 5] });
+    await one.raw(`begin ${NEXT}`);
+    assert.equal(await one.raw("step"), 'read counter("x") base 2');
+    await assert.rejects(two.tryTimes(16, NEXT), (fault) => fault instanceof Held && (assert.equal(fault.commit, 2), true));
+    assert.equal((await two.do('counter("y").add(1);')).number, 3);
+    assert.deepEqual(await one.raw("go"), { number: 4, outcome: "ok", items: [] });
+    assert.equal((await two.do(NEXT)).number, 5);
+    assert.deepEqual((await one.look('emit counter("x").get();')).items, [7]);
   }));
 
 test("a peak disturbs whom it must", () =>

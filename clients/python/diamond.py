@@ -3,10 +3,7 @@
     with diamond.connect("127.0.0.1", 4000) as client:
         client.do('if set("seats").has(?) { set("seats").remove(?); } else { fail "taken"; }', "A1", "A1")
 
-Texts are `str`; bytes that aren't UTF-8 stand as surrogate escapes, as in names of files. docs/CLIENTS.md says more.
-"""
-from __future__ import annotations
-
+Texts are `str`; bytes that aren't UTF-8 stand as surrogate escapes, as in names of files. docs/CLIENTS.md says more."""
 import contextlib
 import dataclasses
 import re
@@ -19,7 +16,6 @@ from typing import Any
 Value = bool | int | str | list[str]
 LONGEST_LINE = 4096
 _BYTES = ("utf-8", "surrogateescape")
-_LINE = re.compile(r"[^\n\ud800-\udc7f\udd00-\udfff]*")
 _TEXT = r'"[^"\\]*(?:\\.[^"\\]*)*"'
 _TOKEN = re.compile(rf"\[(?:{_TEXT}(?:,{_TEXT})*)?\]|{_TEXT}|-?[0-9]+|[a-z]+")
 _ABORT = re.compile(rf"abort ([a-z]+)\(({_TEXT})\) ([a-z]+(?: -?[0-9]+| {_TEXT})?) base (\d+) clash (.+) commit (\d+)")
@@ -40,15 +36,17 @@ class NotSent(Error, ValueError):
 class Refused(Error):
     """The server did not do the line, and no data changed. `cause` (str): "long", "verb", "syntax", "type", "writes",
     "name", "busy", "none"; or "late", "ahead", "full", "disk", with their `numbers` (list of int) of docs/SCRIPTS.md.
-    `column` (int or None): where in the body, in bytes from 1, counted from its first that is no blank.
-    """
+    `column` (int or None): where in the body, in bytes from 1, counted from its first that is no blank."""
 
 
 class Aborted(Error):
     """A commit was in the way: docs/ABORTS.md. Nothing was written, and it may be sent again. `observation` (tuple), as
     ("has", "A1"), was made at `address` (kind and key, each a str) on the first `base` (int) commits; `commit` (int)
-    came later, and did `part` (tuple), as ("add", "A1"), there.
-    """
+    came later, and did `part` (tuple), as ("add", "A1"), there."""
+
+
+class Held(Error):
+    """The hold that `client` (int) made by commit `commit` (int) bars it: docs/ABORTS.md. It may be sent again later."""
 
 
 class Lost(Error, ConnectionError):
@@ -71,12 +69,15 @@ class Answer:
     name: str | None = None
 
 
+def _want(fits: object, said: str, line: str = "") -> None:
+    if not fits:
+        raise NotSent(said, line)
+
+
 def quote(text: str | bytes) -> str:
     """The text in quotes, for a body. Whatever is in it, it ends where the quotes do."""
-    if not isinstance(text, (str, bytes)):
-        raise NotSent(f"not a value of a body: {text!r}")
-    text = text.decode(*_BYTES) if isinstance(text, bytes) else text
-    text = re.sub(r'["\\]', r"\\\g<0>", text).replace("\n", r"\n")
+    _want(isinstance(text, (str, bytes)), f"not a value of a body: {text!r}")
+    text = re.sub(r'["\\]', r"\\\g<0>", text.decode(*_BYTES) if isinstance(text, bytes) else text).replace("\n", r"\n")
     return '"' + re.sub(r"[\x00-\x1f\x7f]", lambda found: f"\\x{ord(found[0]):02x}", text) + '"'
 
 
@@ -93,9 +94,10 @@ def literal(value: Value | bytes) -> str:
 
 def fill(body: str, *values: Value | bytes) -> str:
     """The body with one of the values in the place of each `?` that stands outside of texts."""
+    _want(isinstance(body, str), f"not a body: {body!r}")
     pieces = re.split(rf"({_TEXT})|\?", body)
-    if pieces[1::2].count(None) != len(values) or values and '"' in "".join(pieces[::2]):
-        raise NotSent(f"{len(values)} values don't fit the body's question marks", body)
+    fits = pieces[1::2].count(None) == len(values) and not (values and '"' in "".join(pieces[::2]))
+    _want(fits, f"{len(values)} values don't fit the body's question marks", body)
     rest = iter(values)
     return "".join(literal(next(rest)) if piece is None else piece for piece in pieces)
 
@@ -126,6 +128,8 @@ def _read(reply: str, line: str) -> Answer | Error | str:
     if found := _ABORT.fullmatch(reply):
         facts = dict(address=(found[1], _value(found[2])), observation=tuple(_values(found[3])), base=int(found[4]))
         return Aborted(reply, line, **facts, part=tuple(_values(found[5])), commit=int(found[6]))
+    if found := re.fullmatch(r"held (\d+) commit (\d+)", reply):
+        return Held(reply, line, client=int(found[1]), commit=int(found[2]))
     if word in ("refused", "late", "ahead", "full", "disk"):
         cause, *numbers = _values(reply.removeprefix("refused "))
         column = numbers.pop() if word == "refused" and numbers else None
@@ -137,8 +141,7 @@ def _read(reply: str, line: str) -> Answer | Error | str:
 
 class Client(contextlib.AbstractContextManager):
     """A session. It has one line under way at a time, so each thread, and each that waits, has a client of its own.
-    Its connection is given up where an answer, but that to a `wait`, takes more than `timeout` (float or None) seconds.
-    """
+    Its connection is given up where an answer, but that to a `wait`, takes more than `timeout` (float or None) seconds."""
 
     def __init__(self, host: str, port: int, timeout: float | None = None) -> None:
         self._socket = socket.create_connection((host, port), timeout)
@@ -156,18 +159,17 @@ class Client(contextlib.AbstractContextManager):
 
     def try_(self, times: int, body: str, *values: Value) -> Answer:
         """The same, and anew after each abort, 1 to 16 times at most."""
-        if not (isinstance(times, int) and 1 <= times <= 16):
-            raise NotSent(f"not a number of times from 1 to 16: {times}", body)
+        _want(isinstance(times, int) and 1 <= times <= 16, f"not a number of times from 1 to 16: {times}", body)
         return self._ask(f"try {times:d} {fill(body, *values)}")
 
     def look(self, body: str, *values: Value, at: int | None = None) -> Answer:
         """Runs a body that only reads, on all commits or on the first `at`."""
-        if not (at is None or isinstance(at, int) and 0 <= at < 2**64):
-            raise NotSent(f"not a number of commits: {at}", body)
+        _want(at is None or isinstance(at, int) and 0 <= at < 2**64, f"not a number of commits: {at}", body)
         return self._ask(f"{'look' if at is None else f'at {at:d}'} {fill(body, *values)}")
 
     def watch(self, name: str, body: str, *values: Value, call: Callable[[Answer], Any]) -> Answer:
         """Keeps a body that only reads as a watch, and calls with each report; the first is answered, too."""
+        _want(callable(call), f"no function to call: {call!r}", body)
         return self._ask(f"watch {name} {fill(body, *values)}", str(name), call)
 
     def unwatch(self, name: str) -> None:
@@ -184,8 +186,7 @@ class Client(contextlib.AbstractContextManager):
 
     def raw(self, line: str) -> Answer | str:
         """A line of docs/SCRIPTS.md with one reply, as `begin` and `go`: its answer, or else the reply as it stands."""
-        if (line.split() or "#")[0][0] == "#" or line.split()[0] in ("watch", "sync", "wait"):
-            raise NotSent("this line has no reply, or several", line)
+        _want(isinstance(line, str) and not re.match(r"\s*(#|$|(watch|sync|wait)\b)", line), "no line with one reply", str(line))
         return self._ask(line)
 
     def close(self) -> None:
@@ -202,10 +203,9 @@ class Client(contextlib.AbstractContextManager):
 
     def _ask(self, line: str, name: str | None = None, call: Callable[[Answer], Any] | None = None) -> Any:
         named = name is None or re.fullmatch("[a-z][a-z0-9_]{0,31}", name)
-        if not named or not _LINE.fullmatch(line) or len(line.encode(*_BYTES)) > LONGEST_LINE:
-            raise NotSent("not a line of at most 4,096 bytes, or with a name that is none", line)
-        if not self._turn.acquire(blocking=False):
-            raise NotSent("another line of this client is under way", line)
+        fits = re.fullmatch(r"[^\n\ud800-\udc7f\udd00-\udfff]*", line) and len(line.encode(*_BYTES)) <= LONGEST_LINE
+        _want(named and fits, "not a line of at most 4,096 bytes, or with a name that is none", line)
+        _want(self._turn.acquire(blocking=False), "another line of this client is under way", line)
         try:
             *reports, last = self._exchange(line, name)
         finally:

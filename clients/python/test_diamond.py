@@ -115,6 +115,9 @@ class Values(unittest.TestCase):
         for body, *values in [("emit ?;",), ("emit 1;", 1), ("emit ?;", 1, 2), ('emit "a?;', "b"), ('emit "a" + "?;', "b")]:
             with self.assertRaises(diamond.NotSent):
                 diamond.fill(body, *values)
+        for body in [None, 7, b"emit 1;", ["emit 1;"]]:
+            with self.assertRaisesRegex(diamond.NotSent, "^not a body: "):
+                diamond.fill(body)
 
 
 @contextlib.contextmanager
@@ -144,12 +147,19 @@ class Replies(unittest.TestCase):
             self.assertEqual([fault.address, fault.observation, fault.base, fault.part, fault.commit], facts)
             self.assertEqual(fault.line, "go")
 
+    def test_what_is_held_is_read(self):
+        for line in ["go", "step", "do emit 1;"]:
+            with answering(b"held 63 commit 18446744073709551615\n") as client, self.assertRaises(diamond.Held) as caught:
+                client.raw(line)
+            fault = caught.exception
+            self.assertEqual((fault.client, fault.commit, fault.line), (63, 2**64 - 1, line))
+
     def test_a_watch_may_have_a_reserved_name(self):
         with answering(b"run true 5 ok true\n") as client:
             self.assertEqual(client.watch("true", "emit true;", call=print_nothing), diamond.Answer(5, "ok", [True], None, "true"))
 
     def test_what_was_not_answered_is_unknown(self):
-        for reply in [b"", b"commit 1", b"commit 1 ok", b"HTTP/1.1 400 Bad Request\n", b"commit 1 fail\n"]:
+        for reply in [b"", b"commit 1", b"commit 1 ok", b"HTTP/1.1 400 Bad Request\n", b"commit 1 fail\n", b"held 1 commit\n"]:
             with answering(reply) as client, self.assertRaises(diamond.Unknown) as caught:
                 client.do("emit 1;")
             self.assertEqual(caught.exception.line, "do emit 1;")
@@ -207,6 +217,24 @@ class Sessions(unittest.TestCase):
         fault = caught.exception
         self.assertEqual((fault.address, fault.observation, fault.base), (("counter", "tickets"), ("whole",), 1))
         self.assertEqual((fault.part, fault.commit, fault.line), (("put", 9), 2, "go"))
+
+    def test_a_hold_bars_others_until_the_next_commit_of_its_client(self):
+        with served(2) as port, connect(port) as one, connect(port) as two:
+            one.raw(f"begin {NEXT}")
+            one.raw("step")
+            two.do('counter("x").add(5);')
+            with self.assertRaises(diamond.Aborted):
+                one.raw("go")
+            self.assertEqual(one.try_(16, 'emit "hold"; emit counter("x").get();'), diamond.Answer(2, "ok", ["hold", 5]))
+            one.raw(f"begin {NEXT}")
+            self.assertEqual(one.raw("step"), 'read counter("x") base 2')
+            with self.assertRaises(diamond.Held) as caught:
+                two.try_(16, NEXT)
+            self.assertEqual((caught.exception.commit, caught.exception.line), (2, f"try 16 {NEXT}"))
+            self.assertEqual(two.do('counter("y").add(1);').number, 3)
+            self.assertEqual(one.raw("go"), diamond.Answer(4, "ok", []))
+            self.assertEqual(two.do(NEXT).number, 5)
+            self.assertEqual(one.look('emit counter("x").get();').items, [7])
 
     def test_a_peak_disturbs_whom_it_must(self):
         told = []
@@ -468,6 +496,8 @@ class Ends(unittest.TestCase):
     def test_bad_input_is_not_sent(self):
         fitting = "emit 1;".ljust(4096 - len("do "))
         rows = [
+            lambda client: client.do(None),
+            lambda client: client.do(b"emit 1;"),
             lambda client: client.do("emit 1;\nemit 2;"),
             lambda client: client.do(f"{fitting} "),
             lambda client: client.do("emit ?;", "\u00e9" * 2048),
@@ -479,14 +509,19 @@ class Ends(unittest.TestCase):
             lambda client: client.try_(0, "emit 1;"),
             lambda client: client.try_(17, "emit 1;"),
             lambda client: client.try_(3.0, "emit 1;"),
+            lambda client: client.try_(3, None),
+            lambda client: client.look(None),
             lambda client: client.watch("Seats", "emit 1;", call=print_nothing),
             lambda client: client.watch("a b", "emit 1;", call=print_nothing),
             lambda client: client.watch("", "emit 1;", call=print_nothing),
             lambda client: client.watch("a\n", "emit 1;", call=print_nothing),
             lambda client: client.watch("a" * 33, "emit 1;", call=print_nothing),
             lambda client: client.watch(None, "emit 1;", call=print_nothing),
+            lambda client: client.watch("a", None, call=print_nothing),
+            lambda client: client.watch("a", "emit 1;", call=None),
             lambda client: client.unwatch("1st"),
             lambda client: client.unwatch(None),
+            lambda client: client.raw(None),
             lambda client: client.raw(""),
             lambda client: client.raw(" \t"),
             lambda client: client.raw("# do emit 1;"),

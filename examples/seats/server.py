@@ -133,6 +133,8 @@ class Handler(http.server.BaseHTTPRequestHandler):
             self._say(400, error=str(error))
         except diamond.Aborted as error:
             self._say(200, done=False, again=f"others were faster 16 times, last commit {error.commit}: click once more")
+        except diamond.Held as error:
+            self._say(200, done=False, again=f"another client holds this seat, by commit {error.commit}: click once more")
         except diamond.Unknown:
             self._say(503, error="the store went away before it answered: whether the seat was sold isn't known")
         except diamond.Refused as error:

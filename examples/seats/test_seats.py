@@ -45,9 +45,9 @@ class News:
 
 class Sale(unittest.TestCase):
     def setUp(self):
-        self.store, port = test_diamond.start(1000)
+        self.store, self.store_port = test_diamond.start(1000)
         self.addCleanup(test_diamond.stop, self.store)
-        self.port = self.served(port)
+        self.port = self.served(self.store_port)
 
     def served(self, store_port):
         web = server.Server(("127.0.0.1", 0), ("127.0.0.1", store_port))
@@ -115,6 +115,15 @@ class Sale(unittest.TestCase):
             winners = [name for name in pages if told[name]["done"]]
             self.assertEqual(len(winners), 1, told)
             self.assertEqual([told[name]["by"] for name in pages if name not in winners], winners)
+
+    def test_a_seat_that_another_client_holds_is_left(self):
+        _, number = self.opened()
+        with test_diamond.connect(self.store_port) as other:
+            held = other.do('emit "hold"; emit hash("sold").has("A1");').number
+            self.assertEqual(self.clicked(number, "A1", "ann")["again"], f"another client holds this seat, by commit {held}: click once more")
+            self.assertTrue(self.clicked(number, "A2", "ann")["done"])
+            other.do("emit 1;")
+        self.assertTrue(self.clicked(number, "A1", "ann")["done"])
 
     def test_a_page_that_goes_is_counted_no_longer(self):
         ann, _ = self.opened()
