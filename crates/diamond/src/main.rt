@@ -15,13 +15,15 @@ use journal_file::read_kept;
 use link_buffer::BufferedListening;
 use plain_data::Text;
 use read_file::ReadFile;
+use serve_status::{CountedListening, Counts, tell};
 use std::alloc::{AllocError, Global};
 use std::fmt::Display;
-use std::io::{BufWriter, ErrorKind, Write};
+use std::io::{BufWriter, ErrorKind, IsTerminal, Write};
+use std::net::SocketAddr;
 use std::process::ExitCode;
-use std::sync::Wait;
+use std::sync::{Arc, Wait};
 use std::thread::Threads;
-use std::{env, io, str};
+use std::{env, io, str, thread};
 
 /// The words behind the program's name.
 fn words(rt: &HostRuntime) -> io::Result<Vec<String>> {
@@ -73,8 +75,65 @@ fn command<R: Threads + Wait + Sync, D: Disk + Send, N: Listener>(
     ))
 }
 
-/// Runs the command over what listens at this address, and reads ahead of each connection. Where it listens is told on the
-/// standard error, since a port of 0 stands for one that is free.
+/// Says on the standard error where it listens, since a port of 0 stands for one that is free.
+fn say_address(rt: &HostRuntime, address: &str, bound: Option<SocketAddr>) {
+    let _ = match bound {
+        Some(bound) => eprintln!(rt; "diamond: listening at {bound}"),
+        None => eprintln!(rt; "diamond: can't listen at `{address}`"),
+    };
+}
+
+/// Runs the command over what listens at this address, whose links count, and reads ahead of each connection.
+fn command_counted<R: Threads + Wait + Sync, D: Disk + Send>(
+    rt: &HostRuntime,
+    threads: &R,
+    words: &[&str],
+    disk: &mut D,
+    address: &str,
+    counts: Arc<Counts, Global>,
+) -> Result<u8, AllocError>
+    requires { NothingPending (D.state disk.old) }
+{
+    let tcp = TcpListening::bind(rt, rt, address);
+    say_address(rt, address, tcp.address());
+    let counted = CountedListening::new(tcp, counts);
+    command(
+        rt,
+        threads,
+        words,
+        disk,
+        &mut BufferedListening::new(counted),
+    )
+}
+
+/// The same, and meanwhile another thread tells on the standard error how many sessions and commits there are.
+fn command_told<R: Threads + Wait + Sync, D: Disk + Send>(
+    rt: &HostRuntime,
+    threads: &R,
+    words: &[&str],
+    disk: &mut D,
+    address: &str,
+) -> Result<u8, AllocError>
+    requires { NothingPending (D.state disk.old) }
+{
+    let counts = Arc::new(rt.alloc(), Counts::new())?;
+    let shared = Arc::try_clone(&counts)?;
+    let (_, status) = thread::join(
+        threads,
+        || tell(rt, &counts),
+        || -> Result<u8, AllocError>
+            requires { NothingPending (D.state disk.now) }
+        {
+            let status = command_counted(rt, threads, words, disk, address, shared);
+            counts.end();
+            status
+        },
+    );
+    status
+}
+
+/// Runs the command over what listens at this address, and reads ahead of each connection. Where the standard error is a terminal it
+/// is told there meanwhile what there is.
 fn command_at<R: Threads + Wait + Sync, D: Disk + Send>(
     rt: &HostRuntime,
     threads: &R,
@@ -84,11 +143,11 @@ fn command_at<R: Threads + Wait + Sync, D: Disk + Send>(
 ) -> Result<u8, AllocError>
     requires { NothingPending (D.state disk.old) }
 {
+    if rt.stderr().is_terminal() {
+        return command_told(rt, threads, words, disk, address);
+    }
     let tcp = TcpListening::bind(rt, rt, address);
-    let _ = match tcp.address() {
-        Some(bound) => eprintln!(rt; "diamond: listening at {bound}"),
-        None => eprintln!(rt; "diamond: can't listen at `{address}`"),
-    };
+    say_address(rt, address, tcp.address());
     command(rt, threads, words, disk, &mut BufferedListening::new(tcp))
 }
 

@@ -1,8 +1,10 @@
-//! Tests of the streams: what the clauses of `dio_core` and `link_buffer` leave open, as when a reader of std fails, or that a
-//! call succeeds. They stand apart from the two crates since each test function is proved as any other, and would be proved
-//! with its library each time that one changes.
+//! Tests of the streams: what the clauses of `dio_core`, `link_buffer` and `serve_status` leave open, as when a reader of std
+//! fails, or that a call succeeds. They stand apart from these crates since each test function is proved as any other, and would
+//! be proved with its library each time that one changes.
 #![tactic(auto)]
 
+#[cfg(test)]
+mod counted;
 #[cfg(test)]
 mod lines;
 #[cfg(test)]
