@@ -1,3 +1,4 @@
 pub mod LeastPair
 pub mod NamedKinds
+pub mod Pieces
 pub mod Printable

@@ -1,10 +1,11 @@
 //! Where the least clash of observations and changes is.
 
 ghost use Rattle.std.specs.Prelude.{◌≡◌, ◌+◌, ◌*◌, ◌≤◌, filter, length};
+ghost use Rattle.change_feed.specs.Lists.{listed};
 ghost use Rattle.abort_witness.specs.Pairs as pairs;
 
 use crate::witness::{Based, Found};
-use change_feed::{Change, Tail};
+use change_feed::{Change, Changes, Tail};
 use conflict_table::{Steps, clash};
 use std::sync::ledger::Ledger;
 
@@ -34,6 +35,25 @@ pub fn first_clash<L: Ledger>(
     None
 }
 
+/// The same of changes that are lent in pieces: it stops at the first piece that answers.
+pub fn first_clash_in<L: Ledger>(
+    based: &Based,
+    mut changes: Changes<'_>,
+    steps: &mut Steps<L>,
+) -> Option<u64>
+    ensures first { result ≡ pairs.first_clash based.now (listed changes.entry) }
+    ensures steps { steps.new ≤ steps.old + length (filter (pairs.meets based.now) (listed changes.entry)) }
+    ensures few { steps.new ≤ steps.old + length (listed changes.entry) }
+{
+    while let Some(piece) = changes.next_piece() {
+        let number = first_clash(based, piece, steps);
+        if number.is_some() {
+            return number;
+        }
+    }
+    None
+}
+
 /// Of what was found before and a number at a place the one of the lesser number, and of equals the one before.
 pub fn lesser(found: Option<Found>, place: u32, number: Option<u64>) -> Option<Found>
     ensures { result ≡ pairs.lesser found (pairs.found_at place number) }
@@ -56,7 +76,7 @@ pub fn least<L: Ledger>(based: &[Based], tail: &Tail, steps: &mut Steps<L>) -> O
 {
     let mut found = None;
     for (place, based) in based.iter().enumerate() {
-        let number = first_clash(based, tail.changes.as_slice(), steps);
+        let number = first_clash_in(based, tail.changes.lend(), steps);
         found = lesser(found, place as u32, number);
     }
     found

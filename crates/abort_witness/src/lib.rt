@@ -10,7 +10,7 @@ mod laws;
 mod naming;
 mod witness;
 
-pub use finding::{first_clash, least, lesser};
+pub use finding::{first_clash, first_clash_in, least, lesser};
 pub use laws::{least_is_least, witnesses_are_printable};
 pub use naming::{name, name_delta};
 pub use witness::{Based, BasedList, Found, FoundList, Witness, WitnessList};

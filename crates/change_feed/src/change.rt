@@ -1,6 +1,6 @@
 //! Changes of commits.
 
-use plain_data::{ExactClone, Sequence};
+use plain_data::ExactClone;
 use rdt_types::{Address, Delta};
 
 /// What the commit of a number does at an address.
@@ -16,6 +16,3 @@ impl ExactClone for Change {
 
     ghost exact = { Prim.search rules };
 }
-
-/// Changes in the order of their commits.
-pub type ChangeList = Sequence<Change>;

@@ -3,7 +3,7 @@
 ghost use Rattle.std.specs.Prelude.{◌≡◌, []};
 ghost use Rattle.change_feed.specs.Tails.{IsTail};
 
-use crate::change::ChangeList;
+use crate::change_list::ChangeList;
 use std::alloc::Global;
 
 /// Changes of commits past one number and up to another, in order.

@@ -1,7 +1,7 @@
 //! Each call once, with ample memory. What feeds of counters come to are worked lines in `specs/Feeds` of change_feed.
 
 use crate::given::{Write, address, delta, is_pair};
-use change_feed::{Change, ChangeList, Feed, Tail};
+use change_feed::{Change, Feed, Tail};
 use rdt_types::{Address, Delta, Kind, SetDelta};
 use std::alloc::{AllocError, Global};
 
@@ -97,32 +97,20 @@ fn change(alloc: Global) -> Result<Change, AllocError> {
     })
 }
 
-/// A list of a copy of a change.
-fn list_of(alloc: Global, change: &Change) -> Result<ChangeList, AllocError> {
-    let mut changes = ChangeList::new(alloc);
-    changes.push(change.clone()?)?;
-    Ok(changes)
-}
-
-/// Whether a list of changes keeps one.
-fn keeps(list: &Result<ChangeList, AllocError>, change: &Change) -> bool {
-    match list {
-        Ok(list) => match list.as_slice() {
-            [found] => *found == *change,
-            _ => false,
-        },
-        Err(_) => false,
-    }
+/// Whether a copy of a change equals it.
+fn is_copied(change: &Change) -> bool {
+    let copy: Result<Change, AllocError> = change.clone();
+    matches!(&copy, Ok(copy) if *copy == *change)
 }
 
 /// Whether a tail is of no commit behind a number.
 fn is_none_at(tail: &Tail, at: u64) -> bool {
-    tail.from == at && tail.to == at && tail.changes.is_empty()
+    let mut changes = tail.changes.lend();
+    tail.from == at && tail.to == at && changes.next_piece().is_none()
 }
 
 #[test]
 fn a_tail_keeps_its_numbers(rt: HostRuntime) {
     assert!(rt; is_none_at(&Tail::none(rt.alloc(), 3), 3));
-    let made = change(rt.alloc());
-    assert!(rt; matches!(&made, Ok(made) if keeps(&list_of(rt.alloc(), made), made)));
+    assert!(rt; matches!(&change(rt.alloc()), Ok(made) if is_copied(made)));
 }

@@ -15,6 +15,8 @@ mod feeds;
 #[cfg(test)]
 mod given;
 #[cfg(test)]
+mod lists;
+#[cfg(test)]
 mod types;
 #[cfg(test)]
 mod witnesses;

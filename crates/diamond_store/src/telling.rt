@@ -8,11 +8,29 @@ ghost use Rattle.rdt_types.specs.Addresses.{address_cmp};
 ghost use Rattle.change_feed.specs.Feeds.{with_changes};
 ghost use Rattle.diamond_store.specs.Passes.{is_in};
 
-use change_feed::{Feed, Tail};
+use change_feed::{Change, Feed, Tail};
 use plain_data::copied;
 use rdt_types::Address;
 use std::alloc::{AllocError, Global};
 use std::collections::BTreeSet;
+
+/// Adds those of some changes that are at some addresses to a feed.
+fn add_told(
+    feed: &mut Feed,
+    changes: &[Change],
+    subscribed: &BTreeSet<Address>,
+) -> Result<(), AllocError>
+    ensures to { feed.new.to ≡ feed.old.to }
+    ensures changes { OnOk result (feed.new.changes
+        ≡ with_changes feed.old.changes (filter (λ change. is_in subscribed.now.keys change.address) changes.now)) }
+{
+    for change in changes {
+        if subscribed.contains(&change.address) {
+            feed.add(&change.address, &change.delta)?;
+        }
+    }
+    Ok(())
+}
 
 /// A feed of those changes that are at some addresses.
 pub(crate) fn feed_of(
@@ -24,10 +42,9 @@ pub(crate) fn feed_of(
     ensures changes { IfOk result (λ feed. feed.changes ≡ with_changes [] (filter (λ change. is_in subscribed.now.keys change.address) tail.now.changes)) }
 {
     let mut feed = Feed::new(alloc, tail.to);
-    for change in tail.changes.as_slice() {
-        if subscribed.contains(&change.address) {
-            feed.add(&change.address, &change.delta)?;
-        }
+    let mut changes = tail.changes.lend();
+    while let Some(piece) = changes.next_piece() {
+        add_told(&mut feed, piece, subscribed)?;
     }
     Ok(feed)
 }

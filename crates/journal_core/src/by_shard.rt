@@ -2,28 +2,35 @@
 
 ghost use Rattle.std.specs.Prelude.{◌≡◌, ◌<◌, ◌≤◌, [], length, IfOk, OnOk};
 ghost use Rattle.rdt_types.specs.declared.limits.TheConstants.{LEAST_SHARDS, MOST_SHARDS};
+ghost use Rattle.change_feed.specs.Lists.{listed};
 ghost use Rattle.journal_core.specs.Changes as spec;
 ghost use Rattle.journal_core.specs.code.ByShard.{list_at, room_at, HasRoom, AreByShard, HasGrown, HasPut, HasAdded};
+ghost use Rattle.journal_core.specs.code.Segments.{IsWhole};
 
 use crate::copying::changes_by;
-use crate::roomy::Roomy;
-use change_feed::Change;
+use crate::segments::Segments;
+use change_feed::{Change, Changes};
 use rdt_types::shard_of;
 use std::alloc::{AllocError, Global};
 use txn_lang::Commit;
 
 /// The changes in a shard.
-pub(crate) fn in_shard(lists: &[Roomy<Change>], shard: u8) -> &[Change]
-    ensures { result.now ≡ list_at lists.now shard }
+pub(crate) fn in_shard(lists: &[Segments], shard: u8) -> Changes<'_>
+    ensures changes { listed result ≡ list_at lists.now shard }
+    ensures whole { IsWhole result }
 {
     match lists.get(shard as usize) {
-        Some(list) => list.as_slice(),
-        None => &[],
+        Some(list) => list.lend(),
+        None => Changes {
+            skipped: 0,
+            sealed: &[],
+            last: &[],
+        },
     }
 }
 
 /// Takes memory for some more changes in the list at a place.
-fn reserve_at(lists: &mut Vec<Roomy<Change>>, place: usize, room: usize) -> Result<(), AllocError>
+fn reserve_at(lists: &mut Vec<Segments>, place: usize, room: usize) -> Result<(), AllocError>
     requires { place < length lists.old.items }
     ensures grown { HasGrown lists.old.items lists.new.items }
     ensures ok { OnOk result (room ≤ room_at lists.new.items place) }
@@ -32,7 +39,7 @@ fn reserve_at(lists: &mut Vec<Roomy<Change>>, place: usize, room: usize) -> Resu
 }
 
 /// Takes memory for some more changes in each list.
-pub(crate) fn reserve_each(lists: &mut Vec<Roomy<Change>>, room: usize) -> Result<(), AllocError>
+pub(crate) fn reserve_each(lists: &mut Vec<Segments>, room: usize) -> Result<(), AllocError>
     ensures grown { HasGrown lists.old.items lists.new.items }
     ensures ok { OnOk result (HasRoom room lists.new.items) }
 {
@@ -43,7 +50,7 @@ pub(crate) fn reserve_each(lists: &mut Vec<Roomy<Change>>, room: usize) -> Resul
 }
 
 /// Adds a change to the list at a place, for which there is memory.
-fn push_at(lists: &mut Vec<Roomy<Change>>, place: usize, change: Change)
+fn push_at(lists: &mut Vec<Segments>, place: usize, change: Change)
     requires within { place < length lists.old.items }
     requires room { 0 < room_at lists.old.items place }
     ensures { HasPut place change lists.old.items lists.new.items }
@@ -52,7 +59,7 @@ fn push_at(lists: &mut Vec<Roomy<Change>>, place: usize, change: Change)
 }
 
 /// Adds changes, each to the list of its shard, for which there is memory.
-pub(crate) fn add_each(lists: &mut Vec<Roomy<Change>>, shards: u8, changes: Vec<Change>)
+pub(crate) fn add_each(lists: &mut Vec<Segments>, shards: u8, changes: Vec<Change>)
     requires shards { (LEAST_SHARDS ≤ shards) × (shards ≤ MOST_SHARDS) }
     requires as_many { length lists.old.items ≡ shards }
     requires room { HasRoom (length changes.items) lists.old.items }
@@ -65,12 +72,12 @@ pub(crate) fn add_each(lists: &mut Vec<Roomy<Change>>, shards: u8, changes: Vec<
 }
 
 /// A list without changes for each shard.
-fn empty_lists(alloc: Global, shards: u8) -> Result<Vec<Roomy<Change>>, AllocError>
+fn empty_lists(alloc: Global, shards: u8) -> Result<Vec<Segments>, AllocError>
     ensures { IfOk result (λ lists. AreByShard shards [] lists.items) }
 {
     let mut lists = Vec::new(alloc);
     for _ in 0..shards {
-        lists.push(Roomy::new(alloc))?;
+        lists.push(Segments::new(alloc))?;
     }
     Ok(lists)
 }
@@ -80,7 +87,7 @@ pub(crate) fn lists_of(
     alloc: Global,
     commits: &[Commit],
     shards: u8,
-) -> Result<Vec<Roomy<Change>>, AllocError>
+) -> Result<Vec<Segments>, AllocError>
     requires { (LEAST_SHARDS ≤ shards) × (shards ≤ MOST_SHARDS) }
     ensures { IfOk result (λ lists. AreByShard shards (spec.changes commits.now) lists.items) }
 {

@@ -1,38 +1,44 @@
 //! Copies of changes.
 
-ghost use Rattle.std.specs.Prelude.{◌≡◌, ◌≤◌, IfOk};
+ghost use Rattle.std.specs.Prelude.{◌≡◌, ◌++◌, OnOk, IfOk};
 ghost use Rattle.rdt_types.specs.DeltaMaps.{Deltas};
+ghost use Rattle.change_feed.specs.Lists.{listed};
 ghost use Rattle.journal_core.specs.Changes as spec;
 
-use change_feed::{Change, ChangeList};
+use change_feed::{Change, ChangeList, Changes};
 use plain_data::{Sequence, copied};
 use rdt_types::{Address, Delta};
 use std::alloc::{AllocError, Global};
 use txn_lang::Commit;
 
-/// Copies of the changes at an address.
-pub(crate) fn copies_of_address(
-    alloc: Global,
+/// Adds copies of those of some changes that are at an address.
+fn add_of_address(
+    list: &mut ChangeList,
     changes: &[Change],
     address: &Address,
-) -> Result<ChangeList, AllocError>
-    ensures { IfOk result (λ list. list ≡ spec.of_address address.now changes.now) }
+) -> Result<(), AllocError>
+    ensures { OnOk result (list.new ≡ list.old ++ spec.of_address address.now changes.now) }
 {
-    let mut list = ChangeList::new(alloc);
     for change in changes {
         if address.cmp(&change.address).is_eq() {
             list.push(copied(change)?)?;
         }
     }
-    Ok(list)
+    Ok(())
 }
 
-/// Copies of changes.
-pub(crate) fn copies(alloc: Global, changes: &[Change]) -> Result<ChangeList, AllocError>
-    ensures { IfOk result (λ list. list ≡ changes.now) }
+/// Copies of the changes at an address.
+pub(crate) fn copies_of_address(
+    alloc: Global,
+    mut changes: Changes<'_>,
+    address: &Address,
+) -> Result<ChangeList, AllocError>
+    ensures { IfOk result (λ list. list ≡ spec.of_address address.now (listed changes.entry)) }
 {
     let mut list = ChangeList::new(alloc);
-    list.extend_cloned(changes)?;
+    while let Some(piece) = changes.next_piece() {
+        add_of_address(&mut list, piece, address)?;
+    }
     Ok(list)
 }
 
@@ -41,7 +47,7 @@ pub(crate) fn changes_by(
     alloc: Global,
     number: u64,
     deltas: &[(Address, Delta)],
-) -> Result<ChangeList, AllocError>
+) -> Result<Sequence<Change>, AllocError>
     ensures { IfOk result (λ list. list ≡ spec.changes_by number deltas.now) }
 {
     let mut changes = Vec::with_capacity(alloc, deltas.len())?;

@@ -1,6 +1,7 @@
 //! The least clash past what was prepared.
 
 ghost use Rattle.std.specs.Prelude.{◌≡◌, ◌+◌, ◌≤◌, filter, length, max};
+ghost use Rattle.change_feed.specs.Lists.{listed};
 ghost use Rattle.abort_witness.specs.Pairs as pairs;
 ghost use Rattle.journal_core.specs.Pairs as spec;
 ghost use Rattle.journal_core.specs.Changes.{changes};
@@ -9,8 +10,8 @@ ghost use Rattle.journal_core.specs.code.Parts.{MeetsAlike};
 use crate::log::Log;
 use crate::ready::PreparedFront;
 use crate::walk::past;
-use abort_witness::{Based, Found, first_clash, lesser};
-use change_feed::Change;
+use abort_witness::{Based, Found, first_clash_in, lesser};
+use change_feed::Changes;
 use conflict_table::Steps;
 use rdt_types::shard_of;
 use std::sync::ledger::Ledger;
@@ -37,11 +38,11 @@ fn counts_from(based: &Based, shard: u8, fronts: &[PreparedFront]) -> u64
 
 /// The changes that an observation may meet past what was prepared. It looks only into its shard, and nowhere where no commit is
 /// past the base.
-fn ahead<'a>(based: &Based, log: &'a Log, fronts: &[PreparedFront]) -> &'a [Change]
-    ensures { MeetsAlike based.now result.now (spec.past_front log.now.shards fronts.now based.now) (changes log.now.commits) }
+fn ahead<'a>(based: &Based, log: &'a Log, fronts: &[PreparedFront]) -> Changes<'a>
+    ensures { MeetsAlike based.now (listed result) (spec.past_front log.now.shards fronts.now based.now) (changes log.now.commits) }
 {
     if log.commits().len() as u64 <= based.base {
-        return &[];
+        return Changes::none();
     }
     let shard = shard_of(&based.address, log.shards());
     let from = counts_from(based, shard, fronts);
@@ -58,7 +59,7 @@ fn clash_past<L: Ledger>(
     ensures first { result ≡ pairs.first_clash (spec.past_front log.now.shards fronts.now based.now) (changes log.now.commits) }
     ensures steps { steps.new ≤ steps.old + length (filter (pairs.meets (spec.past_front log.now.shards fronts.now based.now)) (changes log.now.commits)) }
 {
-    first_clash(based, ahead(based, log, fronts), steps)
+    first_clash_in(based, ahead(based, log, fronts), steps)
 }
 
 /// The least pair past what was prepared.

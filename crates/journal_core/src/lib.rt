@@ -22,6 +22,8 @@ mod log;
 mod naming;
 mod ready;
 mod roomy;
+mod sealed;
+mod segments;
 mod slot;
 mod tails;
 mod walk;

@@ -3,19 +3,22 @@
 ghost use Rattle.std.specs.Prelude.{◌≡◌, ◌+◌, ◌<◌, ◌≤◌, [], ◌∷◌, ◌++◌, length, slice_get, OnOk, OnErr, IfOk};
 ghost use Rattle.std.specs.Option.{option_copied};
 ghost use Rattle.rdt_types.specs.declared.limits.TheConstants.{LEAST_SHARDS, MOST_SHARDS};
+ghost use Rattle.change_feed.specs.Lists.{listed};
 ghost use Rattle.abort_witness.specs.Pairs as pairs;
 ghost use Rattle.journal_core.specs.Changes as spec;
 ghost use Rattle.journal_core.specs.Pairs.{past_fronts, most_steps, least_pair, AreNumbered};
 ghost use Rattle.journal_core.specs.code.Rising.{Rises};
 ghost use Rattle.journal_core.specs.Kinds.{AreOfTheirKinds, HasKinds};
 ghost use Rattle.journal_core.specs.code.Logs as logs;
+ghost use Rattle.journal_core.specs.code.Segments.{IsWhole};
 
 use crate::by_shard::{add_each, in_shard, lists_of, reserve_each};
 use crate::deciding::least_past;
 use crate::ready::PreparedFront;
 use crate::roomy::Roomy;
+use crate::segments::Segments;
 use abort_witness::{Based, Found};
-use change_feed::{Change, ChangeList};
+use change_feed::{Change, Changes};
 use conflict_table::Steps;
 use plain_data::Sequence;
 use std::alloc::{AllocError, Global};
@@ -28,7 +31,7 @@ use txn_lang::{Commit, CommitList};
 #[derive(Debug, Drop)]
 pub(crate) struct Log {
     commits: Roomy<Commit>,
-    lists: Vec<Roomy<Change>>,
+    lists: Vec<Segments>,
     shards: u8,
     room: usize,
 }
@@ -99,9 +102,10 @@ impl Log {
     }
 
     /// The changes in a shard, in order.
-    pub(crate) fn in_shard(&self, shard: u8) -> &[Change]
-        ensures changes { result.now ≡ spec.of_shard self.now.shards shard (spec.changes self.now.commits) }
-        ensures rises { Rises 0 result.now }
+    pub(crate) fn in_shard(&self, shard: u8) -> Changes<'_>
+        ensures changes { listed result ≡ spec.of_shard self.now.shards shard (spec.changes self.now.commits) }
+        ensures rises { Rises 0 (listed result) }
+        ensures whole { IsWhole result }
         ensures numbered { AreNumbered self.now.commits }
     {
         in_shard(self.lists.as_slice(), shard)
@@ -130,7 +134,7 @@ impl Log {
     }
 
     /// Adds the next commit, with its changes, for which there is memory.
-    pub(crate) fn add(&mut self, commit: Commit, changes: ChangeList)
+    pub(crate) fn add(&mut self, commit: Commit, changes: Sequence<Change>)
         requires number { commit.number ≡ length self.old.commits + 1 }
         requires kinds { AreOfTheirKinds commit.deltas }
         requires changes { changes ≡ spec.changes_of commit }

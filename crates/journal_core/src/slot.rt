@@ -3,8 +3,8 @@
 ghost use Rattle.std.specs.Prelude.{◌≡◌};
 ghost use Rattle.journal_core.specs.Changes.{changes_of};
 
-use change_feed::ChangeList;
-use plain_data::Text;
+use change_feed::Change;
+use plain_data::{Sequence, Text};
 use txn_lang::Commit;
 
 /// A commit that was made of a [`Ready`](crate::Ready), with its bytes as a keeper made them, and its changes.
@@ -12,6 +12,6 @@ use txn_lang::Commit;
 pub struct Slot {
     pub commit: Commit,
     pub bytes: Text,
-    pub changes: ChangeList,
+    pub changes: Sequence<Change>,
     pub ghost all_changes: { changes ≡ changes_of commit },
 }

@@ -1,17 +1,17 @@
 //! Tails of a journal's changes.
 
 ghost use Rattle.std.specs.Prelude.{◌≡◌, ◌≤◌, length, take, drop, IfOk};
+ghost use Rattle.change_feed.specs.Lists.{listed};
 ghost use Rattle.change_feed.specs.Tails.{IsTail};
 ghost use Rattle.journal_core.specs.Changes as spec;
 ghost use Rattle.journal_core.specs.Pairs.{AreNumbered};
 ghost use Rattle.journal_core.specs.Tails.{HasAll, tail_of};
 
-use crate::copying::{all_changes, copies, copies_of_address};
+use crate::copying::{all_changes, copies_of_address};
 use crate::lent::LentTail;
 use crate::log::Log;
 use crate::walk::between;
-use change_feed::{Change, ChangeList, Tail};
-use plain_data::Sequence;
+use change_feed::{ChangeList, Changes, Tail};
 use rdt_types::{Address, shard_of};
 use std::alloc::{AllocError, Global};
 use txn_lang::Commit;
@@ -43,14 +43,14 @@ fn changes_between(alloc: Global, log: &Log, from: u64, to: u64) -> Result<Chang
     ensures changes { IfOk result (λ list. list ≡ spec.between from to (spec.changes log.now.commits)) }
 {
     let changes = all_changes(alloc, commits_between(log, from, to))?;
-    Ok(Sequence::from_vec(changes))
+    Ok(ChangeList::from_vec(changes))
 }
 
 /// The changes in a shard between two numbers.
 #[inline(always)]
-fn between_in_shard(log: &Log, shard: u8, from: u64, to: u64) -> &[Change]
+fn between_in_shard(log: &Log, shard: u8, from: u64, to: u64) -> Changes<'_>
     ensures numbered { AreNumbered log.now.commits }
-    ensures changes { result.now ≡ spec.of_shard log.now.shards shard (spec.between from to (spec.changes log.now.commits)) }
+    ensures changes { listed result ≡ spec.of_shard log.now.shards shard (spec.between from to (spec.changes log.now.commits)) }
 {
     between(log.in_shard(shard), from, to)
 }
@@ -92,7 +92,7 @@ pub(crate) fn lent_in_shard(log: &Log, shard: u8, from: u64, to: u64) -> LentTai
     }
 }
 
-/// The tail of the changes in a shard.
+/// The tail of the changes in a shard, which shares segments.
 pub(crate) fn tail_of_shard(
     alloc: Global,
     log: &Log,
@@ -104,7 +104,7 @@ pub(crate) fn tail_of_shard(
     ensures { IfOk result (HasAll from to (spec.of_shard log.now.shards shard (spec.between from to (spec.changes log.now.commits)))) }
 {
     let lent = lent_in_shard(log, shard, from, to);
-    let changes = copies(alloc, lent.changes)?;
+    let changes = lent.changes.share(alloc)?;
     Ok(as_tail(from, to, changes))
 }
 

@@ -1,11 +1,14 @@
-//! Parts of a list of changes whose numbers don't fall.
+//! Parts of changes whose numbers don't fall.
 
-ghost use Rattle.std.specs.Prelude.{◌≡◌};
+ghost use Rattle.std.specs.Prelude.{◌≡◌, get_or};
+ghost use Rattle.change_feed.specs.Lists.{listed};
 ghost use Rattle.journal_core.specs.code.Rising.{Rises};
 ghost use Rattle.journal_core.specs.Changes as spec;
 ghost use Rattle.journal_core.specs.code.Parts.{IsPartedAt, IsUpToBefore};
+ghost use Rattle.journal_core.specs.code.Segments.{IsWhole};
 
-use change_feed::Change;
+use crate::sealed::count_by;
+use change_feed::{Change, Changes, Segment};
 
 /// A place before which all changes are of commits up to a number. It is found from the end by steps that double, since most
 /// that ask are near it.
@@ -40,26 +43,56 @@ fn count_up_to(changes: &[Change], number: u64) -> usize
     start + halved(&changes[start..], number)
 }
 
-/// The changes of commits past a number.
-pub(crate) fn past(changes: &[Change], from: u64) -> &[Change]
-    requires { Rises 0 changes.now }
-    ensures { result.now ≡ spec.past from changes.now }
+/// The segment at a place, or the last piece behind them.
+fn piece_at<'a>(sealed: &'a [Segment], last: &'a [Change], place: usize) -> &'a [Change]
+    ensures { result.now ≡ get_or sealed.now place last.now }
 {
-    &changes[count_up_to(changes, from)..]
+    match sealed.get(place) {
+        Some(segment) => segment.as_slice(),
+        None => last,
+    }
+}
+
+/// The changes of commits past a number.
+pub(crate) fn past(changes: Changes<'_>, from: u64) -> Changes<'_>
+    requires whole { IsWhole changes }
+    requires order { Rises 0 (listed changes) }
+    ensures { listed result ≡ spec.past from (listed changes.entry) }
+{
+    let place = count_by(changes.sealed, from);
+    let piece = piece_at(changes.sealed, changes.last, place);
+    let skipped = count_up_to(piece, from);
+    if place == changes.sealed.len() {
+        return Changes::of(&piece[skipped..]);
+    }
+    Changes {
+        skipped,
+        sealed: &changes.sealed[place..],
+        last: changes.last,
+    }
 }
 
 /// The changes of commits up to a number.
-pub(crate) fn up_to(changes: &[Change], to: u64) -> &[Change]
-    requires { Rises 0 changes.now }
-    ensures { result.now ≡ spec.up_to to changes.now }
+pub(crate) fn up_to(changes: Changes<'_>, to: u64) -> Changes<'_>
+    requires whole { IsWhole changes }
+    requires order { Rises 0 (listed changes) }
+    ensures changes { listed result ≡ spec.up_to to (listed changes.entry) }
+    ensures whole { IsWhole result }
 {
-    &changes[..count_up_to(changes, to)]
+    let place = count_by(changes.sealed, to);
+    let piece = piece_at(changes.sealed, changes.last, place);
+    Changes {
+        skipped: 0,
+        sealed: &changes.sealed[..place],
+        last: &piece[..count_up_to(piece, to)],
+    }
 }
 
-/// The changes of commits past one number and up to another, of a list in which numbers don't fall.
-pub(crate) fn between(changes: &[Change], from: u64, to: u64) -> &[Change]
-    requires { Rises 0 changes.now }
-    ensures { result.now ≡ spec.between from to changes.now }
+/// The changes of commits past one number and up to another, of changes whose numbers don't fall.
+pub(crate) fn between(changes: Changes<'_>, from: u64, to: u64) -> Changes<'_>
+    requires whole { IsWhole changes }
+    requires order { Rises 0 (listed changes) }
+    ensures { listed result ≡ spec.between from to (listed changes.entry) }
 {
     past(up_to(changes, to), from)
 }

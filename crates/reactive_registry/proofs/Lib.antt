@@ -3,6 +3,7 @@ pub mod Links
 pub mod Pairs
 pub mod Subscribing
 pub mod Pending
+pub mod Pieces
 pub mod Standing
 pub mod GoingOn
 pub mod Undone

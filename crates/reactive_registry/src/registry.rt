@@ -14,7 +14,7 @@ use crate::maps::put;
 use crate::places::Places;
 use crate::subscriber::Subscriber;
 use crate::telling::tell_or_undo;
-use change_feed::{Change, Feed, Tail};
+use change_feed::{ChangeList, Feed, Tail};
 use rdt_types::Address;
 use std::alloc::{AllocError, Global};
 use std::collections::BTreeMap;
@@ -49,7 +49,7 @@ fn subscribe_pair(
     places: &mut Places,
     subscriber: u32,
     address: &Address,
-    missed: &[Change],
+    missed: &ChangeList,
 ) -> Result<(), AllocError>
     requires { links places.old address.now subscriber ≡ is_address kept.old address.now }
     ensures kept { OnOk result (kept.new ≡ spec.subscribed address.now missed.now kept.old) }
@@ -156,7 +156,7 @@ impl Registry {
                 &mut self.places,
                 subscriber,
                 address,
-                missed.changes.as_slice(),
+                &missed.changes,
             ),
         }
     }
@@ -189,8 +189,12 @@ impl Registry {
         ensures as_before { OnErr result (self.new.front ≡ self.old.front) }
         ensures err { OnErr result ((s : ℕ) → kept_of self.new s ≡ kept_of self.old s) }
     {
-        let changes = tail.changes.as_slice();
-        tell_or_undo(&mut self.subscribers, &self.places, changes, self.front)?;
+        tell_or_undo(
+            &mut self.subscribers,
+            &self.places,
+            &tail.changes,
+            self.front,
+        )?;
         self.front = tail.to;
         Ok(())
     }

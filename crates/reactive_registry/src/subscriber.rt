@@ -10,7 +10,7 @@ ghost use Rattle.change_feed.specs.Changes.{of_address};
 ghost use Rattle.change_feed.specs.Pending.{pending};
 ghost use Rattle.reactive_registry.specs.Registered.{is_address, pending_for, entered, emptied, with_address, unsubscribed, changes_elsewhere};
 
-use change_feed::{Change, Feed};
+use change_feed::{Change, ChangeList, Feed};
 use plain_data::copied;
 use rdt_types::Address;
 use std::alloc::{AllocError, Global};
@@ -50,6 +50,22 @@ fn push_at(
         if address.cmp(&change.address).is_eq() {
             changes.push(copied(change)?)?;
         }
+    }
+    Ok(())
+}
+
+/// The same of a list of changes.
+fn push_missed(
+    changes: &mut Vec<Change>,
+    address: &Address,
+    missed: &ChangeList,
+) -> Result<(), AllocError>
+    ensures ok { OnOk result (changes.new.items ≡ changes.old.items ++ of_address address.now missed.now) }
+    ensures begun { take (length changes.old.items) changes.new.items ≡ changes.old.items }
+{
+    let mut rest = missed.lend();
+    while let Some(piece) = rest.next_piece() {
+        push_at(changes, address, piece)?;
     }
     Ok(())
 }
@@ -130,7 +146,7 @@ impl Subscriber {
     }
 
     /// Adds an address, and the changes there that were missed.
-    pub fn subscribe(&mut self, address: &Address, missed: &[Change]) -> Result<(), AllocError>
+    pub fn subscribe(&mut self, address: &Address, missed: &ChangeList) -> Result<(), AllocError>
         ensures has { OnOk result ((a : Address) → is_address self.new a ≡ (if is_at (address_cmp address.now) a then true else is_address self.old a)) }
         ensures ok { OnOk result (self.new ≡ with_address address.now missed.now self.old) }
         ensures err { OnErr result (self.new ≡ self.old) }
@@ -174,7 +190,7 @@ fn add_address(
     addresses: &mut BTreeSet<Address>,
     changes: &mut Vec<Change>,
     address: &Address,
-    missed: &[Change],
+    missed: &ChangeList,
 ) -> Result<(), AllocError>
     ensures has { OnOk result ((a : Address) → contains address_cmp addresses.new a
         ≡ (if is_at (address_cmp address.now) a then true else contains address_cmp addresses.old a)) }
@@ -183,7 +199,7 @@ fn add_address(
     ensures err { OnErr result (addresses.new.keys ≡ addresses.old.keys) }
     ensures begun { take (length changes.old.items) changes.new.items ≡ changes.old.items }
 {
-    push_at(changes, address, missed)?;
+    push_missed(changes, address, missed)?;
     addresses.insert(copied(address)?)?;
     Ok(())
 }

@@ -10,7 +10,7 @@ ghost use Rattle.reactive_registry.specs.code.Telling.{cut, done_where, told_whe
 
 use crate::places::Places;
 use crate::subscriber::Subscriber;
-use change_feed::Change;
+use change_feed::{Change, ChangeList};
 use edge_slab::EdgeSlab;
 use std::alloc::AllocError;
 use std::collections::BTreeMap;
@@ -103,18 +103,49 @@ fn cut_linked(
     }
 }
 
+/// Tells each subscriber of those of a piece of changes that are at its addresses. For want of memory some may be told and others not.
+fn tell_piece(
+    subscribers: &mut BTreeMap<u32, Subscriber>,
+    places: &Places,
+    piece: &[Change],
+) -> Result<(), AllocError>
+    ensures ok { OnOk result ((q : ℕ) → kept_in subscribers.new.entries q ≡ told_along places.now q piece.now (kept_in subscribers.old.entries q)) }
+    ensures behind { (front : ℕ) → ArePast front piece.now → SameUpTo front subscribers.old.entries subscribers.new.entries }
+    ensures elsewhere { (q : ℕ) → is_linked places.now q piece.now ≡ false → kept_in subscribers.new.entries q ≡ kept_in subscribers.old.entries q }
+{
+    for change in piece {
+        tell_linked(subscribers, places, change)?;
+    }
+    Ok(())
+}
+
+/// Forgets the changes past a front that the subscribers of the addresses of a piece of changes were told.
+fn cut_piece(
+    subscribers: &mut BTreeMap<u32, Subscriber>,
+    places: &Places,
+    piece: &[Change],
+    front: u64,
+)
+    ensures { (q : ℕ) → kept_in subscribers.new.entries q ≡ cut_along places.now q front piece.now (kept_in subscribers.old.entries q) }
+{
+    for change in piece {
+        cut_linked(subscribers, places, change, front);
+    }
+}
+
 /// Tells each subscriber of the changes at its addresses. For want of memory some may be told and others not.
 fn tell_all(
     subscribers: &mut BTreeMap<u32, Subscriber>,
     places: &Places,
-    changes: &[Change],
+    changes: &ChangeList,
 ) -> Result<(), AllocError>
     ensures ok { OnOk result ((q : ℕ) → kept_in subscribers.new.entries q ≡ told_along places.now q changes.now (kept_in subscribers.old.entries q)) }
     ensures behind { (front : ℕ) → ArePast front changes.now → SameUpTo front subscribers.old.entries subscribers.new.entries }
     ensures elsewhere { (q : ℕ) → is_linked places.now q changes.now ≡ false → kept_in subscribers.new.entries q ≡ kept_in subscribers.old.entries q }
 {
-    for change in changes {
-        tell_linked(subscribers, places, change)?;
+    let mut rest = changes.lend();
+    while let Some(piece) = rest.next_piece() {
+        tell_piece(subscribers, places, piece)?;
     }
     Ok(())
 }
@@ -123,13 +154,14 @@ fn tell_all(
 fn cut_all(
     subscribers: &mut BTreeMap<u32, Subscriber>,
     places: &Places,
-    changes: &[Change],
+    changes: &ChangeList,
     front: u64,
 )
     ensures { (q : ℕ) → kept_in subscribers.new.entries q ≡ cut_along places.now q front changes.now (kept_in subscribers.old.entries q) }
 {
-    for change in changes {
-        cut_linked(subscribers, places, change, front);
+    let mut rest = changes.lend();
+    while let Some(piece) = rest.next_piece() {
+        cut_piece(subscribers, places, piece, front);
     }
 }
 
@@ -137,7 +169,7 @@ fn cut_all(
 pub(crate) fn tell_or_undo(
     subscribers: &mut BTreeMap<u32, Subscriber>,
     places: &Places,
-    changes: &[Change],
+    changes: &ChangeList,
     front: u64,
 ) -> Result<(), AllocError>
     requires past { ArePast front changes.now }

@@ -24,7 +24,8 @@ use Rattle.journal_core.specs.code.Rising.{Rises}
 use Rattle.journal_core.proofs.ByShard.{changes-up_to, numbered-take, swapped, of_address-in_shard}
 use Rattle.journal_core.proofs.Rising.{changes-rise}
 use Rattle.version_shard.specs.Standing.{IsReadable}
-use Rattle.version_shard.proofs.Stepping.{left, left-append, below-lesser, below-greater}
+use Rattle.version_shard.proofs.Numbered.{below-lesser, below-greater}
+use Rattle.version_shard.proofs.Stepping.{left, left-append}
 
 -- ---- one commit
 

@@ -1,9 +1,7 @@
 -- What a shard goes on standing for.
-use Rattle.std.proofs.Common.{◌≡◌, ℕ, ◌+◌, ◌-◌, ◌≤◌, zero, suc, nat_le, nat_lt, List, [], ◌∷◌, ◌++◌, take, drop, refl, sym, ap, ◌∙◌, subst, arith}
+use Rattle.std.proofs.Common.{◌≡◌, ℕ, ◌+◌, ◌-◌, ◌≤◌, zero, suc, nat_le, nat_lt, List, [], ◌++◌, take, drop, refl, sym, ap, ◌∙◌, subst, arith}
 use Rattle.std.proofs.Common.{append-nil, length-take-le}
-use Rattle.std.specs.List.{AllByRecursion}
 use Rattle.std.specs.BTreeMap.{is_at}
-use Rattle.std.proofs.Math.Seq.{take-length}
 use Rattle.std.proofs.lemmas.List.{take-append-drop}
 use Rattle.std.proofs.lemmas.List.Elements.{filter-append}
 use Rattle.rdt_types.specs.declared.address.Address.{Address}
@@ -14,42 +12,23 @@ use Rattle.change_feed.specs.declared.change.Change.{Change}
 use Rattle.change_feed.specs.declared.tail.Tail.{Tail}
 use Rattle.txn_lang.specs.States.{Journal, left_by}
 use Rattle.journal_core.specs.Changes.{changes, up_to, between, of_shard, of_address}
-use Rattle.journal_core.specs.code.Rising.{Rises}
 use Rattle.journal_core.proofs.ByShard.{swapped}
-use Rattle.journal_core.proofs.Each.{each-more, each-filter}
-use Rattle.version_shard.specs.declared.version.Version.{Version}
+use Rattle.journal_core.proofs.Each.{each-more}
 use Rattle.version_shard.specs.Versions as versions
-use Rattle.version_shard.specs.Versions.{Versioned, value_after}
-use Rattle.version_shard.specs.Shards.{Sharded, horizon_at, horizon, versions_of, IsIn, AreKept}
-use Rattle.version_shard.specs.Standing.{IsReadable, Holds, IsNext, empty}
+use Rattle.version_shard.specs.Versions.{Versioned}
+use Rattle.version_shard.specs.Shards.{Sharded, horizon_at, horizon, versions_of, IsIn}
+use Rattle.version_shard.specs.Standing.{Holds, IsNext, empty}
 use Rattle.version_shard.specs.code.Following.{followed_along, Reaches}
-use Rattle.version_shard.proofs.Stepping.{Stands, below-all, all-below, stands-later, along-stands, cut-stands}
-use Rattle.version_shard.proofs.Keeping.{tail-rising, up_to-kept}
-use Rattle.version_shard.proofs.Folding.{journal-left, readable-take, up_to-is, state-left, followed-part}
+use Rattle.version_shard.proofs.Stepping.{Stands, stands-later, along-stands, cut-stands}
+use Rattle.version_shard.proofs.Folding.{readable-take, state-left, followed-part}
 
 -- the versions of an address in a shard stand for the journal's changes there
-stands : (journal : Journal) (shard : Sharded) → AreKept shard.front shard.kept → Holds journal shard → (a : Address) → IsIn shard a
+stands : (journal : Journal) (shard : Sharded) → Holds journal shard → (a : Address) → IsIn shard a
     → Stands a (horizon shard) (default_of a.kind) (of_address a (changes journal)) (versions_of shard.kept a)
-stands journal shard kept holds a here = record {
+stands journal shard holds a here = record {
   values = λ n le. holds.values a n here le ∙ state-left journal n a holds.readable;
   changes = λ n le. holds.changes a n here le ∙ swapped (λ change. is_at (address_cmp a) change.address) (λ change. nat_lt n change.number) (changes journal);
-  newest =
-      ap (value_after mine.base) (sym (below-all (λ (version : Version). version.number) shard.front mine.later
-      (up_to-kept shard.front shard.front shard.kept a kept (omega arith))))
-      ∙ holds.values a shard.front here (omega arith)
-      ∙ ap (λ (j : Journal). left_by j a) (ap (λ n. take n journal) (sym holds.front) ∙ take-length journal)
-      ∙ sym (journal-left a journal (default_of a.kind) holds.readable.rising);
 }
-  where
-    mine : Versioned
-    mine = versions_of shard.kept a
-
--- the first of changes in order are in order
-rising-first : (m n : ℕ) (xs : List Change) → Rises m xs → Rises m (take n xs)
-rising-first m zero [] rising = tt
-rising-first m (suc n) [] rising = tt
-rising-first m zero (x ∷ xs) rising = tt
-rising-first m (suc n) (x ∷ xs) rising = (rising.0, rising-first x.number n xs rising.1)
 
 -- what is past a number doesn't count up to it
 some-up_to : (r count : ℕ) (own all : List Change) (a : Address) → up_to r (drop count all) ≡ []
@@ -66,19 +45,13 @@ some-up_to r count own all a rest =
     ∙ swapped (λ change. is_at (address_cmp a) change.address) (λ change. nat_le change.number r) all)
     ∙ sym (filter-append (λ change. nat_le change.number r) own (of_address a all))
 
--- the changes of the first commits at an address are up to their number
-first-up_to : (journal : Journal) (n : ℕ) (a : Address) → IsReadable journal → AllByRecursion (λ c. c.number ≤ n) (of_address a (changes (take n journal)))
-first-up_to journal n a is =
-    subst (λ (l : List Change). AllByRecursion (λ c. c.number ≤ n) (of_address a l)) (up_to-is n journal is.numbered)
-    (each-filter (λ (c : Change). c.number ≤ n) _ (up_to n (changes journal)) (all-below (λ (c : Change). c.number) n (changes journal)))
-
 -- a shard with the settings of another
 pub record IsAlike (old new : Sharded) : Type 0 where
   pub number : new.number ≡ old.number
   pub shards : new.shards ≡ old.shards
   pub window : new.window ≡ old.window
 
-module _ (journal : Journal) (old new : Sharded) (tail : Tail) (kept : AreKept old.front old.kept) (alike : IsAlike old new) (next : IsNext journal old tail)
+module _ (journal : Journal) (old new : Sharded) (tail : Tail) (alike : IsAlike old new) (next : IsNext journal old tail)
     (holds : Holds (take old.front journal) old) (low : old.front ≤ new.front) (high : new.front ≤ tail.to)
     (reaches : Reaches old.window tail.changes new.front old.kept new.kept) where
   -- the horizon doesn't fall
@@ -91,14 +64,11 @@ module _ (journal : Journal) (old new : Sharded) (tail : Tail) (kept : AreKept o
   after a here =
       let own = of_address a (changes (take old.front journal)) in
       let some = take reaches.count tail.changes in
-      let rises = rising-first old.front reaches.count tail.changes (subst (λ n. Rises n tail.changes) next.exact.begins
-      (tail-rising tail.from tail.to tail.changes tail.in_order)) in
       let near = each-more (λ (c : Change). c.number ≤ new.front + 1) (λ (c : Change). horizon_at old.window (c.number - 1) ≤ horizon new) some
       (λ c le. let w = alike.window in omega (arith, le, w)) reaches.near in
       let first = stands-later a (horizon old) (horizon new) (default_of a.kind) own (versions_of old.kept a)
-      (stands (take old.front journal) old kept holds a here) later in
-      let second = along-stands a old.window (horizon new) (default_of a.kind) old.front some own (versions_of old.kept a) first rises
-      (first-up_to journal old.front a next.readable) near in
+      (stands (take old.front journal) old holds a here) later in
+      let second = along-stands a old.window (horizon new) (default_of a.kind) some own (versions_of old.kept a) first near in
       let third = cut-stands a (horizon new) new.front (default_of a.kind) (own ++ of_address a some)
       (followed_along old.window a some (versions_of old.kept a)) second (omega arith) in
       subst (λ (v : Versioned). Stands a (horizon new) (default_of a.kind) (of_address a (changes (take new.front journal))) v) (sym (reaches.versions a))

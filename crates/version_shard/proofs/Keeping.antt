@@ -1,6 +1,6 @@
 -- What stands at each address after a call on the map, and after a tail.
 use Rattle.std.proofs.Common.{◌≡◌, ℕ, ◌-◌, ◌<◌, ◌≤◌, zero, suc, Bool, true, false, cond, List, [], ◌∷◌, length, take, drop, get_or, Some, None}
-use Rattle.std.proofs.Common.{unwrap_or, Result, Ok, Err, OnErr, is_err, refl, sym, ap, ◌∙◌, subst, arith}
+use Rattle.std.proofs.Common.{unwrap_or, Result, Ok, Err, OnOk, OnErr, is_err, refl, sym, ap, ◌∙◌, subst, arith}
 use Rattle.std.specs.List.{AllByRecursion}
 use Rattle.std.specs.List.Sorted.{IsNonDecreasingBy}
 use Rattle.std.specs.Map.{lookup}
@@ -8,7 +8,6 @@ use Rattle.std.specs.BTreeMap.{is_at}
 use Rattle.std.proofs.Math.Seq.{take-length, drop-length}
 use Rattle.std.proofs.lemmas.List.Elements.{recursion_from_All}
 use Rattle.std.proofs.lemmas.List.Sorted.{IsNonDecreasingBy-from_all_adjacent}
-use Rattle.std.proofs.lemmas.Bool.{le-ltb}
 use Rattle.plain_data.proofs.Entries.{equal}
 use Rattle.rdt_types.specs.declared.address.Address.{Address}
 use Rattle.rdt_types.specs.Addresses.{address_cmp}
@@ -22,16 +21,22 @@ use Rattle.journal_core.specs.code.Rising.{Rises}
 use Rattle.journal_core.proofs.Each.{each-more, each-take, each-filter}
 use Rattle.journal_core.proofs.Rising.{rises-at}
 use Rattle.version_shard.specs.declared.version.Version.{Version}
-use Rattle.version_shard.specs.Versions.{Versioned, up_to, past}
+use Rattle.version_shard.specs.Versions.{Versioned, up_to}
 use Rattle.version_shard.specs.Shards.{Kept, unchanged, versions_of, SuitsVersion, AreKept}
 use Rattle.version_shard.specs.code.Marks.{IsPut}
 use Rattle.version_shard.specs.code.Following.{followed_along, cut_along, StopsAt, Reaches}
-use Rattle.version_shard.proofs.Stepping.{below-all, below-none, all-below, along-all, cut_back}
+use Rattle.version_shard.proofs.Numbered.{below-all, below-none, all-below}
+use Rattle.version_shard.proofs.Stepping.{along-all, cut_back}
 
 -- what holds on an error holds where the answer is one
 pub at_err : {V E : Type 0} (r : Result V E) (P : Type 0) → is_err r ≡ true → OnErr r P → P
 at_err (Ok v) P e p = absurd (cc)
 at_err (Err x) P e p = p
+
+-- and what holds where all went well where it is none
+pub at_ok : {V E : Type 0} (r : Result V E) (P : Type 0) → is_err r ≡ false → OnOk r P → P
+at_ok (Ok v) P e p = p
+at_ok (Err x) P e p = absurd (cc)
 
 -- and what holds anyway holds there too
 pub on_err : {V E : Type 0} (r : Result V E) (P : Type 0) → P → OnErr r P
@@ -116,17 +121,12 @@ pub up_to-kept : (front n : ℕ) (kept : Kept) (a : Address) → AreKept front k
     → AllByRecursion (λ version. version.number ≤ n) (versions_of kept a).later
 up_to-kept front n kept a are within = each-more _ _ (versions_of kept a).later (λ version suits. let r = suits.reached in omega (arith, r, within)) (are a)
 
--- and none of them is past it
-pub past-kept : (n : ℕ) (later : List Version) → AllByRecursion (λ version. version.number ≤ n) later → past n later ≡ []
-past-kept n [] all = refl
-past-kept n (version ∷ later) all = rw (le-ltb n version.number all.0) (past-kept n later all.1)
-
 module _ (window : ℕ) (tail : Tail) (old : Kept) (kept : AreKept tail.from old) where
   -- the versions that follow some changes are up to what is not below these
   pub up_to-followed : (n : ℕ) (changes : List Change) (a : Address) → tail.from ≤ n → AllByRecursion (λ c. c.number ≤ n) changes
       → AllByRecursion (λ version. version.number ≤ n) (followed_along window a changes (versions_of old a)).later
   up_to-followed n changes a within all =
-      along-all (λ version. version.number ≤ n) (λ c. c.number ≤ n) a window (λ c value at le. le) changes (versions_of old a) all
+      along-all (λ version. version.number ≤ n) (λ c. c.number ≤ n) a window (λ c at le. le) changes (versions_of old a) all
       (up_to-kept tail.from n old a kept within)
 
   -- the next change isn't below what was followed
@@ -208,7 +208,7 @@ kept-after window from front changes old new kept kinds reaches a =
     (suits front a (up_to front mid).later (all-below (λ (version : Version). version.number) front mid.later)
     (each-filter (λ version. kind_changed version.delta ≡ a.kind) _ mid.later
     (along-all (λ version. kind_changed version.delta ≡ a.kind) (λ c. kind_changed c.delta ≡ c.address.kind) a window
-    (λ c value at is. is ∙ ap (λ (b : Address). b.kind) at) (take reaches.count changes) (versions_of old a)
+    (λ c at is. is ∙ ap (λ (b : Address). b.kind) at) (take reaches.count changes) (versions_of old a)
     (each-take _ reaches.count changes kinds)
     (each-more _ _ (versions_of old a).later (λ version s. s.of_kind) (kept a)))))
   where

@@ -1,5 +1,8 @@
 pub mod Bases
+pub mod Numbered
+pub mod Chains
 pub mod Stepping
+pub mod Pieces
 pub mod Marks
 pub mod Keeping
 pub mod Folding

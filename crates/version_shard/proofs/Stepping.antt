@@ -1,6 +1,6 @@
 -- The versions of one address, change by change.
-use Rattle.std.proofs.Common.{◌≡◌, ℕ, ◌-◌, ◌<◌, ◌≤◌, zero, suc, Bool, true, false, cond, nat_lt, nat_le, List, [], ◌∷◌, ◌++◌, filter, fold, take}
-use Rattle.std.proofs.Common.{length, get_or, refl, sym, ap, ◌∙◌, subst, arith, append-nil, append_assoc, ◌⊎◌, inl, inr}
+use Rattle.std.proofs.Common.{◌≡◌, ℕ, ◌-◌, ◌<◌, ◌≤◌, zero, suc, Bool, true, false, cond, nat_lt, nat_le, List, [], ◌∷◌, ◌++◌, fold, take}
+use Rattle.std.proofs.Common.{refl, sym, ap, ◌∙◌, subst, arith, append-nil, append_assoc, ◌⊎◌, inl, inr}
 use Rattle.std.specs.List.{AllByRecursion}
 use Rattle.std.specs.BTreeMap.{is_at}
 use Rattle.std.specs.Cmp.{eq_by_cmp_equiv}
@@ -17,63 +17,14 @@ use Rattle.rdt_types.proofs.Addresses.{address_cmp-equal}
 use Rattle.change_feed.specs.declared.change.Change.{Change}
 use Rattle.journal_core.specs.Changes as journals
 use Rattle.journal_core.specs.Changes.{of_address}
-use Rattle.journal_core.specs.code.Rising.{Rises}
 use Rattle.journal_core.proofs.ByShard.{swapped}
-use Rattle.journal_core.proofs.Each.{each-more, each-append}
+use Rattle.journal_core.proofs.Each.{each-append}
 use Rattle.version_shard.specs.declared.version.Version.{Version}
-use Rattle.version_shard.specs.Versions.{Versioned, value_after, latest, up_to, value_at, past, as_changes, changed, trimmed_from, trimmed}
+use Rattle.version_shard.specs.Versions.{Versioned, value_after, up_to, value_at, past, as_changes, changed, trimmed_from, trimmed}
 use Rattle.version_shard.specs.Shards.{horizon_at}
 use Rattle.version_shard.specs.code.Following.{followed, followed_along, cut_along}
-
--- ---- lists that are cut by numbers
-
-module _ {X : Type 0} (number : X → ℕ) where
-  -- what is numbered up to a number
-  abbrev pub below : ℕ → List X → List X
-  below n xs = filter (λ x. nat_le (number x) n) xs
-
-  -- what is numbered past it
-  abbrev pub above : ℕ → List X → List X
-  above n xs = filter (λ x. nat_lt n (number x)) xs
-
-  -- cut twice is cut at the lesser number
-  pub below-lesser : (m n : ℕ) (xs : List X) → m ≤ n → below m (below n xs) ≡ below m xs
-  below-lesser m n [] within = refl
-  below-lesser m n (x ∷ xs) within = by (nat_le (number x) n) refl (below-lesser m n xs within)
-    where
-      by : (b : Bool) → nat_le (number x) n ≡ b → below m (below n xs) ≡ below m xs → below m (cond b (x ∷ below n xs) (below n xs)) ≡ below m (x ∷ xs)
-      by true e rest = ap (λ l. cond (nat_le (number x) m) (x ∷ l) l) rest
-      by false e rest = let out : nat_le (number x) m ≡ false = grind (arith, within, e) in rest ∙ sym (rw out refl)
-
-  -- and cut at a greater number afterwards, it stays as it is
-  pub below-greater : (m n : ℕ) (xs : List X) → m ≤ n → below n (below m xs) ≡ below m xs
-  below-greater m n [] within = refl
-  below-greater m n (x ∷ xs) within = by (nat_le (number x) m) refl (below-greater m n xs within)
-    where
-      by : (b : Bool) → nat_le (number x) m ≡ b → below n (below m xs) ≡ below m xs
-          → below n (cond b (x ∷ below m xs) (below m xs)) ≡ cond b (x ∷ below m xs) (below m xs)
-      by true e rest = let in_it : nat_le (number x) n ≡ true = grind (arith, within, e) in rw in_it (ap (λ l. x ∷ l) rest)
-      by false e rest = rest
-
-  -- what is up to a number is all
-  pub below-all : (n : ℕ) (xs : List X) → AllByRecursion (λ x. number x ≤ n) xs → below n xs ≡ xs
-  below-all n [] all = refl
-  below-all n (x ∷ xs) all = let here : nat_le (number x) n ≡ true = (let h = all.0 in grind (arith, h)) in rw here (ap (λ l. x ∷ l) (below-all n xs all.1))
-
-  -- and nothing of what is past it
-  pub below-none : (n : ℕ) (xs : List X) → AllByRecursion (λ x. n < number x) xs → below n xs ≡ []
-  below-none n [] all = refl
-  below-none n (x ∷ xs) all = let out : nat_le (number x) n ≡ false = (let h = all.0 in grind (arith, h)) in rw out (below-none n xs all.1)
-
-  -- what passes is up to the number
-  pub all-below : (n : ℕ) (xs : List X) → AllByRecursion (λ x. number x ≤ n) (below n xs)
-  all-below n [] = tt
-  all-below n (x ∷ xs) = by (nat_le (number x) n) refl (all-below n xs)
-    where
-      by : (b : Bool) → nat_le (number x) n ≡ b → AllByRecursion (λ x. number x ≤ n) (below n xs)
-          → AllByRecursion (λ x. number x ≤ n) (cond b (x ∷ below n xs) (below n xs))
-      by true e rest = (grind (arith, e), rest)
-      by false e rest = rest
+use Rattle.version_shard.proofs.Numbered.{below, below-lesser, below-greater}
+use Rattle.version_shard.proofs.Chains.{value_after-append}
 
 -- ---- one address
 
@@ -86,37 +37,21 @@ pub left-append : (base : Value) (xs ys : List Change) → left base (xs ++ ys) 
 left-append base [] ys = refl
 left-append base (x ∷ xs) ys = left-append (apply x.delta base) xs ys
 
--- the value after versions and then others is that after the others, where there are any
-pub value_after-append : (base : Value) (xs ys : List Version) → value_after base (xs ++ ys) ≡ value_after (value_after base xs) ys
-value_after-append base [] ys = refl
-value_after-append base (x ∷ xs) ys = value_after-append x.value xs ys
-
 -- Versions stand for the changes at an address from a horizon on: they have the value at each number, and the changes past it.
 pub record Stands (address : Address) (horizon : ℕ) (base : Value) (own : List Change) (v : Versioned) : Type 0 where
   pub values : (n : ℕ) → horizon ≤ n → value_at v n ≡ left base (journals.up_to n own)
   pub changes : (n : ℕ) → horizon ≤ n → as_changes address (past n v.later) ≡ journals.past n own
-  pub newest : latest v ≡ left base own
 
 -- ---- what is let go at a horizon
-
--- the newest value stays: it is the last version's, or where all went it has become the value before
-pub trimmed-newest : (h : ℕ) (base : Value) (later : List Version) → latest (trimmed_from h base later) ≡ value_after base later
-trimmed-newest h base [] = refl
-trimmed-newest h base (x ∷ rest) = by (nat_le x.number h) (trimmed-newest h x.value rest)
-  where
-    by : (b : Bool) → latest (trimmed_from h x.value rest) ≡ value_after x.value rest
-        → latest (cond b (trimmed_from h x.value rest) (record { base = base; later = x ∷ rest })) ≡ value_after x.value rest
-    by true again = again
-    by false again = refl
 
 -- from the horizon on each number has its value, since all that was let go is up to it
 pub trimmed-at : (h n : ℕ) (base : Value) (later : List Version) → h ≤ n
     → value_at (trimmed_from h base later) n ≡ value_after base (below (λ (x : Version). x.number) n later)
 trimmed-at h n base [] within = refl
-trimmed-at h n base (x ∷ rest) within = by (nat_le x.number h) refl (trimmed-at h n x.value rest within)
+trimmed-at h n base (x ∷ rest) within = by (nat_le x.number h) refl (trimmed-at h n (apply x.delta base) rest within)
   where
-    by : (b : Bool) → nat_le x.number h ≡ b → value_at (trimmed_from h x.value rest) n ≡ value_after x.value (below (λ (x : Version). x.number) n rest)
-        → value_at (cond b (trimmed_from h x.value rest) (record { base = base; later = x ∷ rest })) n
+    by : (b : Bool) → nat_le x.number h ≡ b → value_at (trimmed_from h (apply x.delta base) rest) n ≡ value_after (apply x.delta base) (below (λ (x : Version). x.number) n rest)
+        → value_at (cond b (trimmed_from h (apply x.delta base) rest) (record { base = base; later = x ∷ rest })) n
         ≡ value_after base (below (λ (x : Version). x.number) n (x ∷ rest))
     by true e again = let here : nat_le x.number n ≡ true = grind (arith, within, e) in again ∙ sym (rw here refl)
     by false e again = refl
@@ -124,10 +59,10 @@ trimmed-at h n base (x ∷ rest) within = by (nat_le x.number h) refl (trimmed-a
 -- and nothing past it was let go
 pub trimmed-past : (h n : ℕ) (base : Value) (later : List Version) → h ≤ n → past n (trimmed_from h base later).later ≡ past n later
 trimmed-past h n base [] within = refl
-trimmed-past h n base (x ∷ rest) within = by (nat_le x.number h) refl (trimmed-past h n x.value rest within)
+trimmed-past h n base (x ∷ rest) within = by (nat_le x.number h) refl (trimmed-past h n (apply x.delta base) rest within)
   where
-    by : (b : Bool) → nat_le x.number h ≡ b → past n (trimmed_from h x.value rest).later ≡ past n rest
-        → past n (cond b (trimmed_from h x.value rest) (record { base = base; later = x ∷ rest })).later ≡ past n (x ∷ rest)
+    by : (b : Bool) → nat_le x.number h ≡ b → past n (trimmed_from h (apply x.delta base) rest).later ≡ past n rest
+        → past n (cond b (trimmed_from h (apply x.delta base) rest) (record { base = base; later = x ∷ rest })).later ≡ past n (x ∷ rest)
     by true e again = let out : nat_lt n x.number ≡ false = grind (arith, within, e) in again ∙ sym (rw out refl)
     by false e again = refl
 
@@ -135,68 +70,53 @@ trimmed-past h n base (x ∷ rest) within = by (nat_le x.number h) refl (trimmed
 pub trimmed-all : (P : Version → Type 0) (h : ℕ) (base : Value) (later : List Version) → AllByRecursion P later
     → AllByRecursion P (trimmed_from h base later).later
 trimmed-all P h base [] all = tt
-trimmed-all P h base (x ∷ rest) all = by (nat_le x.number h) (trimmed-all P h x.value rest all.1)
+trimmed-all P h base (x ∷ rest) all = by (nat_le x.number h) (trimmed-all P h (apply x.delta base) rest all.1)
   where
-    by : (b : Bool) → AllByRecursion P (trimmed_from h x.value rest).later
-        → AllByRecursion P (cond b (trimmed_from h x.value rest) (record { base = base; later = x ∷ rest })).later
+    by : (b : Bool) → AllByRecursion P (trimmed_from h (apply x.delta base) rest).later
+        → AllByRecursion P (cond b (trimmed_from h (apply x.delta base) rest) (record { base = base; later = x ∷ rest })).later
     by true again = again
     by false again = all
 
 -- ---- one change more
 
-module _ (a : Address) (h : ℕ) (base : Value) (own : List Change) (c : Change) (v : Versioned)
-    (at : c.address ≡ a) (stands : Stands a h base own v) (behind : AllByRecursion (λ d. d.number ≤ c.number) own) where
-  -- at its number and past it the new version's value counts, which is the newest changed; before it the old ones do
+module _ (a : Address) (h : ℕ) (base : Value) (own : List Change) (c : Change) (v : Versioned) (at : c.address ≡ a) (stands : Stands a h base own v) where
+  -- the version that it makes
+  abbrev version : Version
+  version = record { number = c.number; delta = c.delta }
+
+  -- at its number and past it the new version makes of the old ones' value what the change does, and before it they count alone
   changed-at : (n : ℕ) → h ≤ n → value_at (changed c.number c.delta v) n ≡ left base (journals.up_to n (own ++ c ∷ []))
   changed-at n within =
-      ap (value_after v.base) (filter-append (λ x. nat_le x.number n) v.later
-      (record { number = c.number; delta = c.delta; value = apply c.delta (latest v) } ∷ []))
-      ∙ by (nat_le c.number n) refl
+      ap (value_after v.base) (filter-append (λ x. nat_le x.number n) v.later (version ∷ []))
+      ∙ value_after-append v.base (below (λ (x : Version). x.number) n v.later) (below (λ (x : Version). x.number) n (version ∷ []))
+      ∙ ap (λ value. value_after value (below (λ (x : Version). x.number) n (version ∷ []))) (stands.values n within)
+      ∙ by (nat_le c.number n)
+      ∙ sym (left-append base (journals.up_to n own) (journals.up_to n (c ∷ [])))
       ∙ ap (left base) (sym (filter-append (λ d. nat_le d.number n) own (c ∷ [])))
     where
-      by : (b : Bool) → nat_le c.number n ≡ b
-          → value_after v.base (below (λ (x : Version). x.number) n v.later
-          ++ cond b (record { number = c.number; delta = c.delta; value = apply c.delta (latest v) } ∷ []) [])
-          ≡ left base (journals.up_to n own ++ cond b (c ∷ []) [])
-      by true e =
-          value_after-append v.base (below (λ (x : Version). x.number) n v.later)
-          (record { number = c.number; delta = c.delta; value = apply c.delta (latest v) } ∷ [])
-          ∙ ap (apply c.delta) stands.newest
-          ∙ sym (left-append base (journals.up_to n own) (c ∷ [])
-          ∙ ap (λ l. apply c.delta (left base l))
-          (below-all (λ (d : Change). d.number) n own (each-more _ _ own (λ d le. grind (arith, le, e)) behind)))
-      by false e =
-          value_after-append v.base (below (λ (x : Version). x.number) n v.later) []
-          ∙ stands.values n within
-          ∙ sym (left-append base (journals.up_to n own) [])
+      by : (b : Bool) → value_after (left base (journals.up_to n own)) (cond b (version ∷ []) []) ≡ left (left base (journals.up_to n own)) (cond b (c ∷ []) [])
+      by true = refl
+      by false = refl
 
   -- past a number stand the changes as before, and the new one where its number is past it
   changed-past : (n : ℕ) → h ≤ n → as_changes a (past n (changed c.number c.delta v).later) ≡ journals.past n (own ++ c ∷ [])
   changed-past n within =
-      ap (as_changes a) (filter-append (λ x. nat_lt n x.number) v.later (record { number = c.number; delta = c.delta; value = apply c.delta (latest v) } ∷ []))
-      ∙ map-append (λ x. record { number = x.number; address = a; delta = x.delta }) (past n v.later)
-      (past n (record { number = c.number; delta = c.delta; value = apply c.delta (latest v) } ∷ []))
-      ∙ ap (λ l. l ++ as_changes a (past n (record { number = c.number; delta = c.delta; value = apply c.delta (latest v) } ∷ []))) (stands.changes n within)
+      ap (as_changes a) (filter-append (λ x. nat_lt n x.number) v.later (version ∷ []))
+      ∙ map-append (λ x. record { number = x.number; address = a; delta = x.delta }) (past n v.later) (past n (version ∷ []))
+      ∙ ap (λ l. l ++ as_changes a (past n (version ∷ []))) (stands.changes n within)
       ∙ ap (λ l. journals.past n own ++ l) (by (nat_lt n c.number))
       ∙ sym (filter-append (λ d. nat_lt n d.number) own (c ∷ []))
     where
       same : record { number = c.number; address = a; delta = c.delta } ≡ c
       same = ap (λ (b : Address). record { number = c.number; address = b; delta = c.delta }) (sym at)
 
-      by : (b : Bool) → as_changes a (cond b (record { number = c.number; delta = c.delta; value = apply c.delta (latest v) } ∷ []) []) ≡ cond b (c ∷ []) []
+      by : (b : Bool) → as_changes a (cond b (version ∷ []) []) ≡ cond b (c ∷ []) []
       by true = ap (λ (d : Change). d ∷ []) same
       by false = refl
 
   -- so the versions with one more stand for the changes with one more
   pub changed-stands : Stands a h base (own ++ c ∷ []) (changed c.number c.delta v)
-  changed-stands = record {
-    values = changed-at;
-    changes = changed-past;
-    newest =
-        value_after-append v.base v.later (record { number = c.number; delta = c.delta; value = apply c.delta (latest v) } ∷ [])
-        ∙ ap (apply c.delta) stands.newest
-        ∙ sym (left-append base own (c ∷ []));
-  }
+  changed-stands = record { values = changed-at; changes = changed-past }
 
 -- versions that are trimmed at a horizon go on standing from it on, or from a greater one
 pub trimmed-stands : (a : Address) (h k : ℕ) (base : Value) (own : List Change) (v : Versioned) → Stands a h base own v → k ≤ h
@@ -204,7 +124,6 @@ pub trimmed-stands : (a : Address) (h k : ℕ) (base : Value) (own : List Change
 trimmed-stands a h k base own v stands within = record {
   values = λ n le. trimmed-at k n v.base v.later (omega (arith, le, within)) ∙ stands.values n le;
   changes = λ n le. ap (as_changes a) (trimmed-past k n v.base v.later (omega (arith, le, within))) ∙ stands.changes n le;
-  newest = trimmed-newest k v.base v.later ∙ stands.newest;
 }
 
 -- they stand from a greater horizon on too
@@ -212,39 +131,31 @@ pub stands-later : (a : Address) (h k : ℕ) (base : Value) (own : List Change) 
 stands-later a h k base own v stands within = record {
   values = λ n le. stands.values n (omega (arith, le, within));
   changes = λ n le. stands.changes n (omega (arith, le, within));
-  newest = stands.newest;
 }
 
 -- ---- changes one by one
 
 module _ (a : Address) (window h : ℕ) (base : Value) where
   -- each change at the address adds a version, and lets go only what is up to the horizon; others leave all as it is
-  pub along-stands : (m : ℕ) (changes own : List Change) (v : Versioned) → Stands a h base own v → Rises m changes
-      → AllByRecursion (λ d. d.number ≤ m) own → AllByRecursion (λ c. horizon_at window (c.number - 1) ≤ h) changes
+  pub along-stands : (changes own : List Change) (v : Versioned) → Stands a h base own v
+      → AllByRecursion (λ c. horizon_at window (c.number - 1) ≤ h) changes
       → Stands a h base (own ++ of_address a changes) (followed_along window a changes v)
-  along-stands m [] own v stands rising behind near =
-      subst (λ (l : List Change). Stands a h base l v) (sym (append-nil own)) stands
-  along-stands m (c ∷ rest) own v stands rising behind near =
-      by (is_at (address_cmp c.address) a) refl (λ more w is up. along-stands c.number rest more w is rising.1 up near.1)
+  along-stands [] own v stands near = subst (λ (l : List Change). Stands a h base l v) (sym (append-nil own)) stands
+  along-stands (c ∷ rest) own v stands near = by (is_at (address_cmp c.address) a) refl (λ more w is. along-stands rest more w is near.1)
     where
-      up : AllByRecursion (λ d. d.number ≤ c.number) own
-      up = each-more _ _ own (λ d le. let r = rising.0 in omega (arith, le, r)) behind
-
       there : (b : Bool) → is_at (address_cmp c.address) a ≡ b → is_at (address_cmp a) c.address ≡ b
       there b e = (eq_by_cmp_equiv order.total-law).symm a c.address ∙ e
 
       by : (b : Bool) → is_at (address_cmp c.address) a ≡ b
-          → ((more : List Change) (w : Versioned) → Stands a h base more w → AllByRecursion (λ d. d.number ≤ c.number) more
-          → Stands a h base (more ++ of_address a rest) (followed_along window a rest w))
+          → ((more : List Change) (w : Versioned) → Stands a h base more w → Stands a h base (more ++ of_address a rest) (followed_along window a rest w))
           → Stands a h base (own ++ of_address a (c ∷ rest)) (followed_along window a rest (cond b (followed window c v) v))
       by true e again =
           rw (there true e)
           (subst (λ (l : List Change). Stands a h base l (followed_along window a rest (followed window c v))) (append_assoc own (c ∷ []) (of_address a rest))
           (again (own ++ c ∷ []) (followed window c v)
           (trimmed-stands a h (horizon_at window (c.number - 1)) base (own ++ c ∷ []) (changed c.number c.delta v)
-          (changed-stands a h base own c v (address_cmp-equal c.address a (equal _ e)) stands up) near.0)
-          (each-append _ own (c ∷ []) up (omega arith, tt))))
-      by false e again = rw (there false e) (again own v stands up)
+          (changed-stands a h base own c v (address_cmp-equal c.address a (equal _ e)) stands) near.0)))
+      by false e again = rw (there false e) (again own v stands)
 
 -- ---- the way back
 
@@ -258,7 +169,6 @@ cut-stands a h r base own v stands within = record {
       ∙ as_changes-below (past n v.later)
       ∙ ap (journals.up_to r) (stands.changes n le)
       ∙ swapped (λ d. nat_le d.number r) (λ d. nat_lt n d.number) own;
-  newest = stands.values r within;
 }
   where
     as_changes-below : (later : List Version) → as_changes a (below (λ (x : Version). x.number) r later) ≡ journals.up_to r (as_changes a later)
@@ -337,7 +247,7 @@ cut_back r window a changes count v same = by (cut-or-not r a changes (followed_
 -- ---- what holds of each version
 
 module _ (P : Version → Type 0) (Q : Change → Type 0) (a : Address) (window : ℕ)
-    (fits : (c : Change) (value : Value) → c.address ≡ a → Q c → P (record { number = c.number; delta = c.delta; value = value })) where
+    (fits : (c : Change) → c.address ≡ a → Q c → P (record { number = c.number; delta = c.delta })) where
   -- what fits each change at the address holds of the version made of it, and trimming keeps it of those that stay
   pub along-all : (changes : List Change) (v : Versioned) → AllByRecursion Q changes → AllByRecursion P v.later
       → AllByRecursion P (followed_along window a changes v).later
@@ -350,22 +260,5 @@ module _ (P : Version → Type 0) (Q : Change → Type 0) (a : Address) (window 
       by true e again =
           again (followed window c v)
           (trimmed-all P (horizon_at window (c.number - 1)) v.base (changed c.number c.delta v).later
-          (each-append P v.later (record { number = c.number; delta = c.delta; value = apply c.delta (latest v) } ∷ []) all
-          (fits c (apply c.delta (latest v)) (address_cmp-equal c.address a (equal _ e)) are.0, tt)))
+          (each-append P v.later (record { number = c.number; delta = c.delta } ∷ []) all (fits c (address_cmp-equal c.address a (equal _ e)) are.0, tt)))
       by false e again = again v all
-
--- the first none of some items are none
-take-none : {X : Type 0} (xs : List X) → take zero xs ≡ []
-take-none [] = refl
-take-none (x ∷ xs) = refl
-
--- after no version it is the value before them
-pub value_after-none : (base : Value) (later : List Version) (i : ℕ) → i ≡ 0 → value_after base (take i later) ≡ base
-value_after-none base later i none = ap (λ n. value_after base (take n later)) none ∙ ap (value_after base) (take-none later)
-
--- after the versions up to a place it is the value of the one there
-pub value_after-taken : (base : Value) (later : List Version) (i : ℕ) (d : Version) → i < length later
-    → value_after base (take (suc i) later) ≡ (get_or later i d).value
-value_after-taken base [] i d within = absurd (omega (arith, within))
-value_after-taken base (x ∷ rest) zero d within = ap (value_after x.value) (take-none rest)
-value_after-taken base (x ∷ rest) (suc i) d within = value_after-taken x.value rest i d (omega (arith, within))

@@ -1,5 +1,5 @@
 -- The versions of the value at one address.
-use Rattle.std.specs.Prelude.{◌≡◌, ℕ, Bool, false, nat_le, nat_lt, List, [], ◌∷◌, ◌++◌, map, filter, fold, if◌then◌else◌, pos, refl}
+use Rattle.std.specs.Prelude.{◌≡◌, ℕ, nat_le, nat_lt, List, [], ◌∷◌, ◌++◌, map, filter, fold, if◌then◌else◌, pos, refl}
 use Rattle.std.specs.Coded.{Coded, code_by, coded×, coded_list}
 use Rattle.std.specs.List.Sorted.{IsNonDecreasingBy}
 use Rattle.rdt_types.specs.declared.address.Address.{Address}
@@ -29,9 +29,9 @@ versioned_code value version =
 abbrev pub unversioned : Value → Versioned
 unversioned base = record { base = base; later = [] }
 
--- the value after the newest of some versions, which follow a value
+-- The value after some versions, which follow a value: each makes of the value before it what its delta does.
 abbrev pub value_after : Value → List Version → Value
-value_after base later = fold (λ value version. version.value) base later
+value_after base later = fold (λ value version. apply version.delta value) base later
 
 -- the value behind all versions
 abbrev pub latest : Versioned → Value
@@ -53,30 +53,20 @@ past number later = filter (λ version. nat_lt number version.number) later
 abbrev pub as_changes : Address → List Version → List Change
 as_changes address later = map (λ version. record { number = version.number; address = address; delta = version.delta }) later
 
--- one version more: what the commit of a number makes of the newest value
+-- one version more: what the commit of a number changed
 abbrev pub changed : ℕ → Delta → Versioned → Versioned
-changed number delta versions =
-    record versions { later = versions.later ++ record { number = number; delta = delta; value = apply delta (latest versions) } ∷ [] }
+changed number delta versions = record versions { later = versions.later ++ record { number = number; delta = delta } ∷ [] }
 
--- The versions up to a horizon are let go, from the oldest on, and the newest of them stays as the value before the others.
+-- The versions up to a horizon are let go, from the oldest on, and what they made of the value stays as the one before the
+-- others.
 abbrev pub trimmed_from : ℕ → Value → List Version → Versioned
 trimmed_from horizon base [] = record { base = base; later = [] }
 trimmed_from horizon base (version ∷ rest) =
-    if nat_le version.number horizon then trimmed_from horizon version.value rest else record { base = base; later = version ∷ rest }
+    if nat_le version.number horizon then trimmed_from horizon (apply version.delta base) rest else record { base = base; later = version ∷ rest }
 
 -- what is left of versions that no read from the horizon on asks for
 abbrev pub trimmed : ℕ → Versioned → Versioned
 trimmed horizon versions = trimmed_from horizon versions.base versions.later
-
--- whether the oldest version is one up to a horizon
-abbrev pub begins_by : ℕ → List Version → Bool
-begins_by horizon [] = false
-begins_by horizon (version ∷ rest) = nat_le version.number horizon
-
--- without the oldest version
-abbrev pub without_oldest : Value → List Version → Versioned
-without_oldest base [] = unversioned base
-without_oldest base (version ∷ rest) = record { base = version.value; later = rest }
 
 -- ---- worked lines
 

@@ -1,3 +1,4 @@
+pub mod Chains
 pub mod Clashing
 pub mod Following
 pub mod Marks

@@ -3,12 +3,13 @@
 ghost use Rattle.std.specs.Prelude.{◌≡◌, ◌≤◌, ◌-◌, OnOk, OnErr, IfErr};
 ghost use Rattle.std.specs.List.{AllByRecursion};
 ghost use Rattle.rdt_types.specs.declared.address.Address.{Address};
+ghost use Rattle.change_feed.specs.Lists.{listed};
 ghost use Rattle.journal_core.specs.Tails.{tail_of};
 ghost use Rattle.version_shard.specs.Shards.{versions_of, AreKept, horizon_at};
 ghost use Rattle.version_shard.specs.code.Following.{followed_at, followed_along, cut_along, StopsAt, Reaches};
 
 use crate::kept::Kept;
-use change_feed::Change;
+use change_feed::{Change, Changes};
 use journal_core::LentTail;
 use std::alloc::{AllocError, Global};
 
@@ -37,23 +38,36 @@ fn follow_one(
 /// Follows changes one by one. Where there is no memory for one of them it answers the number of its commit.
 fn follow_each(kept: &mut Kept, alloc: Global, tail: &LentTail<'_>, window: u16) -> Result<(), u64>
     requires { AreKept tail.now.from kept.old }
-    ensures ok { OnOk result ((a : Address) → versions_of kept.new a ≡ followed_along window a tail.now.changes.now (versions_of kept.old a)) }
+    ensures ok { OnOk result ((a : Address) → versions_of kept.new a ≡ followed_along window a (listed tail.now.changes) (versions_of kept.old a)) }
     ensures err { IfErr result (λ number. StopsAt window (tail_of tail.now) number kept.old kept.new) }
 {
-    for change in tail.changes {
-        if follow_one(kept, alloc, change, window).is_err() {
-            return Err(change.number);
+    let mut rest = tail.changes;
+    while let Some(piece) = rest.next_piece() {
+        for change in piece {
+            if follow_one(kept, alloc, change, window).is_err() {
+                return Err(change.number);
+            }
         }
     }
     Ok(())
 }
 
-/// Lets go of the versions past a number at the addresses of some changes.
-fn cut_each(kept: &mut Kept, changes: &[Change], number: u64)
-    ensures { (a : Address) → versions_of kept.new a ≡ cut_along number a changes.now (versions_of kept.old a) }
+/// Lets go of the versions past a number at the addresses of the changes of a piece.
+fn cut_piece(kept: &mut Kept, piece: &[Change], number: u64)
+    ensures { (a : Address) → versions_of kept.new a ≡ cut_along number a piece.now (versions_of kept.old a) }
 {
-    for change in changes {
+    for change in piece {
         kept.cut(&change.address, number);
+    }
+}
+
+/// Lets go of the versions past a number at the addresses of some changes.
+fn cut_each(kept: &mut Kept, changes: &Changes<'_>, number: u64)
+    ensures { (a : Address) → versions_of kept.new a ≡ cut_along number a (listed changes.now) (versions_of kept.old a) }
+{
+    let mut rest = *changes;
+    while let Some(piece) = rest.next_piece() {
+        cut_piece(kept, piece, number);
     }
 }
 
@@ -66,15 +80,15 @@ pub(crate) fn reach(
     window: u16,
 ) -> Result<(), u64>
     requires { AreKept tail.now.from kept.old }
-    ensures ok { OnOk result (Reaches window tail.now.changes.now tail.now.to kept.old kept.new) }
+    ensures ok { OnOk result (Reaches window (listed tail.now.changes) tail.now.to kept.old kept.new) }
     ensures within { IfErr result (λ front. (tail.now.from ≤ front) × (front ≤ tail.now.to)) }
-    ensures err { IfErr result (λ front. Reaches window tail.now.changes.now front kept.old kept.new) }
+    ensures err { IfErr result (λ front. Reaches window (listed tail.now.changes) front kept.old kept.new) }
 {
     match follow_each(kept, alloc, tail, window) {
         Ok(()) => Ok(()),
         Err(number) => {
             let front = number - 1;
-            cut_each(kept, tail.changes, front);
+            cut_each(kept, &tail.changes, front);
             Err(front)
         }
     }

@@ -7,6 +7,7 @@
 #![tactic(auto)]
 
 mod at_error;
+mod chain;
 mod following;
 mod kept;
 mod laws;

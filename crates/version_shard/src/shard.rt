@@ -3,6 +3,7 @@
 ghost use Rattle.std.specs.Prelude.{◌≡◌, ◌+◌, ◌<◌, ◌≤◌, take, OnOk, IfOk};
 ghost use Rattle.std.specs.List.{AllByRecursion};
 ghost use Rattle.change_feed.specs.Feeds.{AreOfTheirKinds};
+ghost use Rattle.change_feed.specs.Lists.{listed};
 ghost use Rattle.abort_witness.specs.Kinds.{IsBasedOfOneKind};
 ghost use Rattle.txn_lang.specs.States.{Journal, state};
 ghost use Rattle.version_shard.specs.Shards as spec;
@@ -22,7 +23,6 @@ use abort_witness::Based;
 use change_feed::Tail;
 use conflict_table::Steps;
 use journal_core::LentTail;
-use plain_data::copied;
 use rdt_types::{Address, Settings, Value, default_value};
 use std::alloc::{AllocError, Global};
 use std::marker::Model;
@@ -110,14 +110,14 @@ impl Shard {
         self.follow_lent(&LentTail {
             from: tail.from,
             to: tail.to,
-            changes: tail.changes.as_slice(),
+            changes: tail.changes.lend(),
         })
     }
 
     /// Follows a tail that a journal lends.
     pub fn follow_lent(&mut self, tail: &LentTail<'_>) -> Result<(), AllocError>
         requires from { tail.now.from ≡ self.old.front }
-        requires kinds { AreOfTheirKinds tail.now.changes.now }
+        requires kinds { AreOfTheirKinds (listed tail.now.changes) }
         ensures same { self.new ≡ record self.old { front = self.new.front; kept = self.new.kept } }
         ensures reached { OnOk result (self.new.front ≡ tail.now.to) }
         ensures never_back { self.old.front ≤ self.new.front }
@@ -143,7 +143,7 @@ impl Shard {
         ensures { IfOk result (λ value. value ≡ spec.value_at self.now address.now number) }
     {
         match self.kept.get(address) {
-            Some(versions) => copied(versions.at(number)),
+            Some(versions) => versions.at(self.alloc, number),
             None => Ok(default_value(self.alloc, address.kind)),
         }
     }

@@ -4,7 +4,7 @@
 ghost use Rattle.std.specs.Prelude.{◌≡◌, ◌≤◌, ◌<◌, ◌+◌, ◌^◌, ◌==◌, if◌then◌else◌, [], ◌∷◌, length, Some, IfOk, IfSome, OnOk, OnErr};
 ghost use Rattle.std.specs.Bool.{OnTrue, OnFalse};
 ghost use Rattle.std.specs.Option.{option_copied};
-ghost use Rattle.rdt_types.specs.declared.limits.TheConstants.{LEAST_COMMITS, MOST_COMMITS};
+ghost use Rattle.rdt_types.specs.declared.limits.TheConstants.{LEAST_SHARDS, MOST_SHARDS, LEAST_COMMITS, MOST_COMMITS};
 ghost use Rattle.txn_lang.specs.Journals.{own};
 ghost use Rattle.journal_core.specs.Bodies.{IsBodyText};
 ghost use Rattle.journal_core.specs.Journals.{CanAppend, Decides};
@@ -15,6 +15,7 @@ ghost use Rattle.journal_core.specs.Readies.{IsRunOf};
 ghost use Rattle.journal_core.specs.Witnesses.{AreBasedOfOneKind};
 ghost use Rattle.store_tests.specs.Plain.{IsTold, plain, plain_bytes};
 
+use crate::attempts::segments::has_so_many;
 use crate::bodies::checked;
 use abort_witness::{Based, BasedList, Witness};
 use change_feed::Tail;
@@ -36,7 +37,7 @@ const NOTHING: &[u8] = b"let a = 1;";
 
 /// What came of an append.
 #[derive(Clone, Copy, PartialEq)]
-enum End {
+pub(super) enum End {
     Number(u64),
     /// The witness' base and number, where it is of the counter `x`.
     Clash(u64, u64),
@@ -57,20 +58,22 @@ fn counter(alloc: Global) -> Result<Address, AllocError>
     })
 }
 
-/// A journal of four shards and a limit, with these commits.
-fn journal_of<K: Keep>(
+/// A journal of so many shards and a limit, with these commits.
+pub(super) fn journal_of<K: Keep>(
     alloc: Global,
     keeper: K,
     kept: CommitList,
+    shards: u8,
     limit: u32,
 ) -> Result<Journal<K>, AllocError>
     requires numbered { AreNumbered kept }
     requires kinds { HasKinds kept }
     requires told { IfSome (K.kept keeper) (λ list. list ≡ kept) }
+    requires shards { (LEAST_SHARDS ≤ shards) × (shards ≤ MOST_SHARDS) }
     requires limit { (LEAST_COMMITS ≤ limit) × (limit ≤ MOST_COMMITS) }
 {
     let settings = Settings {
-        shards: 4,
+        shards,
         window: 1,
         limit,
     };
@@ -223,7 +226,7 @@ fn append<K: Keep>(journal: &mut Journal<K>, ready: &Ready) -> Result<End, Alloc
 }
 
 /// How the append of a client's text ends that read the counter `x` at a base.
-fn added<K: Keep>(
+pub(super) fn added<K: Keep>(
     alloc: Global,
     journal: &mut Journal<K>,
     client: u32,
@@ -267,7 +270,7 @@ fn two_more() -> &'static [Row] {
 /// Whether a tail is there and has so many changes.
 fn has(tail: &Result<Tail, AllocError>, count: usize) -> bool {
     match tail {
-        Ok(tail) => tail.changes.len() == count,
+        Ok(tail) => has_so_many(tail.changes.lend(), count),
         Err(_) => false,
     }
 }
@@ -341,7 +344,7 @@ fn behind() -> &'static [Row] {
 /// Whether the change of a first commit is found, and of two slots behind three commits one is added. Then the other client's
 /// append clashes, until it reads anew.
 fn one_is_added(alloc: Global) -> bool {
-    match journal_of(alloc, MemKeep, CommitList::new(alloc), 9) {
+    match journal_of(alloc, MemKeep, CommitList::new(alloc), 4, 9) {
         Ok(mut journal) => {
             play(alloc, &mut journal, one()) == 1
                 && has_one_change(&journal)
@@ -436,7 +439,7 @@ fn fails_once(alloc: Global) -> bool {
         before: 4,
         faults: Count::new(),
     };
-    match journal_of(alloc, keeper, CommitList::new(alloc), 5) {
+    match journal_of(alloc, keeper, CommitList::new(alloc), 4, 5) {
         Ok(journal) => goes_on(alloc, journal),
         Err(_) => false,
     }
@@ -594,7 +597,7 @@ fn tells(alloc: Global) -> bool {
         list: CommitList::new(alloc),
         faults: Count::new(),
     };
-    match journal_of(alloc, keeper, CommitList::new(alloc), 9) {
+    match journal_of(alloc, keeper, CommitList::new(alloc), 4, 9) {
         Ok(journal) => is_told(alloc, journal),
         Err(_) => false,
     }

@@ -1,6 +1,7 @@
 use Rattle.std.proofs.Common.{◌≤◌, max, length, ap, ◌∙◌, subst, arith}
 use Rattle.std.proofs.Math.Nat.{le-max_left}
 use Rattle.rdt_types.specs.Shards.{shard_of}
+use Rattle.change_feed.specs.Lists.{listed}
 use Rattle.journal_core.specs.Changes.{changes, of_shard, past}
 use Rattle.journal_core.specs.Pairs.{front_at}
 use Rattle.journal_core.specs.code.Parts.{MeetsAlike}
@@ -17,7 +18,7 @@ returns-then-commits-based c =
     let within : based.base ≤ from = le-max_left based.base _ in
     let reached = c.if-commits-based.true in
     let few = ap (λ l. length l) c.commits.ensures.commits in
-    none-alike based from (changes log.commits) within (none_past from 0 log.commits (omega (arith, within, reached, few)) c.commits.ensures.numbered)
+    rw c.none.ensures (none-alike based from (changes log.commits) within (none_past from 0 log.commits (omega (arith, within, reached, few)) c.commits.ensures.numbered))
 
 -- what counts from is past the base, and the list is that of the observation's shard
 pub returns : goal.returns
@@ -30,5 +31,5 @@ returns c =
     let same = c.in_shard.ensures.changes ∙ ap (λ k. of_shard log.shards k all) shard_is in
     let within : based.base ≤ c.counts_from-from.result = rw c.counts_from-from.ensures (le-max_left based.base _) in
     rw c.past.ensures
-    (subst (λ n. MeetsAlike based (past c.counts_from-from.result c.in_shard.result.now) (moved based n) all) from_is
-    (past-alike based c.counts_from-from.result log.shards c.in_shard.result.now all within same))
+    (subst (λ n. MeetsAlike based (past c.counts_from-from.result (listed c.in_shard.result)) (moved based n) all) from_is
+    (past-alike based c.counts_from-from.result log.shards (listed c.in_shard.result) all within same))

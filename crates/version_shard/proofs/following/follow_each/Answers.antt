@@ -1,26 +1,73 @@
-use Rattle.std.proofs.Common.{sym, ap, ◌∙◌}
+use Rattle.std.proofs.Common.{◌+◌, ◌++◌, drop, length, sym, ap, ◌∙◌, subst}
+use Rattle.std.proofs.Math.ListN.{drop_of_length-le}
+use Rattle.change_feed.specs.Lists.{listed}
 use Rattle.journal_core.specs.Tails.{tail_of}
 use Rattle.version_shard.specs.Shards.{Kept, versions_of}
-use Rattle.version_shard.proofs.Keeping.{up_to-next, stops, at_err}
+use Rattle.version_shard.proofs.Keeping.{up_to-next, stops, at_err, at_ok}
+use Rattle.version_shard.proofs.Pieces.{AreLeft, all-left, pieces-left, none-left, next-in, next-at, next-within, next-versions, one-less}
 use Rattle.version_shard.proofs.following.follow_each.Goals as goal
+
+pub loop-piece-init : goal.loop-piece-init
+loop-piece-init c = all-left c.args.window (listed c.args.tail.now.changes) c.args.kept.now
+
+pub loop-change-init : goal.loop-change-init
+loop-change-init c =
+    pieces-left c.args.window (listed c.args.tail.now.changes) (listed c.loop-piece.rest) c.args.kept.now c.loop-piece.kept c.loop-piece.invariant
+    c.in-Some.piece.now (listed c.next_piece.new.self) c.in-Some.ensures.piece
 
 pub follow_one-requires : goal.follow_one-requires
 follow_one-requires c =
     let tail = tail_of c.args.tail.now in
     let next = c.change-item.result in
     let i = c.loop-change.change-index in
-    up_to-next c.args.window tail c.args.kept.now c.requires c.loop-change.kept i next next.address
-    c.change-item.is
-    c.loop-change-test.true
-    (c.loop-change.invariant next.address)
+    let piece = c.in-Some.piece.now in
+    let rest = listed c.next_piece.new.self in
+    let left = drop i piece ++ rest in
+    let old = c.args.kept.now in
+    let now = c.loop-change.kept in
+    let are = c.loop-change.invariant in
+    let split = next-in piece rest i next c.change-item.is c.loop-change-test.true in
+    up_to-next c.args.window tail old c.requires now (length are.done) next next.address
+    (next-at c.args.window tail.changes left old now are next (drop (i + 1) piece ++ rest) split)
+    (next-within c.args.window tail.changes left old now are next (drop (i + 1) piece ++ rest) split)
+    (next-versions c.args.window tail.changes left old now are next (drop (i + 1) piece ++ rest) split next.address)
 
 pub returns-then-is_err-clause-err : goal.returns-then-is_err-clause-err
 returns-then-is_err-clause-err c =
     let tail = tail_of c.args.tail.now in
     let next = c.change-item.result in
     let i = c.loop-change.change-index in
-    stops c.args.window tail c.args.kept.now c.requires c.follow_one.new.kept i next
-    c.change-item.is
-    c.loop-change-test.true
+    let piece = c.in-Some.piece.now in
+    let rest = listed c.next_piece.new.self in
+    let left = drop i piece ++ rest in
+    let old = c.args.kept.now in
+    let now = c.loop-change.kept in
+    let are = c.loop-change.invariant in
+    let split = next-in piece rest i next c.change-item.is c.loop-change-test.true in
+    stops c.args.window tail old c.requires c.follow_one.new.kept (length are.done) next
+    (next-at c.args.window tail.changes left old now are next (drop (i + 1) piece ++ rest) split)
+    (next-within c.args.window tail.changes left old now are next (drop (i + 1) piece ++ rest) split)
     (λ a. ap (λ (k : Kept). versions_of k a) (at_err c.follow_one.result _ (sym c.is_err.ensures.value ∙ c.if-is_err.true) c.follow_one.ensures.err)
-    ∙ c.loop-change.invariant a)
+    ∙ next-versions c.args.window tail.changes left old now are next (drop (i + 1) piece ++ rest) split a)
+
+pub loop-change-preserved : goal.loop-change-preserved
+loop-change-preserved c =
+    let tail = tail_of c.args.tail.now in
+    let next = c.change-item.result in
+    let i = c.loop-change.change-index in
+    let piece = c.in-Some.piece.now in
+    let rest = listed c.next_piece.new.self in
+    let split = next-in piece rest i next c.change-item.is c.loop-change-test.true in
+    one-less c.args.window tail.changes (drop i piece ++ rest) c.args.kept.now c.loop-change.kept c.loop-change.invariant next
+    (drop (i + 1) piece ++ rest) split c.follow_one.new.kept
+    (at_ok c.follow_one.result _ (sym c.is_err.ensures.value ∙ c.if-is_err.false) c.follow_one.ensures.ok)
+
+pub loop-piece-preserved : goal.loop-piece-preserved
+loop-piece-preserved c =
+    subst (λ l. AreLeft c.args.window (listed c.args.tail.now.changes) (l ++ listed c.next_piece.new.self) c.args.kept.now c.loop-change.kept)
+    (drop_of_length-le c.in-Some.piece.now c.loop-change-test.false) c.loop-change.invariant
+
+pub returns-clause-ok : goal.returns-clause-ok
+returns-clause-ok c =
+    none-left c.args.window (listed c.args.tail.now.changes) (listed c.loop-piece.rest) c.args.kept.now c.loop-piece.kept c.loop-piece.invariant
+    c.in_default.ensures.piece

@@ -1,10 +1,16 @@
-use Rattle.std.proofs.Common.{◌≡◌, take}
-use Rattle.rdt_types.specs.declared.address.Address.{Address}
-use Rattle.version_shard.specs.Shards.{versions_of}
-use Rattle.version_shard.specs.code.Following.{followed_along}
+use Rattle.std.proofs.Common.{◌++◌, drop}
+use Rattle.change_feed.specs.Lists.{listed, pieces_left}
+use Rattle.version_shard.proofs.Pieces.{AreLeft}
 use Rattle.version_shard.proofs.following.follow_each.Given as goal
 
 -- those so far were followed
+abbrev pub invariant-loop-piece : goal.invariant-loop-piece
+invariant-loop-piece l = AreLeft l.window (listed l.tail.changes) (listed l.rest) l.fn.kept l.kept
+
+-- the pieces come to an end
+abbrev pub decreases-loop-piece : goal.decreases-loop-piece
+decreases-loop-piece l = pieces_left l.rest
+
+-- of a piece too
 abbrev pub invariant-loop-change : goal.invariant-loop-change
-invariant-loop-change l = (a : Address) → versions_of l.kept a
-    ≡ followed_along l.window a (take l.change-index l.tail.changes.now) (versions_of l.fn.kept a)
+invariant-loop-change l = AreLeft l.window (listed l.tail.changes) (drop l.change-index l.piece ++ listed l.rest) l.fn.kept l.kept

@@ -8,6 +8,6 @@ use Rattle.journal_core.proofs.log.Log.in_shard.Goals as goal
 pub returns-clause-rises : goal.returns-clause-rises
 returns-clause-rises c =
     let log = c.self.inside in
-    rw c.in_shard.ensures (rw c.as_slice.ensures.value (rw (c.self.invariant.theirs.theirs c.args.shard)
+    rw c.in_shard.ensures.changes (rw c.as_slice.ensures.value (rw (c.self.invariant.theirs.theirs c.args.shard)
     (rises-filter (λ change. shard_of change.address log.shards == c.args.shard) 0 (changes log.commits.0)
     (changes-rise 0 log.commits.0 c.self.invariant.numbered))))

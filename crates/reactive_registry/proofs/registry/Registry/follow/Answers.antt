@@ -1,8 +1,6 @@
-use Rattle.std.proofs.Common.{◌≡◌, List, option_map, sym, ap, ◌∙◌, subst}
-use Rattle.change_feed.specs.declared.change.Change.{Change}
+use Rattle.std.proofs.Common.{◌≡◌, option_map, sym, ap, ◌∙◌, subst}
 use Rattle.change_feed.specs.Tails.{IsTail}
 use Rattle.reactive_registry.specs.Registered.{Registered, kept_in, kept_of, told}
-use Rattle.reactive_registry.specs.code.Telling.{told_along}
 use Rattle.reactive_registry.proofs.Undone.{told_each, linked_told}
 use Rattle.reactive_registry.proofs.registry.Registry.follow.Goals as goal
 
@@ -17,7 +15,6 @@ invariant_of-self-2 c =
     c.tell_or_undo.new.subscribers.entries inside.places c.self.invariant
     (λ q.
     c.in_ok-tell_or_undo.ensures.ok q
-    ∙ ap (λ (l : List Change). told_along inside.places q l (kept_in es q)) c.as_slice-changes.ensures
     ∙ told_each inside.places q tail.changes (kept_in es q) (c.self.invariant.both_ways q))
 
 pub returns-clause-ok : goal.returns-clause-ok
@@ -26,6 +23,5 @@ returns-clause-ok c s =
     let es = inside.subscribers.entries in
     let tail = c.args.tail.now in
     c.in_ok-tell_or_undo.ensures.ok s
-    ∙ ap (λ (l : List Change). told_along inside.places s l (kept_in es s)) c.as_slice-changes.ensures
     ∙ told_each inside.places s tail.changes (kept_in es s) (c.self.invariant.both_ways s)
     ∙ ap (λ (r : Registered). option_map (told tail.changes) (kept_of r s)) c.self.view_is

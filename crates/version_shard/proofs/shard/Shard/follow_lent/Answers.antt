@@ -33,7 +33,7 @@ returns-in-Ok-clause-holds c =
     let new : Sharded = record old { front = tail.to; kept = c.reach.new.kept } in
     subst (λ (s : Sharded). (journal : Journal) → IsNext journal s tail → Holds (take s.front journal) s → Holds (take tail.to journal) new) c.self.view_is
     (λ journal next holds.
-    held-after journal old new tail c.self.invariant (record { number = refl; shards = refl; window = refl }) next holds
+    held-after journal old new tail (record { number = refl; shards = refl; window = refl }) next holds
     (omega (arith, from, rises)) (omega arith) c.in-Ok.ensures.ok)
 
 pub returns-in-Err-clause-holds : goal.returns-in-Err-clause-holds
@@ -48,5 +48,5 @@ returns-in-Err-clause-holds c =
     subst (λ (s : Sharded). (journal : Journal) → IsNext journal s tail → Holds (take s.front journal) s
     → Holds (take c.in-Err.front journal) new) c.self.view_is
     (λ journal next holds.
-    held-after journal old new tail c.self.invariant (record { number = refl; shards = refl; window = refl }) next holds
+    held-after journal old new tail (record { number = refl; shards = refl; window = refl }) next holds
     (omega (arith, from, low)) within.1 c.in-Err.ensures.err)

@@ -1,7 +1,7 @@
 use Rattle.std.proofs.Common.{◌≡◌, ◌≤◌, ◌+◌, nat_lt, filter, length}
 use Rattle.std.specs.VecDeque.Iter.{deque_iter_rest}
 use Rattle.version_shard.specs.code.Clashing.{first_clashing}
-use Rattle.version_shard.proofs.versions.Versions.first_clash.Given as goal
+use Rattle.version_shard.proofs.chain.Chain.first_clash.Given as goal
 
 -- none so far clashes, and a step is left for each of the others
 abbrev pub invariant-loop-version : goal.invariant-loop-version
