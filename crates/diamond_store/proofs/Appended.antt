@@ -14,7 +14,6 @@ use Rattle.rdt_types.specs.declared.settings.Settings.{Settings}
 use Rattle.txn_lang.specs.declared.commit.Commit.{Commit}
 use Rattle.txn_lang.specs.States.{Journal}
 use Rattle.txn_lang.specs.Journals.{own}
-use Rattle.journal_core.specs.declared.hold.Barred.{Barred}
 use Rattle.journal_core.specs.declared.ready.Ready.{Ready}
 use Rattle.journal_core.specs.Holds.{bars}
 use Rattle.journal_core.specs.Pairs.{pairs}

@@ -1,7 +1,7 @@
 -- A book of holds goes on with its journal, and a count of denials keeps to the count of the keeper.
-use Rattle.std.proofs.Common.{◌≡◌, ℕ, ◌+◌, ◌≤◌, ◌==◌, Bool, true, false, cond, List, [], ◌∷◌, ◌++◌, length, Result, Ok, Err}
+use Rattle.std.proofs.Common.{◌≡◌, ℕ, ◌+◌, ◌≤◌, ◌==◌, Bool, true, false, cond, List, length, Result, Ok, Err}
 use Rattle.std.proofs.Common.{inl, inr, refl, sym, ap, ◌∙◌, subst, arith}
-use Rattle.std.specs.Prelude.{OnOk, Some, None, ◌&&◌, nat_lt, slice_get}
+use Rattle.std.specs.Prelude.{OnOk, None, ◌&&◌, nat_lt}
 use Rattle.std.proofs.lemmas.Bool.{and_parts}
 use Rattle.std.proofs.lemmas.Bool.Decides.{nat_tests}
 use Rattle.dio_core.specs.Counts.{one_more, last_count}
@@ -10,16 +10,15 @@ use Rattle.txn_lang.specs.declared.run.Seen.{Seen}
 use Rattle.txn_lang.specs.States.{Journal}
 use Rattle.journal_core.specs.declared.ready.Ready.{Ready}
 use Rattle.journal_core.specs.Holds.{says_hold, is_hold, observed_alone}
-use Rattle.journal_core.specs.Journals.{Standing, found_past, commit_at}
+use Rattle.journal_core.specs.Journals.{Standing, found_past}
 use Rattle.journal_core.specs.Pairs.{AreNumbered}
 use Rattle.journal_core.specs.Readies.{made_of}
-use Rattle.journal_core.proofs.Witnessed.{commit-there}
-use Rattle.hold_core.specs.Books.{Holding, first_holding, with_commit, book_of}
-use Rattle.hold_core.proofs.Beside.{book-first, book-grows}
+use Rattle.hold_core.specs.Books.{Holding, first_holding, IsBookOf, IsEnteredWith, book_of}
+use Rattle.hold_core.proofs.Beside.{book-first}
 use Rattle.diamond_store.specs.declared.decision.Decision.{Decision}
 use Rattle.diamond_store.specs.declared.decision.Decision.TheVariants as decision
-use Rattle.diamond_store.specs.Books.{denials_after, IsAtMostRise, IsBookOf}
-use Rattle.diamond_store.specs.Settling.{CanSettle, CountsFaults, IsEnteredWith}
+use Rattle.diamond_store.specs.Books.{denials_after, IsAtMostRise}
+use Rattle.diamond_store.specs.Settling.{CanSettle, CountsFaults}
 
 -- what holds anyway holds at a success
 pub on_ok : {A E : Type 0} (r : Result A E) (P : Type 0) → P → OnOk r P
@@ -34,32 +33,6 @@ book-opened kept journal book n numbered same is first =
     at
     ∙ book-first journal (subst AreNumbered (sym same) numbered)
     ∙ ap (λ (k : ℕ). book_of k journal) (sym (ap (λ (b : Holding). b.from) at))
-
--- the last of a journal stands behind the others
-last-there : (journal : Journal) (commit : Commit) → slice_get (journal ++ commit ∷ []) (length journal) ≡ Some commit
-last-there [] commit = refl
-last-there (first ∷ journal) commit = last-there journal commit
-
--- what a journal has at the number of its last commit is that one
-last-is : (journal grown : Journal) (last found : Commit) (number : ℕ) → grown ≡ journal ++ last ∷ [] → number ≡ length journal + 1
-    → Some found ≡ commit_at grown number → found ≡ last
-last-is journal grown last found number grows next there =
-    let behind : Journal = journal ++ last ∷ [] in
-    let at : commit_at behind number ≡ Some last = commit-there behind (length journal) number next ∙ last-there journal last in
-    let both : Some found ≡ Some last = there ∙ ap (λ (j : Journal). commit_at j number) grows ∙ at in
-    cc
-
--- the book that is told of the last commit is that of the journal with it
-pub book-extended : (journal grown : Journal) (last found : Commit) (number : ℕ) (seen : List Seen) (book new : Holding)
-    → grown ≡ journal ++ last ∷ [] → number ≡ length journal + 1 → Some found ≡ commit_at grown number → IsBookOf book journal
-    → IsEnteredWith book.from journal last seen → new ≡ with_commit book found seen → IsBookOf new grown
-book-extended journal grown last found number seen book new grows next there is entered told =
-    told
-    ∙ ap (λ (c : Commit). with_commit book c seen) (last-is journal grown last found number grows next there)
-    ∙ ap (λ (b : Holding). with_commit b last seen) is
-    ∙ book-grows book.from journal last seen entered
-    ∙ ap (book_of book.from) (sym grows)
-    ∙ ap (λ (n : ℕ). book_of n grown) (sym (ap (λ (b : Holding). b.from) told))
 
 -- a commit that is a hold says so
 hold-says : (from : ℕ) (commit : Commit) → is_hold from commit ≡ true → says_hold commit.outcome ≡ true

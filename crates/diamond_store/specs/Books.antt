@@ -2,9 +2,7 @@
 use Rattle.std.specs.Prelude.{◌≡◌, ◌⊎◌, ℕ, ◌+◌, ◌≤◌, List, refl}
 use Rattle.std.specs.Coded.{Coded, code_by, coded×, coded_ℕ}
 use Rattle.dio_core.specs.Counts.{one_more, last_count}
-use Rattle.txn_lang.specs.States.{Journal}
 use Rattle.journal_core.specs.Journals.{Standing}
-use Rattle.hold_core.specs.Books.{Holding, book_of}
 use Rattle.diamond_store.specs.declared.decision.Decision.{Decision}
 use Rattle.diamond_store.specs.declared.decision.Decision.TheVariants as decision
 use Rattle.diamond_store.specs.Numbers.{numbers_of}
@@ -24,10 +22,6 @@ booked_code standing =
     code_by (Standing × (ℕ × (ℕ × (ℕ × ℕ)))) (coded× standing (coded× coded_ℕ (coded× coded_ℕ (coded× coded_ℕ coded_ℕ))))
     (λ b. (b.journal, (b.window, (b.from, (b.denials, b.first)))))
     (λ p. record { journal = p.0; window = p.1.0; from = p.1.1.0; denials = p.1.1.1.0; first = p.1.1.1.1 }) (λ _. refl)
-
--- a book has the live holds of these commits
-abbrev pub IsBookOf : Holding → Journal → Type 0
-IsBookOf holds journal = holds ≡ book_of holds.from journal
 
 -- the numbers that it keeps for good
 abbrev pub numbers : Booked → List ℕ

@@ -1,5 +1,5 @@
 -- What the journal decides of what is handed to it.
-use Rattle.std.specs.Prelude.{◌≡◌, ℕ, ◌+◌, ◌<◌, ◌≤◌, true, List, [], ◌∷◌, ◌++◌, length, Some, None}
+use Rattle.std.specs.Prelude.{◌≡◌, ℕ, ◌+◌, ◌<◌, ◌≤◌, [], ◌∷◌, ◌++◌, length, Some, None}
 use Rattle.std.specs.List.{AllByRecursion}
 use Rattle.dio_core.specs.Counts.{Rose}
 use Rattle.abort_witness.specs.declared.witness.Found.{Found}
@@ -7,12 +7,11 @@ use Rattle.abort_witness.specs.declared.witness.Witness.{Witness}
 use Rattle.abort_witness.specs.Kinds.{IsBasedOfOneKind, IsOfOneKind}
 use Rattle.abort_witness.specs.Pairs.{HavePlaces}
 use Rattle.txn_lang.specs.declared.commit.Commit.{Commit}
-use Rattle.txn_lang.specs.declared.run.Seen.{Seen}
 use Rattle.txn_lang.specs.States.{Journal}
 use Rattle.txn_lang.specs.Journals.{own}
 use Rattle.journal_core.specs.declared.ready.Ready.{Ready}
 use Rattle.journal_core.specs.Bodies.{IsBodyText}
-use Rattle.journal_core.specs.Holds.{bars, is_hold, observed_alone}
+use Rattle.journal_core.specs.Holds.{bars, observed_alone}
 use Rattle.journal_core.specs.Journals.{Standing, with_commit}
 use Rattle.journal_core.specs.Pairs.{least_pair, past_fronts}
 use Rattle.journal_core.specs.Readies.{IsRunOf, made_of}
@@ -71,10 +70,6 @@ AddsOne commit old (decision.Number number) new = (length old.commits < old.limi
 AddsOne commit old (decision.Full limit) new = (limit ≡ old.limit) × (old.limit ≤ length old.commits) × (new ≡ old)
 AddsOne commit old decision.Denied new = (length old.commits < old.limit) × Rose old.faults new.faults × (new ≡ record old { faults = new.faults })
 AddsOne commit old other new = ⊥
-
--- Where the commit is a hold, these are what its body observes behind the journal.
-abbrev pub IsEnteredWith : ℕ → Journal → Commit → List Seen → Type 0
-IsEnteredWith from journal commit observations = is_hold from commit ≡ true → observations ≡ observed_alone journal commit
 
 -- Only the memory of the journal may have changed.
 pub record IsAsBefore (old new : Standing) : Type 0 where

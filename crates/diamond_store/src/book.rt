@@ -6,21 +6,22 @@ ghost use Rattle.journal_core.specs.Journals.{CanAdd};
 ghost use Rattle.journal_core.specs.Kinds.{HasKinds};
 ghost use Rattle.journal_core.specs.Pairs.{AreNumbered};
 ghost use Rattle.journal_core.specs.Tails.{HasAll};
-ghost use Rattle.diamond_store.specs.Books.{denials_after, numbers, IsAtMostRise, IsBookOf};
+ghost use Rattle.hold_core.specs.Books.{IsBookOf, IsEnteredWith};
+ghost use Rattle.diamond_store.specs.Books.{denials_after, numbers, IsAtMostRise};
 ghost use Rattle.diamond_store.specs.Numbers.{numbers_with};
-ghost use Rattle.diamond_store.specs.Settling.{AddsOne, CanSettle, HasSettled, IsAsBefore, IsEnteredWith, Settles, IfDenied};
+ghost use Rattle.diamond_store.specs.Settling.{AddsOne, CanSettle, HasSettled, IsAsBefore, Settles, IfDenied};
 
 use crate::decision::{Decision, counted};
 use change_feed::Tail;
 use conflict_table::Steps;
 use history_lock::Stands;
-use hold_core::{HoldBook, seen_to_hold};
+use hold_core::{HoldBook, IndexedSeen, enter, seen_to_hold};
 use journal_core::{Appended, Journal, Keep, Ready, Slot};
 use rdt_types::{Address, Settings};
 use std::alloc::{AllocError, Global};
 use std::marker::{Brand, Model};
 use std::sync::ledger::{Blank, Ledger};
-use txn_lang::{Commit, CommitList, SeenList};
+use txn_lang::{Commit, CommitList};
 
 /// The journal of a store with the book of its live holds, and how many appends its keeper denied. It lies under the store's
 /// lock.
@@ -41,7 +42,8 @@ impl<K: Keep> Model for Book<K> {
     ghost use Rattle.std.specs.Prelude.{◌≡◌, length};
     ghost use Rattle.txn_lang.specs.contracts.commit.Commit as commit;
     ghost use Rattle.journal_core.specs.Journals.{standing_code};
-    ghost use Rattle.diamond_store.specs.Books.{Booked, booked_code, IsAtMostRise, IsBookOf};
+    ghost use Rattle.hold_core.specs.Books.{IsBookOf};
+    ghost use Rattle.diamond_store.specs.Books.{Booked, booked_code, IsAtMostRise};
 
     ghost Value = { Booked };
 
@@ -83,12 +85,12 @@ impl<K: Keep> Stands for Book<K> {
     }
 }
 
-/// Adds the slot's commit, where nothing clashes and nothing bars, or says why not. The book of holds goes on with the journal.
+/// Adds the slot's commit, where nothing clashes and nothing bars, or says why not.
 fn extend<K: Keep>(
     journal: &mut Journal<K>,
     holds: &mut HoldBook,
     slot: Slot,
-    observations: SeenList,
+    observations: IndexedSeen,
 ) -> Decision
     requires can { CanAdd K.stands_for slot journal.old }
     requires holds { IsBookOf holds.old journal.old.commits }
@@ -98,14 +100,8 @@ fn extend<K: Keep>(
     ensures from { holds.new.from ≡ holds.old.from }
     ensures may_fail { IfDenied result (K.may_fail ≡ true) }
 {
-    match journal.append_clear(slot) {
-        Appended::Number(number) => {
-            let Some(commit) = journal.commit(number) else {
-                unreachable!()
-            };
-            holds.added(commit, observations);
-            Decision::Number(number)
-        }
+    match enter(journal, holds, slot, observations) {
+        Appended::Number(number) => Decision::Number(number),
         Appended::Clash(_) => unreachable!(),
         Appended::Full(limit) => Decision::Full(limit),
         Appended::DiskFault(_, _) => Decision::Denied,

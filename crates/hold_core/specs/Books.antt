@@ -1,5 +1,5 @@
 -- What callers see of a book of holds.
-use Rattle.std.specs.Prelude.{◌≡◌, ℕ, ◌+◌, Bool, List, [], ◌∷◌, length, filter, codes, pos, refl}
+use Rattle.std.specs.Prelude.{◌≡◌, ℕ, ◌+◌, Bool, true, List, [], ◌∷◌, length, filter, codes, pos, refl}
 use Rattle.std.specs.Option.{is_some}
 use Rattle.std.specs.Coded.{Coded, code_by, coded×, coded_list, coded_ℕ}
 use Rattle.rdt_types.specs.declared.address.Kind.TheVariants as kind
@@ -13,7 +13,7 @@ use Rattle.txn_lang.specs.declared.commit.Commit.{Commit}
 use Rattle.txn_lang.specs.declared.run.Seen.{Seen}
 use Rattle.txn_lang.specs.States.{Journal}
 use Rattle.journal_core.specs.declared.hold.Hold.{Hold}
-use Rattle.journal_core.specs.Holds.{with_hold, live}
+use Rattle.journal_core.specs.Holds.{is_hold, observed_alone, with_hold, live}
 
 -- the live holds of a journal, by rising numbers; how many first commits of it nobody ran again; and how long it is
 pub record Holding : Type 0 where
@@ -44,6 +44,14 @@ with_commit book commit observations = record {
 -- the book of a journal, of whose commits nobody ran the first so many again
 abbrev pub book_of : ℕ → Journal → Holding
 book_of from journal = record { from = from; length = length journal; holds = live from journal }
+
+-- a book is that of a journal
+abbrev pub IsBookOf : Holding → Journal → Type 0
+IsBookOf book journal = book ≡ book_of book.from journal
+
+-- Where a commit is a hold, these are what its body observes behind the journal.
+abbrev pub IsEnteredWith : ℕ → Journal → Commit → List Seen → Type 0
+IsEnteredWith from journal commit observations = is_hold from commit ≡ true → observations ≡ observed_alone journal commit
 
 -- where there is no commit the book is the first
 book_of-none : book_of 0 [] ≡ first_holding 0
@@ -106,6 +114,10 @@ with_both length = record { from = 0; length = length; holds = both ∷ [] }
 -- a commit that says hold and writes nothing is entered with what it observes
 with_commit-hold : with_commit (first_holding 0) (emitting 0 1 (codes "hold") []) (read (codes "x") ∷ read (codes "y") ∷ []) ≡ with_both 1
 with_commit-hold = refl
+
+-- a commit that is no hold may be entered with anything
+IsEnteredWith-other : (seen : List Seen) → IsEnteredWith 0 [] (emitting 0 1 (codes "held") []) seen
+IsEnteredWith-other seen = λ is. cc
 
 -- one that says anything else isn't, nor is one that writes
 with_commit-other : with_commit (first_holding 0) (emitting 0 1 (codes "held") []) (read (codes "x") ∷ []) ≡ record (first_holding 0) { length = 1 }

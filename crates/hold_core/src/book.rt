@@ -6,6 +6,7 @@ ghost use Rattle.hold_core.specs.Books.{first_holding, with_commit, most_hits};
 
 use crate::barring::first_bar;
 use crate::ending::{begin_by, end_by};
+use crate::indexed::IndexedSeen;
 use crate::watched::Watched;
 use conflict_table::Steps;
 use journal_core::{Barred, HOLD_LASTS};
@@ -13,7 +14,7 @@ use rdt_types::DeltaMap;
 use std::alloc::{AllocError, Global};
 use std::marker::Model;
 use std::sync::ledger::Ledger;
-use txn_lang::{Commit, SeenList};
+use txn_lang::Commit;
 
 /// The live holds of a journal, by rising numbers. It has memory for as many as can be live at once.
 #[derive(Drop)]
@@ -68,7 +69,7 @@ impl HoldBook {
 
     /// The book of the journal with a further commit, whose body observes these where it stands: holds that it ends are gone,
     /// and it is the last itself where it is one. It is never refused for want of memory.
-    pub fn added(&mut self, commit: &Commit, observations: SeenList)
+    pub fn added(&mut self, commit: &Commit, observations: IndexedSeen)
         requires next { commit.now.number ≡ self.old.length + 1 }
         ensures { self.new ≡ with_commit self.old commit.now observations }
     {

@@ -3,6 +3,7 @@
 ghost use Rattle.std.specs.Prelude.{◌≡◌, true, IfOk};
 ghost use Rattle.journal_core.specs.Holds as holds;
 
+use crate::indexed::IndexedSeen;
 use crate::telling::says_hold;
 use plain_data::copied;
 use std::alloc::{AllocError, Global};
@@ -15,13 +16,13 @@ pub fn copy_seen(list: &SeenList) -> Result<SeenList, AllocError>
     copied(list)
 }
 
-/// What a run observed, where its commit may be a hold. What is no hold isn't copied.
-pub fn seen_to_hold(alloc: Global, run: &Run) -> Result<SeenList, AllocError>
+/// What a run observed, with its index, where its commit may be a hold. What is no hold isn't copied.
+pub fn seen_to_hold(alloc: Global, run: &Run) -> Result<IndexedSeen, AllocError>
     ensures { IfOk result (λ seen. holds.says_hold run.now.outcome ≡ true → seen ≡ run.now.observations) }
 {
     if says_hold(&run.outcome) {
-        copy_seen(&run.observations)
+        IndexedSeen::new(alloc, copy_seen(&run.observations)?)
     } else {
-        Ok(SeenList::new(alloc))
+        Ok(IndexedSeen::none(alloc))
     }
 }

@@ -5,13 +5,14 @@ ghost use Rattle.std.specs.Vec.{vec_capacity};
 ghost use Rattle.journal_core.specs.declared.limits.TheConstants.{HOLD_LASTS};
 ghost use Rattle.journal_core.specs.Holds as spec;
 
+use crate::indexed::IndexedSeen;
 use crate::telling::is_hold;
 use crate::watched::Watched;
 use conflict_table::Steps;
-use journal_core::{HOLD_LASTS, Hold};
+use journal_core::HOLD_LASTS;
 use std::marker::Brand;
 use std::sync::ledger::{Blank, Ledger};
-use txn_lang::{Commit, SeenList};
+use txn_lang::Commit;
 
 /// Whether a commit disturbs a hold. The steps are counted from the blank, and by nobody else.
 fn disturbed<L: Ledger>(blank: Blank, commit: &Commit, hold: &Watched) -> bool
@@ -49,17 +50,18 @@ pub(crate) fn end_by(holds: &mut Vec<Watched>, commit: &Commit)
 }
 
 /// Adds the hold that a commit is, if it is one. There is memory for it.
-pub(crate) fn begin_by(holds: &mut Vec<Watched>, from: u64, commit: &Commit, observations: SeenList)
+pub(crate) fn begin_by(
+    holds: &mut Vec<Watched>,
+    from: u64,
+    commit: &Commit,
+    observations: IndexedSeen,
+)
     requires room { length holds.old.items < vec_capacity holds.old }
     ensures more { holds.new.items ≡ holds.old.items ++ spec.new_hold from commit.now observations }
     ensures capacity { vec_capacity holds.old ≤ vec_capacity holds.new }
 {
     if is_hold(from, commit) {
-        let hold = Watched::new(Hold {
-            client: commit.client,
-            number: commit.number,
-            observations,
-        });
+        let hold = Watched::new(commit.client, commit.number, observations);
         let pushed = holds.push(hold);
         prove!(pushed.is_ok());
     }

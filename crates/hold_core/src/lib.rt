@@ -1,6 +1,6 @@
 //! The live holds of a journal, in a book that is kept beside it: whom they bar, and what a further commit leaves of them.
-//! It stands on `journal_core`, whose `specs/Holds.antt` says what a hold is, but knows no journal; the stores keep a book
-//! beside theirs.
+//! It stands on `journal_core`, whose `specs/Holds.antt` says what a hold is. A book has no journal: the stores keep one beside
+//! theirs, and `enter` adds to both.
 //!
 //! Read first `specs/Books.antt`: what callers see of a book, what a commit makes of it, and how many observations a look at
 //! it may have to test.
@@ -10,12 +10,17 @@ mod barring;
 mod book;
 mod copying;
 mod ending;
+mod entering;
+mod indexed;
 mod laws;
 mod marks;
 mod meeting;
+mod placing;
 mod telling;
 mod watched;
 
 pub use book::HoldBook;
 pub use copying::{copy_seen, seen_to_hold};
+pub use entering::enter;
+pub use indexed::IndexedSeen;
 pub use laws::{bars_are_least, covered_is_clear, holds_end_only_so, live_holds_are_listed};

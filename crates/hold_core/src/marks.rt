@@ -1,11 +1,10 @@
 //! Marks of addresses. They tell of most addresses that nothing was observed there, without a look at what was.
 
-ghost use Rattle.std.specs.Prelude.{◌≡◌, true, fold};
-ghost use Rattle.std.specs.Bool.{OnFalse};
+ghost use Rattle.std.specs.Prelude.{◌≡◌};
 ghost use Rattle.hold_core.specs.code.Marks as spec;
-ghost use Rattle.hold_core.specs.code.Marks.{AreMarked, AreUnmarked};
+ghost use Rattle.hold_core.specs.code.Marks.{AreMarked};
 
-use rdt_types::{Address, Delta};
+use rdt_types::Address;
 use txn_lang::Seen;
 
 /// How many marks there are: as many as there are bytes.
@@ -40,14 +39,9 @@ pub(crate) fn marks_of(observations: &[Seen]) -> [bool; MARKS]
     marks
 }
 
-/// Whether an address that is written is marked.
-pub(crate) fn is_some_marked(marks: &[bool; MARKS], deltas: &[(Address, Delta)]) -> bool
-    ensures { OnFalse result (AreUnmarked marks.now deltas.now) }
+/// Whether an address is marked.
+pub(crate) fn is_marked(marks: &[bool; MARKS], address: &Address) -> bool
+    ensures { result ≡ spec.is_marked marks.now address.now }
 {
-    for (address, _) in deltas {
-        if marks[mark_of(address) as usize] {
-            return true;
-        }
-    }
-    false
+    marks[mark_of(address) as usize]
 }

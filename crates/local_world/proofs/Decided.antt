@@ -1,26 +1,20 @@
--- What the journal decides is what the store decides, and the book beside it stays the journal's.
-use Rattle.std.proofs.Common.{◌≡◌, ℕ, ◌+◌, List, [], ◌∷◌, ◌++◌, length, Option, Some, refl, sym, ap, ◌∙◌, subst}
-use Rattle.std.specs.Prelude.{nat_le, slice_get}
+-- What the journal decides is what the store decides.
+use Rattle.std.proofs.Common.{◌≡◌, ℕ, length, Option, Some, sym, ap, ◌∙◌, subst}
+use Rattle.std.specs.Prelude.{nat_le}
 use Rattle.std.specs.Option.{option_and_then}
 use Rattle.abort_witness.specs.declared.witness.Found.{Found}
 use Rattle.abort_witness.specs.declared.witness.Witness.{Witness}
-use Rattle.txn_lang.specs.declared.commit.Commit.{Commit}
-use Rattle.txn_lang.specs.declared.run.Seen.{Seen}
 use Rattle.txn_lang.specs.States.{Journal}
 use Rattle.journal_core.specs.declared.ready.Ready.{Ready}
-use Rattle.journal_core.specs.declared.appended.Appended.TheVariants as appended
-use Rattle.journal_core.specs.Journals.{Standing, AddsBelow, commit_at}
+use Rattle.journal_core.specs.Journals.{Standing}
 use Rattle.journal_core.specs.Journals as journals
 use Rattle.journal_core.specs.Pairs.{least_pair, past_fronts}
 use Rattle.journal_core.specs.Witnesses.{IsWitnessOf}
-use Rattle.journal_core.proofs.Witnessed.{commit-there}
-use Rattle.hold_core.specs.Books.{Holding, with_commit, book_of}
-use Rattle.hold_core.proofs.Beside.{book-grows}
 use Rattle.docc_prepare.specs.Calls.{Answer}
 use Rattle.docc_prepare.specs.Witnesses.{witness_of}
 use Rattle.docc_prepare.specs.Stores.{Store, found_past, witness_past, barred_by, decided, append_to}
 use Rattle.docc_prepare.proofs.Growing.{legal_is_orderly}
-use Rattle.local_world.specs.Deciding.{MayDecide, IsEnteredWith, HasJournal, IsDecided}
+use Rattle.local_world.specs.Deciding.{MayDecide, HasJournal, IsDecided}
 use Rattle.local_world.proofs.Naming.{named-by-journal}
 
 module _ (ready : Ready) (old mid : Standing) (same : mid ≡ record old { room = mid.room }) (may : MayDecide ready old) where
@@ -59,30 +53,3 @@ module _ (ready : Ready) (old mid : Standing) (same : mid ≡ record old { room 
           answer = sym (ap (λ (p : Store × Answer). p.1) all);
           journal = commits-same ∙ sym of.journal ∙ sym (ap (λ (p : Store × Answer). p.0.journal) all);
         }
-
--- ---- the book
-
--- the last of a journal
-last-there : (journal : Journal) (commit : Commit) → slice_get (journal ++ commit ∷ []) (length journal) ≡ Some commit
-last-there [] commit = refl
-last-there (first ∷ journal) commit = last-there journal commit
-
--- the commit that the journal has at the number of one that was added is that one
-added-is : (old new : Standing) (made found : Commit) (number : ℕ) → made.number ≡ length old.commits + 1
-    → AddsBelow made old (appended.Number number) new → Some found ≡ commit_at new.commits number → found ≡ made
-added-is old new made found number next adds there =
-    let behind : Journal = old.commits ++ made ∷ [] in
-    let at : commit_at behind number ≡ Some made = commit-there behind (length old.commits) number (adds.1 ∙ next) ∙ last-there old.commits made in
-    let both : Some found ≡ Some made = there ∙ ap (λ (x : Standing). commit_at x.commits number) adds.2 ∙ at in
-    cc
-
--- the book with it is that of the journal with it
-pub entered-is : (old new : Standing) (made found : Commit) (number : ℕ) (before after : Holding) (seen : List Seen) → made.number ≡ length old.commits + 1
-    → AddsBelow made old (appended.Number number) new → Some found ≡ commit_at new.commits number
-    → before ≡ book_of 0 old.commits → IsEnteredWith old.commits made seen → after ≡ with_commit before found seen → after ≡ book_of 0 new.commits
-entered-is old new made found number before after seen next adds there is entered left =
-    left
-    ∙ ap (λ (c : Commit). with_commit before c seen) (added-is old new made found number next adds there)
-    ∙ ap (λ (b : Holding). with_commit b made seen) is
-    ∙ book-grows 0 old.commits made seen entered
-    ∙ ap (λ (x : Standing). book_of 0 x.commits) (sym adds.2)

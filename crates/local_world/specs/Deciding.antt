@@ -1,15 +1,13 @@
 -- What the journal of a world decides, as the store does.
-use Rattle.std.specs.Prelude.{◌≡◌, ◌+◌, true, List, length, None}
+use Rattle.std.specs.Prelude.{◌≡◌, ◌+◌, length, None}
 use Rattle.std.specs.List.{AllByRecursion}
 use Rattle.abort_witness.specs.Kinds.{IsBasedOfOneKind}
 use Rattle.abort_witness.specs.Pairs.{HavePlaces}
-use Rattle.txn_lang.specs.declared.commit.Commit.{Commit}
-use Rattle.txn_lang.specs.declared.run.Seen.{Seen}
 use Rattle.txn_lang.specs.States.{Journal}
 use Rattle.txn_lang.specs.Journals.{IsLegal, own}
 use Rattle.journal_core.specs.declared.ready.Ready.{Ready}
 use Rattle.journal_core.specs.Bodies.{IsBodyText}
-use Rattle.journal_core.specs.Holds.{is_hold, observed_alone}
+use Rattle.journal_core.specs.Holds.{observed_alone}
 use Rattle.journal_core.specs.Journals.{Standing, found_past}
 use Rattle.journal_core.specs.Pairs.{least_pair}
 use Rattle.journal_core.specs.Readies.{IsRunOf, made_of}
@@ -29,10 +27,6 @@ pub record MayDecide (ready : Ready) (standing : Standing) : Type 0 where
   pub few : HavePlaces ready.based
   -- where nothing clashes the body observes on what the journal leaves what its run observed
   pub alone : found_past ready standing ≡ None → observed_alone standing.commits (made_of standing.commits ready) ≡ ready.run.observations
-
--- where the commit is a hold, these are what its body observes behind the journal
-abbrev pub IsEnteredWith : Journal → Commit → List Seen → Type 0
-IsEnteredWith journal commit observations = is_hold 0 commit ≡ true → observations ≡ observed_alone journal commit
 
 -- the store has this journal, and its settings
 pub record HasJournal (s : Store) (standing : Standing) : Type 0 where

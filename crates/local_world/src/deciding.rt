@@ -1,19 +1,17 @@
 //! The journal's decision on what is handed on, and the book of holds beside it.
 
-ghost use Rattle.std.specs.Prelude.{◌≡◌, true, OnErr, IfOk};
+ghost use Rattle.std.specs.Prelude.{◌≡◌, OnErr, IfOk};
 ghost use Rattle.docc_prepare.specs.Calls.{commit_answered};
 ghost use Rattle.docc_prepare.specs.Stores.{Store};
 ghost use Rattle.hold_core.specs.Books.{book_of};
-ghost use Rattle.journal_core.specs.Journals.{CanAdd, AddsBelow, IfDiskFault};
-ghost use Rattle.local_world.specs.Deciding.{MayDecide, HasJournal, IsDecided, IsEnteredWith};
+ghost use Rattle.local_world.specs.Deciding.{MayDecide, HasJournal, IsDecided};
 
 use conflict_table::Steps;
 use docc_prepare::AppendError;
-use hold_core::{HoldBook, seen_to_hold};
-use journal_core::{Appended, Journal, Keep, MemKeep, Ready, Slot};
+use hold_core::{HoldBook, enter, seen_to_hold};
+use journal_core::{Appended, Journal, MemKeep, Ready};
 use std::alloc::{AllocError, Global};
 use std::sync::ledger::{Blank, Ledger};
-use txn_lang::SeenList;
 
 /// Commits what is ready, or says why not: by a clash, by a live hold of another client, or at the limit. For want of memory
 /// the commits are as before; the settings always are, and the book always is the journal's.
@@ -52,28 +50,4 @@ pub(crate) fn decide<L: Ledger>(
         Appended::Clash(_) => unreachable!(),
         Appended::DiskFault(_, _) => unreachable!(),
     }
-}
-
-/// Adds the commit of a slot where the journal takes one more, and enters it in the book.
-fn enter<K: Keep>(
-    journal: &mut Journal<K>,
-    holds: &mut HoldBook,
-    slot: Slot,
-    observations: SeenList,
-) -> Appended
-    requires can_add { CanAdd K.stands_for slot journal.old }
-    requires book { holds.old ≡ book_of 0 journal.old.commits }
-    requires observed { IsEnteredWith journal.old.commits slot.commit observations }
-    ensures adds { AddsBelow slot.commit journal.old result journal.new }
-    ensures may_fail { IfDiskFault result (K.may_fail ≡ true) }
-    ensures book { holds.new ≡ book_of 0 journal.new.commits }
-{
-    let appended = journal.append_clear(slot);
-    if let Appended::Number(number) = appended {
-        let Some(commit) = journal.commit(number) else {
-            unreachable!();
-        };
-        holds.added(commit, observations);
-    }
-    appended
 }

@@ -4,7 +4,7 @@
 ghost use Rattle.std.specs.Prelude.{◌≡◌, ◌<◌, ◌+◌, IfOk};
 
 use conflict_table::{Obs, Steps};
-use hold_core::{HoldBook, copy_seen, seen_to_hold};
+use hold_core::{HoldBook, IndexedSeen, copy_seen, seen_to_hold};
 use journal_core::Barred;
 use plain_data::Text;
 use rdt_types::{Address, Delta, DeltaMap, Item, ItemList, Kind, Outcome};
@@ -230,6 +230,29 @@ fn disturbed() -> &'static [Move] {
     ]
 }
 
+/// What was read in another order than that of addresses, and some of it twice, is found at each address, and nothing beside.
+fn unsorted() -> &'static [Move] {
+    &[
+        Move::Hold(0, b"dbfbhd"),
+        Move::Bars(1, b"b", Some((0, 1))),
+        Move::Bars(1, b"d", Some((0, 1))),
+        Move::Bars(1, b"f", Some((0, 1))),
+        Move::Bars(1, b"h", Some((0, 1))),
+        Move::Bars(1, b"aceg", None),
+        Move::Bars(1, b"aceh", Some((0, 1))),
+        Move::Bars(1, b"i", None),
+        Move::Adds(1, b"acegi"),
+        Move::Bars(1, b"d", Some((0, 1))),
+        Move::Adds(1, b"aef"),
+        Move::Bars(1, b"d", None),
+    ]
+}
+
+#[test]
+fn what_was_read_in_any_order_is_found(rt: HostRuntime) {
+    assert!(rt; all_go(rt.alloc(), unsorted()));
+}
+
 #[test]
 fn a_hold_lasts_for_64_commits(rt: HostRuntime) {
     assert!(rt; all_go(rt.alloc(), ages()));
@@ -253,12 +276,36 @@ fn are(seen: &Result<SeenList, AllocError>, count: usize) -> bool {
     }
 }
 
+/// Whether there are so many, with their index.
+fn are_indexed(seen: &Result<IndexedSeen, AllocError>, count: usize) -> bool {
+    match seen {
+        Ok(seen) => seen.as_slice().len() == count,
+        Err(_) => false,
+    }
+}
+
 /// Whether of a run that emits a text and reads two counters so many observations are copied.
 fn copies(alloc: Global, text: &[u8], count: usize) -> bool {
     match run_of(alloc, text, b"xy", b"") {
-        Ok(run) => are(&seen_to_hold(alloc, &run), count) && are(&copy_seen(&run.observations), 2),
+        Ok(run) => {
+            are_indexed(&seen_to_hold(alloc, &run), count) && are(&copy_seen(&run.observations), 2)
+        }
         Err(_) => false,
     }
+}
+
+/// Whether observations are given an index.
+fn indexes(alloc: Global, keys: &[u8]) -> bool {
+    match seen_at(alloc, keys) {
+        Ok(seen) => are_indexed(&IndexedSeen::new(alloc, seen), keys.len()),
+        Err(_) => false,
+    }
+}
+
+#[test]
+fn observations_are_indexed(rt: HostRuntime) {
+    assert!(rt; indexes(rt.alloc(), b"yxy"));
+    assert!(rt; IndexedSeen::none(rt.alloc()).as_slice().is_empty());
 }
 
 #[test]

@@ -1,8 +1,6 @@
 -- Marks of addresses, which tell of most that nothing was observed there.
 use Rattle.std.specs.Prelude.{◌≡◌, ℕ, ◌+◌, ◌*◌, ◌%◌, ◌<◌, Bool, true, false, List, fold, length, slice_index_or}
 use Rattle.rdt_types.specs.declared.address.Address.{Address}
-use Rattle.rdt_types.specs.declared.delta.Delta.{Delta}
-use Rattle.rdt_types.specs.DeltaMaps.{Deltas}
 use Rattle.txn_lang.specs.declared.run.Seen.{Seen}
 
 -- one byte more, in 8 bits
@@ -19,7 +17,3 @@ is_marked marks address = slice_index_or marks (mark_of address) false
 -- all addresses that were observed are marked
 abbrev pub AreMarked : List Bool → List Seen → Type 0
 AreMarked marks observations = (k : ℕ) (d : Seen) → k < length observations → is_marked marks (slice_index_or observations k d).address ≡ true
-
--- no address that is written is
-abbrev pub AreUnmarked : List Bool → Deltas → Type 0
-AreUnmarked marks deltas = (k : ℕ) (d : Address × Delta) → k < length deltas → is_marked marks (slice_index_or deltas k d).0 ≡ false

@@ -1,4 +1,4 @@
-use Rattle.std.proofs.Common.{◌≡◌, sym, ap, ◌∙◌, subst}
+use Rattle.std.proofs.Common.{sym, ap, ◌∙◌, subst}
 use Rattle.history_lock.specs.declared.known.Known.{Known}
 use Rattle.plain_data.specs.Histories.{IsLawful}
 use Rattle.txn_lang.specs.declared.commit.Commit.{Commit}
