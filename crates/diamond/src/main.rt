@@ -15,7 +15,7 @@ use journal_file::read_kept;
 use link_buffer::BufferedListening;
 use plain_data::Text;
 use read_file::ReadFile;
-use serve_status::{CountedListening, Counts, tell};
+use serve_status::{CountedDisk, CountedListening, Counts, tell};
 use std::alloc::{AllocError, Global};
 use std::fmt::Display;
 use std::io::{BufWriter, ErrorKind, IsTerminal, Write};
@@ -83,7 +83,7 @@ fn say_address(rt: &HostRuntime, address: &str, bound: Option<SocketAddr>) {
     };
 }
 
-/// Runs the command over what listens at this address, whose links count, and reads ahead of each connection.
+/// Runs the command over what listens at this address, and reads ahead of each connection. The links and the disk count.
 fn command_counted<R: Threads + Wait + Sync, D: Disk + Send>(
     rt: &HostRuntime,
     threads: &R,
@@ -94,15 +94,15 @@ fn command_counted<R: Threads + Wait + Sync, D: Disk + Send>(
 ) -> Result<u8, AllocError>
     requires { NothingPending (D.state disk.old) }
 {
+    let shared = Arc::try_clone(&counts)?;
     let tcp = TcpListening::bind(rt, rt, address);
     say_address(rt, address, tcp.address());
-    let counted = CountedListening::new(tcp, counts);
     command(
         rt,
         threads,
         words,
-        disk,
-        &mut BufferedListening::new(counted),
+        &mut CountedDisk::new(disk, shared),
+        &mut BufferedListening::new(CountedListening::new(tcp, counts)),
     )
 }
 

@@ -3,12 +3,13 @@
 use std::fmt;
 use std::sync::atomic::{AtomicBool, AtomicU64, Ordering};
 
-/// How many sessions there are, the greatest number of a commit, and whether the serving is over. Nothing is known of an atomic, so
-/// no clause says what is counted.
+/// How many sessions and commits there are, whether links are accepted, and whether the serving is over. Nothing is known of an
+/// atomic, so no clause says what is counted.
 #[derive(Drop)]
 pub struct Counts {
     sessions: AtomicU64,
     commits: AtomicU64,
+    begun: AtomicBool,
     over: AtomicBool,
 }
 
@@ -17,27 +18,34 @@ pub struct Counts {
 pub struct Seen {
     /// How many sessions there were.
     pub sessions: u64,
-    /// How many commits there were, by the replies that were written until then.
-    pub commits: u64,
+    /// How many commits there were, by the file that was read and the replies that were written until then; or None before links
+    /// were accepted, since until then the file is read.
+    pub commits: Option<u64>,
 }
 
 impl fmt::Display for Seen {
     fn fmt<W: fmt::Write>(&self, f: &mut fmt::Formatter<W>) -> fmt::Result {
         match self.commits {
-            0 => write!(f, "{} sessions", self.sessions),
-            commits => write!(f, "{} sessions, {commits} commits", self.sessions),
+            None => write!(f, "{} sessions", self.sessions),
+            Some(commits) => write!(f, "{} sessions, {commits} commits", self.sessions),
         }
     }
 }
 
 impl Counts {
-    /// No session yet, and no commit that is known of.
+    /// No session yet, and no commit that is known of. No link is accepted.
     pub fn new() -> Counts {
         Counts {
             sessions: AtomicU64::new(0),
             commits: AtomicU64::new(0),
+            begun: AtomicBool::new(false),
             over: AtomicBool::new(false),
         }
+    }
+
+    /// Links are accepted from now on, so all commits of a file were read.
+    pub fn begin(&self) {
+        self.begun.store(true, Ordering::SeqCst);
     }
 
     /// One session more.
@@ -63,7 +71,11 @@ impl Counts {
     pub fn seen(&self) -> Seen {
         Seen {
             sessions: self.sessions.load(Ordering::SeqCst),
-            commits: self.commits.load(Ordering::SeqCst),
+            commits: if self.begun.load(Ordering::SeqCst) {
+                Some(self.commits.load(Ordering::SeqCst))
+            } else {
+                None
+            },
         }
     }
 

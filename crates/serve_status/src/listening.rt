@@ -35,6 +35,7 @@ impl<N: Listener> Listener for CountedListening<N> {
     ghost accept_faults = { λ l. N.accept_faults l.below };
 
     fn accept(&mut self) -> Accepted<CountedLink<N::Link>> {
+        self.counts.begin();
         match self.below.accept() {
             Accepted::Link(link) => {
                 let counts = Arc::try_clone(&self.counts).ok();

@@ -39,7 +39,7 @@ fn pause<R: Clock>(rt: &R, counts: &Counts) {
 pub fn tell<R: Clock + Eprint>(rt: &R, counts: &Counts) {
     let mut told = Seen {
         sessions: 0,
-        commits: 0,
+        commits: None,
     };
     for _ in 0..u64::MAX {
         let seen = counts.seen();

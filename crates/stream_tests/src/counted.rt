@@ -1,8 +1,9 @@
-//! Tests of links that count, over links in memory, and of the line that tells the counts.
+//! Tests of links and disks that count, over those in memory, and of the line that tells the counts.
 
 use crate::moves::{Move, all_go};
-use dio_core::{Accepted, End, Listener, MemLink, MemLinks, MemListener};
-use serve_status::{CountedListening, Counts, Seen, tell};
+use commit_file::MemDisk;
+use dio_core::{Accepted, Disk, End, Listener, MemLink, MemLinks, MemListener};
+use serve_status::{CountedDisk, CountedListening, Counts, Seen, tell};
 use std::alloc::{AllocError, Global};
 use std::cell::Cell;
 use std::fmt::Display;
@@ -38,9 +39,14 @@ fn two_links(alloc: Global) -> Result<MemLinks, AllocError> {
     Ok(links)
 }
 
+/// Whether there were so many sessions and commits, of which no number is known before links are accepted.
+fn seen_are(counts: &Counts, sessions: u64, commits: Option<u64>) -> bool {
+    counts.seen() == Seen { sessions, commits }
+}
+
 /// Whether there were so many sessions and commits.
 fn counts_are(counts: &Counts, sessions: u64, commits: u64) -> bool {
-    counts.seen() == Seen { sessions, commits }
+    seen_are(counts, sessions, Some(commits))
 }
 
 /// Whether the session of the next link goes as over the link below, and is counted until its end, once.
@@ -76,7 +82,7 @@ fn counts_two(alloc: Global, below: MemListener) -> Result<bool, AllocError> {
     let counts = Arc::new(alloc, Counts::new())?;
     let mut listener = CountedListening::new(below, Arc::try_clone(&counts)?);
     Ok(
-        counts_are(&counts, 0, 0)
+        seen_are(&counts, 0, None)
             && serves(alloc, &mut listener, &counts)
             && gives_back(&mut listener, &counts)
             && matches!(listener.accept(), Accepted::NoMore)
@@ -96,7 +102,60 @@ fn sessions_and_commits_are_counted_and_nothing_else_changes(rt: HostRuntime) {
     }
 }
 
-/// A terminal, whose pauses take no time: a session begins in the 5th, and the serving is over in the 25th.
+/// A file of version 1: commits of one byte and of none, a mark, a commit of two bytes, and one that isn't whole.
+static FILE: [u8; 37] =
+    *b"DIAMONDJ\0\0\0\x01\x01\0\0\0\x01a\x01\0\0\0\0\x02\x01\0\0\0\x02bc\x01\0\0\0\x09d";
+
+fn file() -> &'static [u8] {
+    &FILE
+}
+
+/// The reads of seven bytes, of which the second fails: from where, how many bytes each gives, and how many commits are counted then.
+/// What was read already isn't counted once more.
+static READS: [(u64, Option<usize>, u64); 10] = [
+    (0, Some(7), 0),
+    (7, None, 0),
+    (7, Some(7), 0),
+    (14, Some(7), 1),
+    (21, Some(7), 2),
+    (14, Some(7), 2),
+    (28, Some(7), 3),
+    (35, Some(2), 3),
+    (37, Some(0), 3),
+    (0, Some(7), 3),
+];
+
+fn reads() -> &'static [(u64, Option<usize>, u64)] {
+    &READS
+}
+
+/// Whether the reads of a disk go so, and count.
+fn all_read<D: Disk>(disk: &mut D, counts: &Counts) -> bool {
+    for (at, count, commits) in reads() {
+        let given = disk.read(*at, &mut [0; 7]).ok() == *count;
+        if !given || !counts_are(counts, 0, *commits) {
+            return false;
+        }
+    }
+    disk.disk_faults() == 1
+}
+
+/// Whether the commits of a file are counted as it is read.
+fn counts_file(alloc: Global) -> Result<bool, AllocError> {
+    let counts = Arc::new(alloc, Counts::new())?;
+    let mut disk = MemDisk::new(alloc, file(), &[1])?;
+    counts.begin();
+    let mut counted = CountedDisk::new(&mut disk, Arc::try_clone(&counts)?);
+    Ok(all_read(&mut counted, &counts))
+}
+
+#[test]
+fn the_commits_of_a_file_are_counted_as_it_is_read(rt: HostRuntime) {
+    assert!(rt; matches!(counts_file(rt.alloc()), Ok(true)));
+}
+
+/// A terminal, whose pauses take no time: a session begins in the 5th, links are accepted in the 15th, and the serving is over in the
+/// 25th.
 #[derive(Drop)]
 struct Terminal<'a> {
     alloc: Global,
@@ -104,6 +163,7 @@ struct Terminal<'a> {
     pauses: Cell<u32>,
     prints: Cell<u32>,
     first: Cell<Option<String>>,
+    second: Cell<Option<String>>,
 }
 
 impl Clock for Terminal<'_> {
@@ -120,6 +180,7 @@ impl Clock for Terminal<'_> {
         self.pauses.set(pauses);
         match pauses {
             5 => self.counts.begin_session(),
+            15 => self.counts.begin(),
             25 => self.counts.end(),
             _ => {}
         }
@@ -128,8 +189,11 @@ impl Clock for Terminal<'_> {
 
 impl Eprint for Terminal<'_> {
     fn eprint<D: Display + Drop>(&self, value: D) -> io::Result<()> {
-        if self.prints.get() == 0 {
-            self.first.set(Some(format!(in self.alloc; "{value}")?));
+        let text = Some(format!(in self.alloc; "{value}")?);
+        match self.prints.get() {
+            0 => self.first.set(text),
+            1 => self.second.set(text),
+            _ => {}
         }
         self.prints.set(self.prints.get().saturating_add(1));
         Ok(())
@@ -140,7 +204,15 @@ impl Eprint for Terminal<'_> {
     }
 }
 
-/// Whether a change is told once, behind a second, and what was told is taken away at the end.
+/// Whether this text was told.
+fn was_told(told: &Cell<Option<String>>, wanted: &str) -> bool {
+    match told.take() {
+        Some(text) => text.as_str() == wanted,
+        None => false,
+    }
+}
+
+/// Whether each change is told once, behind a second, and what was told is taken away at the end.
 fn tells_once(alloc: Global) -> bool {
     let counts = Counts::new();
     let terminal = Terminal {
@@ -149,16 +221,16 @@ fn tells_once(alloc: Global) -> bool {
         pauses: Cell::new(0),
         prints: Cell::new(0),
         first: Cell::new(None),
+        second: Cell::new(None),
     };
     tell(&terminal, &counts);
-    let told = match terminal.first.take() {
-        Some(text) => text.as_str() == "diamond: 1 sessions   \r",
-        None => false,
-    };
-    told && terminal.pauses.get() == 25 && terminal.prints.get() == 2
+    was_told(&terminal.first, "diamond: 1 sessions   \r")
+        && was_told(&terminal.second, "diamond: 1 sessions, 0 commits   \r")
+        && terminal.pauses.get() == 25
+        && terminal.prints.get() == 3
 }
 
 #[test]
-fn a_change_is_told_once_a_second_until_the_serving_is_over(rt: HostRuntime) {
+fn each_change_is_told_once_a_second_until_the_serving_is_over(rt: HostRuntime) {
     assert!(rt; tells_once(rt.alloc()));
 }
