@@ -1,5 +1,5 @@
 -- What `serve` promises of a store in a file, from what its parts do.
-use Rattle.std.proofs.Common.{◌≡◌, ◌≢◌, ◌⊎◌, ℕ, ◌≤◌, ◌<◌, Bool, true, false, [], ◌∷◌, ◌++◌, length, inl, inr, refl, sym, ap, ◌∙◌, subst, arith}
+use Rattle.std.proofs.Common.{◌≡◌, ◌≢◌, ◌⊎◌, ℕ, ◌≤◌, Bool, true, false, [], ◌∷◌, ◌++◌, inl, inr, refl, sym, ap, ◌∙◌, subst, arith}
 use Rattle.std.specs.Prelude.{Option, Some, None, IfSome, Result, Ok, Err, OnOk, is_err}
 use Rattle.std.proofs.lemmas.Bool.{cases_lt}
 use Rattle.std.specs.List.{AllByRecursion}
@@ -29,7 +29,7 @@ use Rattle.journal_file.specs.Keepers.{KeepsThese, told_by, doubted_by, ReadsAs,
 use Rattle.diamond_server.specs.Accounts.{Gatherings}
 use Rattle.diamond_server.specs.declared.serving_all.Tally.{Tally}
 use Rattle.diamond_cli.specs.Serving.{HasServed, IsSaid, ending}
-use Rattle.diamond_cli.specs.Filed.{Storing, HoldsJournal, refusal, HoldsNone, IsSpared, IsUnwritten, IsUnaccepted, IsRefused, IsFiled, ServesFile}
+use Rattle.diamond_cli.specs.Filed.{Storing, HoldsJournal, refusal, HoldsNone, IsUnwritten, IsUnaccepted, IsRefused, IsFiled, ServesFile}
 
 -- ---- the commits of a file
 

@@ -23,7 +23,7 @@ use Rattle.script_runner.specs.Script.{Writing}
 use Rattle.script_runner.specs.declared.status.TheConstants.{NO_MEMORY}
 use Rattle.diamond_server.specs.Accounts.{Gatherings, ServedAll}
 use Rattle.diamond_server.specs.declared.serving_all.Tally.{Tally}
-use Rattle.diamond_cli.specs.Serving.{HasServed, IsSaid, ending, IsEnded, ServesLinks}
+use Rattle.diamond_cli.specs.Serving.{HasServed, ending, IsEnded, ServesLinks}
 
 -- whatever is told of what a call gives, so is what follows from it
 pub ok-map : {S E : Type 0} (r : Result S E) (P Q : S → Type 0) → ((s : S) → P s → Q s) → IfOk r P → IfOk r Q

@@ -1,5 +1,5 @@
 -- What is held back of a session's output, and what becomes of it.
-use Rattle.std.proofs.Common.{◌≡◌, ℕ, ◌≤◌, Bool, true, false, [], ◌∷◌, ◌++◌, length, take, Option, Some, None, Result, Ok, Err, inl, inr, refl, sym, ap, ◌∙◌, subst}
+use Rattle.std.proofs.Common.{◌≡◌, ℕ, ◌≤◌, Bool, true, false, [], ◌∷◌, ◌++◌, length, take, Option, Some, Result, Ok, Err, inl, inr, refl, sym, ap, ◌∙◌, subst}
 use Rattle.std.specs.Prelude.{not, IfOk, IfErr, OnOk}
 use Rattle.std.specs.Bool.{OnTrue}
 use Rattle.plain_data.specs.declared.or_no_memory.OrNoMemory.TheVariants as stop

@@ -1,6 +1,6 @@
 -- What is told of the links of a listener: each as it was accepted and as it is given back, and of its session that it is explained
 -- by one prefix of the journal, the same for all links.
-use Rattle.std.specs.Prelude.{◌≡◌, ℕ, ◌+◌, ◌<◌, ◌≤◌, ◌==◌, List, [], ◌∷◌, ◌++◌, length, map, All, Bool, false, Option, Some, None, IfSome}
+use Rattle.std.specs.Prelude.{◌≡◌, ℕ, ◌+◌, ◌<◌, ◌≤◌, ◌==◌, List, [], ◌∷◌, length, map, All, Bool, false, Option, IfSome}
 use Rattle.std.specs.Prelude.{Result, Ok, Err, if◌then◌else◌, refl}
 use Rattle.history_lock.specs.declared.limits.TheConstants.{MOST_DRAWS}
 use Rattle.dio_core.specs.declared.listener.Listener.{Ghosts as ListenerTells}

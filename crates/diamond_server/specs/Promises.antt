@@ -1,5 +1,5 @@
 -- What a session over a link promises, by the status that it answers.
-use Rattle.std.specs.Prelude.{◌≡◌, ℕ, ◌≤◌, ◌⊎◌, ◌==◌, true, false, List, [], ◌∷◌, ◌++◌, map, length, Option, Some, None, IfSome, IsTrue, T, refl}
+use Rattle.std.specs.Prelude.{◌≡◌, ℕ, ◌≤◌, ◌⊎◌, ◌==◌, true, false, List, [], ◌∷◌, ◌++◌, map, length, Option, Some, IfSome, IsTrue, T, refl}
 use Rattle.std.proofs.Common.{inl, inr, sym, subst}
 use Rattle.std.specs.List.{list_any}
 use Rattle.dio_core.specs.declared.sink.Sink.{Ghosts as SinkTells}

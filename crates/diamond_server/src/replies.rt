@@ -1,7 +1,6 @@
 //! The text of a turn: each reply in its printed form, with a newline.
 
-ghost use Rattle.std.specs.Prelude.{◌≡◌, ◌∷◌, ◌++◌, [], IfOk, OnOk};
-ghost use Rattle.dio_core.specs.declared.line.TheConstants.{NEWLINE};
+ghost use Rattle.std.specs.Prelude.{◌≡◌, ◌++◌, IfOk, OnOk};
 ghost use Rattle.diamond_server.specs.Talking as spec;
 
 use plain_data::Text;

@@ -1,6 +1,6 @@
 //! A session of one client over a link: its lines are read, done and answered, one after another.
 
-ghost use Rattle.std.specs.Prelude.{◌≡◌, ◌⊎◌, [], true, Ok, OnOk};
+ghost use Rattle.std.specs.Prelude.{◌≡◌, [], true, Ok, OnOk};
 ghost use Rattle.session_core.specs.Holding.{Attends};
 ghost use Rattle.diamond_server.specs.Promises.{sides, IsNew, KeepsPromises};
 ghost use Rattle.diamond_server.specs.code.Serving.{Turns, Ends};

@@ -11,7 +11,6 @@ mod run;
 use case::{Case, CaseError};
 use row::Row;
 use run::{find_difference, run};
-use std::alloc::Global;
 use std::io;
 use std::process::ExitCode;
 use std::sync::Wait;

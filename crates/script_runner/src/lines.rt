@@ -3,7 +3,7 @@
 ghost use Rattle.std.specs.Prelude.{◌≡◌, ◌≤◌, ◌<◌, length, if◌then◌else◌, IfSome, OnOk, None, Some};
 ghost use Rattle.dio_core.specs.Lines.{IsShort};
 ghost use Rattle.docc_prepare.specs.declared.limits.TheConstants.{CLIENTS};
-ghost use Rattle.docc_prepare.specs.Stores.{seen_by, known_by};
+ghost use Rattle.docc_prepare.specs.Stores.{known_by};
 ghost use Rattle.local_world.specs.Stored.{store_of};
 ghost use Rattle.session_core.specs.Lines.{line_of};
 ghost use Rattle.session_core.specs.Holding.{Attends};

@@ -8,7 +8,6 @@ ghost use Rattle.dio_core.specs.Sinks.{IsPassedOn};
 ghost use Rattle.dio_core.specs.Sources.{IsAhead};
 ghost use Rattle.plain_data.specs.declared.or_no_memory.OrNoMemory.TheVariants as stop;
 ghost use Rattle.script_runner.specs.Worlds.{world_of, Stands};
-ghost use Rattle.script_runner.specs.Play.{first_world};
 ghost use Rattle.script_runner.specs.Script.{reading, writing, TriesFlush, KeepsPromises};
 ghost use Rattle.script_runner.specs.code.Turns.{moment, read_stopped, write_stopped, StopsReading, Turns, Ran, StopsBetween, Closes};
 
