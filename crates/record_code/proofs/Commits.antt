@@ -158,7 +158,7 @@ only_may_write outcome.Spent (x ∷ deltas) h = absurd cc
 only_may_write outcome.Big [] h = refl
 only_may_write outcome.Big (x ∷ deltas) h = absurd cc
 
-deltas_code : (version : Version) (how : Outcome) → IsCode (AreKept version how) deltas_bytes (deltas_at version how)
+pub deltas_code : (version : Version) (how : Outcome) → IsCode (AreKept version how) deltas_bytes (deltas_at version how)
 deltas_code version how =
     reformed (when_code (list_code (pair_code (address_code version) delta_code)) (are_deltas how))
     (λ deltas h.

@@ -88,7 +88,7 @@ fn as_deltas(outcome: &Outcome, pairs: Vec<(Address, Delta)>) -> Result<DeltaMap
 }
 
 /// Reads the deltas of a commit with this outcome.
-fn read_deltas<'a>(
+pub fn read_deltas<'a>(
     alloc: Global,
     version: Version,
     outcome: &Outcome,

@@ -8,7 +8,7 @@ ghost use Rattle.record_code.specs.code.Reads.{Reads};
 
 use crate::field::{Field, read_list, write_list};
 use crate::field_error::FieldError;
-use crate::kinds::{byte_of, read_kind};
+use crate::kinds::{byte_of_kind, read_kind};
 use crate::numbers::{read_i64, read_tag, write_byte, write_i64};
 use crate::tags::{DELTA_TAGS, DeltaTag};
 use commit_file::Version;
@@ -30,7 +30,7 @@ impl Field for Address {
     ghost read_at = { address_at };
 
     fn write(&self, out: &mut Text) -> Result<(), AllocError> {
-        write_byte(out, byte_of(self.kind))?;
+        write_byte(out, byte_of_kind(self.kind))?;
         self.key.write(out)
     }
 
@@ -99,7 +99,7 @@ fn in_order<M: Drop>(pairs: Vec<(Text, M)>) -> Result<TextMap<M>, FieldError>
 
 /// Reads texts that rise strictly, each with its mark.
 #[tactic(auto, unfolding(crate::specs::Reading::map_at))]
-fn read_map<M: Field>(
+pub fn read_map<M: Field>(
     alloc: Global,
     version: Version,
     bytes: &[u8],

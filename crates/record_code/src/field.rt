@@ -50,7 +50,7 @@ fn write_each<F: Field>(out: &mut Text, fields: &[F]) -> Result<(), AllocError>
 }
 
 /// Writes a list: how many there are, and each.
-pub(crate) fn write_list<F: Field>(out: &mut Text, fields: &[F]) -> Result<(), AllocError>
+pub fn write_list<F: Field>(out: &mut Text, fields: &[F]) -> Result<(), AllocError>
     ensures written { OnOk result (out.new ≡ out.old ++ list_bytes F.spelling fields.now) }
     ensures room { OnOk result (HaveRoom F.has_room fields.now) }
 {
@@ -79,7 +79,7 @@ fn read_each<F: Field>(
 
 /// Reads a list.
 #[tactic(auto, unfolding(crate::specs::Fields::list_at))]
-pub(crate) fn read_list<F: Field>(
+pub fn read_list<F: Field>(
     alloc: Global,
     version: Version,
     bytes: &[u8],

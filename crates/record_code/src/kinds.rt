@@ -18,7 +18,7 @@ use std::alloc::{AllocError, Global};
 use txn_grammar::{Spot, Token, kind_at, tokens};
 
 /// The byte of a kind.
-pub(crate) fn byte_of(kind: Kind) -> u8
+pub fn byte_of_kind(kind: Kind) -> u8
     ensures { result ≡ kind_byte kind }
 {
     match kind {
@@ -33,7 +33,7 @@ pub(crate) fn byte_of(kind: Kind) -> u8
 }
 
 /// Reads a kind of a version.
-pub(crate) fn read_kind(version: Version, bytes: &[u8]) -> Result<(Kind, &[u8]), FieldError>
+pub fn read_kind(version: Version, bytes: &[u8]) -> Result<(Kind, &[u8]), FieldError>
     ensures { Reads (λ read. (read.0, read.1.now)) result (tag_at (kinds_of version) bytes.now) }
 {
     match version {
@@ -46,7 +46,7 @@ pub(crate) fn read_kind(version: Version, bytes: &[u8]) -> Result<(Kind, &[u8]),
 fn has_place(kinds: &[Kind], kind: Kind) -> bool
     ensures { result ≡ nat_lt (kind_byte kind) (length kinds.now) }
 {
-    (byte_of(kind) as usize) < kinds.len()
+    (byte_of_kind(kind) as usize) < kinds.len()
 }
 
 /// Whether a version has a kind.

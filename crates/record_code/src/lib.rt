@@ -20,13 +20,17 @@ mod tags;
 mod texts;
 
 pub use decode_error::DecodeError;
-pub use decoding::{decode, decode_old};
+pub use decoding::{decode, decode_old, read_deltas};
+pub use deltas::read_map;
 pub use encoding::encode;
-pub use field::Field;
+pub use field::{Field, read_list, write_list};
 pub use field_error::FieldError;
+pub use kinds::{byte_of_kind, read_kind};
 pub use laws::{
     payloads_are_read, runs_are_recorded, runs_leave_forms, version_two_has_all_kinds,
     what_is_read_is_a_payload,
 };
-pub use numbers::{read_i64, read_u32, read_u64, write_i64, write_u32, write_u64};
-pub use texts::{read_text, write_text};
+pub use numbers::{
+    read_i64, read_tag, read_u32, read_u64, write_byte, write_i64, write_u32, write_u64,
+};
+pub use texts::{read_text, write_count, write_text};

@@ -34,7 +34,7 @@ pub fn write_i64(out: &mut Text, number: i64) -> Result<(), AllocError>
 }
 
 /// Writes a single byte.
-pub(crate) fn write_byte(out: &mut Text, byte: u8) -> Result<(), AllocError>
+pub fn write_byte(out: &mut Text, byte: u8) -> Result<(), AllocError>
     ensures { OnOk result (out.new ≡ out.old ++ byte ∷ []) }
 {
     out.push(byte)
@@ -77,10 +77,7 @@ pub fn read_i64(bytes: &[u8]) -> Result<(i64, &[u8]), FieldError>
 
 /// Reads a byte as what has its place in a row.
 #[tactic(auto, unfolding(crate::specs::Fields::tag_at))]
-pub(crate) fn read_tag<'a, A: Copy>(
-    tags: &[A],
-    bytes: &'a [u8],
-) -> Result<(A, &'a [u8]), FieldError>
+pub fn read_tag<'a, A: Copy>(tags: &[A], bytes: &'a [u8]) -> Result<(A, &'a [u8]), FieldError>
     ensures { Reads (λ read. (read.0, read.1.now)) result (tag_at tags.now bytes.now) }
 {
     let [byte, rest @ ..] = bytes else {

@@ -12,7 +12,7 @@ use plain_data::Text;
 use std::alloc::{AllocError, Global};
 
 /// Writes how many there are. More than four bytes tell are answered as want of memory.
-pub(crate) fn write_count(out: &mut Text, count: usize) -> Result<(), AllocError>
+pub fn write_count(out: &mut Text, count: usize) -> Result<(), AllocError>
     ensures written { OnOk result (out.new ≡ out.old ++ to_be_bytes w32 count) }
     ensures room { OnOk result (count < 2 ^ 32) }
 {

@@ -1,0 +1,14 @@
+pub mod Spelling
+pub mod Forms
+pub mod Reading
+pub mod Whole
+pub mod Requests
+pub mod Laws
+pub mod Examples
+pub mod AnswerSpelling
+pub mod AnswerForms
+pub mod AnswerReading
+pub mod Answers
+pub mod AnswerLaws
+pub mod AnswerExamples
+pub mod code
