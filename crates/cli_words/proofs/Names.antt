@@ -37,6 +37,7 @@ option_named-complete option.Sessions = refl
 option_named-complete option.Address = refl
 option_named-complete option.File = refl
 option_named-complete option.At = refl
+option_named-complete option.Form = refl
 
 -- the same of commands
 pub command_named-sound : (w : Word) (c : CommandName) → command_named w ≡ Some c → w ≡ command_word c
@@ -47,6 +48,7 @@ pub command_named-complete : (c : CommandName) → command_named (command_word c
 command_named-complete command.Run = refl
 command_named-complete command.Serve = refl
 command_named-complete command.Audit = refl
+command_named-complete command.Remote = refl
 
 -- the test of which options a command takes
 pub takes-sound : (c : CommandName) (o : OptionName) → takes c o ≡ true → Takes c o
@@ -57,6 +59,7 @@ takes-sound command.Run option.Sessions h = absurd (cc)
 takes-sound command.Run option.Address h = absurd (cc)
 takes-sound command.Run option.File h = absurd (cc)
 takes-sound command.Run option.At h = absurd (cc)
+takes-sound command.Run option.Form h = absurd (cc)
 takes-sound command.Serve option.Shards h = tt
 takes-sound command.Serve option.Window h = tt
 takes-sound command.Serve option.Limit h = tt
@@ -64,6 +67,7 @@ takes-sound command.Serve option.Sessions h = tt
 takes-sound command.Serve option.Address h = tt
 takes-sound command.Serve option.File h = tt
 takes-sound command.Serve option.At h = absurd (cc)
+takes-sound command.Serve option.Form h = tt
 takes-sound command.Audit option.Shards h = absurd (cc)
 takes-sound command.Audit option.Window h = absurd (cc)
 takes-sound command.Audit option.Limit h = absurd (cc)
@@ -71,6 +75,15 @@ takes-sound command.Audit option.Sessions h = absurd (cc)
 takes-sound command.Audit option.Address h = absurd (cc)
 takes-sound command.Audit option.File h = tt
 takes-sound command.Audit option.At h = tt
+takes-sound command.Audit option.Form h = absurd (cc)
+takes-sound command.Remote option.Shards h = absurd (cc)
+takes-sound command.Remote option.Window h = absurd (cc)
+takes-sound command.Remote option.Limit h = absurd (cc)
+takes-sound command.Remote option.Sessions h = absurd (cc)
+takes-sound command.Remote option.Address h = tt
+takes-sound command.Remote option.File h = absurd (cc)
+takes-sound command.Remote option.At h = absurd (cc)
+takes-sound command.Remote option.Form h = absurd (cc)
 
 -- and what the form lets a command take passes the test
 pub takes-complete : (c : CommandName) (o : OptionName) → Takes c o → takes c o ≡ true
@@ -81,6 +94,7 @@ takes-complete command.Run option.Sessions h = absurd h
 takes-complete command.Run option.Address h = absurd h
 takes-complete command.Run option.File h = absurd h
 takes-complete command.Run option.At h = absurd h
+takes-complete command.Run option.Form h = absurd h
 takes-complete command.Serve option.Shards h = refl
 takes-complete command.Serve option.Window h = refl
 takes-complete command.Serve option.Limit h = refl
@@ -88,6 +102,7 @@ takes-complete command.Serve option.Sessions h = refl
 takes-complete command.Serve option.Address h = refl
 takes-complete command.Serve option.File h = refl
 takes-complete command.Serve option.At h = absurd h
+takes-complete command.Serve option.Form h = refl
 takes-complete command.Audit option.Shards h = absurd h
 takes-complete command.Audit option.Window h = absurd h
 takes-complete command.Audit option.Limit h = absurd h
@@ -95,6 +110,15 @@ takes-complete command.Audit option.Sessions h = absurd h
 takes-complete command.Audit option.Address h = absurd h
 takes-complete command.Audit option.File h = refl
 takes-complete command.Audit option.At h = refl
+takes-complete command.Audit option.Form h = absurd h
+takes-complete command.Remote option.Shards h = absurd h
+takes-complete command.Remote option.Window h = absurd h
+takes-complete command.Remote option.Limit h = absurd h
+takes-complete command.Remote option.Sessions h = absurd h
+takes-complete command.Remote option.Address h = refl
+takes-complete command.Remote option.File h = absurd h
+takes-complete command.Remote option.At h = absurd h
+takes-complete command.Remote option.Form h = absurd h
 
 -- ---- a name and a value in one word
 
@@ -117,6 +141,7 @@ name-alone option.Sessions = refl
 name-alone option.Address = refl
 name-alone option.File = refl
 name-alone option.At = refl
+name-alone option.Form = refl
 
 -- so none has a value
 pub value-alone : (o : OptionName) → has_value (option_word o) ≡ false
@@ -127,6 +152,7 @@ value-alone option.Sessions = refl
 value-alone option.Address = refl
 value-alone option.File = refl
 value-alone option.At = refl
+value-alone option.Form = refl
 
 -- and where `=` stands behind it, that is the first
 pub name-joined : (o : OptionName) (value : Word) → name_part (option_word o ++ EQUALS ∷ value) ≡ option_word o
@@ -137,6 +163,7 @@ name-joined option.Sessions value = refl
 name-joined option.Address value = refl
 name-joined option.File value = refl
 name-joined option.At value = refl
+name-joined option.Form value = refl
 
 -- what stands behind is the value
 pub value-joined : (o : OptionName) (value : Word) → value_part (option_word o ++ EQUALS ∷ value) ≡ value
@@ -147,6 +174,7 @@ value-joined option.Sessions value = refl
 value-joined option.Address value = refl
 value-joined option.File value = refl
 value-joined option.At value = refl
+value-joined option.Form value = refl
 
 -- as the place of `=` is within the word
 pub has_value-joined : (o : OptionName) (value : Word) → has_value (option_word o ++ EQUALS ∷ value) ≡ true
@@ -157,3 +185,4 @@ has_value-joined option.Sessions value = lt-ltb 10 (length (option_word option.S
 has_value-joined option.Address value = lt-ltb 9 (length (option_word option.Address ++ EQUALS ∷ value)) (omega arith)
 has_value-joined option.File value = lt-ltb 6 (length (option_word option.File ++ EQUALS ∷ value)) (omega arith)
 has_value-joined option.At value = lt-ltb 4 (length (option_word option.At ++ EQUALS ∷ value)) (omega arith)
+has_value-joined option.Form value = lt-ltb 6 (length (option_word option.Form ++ EQUALS ∷ value)) (omega arith)

@@ -17,7 +17,7 @@ use Rattle.cli_words.specs.declared.refusal.Missing.{Missing}
 use Rattle.cli_words.specs.declared.refusal.Missing.TheVariants as missing
 use Rattle.cli_words.specs.declared.reading.Reading.{Reading}
 use Rattle.cli_words.specs.declared.reading.Reading.TheVariants as reading
-use Rattle.cli_words.specs.Forms.{Word, texts, Given, IsWhole, IsNoForm, IsPlan, Spells}
+use Rattle.cli_words.specs.Forms.{Word, texts, Takes, Given, IsWhole, IsNoForm, IsPlan, Spells}
 use Rattle.cli_words.specs.Refusals.{GoesOn, IsCutShort, Refuses}
 use Rattle.cli_words.specs.code.Reading.{with_value, ready, step, on, after, missing_of}
 use Rattle.cli_words.specs.code.Answers.{Makes, Finishes, Explains, error_of}
@@ -55,25 +55,27 @@ record Completes (r : Reading) : Type 0 where
   made : after more r ≡ Ok (reading.Ready name given)
   whole : IsWhole name given
 
--- with no address yet, one can follow
-address_for : (given : Given) → given.address ≡ None → Completes (reading.Ready command.Serve given)
-address_for given e = record {
+-- with no address yet, one can follow, for a command that takes one and is whole with it
+address_for : (c : CommandName) → Takes c option.Address → ((a : Word) (given : Given) → given.address ≡ Some a → IsWhole c given)
+    → (given : Given) → given.address ≡ None → Completes (reading.Ready c given)
+address_for c takes whole given e = record {
   more = codes "--address" ∷ codes "a" ∷ [];
-  name = command.Serve;
+  name = c;
   given = record given { address = Some (codes "a") };
-  made = options_read 1 command.Serve (codes "--address" ∷ codes "a" ∷ []) given (record given { address = Some (codes "a") }) (
+  made = options_read 1 c (codes "--address" ∷ codes "a" ∷ []) given (record given { address = Some (codes "a") }) (
     [],
     record given { address = Some (codes "a") },
-    record { option = option.Address; value = codes "a"; taken = tt; spelled = inl refl; gives = (e, (λ h. absurd (omega (arith, h))), refl) },
+    record { option = option.Address; value = codes "a"; taken = takes; spelled = inl refl; gives = (e, (λ h. absurd (omega (arith, h))), refl) },
     (refl, refl),
   );
-  whole = refl;
+  whole = whole (codes "a") (record given { address = Some (codes "a") }) refl;
 }
 
 -- with an address nothing more is wanted
-serve_completes : (given : Given) (found : Option Word) → given.address ≡ found → Completes (reading.Ready command.Serve given)
-serve_completes given None e = address_for given e
-serve_completes given (Some a) e = record { more = []; name = command.Serve; given = given; made = refl; whole = ap is_some e }
+address_completes : (c : CommandName) → Takes c option.Address → ((a : Word) (given : Given) → given.address ≡ Some a → IsWhole c given)
+    → (given : Given) (found : Option Word) → given.address ≡ found → Completes (reading.Ready c given)
+address_completes c takes whole given None e = address_for c takes whole given e
+address_completes c takes whole given (Some a) e = record { more = []; name = c; given = given; made = refl; whole = whole a given e }
 
 -- with no file yet, one can follow
 file_for : (given : Given) → given.file ≡ None → Completes (reading.Ready command.Audit given)
@@ -98,8 +100,9 @@ audit_completes given (Some f) e = record { more = []; name = command.Audit; giv
 -- `run` wants nothing more
 ready_completes : (c : CommandName) (given : Given) → Completes (reading.Ready c given)
 ready_completes command.Run given = record { more = []; name = command.Run; given = given; made = refl; whole = tt }
-ready_completes command.Serve given = serve_completes given given.address refl
+ready_completes command.Serve given = address_completes command.Serve tt (λ a g e. ap is_some e) given given.address refl
 ready_completes command.Audit given = audit_completes given given.file refl
+ready_completes command.Remote given = address_completes command.Remote tt (λ a g e. ap is_some e) given given.address refl
 
 -- a value that any option takes can follow its name
 value_completes : (c : CommandName) (given next : Given) (o : OptionName) (value : Word)
@@ -121,6 +124,7 @@ completes (reading.Waiting c given option.Sessions) = value_completes c given (r
 completes (reading.Waiting c given option.Address) = value_completes c given (record given { address = Some (codes "a") }) option.Address (codes "a") refl
 completes (reading.Waiting c given option.File) = value_completes c given (record given { file = Some (codes "f") }) option.File (codes "f") refl
 completes (reading.Waiting c given option.At) = value_completes c given (record given { at = Some 1 }) option.At (codes "1") refl
+completes (reading.Waiting c given option.Form) = value_completes c given (record given { wire = Some true }) option.Form (codes "wire") refl
 
 -- so the words that were read do, and what is read is of a form
 pub goes_on : (words : List Word) (r : Reading) → after words reading.Start ≡ Ok r → GoesOn words
@@ -139,6 +143,11 @@ goes_on words r e =
 whole-not_missing : (c : CommandName) (given : Given) (m : Missing) → IsWhole c given → missing_of (reading.Ready c given) ≡ Some m → ⊥
 whole-not_missing command.Run given m whole e = absurd (cc)
 whole-not_missing command.Serve given m whole e = by (is_some given.address) whole e
+  where
+    by : (there : Bool) → there ≡ true → cond there None (Some (missing.Option option.Address)) ≡ Some m → ⊥
+    by true h e = absurd (cc)
+    by false h e = absurd (cc)
+whole-not_missing command.Remote given m whole e = by (is_some given.address) whole e
   where
     by : (there : Bool) → there ≡ true → cond there None (Some (missing.Option option.Address)) ≡ Some m → ⊥
     by true h e = absurd (cc)
@@ -162,14 +171,21 @@ cut_short words r m e missing = record {
 -- what is asked for is whole
 plan-whole : (c : CommandName) (given : Given) (p : Plan) → IsPlan c given p → IsWhole c given
 plan-whole command.Run given (plan.Run settings) h = tt
-plan-whole command.Run given (plan.Serve settings address sessions file) h = absurd h
+plan-whole command.Run given (plan.Serve settings address sessions file wire) h = absurd h
 plan-whole command.Run given (plan.Audit file at) h = absurd h
+plan-whole command.Run given (plan.Remote address) h = absurd h
 plan-whole command.Serve given (plan.Run settings) h = absurd h
+plan-whole command.Serve given (plan.Serve settings address sessions file wire) h = ap is_some h.1
 plan-whole command.Serve given (plan.Audit file at) h = absurd h
+plan-whole command.Serve given (plan.Remote address) h = absurd h
 plan-whole command.Audit given (plan.Run settings) h = absurd h
-plan-whole command.Audit given (plan.Serve settings address sessions file) h = absurd h
+plan-whole command.Audit given (plan.Serve settings address sessions file wire) h = absurd h
 plan-whole command.Audit given (plan.Audit file at) h = ap is_some h.0
-plan-whole command.Serve given (plan.Serve settings address sessions file) h = ap is_some h.1
+plan-whole command.Audit given (plan.Remote address) h = absurd h
+plan-whole command.Remote given (plan.Run settings) h = absurd h
+plan-whole command.Remote given (plan.Serve settings address sessions file wire) h = absurd h
+plan-whole command.Remote given (plan.Audit file at) h = absurd h
+plan-whole command.Remote given (plan.Remote address) h = ap is_some h
 
 -- at the end a plan is made of a command and its options alone, which are of a form
 pub spelled : (words : List Word) (r : Reading) (p : Plan) → after words reading.Start ≡ Ok r → Finishes r (Ok p) → Spells words p

@@ -1,15 +1,17 @@
 -- What a value gives, as it is read, is what the forms say.
-use Rattle.std.proofs.Common.{◌≡◌, ◌<◌, ◌^◌, ℕ, Bool, true, false, not, nat_eq, [], ◌∷◌, refl, ap, sym, ◌∙◌, arith}
-use Rattle.std.specs.Prelude.{Option, Some, None, is_some, Ok}
+use Rattle.std.proofs.Common.{◌≡◌, ◌<◌, ◌^◌, ℕ, Bool, true, false, not, cond, nat_eq, [], ◌∷◌, refl, ap, sym, ◌∙◌, arith}
+use Rattle.std.specs.Prelude.{codes, Option, Some, None, is_some, Ok}
+use Rattle.std.specs.Str.{bytes_eq}
 use Rattle.std.proofs.lemmas.Bool.{eqb-false, ne_eqb, not-true}
+use Rattle.std.proofs.lemmas.Slice.Eq.{bytes_eq-Decides}
 use Rattle.rdt_types.specs.declared.limits.TheConstants.{LEAST_SHARDS, MOST_SHARDS, LEAST_WINDOW, MOST_WINDOW, LEAST_COMMITS, MOST_COMMITS}
 use Rattle.cli_words.specs.declared.limits.TheConstants.{LEAST_SESSIONS, MOST_SESSIONS, MOST_AT}
 use Rattle.cli_words.specs.declared.name.OptionName.{OptionName}
 use Rattle.cli_words.specs.declared.name.OptionName.TheVariants as option
 use Rattle.cli_words.specs.declared.refusal.Why.{Why}
 use Rattle.cli_words.specs.declared.refusal.Why.TheVariants as why
-use Rattle.cli_words.specs.Forms.{Word, HYPHEN, IsNumber, IsPlace, Given, Gives}
-use Rattle.cli_words.specs.code.Reading.{number_within, is_given, put_number, is_place, put_place, with_value}
+use Rattle.cli_words.specs.Forms.{Word, HYPHEN, IsNumber, IsPlace, form_word, Given, Gives}
+use Rattle.cli_words.specs.code.Reading.{number_within, is_given, put_number, is_place, put_place, wire_named, put_form, with_value}
 use Rattle.cli_words.proofs.Numbers.{number-sound, number-complete}
 
 -- nothing is there
@@ -55,6 +57,27 @@ place_by : (w : Why) (t : Bool) (x next : Given) → put_place w x t ≡ Ok next
 place_by w true x next h = (refl, cc)
 place_by w false x next h = absurd (cc)
 
+-- a word names a form only where it is the form's word
+wire-named : (word : Word) (wire : Bool) → wire_named word ≡ Some wire → word ≡ form_word wire
+wire-named word wire h = by (bytes_eq word (codes "text")) (bytes_eq word (codes "wire")) refl refl h
+  where
+    by : (t w : Bool) → bytes_eq word (codes "text") ≡ t → bytes_eq word (codes "wire") ≡ w
+        → cond t (Some false) (cond w (Some true) None) ≡ Some wire → word ≡ form_word wire
+    by true w e f h = let k : false ≡ wire = cc in (bytes_eq-Decides word (codes "text")).0 e ∙ ap form_word k
+    by false true e f h = let k : true ≡ wire = cc in (bytes_eq-Decides word (codes "wire")).0 f ∙ ap form_word k
+    by false false e f h = absurd (cc)
+
+-- a form that was put was named
+form_by : (put : Bool → Given) (next : Given) (found : Option Bool) → put_form put found ≡ Ok next
+    → (wire : Bool) × (found ≡ Some wire) × (next ≡ put wire)
+form_by put next None h = absurd (cc)
+form_by put next (Some wire) h = (wire, refl, cc)
+
+-- each form is named by its word
+wire-complete : (wire : Bool) → wire_named (form_word wire) ≡ Some wire
+wire-complete false = refl
+wire-complete true = refl
+
 -- option by option: what is read is what the form gives
 pub value-sound : (o : OptionName) (word : Word) (given next : Given) → is_given o given ≡ false → with_value o word given ≡ Ok next → Gives o word given next
 value-sound option.Shards word given next free h =
@@ -78,6 +101,9 @@ value-sound option.File word given next free h =
 value-sound option.At word given next free h =
     let k = put-sound 0 MOST_AT word (λ n. record given { at = Some n }) next h in
     (not_there given.at free, k.number, k.is, k.puts)
+value-sound option.Form word given next free h =
+    let k = form_by (λ wire. record given { wire = Some wire }) next (wire_named word) h in
+    (not_there given.wire free, k.0, wire-named word k.0 k.1, k.2)
 
 -- an option that is given had not been, and its value is read
 pub free-complete : (o : OptionName) (word : Word) (given next : Given) → Gives o word given next → is_given o given ≡ false
@@ -88,6 +114,7 @@ free-complete option.Sessions word given next h = ap is_some h.0
 free-complete option.Address word given next h = ap is_some h.0
 free-complete option.File word given next h = ap is_some h.0
 free-complete option.At word given next h = ap is_some h.0
+free-complete option.Form word given next h = ap is_some h.0
 
 -- and what the form gives is read
 pub value-complete : (o : OptionName) (word : Word) (given next : Given) → Gives o word given next → with_value o word given ≡ Ok next
@@ -105,3 +132,6 @@ value-complete option.File word given next h =
     ap (put_place why.NotAPath (record given { file = Some word })) (place-complete word h.1) ∙ ap Ok (sym h.2)
 value-complete option.At word given next h =
     put-complete 0 MOST_AT word (λ n. record given { at = Some n }) next h.1 (omega arith) h.2 h.3
+value-complete option.Form word given next h =
+    let put : Bool → Given = λ wire. record given { wire = Some wire } in
+    ap (λ w. put_form put (wire_named w)) h.2 ∙ ap (put_form put) (wire-complete h.1) ∙ ap Ok (sym h.3)

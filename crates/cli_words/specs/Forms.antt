@@ -1,5 +1,5 @@
 -- The forms of a command line: a command, and then its options in any order, each at most once.
-use Rattle.std.specs.Prelude.{◌≡◌, ◌≢◌, ◌≤◌, ◌⊎◌, ℕ, zero, suc, List, [], ◌∷◌, ◌++◌, map, codes}
+use Rattle.std.specs.Prelude.{◌≡◌, ◌≢◌, ◌≤◌, ◌⊎◌, ℕ, zero, suc, Bool, true, false, List, [], ◌∷◌, ◌++◌, map, codes}
 use Rattle.std.specs.Prelude.{Option, Some, None, IsSome, unwrap_or, refl}
 use Rattle.std.specs.Fmt.{decimal}
 use Rattle.std.proofs.Common.{inl, inr}
@@ -42,6 +42,7 @@ abbrev pub command_word : CommandName → Word
 command_word command.Run = codes "run"
 command_word command.Serve = codes "serve"
 command_word command.Audit = codes "audit"
+command_word command.Remote = codes "remote"
 
 -- the word of an option
 abbrev pub option_word : OptionName → Word
@@ -52,20 +53,30 @@ option_word option.Sessions = codes "--sessions"
 option_word option.Address = codes "--address"
 option_word option.File = codes "--file"
 option_word option.At = codes "--at"
+option_word option.Form = codes "--form"
 
--- Which options a command takes: `run` takes the settings of a store alone, `serve` all but `--at`, and `audit` takes its file
--- and `--at` alone.
+-- Which options a command takes: `run` takes the settings of a store alone, `serve` all but `--at`, `audit` takes its file
+-- and `--at` alone, and `remote` the address alone.
 abbrev pub Takes : CommandName → OptionName → Type 0
 Takes command.Run option.Sessions = ⊥
 Takes command.Run option.Address = ⊥
 Takes command.Run option.File = ⊥
 Takes command.Run option.At = ⊥
+Takes command.Run option.Form = ⊥
 Takes command.Serve option.At = ⊥
 Takes command.Audit option.Shards = ⊥
 Takes command.Audit option.Window = ⊥
 Takes command.Audit option.Limit = ⊥
 Takes command.Audit option.Sessions = ⊥
 Takes command.Audit option.Address = ⊥
+Takes command.Audit option.Form = ⊥
+Takes command.Remote option.Shards = ⊥
+Takes command.Remote option.Window = ⊥
+Takes command.Remote option.Limit = ⊥
+Takes command.Remote option.Sessions = ⊥
+Takes command.Remote option.File = ⊥
+Takes command.Remote option.At = ⊥
+Takes command.Remote option.Form = ⊥
 Takes c o = Unit {0}
 
 -- ---- values
@@ -79,6 +90,11 @@ abbrev pub IsPlace : Word → Type 0
 IsPlace [] = ⊥
 IsPlace (b ∷ word) = b ≢ HYPHEN
 
+-- What the links of a server bring is named: lines of text, or requests of the wire.
+abbrev pub form_word : Bool → Word
+form_word false = codes "text"
+form_word true = codes "wire"
+
 -- ---- what options give
 
 -- What has been given, and None for what has not.
@@ -90,10 +106,11 @@ pub record Given : Type 0 where
   pub address : Option Word
   pub file : Option Word
   pub at : Option ℕ
+  pub wire : Option Bool
 
 -- no option is given
 abbrev pub nothing_given : Given
-nothing_given = record { shards = None; window = None; limit = None; sessions = None; address = None; file = None; at = None }
+nothing_given = record { shards = None; window = None; limit = None; sessions = None; address = None; file = None; at = None; wire = None }
 
 -- An option is given that had not been, and its value is of its form.
 abbrev pub Gives : OptionName → Word → Given → Given → Type 0
@@ -104,6 +121,7 @@ Gives option.Sessions word old new = (old.sessions ≡ None) × (n : ℕ) × IsN
 Gives option.Address word old new = (old.address ≡ None) × IsPlace word × (new ≡ record old { address = Some word })
 Gives option.File word old new = (old.file ≡ None) × IsPlace word × (new ≡ record old { file = Some word })
 Gives option.At word old new = (old.at ≡ None) × (n : ℕ) × IsNumber 0 MOST_AT word n × (new ≡ record old { at = Some n })
+Gives option.Form word old new = (old.wire ≡ None) × (wire : Bool) × (word ≡ form_word wire) × (new ≡ record old { wire = Some wire })
 
 -- An option is spelled by two words, its name and its value, or by one, with `=` between them.
 abbrev pub SpellsOption : OptionName → Word → List Word → List Word → Type 0
@@ -122,11 +140,12 @@ abbrev pub AreOptions : CommandName → ℕ → List Word → Given → Given �
 AreOptions c zero words old new = (words ≡ []) × (new ≡ old)
 AreOptions c (suc n) words old new = (rest : List Word) × (next : Given) × IsOption c words rest old next × AreOptions c n rest next new
 
--- nothing is missing: who serves has to be told where, and who audits what
+-- nothing is missing: who serves has to be told where, so does who goes there, and who audits what
 abbrev pub IsWhole : CommandName → Given → Type 0
 IsWhole command.Run given = Unit {0}
 IsWhole command.Serve given = IsSome given.address
 IsWhole command.Audit given = IsSome given.file
+IsWhole command.Remote given = IsSome given.address
 
 -- ---- forms
 
@@ -151,9 +170,11 @@ pub record HasSettings (given : Given) (settings : Settings) : Type 0 where
 -- what a command is to do, by what was given
 abbrev pub IsPlan : CommandName → Given → Plan → Type 0
 IsPlan command.Run given (plan.Run settings) = HasSettings given settings
-IsPlan command.Serve given (plan.Serve settings address sessions file) =
+IsPlan command.Serve given (plan.Serve settings address sessions file wire) =
     HasSettings given settings × (given.address ≡ Some address) × (sessions ≡ unwrap_or given.sessions STANDARD_SESSIONS) × (file ≡ given.file)
+    × (wire ≡ unwrap_or given.wire false)
 IsPlan command.Audit given (plan.Audit file at) = (given.file ≡ Some file) × (at ≡ given.at)
+IsPlan command.Remote given (plan.Remote address) = given.address ≡ Some address
 IsPlan c given p = ⊥
 
 -- The plan that words spell.
@@ -199,3 +220,7 @@ serve-there = record {
   where
     58-is-no-hyphen : 58 ≢ HYPHEN
     58-is-no-hyphen = eqb-false 58 HYPHEN refl
+
+-- the form that a server's links have
+wire-form : Gives option.Form (codes "wire") nothing_given (record nothing_given { wire = Some true })
+wire-form = (refl, true, refl, refl)

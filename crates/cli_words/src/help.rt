@@ -29,13 +29,19 @@ pub fn asked(words: &[&str]) -> Option<Question>
 }
 
 /// Commands as they are typed.
-const EXAMPLES: [&str; 5] = [
+const EXAMPLES: [&str; 7] = [
     "\nExamples:\n",
     "  diamond run < sale.txt\n",
     "  diamond serve --address 127.0.0.1:4000 --sessions 100\n",
     "  diamond serve --address 127.0.0.1:4000 --sessions 100 --file sale.journal\n",
     "  diamond audit --file sale.journal --at 100\n",
+    "  diamond serve --address 127.0.0.1:4001 --sessions 100 --form wire\n",
+    "  diamond remote --address 127.0.0.1:4001 < session.txt\n",
 ];
+
+/// What `remote` does, in a line.
+const REMOTE_DOES: &str =
+    "Run a session, read from the input, over a store that is served elsewhere";
 
 /// How the program is used: its commands, the options of each, and examples.
 pub fn help_text(alloc: Global) -> Result<String, AllocError> {
@@ -46,6 +52,8 @@ pub fn help_text(alloc: Global) -> Result<String, AllocError> {
     text.push_str(serve(alloc)?.render_help()?.as_str())?;
     text.push_str("\n")?;
     text.push_str(audit(alloc)?.render_help()?.as_str())?;
+    text.push_str("\n")?;
+    text.push_str(remote(alloc)?.render_help()?.as_str())?;
     for line in EXAMPLES {
         text.push_str(line)?;
     }
@@ -85,6 +93,7 @@ fn program<'a>(alloc: Global) -> Result<Command<'a>, AllocError> {
     .subcommand(bare(alloc, "run", "Run a script, read from the input"))?
     .subcommand(bare(alloc, "serve", "Serve sessions at an address"))?
     .subcommand(bare(alloc, "audit", "Check the journal in a file"))?
+    .subcommand(bare(alloc, "remote", REMOTE_DOES))?
     .arg(flag(alloc, "help", "Print this"))?
     .arg(flag(alloc, "version", "Print the version"))
 }
@@ -138,6 +147,12 @@ fn serve<'a>(alloc: Global) -> Result<Command<'a>, AllocError> {
             "file",
             "P",
             "The file in which commits are kept [default: in memory]",
+        ))?
+        .arg(option(
+            alloc,
+            "form",
+            "F",
+            "Whether links bring lines (text) or requests of remote (wire) [default: text]",
         ))?;
     with_settings(alloc, command)
 }
@@ -159,5 +174,14 @@ fn audit<'a>(alloc: Global) -> Result<Command<'a>, AllocError> {
         "at",
         "N",
         "Print the state after so many commits too, where the journal is legal",
+    ))
+}
+
+fn remote<'a>(alloc: Global) -> Result<Command<'a>, AllocError> {
+    bare(alloc, "diamond remote", REMOTE_DOES).arg(option(
+        alloc,
+        "address",
+        "A",
+        "Where a store is served with --form wire; it must be given",
     ))
 }

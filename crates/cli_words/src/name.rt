@@ -10,6 +10,7 @@ pub enum CommandName {
     Run,
     Serve,
     Audit,
+    Remote,
 }
 
 /// What can be told of a command.
@@ -22,17 +23,19 @@ pub enum OptionName {
     Address,
     File,
     At,
+    Form,
 }
 
 /// All commands.
-pub(crate) const COMMANDS: [CommandName; 3] = [
+pub(crate) const COMMANDS: [CommandName; 4] = [
     CommandName::Run,
     CommandName::Serve,
     CommandName::Audit,
+    CommandName::Remote,
 ];
 
 /// All options.
-pub(crate) const OPTIONS: [OptionName; 7] = [
+pub(crate) const OPTIONS: [OptionName; 8] = [
     OptionName::Shards,
     OptionName::Window,
     OptionName::Limit,
@@ -40,6 +43,7 @@ pub(crate) const OPTIONS: [OptionName; 7] = [
     OptionName::Address,
     OptionName::File,
     OptionName::At,
+    OptionName::Form,
 ];
 
 impl CommandName {
@@ -51,6 +55,7 @@ impl CommandName {
             CommandName::Run => "run",
             CommandName::Serve => "serve",
             CommandName::Audit => "audit",
+            CommandName::Remote => "remote",
         }
     }
 
@@ -72,6 +77,7 @@ impl CommandName {
             CommandName::Run => option.is_setting(),
             CommandName::Serve => option != OptionName::At,
             CommandName::Audit => option == OptionName::File || option == OptionName::At,
+            CommandName::Remote => option == OptionName::Address,
         }
     }
 }
@@ -89,6 +95,7 @@ impl OptionName {
             OptionName::Address => "--address",
             OptionName::File => "--file",
             OptionName::At => "--at",
+            OptionName::Form => "--form",
         }
     }
 

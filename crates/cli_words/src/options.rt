@@ -27,6 +27,7 @@ pub(crate) struct Options {
     pub(crate) address: Option<Text>,
     pub(crate) file: Option<Text>,
     pub(crate) at: Option<u64>,
+    pub(crate) wire: Option<bool>,
 }
 
 impl Model for Options {
@@ -45,6 +46,7 @@ impl Model for Options {
       address = o.address;
       file = o.file;
       at = o.at;
+      wire = o.wire;
     } };
 
     ghost invariant = { λ o.
@@ -66,6 +68,7 @@ impl Options {
             address: None,
             file: None,
             at: None,
+            wire: None,
         }
     }
 
@@ -81,6 +84,7 @@ impl Options {
             OptionName::Address => self.address.is_some(),
             OptionName::File => self.file.is_some(),
             OptionName::At => self.at.is_some(),
+            OptionName::Form => self.wire.is_some(),
         }
     }
 
@@ -101,6 +105,7 @@ impl Options {
             OptionName::Address => self.with_address(alloc, value),
             OptionName::File => self.with_file(alloc, value),
             OptionName::At => self.with_at(value),
+            OptionName::Form => self.with_form(value),
         }
     }
 
@@ -184,6 +189,18 @@ impl Options {
         }
     }
 
+    fn with_form(mut self, value: &str) -> Result<Options, OrNoMemory<Why>>
+        ensures { Makes result (spec.with_value OptionName.Form value.now self) }
+    {
+        match wire_named(value) {
+            Some(wire) => {
+                self.wire = Some(wire);
+                Ok(self)
+            }
+            None => Err(OrNoMemory::Cause(Why::NotAForm)),
+        }
+    }
+
     /// The settings that are given, and the standard ones where none are.
     pub(crate) fn settings(&self) -> Settings
         ensures { HasSettings self.now result }
@@ -213,5 +230,18 @@ fn is_place(word: &str) -> bool
     match word.as_bytes() {
         [] => false,
         [first, ..] => *first != b'-',
+    }
+}
+
+/// Whether sessions take requests of the wire, by the word that names their form.
+fn wire_named(word: &str) -> Option<bool>
+    ensures { result ≡ spec.wire_named word.now }
+{
+    if word == "text" {
+        Some(false)
+    } else if word == "wire" {
+        Some(true)
+    } else {
+        None
     }
 }

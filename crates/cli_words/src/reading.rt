@@ -97,6 +97,7 @@ fn serving(options: Options) -> Result<Plan, Missing>
         sessions,
         address,
         file,
+        wire,
         ..
     } = options;
     match address {
@@ -105,6 +106,7 @@ fn serving(options: Options) -> Result<Plan, Missing>
             address,
             sessions: sessions.unwrap_or(STANDARD_SESSIONS),
             file,
+            wire: wire.unwrap_or(false),
         }),
         None => Err(Missing::Option(OptionName::Address)),
     }
@@ -118,6 +120,17 @@ fn auditing(options: Options) -> Result<Plan, Missing>
     match file {
         Some(file) => Ok(Plan::Audit { file, at }),
         None => Err(Missing::Option(OptionName::File)),
+    }
+}
+
+/// What a remote client is asked to do, where it is told the address.
+fn reaching(options: Options) -> Result<Plan, Missing>
+    ensures { Finishes (Reading.Ready CommandName.Remote options) result }
+{
+    let Options { address, .. } = options;
+    match address {
+        Some(address) => Ok(Plan::Remote { address }),
+        None => Err(Missing::Option(OptionName::Address)),
     }
 }
 
@@ -146,6 +159,7 @@ impl Reading {
             Reading::Ready(CommandName::Run, options) => Ok(Plan::Run(options.settings())),
             Reading::Ready(CommandName::Serve, options) => serving(options),
             Reading::Ready(CommandName::Audit, options) => auditing(options),
+            Reading::Ready(CommandName::Remote, options) => reaching(options),
         }
     }
 }

@@ -19,6 +19,8 @@ pub enum Why {
     NotAnAddress,
     #[error("this is no path")]
     NotAPath,
+    #[error("the form is neither text nor wire")]
+    NotAForm,
 }
 
 /// What is missing where the words end too early.

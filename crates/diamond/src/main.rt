@@ -9,10 +9,13 @@ mod read_file;
 
 use cli_words::{Plan, Question, VERSION, WordsError, asked, help_text, read_words};
 use commit_file::RecoverError;
-use diamond_cli::{BAD_WORDS, NO_MEMORY, NOT_JOURNAL, WRITE_FAULT, diamond};
+use diamond_cli::{
+    BAD_WORDS, BROKEN_LINK, LINK_FAULT, NO_MEMORY, NOT_JOURNAL, WRITE_FAULT, diamond,
+};
 use dio_core::{Disk, FileDisk, Listener, NoDisk, NoListener, StdSink, StdSource, TcpListening};
 use journal_file::read_kept;
 use link_buffer::BufferedListening;
+use link_ends::Connecting;
 use plain_data::Text;
 use read_file::ReadFile;
 use serve_status::{CountedDisk, CountedListening, Counts, tell};
@@ -132,22 +135,29 @@ fn command_told<R: Threads + Wait + Sync, D: Disk + Send>(
     status
 }
 
-/// Runs the command over what listens at this address, and reads ahead of each connection. Where the standard error is a terminal it
-/// is told there meanwhile what there is.
+/// Where a server listens, and whether its links bring requests of the wire.
+#[derive(Clone, Copy)]
+struct Place<'a> {
+    address: &'a str,
+    wire: bool,
+}
+
+/// Runs the command over what listens at this place, and reads ahead of each connection. Where the standard error is a terminal it
+/// is told there meanwhile what there is; but not what requests are answered, since their answers aren't read for that.
 fn command_at<R: Threads + Wait + Sync, D: Disk + Send>(
     rt: &HostRuntime,
     threads: &R,
     words: &[&str],
     disk: &mut D,
-    address: &str,
+    place: Place<'_>,
 ) -> Result<u8, AllocError>
     requires { NothingPending (D.state disk.old) }
 {
-    if rt.stderr().is_terminal() {
-        return command_told(rt, threads, words, disk, address);
+    if rt.stderr().is_terminal() && !place.wire {
+        return command_told(rt, threads, words, disk, place.address);
     }
-    let tcp = TcpListening::bind(rt, rt, address);
-    say_address(rt, address, tcp.address());
+    let tcp = TcpListening::bind(rt, rt, place.address);
+    say_address(rt, place.address, tcp.address());
     command(rt, threads, words, disk, &mut BufferedListening::new(tcp))
 }
 
@@ -183,10 +193,10 @@ fn command_in<R: Threads + Wait + Sync>(
     threads: &R,
     words: &[&str],
     path: &str,
-    address: &str,
+    place: Place<'_>,
 ) -> Result<u8, AllocError> {
     let mut disk = FileDisk::open(rt, path);
-    let status = command_at(rt, threads, words, &mut disk, address)?;
+    let status = command_at(rt, threads, words, &mut disk, place)?;
     name_place(rt, path, &mut disk, status);
     name_fault(rt, path, disk.last_fault());
     Ok(status)
@@ -209,22 +219,53 @@ fn audit<R: Threads + Wait + Sync>(
     Ok(status)
 }
 
-/// Serves at an address, and keeps commits in the file at a path, where one is given.
+/// Says on the standard error what went wrong with a connection.
+fn name_trouble(rt: &HostRuntime, address: &str, status: u8) {
+    let _ = match status {
+        LINK_FAULT => eprintln!(rt; "diamond: the connection to `{address}` failed"),
+        BROKEN_LINK => eprintln!(rt; "diamond: what came from `{address}` is no answer"),
+        _ => Ok(()),
+    };
+}
+
+/// Runs a session over the store that is served at an address, and reads ahead of the connection.
+fn remote<R: Threads + Wait + Sync>(
+    rt: &HostRuntime,
+    threads: &R,
+    words: &[&str],
+    address: &Text,
+) -> Result<u8, AllocError> {
+    let Ok(address) = str::from_utf8(address.as_slice()) else {
+        return Ok(BAD_WORDS);
+    };
+    let connecting = Connecting::to(rt, address);
+    if !connecting.is_connected() {
+        let _ = eprintln!(rt; "diamond: can't reach `{address}`");
+    }
+    let mut listener = BufferedListening::new(connecting);
+    let status = command(rt, threads, words, &mut NoDisk::new(), &mut listener)?;
+    name_trouble(rt, address, status);
+    Ok(status)
+}
+
+/// Serves at an address, and keeps commits in the file at a path, where one is given. Links bring lines, or requests of the wire.
 fn serve<R: Threads + Wait + Sync>(
     rt: &HostRuntime,
     threads: &R,
     words: &[&str],
     address: &Text,
+    wire: bool,
     file: &Option<Text>,
 ) -> Result<u8, AllocError> {
     let Ok(address) = str::from_utf8(address.as_slice()) else {
         return Ok(BAD_WORDS);
     };
+    let place = Place { address, wire };
     let Some(path) = file else {
-        return command_at(rt, threads, words, &mut NoDisk::new(), address);
+        return command_at(rt, threads, words, &mut NoDisk::new(), place);
     };
     match str::from_utf8(path.as_slice()) {
-        Ok(path) => command_in(rt, threads, words, path, address),
+        Ok(path) => command_in(rt, threads, words, path, place),
         Err(_) => Ok(BAD_WORDS),
     }
 }
@@ -253,8 +294,16 @@ fn run<R: Threads + Wait + Sync>(
                 &mut NoListener::new(),
             )
         }
-        Ok(Plan::Serve { address, file, .. }) => serve(rt, threads, texts, &address, &file),
+        Ok(
+            Plan::Serve {
+                address,
+                file,
+                wire,
+                ..
+            },
+        ) => serve(rt, threads, texts, &address, wire, &file),
         Ok(Plan::Audit { file, .. }) => audit(rt, threads, texts, &file),
+        Ok(Plan::Remote { address }) => remote(rt, threads, texts, &address),
         Err(WordsError::NoMemory) => Ok(NO_MEMORY),
         Err(WordsError::BadWords(bad)) => {
             let _ = eprintln!(rt; "diamond: {bad}; diamond --help shows what may be said");

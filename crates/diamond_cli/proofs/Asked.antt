@@ -1,5 +1,6 @@
 -- Words that ask to run a script are of one form, and ask for nothing else.
-use Rattle.std.proofs.Common.{◌≡◌, ℕ, List, Option, Some, None, sym, ap, ◌∙◌, subst}
+use Rattle.std.proofs.Common.{◌≡◌, ℕ, Bool, false, nat_eq, List, Option, Some, None, refl, sym, ap, ◌∙◌, subst}
+use Rattle.std.proofs.lemmas.Bool.{eqb-false}
 use denote.Bor.{Bor}
 use Rattle.rdt_types.specs.declared.settings.Settings.{Settings}
 use Rattle.cli_words.specs.declared.name.CommandName.{CommandName}
@@ -25,26 +26,31 @@ pub runs-something : (words : List (Bor Word)) (p : Plan) (settings : Settings) 
 runs-something words p settings spells is nothing = nothing.0 (settings, plan-asks (texts words) p (plan.Run settings) spells is)
 
 -- and so with a plan to serve in memory
-pub serves-something : (words : List (Bor Word)) (p : Plan) (settings : Settings) (address : Word) (sessions : ℕ) → Spells (texts words) p
-    → p ≡ plan.Serve settings address sessions None → AsksNothing words → ⊥
-serves-something words p settings address sessions spells is nothing =
-    nothing.1 (settings, address, sessions, plan-asks (texts words) p (plan.Serve settings address sessions None) spells is)
+pub serves-something : (words : List (Bor Word)) (p : Plan) (settings : Settings) (address : Word) (sessions : ℕ) (wire : Bool) → Spells (texts words) p
+    → p ≡ plan.Serve settings address sessions None wire → AsksNothing words → ⊥
+serves-something words p settings address sessions wire spells is nothing =
+    nothing.1 (settings, address, sessions, wire, plan-asks (texts words) p (plan.Serve settings address sessions None wire) spells is)
 
 -- or in a file
-pub files-something : (words : List (Bor Word)) (p : Plan) (settings : Settings) (address : Word) (sessions : ℕ) (path : Word)
-    → Spells (texts words) p → p ≡ plan.Serve settings address sessions (Some path) → AsksNothing words → ⊥
-files-something words p settings address sessions path spells is nothing =
-    nothing.2 (settings, address, sessions, path, plan-asks (texts words) p (plan.Serve settings address sessions (Some path)) spells is)
+pub files-something : (words : List (Bor Word)) (p : Plan) (settings : Settings) (address : Word) (sessions : ℕ) (path : Word) (wire : Bool)
+    → Spells (texts words) p → p ≡ plan.Serve settings address sessions (Some path) wire → AsksNothing words → ⊥
+files-something words p settings address sessions path wire spells is nothing =
+    nothing.2 (settings, address, sessions, path, wire, plan-asks (texts words) p (plan.Serve settings address sessions (Some path) wire) spells is)
 
 -- or one to audit
 pub audits-something : (words : List (Bor Word)) (p : Plan) (path : Word) (at : Option ℕ) → Spells (texts words) p → p ≡ plan.Audit path at
     → AsksNothing words → ⊥
 audits-something words p path at spells is nothing = nothing.3 (path, at, plan-asks (texts words) p (plan.Audit path at) spells is)
 
+-- or one for a session over a store elsewhere
+pub remotes-something : (words : List (Bor Word)) (p : Plan) (address : Word) → Spells (texts words) p → p ≡ plan.Remote address
+    → AsksNothing words → ⊥
+remotes-something words p address spells is nothing = nothing.4 (address, plan-asks (texts words) p (plan.Remote address) spells is)
+
 -- a plan whose file is another's by name
-pub with-file : (p : Plan) (settings : Settings) (address : Word) (sessions : ℕ) (file other : Option Word)
-    → p ≡ plan.Serve settings address sessions file → file ≡ other → p ≡ plan.Serve settings address sessions other
-with-file p settings address sessions file other is same = is ∙ ap (plan.Serve settings address sessions) same
+pub with-file : (p : Plan) (settings : Settings) (address : Word) (sessions : ℕ) (file other : Option Word) (wire : Bool)
+    → p ≡ plan.Serve settings address sessions file wire → file ≡ other → p ≡ plan.Serve settings address sessions other wire
+with-file p settings address sessions file other wire is same = is ∙ ap (λ f. plan.Serve settings address sessions f wire) same
 
 -- words that were refused are of no form
 no-form : (words : List Word) (bad : BadWords) → Refuses words (words_error.BadWords bad) → IsNoForm words
@@ -57,59 +63,64 @@ pub refused-no-plan : (words : List Word) (error : WordsError) (bad : BadWords) 
 refused-no-plan words error bad p refuses is spells =
     no-form words bad (subst (Refuses words) is refuses) spells.name spells.given spells.form
 
--- words that ask to serve don't ask to run a script
-pub serve-no-run : (words : List Word) (settings own : Settings) (address : Word) (sessions : ℕ) (file : Option Word)
-    → Spells words (plan.Serve settings address sessions file) → Spells words (plan.Run own) → ⊥
-serve-no-run words settings own address sessions file serves runs =
-    by serves.name runs.name serves.given runs.given serves.plan runs.plan
-    (one_form words serves.name runs.name serves.given runs.given serves.form runs.form).0
-  where
-    by : (c d : CommandName) (g h : Given) → IsPlan c g (plan.Serve settings address sessions file) → IsPlan d h (plan.Run own) → c ≡ d → ⊥
-    by command.Run d g h serve run e = serve
-    by command.Audit d g h serve run e = serve
-    by command.Serve command.Serve g h serve run e = run
-    by command.Serve command.Audit g h serve run e = run
-    by command.Serve command.Run g h serve run e = cc
+-- ---- words ask for one thing
+
+-- the commands by number
+command_number : CommandName → ℕ
+command_number command.Run = 0
+command_number command.Serve = 1
+command_number command.Audit = 2
+command_number command.Remote = 3
+
+-- and so their plans
+abbrev pub plan_number : Plan → ℕ
+plan_number (plan.Run settings) = 0
+plan_number (plan.Serve settings address sessions file wire) = 1
+plan_number (plan.Audit path at) = 2
+plan_number (plan.Remote address) = 3
+
+-- a plan is that of its command
+plan-number : (c : CommandName) (given : Given) (p : Plan) → IsPlan c given p → plan_number p ≡ command_number c
+unfolding command_number
+plan-number command.Run given (plan.Run settings) is = refl
+plan-number command.Run given (plan.Serve settings address sessions file wire) is = absurd is
+plan-number command.Run given (plan.Audit path at) is = absurd is
+plan-number command.Run given (plan.Remote address) is = absurd is
+plan-number command.Serve given (plan.Run settings) is = absurd is
+plan-number command.Serve given (plan.Serve settings address sessions file wire) is = refl
+plan-number command.Serve given (plan.Audit path at) is = absurd is
+plan-number command.Serve given (plan.Remote address) is = absurd is
+plan-number command.Audit given (plan.Run settings) is = absurd is
+plan-number command.Audit given (plan.Serve settings address sessions file wire) is = absurd is
+plan-number command.Audit given (plan.Audit path at) is = refl
+plan-number command.Audit given (plan.Remote address) is = absurd is
+plan-number command.Remote given (plan.Run settings) is = absurd is
+plan-number command.Remote given (plan.Serve settings address sessions file wire) is = absurd is
+plan-number command.Remote given (plan.Audit path at) is = absurd is
+plan-number command.Remote given (plan.Remote address) is = refl
+
+-- WORDS ARE OF ONE COMMAND: they don't spell the plans of two.
+pub other-command : (words : List Word) (p q : Plan) → nat_eq (plan_number p) (plan_number q) ≡ false → Spells words p → Spells words q → ⊥
+other-command words p q differ one two =
+    eqb-false (plan_number p) (plan_number q) differ
+    (plan-number one.name one.given p one.plan
+    ∙ ap command_number (one_form words one.name two.name one.given two.given one.form two.form).0
+    ∙ sym (plan-number two.name two.given q two.plan))
 
 -- nor do words that ask to serve in memory ask to serve in a file
-pub memory-no-file : (words : List Word) (settings own : Settings) (address there : Word) (sessions many : ℕ) (path : Word)
-    → Spells words (plan.Serve settings address sessions None) → Spells words (plan.Serve own there many (Some path)) → ⊥
-memory-no-file words settings own address there sessions many path memory files =
+pub memory-no-file : (words : List Word) (settings own : Settings) (address there : Word) (sessions many : ℕ) (path : Word) (wire other : Bool)
+    → Spells words (plan.Serve settings address sessions None wire) → Spells words (plan.Serve own there many (Some path) other) → ⊥
+memory-no-file words settings own address there sessions many path wire other memory files =
     by memory.name files.name memory.given files.given memory.plan files.plan
     (one_form words memory.name files.name memory.given files.given memory.form files.form).1
   where
-    by : (c d : CommandName) (g h : Given) → IsPlan c g (plan.Serve settings address sessions None) → IsPlan d h (plan.Serve own there many (Some path))
-        → g ≡ h → ⊥
+    by : (c d : CommandName) (g h : Given) → IsPlan c g (plan.Serve settings address sessions None wire)
+        → IsPlan d h (plan.Serve own there many (Some path) other) → g ≡ h → ⊥
     by command.Run d g h one two e = one
     by command.Audit d g h one two e = one
+    by command.Remote d g h one two e = one
     by command.Serve command.Run g h one two e = two
     by command.Serve command.Audit g h one two e = two
+    by command.Serve command.Remote g h one two e = two
     by command.Serve command.Serve g h one two e =
         let no : ◌≡◌ {A = Option Word} None (Some path) = one.3 ∙ ap (λ (x : Given). x.file) e ∙ sym two.3 in absurd (cc no)
-
--- nor do words that ask to audit ask to run a script
-pub audit-no-run : (words : List Word) (path : Word) (at : Option ℕ) (own : Settings) → Spells words (plan.Audit path at) → Spells words (plan.Run own) → ⊥
-audit-no-run words path at own audits runs =
-    by audits.name runs.name audits.given runs.given audits.plan runs.plan
-    (one_form words audits.name runs.name audits.given runs.given audits.form runs.form).0
-  where
-    by : (c d : CommandName) (g h : Given) → IsPlan c g (plan.Audit path at) → IsPlan d h (plan.Run own) → c ≡ d → ⊥
-    by command.Run d g h audit run e = audit
-    by command.Serve d g h audit run e = audit
-    by command.Audit command.Serve g h audit run e = run
-    by command.Audit command.Audit g h audit run e = run
-    by command.Audit command.Run g h audit run e = cc
-
--- or to serve
-pub audit-no-serve : (words : List Word) (path : Word) (at : Option ℕ) (settings : Settings) (address : Word) (sessions : ℕ) (file : Option Word)
-    → Spells words (plan.Audit path at) → Spells words (plan.Serve settings address sessions file) → ⊥
-audit-no-serve words path at settings address sessions file audits serves =
-    by audits.name serves.name audits.given serves.given audits.plan serves.plan
-    (one_form words audits.name serves.name audits.given serves.given audits.form serves.form).0
-  where
-    by : (c d : CommandName) (g h : Given) → IsPlan c g (plan.Audit path at) → IsPlan d h (plan.Serve settings address sessions file) → c ≡ d → ⊥
-    by command.Run d g h audit serve e = audit
-    by command.Serve d g h audit serve e = audit
-    by command.Audit command.Run g h audit serve e = serve
-    by command.Audit command.Audit g h audit serve e = serve
-    by command.Audit command.Serve g h audit serve e = cc

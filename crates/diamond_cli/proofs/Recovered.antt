@@ -27,8 +27,9 @@ use Rattle.script_runner.specs.Script.{Writing}
 use Rattle.journal_file.specs.Commits.{CommitsFollow, IsKeptAs, commits_in}
 use Rattle.journal_file.specs.Keepers.{KeepsThese, told_by, doubted_by, ReadsAs, LeavesAs}
 use Rattle.diamond_server.specs.Accounts.{Gatherings}
+use Rattle.diamond_server.specs.Ways.{Promising}
 use Rattle.diamond_server.specs.declared.serving_all.Tally.{Tally}
-use Rattle.diamond_cli.specs.Serving.{HasServed, IsSaid, ending}
+use Rattle.diamond_cli.specs.Serving.{promised_of, HasServed, IsSaid, ending}
 use Rattle.diamond_cli.specs.Filed.{Storing, HoldsJournal, refusal, HoldsNone, IsUnwritten, IsUnaccepted, IsRefused, IsFiled, ServesFile}
 
 -- ---- the commits of a file
@@ -78,10 +79,10 @@ later-rise first denials true old new (inl more) (inr last) = inr (omega (arith,
 later-rise first denials true old new (inr both) most = subst (IsAtMostRise first denials) (both.0 ∙ sym both.1) most
 
 -- so what came of the links is the same behind it
-pub later-served : {L : Type 0} (told : L → Both) (settings : Settings) (sessions : ℕ) (g : Gatherings L) (found journal : Journal) (tally : Tally)
+pub later-served : {L : Type 0} (Promised : Promising) (told : L → Both) (settings : Settings) (sessions : ℕ) (g : Gatherings L) (found journal : Journal) (tally : Tally)
     (first before old new after : ℕ) (failed : Bool) → first ≡ before → IsCounted failed old new → new ≡ after
-    → HasServed told settings sessions g found first old tally journal → HasServed told settings sessions g found before after tally journal
-later-served told settings sessions g found journal tally first before old new after failed start counted end served = record {
+    → HasServed Promised told settings sessions g found first old tally journal → HasServed Promised told settings sessions g found before after tally journal
+later-served Promised told settings sessions g found journal tally first before old new after failed start counted end served = record {
   pass = served.pass;
   low = served.low;
   high = served.high;
@@ -162,10 +163,10 @@ module _ (Fact : Type 0) where
   any-kept None fact = tt
   any-kept (Some s) fact = λ journal is. fact
 
-module _ {L : Type 0} (told : L → Both) (settings : Settings) (sessions : ℕ) (g : Gatherings L) (d : Storing) (w : Writing) where
+module _ {L : Type 0} (Promised : Promising) (told : L → Both) (settings : Settings) (sessions : ℕ) (g : Gatherings L) (d : Storing) (w : Writing) where
   -- all sessions ended: the promises, by whether an accept had failed and whether the line was written
-  filed-by : (failed done : Bool) → IsFiled told settings sessions g d (ending failed done) w → IsCounted failed g.faults g.faults_then
-      → (done ≡ false → Rose w.faults w.faults_then) → ServesFile told settings sessions g d (ending failed done) w
+  filed-by : (failed done : Bool) → IsFiled Promised told settings sessions g d (ending failed done) w → IsCounted failed g.faults g.faults_then
+      → (done ≡ false → Rose w.faults w.faults_then) → ServesFile Promised told settings sessions g d (ending failed done) w
   filed-by true done e counted fault = record {
     statuses = refl;
     ended = λ among. e;
@@ -204,30 +205,30 @@ module _ {L : Type 0} (told : L → Both) (settings : Settings) (sessions : ℕ)
   }
 
   -- at the status by which it ended
-  pub filed-serves : (status : ℕ) → IsFiled told settings sessions g d status w → ServesFile told settings sessions g d status w
+  pub filed-serves : (status : ℕ) → IsFiled Promised told settings sessions g d status w → ServesFile Promised told settings sessions g d status w
   filed-serves status e =
       let said = e.ended.said in
-      subst (λ (s : ℕ). ServesFile told settings sessions g d s w) (sym said.status_is) (filed-by e.ended.tally.failed said.done
-      (subst (λ (s : ℕ). IsFiled told settings sessions g d s w) said.status_is e) e.ended.served.served.accepted.counted said.tried.fault)
+      subst (λ (s : ℕ). ServesFile Promised told settings sessions g d s w) (sym said.status_is) (filed-by e.ended.tally.failed said.done
+      (subst (λ (s : ℕ). IsFiled Promised told settings sessions g d s w) said.status_is e) e.ended.served.served.accepted.counted said.tried.fault)
 
   -- the parts of what came of it all; the disk's count had not risen while the file was recovered
   pub has-filed : (status middle : ℕ) (found journal : Journal) (tally : Tally) → IfSome d.state (λ s. IsKeptAs found s.file) → middle ≡ d.faults
-      → HasServed told settings sessions g found middle d.faults_then tally journal → HoldsJournal journal middle d.faults_then d.state_then → IsSaid tally journal status w
-      → IsFiled told settings sessions g d status w
+      → HasServed Promised told settings sessions g found middle d.faults_then tally journal → HoldsJournal journal middle d.faults_then d.state_then → IsSaid tally journal status w
+      → IsFiled Promised told settings sessions g d status w
   has-filed status middle found journal tally recovered count served holds said = record {
     kept = found;
     recovered = recovered;
     ended = record {
       tally = tally;
       journal = journal;
-      served = subst (λ (n : ℕ). HasServed told settings sessions g found n d.faults_then tally journal) count served;
+      served = subst (λ (n : ℕ). HasServed Promised told settings sessions g found n d.faults_then tally journal) count served;
       said = said;
     };
     holds = subst (λ (n : ℕ). HoldsJournal journal n d.faults_then d.state_then) count holds;
   }
 
   -- where the file was not recovered, or memory was wanting
-  pub refused-serves : (e : RecoverError) → IsRefused g d w e → ServesFile told settings sessions g d (refusal e) w
+  pub refused-serves : (e : RecoverError) → IsRefused g d w e → ServesFile Promised told settings sessions g d (refusal e) w
   refused-serves (error.NotJournal at) is = record {
     statuses = refl;
     ended = λ among. absurd (cc among);
@@ -264,3 +265,10 @@ module _ {L : Type 0} (told : L → Both) (settings : Settings) (sessions : ℕ)
     completes = λ disk accepted written. refl;
     unrefused = any-kept _ d.state (λ no. absurd (cc no));
   }
+
+-- what links bring, by the word that was given
+pub files-form : {L : Type 0} (wire form : Bool) (told : L → Both) (settings : Settings) (sessions : ℕ) (g : Gatherings L) (d : Storing) (status : ℕ)
+    (w : Writing) → wire ≡ form → ServesFile (promised_of form) told settings sessions g d status w
+    → ServesFile (promised_of wire) told settings sessions g d status w
+files-form wire form told settings sessions g d status w is serves =
+    subst (λ (b : Bool). ServesFile (promised_of b) told settings sessions g d status w) (sym is) serves

@@ -21,9 +21,10 @@ use Rattle.diamond_store.specs.Passes.{Passed, known_of}
 use Rattle.session_core.specs.Explained.{setting_of}
 use Rattle.script_runner.specs.Script.{Writing}
 use Rattle.script_runner.specs.declared.status.TheConstants.{NO_MEMORY}
-use Rattle.diamond_server.specs.Accounts.{Gatherings, ServedAll}
+use Rattle.diamond_server.specs.Accounts.{Gatherings, AllServed}
+use Rattle.diamond_server.specs.Ways.{Promising}
 use Rattle.diamond_server.specs.declared.serving_all.Tally.{Tally}
-use Rattle.diamond_cli.specs.Serving.{HasServed, ending, IsEnded, ServesLinks}
+use Rattle.diamond_cli.specs.Serving.{promised_of, HasServed, ending, IsEnded, ServesLinks}
 
 -- whatever is told of what a call gives, so is what follows from it
 pub ok-map : {S E : Type 0} (r : Result S E) (P Q : S → Type 0) → ((s : S) → P s → Q s) → IfOk r P → IfOk r Q
@@ -50,13 +51,13 @@ below-more low more kept below k d within = let b = below k d within in omega ar
 
 -- A store that was opened with commits, and closed by a pass that has learnt all that came of the links. Its lock numbers clients from
 -- `named`, and keeps the numbers `own`.
-pub has-served : {L : Type 0} (told : L → Both) (settings : Settings) (sessions first named : ℕ) (g : Gatherings L) (tally : Tally) (journal : Journal)
+pub has-served : {L : Type 0} (Promised : Promising) (told : L → Both) (settings : Settings) (sessions first named : ℕ) (g : Gatherings L) (tally : Tally) (journal : Journal)
     (base after : ℕ) (origin own : List ℕ) (front : tokens.Known Commit) (joined last : Passed) → first ≡ named → origin ≡ own
     → IsFirst base front settings joined → base ≡ length front.seen → NamesBelow client_of first front.seen → Learns joined last
-    → ServedAll told last (named + joined.draws) (named + last.draws) sessions g tally → IsPrefix last.journal journal
+    → AllServed Promised told last (named + joined.draws) (named + last.draws) sessions g tally → IsPrefix last.journal journal
     → IsLegal last.trusted journal → IsAtMostRise (faults_in own) last.denials after
-    → HasServed told settings sessions g front.seen (faults_in origin) after tally journal
-has-served told settings sessions first named g tally journal base after origin own front joined last names keeps is whole below learns served begins
+    → HasServed Promised told settings sessions g front.seen (faults_in origin) after tally journal
+has-served Promised told settings sessions first named g tally journal base after origin own front joined last names keeps is whole below learns served begins
     legal denied = record {
       pass = last;
       low = named + joined.draws;
@@ -71,17 +72,17 @@ has-served told settings sessions first named g tally journal base after origin 
     }
 
 -- the commits and the count by other names
-pub same-served : {L : Type 0} (told : L → Both) (settings : Settings) (sessions : ℕ) (g : Gatherings L) (tally : Tally) (journal seen kept : Journal)
-    (first before after : ℕ) → seen ≡ kept → first ≡ before → HasServed told settings sessions g seen first after tally journal
-    → HasServed told settings sessions g kept before after tally journal
-same-served told settings sessions g tally journal seen kept first before after all count served =
-    subst (λ (n : ℕ). HasServed told settings sessions g kept n after tally journal) count
-    (subst (λ (j : Journal). HasServed told settings sessions g j first after tally journal) all served)
+pub same-served : {L : Type 0} (Promised : Promising) (told : L → Both) (settings : Settings) (sessions : ℕ) (g : Gatherings L) (tally : Tally) (journal seen kept : Journal)
+    (first before after : ℕ) → seen ≡ kept → first ≡ before → HasServed Promised told settings sessions g seen first after tally journal
+    → HasServed Promised told settings sessions g kept before after tally journal
+same-served Promised told settings sessions g tally journal seen kept first before after all count served =
+    subst (λ (n : ℕ). HasServed Promised told settings sessions g kept n after tally journal) count
+    (subst (λ (j : Journal). HasServed Promised told settings sessions g j first after tally journal) all served)
 
-module _ {L : Type 0} (told : L → Both) (settings : Settings) (sessions : ℕ) (g : Gatherings L) (w : Writing) where
+module _ {L : Type 0} (Promised : Promising) (told : L → Both) (settings : Settings) (sessions : ℕ) (g : Gatherings L) (w : Writing) where
   -- all sessions ended: the promises, by whether an accept had failed and whether the line was written
-  kept-by : (failed done : Bool) → IsEnded told settings sessions g [] 0 0 (ending failed done) w → IsCounted failed g.faults g.faults_then
-      → (done ≡ false → Rose w.faults w.faults_then) → ServesLinks told settings sessions g (ending failed done) w
+  kept-by : (failed done : Bool) → IsEnded Promised told settings sessions g [] 0 0 (ending failed done) w → IsCounted failed g.faults g.faults_then
+      → (done ≡ false → Rose w.faults w.faults_then) → ServesLinks Promised told settings sessions g (ending failed done) w
   kept-by true done e counted fault = record {
     statuses = refl;
     ended = λ no. e;
@@ -105,13 +106,13 @@ module _ {L : Type 0} (told : L → Both) (settings : Settings) (sessions : ℕ)
   }
 
   -- at the status by which it ended
-  pub ended-serves : (status : ℕ) → IsEnded told settings sessions g [] 0 0 status w → ServesLinks told settings sessions g status w
+  pub ended-serves : (status : ℕ) → IsEnded Promised told settings sessions g [] 0 0 status w → ServesLinks Promised told settings sessions g status w
   ended-serves status e =
-      subst (λ (s : ℕ). ServesLinks told settings sessions g s w) (sym e.said.status_is) (kept-by e.tally.failed e.said.done
-      (subst (λ (s : ℕ). IsEnded told settings sessions g [] 0 0 s w) e.said.status_is e) e.served.served.accepted.counted e.said.tried.fault)
+      subst (λ (s : ℕ). ServesLinks Promised told settings sessions g s w) (sym e.said.status_is) (kept-by e.tally.failed e.said.done
+      (subst (λ (s : ℕ). IsEnded Promised told settings sessions g [] 0 0 s w) e.said.status_is e) e.served.served.accepted.counted e.said.tried.fault)
 
   -- for want of memory nothing was written
-  pub unended-serves : w.taken_then ≡ w.taken → w.faults_then ≡ w.faults → ServesLinks told settings sessions g NO_MEMORY w
+  pub unended-serves : w.taken_then ≡ w.taken → w.faults_then ≡ w.faults → ServesLinks Promised told settings sessions g NO_MEMORY w
   unended-serves taken faults = record {
     statuses = refl;
     ended = λ no. absurd (no refl);
@@ -119,3 +120,9 @@ module _ {L : Type 0} (told : L → Both) (settings : Settings) (sessions : ℕ)
     listener = λ is. absurd (cc is);
     completes = λ accepted written. inr refl;
   }
+
+-- what links bring, by the word that was given
+pub serves-form : {L : Type 0} (wire form : Bool) (told : L → Both) (settings : Settings) (sessions : ℕ) (g : Gatherings L) (status : ℕ) (w : Writing)
+    → wire ≡ form → ServesLinks (promised_of form) told settings sessions g status w → ServesLinks (promised_of wire) told settings sessions g status w
+serves-form wire form told settings sessions g status w is serves =
+    subst (λ (b : Bool). ServesLinks (promised_of b) told settings sessions g status w) (sym is) serves

@@ -1,5 +1,5 @@
 -- What the commands promise.
-use Rattle.std.specs.Prelude.{◌≡◌, ℕ, List, [], ◌∷◌, Option, refl}
+use Rattle.std.specs.Prelude.{◌≡◌, ℕ, Bool, List, [], ◌∷◌, Option, refl}
 use denote.Bor.{Bor}
 use Rattle.dio_core.specs.declared.sink.Sink.{Ghosts as SinkTells}
 use Rattle.dio_core.specs.declared.source.Source.{Ghosts as SourceTells}
@@ -8,12 +8,14 @@ use Rattle.rdt_types.specs.declared.settings.Settings.{Settings}
 use Rattle.cli_words.specs.Forms.{Word}
 use Rattle.script_runner.specs.Script.{Reading, Writing, KeepsPromises}
 use Rattle.diamond_cli.specs.declared.top.TheConstants.{BAD_WORDS}
-use Rattle.diamond_cli.specs.Words.{AsksRunWith, AsksServeWith, AsksServeFileWith, AsksAuditWith}
+use Rattle.diamond_cli.specs.Words.{AsksRunWith, AsksServeWith, AsksServeFileWith, AsksAuditWith, AsksRemoteWith}
 use Rattle.diamond_server.specs.Accounts.{Gatherings}
 use Rattle.diamond_server.specs.Promises.{sides}
-use Rattle.diamond_cli.specs.Serving.{ServesLinks}
+use Rattle.diamond_cli.specs.Serving.{promised_of, ServesLinks}
 use Rattle.diamond_cli.specs.Filed.{Storing, ServesFile}
 use Rattle.diamond_cli.specs.Audited.{Audits}
+use Rattle.diamond_cli.specs.Reaching.{Reaches}
+use Rattle.dio_core.specs.Links.{Both}
 
 BAD_WORDS-is : BAD_WORDS ≡ 1
 BAD_WORDS-is = refl
@@ -28,15 +30,16 @@ pub record RunsScript (words : List (Bor Word)) (status : ℕ) (r : Reading) (w 
   pub asked : AsksRunWith words settings
   pub promises : KeepsPromises settings status r w
 
--- `serve` keeps its promises, with the settings and for as many sessions as the words ask for. Each link tells what it is as a
--- source and as a sink.
+-- `serve` keeps its promises, with the settings, for as many sessions and over such links as the words ask for. Each link tells what it
+-- is as a source and as a sink.
 pub record Serves {L : Type 0} (words : List (Bor Word)) (source : SourceTells L) (sink : SinkTells L) (g : Gatherings L) (status : ℕ) (w : Writing)
     : Type 0 where
   pub settings : Settings
   pub address : Word
   pub sessions : ℕ
-  pub asked : AsksServeWith words settings address sessions
-  pub promises : ServesLinks (sides source sink) settings sessions g status w
+  pub wire : Bool
+  pub asked : AsksServeWith words settings address sessions wire
+  pub promises : ServesLinks (promised_of wire) (sides source sink) settings sessions g status w
 
 -- The same over the file of a disk, at the path that the words say.
 pub record Files {L : Type 0} (words : List (Bor Word)) (source : SourceTells L) (sink : SinkTells L) (g : Gatherings L) (d : Storing) (status : ℕ)
@@ -45,8 +48,9 @@ pub record Files {L : Type 0} (words : List (Bor Word)) (source : SourceTells L)
   pub address : Word
   pub sessions : ℕ
   pub path : Word
-  pub asked : AsksServeFileWith words settings address sessions path
-  pub promises : ServesFile (sides source sink) settings sessions g d status w
+  pub wire : Bool
+  pub asked : AsksServeFileWith words settings address sessions path wire
+  pub promises : ServesFile (promised_of wire) (sides source sink) settings sessions g d status w
 
 -- `audit` keeps its promises of the file of a disk, at the path that the words say, and of the number of commits that they ask for.
 pub record AuditsFile (words : List (Bor Word)) (d : Storing) (status : ℕ) (w : Writing) : Type 0 where
@@ -54,3 +58,10 @@ pub record AuditsFile (words : List (Bor Word)) (d : Storing) (status : ℕ) (w 
   pub at : Option ℕ
   pub asked : AsksAuditWith words path at
   pub promises : Audits at d status w
+
+-- `remote` keeps its promises. The link tells what it is as a source and as a sink.
+pub record Remotes {L : Type 0} (words : List (Bor Word)) (source : SourceTells L) (sink : SinkTells L) (g : Gatherings L) (status : ℕ) (x y : Both)
+    : Type 0 where
+  pub address : Word
+  pub asked : AsksRemoteWith words address
+  pub promises : Reaches (sides source sink) g status x y

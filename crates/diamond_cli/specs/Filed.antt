@@ -14,6 +14,7 @@ use Rattle.journal_file.specs.Keepers.{KeepsThese, doubted_by, ReadsAs, LeavesAs
 use Rattle.script_runner.specs.Script.{Writing}
 use Rattle.script_runner.specs.declared.status.TheConstants.{WHOLE, WRITE_FAULT, NO_MEMORY}
 use Rattle.diamond_server.specs.Accounts.{Gatherings}
+use Rattle.diamond_server.specs.Ways.{Promising}
 use Rattle.diamond_cli.specs.declared.file.TheConstants.{DISK_FAULT, NOT_JOURNAL}
 use Rattle.diamond_cli.specs.declared.line.TheConstants.{LISTENER_FAULT}
 use Rattle.diamond_cli.specs.Serving.{IsAmong, IsEnded}
@@ -89,20 +90,20 @@ IsRefused g d w error.NoMemory = IsUnwritten w
 -- ---- the whole
 
 -- All sessions ended, over a store that began with the commits that the file was kept as; and the file holds the store's journal then.
-pub record IsFiled {L : Type 0} (told : L → Both) (settings : Settings) (sessions : ℕ) (g : Gatherings L) (d : Storing) (status : ℕ) (w : Writing)
-    : Type 0 where
+pub record IsFiled {L : Type 0} (Promised : Promising) (told : L → Both) (settings : Settings) (sessions : ℕ) (g : Gatherings L) (d : Storing)
+    (status : ℕ) (w : Writing) : Type 0 where
   pub kept : Journal
   pub recovered : IfSome d.state (λ s. IsKeptAs kept s.file)
-  pub ended : IsEnded told settings sessions g kept d.faults d.faults_then status w
+  pub ended : IsEnded Promised told settings sessions g kept d.faults d.faults_then status w
   pub holds : HoldsJournal ended.journal d.faults d.faults_then d.state_then
 
 -- WHAT `serve` PROMISES OF A STORE IN A FILE, from the listener, the disk and the sink before it to them after it.
-pub record ServesFile {L : Type 0} (told : L → Both) (settings : Settings) (sessions : ℕ) (g : Gatherings L) (d : Storing) (status : ℕ) (w : Writing)
-    : Type 0 where
+pub record ServesFile {L : Type 0} (Promised : Promising) (told : L → Both) (settings : Settings) (sessions : ℕ) (g : Gatherings L) (d : Storing)
+    (status : ℕ) (w : Writing) : Type 0 where
   -- there are six statuses
   pub statuses : IsAmong (WHOLE ∷ WRITE_FAULT ∷ NO_MEMORY ∷ DISK_FAULT ∷ NOT_JOURNAL ∷ LISTENER_FAULT ∷ []) status
   -- at 0, 4 and 8 the file was recovered, all sessions ended, and the line was tried
-  pub ended : IsAmong (WHOLE ∷ WRITE_FAULT ∷ LISTENER_FAULT ∷ []) status → IsFiled told settings sessions g d status w
+  pub ended : IsAmong (WHOLE ∷ WRITE_FAULT ∷ LISTENER_FAULT ∷ []) status → IsFiled Promised told settings sessions g d status w
   -- at 5, 6 and 7 nothing is written
   pub unwritten : IsAmong (NO_MEMORY ∷ DISK_FAULT ∷ NOT_JOURNAL ∷ []) status → IsUnwritten w
   -- at 6 and 7 no link is accepted

@@ -16,8 +16,10 @@ use Rattle.diamond_store.specs.Passes.{Passed, known_of}
 use Rattle.session_core.specs.Explained.{setting_of}
 use Rattle.script_runner.specs.Script.{Writing}
 use Rattle.script_runner.specs.declared.status.TheConstants.{WHOLE, WRITE_FAULT, NO_MEMORY}
-use Rattle.diamond_server.specs.Accounts.{Gatherings, ServedAll}
+use Rattle.diamond_server.specs.Accounts.{Gatherings, AllServed, LinesPromised}
+use Rattle.diamond_server.specs.Ways.{Promising}
 use Rattle.diamond_server.specs.declared.serving_all.Tally.{Tally}
+use Rattle.wire_server.specs.Links.{RequestsPromised}
 use Rattle.diamond_cli.specs.declared.line.TheConstants.{LISTENER_FAULT}
 
 statuses-are : WHOLE ∷ WRITE_FAULT ∷ NO_MEMORY ∷ LISTENER_FAULT ∷ [] ≡ 0 ∷ 4 ∷ 5 ∷ 8 ∷ []
@@ -29,17 +31,22 @@ IsAmong statuses status = IsTrue (list_any (λ s. s == status) statuses)
 
 -- ---- the links
 
+-- what is promised of each link: of one that brings requests of the wire, or of one that brings lines
+abbrev pub promised_of : Bool → Promising
+promised_of true = RequestsPromised
+promised_of false = LinesPromised
+
 -- WHAT CAME OF THE LINKS, of a store that began with the commits `kept`: its journal at its end begins with them and is legal, with
--- nothing but them taken on trust; and one prefix of it explains the sessions of all links, under these settings, by which none of the
--- commits that were kept is a hold. The keeper's count of faults was `before` when the store was made, and is `after` at its end.
-pub record HasServed {L : Type 0} (told : L → Both) (settings : Settings) (sessions : ℕ) (g : Gatherings L) (kept : Journal) (before after : ℕ)
+-- nothing but them taken on trust; and what is promised of all links is so by one prefix of it, under these settings, by which none of
+-- the commits that were kept is a hold. The keeper's count of faults was `before` when the store was made, and is `after` at its end.
+pub record HasServed {L : Type 0} (Promised : Promising) (told : L → Both) (settings : Settings) (sessions : ℕ) (g : Gatherings L) (kept : Journal) (before after : ℕ)
     (tally : Tally) (journal : Journal) : Type 0 where
   pub pass : Passed  -- what was known of the store when all sessions had ended
   pub low : ℕ  -- the links' clients have numbers from `low` to below `high`
   pub high : ℕ
   pub set : setting_of (known_of pass)
       ≡ record { trusted = length kept; shards = settings.shards; window = settings.window; limit = settings.limit }
-  pub served : ServedAll told pass low high sessions g tally
+  pub served : AllServed Promised told pass low high sessions g tally
   pub knows : IsPrefix kept pass.journal
   pub begins : IsPrefix pass.journal journal
   pub legal : IsLegal (length kept) journal
@@ -78,19 +85,20 @@ pub record IsSaid (tally : Tally) (journal : Journal) (status : ℕ) (w : Writin
 -- ---- the whole
 
 -- all sessions ended, and the line was tried
-pub record IsEnded {L : Type 0} (told : L → Both) (settings : Settings) (sessions : ℕ) (g : Gatherings L) (kept : Journal) (before after : ℕ)
+pub record IsEnded {L : Type 0} (Promised : Promising) (told : L → Both) (settings : Settings) (sessions : ℕ) (g : Gatherings L) (kept : Journal) (before after : ℕ)
     (status : ℕ) (w : Writing) : Type 0 where
   pub tally : Tally
   pub journal : Journal
-  pub served : HasServed told settings sessions g kept before after tally journal
+  pub served : HasServed Promised told settings sessions g kept before after tally journal
   pub said : IsSaid tally journal status w
 
 -- WHAT `serve` PROMISES OF A STORE IN MEMORY, from the listener and the sink before it to both after it.
-pub record ServesLinks {L : Type 0} (told : L → Both) (settings : Settings) (sessions : ℕ) (g : Gatherings L) (status : ℕ) (w : Writing) : Type 0 where
+pub record ServesLinks {L : Type 0} (Promised : Promising) (told : L → Both) (settings : Settings) (sessions : ℕ) (g : Gatherings L) (status : ℕ)
+    (w : Writing) : Type 0 where
   -- there are four statuses
   pub statuses : IsAmong (WHOLE ∷ WRITE_FAULT ∷ NO_MEMORY ∷ LISTENER_FAULT ∷ []) status
   -- memory aside, all sessions ended, and the line was tried; the store began with no commit, and denied none
-  pub ended : status ≢ NO_MEMORY → IsEnded told settings sessions g [] 0 0 status w
+  pub ended : status ≢ NO_MEMORY → IsEnded Promised told settings sessions g [] 0 0 status w
   -- for want of memory nothing is written
   pub unwritten : status ≡ NO_MEMORY → (w.taken_then ≡ w.taken) × (w.faults_then ≡ w.faults)
   -- at 8 an accept failed

@@ -1,5 +1,5 @@
 -- What the words of a command ask for. Their forms are those of cli_words.
-use Rattle.std.specs.Prelude.{ℕ, List, [], ◌∷◌, Option, Some, None, codes, refl}
+use Rattle.std.specs.Prelude.{ℕ, Bool, List, [], ◌∷◌, Option, Some, None, codes, refl}
 use denote.Bor.{Bor}
 use Rattle.rdt_types.specs.declared.settings.Settings.{Settings}
 use Rattle.cli_words.specs.declared.name.CommandName.TheVariants as command
@@ -14,22 +14,24 @@ AsksRunWith words settings = Spells (texts words) (plan.Run settings)
 abbrev pub AsksRun : List (Bor Word) → Type 0
 AsksRun words = (settings : Settings) × AsksRunWith words settings
 
--- they ask to serve over a store with these settings, in memory, at an address, at most so many sessions
-abbrev pub AsksServeWith : List (Bor Word) → Settings → Word → ℕ → Type 0
-AsksServeWith words settings address sessions = Spells (texts words) (plan.Serve settings address sessions None)
+-- they ask to serve over a store with these settings, in memory, at an address, at most so many sessions, over links that bring
+-- requests of the wire or lines
+abbrev pub AsksServeWith : List (Bor Word) → Settings → Word → ℕ → Bool → Type 0
+AsksServeWith words settings address sessions wire = Spells (texts words) (plan.Serve settings address sessions None wire)
 
 -- they ask to serve over a store in memory
 abbrev pub AsksServe : List (Bor Word) → Type 0
-AsksServe words = (settings : Settings) × (address : Word) × (sessions : ℕ) × AsksServeWith words settings address sessions
+AsksServe words = (settings : Settings) × (address : Word) × (sessions : ℕ) × (wire : Bool) × AsksServeWith words settings address sessions wire
 
 -- they ask the same of a store whose commits are kept in the file at a path
-abbrev pub AsksServeFileWith : List (Bor Word) → Settings → Word → ℕ → Word → Type 0
-AsksServeFileWith words settings address sessions path = Spells (texts words) (plan.Serve settings address sessions (Some path))
+abbrev pub AsksServeFileWith : List (Bor Word) → Settings → Word → ℕ → Word → Bool → Type 0
+AsksServeFileWith words settings address sessions path wire = Spells (texts words) (plan.Serve settings address sessions (Some path) wire)
 
 -- they ask to serve over a store whose commits are kept in a file
 abbrev pub AsksServeFile : List (Bor Word) → Type 0
 AsksServeFile words =
-    (settings : Settings) × (address : Word) × (sessions : ℕ) × (path : Word) × AsksServeFileWith words settings address sessions path
+    (settings : Settings) × (address : Word) × (sessions : ℕ) × (path : Word) × (wire : Bool)
+    × AsksServeFileWith words settings address sessions path wire
 
 -- they ask to audit the journal in the file at a path, and for the state after so many commits, if after any
 abbrev pub AsksAuditWith : List (Bor Word) → Word → Option ℕ → Type 0
@@ -39,9 +41,18 @@ AsksAuditWith words path at = Spells (texts words) (plan.Audit path at)
 abbrev pub AsksAudit : List (Bor Word) → Type 0
 AsksAudit words = (path : Word) × (at : Option ℕ) × AsksAuditWith words path at
 
+-- they ask to run a session here, over a store that is served at an address
+abbrev pub AsksRemoteWith : List (Bor Word) → Word → Type 0
+AsksRemoteWith words address = Spells (texts words) (plan.Remote address)
+
+-- they ask for a session over a store elsewhere
+abbrev pub AsksRemote : List (Bor Word) → Type 0
+AsksRemote words = (address : Word) × AsksRemoteWith words address
+
 -- they ask for nothing
 abbrev pub AsksNothing : List (Bor Word) → Type 0
-AsksNothing words = (AsksRun words → ⊥) × (AsksServe words → ⊥) × (AsksServeFile words → ⊥) × (AsksAudit words → ⊥)
+AsksNothing words =
+    (AsksRun words → ⊥) × (AsksServe words → ⊥) × (AsksServeFile words → ⊥) × (AsksAudit words → ⊥) × (AsksRemote words → ⊥)
 
 -- `run` alone asks for a run, over a store with the standard settings
 run-spells : (settings : Settings) → HasSettings nothing_given settings → Spells (codes "run" ∷ []) (plan.Run settings)

@@ -9,21 +9,23 @@ ghost use Rattle.diamond_store.specs.Following.{Follows};
 ghost use Rattle.diamond_store.specs.Opening.{AreClients};
 ghost use Rattle.diamond_server.specs.Promises.{sides};
 ghost use Rattle.diamond_server.specs.Accounts.{gatherings};
-ghost use Rattle.diamond_cli.specs.Serving.{HasServed};
+ghost use Rattle.diamond_cli.specs.Serving.{promised_of, HasServed};
 ghost use Rattle.diamond_cli.specs.Filed.{storing, refusal, HoldsJournal, IsFiled, IsRefused, ServesFile};
 
 use crate::line::say;
 use crate::sessions::{Served, serve_kept};
 use commit_file::RecoverError;
-use diamond_server::Tally;
+use diamond_server::{Serves, SessionLines, Tally};
 use dio_core::{Disk, Listener, Sink};
 use journal_file::{CommitKeeper, Recovered, recover};
 use rdt_types::Settings;
 use script_runner::NO_MEMORY;
 use std::alloc::{AllocError, Global};
+use std::marker::PhantomData;
 use std::sync::Wait;
 use std::thread::Threads;
 use txn_lang::CommitList;
+use wire_server::Requests;
 
 /// The disk failed while its file was recovered.
 pub const DISK_FAULT: u8 = 6;
@@ -39,7 +41,7 @@ struct Filed {
 }
 
 /// Serves over a file that was recovered, and gives its disk back.
-fn serve_recovered<D: Disk + Send, Li: Listener, R: Threads + Wait + Sync>(
+fn serve_recovered<D: Disk + Send, Li: Listener, V: Serves + Send, R: Threads + Wait + Sync>(
     rt: &R,
     alloc: Global,
     settings: &Settings,
@@ -47,12 +49,13 @@ fn serve_recovered<D: Disk + Send, Li: Listener, R: Threads + Wait + Sync>(
     recovered: Recovered,
     disk: &mut D,
     listener: &mut Li,
+    way: PhantomData<V>,
 ) -> Result<Filed, AllocError>
     requires lawful { IsLawful Follows (length recovered.commits) recovered.commits }
     requires clients { AreClients recovered.commits }
     requires holds { IfSome (D.state disk.old) (Holds recovered.commits recovered.end) }
     requires room { recovered.end + 1 < 2 ^ 64 }
-    ensures served { IfOk result (λ filed. HasServed (sides Li.Link.Source Li.Link.Sink) settings.now sessions
+    ensures served { IfOk result (λ filed. HasServed V.promised (sides Li.Link.Source Li.Link.Sink) settings.now sessions
         (gatherings Li.Listener listener.old listener.new) recovered.commits (D.disk_faults disk.old) (D.disk_faults disk.new)
         filed.tally filed.commits) }
     ensures holds { IfOk result (λ filed. HoldsJournal filed.commits (D.disk_faults disk.old) (D.disk_faults disk.new)
@@ -61,7 +64,9 @@ fn serve_recovered<D: Disk + Send, Li: Listener, R: Threads + Wait + Sync>(
     let _count = disk.disk_faults();
     let Recovered { commits, end } = recovered;
     let keeper = CommitKeeper::new(disk, end);
-    let served = serve_kept(rt, alloc, settings, keeper, commits, listener, sessions)?;
+    let served = serve_kept(
+        rt, alloc, settings, keeper, commits, listener, sessions, way,
+    )?;
     let Served {
         tally,
         mut keeper,
@@ -74,7 +79,7 @@ fn serve_recovered<D: Disk + Send, Li: Listener, R: Threads + Wait + Sync>(
 }
 
 /// Recovers the file, serves, and answers the status. Where an error comes, nothing was written.
-fn serve_links<W: Sink, D: Disk + Send, Li: Listener, R: Threads + Wait + Sync>(
+fn serve_links<W: Sink, D: Disk + Send, Li: Listener, V: Serves + Send, R: Threads + Wait + Sync>(
     rt: &R,
     alloc: Global,
     settings: &Settings,
@@ -82,15 +87,18 @@ fn serve_links<W: Sink, D: Disk + Send, Li: Listener, R: Threads + Wait + Sync>(
     sink: &mut W,
     disk: &mut D,
     listener: &mut Li,
+    way: PhantomData<V>,
 ) -> Result<u8, RecoverError>
     requires pending { NothingPending (D.state disk.old) }
-    ensures filed { IfOk result (λ status. IsFiled (sides Li.Link.Source Li.Link.Sink) settings.now sessions
+    ensures filed { IfOk result (λ status. IsFiled V.promised (sides Li.Link.Source Li.Link.Sink) settings.now sessions
         (gatherings Li.Listener listener.old listener.new) (storing D.Disk disk.old disk.new) status (writing W.Sink sink.old sink.new)) }
     ensures refused { IfErr result (IsRefused (gatherings Li.Listener listener.old listener.new) (storing D.Disk disk.old disk.new)
         (writing W.Sink sink.old sink.new)) }
 {
     let recovered = recover(alloc, disk)?;
-    let filed = serve_recovered(rt, alloc, settings, sessions, recovered, disk, listener)?;
+    let filed = serve_recovered(
+        rt, alloc, settings, sessions, recovered, disk, listener, way,
+    )?;
     Ok(say(alloc, filed.tally, &filed.commits, sink)?)
 }
 
@@ -105,8 +113,30 @@ pub(crate) fn status_of(error: RecoverError) -> u8
     }
 }
 
-/// Recovers the file of a disk, and serves the sessions of at most so many links over one store, each in a thread of its own. The
-/// store begins with the file's commits, and keeps all others there. What came of them is written to the sink. It answers a status.
+/// Serves links in this way over the file of a disk, and answers the status.
+fn serve_way<W: Sink, D: Disk + Send, Li: Listener, V: Serves + Send, R: Threads + Wait + Sync>(
+    rt: &R,
+    alloc: Global,
+    settings: &Settings,
+    sessions: u32,
+    sink: &mut W,
+    disk: &mut D,
+    listener: &mut Li,
+    way: PhantomData<V>,
+) -> u8
+    requires pending { NothingPending (D.state disk.old) }
+    ensures { ServesFile V.promised (sides Li.Link.Source Li.Link.Sink) settings.now sessions
+        (gatherings Li.Listener listener.old listener.new) (storing D.Disk disk.old disk.new) result (writing W.Sink sink.old sink.new) }
+{
+    match serve_links(rt, alloc, settings, sessions, sink, disk, listener, way) {
+        Ok(status) => status,
+        Err(error) => status_of(error),
+    }
+}
+
+/// Recovers the file of a disk, and serves at most so many links over one store, each in a thread of its own. Each brings the lines of a
+/// session, or requests of the wire. The store begins with the file's commits, and keeps all others there. What came of the links is
+/// written to the sink. It answers a status.
 ///
 /// 0: all sessions have ended, and the line was written and passed on. 4: a write or the flush failed. 5: there was no memory.
 /// 6: the disk failed while the file was recovered. 7: the file is none of a journal. 8: an accept failed; the running sessions
@@ -116,16 +146,22 @@ pub(crate) fn serve_file<W: Sink, D: Disk + Send, Li: Listener, R: Threads + Wai
     alloc: Global,
     settings: &Settings,
     sessions: u32,
+    wire: bool,
     sink: &mut W,
     disk: &mut D,
     listener: &mut Li,
 ) -> u8
     requires pending { NothingPending (D.state disk.old) }
-    ensures { ServesFile (sides Li.Link.Source Li.Link.Sink) settings.now sessions (gatherings Li.Listener listener.old listener.new)
-        (storing D.Disk disk.old disk.new) result (writing W.Sink sink.old sink.new) }
+    ensures { ServesFile (promised_of wire) (sides Li.Link.Source Li.Link.Sink) settings.now sessions
+        (gatherings Li.Listener listener.old listener.new) (storing D.Disk disk.old disk.new) result (writing W.Sink sink.old sink.new) }
 {
-    match serve_links(rt, alloc, settings, sessions, sink, disk, listener) {
-        Ok(status) => status,
-        Err(error) => status_of(error),
+    let lines: PhantomData<SessionLines> = PhantomData;
+    let requests: PhantomData<Requests> = PhantomData;
+    if wire {
+        serve_way(
+            rt, alloc, settings, sessions, sink, disk, listener, requests,
+        )
+    } else {
+        serve_way(rt, alloc, settings, sessions, sink, disk, listener, lines)
     }
 }

@@ -9,6 +9,7 @@
 mod audited;
 mod file;
 mod line;
+mod remote;
 mod serve;
 mod sessions;
 mod top;
@@ -16,5 +17,7 @@ mod top;
 pub use audited::BROKEN;
 pub use file::{DISK_FAULT, NOT_JOURNAL};
 pub use line::LISTENER_FAULT;
+pub use remote::NO_LINK;
+pub use remote_command::{BROKEN_LINK, LINK_FAULT};
 pub use script_runner::{NO_MEMORY, WRITE_FAULT};
 pub use top::{BAD_WORDS, diamond};

@@ -11,14 +11,14 @@ ghost use Rattle.diamond_server.specs.Promises.{sides};
 ghost use Rattle.diamond_server.specs.Accounts.{gatherings};
 ghost use Rattle.diamond_cli.specs.Serving.{HasServed};
 
-use diamond_server::{Tally, serve_all};
+use diamond_server::{Serves, Tally, serve_links};
 use diamond_store::{Book, Closed, Open, Store, open};
 use dio_core::Listener;
 use history_lock::{Naming, Opened};
 use journal_core::Keep;
 use rdt_types::Settings;
 use std::alloc::{AllocError, Global};
-use std::marker::Brand;
+use std::marker::{Brand, PhantomData};
 use std::sync::Wait;
 use std::thread::Threads;
 use txn_lang::CommitList;
@@ -32,13 +32,20 @@ pub(crate) struct Served<K: Keep> {
 }
 
 /// Serves over a store of a journal that was just opened, and ends the store.
-fn serve_over<Li: Listener, K: Keep + Send, N: Naming + Send + Sync, R: Threads + Wait + Sync>(
+fn serve_over<
+    Li: Listener,
+    K: Keep + Send,
+    N: Naming + Send + Sync,
+    V: Serves + Send,
+    R: Threads + Wait + Sync,
+>(
     rt: &R,
     alloc: Global,
     opened: Opened<Book<K>>,
     settings: &Settings,
     listener: &mut Li,
     sessions: u32,
+    way: PhantomData<V>,
 ) -> Result<Served<K>, AllocError>
     requires lock { opened.lock ≡ N.lock }
     requires settings { HasSettings opened.lock.origin settings.now }
@@ -47,14 +54,14 @@ fn serve_over<Li: Listener, K: Keep + Send, N: Naming + Send + Sync, R: Threads 
     requires base { opened.lock.base ≡ length opened.front.seen }
     requires lawful { IsLawful Follows (length opened.front.seen) opened.front.seen }
     requires clients { NamesBelow client_of opened.lock.first opened.front.seen }
-    ensures served { IfOk result (λ served. HasServed (sides Li.Link.Source Li.Link.Sink) settings.now sessions
+    ensures served { IfOk result (λ served. HasServed V.promised (sides Li.Link.Source Li.Link.Sink) settings.now sessions
         (gatherings Li.Listener listener.old listener.new) opened.front.seen (faults_in opened.lock.origin)
         (K.keep_faults served.keeper) served.tally served.commits) }
     ensures kept { IfOk result (λ served. IfSome (K.kept served.keeper) (λ list. list ≡ served.commits)) }
     ensures home { IfOk result (λ served. K.home served.keeper ≡ home_in opened.lock.origin) }
 {
     let (store, mut pass) = Store::<K, Open, N>::new(alloc, settings, opened, Open)?;
-    let tally = serve_all(rt, alloc, listener, &store, &mut pass, sessions)?;
+    let tally = serve_links(rt, alloc, listener, &store, &mut pass, sessions, way)?;
     let Closed { keeper, commits } = store.close(rt, pass);
     Ok(Served {
         tally,
@@ -63,9 +70,9 @@ fn serve_over<Li: Listener, K: Keep + Send, N: Naming + Send + Sync, R: Threads 
     })
 }
 
-/// Serves the sessions of at most so many links over one store, each in a thread of its own, and ends the store. It begins with the
+/// Serves at most so many links in this way over one store, each in a thread of its own, and ends the store. It begins with the
 /// commits that its keeper has kept.
-pub(crate) fn serve_kept<Li: Listener, K: Keep + Send, R: Threads + Wait + Sync>(
+pub(crate) fn serve_kept<Li: Listener, K: Keep + Send, V: Serves + Send, R: Threads + Wait + Sync>(
     rt: &R,
     alloc: Global,
     settings: &Settings,
@@ -73,16 +80,17 @@ pub(crate) fn serve_kept<Li: Listener, K: Keep + Send, R: Threads + Wait + Sync>
     kept: CommitList,
     listener: &mut Li,
     sessions: u32,
+    way: PhantomData<V>,
 ) -> Result<Served<K>, AllocError>
     requires lawful { IsLawful Follows (length kept) kept }
     requires clients { AreClients kept }
     requires told { IfSome (K.kept keeper) (λ list. list ≡ kept) }
-    ensures served { IfOk result (λ served. HasServed (sides Li.Link.Source Li.Link.Sink) settings.now sessions
+    ensures served { IfOk result (λ served. HasServed V.promised (sides Li.Link.Source Li.Link.Sink) settings.now sessions
         (gatherings Li.Listener listener.old listener.new) kept (K.keep_faults keeper) (K.keep_faults served.keeper)
         served.tally served.commits) }
     ensures kept { IfOk result (λ served. IfSome (K.kept served.keeper) (λ list. list ≡ served.commits)) }
     ensures home { IfOk result (λ served. K.home served.keeper ≡ K.home keeper) }
 {
     let opened = open(alloc, settings, keeper, kept)?;
-    serve_over::<_, _, Brand, _>(rt, alloc, opened, settings, listener, sessions)
+    serve_over::<_, _, Brand, _, _>(rt, alloc, opened, settings, listener, sessions, way)
 }

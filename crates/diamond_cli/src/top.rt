@@ -5,12 +5,14 @@ ghost use Rattle.dio_core.specs.Disks.{NothingPending};
 ghost use Rattle.script_runner.specs.Script.{reading, writing};
 ghost use Rattle.script_runner.specs.declared.status.TheConstants.{NO_MEMORY};
 ghost use Rattle.diamond_server.specs.Accounts.{gatherings};
-ghost use Rattle.diamond_cli.specs.Words.{AsksRun, AsksServe, AsksServeFile, AsksAudit, AsksNothing};
+ghost use Rattle.remote_command.specs.Running.{ends};
+ghost use Rattle.diamond_cli.specs.Words.{AsksRun, AsksServe, AsksServeFile, AsksAudit, AsksRemote, AsksNothing};
 ghost use Rattle.diamond_cli.specs.Filed.{storing};
-ghost use Rattle.diamond_cli.specs.Commands.{RunsScript, Serves, Files, AuditsFile};
+ghost use Rattle.diamond_cli.specs.Commands.{RunsScript, Serves, Files, AuditsFile, Remotes};
 
 use crate::audited::audit_file;
 use crate::file::serve_file;
+use crate::remote::remote;
 use crate::serve::serve;
 use cli_words::{Plan, WordsError, read_words};
 use dio_core::{Disk, Listener, Sink, Source};
@@ -30,8 +32,8 @@ pub const BAD_WORDS: u8 = 1;
 /// 3 where a read failed, 4 where a write or the flush at the end failed, 5 for want of memory, and 9 where there is
 /// a line behind the last one that may be read.
 ///
-/// `serve` serves the sessions of the listener's links over one store, each in a thread of its own, and writes what came of
-/// them to the sink. The address is the listener's affair. It doesn't use the source. Without a file the store is in memory,
+/// `serve` serves the listener's links over one store, each in a thread of its own, and writes what came of them to the sink. A link
+/// brings the lines of a session, or with the form `wire` the requests of a client that runs its session itself. The address is the listener's affair. It doesn't use the source. Without a file the store is in memory,
 /// and the disk isn't used. With one the store begins with the commits that the disk's file is kept as, and keeps all others
 /// there; the path is the disk's affair. The statuses are 0 where all sessions ended and the line was written, 4 where that
 /// failed, 5 for want of memory, 6 where the disk failed while its file was recovered, 7 where that is none of a journal,
@@ -41,6 +43,11 @@ pub const BAD_WORDS: u8 = 1;
 /// leave, and writes to the sink what came of it. It writes nothing to the disk, and uses neither source nor listener; the path is
 /// the disk's affair. The statuses are 0 where the journal is legal, 4 where a write or the flush failed, 5 for want of memory, 6
 /// where the disk failed, 7 where its file is none of a journal, and 11 where a commit isn't what its body does.
+///
+/// `remote` takes the listener's link, reads the lines of a session from the source, has the calls that they make answered over the
+/// link, and writes the replies to the sink. The address is the listener's affair. It doesn't use the disk. The statuses are 0 where the
+/// input was read to its end or to a `quit`, 3, 4, 5 and 9 as of `run`, 6 where the link failed, 8 where the accept failed, 10 where
+/// what the link gave is no answer, and 12 where no link is left.
 pub fn diamond<R: Threads + Wait + Sync, S: Source, W: Sink, D: Disk + Send, N: Listener>(
     rt: &R,
     alloc: Global,
@@ -78,6 +85,11 @@ pub fn diamond<R: Threads + Wait + Sync, S: Source, W: Sink, D: Disk + Send, N: 
         (writing W.Sink sink.old sink.new) }
     ensures unused_by_audit { AsksAudit words.now → (source.new ≡ source.old) × (listener.new ≡ listener.old) }
     ensures spared_by_audit { AsksAudit words.now → (D.state disk.new ≡ D.state disk.old) × (D.past disk.new ≡ D.past disk.old) }
+
+    // `remote` keeps what it promises of its session, and doesn't use the disk.
+    ensures remote { AsksRemote words.now → Remotes words.now N.Link.Source N.Link.Sink (gatherings N.Listener listener.old listener.new)
+        result (ends S.Source W.Sink source.old sink.old) (ends S.Source W.Sink source.new sink.new) }
+    ensures unused_by_remote { AsksRemote words.now → disk.new ≡ disk.old }
 {
     match read_words(alloc, words) {
         Ok(Plan::Run(settings)) => run_script(alloc, &settings, source, sink),
@@ -86,13 +98,15 @@ pub fn diamond<R: Threads + Wait + Sync, S: Source, W: Sink, D: Disk + Send, N: 
                 settings,
                 sessions,
                 file,
+                wire,
                 ..
             },
         ) => match file {
-            None => serve(rt, alloc, &settings, sessions, sink, listener),
-            Some(_) => serve_file(rt, alloc, &settings, sessions, sink, disk, listener),
+            None => serve(rt, alloc, &settings, sessions, wire, sink, listener),
+            Some(_) => serve_file(rt, alloc, &settings, sessions, wire, sink, disk, listener),
         },
         Ok(Plan::Audit { at, .. }) => audit_file(alloc, at, sink, disk),
+        Ok(Plan::Remote { .. }) => remote(alloc, source, sink, listener),
         Err(WordsError::BadWords(_)) => BAD_WORDS,
         Err(WordsError::NoMemory) => NO_MEMORY,
     }

@@ -20,7 +20,8 @@ use Rattle.diamond_store.specs.declared.join_error.JoinError.TheVariants as join
 use Rattle.session_core.specs.Explained.{setting_of}
 use Rattle.script_runner.specs.declared.status.TheConstants.{WHOLE}
 use Rattle.diamond_server.specs.Accounts.{Account, Seat, seat_of, given_of, status_in, joined_in, link_in, IsServed, Rises, faults_of}
-use Rattle.diamond_server.specs.Accounts.{Gatherings, gatherings, Accepting, ServedAll}
+use Rattle.diamond_server.specs.Accounts.{Gatherings, gatherings, Accepting, AllServed}
+use Rattle.diamond_server.specs.Ways.{Promising}
 use Rattle.diamond_server.specs.code.Settling.{IsNear, IsNearTalk, JoinsNext, Turns, Settling}
 
 -- ---- statuses
@@ -200,45 +201,45 @@ module _ {L : Type 0} where
   -- ---- links given back
 
   -- before the first nothing was given back
-  pub settling-start : (told : L → Both) (pass : Passed) (all rest : List (Account L)) (old : Option (List (L × ℕ))) → rest ≡ all → All (IsNear pass) all
-      → Settling told pass all rest old old 0
-  settling-start told pass all rest old is near =
+  pub settling-start : (Promised : Promising) (told : L → Both) (pass : Passed) (all rest : List (Account L)) (old : Option (List (L × ℕ))) → rest ≡ all → All (IsNear pass) all
+      → Settling Promised told pass all rest old old 0
+  settling-start Promised told pass all rest old is near =
       record { done = []; parts = is; given = sym (with_more-nil old); faulted_is = refl; served = All-nil _; near = subst (All (IsNear pass)) (sym is) near }
 
   -- the first of the rest is given back behind those before it, and counts by its status
-  pub settling-next : (told : L → Both) (pass : Passed) (all rest left : List (Account L)) (a : Account L) (old new more : Option (List (L × ℕ))) (n m : ℕ)
-      → Settling told pass all rest old new n → rest ≡ a ∷ left → more ≡ with_more new (given_of a ∷ []) → IsServed told pass a
-      → m ≡ n + (if a.status == WHOLE then 0 else 1) → Settling told pass all left old more m
-  settling-next told pass all rest left a old new more n m p first back served counted = record {
+  pub settling-next : (Promised : Promising) (told : L → Both) (pass : Passed) (all rest left : List (Account L)) (a : Account L) (old new more : Option (List (L × ℕ))) (n m : ℕ)
+      → Settling Promised told pass all rest old new n → rest ≡ a ∷ left → more ≡ with_more new (given_of a ∷ []) → IsServed Promised told pass a
+      → m ≡ n + (if a.status == WHOLE then 0 else 1) → Settling Promised told pass all left old more m
+  settling-next Promised told pass all rest left a old new more n m p first back served counted = record {
     done = p.done ++ a ∷ [];
     parts = append_assoc p.done (a ∷ []) left ∙ (ap (λ w. p.done ++ w) (sym first) ∙ p.parts);
     given = back ∙ (ap (λ o. with_more o (given_of a ∷ [])) p.given ∙ (with_more-with_more old (map given_of p.done) (given_of a ∷ [])
         ∙ ap (with_more old) (sym (map-append given_of p.done (a ∷ [])))));
     faulted_is = counted ∙ (ap (λ (k : ℕ). k + (if a.status == WHOLE then 0 else 1)) p.faulted_is ∙ (sym (faults-append (map status_in p.done) a.status)
         ∙ ap faults_of (sym (map-append status_in p.done (a ∷ [])))));
-    served = All-append (IsServed told pass) p.done (a ∷ []) p.served (All-cons (IsServed told pass) a [] served (All-nil _));
+    served = All-append (IsServed Promised told pass) p.done (a ∷ []) p.served (All-cons (IsServed Promised told pass) a [] served (All-nil _));
     near = All-rest (IsNear pass) a left rest first p.near;
   }
 
   -- the next to be settled is near, and the count has room
-  pub settling-near : (told : L → Both) (pass : Passed) (all rest left : List (Account L)) (a : Account L) (old new : Option (List (L × ℕ))) (n : ℕ)
-      → Settling told pass all rest old new n → rest ≡ a ∷ left → IsNear pass a
-  settling-near told pass all rest left a old new n p first = subst (All (IsNear pass)) first p.near 0 a (omega arith)
+  pub settling-near : (Promised : Promising) (told : L → Both) (pass : Passed) (all rest left : List (Account L)) (a : Account L) (old new : Option (List (L × ℕ))) (n : ℕ)
+      → Settling Promised told pass all rest old new n → rest ≡ a ∷ left → IsNear pass a
+  settling-near Promised told pass all rest left a old new n p first = subst (All (IsNear pass)) first p.near 0 a (omega arith)
 
   -- those that count are among those that are done, so one more is within all
-  pub settling-few : (told : L → Both) (pass : Passed) (all rest left : List (Account L)) (a : Account L) (old new : Option (List (L × ℕ))) (n : ℕ)
-      → Settling told pass all rest old new n → rest ≡ a ∷ left → n + 1 ≤ length all
-  settling-few told pass all rest left a old new n p first =
+  pub settling-few : (Promised : Promising) (told : L → Both) (pass : Passed) (all rest left : List (Account L)) (a : Account L) (old new : Option (List (L × ℕ))) (n : ℕ)
+      → Settling Promised told pass all rest old new n → rest ≡ a ∷ left → n + 1 ≤ length all
+  settling-few Promised told pass all rest left a old new n p first =
       let few = faults-few (map status_in p.done) in
       let l = length-map p.done status_in in
       let whole : length all ≡ length p.done + length rest = ap length (sym p.parts) ∙ length-append p.done rest in
       omega (arith, p.faulted_is, few, l, whole, ap length first)
 
   -- at the end none is to come
-  pub settling-end : (told : L → Both) (pass : Passed) (all rest : List (Account L)) (old new : Option (List (L × ℕ))) (n k : ℕ) → k ≡ 0 → k ≡ length rest
-      → Settling told pass all rest old new n → Settling told pass all [] old new n
-  settling-end told pass all rest old new n k none len p =
-      let nil : rest ≡ [] = nil_from_length rest (omega arith) in subst (λ w. Settling told pass all w old new n) nil p
+  pub settling-end : (Promised : Promising) (told : L → Both) (pass : Passed) (all rest : List (Account L)) (old new : Option (List (L × ℕ))) (n k : ℕ) → k ≡ 0 → k ≡ length rest
+      → Settling Promised told pass all rest old new n → Settling Promised told pass all [] old new n
+  settling-end Promised told pass all rest old new n k none len p =
+      let nil : rest ≡ [] = nil_from_length rest (omega arith) in subst (λ w. Settling Promised told pass all w old new n) nil p
 
   -- ---- all of it
 
@@ -248,19 +249,19 @@ module _ {L : Type 0} where
   few-ended pass low high most g all failed p = let few = p.few in omega (arith, few, length-map all seat_of)
 
   -- what was accepted was all given back, so there is an account of each
-  pub served-all : (told : L → Both) (pass : Passed) (low high most : ℕ) (g : Gatherings L) (mid : Option (List (L × ℕ))) (all : List (Account L)) (n k : ℕ)
-      (failed : Bool) → Accepting pass low high most g (map seat_of all) failed → mid ≡ g.given → Settling told pass all [] mid g.given_then n
-      → k ≡ length all → ServedAll told pass low high most g (record { accepted = k; faulted = n; failed = failed })
-  served-all told pass low high most g mid all n k failed p same q number =
+  pub served-all : (Promised : Promising) (told : L → Both) (pass : Passed) (low high most : ℕ) (g : Gatherings L) (mid : Option (List (L × ℕ))) (all : List (Account L)) (n k : ℕ)
+      (failed : Bool) → Accepting pass low high most g (map seat_of all) failed → mid ≡ g.given → Settling Promised told pass all [] mid g.given_then n
+      → k ≡ length all → AllServed Promised told pass low high most g (record { accepted = k; faulted = n; failed = failed })
+  served-all Promised told pass low high most g mid all n k failed p same q number =
       let whole : q.done ≡ all = sym (append-nil q.done) ∙ q.parts in record {
         accounts = all;
         accepted = p;
         number = number;
-        served = subst (All (IsServed told pass)) whole q.served;
+        served = subst (All (IsServed Promised told pass)) whole q.served;
         given_back = q.given ∙ (ap (λ o. with_more o (map given_of q.done)) same ∙ ap (λ w. with_more g.given (map given_of w)) whole);
         faulted = q.faulted_is ∙ ap (λ w. faults_of (map status_in w)) whole;
       }
 
   -- a pass that stayed the same explains the same
-  pub served-at : (told : L → Both) (u v : Passed) (a : Account L) → u ≡ v → IsServed told u a → IsServed told v a
-  served-at told u v a is p = subst (λ (w : Passed). IsServed told w a) is p
+  pub served-at : (Promised : Promising) (told : L → Both) (u v : Passed) (a : Account L) → u ≡ v → IsServed Promised told u a → IsServed Promised told v a
+  served-at Promised told u v a is p = subst (λ (w : Passed). IsServed Promised told w a) is p

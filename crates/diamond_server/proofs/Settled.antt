@@ -27,7 +27,8 @@ use Rattle.session_core.proofs.Grown.{prefix-again}
 use Rattle.session_core.proofs.Said.{named-stays}
 use Rattle.session_core.proofs.Stays.{explains_stays}
 use Rattle.session_core.proofs.Talked.{finds}
-use Rattle.diamond_server.specs.Accounts.{IsExplained, IsTold, having_met}
+use Rattle.diamond_server.specs.Accounts.{IsExplained, LinesPromised, IsTold}
+use Rattle.diamond_server.specs.Ways.{Promising, having_met, KnowsMore, StaysPromised}
 use Rattle.diamond_server.specs.Promises.{sides, IsAccounted, IsServed, Promises}
 use Rattle.diamond_server.specs.code.Settling.{IsNearTalk}
 use Rattle.diamond_server.specs.Talking.{Told, first_session, texts_of, turns_of}
@@ -126,28 +127,37 @@ longer-prefix xs ys p = by (ltb (length xs) (length ys)) refl
     by true is = rw is refl
     by false is = rw is (prefix_whole xs ys p (grind (arith, nat_tests)))
 
--- A client that has met what another knows, who knew all that it knew: what was told of its session is so of what the other knows.
-pub told-met : (x y : Both) (status : ℕ) (t : Passed × Passed) (other new : Passed) → IsTold (λ p. p) x y status (Ok t)
-    → IsNearTalk other (Ok t) → Learns t.1 new → new.journal ≡ longer t.1.journal other.journal → IsTold (having_met other) x y status (Ok t)
-told-met x y status t other new told near learns met = (told.0, promises-map _ _ (known_of t.0) (known_of t.1) status x y later told.1)
+-- What is promised of a session of lines stays so.
+pub lines-stay : StaysPromised LinesPromised
+lines-stay first last other status x y =
+    λ told more. promises-map _ _ (known_of first) (known_of last) status x y (later more) told
   where
-    whole : new.journal ≡ other.journal
-    whole = met ∙ longer-prefix t.1.journal other.journal near.0
-
-    legal : IsLegal t.1.trusted other.journal
-    legal = subst (λ (w : Journal). IsLegal t.1.trusted w) whole
-        (subst (λ (n : ℕ). IsLegal n new.journal) (ap (λ (p : Passed). p.trusted) learns.rest) learns.legal)
-
-    same : own t.1.client other.journal ≡ own t.1.client t.1.journal
-    same = ap (own t.1.client) (sym whole) ∙ learns.own_commits
-
-    later : (Reads : List Told → Text → Text → Type 0) → IsExplained (known_of t.0) (known_of t.1) (known_of t.1) x y Reads
-        → IsExplained (known_of t.0) (known_of t.1) (known_of (having_met other t.1)) x y Reads
-    later Reads h = record {
+    later : KnowsMore last other → (Reads : List Told → Text → Text → Type 0) → IsExplained (known_of first) (known_of last) (known_of last) x y Reads
+        → IsExplained (known_of first) (known_of last) (known_of (having_met other last)) x y Reads
+    later more Reads h = record {
       tolds = h.tolds;
       last = h.last;
       begins = h.begins;
       done = h.done;
-      accounted = accounted-met t.0 t.1 other.journal other.denials h.tolds h.last h.begins h.done near.0 legal same near.1 h.accounted;
+      accounted = accounted-met first last other.journal other.denials h.tolds h.last h.begins h.done more.grows more.legal more.same_own
+          more.denials h.accounted;
       heard = h.heard;
     }
+
+-- A client that has met what another knows, who knew all that it knew: what was told of its link is so of what the other knows.
+pub told-met : (Promised : Promising) → StaysPromised Promised → (x y : Both) (status : ℕ) (t : Passed × Passed) (other new : Passed)
+    → IsTold Promised (λ p. p) x y status (Ok t) → IsNearTalk other (Ok t) → Learns t.1 new → new.journal ≡ longer t.1.journal other.journal
+    → IsTold Promised (having_met other) x y status (Ok t)
+told-met Promised stays x y status t other new told near learns met = (
+  told.0,
+  stays t.0 t.1 other status x y told.1 (record {
+    grows = near.0;
+    legal = subst (λ (w : Journal). IsLegal t.1.trusted w) whole
+        (subst (λ (n : ℕ). IsLegal n new.journal) (ap (λ (p : Passed). p.trusted) learns.rest) learns.legal);
+    same_own = ap (own t.1.client) (sym whole) ∙ learns.own_commits;
+    denials = near.1;
+  }),
+)
+  where
+    whole : new.journal ≡ other.journal
+    whole = met ∙ longer-prefix t.1.journal other.journal near.0

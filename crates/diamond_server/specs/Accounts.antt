@@ -1,5 +1,5 @@
--- What is told of the links of a listener: each as it was accepted and as it is given back, and of its session that it is explained
--- by one prefix of the journal, the same for all links.
+-- What is told of the links of a listener: each as it was accepted and as it is given back, and of its session what is promised of
+-- one, by one prefix of the journal, the same for all links.
 use Rattle.std.specs.Prelude.{◌≡◌, ℕ, ◌+◌, ◌<◌, ◌≤◌, ◌==◌, List, [], ◌∷◌, length, map, All, Bool, false, Option, IfSome}
 use Rattle.std.specs.Prelude.{Result, Ok, Err, if◌then◌else◌, refl}
 use Rattle.history_lock.specs.declared.limits.TheConstants.{MOST_DRAWS}
@@ -24,6 +24,7 @@ use Rattle.diamond_server.specs.declared.serving_all.Tally.{Tally}
 use Rattle.diamond_server.specs.Talking.{Told, first_session, texts_of, turns_of}
 use Rattle.diamond_server.specs.Promises.{IsAccounted, IsHeard, Promises}
 use Rattle.diamond_server.specs.Readable.{StaysReadable}
+use Rattle.diamond_server.specs.Ways.{Promising, having_met}
 
 -- ---- one link
 
@@ -53,6 +54,8 @@ unread join_error.NoMemory = NO_MEMORY
 unread-example : unread (join_error.Clients 1000000) ≡ 13
 unread-example = refl
 
+-- ---- a session of lines
+
 -- A session over a link: its lines were done, from what its client knew as it joined (k) to what it knew at the session's end (l), by
 -- calls that keep the clause of every backend; and they are explained by the journal that it knows later (m).
 pub record IsExplained (k l m : Known) (x y : Both) (Reads : List Told → Text → Text → Type 0) : Type 0 where
@@ -63,24 +66,25 @@ pub record IsExplained (k l m : Known) (x y : Both) (Reads : List Told → Text 
   pub accounted : IsAccounted k m tolds
   pub heard : IsHeard tolds x y Reads
 
+-- What is promised of a link over which a session's lines are done.
+abbrev pub LinesPromised : Promising
+LinesPromised k l m status x y = Promises (IsExplained k l m x y) k l status x y
+
+-- ---- one link, in whole
+
 -- WHAT IS TOLD OF A LINK, from both its sides as they were to both as they are. `knows` is what a client knows later, by what it
 -- knew at its session's end. A link that isn't read is as it was.
-abbrev pub IsTold : (Passed → Passed) → Both → Both → ℕ → Result (Passed × Passed) JoinError → Type 0
-IsTold knows x y status (Ok t) =
-    IsNewcomer t.0 × Promises (IsExplained (known_of t.0) (known_of t.1) (known_of (knows t.1)) x y) (known_of t.0) (known_of t.1) status x y
-IsTold knows x y status (Err e) = (y ≡ x) × (status ≡ unread e)
+abbrev pub IsTold : Promising → (Passed → Passed) → Both → Both → ℕ → Result (Passed × Passed) JoinError → Type 0
+IsTold Promised knows x y status (Ok t) = IsNewcomer t.0 × Promised (known_of t.0) (known_of t.1) (known_of (knows t.1)) status x y
+IsTold Promised knows x y status (Err e) = (y ≡ x) × (status ≡ unread e)
 
 -- of a link in whole, its client knowing what it knew at its session's end
-abbrev pub IsEnded : {L : Type 0} → (L → Both) → Account L → Type 0
-IsEnded told a = IsTold (λ p. p) (told a.was) (told a.link) a.status a.talk
-
--- a client that has met what another knows
-abbrev pub having_met : Passed → Passed → Passed
-having_met other p = record p { journal = other.journal; denials = other.denials }
+abbrev pub IsEnded : {L : Type 0} → Promising → (L → Both) → Account L → Type 0
+IsEnded Promised told a = IsTold Promised (λ p. p) (told a.was) (told a.link) a.status a.talk
 
 -- of a link in whole, its client knowing what this pass knows
-abbrev pub IsServed : {L : Type 0} → (L → Both) → Passed → Account L → Type 0
-IsServed told other a = IsTold (having_met other) (told a.was) (told a.link) a.status a.talk
+abbrev pub IsServed : {L : Type 0} → Promising → (L → Both) → Passed → Account L → Type 0
+IsServed Promised told other a = IsTold Promised (having_met other) (told a.was) (told a.link) a.status a.talk
 
 -- ---- parts of accounts
 
@@ -161,16 +165,25 @@ pub record Accepting {L : Type 0} (pass : Passed) (low high most : ℕ) (g : Gat
   pub counted : IsCounted failed g.faults g.faults_then
   pub less : failed ≡ false → length seats < most → IfSome g.links_then (λ left. left ≡ [])
 
--- WHAT CAME OF THE LINKS OF A LISTENER: there is an account of each, in the order of accepting; all are explained by the one prefix
--- that `pass` knows; and each was given back, in that order, with its status.
-pub record ServedAll {L : Type 0} (told : L → Both) (pass : Passed) (low high most : ℕ) (g : Gatherings L) (tally : Tally) : Type 0 where
+-- WHAT CAME OF THE LINKS OF A LISTENER, served in one way: there is an account of each, in the order of accepting; of all of them what
+-- is promised is so by the one prefix that `pass` knows; and each was given back, in that order, with its status.
+pub record AllServed {L : Type 0} (Promised : Promising) (told : L → Both) (pass : Passed) (low high most : ℕ) (g : Gatherings L) (tally : Tally)
+    : Type 0 where
   pub accounts : List (Account L)
   pub accepted : Accepting pass low high most g (map seat_of accounts) tally.failed
   pub number : tally.accepted ≡ length accounts
-  pub served : All (IsServed told pass) accounts
+  pub served : All (IsServed Promised told pass) accounts
   pub given_back : g.given_then ≡ with_more g.given (map given_of accounts)
   pub faulted : tally.faulted ≡ faults_of (map status_in accounts)
 
 -- A serving that begins with one pass and ends with another, which has drawn the numbers of clients since, from the store's first on.
+abbrev pub AllServedSince : {L : Type 0} → Promising → (L → Both) → ℕ → Passed → Passed → ℕ → Gatherings L → Tally → Type 0
+AllServedSince Promised told first old new most g tally = AllServed Promised told new (first + old.draws) (first + new.draws) most g tally
+
+-- WHAT CAME OF THE LINKS, each served as a session of lines: all of them are explained by the one prefix.
+abbrev pub ServedAll : {L : Type 0} → (L → Both) → Passed → ℕ → ℕ → ℕ → Gatherings L → Tally → Type 0
+ServedAll told pass low high most g tally = AllServed LinesPromised told pass low high most g tally
+
+-- the same of a serving
 abbrev pub ServedSince : {L : Type 0} → (L → Both) → ℕ → Passed → Passed → ℕ → Gatherings L → Tally → Type 0
-ServedSince told first old new most g tally = ServedAll told new (first + old.draws) (first + new.draws) most g tally
+ServedSince told first old new most g tally = AllServedSince LinesPromised told first old new most g tally

@@ -4,38 +4,41 @@ ghost use Rattle.std.specs.Prelude.{◌≡◌, Ok, Err};
 ghost use Rattle.diamond_server.specs.Accounts.{seat, seat_of, IsNewcomer};
 
 use crate::ended::{Ended, serve};
+use crate::ways::Serves;
 use diamond_store::{Gate, JoinError, Pass, Store};
 use dio_core::{End, Sink, Source};
 use history_lock::Naming;
 use journal_core::Keep;
 use std::alloc::Global;
-use std::marker::Model;
+use std::marker::{Model, PhantomData};
 use std::snapshot::Snapshot;
 use std::sync::Wait;
 use std::thread::{Promise, PromisedHandle, Scope, Threads};
 
-/// What a thread promises: to serve the session of this pass over this link.
+/// What a thread promises: to serve the session of this pass over this link, in this way.
 #[derive(Drop)]
-struct Serving<L, K: Keep, N: Naming> {
+struct Serving<L, K: Keep, N: Naming, S> {
     link: Snapshot<L>,
     pass: Snapshot<Pass<K, N>>,
+    way: PhantomData<S>,
 }
 
-impl<L: Source + Sink, K: Keep, N: Naming> Promise<(L, Pass<K, N>, u8)> for Serving<L, K, N> {
+impl<L: Source + Sink, K: Keep, N: Naming, S: Serves> Promise<(L, Pass<K, N>, u8)>
+    for Serving<L, K, N, S> {
     ghost use Rattle.std.specs.Prelude.{Ok};
     ghost use Rattle.diamond_server.specs.Accounts.{IsTold};
     ghost use Rattle.diamond_server.specs.Promises.{sides};
 
-    ghost kept_by = { λ p r. IsTold (λ q. q) (sides L.Source L.Sink p.link.value)
+    ghost kept_by = { λ p r. IsTold S.promised (λ q. q) (sides L.Source L.Sink p.link.value)
         (sides L.Source L.Sink r.0) r.2 (Ok (p.pass.value, r.1)) };
 }
 
 /// A session in a thread.
 #[derive(Drop)]
-struct Running<L: Source + Sink, K: Keep, N: Naming> {
+struct Running<L: Source + Sink, K: Keep, N: Naming, S: Serves> {
     was: Snapshot<L>,
     had: Snapshot<Pass<K, N>>,
-    handle: PromisedHandle<(L, Pass<K, N>, u8), Serving<L, K, N>>,
+    handle: PromisedHandle<(L, Pass<K, N>, u8), Serving<L, K, N, S>>,
     ghost link: { handle.promise.link.value ≡ was.value },
     ghost pass: { handle.promise.pass.value ≡ had.value },
 }
@@ -63,13 +66,13 @@ impl<K: Keep, N: Naming> Model for Joined<K, N> {
 
 /// A session that was begun. Contracts see the link as it was accepted, and the pass of its client, or why none joined.
 #[derive(Drop)]
-pub(crate) struct Begun<L: Source + Sink, K: Keep, N: Naming> {
+pub(crate) struct Begun<L: Source + Sink, K: Keep, N: Naming, S: Serves> {
     was: Snapshot<L>,
     joined: Result<Joined<K, N>, JoinError>,
-    run: Result<Running<L, K, N>, Ended<L, K, N>>,
+    run: Result<Running<L, K, N, S>, Ended<L, K, N, S>>,
 }
 
-impl<L: Source + Sink, K: Keep, N: Naming> Model for Begun<L, K, N> {
+impl<L: Source + Sink, K: Keep, N: Naming, S: Serves> Model for Begun<L, K, N, S> {
     ghost use Rattle.std.specs.Prelude.{◌≡◌, Ok, MatchResult};
     ghost use Rattle.std.specs.Coded.{codes};
     ghost use Rattle.txn_lang.specs.contracts.commit.Commit as commit;
@@ -96,6 +99,7 @@ pub(crate) fn begin<
     K: Keep + Send + 'e,
     G: Gate + Drop + Send + Sync,
     N: Naming + Send + Sync + 'e,
+    S: Serves + Send + 'e,
     R: Threads + Wait + Sync,
 >(
     scope: &'s Scope<'s, &'e ()>,
@@ -104,17 +108,19 @@ pub(crate) fn begin<
     store: &'e Store<K, G, N>,
     link: L,
     pass: Pass<K, N>,
-) -> Begun<L, K, N>
+) -> Begun<L, K, N, S>
     requires newcomer { IsNewcomer pass }
     ensures { result ≡ seat link (Ok pass) }
 {
     let (link_was, pass_was) = (Snapshot::of(&link), Snapshot::of(&pass));
     let (was, had) = (Snapshot::of(&link), Snapshot::of(&pass));
+    let way: PhantomData<S> = PhantomData;
     let promise = Serving {
         link: Snapshot::of(&link),
         pass: Snapshot::of(&pass),
+        way,
     };
-    let run = match scope.spawn_with(promise, move || serve(rt, alloc, store, link, pass)) {
+    let run = match scope.spawn_with(promise, move || serve(rt, alloc, store, link, pass, way)) {
         Ok(handle) => Ok(Running { was, had, handle }),
         Err(refused) => Err(Ended::served(was, had, (refused.value)())),
     };
@@ -125,9 +131,9 @@ pub(crate) fn begin<
     }
 }
 
-impl<L: End + Drop, K: Keep, N: Naming> Begun<L, K, N> {
+impl<L: End + Drop, K: Keep, N: Naming, S: Serves> Begun<L, K, N, S> {
     /// The session of a link that isn't read, since no client joined for it.
-    pub(crate) fn unread(link: L, error: JoinError) -> Begun<L, K, N>
+    pub(crate) fn unread(link: L, error: JoinError) -> Begun<L, K, N, S>
         ensures { result ≡ seat link (Err error) }
     {
         Begun {
@@ -138,7 +144,7 @@ impl<L: End + Drop, K: Keep, N: Naming> Begun<L, K, N> {
     }
 
     /// The session once it has ended.
-    pub(crate) fn join<R: Threads>(self, rt: &R) -> Ended<L, K, N>
+    pub(crate) fn join<R: Threads>(self, rt: &R) -> Ended<L, K, N, S>
         ensures { seat_of result ≡ self }
     {
         let Begun { run, .. } = self;

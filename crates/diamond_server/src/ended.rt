@@ -2,19 +2,20 @@
 
 ghost use Rattle.std.specs.Prelude.{◌≡◌, ℕ, Ok, Err};
 ghost use Rattle.diamond_store.specs.Answers.{Learns};
-ghost use Rattle.diamond_server.specs.Accounts.{seat, seat_of, given_of, unread, having_met, IsNewcomer, IsTold, IsServed};
+ghost use Rattle.diamond_server.specs.Accounts.{seat, seat_of, given_of, unread, IsNewcomer, IsTold, IsServed};
+ghost use Rattle.diamond_server.specs.Ways.{having_met};
 ghost use Rattle.diamond_server.specs.Promises.{sides};
 ghost use Rattle.diamond_server.specs.code.Settling.{IsNear, IsNearTalk};
 ghost use Rattle.dio_core.specs.Links.{Both};
 
-use crate::serving::serve_session;
 use crate::status::unread_status;
+use crate::ways::Serves;
 use diamond_store::{Gate, JoinError, Pass, Served, Store};
 use dio_core::{End, Sink, Source};
 use history_lock::Naming;
 use journal_core::Keep;
 use std::alloc::Global;
-use std::marker::Model;
+use std::marker::{Model, PhantomData};
 use std::snapshot::Snapshot;
 use std::sync::Wait;
 
@@ -43,14 +44,15 @@ impl<K: Keep, N: Naming> Model for Talk<K, N> {
 /// A link that is done with, its status, and the pass of its client, or why none joined. Contracts see it as an `Account`, and its
 /// invariant is what is told of the link.
 #[derive(Drop)]
-pub(crate) struct Ended<L: Source + Sink, K: Keep, N: Naming> {
+pub(crate) struct Ended<L: Source + Sink, K: Keep, N: Naming, S: Serves> {
     was: Snapshot<L>,
     link: L,
     status: u8,
     talk: Result<Talk<K, N>, JoinError>,
+    way: PhantomData<S>,
 }
 
-impl<L: Source + Sink, K: Keep, N: Naming> Model for Ended<L, K, N> {
+impl<L: Source + Sink, K: Keep, N: Naming, S: Serves> Model for Ended<L, K, N, S> {
     ghost use Rattle.std.specs.Coded.{codes};
     ghost use Rattle.txn_lang.specs.contracts.commit.Commit as commit;
     ghost use Rattle.rdt_types.specs.contracts.address.Address as address;
@@ -64,38 +66,38 @@ impl<L: Source + Sink, K: Keep, N: Naming> Model for Ended<L, K, N> {
 
     ghost view = { λ e. record { was = e.was.value; link = e.link; status = e.status; talk = e.talk } };
 
-    ghost invariant = { λ e. IsEnded (sides L.Source L.Sink)
+    ghost invariant = { λ e. IsEnded S.promised (sides L.Source L.Sink)
         (record { was = e.was.value; link = e.link; status = e.status; talk = e.talk }) };
 }
 
-/// Serves the session of a new client over a link, and ends the link.
-pub(crate) fn serve<L: End, K: Keep, G: Gate + Drop, N: Naming, R: Wait>(
+/// Serves the link of a new client in this way, and ends the link.
+pub(crate) fn serve<L: End, K: Keep, G: Gate + Drop, N: Naming, S: Serves, R: Wait>(
     rt: &R,
     alloc: Global,
     store: &Store<K, G, N>,
     mut link: L,
     pass: Pass<K, N>,
+    _way: PhantomData<S>,
 ) -> (L, Pass<K, N>, u8)
     requires newcomer { IsNewcomer pass }
-    ensures told { IsTold (λ p. p) (sides L.Source L.Sink link) (sides L.Source L.Sink result.0) result.2 (Ok (pass, result.1)) }
+    ensures told { IsTold S.promised (λ p. p) (sides L.Source L.Sink link) (sides L.Source L.Sink result.0) result.2 (Ok (pass, result.1)) }
 {
     let _seen = pass.seen();
-    let _shards = pass.shards();
     let mut served = Served { store, pass, rt };
-    let status = serve_session(alloc, &mut served, &mut link);
+    let status = S::serve(alloc, &mut served, &mut link);
     let Served { pass, .. } = served;
     link.end();
     (link, pass, status)
 }
 
-impl<L: End, K: Keep, N: Naming> Ended<L, K, N> {
+impl<L: End, K: Keep, N: Naming, S: Serves> Ended<L, K, N, S> {
     /// A link that was served so.
     pub(crate) fn served(
         was: Snapshot<L>,
         had: Snapshot<Pass<K, N>>,
         done: (L, Pass<K, N>, u8),
-    ) -> Ended<L, K, N>
-        requires told { IsTold (λ p. p) (sides L.Source L.Sink was.value)
+    ) -> Ended<L, K, N, S>
+        requires told { IsTold S.promised (λ p. p) (sides L.Source L.Sink was.value)
             (sides L.Source L.Sink done.0) done.2 (Ok (had.value, done.1)) }
         ensures seat { seat_of result ≡ seat was.value (Ok had.value) }
     {
@@ -105,11 +107,12 @@ impl<L: End, K: Keep, N: Naming> Ended<L, K, N> {
             link,
             status,
             talk: Ok(Talk { had, pass }),
+            way: PhantomData,
         }
     }
 
     /// A link that isn't read, since no client joined for it. It is ended.
-    pub(crate) fn unread(mut link: L, error: JoinError) -> Ended<L, K, N>
+    pub(crate) fn unread(mut link: L, error: JoinError) -> Ended<L, K, N, S>
         ensures seat { seat_of result ≡ seat link (Err error) }
     {
         let was = Snapshot::of(&link);
@@ -119,6 +122,7 @@ impl<L: End, K: Keep, N: Naming> Ended<L, K, N> {
             link,
             status: unread_status(error),
             talk: Err(error),
+            way: PhantomData,
         }
     }
 
@@ -145,42 +149,53 @@ impl<L: End, K: Keep, N: Naming> Ended<L, K, N> {
         requires near { IsNear pass.old self }
         ensures same { pass.new ≡ pass.old }
         ensures given { result ≡ given_of self }
-        ensures served { IsServed (sides L.Source L.Sink) pass.old self }
+        ensures served { IsServed S.promised (sides L.Source L.Sink) pass.old self }
     {
         let Ended {
             was: _,
             link,
             status,
             talk,
+            way,
         } = self;
-        settle(rt, talk, store, pass);
+        settle(rt, talk, store, pass, way);
         (link, status)
     }
 }
 
 /// The client, if one joined, meets what the pass knows, and leaves.
-fn settle<K: Keep, G: Gate + Drop, N: Naming, R: Wait>(
+fn settle<K: Keep, G: Gate + Drop, N: Naming, S: Serves, R: Wait>(
     rt: &R,
     talk: Result<Talk<K, N>, JoinError>,
     store: &Store<K, G, N>,
     pass: &mut Pass<K, N>,
+    way: PhantomData<S>,
 )
     requires near { IsNearTalk pass.old talk }
     ensures same { pass.new ≡ pass.old }
-    ensures told { (x y : Both) (status : ℕ) → IsTold (λ p. p) x y status talk → IsTold (having_met pass.old) x y status talk }
+    ensures told { (x y : Both) (status : ℕ) → IsTold S.promised (λ p. p) x y status talk
+        → IsTold S.promised (having_met pass.old) x y status talk }
 {
     if let Ok(talk) = talk {
-        talk.settle(rt, store, pass);
+        talk.settle(rt, store, pass, way);
     }
 }
 
 impl<K: Keep, N: Naming> Talk<K, N> {
     /// The client meets what the pass knows, and leaves.
-    fn settle<G: Gate + Drop, R: Wait>(self, rt: &R, store: &Store<K, G, N>, pass: &mut Pass<K, N>)
+    fn settle<G: Gate + Drop, S: Serves, R: Wait>(
+        self,
+        rt: &R,
+        store: &Store<K, G, N>,
+        pass: &mut Pass<K, N>,
+        _way: PhantomData<S>,
+    )
         requires near { IsNearTalk pass.old (Ok self) }
         ensures same { pass.new ≡ pass.old }
-        ensures told { (x y : Both) (status : ℕ) → IsTold (λ p. p) x y status (Ok self) → IsTold (having_met pass.old) x y status (Ok self) }
+        ensures told { (x y : Both) (status : ℕ) → IsTold S.promised (λ p. p) x y status (Ok self)
+            → IsTold S.promised (having_met pass.old) x y status (Ok self) }
     {
+        S::stays_promised();
         let Talk {
             had: _,
             pass: mut own,

@@ -16,8 +16,10 @@ mod replies;
 mod serving;
 mod serving_all;
 mod status;
+mod ways;
 
 pub use laws::trusted_journals_stay_readable;
 pub use serving::serve_session;
-pub use serving_all::{Tally, serve_all};
+pub use serving_all::{Tally, serve_all, serve_links};
 pub use status::{NO_CLIENT, STORE_FAULT};
+pub use ways::{Serves, SessionLines};

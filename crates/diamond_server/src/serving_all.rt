@@ -3,19 +3,21 @@
 ghost use Rattle.std.specs.Prelude.{◌≡◌, ◌<◌, ◌+◌, ◌-◌, ◌^◌, ◌==◌, [], length, map, All, IfOk, if◌then◌else◌};
 ghost use Rattle.diamond_store.specs.Answers.{Learns};
 ghost use Rattle.script_runner.specs.declared.status.TheConstants.{WHOLE};
-ghost use Rattle.diamond_server.specs.Accounts.{seat_of, joined_in, link_in, gatherings, Accepting, ServedSince};
+ghost use Rattle.diamond_server.specs.Accounts.{seat_of, joined_in, link_in, gatherings, Accepting, AllServedSince, ServedSince};
 ghost use Rattle.diamond_server.specs.Promises.{sides};
 ghost use Rattle.diamond_server.specs.Readable.{StaysReadable};
 ghost use Rattle.diamond_server.specs.code.Settling.{IsNear, JoinsNext, Settling};
 
 use crate::begun::{Begun, begin};
 use crate::ended::Ended;
+use crate::ways::{Serves, SessionLines};
 use diamond_store::{Gate, Pass, Store};
 use dio_core::{Accepted, End, Listener};
 use history_lock::Naming;
 use journal_core::Keep;
 use script_runner::WHOLE;
 use std::alloc::{AllocError, Global};
+use std::marker::PhantomData;
 use std::sync::Wait;
 use std::thread;
 use std::thread::{Scope, Threads};
@@ -31,12 +33,47 @@ pub struct Tally {
     pub failed: bool,
 }
 
-/// Accepts up to so many links, and serves the session of a new client over each, in a thread of its own; one whose thread can't
-/// be started is served by this thread. Behind the last one the listener is closed, while sessions go on, so that who comes later is
+/// Accepts up to so many links, and serves each in this way for a new client, in a thread of its own; one whose thread can't be
+/// started is served by this thread. Behind the last one the listener is closed, while sessions go on, so that who comes later is
 /// refused at once. Once all sessions have ended, the links are given back in the order of their accepting, each with its status:
 /// that of its session, or, where it wasn't read, 13 where no client's number was left and 5 where there was no memory for one.
 ///
 /// An error says that there was no memory for the list of sessions, or to give a link back. The sessions have ended then, too.
+pub fn serve_links<
+    Li: Listener,
+    K: Keep + Send,
+    G: Gate + Drop + Send + Sync,
+    N: Naming + Send + Sync,
+    S: Serves + Send,
+    R: Threads + Wait + Sync,
+>(
+    rt: &R,
+    alloc: Global,
+    listener: &mut Li,
+    store: &Store<K, G, N>,
+    pass: &mut Pass<K, N>,
+    sessions: u32,
+    _way: PhantomData<S>,
+) -> Result<Tally, AllocError>
+    requires readable { StaysReadable pass.old }
+    ensures learns { Learns pass.old pass.new }
+    ensures served { IfOk result (AllServedSince S.promised (sides Li.Link.Source Li.Link.Sink) N.lock.first pass.old pass.new sessions
+        (gatherings Li.Listener listener.old listener.new)) }
+{
+    let ran: Result<(Vec<Ended<Li::Link, K, N, S>>, bool), AllocError> = run_scoped(
+        rt, alloc, listener, store, pass, sessions,
+    );
+    let (ended, failed) = ran?;
+    let accepted = ended.len() as u32;
+    let faulted = give_all(rt, listener, store, pass, ended)?;
+    Ok(Tally {
+        accepted,
+        faulted,
+        failed,
+    })
+}
+
+/// Accepts up to so many links, and serves each as a session of lines (`serve_session`) of a new client, as `serve_links` says.
 pub fn serve_all<
     Li: Listener,
     K: Keep + Send,
@@ -56,14 +93,8 @@ pub fn serve_all<
     ensures served { IfOk result (ServedSince (sides Li.Link.Source Li.Link.Sink) N.lock.first pass.old pass.new sessions
         (gatherings Li.Listener listener.old listener.new)) }
 {
-    let (ended, failed) = run_scoped(rt, alloc, listener, store, pass, sessions)?;
-    let accepted = ended.len() as u32;
-    let faulted = give_all(rt, listener, store, pass, ended)?;
-    Ok(Tally {
-        accepted,
-        faulted,
-        failed,
-    })
+    let lines: PhantomData<SessionLines> = PhantomData;
+    serve_links(rt, alloc, listener, store, pass, sessions, lines)
 }
 
 /// Accepts and runs the sessions in a scope. The scope's closure gives back the `&mut`s that it was given, since what it writes
@@ -73,6 +104,7 @@ fn run_scoped<
     K: Keep + Send,
     G: Gate + Drop + Send + Sync,
     N: Naming + Send + Sync,
+    S: Serves + Send,
     R: Threads + Wait + Sync,
 >(
     rt: &R,
@@ -81,7 +113,7 @@ fn run_scoped<
     store: &Store<K, G, N>,
     pass: &mut Pass<K, N>,
     sessions: u32,
-) -> Result<(Vec<Ended<Li::Link, K, N>>, bool), AllocError>
+) -> Result<(Vec<Ended<Li::Link, K, N, S>>, bool), AllocError>
     requires readable { StaysReadable pass.old }
     ensures learns { Learns pass.old pass.new }
     ensures given { Li.given_back listener.new ≡ Li.given_back listener.old }
@@ -118,6 +150,7 @@ fn run_all<
     K: Keep + Send + 'e,
     G: Gate + Drop + Send + Sync,
     N: Naming + Send + Sync + 'e,
+    S: Serves + Send + 'e,
     R: Threads + Wait + Sync,
 >(
     scope: &'s Scope<'s, &'e ()>,
@@ -127,7 +160,7 @@ fn run_all<
     store: &'e Store<K, G, N>,
     pass: &mut Pass<K, N>,
     sessions: u32,
-) -> Result<(Vec<Ended<Li::Link, K, N>>, bool), AllocError>
+) -> Result<(Vec<Ended<Li::Link, K, N, S>>, bool), AllocError>
     requires readable { StaysReadable pass.old }
     ensures learns { Learns pass.old pass.new }
     ensures given { Li.given_back listener.new ≡ Li.given_back listener.old }
@@ -150,6 +183,7 @@ fn accept_all<
     K: Keep + Send + 'e,
     G: Gate + Drop + Send + Sync,
     N: Naming + Send + Sync + 'e,
+    S: Serves + Send + 'e,
     R: Threads + Wait + Sync,
 >(
     scope: &'s Scope<'s, &'e ()>,
@@ -159,7 +193,7 @@ fn accept_all<
     store: &'e Store<K, G, N>,
     pass: &mut Pass<K, N>,
     sessions: u32,
-) -> Result<(Vec<Begun<Li::Link, K, N>>, bool), AllocError>
+) -> Result<(Vec<Begun<Li::Link, K, N, S>>, bool), AllocError>
     requires readable { StaysReadable pass.old }
     ensures learns { Learns pass.old pass.new }
     ensures given { Li.given_back listener.new ≡ Li.given_back listener.old }
@@ -189,6 +223,7 @@ fn begin_next<
     K: Keep + Send + 'e,
     G: Gate + Drop + Send + Sync,
     N: Naming + Send + Sync + 'e,
+    S: Serves + Send + 'e,
     R: Threads + Wait + Sync,
 >(
     scope: &'s Scope<'s, &'e ()>,
@@ -197,7 +232,7 @@ fn begin_next<
     store: &'e Store<K, G, N>,
     pass: &mut Pass<K, N>,
     link: L,
-) -> Begun<L, K, N>
+) -> Begun<L, K, N, S>
     requires readable { StaysReadable pass.old }
     ensures learns { Learns pass.old pass.new }
     ensures link { link_in result ≡ link }
@@ -210,13 +245,13 @@ fn begin_next<
 }
 
 /// Joins each session, and the pass learns what its client knows.
-fn join_all<L: End + Drop, K: Keep, G: Gate + Drop, N: Naming, R: Threads>(
+fn join_all<L: End + Drop, K: Keep, G: Gate + Drop, N: Naming, S: Serves, R: Threads>(
     rt: &R,
     alloc: Global,
     store: &Store<K, G, N>,
     pass: &mut Pass<K, N>,
-    begun: Vec<Begun<L, K, N>>,
-) -> Result<Vec<Ended<L, K, N>>, AllocError>
+    begun: Vec<Begun<L, K, N, S>>,
+) -> Result<Vec<Ended<L, K, N, S>>, AllocError>
     ensures learns { Learns pass.old pass.new }
     ensures seats { IfOk result (λ ended. map seat_of ended.items ≡ begun.items) }
     ensures near { IfOk result (λ ended. All (IsNear pass.new) ended.items) }
@@ -232,19 +267,19 @@ fn join_all<L: End + Drop, K: Keep, G: Gate + Drop, N: Naming, R: Threads>(
 }
 
 /// Each client meets what the pass knows and leaves, and its link is given back. It answers how many statuses aren't 0.
-fn give_all<Li: Listener, K: Keep, G: Gate + Drop, N: Naming, R: Wait>(
+fn give_all<Li: Listener, K: Keep, G: Gate + Drop, N: Naming, S: Serves, R: Wait>(
     rt: &R,
     listener: &mut Li,
     store: &Store<K, G, N>,
     pass: &mut Pass<K, N>,
-    all: Vec<Ended<Li::Link, K, N>>,
+    all: Vec<Ended<Li::Link, K, N, S>>,
 ) -> Result<u32, AllocError>
     requires few { length all.items < 2 ^ 32 }
     requires near { All (IsNear pass.old) all.items }
     ensures same { pass.new ≡ pass.old }
     ensures links { Li.links listener.new ≡ Li.links listener.old }
     ensures count { Li.accept_faults listener.new ≡ Li.accept_faults listener.old }
-    ensures settled { IfOk result (λ faulted. Settling (sides Li.Link.Source Li.Link.Sink) pass.old all.items []
+    ensures settled { IfOk result (λ faulted. Settling S.promised (sides Li.Link.Source Li.Link.Sink) pass.old all.items []
         (Li.given_back listener.old) (Li.given_back listener.new) faulted) }
 {
     let mut faulted = 0;

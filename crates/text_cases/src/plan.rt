@@ -27,6 +27,14 @@ fn push_file(out: &mut Text, file: &Option<Text>) -> Result<(), AllocError> {
     Ok(())
 }
 
+/// Adds the form of what links bring, where it isn't text.
+fn push_form(out: &mut Text, wire: bool) -> Result<(), AllocError> {
+    if wire {
+        out.extend_from_slice(b" --form wire")?;
+    }
+    Ok(())
+}
+
 fn push_plan(out: &mut Text, plan: &Plan) -> Result<(), AllocError> {
     match plan {
         Plan::Run(settings) => {
@@ -38,11 +46,13 @@ fn push_plan(out: &mut Text, plan: &Plan) -> Result<(), AllocError> {
             address,
             sessions,
             file,
+            wire,
         } => {
             out.extend_from_slice(b"serve --address ")?;
             out.extend_from_slice(address.as_slice())?;
             push_option(out, b" --sessions ", u64::from(*sessions))?;
             push_file(out, file)?;
+            push_form(out, *wire)?;
             push_settings(out, settings)
         }
         Plan::Audit { file, at } => {
@@ -52,6 +62,10 @@ fn push_plan(out: &mut Text, plan: &Plan) -> Result<(), AllocError> {
                 Some(number) => push_option(out, b" --at ", *number),
                 None => Ok(()),
             }
+        }
+        Plan::Remote { address } => {
+            out.extend_from_slice(b"remote --address ")?;
+            Ok(out.extend_from_slice(address.as_slice())?)
         }
     }
 }

@@ -32,6 +32,7 @@ fn names_all(text: &str) -> bool {
         OptionName::Address,
         OptionName::File,
         OptionName::At,
+        OptionName::Form,
     ] {
         if !helps(text, &[option.word()]) {
             return false;
@@ -43,6 +44,7 @@ fn names_all(text: &str) -> bool {
             CommandName::Run.word(),
             CommandName::Serve.word(),
             CommandName::Audit.word(),
+            CommandName::Remote.word(),
             "--help",
             "--version",
         ],

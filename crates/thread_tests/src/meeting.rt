@@ -1,79 +1,42 @@
-//! How clients of a test come, what they are answered, and how a pass learns from them.
+//! How clients come to a store, and what they are answered, where a test ends unless they come and are answered.
 
-ghost use Rattle.std.specs.Prelude.{◌≡◌};
-
-use crate::talker::{Newcomer, Talker, TestPass, TestStore};
 use history_lock::Naming;
 use plain_data::Text;
 use session_core::{SessionError, Turn};
-use session_text::{print_reply, push_reply};
+use session_text::print_reply;
 use std::alloc::{AllocError, Global};
-use std::marker::Model;
 use std::process::Abort;
 use std::sync::Wait;
+use store_talkers::{Founder, Newcomer, Talker, TestStore};
 
-/// The pass of the first client of a store that was opened with nothing in it. By it others join.
-#[derive(Drop)]
-pub(crate) struct Founder<N: Naming> {
-    pass: TestPass<N>,
+/// A new client.
+pub(crate) fn new_client<N: Naming, R: Abort>(
+    rt: &R,
+    store: &TestStore<N>,
+    first: &mut Founder<N>,
+) -> Newcomer<N> {
+    match first.join(store) {
+        Some(newcomer) => newcomer,
+        None => panic!(rt; "no client's number is left"),
+    }
 }
 
-impl<N: Naming> Model for Founder<N> {
-    ghost use Rattle.std.specs.Prelude.{◌≡◌, ℕ};
-    ghost use Rattle.std.specs.Coded.{coded_ℕ};
-
-    ghost Value = { ℕ };
-
-    ghost coded = { coded_ℕ };
-
-    ghost view = { λ f. f.pass.client };
-
-    ghost invariant = { λ f. f.pass.trusted ≡ 0 };
-}
-
-impl<N: Naming> Founder<N> {
-    pub(crate) fn new(pass: TestPass<N>) -> Founder<N>
-        requires { pass.trusted ≡ 0 }
-    {
-        Founder { pass }
-    }
-
-    /// A new client.
-    pub(crate) fn joined<R: Abort>(&mut self, rt: &R, store: &TestStore<N>) -> Newcomer<N> {
-        match store.join(&mut self.pass) {
-            Ok(new) => Newcomer::new(new),
-            Err(_) => panic!(rt; "no client's number is left"),
-        }
-    }
-
-    /// What a new client is answered to a line, as text.
-    pub(crate) fn answered<R: Wait + Abort>(
-        &mut self,
-        rt: &R,
-        alloc: Global,
-        store: &TestStore<N>,
-        line: &[u8],
-    ) -> Result<Text, AllocError> {
-        let newcomer = self.joined(rt, store);
-        let mut talker = Talker::new(rt, alloc, store, newcomer);
-        let turn = talker.say(alloc, line);
-        reply_text(rt, alloc, &turn)
-    }
-
-    /// The pass learns what another knows, which goes.
-    pub(crate) fn learn_from(&mut self, store: &TestStore<N>, mut other: TestPass<N>) {
-        let token = store.split(&mut other);
-        store.meet(&mut self.pass, token);
-    }
-
-    pub(crate) fn into_pass(self) -> TestPass<N> {
-        let Founder { pass } = self;
-        pass
-    }
+/// What a new client is answered to a line, as text.
+pub(crate) fn reply_to_new_client<N: Naming, R: Wait + Abort>(
+    rt: &R,
+    alloc: Global,
+    store: &TestStore<N>,
+    first: &mut Founder<N>,
+    line: &[u8],
+) -> Result<Text, AllocError> {
+    let newcomer = new_client(rt, store, first);
+    let mut talker = Talker::new(rt, alloc, store, newcomer);
+    let turn = talker.say(alloc, line);
+    reply_text(rt, alloc, &turn)
 }
 
 /// A line's one reply, as text.
-pub(crate) fn reply_text(
+fn reply_text(
     rt: &impl Abort,
     alloc: Global,
     turn: &Result<Turn, SessionError>,
@@ -85,38 +48,4 @@ pub(crate) fn reply_text(
         },
         _ => panic!(rt; "the line is not answered"),
     }
-}
-
-/// Whether a line has one reply, which is this.
-pub(crate) fn is_told(alloc: Global, turn: &Result<Turn, SessionError>, wanted: &[u8]) -> bool {
-    match turn {
-        Ok(Turn::Replies(replies)) => match replies.as_slice() {
-            [reply] => is_printed(&print_reply(alloc, reply), wanted),
-            _ => false,
-        },
-        _ => false,
-    }
-}
-
-/// Whether a text was printed, and is this.
-pub(crate) fn is_printed(text: &Result<Text, AllocError>, wanted: &[u8]) -> bool {
-    match text {
-        Ok(text) => text.as_slice() == wanted,
-        Err(_) => false,
-    }
-}
-
-/// The replies of a turn as text, a line each.
-pub(crate) fn turn_text(
-    alloc: Global,
-    turn: &Result<Turn, SessionError>,
-) -> Result<Text, AllocError> {
-    let mut text = Text::new(alloc);
-    if let Ok(Turn::Replies(replies)) = turn {
-        for reply in replies.as_slice() {
-            push_reply(&mut text, reply)?;
-            text.push(b'\n')?;
-        }
-    }
-    Ok(text)
 }

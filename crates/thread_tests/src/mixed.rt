@@ -3,9 +3,8 @@
 ghost use Rattle.std.specs.Prelude.{◌≡◌, ◌<◌, None};
 ghost use Rattle.diamond_store.specs.Numbers.{from_in, HasSettings};
 
-use crate::meeting::Founder;
+use crate::meeting::{new_client, reply_to_new_client};
 use crate::replay::{Script, replies_stand, reply_of};
-use crate::talker::{Newcomer, Talker, TestStore};
 use diamond_store::{Book, Open, open};
 use history_lock::{Naming, Opened};
 use journal_core::MemKeep;
@@ -18,6 +17,7 @@ use std::marker::Brand;
 use std::process::Abort;
 use std::sync::Wait;
 use std::thread::{Threads, map_vec};
+use store_talkers::{Founder, Newcomer, Talker, TestStore};
 use txn_lang::{Commit, CommitList};
 
 const CLIENTS: u32 = 8;
@@ -121,7 +121,7 @@ fn newcomers<N: Naming, R: Abort>(
 ) -> Result<Vec<Newcomer<N>>, AllocError> {
     let mut all = Vec::new(alloc);
     for _ in 0..CLIENTS {
-        all.push(first.joined(rt, store))?;
+        all.push(new_client(rt, store, first))?;
     }
     Ok(all)
 }
@@ -209,7 +209,7 @@ fn in_eight_threads<N: Naming + Send + Sync, R: Threads + Wait + Abort + Sync>(
     let (store, first) = TestStore::<N>::new(alloc, settings, opened, Open)?;
     let mut first = Founder::new(first);
     let said = all_talk(rt, alloc, &store, &mut first);
-    let seen = first.answered(rt, alloc, &store, LOOK);
+    let seen = reply_to_new_client(rt, alloc, &store, &mut first, LOOK);
     let closed = store.close(rt, first.into_pass());
     Ok(Ran {
         said,

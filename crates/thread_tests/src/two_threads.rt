@@ -3,8 +3,7 @@
 ghost use Rattle.std.specs.Prelude.{◌≡◌, None};
 ghost use Rattle.diamond_store.specs.Numbers.{from_in, HasSettings};
 
-use crate::meeting::Founder;
-use crate::talker::{Newcomer, Talker, TestPass, TestStore};
+use crate::meeting::{new_client, reply_to_new_client};
 use diamond_store::{Book, Open, open};
 use docc_prepare::StoreError;
 use history_lock::{Naming, Opened};
@@ -18,6 +17,7 @@ use std::marker::Brand;
 use std::process::Abort;
 use std::sync::Wait;
 use std::thread::{Threads, join};
+use store_talkers::{Founder, Newcomer, Talker, TestPass, TestStore};
 use txn_lang::CommitList;
 
 /// How many lines were answered by a commit, and how many by an abort.
@@ -96,8 +96,8 @@ fn both_work<N: Naming + Send + Sync, R: Threads + Wait + Abort + Sync>(
     line: &[u8],
     times: u64,
 ) -> Result<Done, AllocError> {
-    let zero = first.joined(rt, store);
-    let one = first.joined(rt, store);
+    let zero = new_client(rt, store, &mut first);
+    let one = new_client(rt, store, &mut first);
     let ((zero, of_zero), (one, of_one)) = join(
         rt,
         || work(rt, alloc, store, zero, line, times),
@@ -109,7 +109,7 @@ fn both_work<N: Naming + Send + Sync, R: Threads + Wait + Abort + Sync>(
     first.learn_from(store, zero);
     first.learn_from(store, one);
     let look = b"look emit counter(\"x\").get();";
-    let seen = first.answered(rt, alloc, store, look)?;
+    let seen = reply_to_new_client(rt, alloc, store, &mut first, look)?;
     Ok(Done {
         zero: of_zero,
         one: of_one,
@@ -201,8 +201,8 @@ fn wait_and_work<N: Naming + Send + Sync, R: Threads + Wait + Abort + Sync>(
     mut first: Founder<N>,
     line: &[u8],
 ) {
-    let waiter = first.joined(rt, store);
-    let writer = first.joined(rt, store);
+    let waiter = new_client(rt, store, &mut first);
+    let writer = new_client(rt, store, &mut first);
     let (waited, (_pass, tally)) = join(
         rt,
         || awaited(rt, store, waiter),

@@ -3,8 +3,7 @@
 ghost use Rattle.std.specs.Prelude.{◌≡◌, None};
 ghost use Rattle.diamond_store.specs.Numbers.{from_in, HasSettings};
 
-use crate::meeting::{Founder, is_printed, turn_text};
-use crate::talker::{Talker, TestStore};
+use crate::meeting::new_client;
 use diamond_store::{Book, Open, open};
 use history_lock::{Naming, Opened};
 use journal_core::MemKeep;
@@ -13,6 +12,7 @@ use std::alloc::Global;
 use std::marker::Brand;
 use std::process::Abort;
 use std::sync::Wait;
+use store_talkers::{Founder, Talker, TestStore, is_printed, turn_text};
 use txn_lang::CommitList;
 
 /// Who says a line.
@@ -96,8 +96,8 @@ fn watched_on<N: Naming, R: Wait + Abort>(
     store: &TestStore<N>,
     mut first: Founder<N>,
 ) {
-    let mut watcher = Talker::new(rt, alloc, store, first.joined(rt, store));
-    let mut writer = Talker::new(rt, alloc, store, first.joined(rt, store));
+    let mut watcher = Talker::new(rt, alloc, store, new_client(rt, store, &mut first));
+    let mut writer = Talker::new(rt, alloc, store, new_client(rt, store, &mut first));
     assert_eq!(rt; both_say(alloc, &mut watcher, &mut writer), 9);
     store.leave(rt, watcher.into_pass());
     let line = br#"do hash("h").put("f", "s");"#;

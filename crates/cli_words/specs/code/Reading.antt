@@ -43,6 +43,8 @@ takes command.Serve o = true
 takes command.Audit option.File = true
 takes command.Audit option.At = true
 takes command.Audit o = false
+takes command.Remote option.Address = true
+takes command.Remote o = false
 
 -- ---- numbers
 
@@ -76,6 +78,7 @@ is_given option.Sessions given = is_some given.sessions
 is_given option.Address given = is_some given.address
 is_given option.File given = is_some given.file
 is_given option.At given = is_some given.at
+is_given option.Form given = is_some given.wire
 
 -- a number is put in its place, or is none within the limits
 abbrev pub put_number : ℕ → ℕ → (ℕ → Given) → Option ℕ → Result Given Why
@@ -90,6 +93,15 @@ is_place (b ∷ word) = not (nat_eq b HYPHEN)
 abbrev pub put_place : Why → Given → Bool → Result Given Why
 put_place w given can = if can then Ok given else Err w
 
+-- the form that a word names: of the wire, or not
+abbrev pub wire_named : Word → Option Bool
+wire_named word = if bytes_eq word (codes "text") then Some false else if bytes_eq word (codes "wire") then Some true else None
+
+-- a form is put in its place, or a word names none
+abbrev pub put_form : (Bool → Given) → Option Bool → Result Given Why
+put_form put None = Err why.NotAForm
+put_form put (Some wire) = Ok (put wire)
+
 -- what is given with a value
 abbrev pub with_value : OptionName → Word → Given → Result Given Why
 with_value option.Shards word given =
@@ -103,6 +115,7 @@ with_value option.Sessions word given =
 with_value option.Address word given = put_place why.NotAnAddress (record given { address = Some word }) (is_place word)
 with_value option.File word given = put_place why.NotAPath (record given { file = Some word }) (is_place word)
 with_value option.At word given = put_number 0 MOST_AT (λ n. record given { at = Some n }) (number_within 0 MOST_AT word)
+with_value option.Form word given = put_form (λ wire. record given { wire = Some wire }) (wire_named word)
 
 -- ---- words
 
@@ -163,6 +176,7 @@ missing_of (reading.Waiting c given o) = Some (missing.Value o)
 missing_of (reading.Ready command.Run given) = None
 missing_of (reading.Ready command.Serve given) = if is_some given.address then None else Some (missing.Option option.Address)
 missing_of (reading.Ready command.Audit given) = if is_some given.file then None else Some (missing.Option option.File)
+missing_of (reading.Ready command.Remote given) = if is_some given.address then None else Some (missing.Option option.Address)
 
 -- ---- worked lines
 
@@ -170,6 +184,11 @@ missing_of (reading.Ready command.Audit given) = if is_some given.file then None
 reads-row : after (codes "run" ∷ codes "--shards=4" ∷ []) reading.Start ≡ Ok (reading.Ready command.Run (record nothing_given { shards = Some 4 }))
 unfolding step
 reads-row = refl
+
+-- a server whose links bring requests of the wire
+reads-form : after (codes "serve" ∷ codes "--form=wire" ∷ []) reading.Start ≡ Ok (reading.Ready command.Serve (record nothing_given { wire = Some true }))
+unfolding step
+reads-form = refl
 
 -- no store has 0 shards, an option is given once, and `fly` is no command
 refuses-zero : after (codes "run" ∷ codes "--shards" ∷ codes "0" ∷ []) reading.Start ≡ Err (why.NotANumber 1 16)

@@ -11,6 +11,7 @@ use Rattle.diamond_store.specs.declared.join_error.JoinError.TheVariants as join
 use Rattle.history_lock.specs.declared.limits.TheConstants.{MOST_DRAWS}
 use Rattle.session_core.specs.Explained.{setting_of}
 use Rattle.diamond_server.specs.Accounts.{Account, Seat, IsServed, Rises, given_of, status_in, joined_in, link_in, faults_of}
+use Rattle.diamond_server.specs.Ways.{Promising}
 
 -- what the client knew at its session's end, if there is one, this pass knows
 abbrev pub IsNearTalk : Passed → Result (Passed × Passed) JoinError → Type 0
@@ -34,10 +35,10 @@ pub record Turns {L : Type 0} (pass : Passed) (low high turns : ℕ) (links rest
   pub count : after ≡ before
 
 -- some of all links were given back, and the rest is to come
-pub record Settling {L : Type 0} (told : L → Both) (pass : Passed) (all rest : List (Account L)) (old new : Option (List (L × ℕ))) (faulted : ℕ) : Type 0 where
+pub record Settling {L : Type 0} (Promised : Promising) (told : L → Both) (pass : Passed) (all rest : List (Account L)) (old new : Option (List (L × ℕ))) (faulted : ℕ) : Type 0 where
   pub done : List (Account L)
   pub parts : done ++ rest ≡ all
   pub given : new ≡ with_more old (map given_of done)
   pub faulted_is : faulted ≡ faults_of (map status_in done)
-  pub served : All (IsServed told pass) done
+  pub served : All (IsServed Promised told pass) done
   pub near : All (IsNear pass) rest

@@ -1,6 +1,11 @@
-use Rattle.diamond_cli.proofs.Recovered.{filed-serves}
+use Rattle.std.proofs.Common.{true, false}
+use Rattle.diamond_cli.proofs.Recovered.{files-form}
 use Rattle.diamond_cli.proofs.file.serve_file.Goals as goal
 
--- all sessions ended, and the line was tried
-pub returns-in-Ok : goal.returns-in-Ok
-returns-in-Ok g c = filed-serves _ _ _ _ _ _ _ c.in-Ok.ensures.filed
+-- links bring requests
+pub returns-then-wire : goal.returns-then-wire
+returns-then-wire g c = files-form _ true _ _ _ _ _ _ _ c.if-wire.true c.serve_way.ensures
+
+-- or lines
+pub returns-else-wire : goal.returns-else-wire
+returns-else-wire g c = files-form _ false _ _ _ _ _ _ _ c.if-wire.false c.serve_way-else-wire.ensures

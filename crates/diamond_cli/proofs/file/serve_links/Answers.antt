@@ -41,5 +41,5 @@ returns-in_err-say-clause-refused g c =
 -- all sessions ended, and the line was tried
 pub returns-clause-filed : goal.returns-clause-filed
 returns-clause-filed g c =
-    has-filed _ _ _ _ _ _ _ _ _ _ _ c.in_ok-recovered.ensures.kept c.in_ok-recovered.ensures.counted c.in_ok-filed.ensures.served
+    has-filed _ _ _ _ _ _ _ _ _ _ _ _ c.in_ok-recovered.ensures.kept c.in_ok-recovered.ensures.counted c.in_ok-filed.ensures.served
     c.in_ok-filed.ensures.holds c.in_ok-say.ensures.said

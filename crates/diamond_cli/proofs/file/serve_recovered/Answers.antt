@@ -19,7 +19,7 @@ pub returns-clause-served : goal.returns-clause-served
 returns-clause-served g c =
     let told = c.in_ok-served.ensures in
     let back = c.disk-2-1.given.1 (sym (c.release-disk.ensures.same_reference ∙ c.mend-mended.ensures.home ∙ told.home ∙ c.new-keeper.ensures.home)) in
-    later-served _ _ _ _ _ _ _ _ _ _ _ _ _ c.new-keeper.ensures.faults c.mend-mended.ensures.counted
+    later-served _ _ _ _ _ _ _ _ _ _ _ _ _ _ c.new-keeper.ensures.faults c.mend-mended.ensures.counted
     (sym c.release-disk.ensures.faults ∙ sym (ap g.D.Disk.disk_faults back)) told.served
 
 -- the disk is the one that was lent, and so its file holds what the keeper kept

@@ -15,6 +15,6 @@ returns-clause-ended g c =
     ok-map c.say.result _ _ (λ status said. record {
       tally = c.in_ok-served.served.tally;
       journal = c.in_ok-served.served.commits;
-      served = same-served _ _ _ _ _ _ _ _ _ _ _ c.new-none.ensures refl c.in_ok-served.ensures.served;
+      served = same-served _ _ _ _ _ _ _ _ _ _ _ _ c.new-none.ensures refl c.in_ok-served.ensures.served;
       said = said;
     }) c.say.ensures.said

@@ -26,7 +26,7 @@ serve_over-requires-clause-clients g c ks h =
 pub returns-clause-served : goal.returns-clause-served
 returns-clause-served g c =
     let is = c.in_ok-opened.ensures in
-    ok-map c.serve_over.result _ _ (λ served all. same-served _ _ _ _ _ _ _ _ _ _ _ (ap (λ (k : tokens.Known Commit). k.seen) is.front) is.faults all)
+    ok-map c.serve_over.result _ _ (λ served all. same-served _ _ _ _ _ _ _ _ _ _ _ _ (ap (λ (k : tokens.Known Commit). k.seen) is.front) is.faults all)
     c.serve_over.ensures.served
 
 pub returns-clause-home : goal.returns-clause-home

@@ -2,9 +2,10 @@ use Rattle.std.proofs.Common.{refl}
 use Rattle.std.specs.Prelude.{None, Some}
 use Rattle.cli_words.specs.Forms.{texts}
 use Rattle.script_runner.proofs.Promises.{unstarted}
-use Rattle.diamond_cli.proofs.Asked.{plan-asks, runs-something, serves-something, files-something, with-file, refused-no-plan, serve-no-run, memory-no-file}
-use Rattle.diamond_cli.proofs.Asked.{audits-something, audit-no-run, audit-no-serve}
+use Rattle.diamond_cli.proofs.Asked.{plan-asks, runs-something, serves-something, files-something, audits-something, remotes-something}
+use Rattle.diamond_cli.proofs.Asked.{with-file, refused-no-plan, other-command, memory-no-file}
 use Rattle.diamond_cli.proofs.Auditing.{no-memory, audits-unread}
+use Rattle.diamond_cli.proofs.Reached.{unreached}
 use Rattle.diamond_cli.proofs.Recovered.{refused-serves}
 use Rattle.diamond_cli.proofs.Served.{unended-serves}
 use Rattle.commit_file.specs.declared.recover_error.RecoverError.TheVariants as error
@@ -29,89 +30,96 @@ returns-in-Ok-Run-clause-run g c = λ asks. record {
 }
 
 pub returns-in-Ok-Run-clause-serve : goal.returns-in-Ok-Run-clause-serve
-returns-in-Ok-Run-clause-serve g c = λ asks. absurd (serve-no-run (texts c.args.words.now) asks.0 c.in-Ok-Run.settings asks.1 asks.2 None asks.3 (plan-asks (texts c.args.words.now) _ _ c.in-Ok-Run.ensures.plan c.in-Ok-Run.field-0-is))
+returns-in-Ok-Run-clause-serve g c = λ asks. absurd (other-command (texts c.args.words.now) _ _ refl (plan-asks (texts c.args.words.now) _ _ c.in-Ok-Run.ensures.plan c.in-Ok-Run.field-0-is) asks.4)
 
 pub returns-in-Ok-Run-clause-unused_by_serve : goal.returns-in-Ok-Run-clause-unused_by_serve
-returns-in-Ok-Run-clause-unused_by_serve g c = λ asks. absurd (serve-no-run (texts c.args.words.now) asks.0 c.in-Ok-Run.settings asks.1 asks.2 None asks.3 (plan-asks (texts c.args.words.now) _ _ c.in-Ok-Run.ensures.plan c.in-Ok-Run.field-0-is))
+returns-in-Ok-Run-clause-unused_by_serve g c = λ asks. absurd (other-command (texts c.args.words.now) _ _ refl (plan-asks (texts c.args.words.now) _ _ c.in-Ok-Run.ensures.plan c.in-Ok-Run.field-0-is) asks.4)
 
 pub returns-in-Ok-Run-clause-files : goal.returns-in-Ok-Run-clause-files
-returns-in-Ok-Run-clause-files g c = λ asks. absurd (serve-no-run (texts c.args.words.now) asks.0 c.in-Ok-Run.settings asks.1 asks.2 (Some asks.3) asks.4 (plan-asks (texts c.args.words.now) _ _ c.in-Ok-Run.ensures.plan c.in-Ok-Run.field-0-is))
+returns-in-Ok-Run-clause-files g c = λ asks. absurd (other-command (texts c.args.words.now) _ _ refl (plan-asks (texts c.args.words.now) _ _ c.in-Ok-Run.ensures.plan c.in-Ok-Run.field-0-is) asks.5)
 
 pub returns-in-Ok-Run-clause-unused_by_files : goal.returns-in-Ok-Run-clause-unused_by_files
-returns-in-Ok-Run-clause-unused_by_files g c = λ asks. absurd (serve-no-run (texts c.args.words.now) asks.0 c.in-Ok-Run.settings asks.1 asks.2 (Some asks.3) asks.4 (plan-asks (texts c.args.words.now) _ _ c.in-Ok-Run.ensures.plan c.in-Ok-Run.field-0-is))
+returns-in-Ok-Run-clause-unused_by_files g c = λ asks. absurd (other-command (texts c.args.words.now) _ _ refl (plan-asks (texts c.args.words.now) _ _ c.in-Ok-Run.ensures.plan c.in-Ok-Run.field-0-is) asks.5)
 
 pub returns-in-Ok-Run-clause-audit : goal.returns-in-Ok-Run-clause-audit
-returns-in-Ok-Run-clause-audit g c = λ asks. absurd (audit-no-run (texts c.args.words.now) _ _ _ asks.2 (plan-asks (texts c.args.words.now) _ _ c.in-Ok-Run.ensures.plan c.in-Ok-Run.field-0-is))
+returns-in-Ok-Run-clause-audit g c = λ asks. absurd (other-command (texts c.args.words.now) _ _ refl (plan-asks (texts c.args.words.now) _ _ c.in-Ok-Run.ensures.plan c.in-Ok-Run.field-0-is) asks.2)
 
 pub returns-in-Ok-Run-clause-unused_by_audit : goal.returns-in-Ok-Run-clause-unused_by_audit
-returns-in-Ok-Run-clause-unused_by_audit g c = λ asks. absurd (audit-no-run (texts c.args.words.now) _ _ _ asks.2 (plan-asks (texts c.args.words.now) _ _ c.in-Ok-Run.ensures.plan c.in-Ok-Run.field-0-is))
+returns-in-Ok-Run-clause-unused_by_audit g c = λ asks. absurd (other-command (texts c.args.words.now) _ _ refl (plan-asks (texts c.args.words.now) _ _ c.in-Ok-Run.ensures.plan c.in-Ok-Run.field-0-is) asks.2)
 
 pub returns-in-Ok-Run-clause-spared_by_audit : goal.returns-in-Ok-Run-clause-spared_by_audit
-returns-in-Ok-Run-clause-spared_by_audit g c = λ asks. absurd (audit-no-run (texts c.args.words.now) _ _ _ asks.2 (plan-asks (texts c.args.words.now) _ _ c.in-Ok-Run.ensures.plan c.in-Ok-Run.field-0-is))
+returns-in-Ok-Run-clause-spared_by_audit g c = λ asks. absurd (other-command (texts c.args.words.now) _ _ refl (plan-asks (texts c.args.words.now) _ _ c.in-Ok-Run.ensures.plan c.in-Ok-Run.field-0-is) asks.2)
+
+pub returns-in-Ok-Run-clause-remote : goal.returns-in-Ok-Run-clause-remote
+returns-in-Ok-Run-clause-remote g c = λ asks. absurd (other-command (texts c.args.words.now) _ _ refl (plan-asks (texts c.args.words.now) _ _ c.in-Ok-Run.ensures.plan c.in-Ok-Run.field-0-is) asks.1)
 
 -- ---- serving in memory
 
 pub returns-in-None-clause-other : goal.returns-in-None-clause-other
-returns-in-None-clause-other g c = λ no. absurd (serves-something c.args.words.now _ _ _ _ c.in-Ok-Serve.ensures.plan (with-file _ _ _ _ _ None c.in-Ok-Serve.field-0-is c.in-None.is) no)
+returns-in-None-clause-other g c = λ no. absurd (serves-something c.args.words.now _ _ _ _ _ c.in-Ok-Serve.ensures.plan (with-file _ _ _ _ _ None _ c.in-Ok-Serve.field-0-is c.in-None.is) no)
 
 pub returns-in-None-clause-unread : goal.returns-in-None-clause-unread
-returns-in-None-clause-unread g c = λ no. absurd (serves-something c.args.words.now _ _ _ _ c.in-Ok-Serve.ensures.plan (with-file _ _ _ _ _ None c.in-Ok-Serve.field-0-is c.in-None.is) no)
+returns-in-None-clause-unread g c = λ no. absurd (serves-something c.args.words.now _ _ _ _ _ c.in-Ok-Serve.ensures.plan (with-file _ _ _ _ _ None _ c.in-Ok-Serve.field-0-is c.in-None.is) no)
 
 pub returns-in-None-clause-unwritten : goal.returns-in-None-clause-unwritten
-returns-in-None-clause-unwritten g c = λ no. absurd (serves-something c.args.words.now _ _ _ _ c.in-Ok-Serve.ensures.plan (with-file _ _ _ _ _ None c.in-Ok-Serve.field-0-is c.in-None.is) no)
+returns-in-None-clause-unwritten g c = λ no. absurd (serves-something c.args.words.now _ _ _ _ _ c.in-Ok-Serve.ensures.plan (with-file _ _ _ _ _ None _ c.in-Ok-Serve.field-0-is c.in-None.is) no)
 
 pub returns-in-None-clause-run : goal.returns-in-None-clause-run
-returns-in-None-clause-run g c = λ asks. absurd (serve-no-run (texts c.args.words.now) _ asks.0 _ _ None (plan-asks (texts c.args.words.now) _ _ c.in-Ok-Serve.ensures.plan (with-file _ _ _ _ _ None c.in-Ok-Serve.field-0-is c.in-None.is)) asks.1)
+returns-in-None-clause-run g c = λ asks. absurd (other-command (texts c.args.words.now) _ _ refl (plan-asks (texts c.args.words.now) _ _ c.in-Ok-Serve.ensures.plan (with-file _ _ _ _ _ None _ c.in-Ok-Serve.field-0-is c.in-None.is)) asks.1)
 
 pub returns-in-None-clause-unused_by_run : goal.returns-in-None-clause-unused_by_run
-returns-in-None-clause-unused_by_run g c = λ asks. absurd (serve-no-run (texts c.args.words.now) _ asks.0 _ _ None (plan-asks (texts c.args.words.now) _ _ c.in-Ok-Serve.ensures.plan (with-file _ _ _ _ _ None c.in-Ok-Serve.field-0-is c.in-None.is)) asks.1)
+returns-in-None-clause-unused_by_run g c = λ asks. absurd (other-command (texts c.args.words.now) _ _ refl (plan-asks (texts c.args.words.now) _ _ c.in-Ok-Serve.ensures.plan (with-file _ _ _ _ _ None _ c.in-Ok-Serve.field-0-is c.in-None.is)) asks.1)
 
 pub returns-in-None-clause-serve : goal.returns-in-None-clause-serve
 returns-in-None-clause-serve g c = λ asks. record {
   settings = c.in-Ok-Serve.settings;
   address = c.in-Ok-Serve.field-0-1;
   sessions = c.in-Ok-Serve.sessions;
-  asked = plan-asks (texts c.args.words.now) _ _ c.in-Ok-Serve.ensures.plan (with-file _ _ _ _ _ None c.in-Ok-Serve.field-0-is c.in-None.is);
+  wire = c.in-Ok-Serve.wire;
+  asked = plan-asks (texts c.args.words.now) _ _ c.in-Ok-Serve.ensures.plan (with-file _ _ _ _ _ None _ c.in-Ok-Serve.field-0-is c.in-None.is);
   promises = c.serve.ensures;
 }
 
 pub returns-in-None-clause-files : goal.returns-in-None-clause-files
-returns-in-None-clause-files g c = λ asks. absurd (memory-no-file (texts c.args.words.now) _ asks.0 _ asks.1 _ asks.2 asks.3 (plan-asks (texts c.args.words.now) _ _ c.in-Ok-Serve.ensures.plan (with-file _ _ _ _ _ None c.in-Ok-Serve.field-0-is c.in-None.is)) asks.4)
+returns-in-None-clause-files g c = λ asks. absurd (memory-no-file (texts c.args.words.now) _ _ _ _ _ _ _ _ _ (plan-asks (texts c.args.words.now) _ _ c.in-Ok-Serve.ensures.plan (with-file _ _ _ _ _ None _ c.in-Ok-Serve.field-0-is c.in-None.is)) asks.5)
 
 pub returns-in-None-clause-unused_by_files : goal.returns-in-None-clause-unused_by_files
-returns-in-None-clause-unused_by_files g c = λ asks. absurd (memory-no-file (texts c.args.words.now) _ asks.0 _ asks.1 _ asks.2 asks.3 (plan-asks (texts c.args.words.now) _ _ c.in-Ok-Serve.ensures.plan (with-file _ _ _ _ _ None c.in-Ok-Serve.field-0-is c.in-None.is)) asks.4)
+returns-in-None-clause-unused_by_files g c = λ asks. absurd (memory-no-file (texts c.args.words.now) _ _ _ _ _ _ _ _ _ (plan-asks (texts c.args.words.now) _ _ c.in-Ok-Serve.ensures.plan (with-file _ _ _ _ _ None _ c.in-Ok-Serve.field-0-is c.in-None.is)) asks.5)
 
 pub returns-in-None-clause-audit : goal.returns-in-None-clause-audit
-returns-in-None-clause-audit g c = λ asks. absurd (audit-no-serve (texts c.args.words.now) _ _ _ _ _ None asks.2 (plan-asks (texts c.args.words.now) _ _ c.in-Ok-Serve.ensures.plan (with-file _ _ _ _ _ None c.in-Ok-Serve.field-0-is c.in-None.is)))
+returns-in-None-clause-audit g c = λ asks. absurd (other-command (texts c.args.words.now) _ _ refl (plan-asks (texts c.args.words.now) _ _ c.in-Ok-Serve.ensures.plan (with-file _ _ _ _ _ None _ c.in-Ok-Serve.field-0-is c.in-None.is)) asks.2)
 
 pub returns-in-None-clause-unused_by_audit : goal.returns-in-None-clause-unused_by_audit
-returns-in-None-clause-unused_by_audit g c = λ asks. absurd (audit-no-serve (texts c.args.words.now) _ _ _ _ _ None asks.2 (plan-asks (texts c.args.words.now) _ _ c.in-Ok-Serve.ensures.plan (with-file _ _ _ _ _ None c.in-Ok-Serve.field-0-is c.in-None.is)))
+returns-in-None-clause-unused_by_audit g c = λ asks. absurd (other-command (texts c.args.words.now) _ _ refl (plan-asks (texts c.args.words.now) _ _ c.in-Ok-Serve.ensures.plan (with-file _ _ _ _ _ None _ c.in-Ok-Serve.field-0-is c.in-None.is)) asks.2)
 
 pub returns-in-None-clause-spared_by_audit : goal.returns-in-None-clause-spared_by_audit
-returns-in-None-clause-spared_by_audit g c = λ asks. absurd (audit-no-serve (texts c.args.words.now) _ _ _ _ _ None asks.2 (plan-asks (texts c.args.words.now) _ _ c.in-Ok-Serve.ensures.plan (with-file _ _ _ _ _ None c.in-Ok-Serve.field-0-is c.in-None.is)))
+returns-in-None-clause-spared_by_audit g c = λ asks. absurd (other-command (texts c.args.words.now) _ _ refl (plan-asks (texts c.args.words.now) _ _ c.in-Ok-Serve.ensures.plan (with-file _ _ _ _ _ None _ c.in-Ok-Serve.field-0-is c.in-None.is)) asks.2)
+
+pub returns-in-None-clause-remote : goal.returns-in-None-clause-remote
+returns-in-None-clause-remote g c = λ asks. absurd (other-command (texts c.args.words.now) _ _ refl (plan-asks (texts c.args.words.now) _ _ c.in-Ok-Serve.ensures.plan (with-file _ _ _ _ _ None _ c.in-Ok-Serve.field-0-is c.in-None.is)) asks.1)
 
 -- ---- serving in a file
 
 pub returns-in-Ok-Serve-clause-other : goal.returns-in-Ok-Serve-clause-other
-returns-in-Ok-Serve-clause-other g c = λ no. absurd (files-something c.args.words.now _ _ _ _ _ c.in-Ok-Serve.ensures.plan (with-file _ _ _ _ _ _ c.in-Ok-Serve.field-0-is c.in-Some.is) no)
+returns-in-Ok-Serve-clause-other g c = λ no. absurd (files-something c.args.words.now _ _ _ _ _ _ c.in-Ok-Serve.ensures.plan (with-file _ _ _ _ _ _ _ c.in-Ok-Serve.field-0-is c.in-Some.is) no)
 
 pub returns-in-Ok-Serve-clause-unread : goal.returns-in-Ok-Serve-clause-unread
-returns-in-Ok-Serve-clause-unread g c = λ no. absurd (files-something c.args.words.now _ _ _ _ _ c.in-Ok-Serve.ensures.plan (with-file _ _ _ _ _ _ c.in-Ok-Serve.field-0-is c.in-Some.is) no)
+returns-in-Ok-Serve-clause-unread g c = λ no. absurd (files-something c.args.words.now _ _ _ _ _ _ c.in-Ok-Serve.ensures.plan (with-file _ _ _ _ _ _ _ c.in-Ok-Serve.field-0-is c.in-Some.is) no)
 
 pub returns-in-Ok-Serve-clause-unwritten : goal.returns-in-Ok-Serve-clause-unwritten
-returns-in-Ok-Serve-clause-unwritten g c = λ no. absurd (files-something c.args.words.now _ _ _ _ _ c.in-Ok-Serve.ensures.plan (with-file _ _ _ _ _ _ c.in-Ok-Serve.field-0-is c.in-Some.is) no)
+returns-in-Ok-Serve-clause-unwritten g c = λ no. absurd (files-something c.args.words.now _ _ _ _ _ _ c.in-Ok-Serve.ensures.plan (with-file _ _ _ _ _ _ _ c.in-Ok-Serve.field-0-is c.in-Some.is) no)
 
 pub returns-in-Ok-Serve-clause-run : goal.returns-in-Ok-Serve-clause-run
-returns-in-Ok-Serve-clause-run g c = λ asks. absurd (serve-no-run (texts c.args.words.now) _ asks.0 _ _ _ (plan-asks (texts c.args.words.now) _ _ c.in-Ok-Serve.ensures.plan (with-file _ _ _ _ _ _ c.in-Ok-Serve.field-0-is c.in-Some.is)) asks.1)
+returns-in-Ok-Serve-clause-run g c = λ asks. absurd (other-command (texts c.args.words.now) _ _ refl (plan-asks (texts c.args.words.now) _ _ c.in-Ok-Serve.ensures.plan (with-file _ _ _ _ _ _ _ c.in-Ok-Serve.field-0-is c.in-Some.is)) asks.1)
 
 pub returns-in-Ok-Serve-clause-unused_by_run : goal.returns-in-Ok-Serve-clause-unused_by_run
-returns-in-Ok-Serve-clause-unused_by_run g c = λ asks. absurd (serve-no-run (texts c.args.words.now) _ asks.0 _ _ _ (plan-asks (texts c.args.words.now) _ _ c.in-Ok-Serve.ensures.plan (with-file _ _ _ _ _ _ c.in-Ok-Serve.field-0-is c.in-Some.is)) asks.1)
+returns-in-Ok-Serve-clause-unused_by_run g c = λ asks. absurd (other-command (texts c.args.words.now) _ _ refl (plan-asks (texts c.args.words.now) _ _ c.in-Ok-Serve.ensures.plan (with-file _ _ _ _ _ _ _ c.in-Ok-Serve.field-0-is c.in-Some.is)) asks.1)
 
 pub returns-in-Ok-Serve-clause-serve : goal.returns-in-Ok-Serve-clause-serve
-returns-in-Ok-Serve-clause-serve g c = λ asks. absurd (memory-no-file (texts c.args.words.now) asks.0 _ asks.1 _ asks.2 _ _ asks.3 (plan-asks (texts c.args.words.now) _ _ c.in-Ok-Serve.ensures.plan (with-file _ _ _ _ _ _ c.in-Ok-Serve.field-0-is c.in-Some.is)))
+returns-in-Ok-Serve-clause-serve g c = λ asks. absurd (memory-no-file (texts c.args.words.now) _ _ _ _ _ _ _ _ _ asks.4 (plan-asks (texts c.args.words.now) _ _ c.in-Ok-Serve.ensures.plan (with-file _ _ _ _ _ _ _ c.in-Ok-Serve.field-0-is c.in-Some.is)))
 
 pub returns-in-Ok-Serve-clause-unused_by_serve : goal.returns-in-Ok-Serve-clause-unused_by_serve
-returns-in-Ok-Serve-clause-unused_by_serve g c = λ asks. absurd (memory-no-file (texts c.args.words.now) asks.0 _ asks.1 _ asks.2 _ _ asks.3 (plan-asks (texts c.args.words.now) _ _ c.in-Ok-Serve.ensures.plan (with-file _ _ _ _ _ _ c.in-Ok-Serve.field-0-is c.in-Some.is)))
+returns-in-Ok-Serve-clause-unused_by_serve g c = λ asks. absurd (memory-no-file (texts c.args.words.now) _ _ _ _ _ _ _ _ _ asks.4 (plan-asks (texts c.args.words.now) _ _ c.in-Ok-Serve.ensures.plan (with-file _ _ _ _ _ _ _ c.in-Ok-Serve.field-0-is c.in-Some.is)))
 
 pub returns-in-Ok-Serve-clause-files : goal.returns-in-Ok-Serve-clause-files
 returns-in-Ok-Serve-clause-files g c = λ asks. record {
@@ -119,18 +127,25 @@ returns-in-Ok-Serve-clause-files g c = λ asks. record {
   address = c.in-Ok-Serve.field-0-1;
   sessions = c.in-Ok-Serve.sessions;
   path = c.in-Some.field-0;
-  asked = plan-asks (texts c.args.words.now) _ _ c.in-Ok-Serve.ensures.plan (with-file _ _ _ _ _ _ c.in-Ok-Serve.field-0-is c.in-Some.is);
+  wire = c.in-Ok-Serve.wire;
+  asked = plan-asks (texts c.args.words.now) _ _ c.in-Ok-Serve.ensures.plan (with-file _ _ _ _ _ _ _ c.in-Ok-Serve.field-0-is c.in-Some.is);
   promises = c.serve_file.ensures;
 }
 
 pub returns-in-Ok-Serve-clause-audit : goal.returns-in-Ok-Serve-clause-audit
-returns-in-Ok-Serve-clause-audit g c = λ asks. absurd (audit-no-serve (texts c.args.words.now) _ _ _ _ _ _ asks.2 (plan-asks (texts c.args.words.now) _ _ c.in-Ok-Serve.ensures.plan (with-file _ _ _ _ _ _ c.in-Ok-Serve.field-0-is c.in-Some.is)))
+returns-in-Ok-Serve-clause-audit g c = λ asks. absurd (other-command (texts c.args.words.now) _ _ refl (plan-asks (texts c.args.words.now) _ _ c.in-Ok-Serve.ensures.plan (with-file _ _ _ _ _ _ _ c.in-Ok-Serve.field-0-is c.in-Some.is)) asks.2)
 
 pub returns-in-Ok-Serve-clause-unused_by_audit : goal.returns-in-Ok-Serve-clause-unused_by_audit
-returns-in-Ok-Serve-clause-unused_by_audit g c = λ asks. absurd (audit-no-serve (texts c.args.words.now) _ _ _ _ _ _ asks.2 (plan-asks (texts c.args.words.now) _ _ c.in-Ok-Serve.ensures.plan (with-file _ _ _ _ _ _ c.in-Ok-Serve.field-0-is c.in-Some.is)))
+returns-in-Ok-Serve-clause-unused_by_audit g c = λ asks. absurd (other-command (texts c.args.words.now) _ _ refl (plan-asks (texts c.args.words.now) _ _ c.in-Ok-Serve.ensures.plan (with-file _ _ _ _ _ _ _ c.in-Ok-Serve.field-0-is c.in-Some.is)) asks.2)
 
 pub returns-in-Ok-Serve-clause-spared_by_audit : goal.returns-in-Ok-Serve-clause-spared_by_audit
-returns-in-Ok-Serve-clause-spared_by_audit g c = λ asks. absurd (audit-no-serve (texts c.args.words.now) _ _ _ _ _ _ asks.2 (plan-asks (texts c.args.words.now) _ _ c.in-Ok-Serve.ensures.plan (with-file _ _ _ _ _ _ c.in-Ok-Serve.field-0-is c.in-Some.is)))
+returns-in-Ok-Serve-clause-spared_by_audit g c = λ asks. absurd (other-command (texts c.args.words.now) _ _ refl (plan-asks (texts c.args.words.now) _ _ c.in-Ok-Serve.ensures.plan (with-file _ _ _ _ _ _ _ c.in-Ok-Serve.field-0-is c.in-Some.is)) asks.2)
+
+pub returns-in-Ok-Serve-clause-remote : goal.returns-in-Ok-Serve-clause-remote
+returns-in-Ok-Serve-clause-remote g c = λ asks. absurd (other-command (texts c.args.words.now) _ _ refl (plan-asks (texts c.args.words.now) _ _ c.in-Ok-Serve.ensures.plan (with-file _ _ _ _ _ _ _ c.in-Ok-Serve.field-0-is c.in-Some.is)) asks.1)
+
+pub returns-in-Ok-Serve-clause-unused_by_remote : goal.returns-in-Ok-Serve-clause-unused_by_remote
+returns-in-Ok-Serve-clause-unused_by_remote g c = λ asks. absurd (other-command (texts c.args.words.now) _ _ refl (plan-asks (texts c.args.words.now) _ _ c.in-Ok-Serve.ensures.plan (with-file _ _ _ _ _ _ _ c.in-Ok-Serve.field-0-is c.in-Some.is)) asks.1)
 
 -- ---- an audit
 
@@ -144,22 +159,22 @@ pub returns-in-Ok-Audit-clause-unwritten : goal.returns-in-Ok-Audit-clause-unwri
 returns-in-Ok-Audit-clause-unwritten g c = λ no. absurd (audits-something c.args.words.now _ _ _ c.in-Ok-Audit.ensures.plan c.in-Ok-Audit.field-0-is no)
 
 pub returns-in-Ok-Audit-clause-run : goal.returns-in-Ok-Audit-clause-run
-returns-in-Ok-Audit-clause-run g c = λ asks. absurd (audit-no-run (texts c.args.words.now) _ _ asks.0 (plan-asks (texts c.args.words.now) _ _ c.in-Ok-Audit.ensures.plan c.in-Ok-Audit.field-0-is) asks.1)
+returns-in-Ok-Audit-clause-run g c = λ asks. absurd (other-command (texts c.args.words.now) _ _ refl (plan-asks (texts c.args.words.now) _ _ c.in-Ok-Audit.ensures.plan c.in-Ok-Audit.field-0-is) asks.1)
 
 pub returns-in-Ok-Audit-clause-unused_by_run : goal.returns-in-Ok-Audit-clause-unused_by_run
-returns-in-Ok-Audit-clause-unused_by_run g c = λ asks. absurd (audit-no-run (texts c.args.words.now) _ _ asks.0 (plan-asks (texts c.args.words.now) _ _ c.in-Ok-Audit.ensures.plan c.in-Ok-Audit.field-0-is) asks.1)
+returns-in-Ok-Audit-clause-unused_by_run g c = λ asks. absurd (other-command (texts c.args.words.now) _ _ refl (plan-asks (texts c.args.words.now) _ _ c.in-Ok-Audit.ensures.plan c.in-Ok-Audit.field-0-is) asks.1)
 
 pub returns-in-Ok-Audit-clause-serve : goal.returns-in-Ok-Audit-clause-serve
-returns-in-Ok-Audit-clause-serve g c = λ asks. absurd (audit-no-serve (texts c.args.words.now) _ _ asks.0 asks.1 asks.2 None (plan-asks (texts c.args.words.now) _ _ c.in-Ok-Audit.ensures.plan c.in-Ok-Audit.field-0-is) asks.3)
+returns-in-Ok-Audit-clause-serve g c = λ asks. absurd (other-command (texts c.args.words.now) _ _ refl (plan-asks (texts c.args.words.now) _ _ c.in-Ok-Audit.ensures.plan c.in-Ok-Audit.field-0-is) asks.4)
 
 pub returns-in-Ok-Audit-clause-unused_by_serve : goal.returns-in-Ok-Audit-clause-unused_by_serve
-returns-in-Ok-Audit-clause-unused_by_serve g c = λ asks. absurd (audit-no-serve (texts c.args.words.now) _ _ asks.0 asks.1 asks.2 None (plan-asks (texts c.args.words.now) _ _ c.in-Ok-Audit.ensures.plan c.in-Ok-Audit.field-0-is) asks.3)
+returns-in-Ok-Audit-clause-unused_by_serve g c = λ asks. absurd (other-command (texts c.args.words.now) _ _ refl (plan-asks (texts c.args.words.now) _ _ c.in-Ok-Audit.ensures.plan c.in-Ok-Audit.field-0-is) asks.4)
 
 pub returns-in-Ok-Audit-clause-files : goal.returns-in-Ok-Audit-clause-files
-returns-in-Ok-Audit-clause-files g c = λ asks. absurd (audit-no-serve (texts c.args.words.now) _ _ asks.0 asks.1 asks.2 (Some asks.3) (plan-asks (texts c.args.words.now) _ _ c.in-Ok-Audit.ensures.plan c.in-Ok-Audit.field-0-is) asks.4)
+returns-in-Ok-Audit-clause-files g c = λ asks. absurd (other-command (texts c.args.words.now) _ _ refl (plan-asks (texts c.args.words.now) _ _ c.in-Ok-Audit.ensures.plan c.in-Ok-Audit.field-0-is) asks.5)
 
 pub returns-in-Ok-Audit-clause-unused_by_files : goal.returns-in-Ok-Audit-clause-unused_by_files
-returns-in-Ok-Audit-clause-unused_by_files g c = λ asks. absurd (audit-no-serve (texts c.args.words.now) _ _ asks.0 asks.1 asks.2 (Some asks.3) (plan-asks (texts c.args.words.now) _ _ c.in-Ok-Audit.ensures.plan c.in-Ok-Audit.field-0-is) asks.4)
+returns-in-Ok-Audit-clause-unused_by_files g c = λ asks. absurd (other-command (texts c.args.words.now) _ _ refl (plan-asks (texts c.args.words.now) _ _ c.in-Ok-Audit.ensures.plan c.in-Ok-Audit.field-0-is) asks.5)
 
 pub returns-in-Ok-Audit-clause-audit : goal.returns-in-Ok-Audit-clause-audit
 returns-in-Ok-Audit-clause-audit g c = λ asks. record {
@@ -172,14 +187,63 @@ returns-in-Ok-Audit-clause-audit g c = λ asks. record {
 pub returns-in-Ok-Audit-clause-spared_by_audit : goal.returns-in-Ok-Audit-clause-spared_by_audit
 returns-in-Ok-Audit-clause-spared_by_audit g c = λ asks. (c.audit_file.ensures.audits.spared, c.audit_file.ensures.past)
 
+pub returns-in-Ok-Audit-clause-remote : goal.returns-in-Ok-Audit-clause-remote
+returns-in-Ok-Audit-clause-remote g c = λ asks. absurd (other-command (texts c.args.words.now) _ _ refl (plan-asks (texts c.args.words.now) _ _ c.in-Ok-Audit.ensures.plan c.in-Ok-Audit.field-0-is) asks.1)
+
+pub returns-in-Ok-Audit-clause-unused_by_remote : goal.returns-in-Ok-Audit-clause-unused_by_remote
+returns-in-Ok-Audit-clause-unused_by_remote g c = λ asks. absurd (other-command (texts c.args.words.now) _ _ refl (plan-asks (texts c.args.words.now) _ _ c.in-Ok-Audit.ensures.plan c.in-Ok-Audit.field-0-is) asks.1)
+
+-- ---- a session over a store elsewhere
+
+pub returns-in-Ok-Remote-clause-other : goal.returns-in-Ok-Remote-clause-other
+returns-in-Ok-Remote-clause-other g c = λ no. absurd (remotes-something c.args.words.now _ _ c.in-Ok-Remote.ensures.plan c.in-Ok-Remote.field-0-is no)
+
+pub returns-in-Ok-Remote-clause-unread : goal.returns-in-Ok-Remote-clause-unread
+returns-in-Ok-Remote-clause-unread g c = λ no. absurd (remotes-something c.args.words.now _ _ c.in-Ok-Remote.ensures.plan c.in-Ok-Remote.field-0-is no)
+
+pub returns-in-Ok-Remote-clause-unwritten : goal.returns-in-Ok-Remote-clause-unwritten
+returns-in-Ok-Remote-clause-unwritten g c = λ no. absurd (remotes-something c.args.words.now _ _ c.in-Ok-Remote.ensures.plan c.in-Ok-Remote.field-0-is no)
+
+pub returns-in-Ok-Remote-clause-run : goal.returns-in-Ok-Remote-clause-run
+returns-in-Ok-Remote-clause-run g c = λ asks. absurd (other-command (texts c.args.words.now) _ _ refl (plan-asks (texts c.args.words.now) _ _ c.in-Ok-Remote.ensures.plan c.in-Ok-Remote.field-0-is) asks.1)
+
+pub returns-in-Ok-Remote-clause-unused_by_run : goal.returns-in-Ok-Remote-clause-unused_by_run
+returns-in-Ok-Remote-clause-unused_by_run g c = λ asks. absurd (other-command (texts c.args.words.now) _ _ refl (plan-asks (texts c.args.words.now) _ _ c.in-Ok-Remote.ensures.plan c.in-Ok-Remote.field-0-is) asks.1)
+
+pub returns-in-Ok-Remote-clause-serve : goal.returns-in-Ok-Remote-clause-serve
+returns-in-Ok-Remote-clause-serve g c = λ asks. absurd (other-command (texts c.args.words.now) _ _ refl (plan-asks (texts c.args.words.now) _ _ c.in-Ok-Remote.ensures.plan c.in-Ok-Remote.field-0-is) asks.4)
+
+pub returns-in-Ok-Remote-clause-unused_by_serve : goal.returns-in-Ok-Remote-clause-unused_by_serve
+returns-in-Ok-Remote-clause-unused_by_serve g c = λ asks. absurd (other-command (texts c.args.words.now) _ _ refl (plan-asks (texts c.args.words.now) _ _ c.in-Ok-Remote.ensures.plan c.in-Ok-Remote.field-0-is) asks.4)
+
+pub returns-in-Ok-Remote-clause-files : goal.returns-in-Ok-Remote-clause-files
+returns-in-Ok-Remote-clause-files g c = λ asks. absurd (other-command (texts c.args.words.now) _ _ refl (plan-asks (texts c.args.words.now) _ _ c.in-Ok-Remote.ensures.plan c.in-Ok-Remote.field-0-is) asks.5)
+
+pub returns-in-Ok-Remote-clause-unused_by_files : goal.returns-in-Ok-Remote-clause-unused_by_files
+returns-in-Ok-Remote-clause-unused_by_files g c = λ asks. absurd (other-command (texts c.args.words.now) _ _ refl (plan-asks (texts c.args.words.now) _ _ c.in-Ok-Remote.ensures.plan c.in-Ok-Remote.field-0-is) asks.5)
+
+pub returns-in-Ok-Remote-clause-audit : goal.returns-in-Ok-Remote-clause-audit
+returns-in-Ok-Remote-clause-audit g c = λ asks. absurd (other-command (texts c.args.words.now) _ _ refl (plan-asks (texts c.args.words.now) _ _ c.in-Ok-Remote.ensures.plan c.in-Ok-Remote.field-0-is) asks.2)
+
+pub returns-in-Ok-Remote-clause-unused_by_audit : goal.returns-in-Ok-Remote-clause-unused_by_audit
+returns-in-Ok-Remote-clause-unused_by_audit g c = λ asks. absurd (other-command (texts c.args.words.now) _ _ refl (plan-asks (texts c.args.words.now) _ _ c.in-Ok-Remote.ensures.plan c.in-Ok-Remote.field-0-is) asks.2)
+
+pub returns-in-Ok-Remote-clause-remote : goal.returns-in-Ok-Remote-clause-remote
+returns-in-Ok-Remote-clause-remote g c = λ asks. record {
+  address = c.in-Ok-Remote.field-0-0;
+  asked = plan-asks (texts c.args.words.now) _ _ c.in-Ok-Remote.ensures.plan c.in-Ok-Remote.field-0-is;
+  promises = c.remote.ensures;
+}
+
 -- ---- words of no form
 
 pub returns-in-Err-BadWords-clause-form : goal.returns-in-Err-BadWords-clause-form
 returns-in-Err-BadWords-clause-form g c = λ one. (
   λ asks. refused-no-plan (texts c.args.words.now) _ c.in-Err-BadWords.field-0-0 _ c.in-Err-BadWords.ensures.refused c.in-Err-BadWords.field-0-is asks.1,
-  λ asks. refused-no-plan (texts c.args.words.now) _ c.in-Err-BadWords.field-0-0 _ c.in-Err-BadWords.ensures.refused c.in-Err-BadWords.field-0-is asks.3,
   λ asks. refused-no-plan (texts c.args.words.now) _ c.in-Err-BadWords.field-0-0 _ c.in-Err-BadWords.ensures.refused c.in-Err-BadWords.field-0-is asks.4,
+  λ asks. refused-no-plan (texts c.args.words.now) _ c.in-Err-BadWords.field-0-0 _ c.in-Err-BadWords.ensures.refused c.in-Err-BadWords.field-0-is asks.5,
   λ asks. refused-no-plan (texts c.args.words.now) _ c.in-Err-BadWords.field-0-0 _ c.in-Err-BadWords.ensures.refused c.in-Err-BadWords.field-0-is asks.2,
+  λ asks. refused-no-plan (texts c.args.words.now) _ c.in-Err-BadWords.field-0-0 _ c.in-Err-BadWords.ensures.refused c.in-Err-BadWords.field-0-is asks.1,
 )
 
 pub returns-in-Err-BadWords-clause-run : goal.returns-in-Err-BadWords-clause-run
@@ -188,15 +252,19 @@ returns-in-Err-BadWords-clause-run g c = λ asks. absurd
 
 pub returns-in-Err-BadWords-clause-serve : goal.returns-in-Err-BadWords-clause-serve
 returns-in-Err-BadWords-clause-serve g c = λ asks. absurd
-    (refused-no-plan (texts c.args.words.now) _ c.in-Err-BadWords.field-0-0 _ c.in-Err-BadWords.ensures.refused c.in-Err-BadWords.field-0-is asks.3)
+    (refused-no-plan (texts c.args.words.now) _ c.in-Err-BadWords.field-0-0 _ c.in-Err-BadWords.ensures.refused c.in-Err-BadWords.field-0-is asks.4)
 
 pub returns-in-Err-BadWords-clause-files : goal.returns-in-Err-BadWords-clause-files
 returns-in-Err-BadWords-clause-files g c = λ asks. absurd
-    (refused-no-plan (texts c.args.words.now) _ c.in-Err-BadWords.field-0-0 _ c.in-Err-BadWords.ensures.refused c.in-Err-BadWords.field-0-is asks.4)
+    (refused-no-plan (texts c.args.words.now) _ c.in-Err-BadWords.field-0-0 _ c.in-Err-BadWords.ensures.refused c.in-Err-BadWords.field-0-is asks.5)
 
 pub returns-in-Err-BadWords-clause-audit : goal.returns-in-Err-BadWords-clause-audit
 returns-in-Err-BadWords-clause-audit g c = λ asks. absurd
     (refused-no-plan (texts c.args.words.now) _ c.in-Err-BadWords.field-0-0 _ c.in-Err-BadWords.ensures.refused c.in-Err-BadWords.field-0-is asks.2)
+
+pub returns-in-Err-BadWords-clause-remote : goal.returns-in-Err-BadWords-clause-remote
+returns-in-Err-BadWords-clause-remote g c = λ asks. absurd
+    (refused-no-plan (texts c.args.words.now) _ c.in-Err-BadWords.field-0-0 _ c.in-Err-BadWords.ensures.refused c.in-Err-BadWords.field-0-is asks.1)
 
 -- ---- no memory for the words
 
@@ -213,8 +281,9 @@ returns-clause-serve g c = λ asks. record {
   settings = asks.0;
   address = asks.1;
   sessions = asks.2;
-  asked = asks.3;
-  promises = unended-serves _ asks.0 asks.2 _ _ refl refl;
+  wire = asks.3;
+  asked = asks.4;
+  promises = unended-serves _ _ asks.0 asks.2 _ _ refl refl;
 }
 
 pub returns-clause-files : goal.returns-clause-files
@@ -223,8 +292,9 @@ returns-clause-files g c = λ asks. record {
   address = asks.1;
   sessions = asks.2;
   path = asks.3;
-  asked = asks.4;
-  promises = refused-serves _ asks.0 asks.2 _ _ _ error.NoMemory (refl, refl);
+  wire = asks.4;
+  asked = asks.5;
+  promises = refused-serves _ _ asks.0 asks.2 _ _ _ error.NoMemory (refl, refl);
 }
 
 pub returns-clause-audit : goal.returns-clause-audit
@@ -233,4 +303,11 @@ returns-clause-audit g c = λ asks. record {
   at = asks.1;
   asked = asks.2;
   promises = audits-unread _ _ asks.1 error.NoMemory (no-memory _ _ refl (refl, refl));
+}
+
+pub returns-clause-remote : goal.returns-clause-remote
+returns-clause-remote g c = λ asks. record {
+  address = asks.0;
+  asked = asks.1;
+  promises = unreached _ _ _ _;
 }

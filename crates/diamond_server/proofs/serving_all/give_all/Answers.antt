@@ -16,18 +16,18 @@ loop-ended-init g c =
       links = refl;
       count = refl;
       len = search rules;
-      settling = settling-start _ _ _ _ _ gives.0 c.requires.near;
+      settling = settling-start _ _ _ _ _ _ gives.0 c.requires.near;
     }
 
 pub settled-link-requires : goal.settled-link-requires
 settled-link-requires g c =
     let was = c.loop-ended.invariant in
-    record { near = subst (λ (p : Passed). IsNear p c.in-Some.ended) (sym was.same) (settling-near _ _ _ _ _ _ _ _ _ was.settling c.in-Some.ensures.steps.0) }
+    record { near = subst (λ (p : Passed). IsNear p c.in-Some.ended) (sym was.same) (settling-near _ _ _ _ _ _ _ _ _ _ was.settling c.in-Some.ensures.steps.0) }
 
 pub with_status-faulted-requires : goal.with_status-faulted-requires
 with_status-faulted-requires g c =
     let was = c.loop-ended.invariant in
-    let few = settling-few _ _ _ _ _ _ _ _ _ was.settling c.in-Some.ensures.steps.0 in
+    let few = settling-few _ _ _ _ _ _ _ _ _ _ was.settling c.in-Some.ensures.steps.0 in
     let all = c.requires.few in omega (arith, few, all)
 
 pub loop-ended-preserved : goal.loop-ended-preserved
@@ -41,12 +41,12 @@ loop-ended-preserved g c =
       links = c.give_back.ensures.same ∙ was.links;
       count = c.give_back.ensures.count ∙ was.count;
       len = omega (arith, step.1, was.len, ap length step.0);
-      settling = settling-next _ _ _ _ _ _ _ _ _ _ _ was.settling step.0
+      settling = settling-next _ _ _ _ _ _ _ _ _ _ _ _ was.settling step.0
           (back.ok ∙ ap (λ given. with_more (g.Li.Listener.given_back c.loop-ended.listener) (given ∷ [])) c.settled-link.ensures.given)
-          (served-at told c.loop-ended.pass c.args.pass.now c.in-Some.ended was.same c.settled-link.ensures.served)
+          (served-at g.S.Serves.promised told c.loop-ended.pass c.args.pass.now c.in-Some.ended was.same c.settled-link.ensures.served)
           (c.with_status-faulted.ensures ∙ ap (λ (k : ℕ). c.loop-ended.faulted + (if k == WHOLE then 0 else 1)) (ap (λ p. p.1) c.settled-link.ensures.given));
     }
 
 pub returns-clause-settled : goal.returns-clause-settled
 returns-clause-settled g c =
-    let was = c.loop-ended.invariant in settling-end _ _ _ _ _ _ _ _ c.in-None.ensures.steps.0 was.len was.settling
+    let was = c.loop-ended.invariant in settling-end _ _ _ _ _ _ _ _ _ c.in-None.ensures.steps.0 was.len was.settling

@@ -11,6 +11,6 @@ invariant-loop-ended g l = record {
   links : g.Li.Listener.links l.listener ≡ g.Li.Listener.links l.fn.listener;
   count : g.Li.Listener.accept_faults l.listener ≡ g.Li.Listener.accept_faults l.fn.listener;
   len : into_iter_len l.ended-iterator ≡ length (into_iter_items l.ended-iterator);
-  settling : Settling (sides g.Li.Link.Source g.Li.Link.Sink)
+  settling : Settling g.S.Serves.promised (sides g.Li.Link.Source g.Li.Link.Sink)
       l.fn.pass l.fn.all.items (into_iter_items l.ended-iterator) (g.Li.Listener.given_back l.fn.listener) (g.Li.Listener.given_back l.listener) l.faulted;
 }

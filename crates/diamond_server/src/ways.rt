@@ -1,0 +1,44 @@
+//! Ways to serve the link of a new client.
+
+ghost use Rattle.std.specs.Prelude.{◌≡◌};
+ghost use Rattle.diamond_server.specs.Promises.{sides, IsNew};
+ghost use Rattle.diamond_server.specs.Ways.{Promising, StaysPromised};
+
+use crate::serving::serve_session;
+use dio_core::End;
+use docc_prepare::Waiter;
+use std::alloc::Global;
+
+/// A way to serve the link of a new client. What is promised of the link is said by what its client knows, so that it can be told
+/// of many links by what is known when all of them have ended.
+pub trait Serves {
+    /// What is promised of a link.
+    ghost promised: { Promising };
+
+    /// Serves a link for the backend's client, and answers a status.
+    fn serve<B: Waiter, K: End>(alloc: Global, backend: &mut B, link: &mut K) -> u8
+        requires new { IsNew (B.known backend.old) }
+        ensures promises { promised (B.known backend.old) (B.known backend.new) (B.known backend.new) result
+            (sides K.Source K.Sink link.old) (sides K.Source K.Sink link.new) }
+        ensures home { B.home backend.new ≡ B.home backend.old };
+
+    /// The law that what is promised stays so where the client learns more.
+    fn stays_promised()
+        ensures { StaysPromised promised };
+}
+
+/// Links are served as sessions of lines.
+pub struct SessionLines;
+
+impl Serves for SessionLines {
+    ghost use Rattle.diamond_server.specs.Accounts.{LinesPromised};
+
+    ghost promised = { LinesPromised };
+
+    fn serve<B: Waiter, K: End>(alloc: Global, backend: &mut B, link: &mut K) -> u8 {
+        let _shards = backend.shards();
+        serve_session(alloc, backend, link)
+    }
+
+    fn stays_promised() {}
+}

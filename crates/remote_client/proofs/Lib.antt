@@ -1,0 +1,3 @@
+pub mod Answered
+mod Asking
+mod Through

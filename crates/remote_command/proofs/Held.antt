@@ -1,0 +1,100 @@
+-- What a session over a remote client promises of its caller.
+use Rattle.std.proofs.Common.{◌≡◌, ℕ, List, inr, refl, sym, ap, ◌∙◌, subst}
+use Rattle.std.specs.Prelude.{Option, Some, None, IfSome}
+use Rattle.dio_core.specs.Counts.{Rose, IsCounted}
+use Rattle.dio_core.specs.declared.sink.Sink.{Ghosts as SinkTells}
+use Rattle.dio_core.specs.declared.source.Source.{Ghosts as SourceTells}
+use Rattle.dio_core.specs.Links.{Both}
+use Rattle.txn_grammar.specs.Characters.{Text}
+use Rattle.txn_lang.specs.States.{Journal}
+use Rattle.docc_prepare.specs.declared.backend.StoreError.{StoreError}
+use Rattle.docc_prepare.specs.declared.backend.StoreError.TheVariants as store_error
+use Rattle.docc_prepare.specs.Calls.{Known, Call, Answer}
+use Rattle.diamond_server.specs.Talking.{Told}
+use Rattle.diamond_server.specs.Promises.{IsNew, IsNewTo, IsServed, Promises, KeepsPromises}
+use Rattle.remote_calls.specs.Calling.{is_fault_error}
+use Rattle.remote_client.specs.Standing.{Standing, stood_for, Steps}
+use Rattle.remote_client.specs.Opening.{Begins}
+use Rattle.remote_command.specs.Running.{ends, IsHeld, KeepsOver, failure}
+
+-- who tells no journal is new
+untold-new : (k : Known) → k.journal ≡ None → IsNew k
+untold-new k none = subst (λ (o : Option Journal). IfSome o (IsNewTo k)) (sym none) tt
+
+module _ {S W C : Type 0} (source : SourceTells S) (sink : SinkTells W) (known : C → Known) (goes : C → Call → Answer → C → Type 0) where
+  -- a session over the two that were joined is one over these two, as they were and as they are given back
+  pub at-ends : (status : ℕ) (old new : C) (j k : S × W) (s t : S) (u v : W) → j ≡ (s, u) → t ≡ k.0 → v ≡ k.1
+      → KeepsPromises known goes status old new (ends source sink j.0 j.1) (ends source sink k.0 k.1)
+      → KeepsPromises known goes status old new (ends source sink s u) (ends source sink t v)
+  at-ends status old new j k s t u v was is_source is_sink p =
+      subst (λ (x : S × W). KeepsPromises known goes status old new (ends source sink x.0 x.1) (ends source sink t v)) was
+      (subst (λ (a : S). KeepsPromises known goes status old new (ends source sink j.0 j.1) (ends source sink a v)) (sym is_source)
+      (subst (λ (b : W). KeepsPromises known goes status old new (ends source sink j.0 j.1) (ends source sink k.0 b)) (sym is_sink) p))
+
+  -- so it is where they are what was lent
+  pub at-lent : (status : ℕ) (old new : C) (s t a : S) (u v b : W) → a ≡ t → b ≡ v
+      → KeepsPromises known goes status old new (ends source sink s u) (ends source sink t v)
+      → KeepsPromises known goes status old new (ends source sink s u) (ends source sink a b)
+  at-lent status old new s t a u v b is_source is_sink p =
+      subst (λ (x : S). KeepsPromises known goes status old new (ends source sink s u) (ends source sink x b)) (sym is_source)
+      (subst (λ (x : W). KeepsPromises known goes status old new (ends source sink s u) (ends source sink t x)) (sym is_sink) p)
+
+module _ {C : Type 0} (known : C → Known) (home : C → ℕ) (goes : C → Call → Answer → C → Type 0) (caller : C) where
+  -- so it is behind the greeting of a caller that doesn't tell
+  pub opened-new : (opened : Standing C) → (known caller).journal ≡ None → Begins known home caller opened → IsNew (stood_for known opened)
+  opened-new opened none begins =
+      untold-new (stood_for known opened) (ap (λ (k : Known). k.journal) begins.known_is ∙ none)
+
+  -- the greeting has counted no fault
+  opened-faults : (opened : Standing C) → Begins known home caller opened → (stood_for known opened).faults ≡ (known caller).faults
+  opened-faults opened begins =
+      ap (λ (r : Standing C). (known r.caller).faults) begins.well ∙ ap (λ (k : Known). k.faults) begins.known_is
+
+  -- behind a greeting: the promises of the session are those of its client's caller
+  pub over-opened : (opened ended : Standing C) (status : ℕ) (x y : Both) → Begins known home caller opened
+      → KeepsPromises (stood_for known) (Steps goes) status opened ended x y → KeepsOver known home goes caller ended.caller status x y
+  over-opened opened ended status x y begins p = record {
+    statuses = p.statuses;
+    whole = λ is. held (p.whole is);
+    broken_off = λ is. held (p.broken_off is);
+    too_many = λ is. held (p.too_many is);
+    reads = p.reads;
+    writes = p.writes;
+    store_failed = λ is. subst (λ (n : ℕ). Rose n (known ended.caller).faults) (opened-faults opened begins) (p.store_failed is);
+    completes = λ all left few reads writes faults.
+        p.completes all left few reads writes (subst (λ (n : ℕ). Rose n (known ended.caller).faults → ⊥) (sym (opened-faults opened begins)) faults);
+  }
+    where
+      held : {Reads : List Told → Text → Text → Type 0} → IsServed (stood_for known) (Steps goes) opened ended x y Reads
+          → IsHeld known home goes caller ended.caller x y Reads
+      held served = record { opened = opened; ended = ended; begins = begins; served = served; back_is = refl }
+
+  -- so they are of the caller that is given back
+  pub over-closed : (opened ended : Standing C) (back : C) (status : ℕ) (x y : Both) → back ≡ ended.caller → Begins known home caller opened
+      → KeepsPromises (stood_for known) (Steps goes) status opened ended x y → KeepsOver known home goes caller back status x y
+  over-closed opened ended back status x y is begins p =
+      subst (λ (b : C). KeepsOver known home goes caller b status x y) (sym is) (over-opened opened ended status x y begins p)
+
+  -- without a greeting nothing was read and nothing was written
+  pub over-unopened : (back : C) (e : StoreError) (x : Both) → IsCounted (is_fault_error e) (known caller).faults (known back).faults
+      → KeepsOver known home goes caller back (failure e) x x
+  over-unopened back store_error.Fault x counted = record {
+    statuses = refl;
+    whole = λ is. absurd (cc is);
+    broken_off = λ is. absurd (cc is);
+    too_many = λ is. absurd (cc is);
+    reads = refl;
+    writes = refl;
+    store_failed = λ is. counted;
+    completes = λ all left few reads writes faults. absurd (faults counted);
+  }
+  over-unopened back store_error.NoMemory x counted = record {
+    statuses = refl;
+    whole = λ is. absurd (cc is);
+    broken_off = λ is. absurd (cc is);
+    too_many = λ is. absurd (cc is);
+    reads = refl;
+    writes = refl;
+    store_failed = λ is. absurd (cc is);
+    completes = λ all left few reads writes faults. inr refl;
+  }

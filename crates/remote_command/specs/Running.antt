@@ -1,0 +1,47 @@
+-- What a session here over a store elsewhere promises, by the status that it ends with.
+use Rattle.std.specs.Prelude.{◌≡◌, ℕ, List}
+use Rattle.dio_core.specs.declared.sink.Sink.{Ghosts as SinkTells}
+use Rattle.dio_core.specs.declared.source.Source.{Ghosts as SourceTells}
+use Rattle.dio_core.specs.Links.{Both, incoming, outgoing}
+use Rattle.txn_grammar.specs.Characters.{Text}
+use Rattle.docc_prepare.specs.declared.backend.StoreError.{StoreError}
+use Rattle.docc_prepare.specs.declared.backend.StoreError.TheVariants as store_error
+use Rattle.docc_prepare.specs.Calls.{Known, Call, Answer}
+use Rattle.script_runner.specs.declared.status.TheConstants.{NO_MEMORY}
+use Rattle.diamond_server.specs.declared.status.TheConstants.{STORE_FAULT}
+use Rattle.diamond_server.specs.Talking.{Told}
+use Rattle.diamond_server.specs.Promises.{IsServed, Promises}
+use Rattle.remote_client.specs.Standing.{Standing, stood_for, Steps}
+use Rattle.remote_client.specs.Opening.{Begins}
+
+-- ---- both ends of a session
+
+-- a source and a sink, as the two sides of one link
+abbrev pub ends : {S W : Type 0} → SourceTells S → SinkTells W → S → W → Both
+ends source sink s w = record {
+  inwards = incoming (source.left s) (source.read_faults s);
+  outwards = outgoing (sink.taken w) (sink.passed w) (sink.write_faults w);
+}
+
+-- ---- over any caller
+
+-- A SESSION WAS HELD: a client greeted by this caller, and then did the lines that were read, each call by a step of what it asks;
+-- behind it the caller is this one.
+pub record IsHeld {C : Type 0} (known : C → Known) (home : C → ℕ) (goes : C → Call → Answer → C → Type 0) (caller back : C) (x y : Both)
+    (Reads : List Told → Text → Text → Type 0) : Type 0 where
+  pub opened : Standing C
+  pub ended : Standing C
+  pub begins : Begins known home caller opened
+  pub served : IsServed (stood_for known) (Steps goes) opened ended x y Reads
+  pub back_is : back ≡ ended.caller
+
+-- WHAT A SESSION OVER A CALLER PROMISES: all that a session over a link to its own store does, but that its client has greeted first. At
+-- 6 the caller has counted a fault.
+abbrev pub KeepsOver : {C : Type 0} → (C → Known) → (C → ℕ) → (C → Call → Answer → C → Type 0) → C → C → ℕ → Both → Both → Type 0
+KeepsOver known home goes caller back status x y =
+    Promises (IsHeld known home goes caller back x y) (known caller) (known back) status x y
+
+-- the status of a session whose client isn't greeted
+abbrev pub failure : StoreError → ℕ
+failure store_error.Fault = STORE_FAULT
+failure store_error.NoMemory = NO_MEMORY

@@ -1,0 +1,7 @@
+pub mod Exchanging
+pub mod Table
+pub mod Linking
+pub mod Kept
+pub mod Ends
+pub mod Talks
+pub mod code

@@ -1,0 +1,10 @@
+pub mod Alike
+pub mod Reasked
+pub mod Found
+pub mod Named
+pub mod Standing
+pub mod Handed
+pub mod Suiting
+pub mod Meant
+pub mod Answering
+pub mod Texts

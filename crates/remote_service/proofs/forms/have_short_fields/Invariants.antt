@@ -1,0 +1,8 @@
+use Rattle.std.proofs.Common.{take}
+use Rattle.std.specs.List.{AllByRecursion}
+use Rattle.record_code.specs.Forms.{IsShort, IsShortMark}
+use Rattle.remote_service.proofs.forms.have_short_fields.Given as goal
+
+-- all so far
+abbrev pub invariant-loop-marked : goal.invariant-loop-marked
+invariant-loop-marked l = AllByRecursion (λ marked. IsShort marked.0 × IsShortMark marked.1) (take l.marked-index l.fn.marks)

@@ -1,0 +1,5 @@
+pub mod Keeping
+pub mod Anew
+pub mod Malformed
+pub mod Serving
+pub mod code

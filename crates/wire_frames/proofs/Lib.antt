@@ -1,0 +1,3 @@
+pub mod Cut
+mod Pieced
+mod Written

@@ -1,0 +1,4 @@
+pub mod Talking
+pub mod Promises
+pub mod Links
+pub mod code
