@@ -2,9 +2,10 @@
 // counter that all share and writes 1 more, with 16 tries at most. Each session has so many transactions in flight: it begins as
 // many at first, sent together, and for those whose replies one read has brought as many again. A raise of the shared counter is
 // alone in flight. It prints how many were committed, how many ended by an abort, the seconds from the first message to the last
-// reply, and how much of a processor this client took, in percent.
+// reply, and how much of a processor this client took, in percent. Into a file, where one is named, it writes when each commit was
+// known, in seconds of the monotonic clock, as doubles.
 //
-// usage: serve_client diamond|redis own|one SESSIONS IN_FLIGHT TRANSACTIONS SECONDS PORT
+// usage: serve_client diamond|redis own|one SESSIONS IN_FLIGHT TRANSACTIONS SECONDS PORT [FILE]
 #include <arpa/inet.h>
 #include <netinet/tcp.h>
 #include <poll.h>
@@ -18,7 +19,7 @@
 #include <time.h>
 #include <unistd.h>
 
-enum { MOST_SESSIONS = 64, MOST_IN_FLIGHT = 64, MOST_TRIES = 16, ROOM = 4096, PATIENCE_MILLISECONDS = 10000 };
+enum { MOST_SESSIONS = 64, MOST_IN_FLIGHT = 64, MOST_TRIES = 16, ROOM = 4096, PATIENCE_MILLISECONDS = 10000, MOST_TIMES = 100000 };
 
 enum outcome { UNFINISHED, COMMITTED, ABORTED };
 
@@ -41,6 +42,7 @@ static double deadline;
 static struct session sessions[MOST_SESSIONS];
 static struct pollfd links[MOST_SESSIONS];
 static long begun, commits, aborts;
+static double times[MOST_TIMES]; // of the first commits
 static int running;
 
 static void fail(const char *what, const char *which) {
@@ -192,7 +194,9 @@ static void receive(struct session *session) {
     if (count <= 0) fail("the link ended behind:", first_reply(session));
     session->to += count;
     session->replies[session->to] = 0;
+    double received = now();
     for (enum outcome outcome; (outcome = outcome_of(session)) != UNFINISHED;) {
+        if (outcome == COMMITTED && commits < MOST_TIMES) times[commits] = received;
         commits += outcome == COMMITTED;
         aborts += outcome == ABORTED;
         session->in_flight--;
@@ -212,8 +216,15 @@ static void run(int count) {
     }
 }
 
+static void write_times(const char *name) {
+    FILE *file = fopen(name, "wb");
+    size_t count = commits < MOST_TIMES ? commits : MOST_TIMES;
+    if (file == NULL || fwrite(times, sizeof times[0], count, file) != count || fclose(file) != 0) fail("this was not written:", name);
+}
+
 int main(int arguments, char **argument) {
-    if (arguments != 8) fail("usage:", "serve_client diamond|redis own|one SESSIONS IN_FLIGHT TRANSACTIONS SECONDS PORT");
+    if (arguments != 8 && arguments != 9)
+        fail("usage:", "serve_client diamond|redis own|one SESSIONS IN_FLIGHT TRANSACTIONS SECONDS PORT [FILE]");
     with_redis = strcmp(argument[1], "redis") == 0;
     is_shared = strcmp(argument[2], "one") == 0;
     running = atoi(argument[3]);
@@ -229,6 +240,7 @@ int main(int arguments, char **argument) {
     deadline = start + atof(argument[6]);
     run(running);
     double seconds = now() - start;
+    if (arguments == 9) write_times(argument[8]);
     printf("%ld %ld %.6f %.0f\n", commits, aborts, seconds, 100 * processor_seconds() / seconds);
     return 0;
 }
