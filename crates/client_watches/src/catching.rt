@@ -13,9 +13,11 @@ use crate::replies::say;
 use crate::watching::{AddressList, ReplyList, Watching};
 use docc_prepare::Backend;
 use plain_data::{Text, copied};
+use rdt_types::Outcome;
 use rerun_driver::{Driver, Rerun};
 use session_text::Reply;
 use std::alloc::AllocError;
+use std::mem::replace;
 use txn_lang::{Run, Seen, TICK_LIMIT};
 
 /// Adds the addresses at which something was observed.
@@ -55,7 +57,9 @@ fn report(
     ensures said { OnOk result (said.new ≡ said.old ++ spec.report_of watching.old name run ∷ []) }
 {
     let number = watching.cache.at();
-    let outcome = copied(&run.outcome)?;
+    let mut run = run;
+    // The watch keeps what the run observed, and the reply its outcome.
+    let outcome = replace(&mut run.outcome, Outcome::Spent);
     loosen(&watching.watches, &mut watching.loose, &name)?;
     watching.watches.reserve(&run)?;
     watching.watches.settle(&name, number, run);

@@ -12,9 +12,11 @@ use crate::fetching::fetch;
 use crate::watching::{ReplyList, Watching};
 use docc_prepare::Backend;
 use plain_data::{Text, copied};
+use rdt_types::Outcome;
 use rerun_driver::run_on;
 use session_text::Reply;
 use std::alloc::{AllocError, Global};
+use std::mem::replace;
 use txn_eval::Step;
 use txn_lang::{Checked, Run, TICK_LIMIT};
 
@@ -63,7 +65,9 @@ fn keep(
     ensures said { OnOk result (said.new ≡ said.old ++ spec.report_of watching.old name run ∷ []) }
 {
     let number = watching.cache.at();
-    let outcome = copied(&run.outcome)?;
+    let mut run = run;
+    // The watch keeps what the run observed, and the reply its outcome.
+    let outcome = replace(&mut run.outcome, Outcome::Spent);
     let shown = copied(&name)?;
     watching.watches.watch(name, body, number, run)?;
     said.push(Reply::Ran(shown, number, outcome))?;
