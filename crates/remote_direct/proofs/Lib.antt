@@ -1,0 +1,6 @@
+mod Kept
+mod Anew
+mod Meaning
+mod Aside
+mod Directed
+mod Through

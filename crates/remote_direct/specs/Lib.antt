@@ -1,0 +1,3 @@
+pub mod Directing
+pub mod Laws
+pub mod code
