@@ -1,5 +1,8 @@
+pub mod FirstCalls
 pub mod Talked
 pub mod Held
+pub mod Stopping
+pub mod CutShort
 pub mod Lines
 pub mod Promises
 pub mod Beginning

@@ -9,7 +9,7 @@ use Rattle.dio_core.specs.declared.line.TheConstants.{LONGEST_LINE}
 use Rattle.dio_core.specs.declared.line.Line.{Line}
 use Rattle.dio_core.specs.declared.line.Line.TheVariants as line
 use Rattle.dio_core.specs.Counts.{Rose}
-use Rattle.dio_core.proofs.Counts.{Rose-then_Rose}
+use Rattle.dio_core.specs.Sinks.{TakesPrefix}
 use Rattle.dio_core.specs.Lines.{lines, TakesFirst, Answers as LineAnswers, TakesLine, BreaksOff, line_of as cut_of}
 use Rattle.dio_core.specs.Links.{Both, Incoming, Outgoing}
 use Rattle.dio_core.specs.Told.{WhereTold}
@@ -24,11 +24,13 @@ use Rattle.script_runner.specs.Play.{left}
 use Rattle.script_runner.specs.declared.stop.TheConstants.{MOST_LINES}
 use Rattle.diamond_server.specs.declared.status.Cause.TheVariants as cause
 use Rattle.diamond_server.specs.Talking.{Told, Answers, Talks, AreInOrder, turn_text, is_over, first_session, reply_line, reply_lines, printed, output, line_told}
-use Rattle.diamond_server.specs.Promises.{HasRead, ReadsToTheEnd, ReadsUpToAFault, ReadsOneMore, IsServed}
-use Rattle.diamond_server.specs.code.Serving.{Stop, HoldsBack, Settles, Finds, BreaksOffIn, FindsLine, SameCounts, Replies, StopsBy, kept, DoesLine}
-use Rattle.diamond_server.specs.code.Serving.{FindsNone, Turns, HasServed, Ends}
-use Rattle.diamond_server.proofs.Held.{holds-same, holds-then, holds-more, holds-none}
-use Rattle.diamond_server.proofs.Talked.{output-more, talk-accounted, talk-ordered, order-on}
+use Rattle.diamond_server.specs.Talking.{MayBegin}
+use Rattle.diamond_server.specs.Promises.{HasRead, ReadsToTheEnd, ReadsUpToAFault, ReadsOneMore, ReadsNext, TakesPart, TakesWhole, IsServed, IsCutShort}
+use Rattle.diamond_server.specs.code.Serving.{Stop, HoldsBack, CutsOff, Settles, Finds, BreaksOffIn, FindsLine, Replies, StopsBy, text_of, kept, DoesLine}
+use Rattle.diamond_server.specs.code.Serving.{FindsNone, StopsIn, DoesUnheard, Turns, HasServed, Ends}
+use Rattle.diamond_server.proofs.CutShort.{cut-accounted, met-none}
+use Rattle.diamond_server.proofs.Held.{holds-same, holds-then, holds-more, holds-none, cuts-then, cuts-held, next-none, reads-none, reads-line}
+use Rattle.diamond_server.proofs.Talked.{output-more, talk-accounted, talk-ordered, order-on, ordered-in}
 
 -- ---- texts
 
@@ -72,14 +74,6 @@ error e = Err e
 abbrev pub going : Bool → Result Bool Stop
 going b = Ok b
 
--- the counts of a link stood twice
-same-twice : (x y z : Both) → SameCounts x y → SameCounts y z → SameCounts x z
-same-twice x y z first second = (second.0 ∙ first.0, second.1 ∙ first.1)
-
--- the counts, where they stood
-counts-then : (x y z : Both) (mid after : Text) → SameCounts x y → z.inwards ≡ y.inwards → HoldsBack y.outwards mid z.outwards after → SameCounts x z
-counts-then x y z mid after counts same on = same-twice x y z counts (ap (λ (i : Incoming). i.faults) same, on.writes)
-
 -- what is held back where no line was found
 none-then : {B : Type 0} (old : B) (x : Both) (held : Text) (new : B) (y z : Both) (mid after : Text) → FindsNone old x held new y mid → z.inwards ≡ y.inwards
     → HoldsBack y.outwards mid z.outwards after → FindsNone old x held new z after
@@ -105,6 +99,45 @@ module _ {B : Type 0} (known : B → Known) (goes : B → Call → Answer → B 
     holds = holds-then x.outwards y.outwards z.outwards (held ++ printed turn.told) mid after turn.holds on;
   }
 
+  -- a turn that stopped, and then nothing more was read
+  stops-then : (old : B) (s : Session) (x : Both) (new : B) (y z : Both) → StopsIn known goes old s x new y → z.inwards ≡ y.inwards
+      → StopsIn known goes old s x new z
+  stops-then old s x new y z stops same = record {
+    begun = stops.begun;
+    begins = stops.begins;
+    read = subst (λ (i : Incoming). WhereTold (ReadsNext stops.begun) x.inwards.left i.left) (sym same) stops.read;
+    reads = ap (λ (i : Incoming). i.faults) same ∙ stops.reads;
+  }
+
+  -- a line that was done, whose answer was cut off
+  unheard-then : (old : B) (s : Session) (x : Both) (held : Text) (new : B) (o : Option Session) (y z : Both) (mid : Text)
+      → DoesLine known goes old s x held new o y mid → z.inwards ≡ y.inwards → CutsOff y.outwards mid z.outwards
+      → DoesUnheard known goes old s x held new z
+  unheard-then old s x held new o y z mid turn same cuts = record {
+    session = o;
+    told = turn.told;
+    does = turn.does;
+    read = subst (λ (i : Incoming). TakesLine (line_told turn.told) x.inwards.left i.left) (sym same) turn.read;
+    reads = ap (λ (i : Incoming). i.faults) same ∙ turn.reads;
+    cuts = cuts-then x.outwards y.outwards z.outwards (held ++ printed turn.told) mid turn.holds cuts;
+  }
+
+  -- what was cut off stays so where nothing is held back behind it
+  cut-then : (old : B) (s : Session) (x : Both) (held : Text) (new : B) (y z : Both) (mid after : Text)
+      → (StopsIn known goes old s x new y × CutsOff x.outwards held y.outwards) ⊎ DoesUnheard known goes old s x held new y → z.inwards ≡ y.inwards
+      → mid ≡ [] → HoldsBack y.outwards mid z.outwards after
+      → (StopsIn known goes old s x new z × CutsOff x.outwards held z.outwards) ⊎ DoesUnheard known goes old s x held new z
+  cut-then old s x held new y z mid after (inl stopped) same empty on =
+      inl (stops-then old s x new y z stopped.0 same, cuts-held x.outwards y.outwards z.outwards held mid after stopped.1 empty on)
+  cut-then old s x held new y z mid after (inr turn) same empty on = inr (record {
+    session = turn.session;
+    told = turn.told;
+    does = turn.does;
+    read = subst (λ (i : Incoming). TakesLine (line_told turn.told) x.inwards.left i.left) (sym same) turn.read;
+    reads = ap (λ (i : Incoming). i.faults) same ∙ turn.reads;
+    cuts = cuts-held x.outwards y.outwards z.outwards (held ++ printed turn.told) mid after turn.cuts empty on;
+  })
+
   -- the same of a line that was done, or a fault, or none
   turn-then : (old : B) (s : Session) (x : Both) (held : Text) (new : B) (t : Session) (y z : Both) (mid after : Text) (outcome : Result Bool Stop)
       → Turns known goes outcome old s x held new t y mid → z.inwards ≡ y.inwards → (mid ≡ [] → after ≡ []) → HoldsBack y.outwards mid z.outwards after
@@ -112,7 +145,8 @@ module _ {B : Type 0} (known : B → Known) (goes : B → Call → Answer → B 
   turn-then old s x held new t y z mid after (Ok true) turn same none on = does-then old s x held new (Some t) y z mid after turn same on
   turn-then old s x held new t y z mid after (Ok false) (inl found) same none on = inl (none-then old x held new y z mid after found same on)
   turn-then old s x held new t y z mid after (Ok false) (inr turn) same none on = inr (does-then old s x held new None y z mid after turn same on)
-  turn-then old s x held new t y z mid after (Err stop.NoMemory) turn same none on = counts-then x y z mid after turn same on
+  turn-then old s x held new t y z mid after (Err stop.NoMemory) turn same none on =
+      (stops-then old s x new y z turn.0 same, holds-then x.outwards y.outwards z.outwards held mid after turn.1 on)
   turn-then old s x held new t y z mid after (Err (stop.Cause cause.ReadFault)) turn same none on = (
     record {
       breaks = subst (λ (i : Incoming). BreaksOff x.inwards.left i.left) (sym same) turn.0.breaks;
@@ -123,28 +157,36 @@ module _ {B : Type 0} (known : B → Known) (goes : B → Call → Answer → B 
     turn.1,
   )
   turn-then old s x held new t y z mid after (Err (stop.Cause cause.WriteFault)) turn same none on =
-      (ap (λ (i : Incoming). i.faults) same ∙ turn.0, subst (λ (n : ℕ). Rose x.outwards.faults n) (sym on.writes) turn.1)
-  turn-then old s x held new t y z mid after (Err (stop.Cause cause.StoreFault)) turn same none on = (counts-then x y z mid after turn.0 same on, turn.1)
+      (none turn.0, cut-then old s x held new y z mid after turn.1 same turn.0 on)
+  turn-then old s x held new t y z mid after (Err (stop.Cause cause.StoreFault)) turn same none on = (
+    stops-then old s x new y z turn.0 same,
+    holds-then x.outwards y.outwards z.outwards held mid after turn.1 on,
+    turn.2,
+  )
   turn-then old s x held new t y z mid after (Err (stop.Cause cause.TooManyLines)) turn same none on = absurd turn
 
-  -- where what was held back could not be written, no count but that of writes has risen
+  -- where what was held back could not be written, the line was done or begun, or there was none
   turn-failed : (old : B) (s : Session) (x : Both) (held : Text) (new : B) (t : Session) (y z : Both) (mid : Text) (outcome : Result Bool Stop)
-      → Turns known goes outcome old s x held new t y mid → z.inwards ≡ y.inwards → (mid ≡ [] → ⊥) → Rose y.outwards.faults z.outwards.faults
-      → (z.inwards.faults ≡ x.inwards.faults) × Rose x.outwards.faults z.outwards.faults
-  turn-failed old s x held new t y z mid (Ok true) turn same some rose =
-      (ap (λ (i : Incoming). i.faults) same ∙ turn.reads, subst (λ (n : ℕ). Rose n z.outwards.faults) turn.holds.writes rose)
-  turn-failed old s x held new t y z mid (Ok false) (inl none) same some rose =
-      (ap (λ (i : Incoming). i.faults) same ∙ none.reads, subst (λ (n : ℕ). Rose n z.outwards.faults) none.holds.writes rose)
-  turn-failed old s x held new t y z mid (Ok false) (inr turn) same some rose =
-      (ap (λ (i : Incoming). i.faults) same ∙ turn.reads, subst (λ (n : ℕ). Rose n z.outwards.faults) turn.holds.writes rose)
-  turn-failed old s x held new t y z mid (Err stop.NoMemory) turn same some rose =
-      (ap (λ (i : Incoming). i.faults) same ∙ turn.0, subst (λ (n : ℕ). Rose n z.outwards.faults) turn.1 rose)
-  turn-failed old s x held new t y z mid (Err (stop.Cause cause.ReadFault)) turn same some rose = absurd (some turn.0.emptied)
-  turn-failed old s x held new t y z mid (Err (stop.Cause cause.WriteFault)) turn same some rose =
-      (ap (λ (i : Incoming). i.faults) same ∙ turn.0, Rose-then_Rose x.outwards.faults y.outwards.faults z.outwards.faults turn.1 rose)
-  turn-failed old s x held new t y z mid (Err (stop.Cause cause.StoreFault)) turn same some rose =
-      (ap (λ (i : Incoming). i.faults) same ∙ turn.0.0, subst (λ (n : ℕ). Rose n z.outwards.faults) turn.0.1 rose)
-  turn-failed old s x held new t y z mid (Err (stop.Cause cause.TooManyLines)) turn same some rose = absurd turn
+      → Turns known goes outcome old s x held new t y mid → z.inwards ≡ y.inwards → (mid ≡ [] → ⊥) → CutsOff y.outwards mid z.outwards
+      → (StopsIn known goes old s x new z × CutsOff x.outwards held z.outwards) ⊎ DoesUnheard known goes old s x held new z
+  turn-failed old s x held new t y z mid (Ok true) turn same some cuts = inr (unheard-then old s x held new (Some t) y z mid turn same cuts)
+  turn-failed old s x held new t y z mid (Ok false) (inl none) same some cuts = inl (
+    stops-then old s x new y z (record {
+      begun = None;
+      begins = none.backend;
+      read = WhereTold-map x.inwards.left y.inwards.left (λ all rest at. record { first = tt; past = []; cut = at.0 ∙ sym at.1 }) none.left;
+      reads = none.reads;
+    }) same,
+    cuts-then x.outwards y.outwards z.outwards held mid none.holds cuts,
+  )
+  turn-failed old s x held new t y z mid (Ok false) (inr turn) same some cuts = inr (unheard-then old s x held new None y z mid turn same cuts)
+  turn-failed old s x held new t y z mid (Err stop.NoMemory) turn same some cuts =
+      inl (stops-then old s x new y z turn.0 same, cuts-then x.outwards y.outwards z.outwards held mid turn.1 cuts)
+  turn-failed old s x held new t y z mid (Err (stop.Cause cause.ReadFault)) turn same some cuts = absurd (some turn.0.emptied)
+  turn-failed old s x held new t y z mid (Err (stop.Cause cause.WriteFault)) turn same some cuts = absurd (some turn.0)
+  turn-failed old s x held new t y z mid (Err (stop.Cause cause.StoreFault)) turn same some cuts =
+      inl (stops-then old s x new y z turn.0 same, cuts-then x.outwards y.outwards z.outwards held mid turn.1 cuts)
+  turn-failed old s x held new t y z mid (Err (stop.Cause cause.TooManyLines)) turn same some cuts = absurd turn
 
   -- ---- what a line comes to
 
@@ -187,9 +229,21 @@ module _ {B : Type 0} (known : B → Known) (goes : B → Call → Answer → B 
   -- a look for it stopped
   pub turn-unfound : (old : B) (s : Session) (e : Stop) (x y : Both) (held after : Text) → FindsLine (error e) x held y after
       → Turns known goes (Err e) old s x held old s y after
-  turn-unfound old s stop.NoMemory x y held after found = found
+  turn-unfound old s stop.NoMemory x y held after found =
+      (record { begun = None; begins = refl; read = found.read; reads = found.reads }, found.holds)
   turn-unfound old s (stop.Cause cause.ReadFault) x y held after found = (found, refl)
-  turn-unfound old s (stop.Cause cause.WriteFault) x y held after found = found
+  turn-unfound old s (stop.Cause cause.WriteFault) x y held after found = (
+    found.emptied,
+    inl (
+      record {
+        begun = None;
+        begins = refl;
+        read = reads-none x.inwards.left y.inwards.left found.read;
+        reads = found.reads;
+      },
+      found.cuts,
+    ),
+  )
   turn-unfound old s (stop.Cause cause.StoreFault) x y held after found = absurd found
   turn-unfound old s (stop.Cause cause.TooManyLines) x y held after found = absurd found
 
@@ -217,25 +271,35 @@ module _ {B : Type 0} (known : B → Known) (goes : B → Call → Answer → B 
 
   -- it was not answered
   turn-refused : (old : B) (s : Session) (l : Line) (x m y : Both) (held mid after : Text) (e : Stop) (new : B) (t : Session) → Finds l x held m mid
-      → y.inwards ≡ m.inwards → StopsBy e (known old).faults (known new).faults m.outwards.faults y.outwards.faults
+      → y.inwards ≡ m.inwards
+      → StopsBy e (MayBegin known goes old (Some s) (text_of l) new) (known old).faults (known new).faults m.outwards mid y.outwards after
       → Turns known goes (Err e) old s x held new t y after
   turn-refused old s l x m y held mid after e new t found same = by e
     where
-      reads : y.inwards.faults ≡ x.inwards.faults
-      reads = ap (λ (i : Incoming). i.faults) same ∙ found.reads
+      stopped : MayBegin known goes old (Some s) (text_of l) new → StopsIn known goes old s x new y
+      stopped begins = record {
+        begun = text_of l;
+        begins = begins;
+        read = subst (λ (i : Incoming). WhereTold (ReadsNext (text_of l)) x.inwards.left i.left) (sym same)
+            (reads-line l x.inwards.left m.inwards.left found.read);
+        reads = ap (λ (i : Incoming). i.faults) same ∙ found.reads;
+      }
 
-      by : (e : Stop) → StopsBy e (known old).faults (known new).faults m.outwards.faults y.outwards.faults → Turns known goes (Err e) old s x held new t y after
-      by stop.NoMemory stops = (reads, stops ∙ found.holds.writes)
+      by : (e : Stop) → StopsBy e (MayBegin known goes old (Some s) (text_of l) new) (known old).faults (known new).faults m.outwards mid y.outwards after
+          → Turns known goes (Err e) old s x held new t y after
+      by stop.NoMemory stops = (stopped stops.0, holds-then x.outwards m.outwards y.outwards held mid after found.holds stops.1)
       by (stop.Cause cause.ReadFault) stops = absurd stops
-      by (stop.Cause cause.WriteFault) stops = (reads, subst (λ (n : ℕ). Rose n y.outwards.faults) found.holds.writes stops)
-      by (stop.Cause cause.StoreFault) stops = ((reads, stops.0 ∙ found.holds.writes), stops.1)
+      by (stop.Cause cause.WriteFault) stops =
+          (stops.2, inl (stopped stops.0, cuts-then x.outwards m.outwards y.outwards held mid found.holds stops.1))
+      by (stop.Cause cause.StoreFault) stops =
+          (stopped stops.0, holds-then x.outwards m.outwards y.outwards held mid after found.holds stops.1, stops.2)
       by (stop.Cause cause.TooManyLines) stops = absurd stops
 
   -- whatever it was answered
   pub turn-answered : (old : B) (s : Session) (l : Line) (x m y : Both) (held mid after : Text) (r : Result Bool Stop) (new : B) (t : Session)
       → Finds l x held m mid → y.inwards ≡ m.inwards
       → IfOk r (λ on. Replies known goes old s l m.outwards mid on new t y.outwards after)
-      → IfErr r (λ e. StopsBy e (known old).faults (known new).faults m.outwards.faults y.outwards.faults)
+      → IfErr r (λ e. StopsBy e (MayBegin known goes old (Some s) (text_of l) new) (known old).faults (known new).faults m.outwards mid y.outwards after)
       → Turns known goes r old s x held new t y after
   turn-answered old s l x m y held mid after (Ok on) new t found same replies stops =
       turn-replied old s l x m y held mid after on new t found same replies
@@ -251,7 +315,7 @@ module _ {B : Type 0} (known : B → Known) (goes : B → Call → Answer → B 
       (turn-then old s x held new t y z mid after outcome turn same stands.emptied stands.holds)
   turn-settles old s x held new t y z mid after outcome result turn same (inr failed) =
       subst (λ (r : Result Bool Stop). Turns known goes r old s x held new t z after) (sym failed.is)
-      (turn-failed old s x held new t y z mid outcome turn same failed.some failed.rose)
+      (failed.emptied, turn-failed old s x held new t y z mid outcome turn same failed.some failed.cuts)
 
 module _ {B : Type 0} {known : B → Known} {goes : B → Call → Answer → B → Type 0} where
   -- ---- lines
@@ -311,10 +375,6 @@ module _ {B : Type 0} {known : B → Known} {goes : B → Call → Answer → B 
         → HasServed known goes (n + 1) old x new t z after
     serves-more {new = new} {t = t} {z = z} {after = after} more turn =
         does-more new t z after (subst (λ (b : Bool). Turns known goes (Ok b) now s y held new t z after) more turn)
-
-    -- the counts of the link stood so far
-    past-counts : SameCounts x y
-    past-counts = (past.reads, past.holds.writes)
 
     module _ (is : Attends (known old) (first_session (known old))) where
       -- a line ended the session
@@ -390,24 +450,101 @@ module _ {B : Type 0} {known : B → Known} {goes : B → Call → Answer → B 
           let first = some-first l mid rest some takes in
           record { most = past.many ∙ most; behind = mid; next = first.raw; read = read; more = first.first.0; on = past-order.1 }) past.read takes
 
+      -- ---- what is cut short
+
+      -- the lines so far, and then a turn that stopped
+      cut-in : (new : B) (z : Both) (Takes : List Told → Outgoing → Outgoing → Type 0) (stopped : StopsIn known goes now s y new z) → n ≤ MOST_LINES
+          → Takes past.tolds x.outwards z.outwards → IsCutShort known goes (known new) old new x z Takes
+      cut-in new z Takes stopped few taken = record {
+        tolds = past.tolds;
+        begun = stopped.begun;
+        there = now;
+        session = Some s;
+        talks = past.talks;
+        behind = stopped.begins;
+        accounted = cut-accounted known goes old now new (known new) past.tolds (Some s) stopped.begun is past.talks stopped.begins
+            (met-none (known new));
+        few = (let many = past.many in omega arith);
+        in_order = past-order.0;
+        reads = WhereTold-then x.inwards.left y.inwards.left z.inwards.left
+            (λ all mid rest read next. record { behind = mid; read = read; next = next }) past.read stopped.read;
+        taken = taken;
+      }
+
+      -- what was held back was taken
+      cut-whole : (new : B) (z : Both) (after : Text) → n ≤ MOST_LINES → after ≡ [] → StopsIn known goes now s y new z
+          → HoldsBack y.outwards held z.outwards after → IsCutShort known goes (known new) old new x z TakesWhole
+      cut-whole new z after few none stopped on =
+          let holds = holds-then x.outwards y.outwards z.outwards (output past.tolds) held after past.holds on in
+          cut-in new z TakesWhole stopped few
+          (record { taken = holds-none x.outwards z.outwards (output past.tolds) after none holds; flushed = holds.flushed })
+
+      -- or some first bytes of it
+      cut-part : (new : B) (z : Both) → n ≤ MOST_LINES → StopsIn known goes now s y new z → CutsOff y.outwards held z.outwards
+          → IsCutShort known goes (known new) old new x z TakesPart
+      cut-part new z few stopped cuts =
+          cut-in new z TakesPart stopped few (cuts-then x.outwards y.outwards z.outwards (output past.tolds) held past.holds cuts).part
+
+      -- the lines so far, and one more whose answer was cut off
+      cut-unheard : (new : B) (z : Both) → n < MOST_LINES → DoesUnheard known goes now s y held new z
+          → IsCutShort known goes (known new) old new x z TakesPart
+      cut-unheard new z few turn =
+          let talks : Talks known goes old (first_session (known old)) (past.tolds ++ turn.told ∷ []) new turn.session =
+          Talks.says turn.told past.talks turn.does refl in
+          let cuts = cuts-then x.outwards y.outwards z.outwards (output past.tolds ++ printed turn.told) (held ++ printed turn.told)
+          (holds-more x.outwards y.outwards (output past.tolds) held (printed turn.told) past.holds) turn.cuts in record {
+            tolds = past.tolds ++ turn.told ∷ [];
+            begun = None;
+            there = new;
+            session = turn.session;
+            talks = talks;
+            behind = refl;
+            accounted = cut-accounted known goes old new new (known new) (past.tolds ++ turn.told ∷ []) turn.session None is talks refl
+                (met-none (known new));
+            few = (let many = length-append past.tolds (turn.told ∷ []) ∙ ap (λ k. k + 1) past.many in omega arith);
+            in_order = ordered-in (past.tolds ++ turn.told ∷ []) turn.session
+                (talk-ordered known goes old (first_session (known old)) (past.tolds ++ turn.told ∷ []) new turn.session talks);
+            reads = WhereTold-map x.inwards.left z.inwards.left (λ all rest read. record { behind = rest; read = read; next = next-none rest })
+                (WhereTold-then x.inwards.left y.inwards.left z.inwards.left (read-more past.tolds turn.told) past.read turn.read);
+            taken = subst (λ (bytes : Text). TakesPrefix bytes x.outwards.taken z.outwards.taken) (sym (output-more past.tolds turn.told)) cuts.part;
+          }
+
+      -- either way
+      cut-off : (new : B) (z : Both) → n < MOST_LINES
+          → (StopsIn known goes now s y new z × CutsOff y.outwards held z.outwards) ⊎ DoesUnheard known goes now s y held new z
+          → IsCutShort known goes (known new) old new x z TakesPart × (z.inwards.faults ≡ x.inwards.faults) × Rose x.outwards.faults z.outwards.faults
+      cut-off new z few (inl stopped) = (
+        cut-part new z (omega arith) stopped.0 stopped.1,
+        stopped.0.reads ∙ past.reads,
+        subst (λ (m : ℕ). Rose m z.outwards.faults) past.holds.writes stopped.1.rose,
+      )
+      cut-off new z few (inr turn) = (
+        cut-unheard new z few turn,
+        turn.reads ∙ past.reads,
+        subst (λ (m : ℕ). Rose m z.outwards.faults) past.holds.writes turn.cuts.rose,
+      )
+
       -- ---- how the lines end
 
       -- a turn stopped
-      pub ends-stopped : (new : B) (t : Session) (z : Both) (after : Text) (e : Stop) → n < MOST_LINES
+      pub ends-stopped : (new : B) (t : Session) (z : Both) (after : Text) (e : Stop) → n < MOST_LINES → after ≡ []
           → Turns known goes (Err e) now s y held new t z after → Ends known goes (Err e) old x new z
-      ends-stopped new t z after stop.NoMemory few turn = same-twice x y z past-counts turn
-      ends-stopped new t z after (stop.Cause cause.ReadFault) few turn = (
+      ends-stopped new t z after stop.NoMemory few none turn = (
+        cut-whole new z after (omega arith) none turn.0 turn.1,
+        (turn.0.reads ∙ past.reads, turn.1.writes ∙ past.holds.writes),
+      )
+      ends-stopped new t z after (stop.Cause cause.ReadFault) few none turn = (
         served-broken new z after (omega arith) turn.1 turn.0,
         subst (λ (m : ℕ). Rose m z.inwards.faults) past.reads turn.0.reads,
         turn.0.holds.writes ∙ past.holds.writes,
       )
-      ends-stopped new t z after (stop.Cause cause.WriteFault) few turn =
-          (turn.0 ∙ past.reads, subst (λ (m : ℕ). Rose m z.outwards.faults) past.holds.writes turn.1)
-      ends-stopped new t z after (stop.Cause cause.StoreFault) few turn = (
-        same-twice x y z past-counts turn.0,
-        subst (λ (m : ℕ). Rose m (known new).faults) (talk-accounted known goes old now past.tolds (Some s) is past.talks).faults turn.1,
+      ends-stopped new t z after (stop.Cause cause.WriteFault) few none turn = cut-off new z few turn.1
+      ends-stopped new t z after (stop.Cause cause.StoreFault) few none turn = (
+        cut-whole new z after (omega arith) none turn.0 turn.1,
+        (turn.0.reads ∙ past.reads, turn.1.writes ∙ past.holds.writes),
+        subst (λ (m : ℕ). Rose m (known new).faults) (talk-accounted known goes old now past.tolds (Some s) is past.talks).faults turn.2,
       )
-      ends-stopped new t z after (stop.Cause cause.TooManyLines) few turn = absurd turn
+      ends-stopped new t z after (stop.Cause cause.TooManyLines) few none turn = absurd turn
 
       -- a turn was the last
       last-whole : (new : B) (z : Both) (after : Text) → n < MOST_LINES → after ≡ []
@@ -446,14 +583,22 @@ module _ {B : Type 0} {known : B → Known} {goes : B → Call → Answer → B 
       )
 
       -- it broke off
-      pub ends-unread : (z : Both) (after : Text) (e : Stop) → n ≡ MOST_LINES → FindsLine (error e) y held z after → Ends known goes (Err e) old x now z
-      ends-unread z after stop.NoMemory most found = same-twice x y z past-counts found
-      ends-unread z after (stop.Cause cause.ReadFault) most found = (
+      pub ends-unread : (z : Both) (after : Text) (e : Stop) → n ≡ MOST_LINES → after ≡ [] → FindsLine (error e) y held z after
+          → Ends known goes (Err e) old x now z
+      ends-unread z after stop.NoMemory most none found = (
+        cut-whole now z after (omega arith) none (record { begun = None; begins = refl; read = found.read; reads = found.reads }) found.holds,
+        (found.reads ∙ past.reads, found.holds.writes ∙ past.holds.writes),
+      )
+      ends-unread z after (stop.Cause cause.ReadFault) most none found = (
         served-broken now z after (omega arith) refl found,
         subst (λ (m : ℕ). Rose m z.inwards.faults) past.reads found.reads,
         found.holds.writes ∙ past.holds.writes,
       )
-      ends-unread z after (stop.Cause cause.WriteFault) most found =
-          (found.0 ∙ past.reads, subst (λ (m : ℕ). Rose m z.outwards.faults) past.holds.writes found.1)
-      ends-unread z after (stop.Cause cause.StoreFault) most found = absurd found
-      ends-unread z after (stop.Cause cause.TooManyLines) most found = absurd found
+      ends-unread z after (stop.Cause cause.WriteFault) most none found = (
+        cut-part now z (omega arith)
+            (record { begun = None; begins = refl; read = reads-none y.inwards.left z.inwards.left found.read; reads = found.reads }) found.cuts,
+        found.reads ∙ past.reads,
+        subst (λ (m : ℕ). Rose m z.outwards.faults) past.holds.writes found.cuts.rose,
+      )
+      ends-unread z after (stop.Cause cause.StoreFault) most none found = absurd found
+      ends-unread z after (stop.Cause cause.TooManyLines) most none found = absurd found

@@ -16,7 +16,7 @@ use Rattle.script_runner.specs.declared.stop.TheConstants.{MOST_LINES}
 use Rattle.diamond_server.specs.declared.status.TheConstants.{STORE_FAULT}
 use Rattle.diamond_server.specs.declared.status.Cause.TheVariants as cause
 use Rattle.diamond_server.specs.Talking.{Told, line_told}
-use Rattle.diamond_server.specs.Promises.{ReadsToTheEnd, ReadsUpToAFault, ReadsOneMore, IsServed, KeepsPromises}
+use Rattle.diamond_server.specs.Promises.{ReadsToTheEnd, ReadsUpToAFault, ReadsOneMore, TakesPart, TakesWhole, IsServed, IsCutShort, KeepsPromises}
 use Rattle.diamond_server.specs.code.Serving.{Stop, status_of, Ends}
 
 -- one of two facts, by a test
@@ -53,8 +53,10 @@ module _ {B : Type 0} (known : B → Known) (goes : B → Call → Answer → B 
   Says status =
       Choice (status == WHOLE) (IsServed known goes old new x y ReadsToTheEnd)
       (Choice (status == READ_FAULT) (IsServed known goes old new x y ReadsUpToAFault)
-      (Choice (status == STORE_FAULT) (Rose (known old).faults (known new).faults)
-      (Choice (status == TOO_MANY_LINES) (IsServed known goes old new x y ReadsOneMore) (Unit {0}))))
+      (Choice (status == WRITE_FAULT) (IsCutShort known goes (known new) old new x y TakesPart)
+      (Choice (status == NO_MEMORY) (IsCutShort known goes (known new) old new x y TakesWhole)
+      (Choice (status == STORE_FAULT) (IsCutShort known goes (known new) old new x y TakesWhole × Rose (known old).faults (known new).faults)
+      (Choice (status == TOO_MANY_LINES) (IsServed known goes old new x y ReadsOneMore) (Unit {0}))))))
 
   -- with at most the most lines and no count that rose, the status is 0 or 5
   abbrev Completes : ℕ → Type 0
@@ -72,9 +74,12 @@ module _ {B : Type 0} (known : B → Known) (goes : B → Call → Answer → B 
     whole = λ is. at WHOLE is;
     broken_off = λ is. at READ_FAULT is;
     too_many = λ is. at TOO_MANY_LINES is;
+    cut_off = λ is. at WRITE_FAULT is;
+    stalled = λ is. at NO_MEMORY is;
+    failed = λ is. (at STORE_FAULT is).0;
     reads = reads;
     writes = writes;
-    store_failed = λ is. at STORE_FAULT is;
+    store_failed = λ is. (at STORE_FAULT is).1;
     completes = completes;
   }
     where
@@ -84,13 +89,13 @@ module _ {B : Type 0} (known : B → Known) (goes : B → Call → Answer → B 
   -- A session keeps its promises, however its lines ended.
   pub keeps_promises : (ended : Result (Unit {0}) Stop) → Ends known goes ended old x new y → KeepsPromises known goes (status_of ended) old new x y
   keeps_promises (Ok done) ends = promises WHOLE refl ends.0 ends.1.0 ends.1.1 (λ all is few well written kept. inl refl)
-  keeps_promises (Err stop.NoMemory) ends = promises NO_MEMORY refl tt ends.0 ends.1 (λ all is few well written kept. inr refl)
+  keeps_promises (Err stop.NoMemory) ends = promises NO_MEMORY refl ends.0 ends.1.0 ends.1.1 (λ all is few well written kept. inr refl)
   keeps_promises (Err (stop.Cause cause.ReadFault)) ends =
       promises READ_FAULT refl ends.0 ends.1 ends.2 (λ all is few well written kept. absurd (well ends.1))
   keeps_promises (Err (stop.Cause cause.WriteFault)) ends =
-      promises WRITE_FAULT refl tt ends.0 ends.1 (λ all is few well written kept. absurd (written ends.1))
+      promises WRITE_FAULT refl ends.0 ends.1 ends.2 (λ all is few well written kept. absurd (written ends.2))
   keeps_promises (Err (stop.Cause cause.StoreFault)) ends =
-      promises STORE_FAULT refl ends.1 ends.0.0 ends.0.1 (λ all is few well written kept. absurd (kept ends.1))
+      promises STORE_FAULT refl (ends.0, ends.2) ends.1.0 ends.1.1 (λ all is few well written kept. absurd (kept ends.2))
   keeps_promises (Err (stop.Cause cause.TooManyLines)) ends =
       promises TOO_MANY_LINES refl ends.0 ends.1.0 ends.1.1 (λ all is few well written kept.
       absurd (told-over-most ends.0.tolds x.inwards.left y.inwards.left ends.0.heard.reads all is few))

@@ -1,5 +1,5 @@
 -- What a session's client knew at the end explains it; so does what the client knows once it has met others.
-use Rattle.std.proofs.Common.{◌≡◌, ℕ, ◌≤◌, Bool, true, false, List, ◌++◌, length, Ok, refl, ap, sym, ◌∙◌, subst, arith}
+use Rattle.std.proofs.Common.{◌≡◌, ℕ, ◌≤◌, Bool, true, false, List, ◌++◌, length, Ok, inr, refl, ap, sym, ◌∙◌, subst, arith}
 use Rattle.std.specs.Prelude.{ltb}
 use Rattle.std.proofs.lemmas.Bool.Decides.{nat_tests}
 use mathlib.Core.List.{IsPrefix}
@@ -7,7 +7,7 @@ use Rattle.history_lock.specs.Tokens.{longer}
 use Rattle.history_lock.proofs.Prefixes.{prefix_whole}
 use Rattle.dio_core.specs.declared.sink.Sink.{Ghosts as SinkTells}
 use Rattle.dio_core.specs.declared.source.Source.{Ghosts as SourceTells}
-use Rattle.dio_core.specs.Links.{Both}
+use Rattle.dio_core.specs.Links.{Both, Outgoing}
 use Rattle.txn_grammar.specs.Characters.{Text}
 use Rattle.txn_lang.specs.Journals.{IsLegal, own}
 use Rattle.txn_lang.specs.States.{Journal}
@@ -16,35 +16,38 @@ use Rattle.diamond_store.specs.Answers.{Learns}
 use Rattle.diamond_store.specs.Passes.{Passed, known_of}
 use Rattle.diamond_store.proofs.Known.{front-of}
 use Rattle.session_core.specs.declared.session.Session.{Session}
-use Rattle.session_core.specs.declared.turn.Turn.{Turn}
 use Rattle.session_core.specs.Explained.{setting_of, story_of}
 use Rattle.session_core.specs.Holding.{Attends}
 use Rattle.session_core.specs.LineTalks.{AreDone}
 use Rattle.session_core.specs.Sessions.{all_replies}
 use Rattle.session_core.proofs.AllDone.{done_attends, done_owned}
-use Rattle.session_core.proofs.Done.{has_done}
 use Rattle.session_core.proofs.Grown.{prefix-again}
 use Rattle.session_core.proofs.Said.{named-stays}
 use Rattle.session_core.proofs.Stays.{explains_stays}
-use Rattle.session_core.proofs.Talked.{finds}
-use Rattle.diamond_server.specs.Accounts.{IsExplained, LinesPromised, IsTold}
-use Rattle.diamond_server.specs.Ways.{Promising, having_met, KnowsMore, StaysPromised}
-use Rattle.diamond_server.specs.Promises.{sides, IsAccounted, IsServed, Promises}
+use Rattle.diamond_server.specs.Accounts.{IsExplained, IsNearlyExplained, LinesPromised, IsTold}
+use Rattle.diamond_server.specs.Ways.{AnyStep, Promising, having_met, KnowsMore, StaysPromised}
+use Rattle.diamond_server.specs.Promises.{sides, IsAccounted, IsCutShort, IsServed, Promises}
 use Rattle.diamond_server.specs.code.Settling.{IsNearTalk}
 use Rattle.diamond_server.specs.Talking.{Told, first_session, texts_of, turns_of}
+use Rattle.diamond_server.proofs.CutShort.{done-client, HasMet, cut-accounted}
+use Rattle.diamond_server.proofs.FirstCalls.{any-talks, any-may}
 use Rattle.diamond_server.proofs.Talked.{talk-is}
 
 -- ---- promises
 
 -- whatever is told of a talk, so is what follows from it
-pub promises-map : (Held Other : (List Told → Text → Text → Type 0) → Type 0) (k l : Known) (status : ℕ) (x y : Both)
-    → ((Reads : List Told → Text → Text → Type 0) → Held Reads → Other Reads) → Promises Held k l status x y
-    → Promises Other k l status x y
-promises-map Held Other k l status x y f p = record {
+pub promises-map : (Held Other : (List Told → Text → Text → Type 0) → Type 0) (Cut Short : (List Told → Outgoing → Outgoing → Type 0) → Type 0)
+    (k l : Known) (status : ℕ) (x y : Both) → ((Reads : List Told → Text → Text → Type 0) → Held Reads → Other Reads)
+    → ((Takes : List Told → Outgoing → Outgoing → Type 0) → Cut Takes → Short Takes) → Promises Held Cut k l status x y
+    → Promises Other Short k l status x y
+promises-map Held Other Cut Short k l status x y f g p = record {
   statuses = p.statuses;
   whole = λ is. f _ (p.whole is);
   broken_off = λ is. f _ (p.broken_off is);
   too_many = λ is. f _ (p.too_many is);
+  cut_off = λ is. g _ (p.cut_off is);
+  stalled = λ is. g _ (p.stalled is);
+  failed = λ is. g _ (p.failed is);
   reads = p.reads;
   writes = p.writes;
   store_failed = p.store_failed;
@@ -65,6 +68,27 @@ served-explained known goes old new x y Reads begins p =
       heard = p.heard;
     }
 
+-- so is one that was cut short
+pub cut-explained : {B : Type 0} (known : B → Known) (goes : B → Call → Answer → B → Type 0) (old new : B) (x y : Both)
+    (Takes : List Told → Outgoing → Outgoing → Type 0) → Attends (known old) (first_session (known old))
+    → IsCutShort known goes (known new) old new x y Takes → IsNearlyExplained (known old) (known new) (known new) x y Takes
+cut-explained known goes old new x y Takes begins p = (
+  begins,
+  record {
+    tolds = p.tolds;
+    begun = p.begun;
+    there = known p.there;
+    session = p.session;
+    talks = any-talks known goes p.talks;
+    behind = any-may known goes p.there p.session p.begun new p.behind;
+    accounted = p.accounted;
+    few = p.few;
+    in_order = p.in_order;
+    reads = p.reads;
+    taken = p.taken;
+  },
+)
+
 -- a link that tells what another tells
 pub sides-same : {K : Type 0} (source : SourceTells K) (sink : SinkTells K) (a b : K) → source.left a ≡ source.left b → sink.taken a ≡ sink.taken b
     → sink.passed a ≡ sink.passed b → source.read_faults a ≡ source.read_faults b → sink.write_faults a ≡ sink.write_faults b
@@ -73,16 +97,6 @@ sides-same source sink a b same_left same_taken same_passed same_reads same_writ
     rw (same_left, same_taken, same_passed, same_reads, same_writes) refl
 
 -- ---- a longer journal
-
--- no line changes the client
-done-client : (k : Known) (s : Session) (texts : List Text) (turns : List Turn) (l : Known) (u : Session) → Attends k s
-    → AreDone k s texts turns l u → l.client ≡ k.client
-done-client k s texts turns l u is AreDone.silent = refl
-done-client k s texts turns l u is
-    (AreDone.done {here = here} {l = m} {t = t} {text = text} {said = x} {texts = rest} {turns = more} found_it short said talks) =
-    let it = finds k here s is found_it in
-    let h = has_done here m s t text x it.attends short said in
-    done-client m t rest more l u h.attends talks ∙ (h.client.client ∙ it.client.client)
 
 -- What a journal explains, a longer one explains that has no more commits of the client.
 module _ (p has : Passed) (journal : Journal) (denials : ℕ) (tolds : List Told) (last : Session)
@@ -130,8 +144,41 @@ longer-prefix xs ys p = by (ltb (length xs) (length ys)) refl
 -- What is promised of a session of lines stays so.
 pub lines-stay : StaysPromised LinesPromised
 lines-stay first last other status x y =
-    λ told more. promises-map _ _ (known_of first) (known_of last) status x y (later more) told
+    λ told more. promises-map _ _ _ _ (known_of first) (known_of last) status x y (later more) (nearly more) told
   where
+    -- who has met the other
+    met : KnowsMore last other → HasMet (known_of last) (known_of (having_met other last))
+    met more = record {
+      come = record {
+        client = record { client = refl; trusted = refl; shards = refl; window = refl; limit = refl };
+        told = (front-of last.journal other.journal more.grows, inr more.legal);
+      };
+      own = more.same_own;
+      denied = refl;
+      denials = more.denials;
+    }
+
+    nearly : KnowsMore last other → (Takes : List Told → Outgoing → Outgoing → Type 0)
+        → IsNearlyExplained (known_of first) (known_of last) (known_of last) x y Takes
+        → IsNearlyExplained (known_of first) (known_of last) (known_of (having_met other last)) x y Takes
+    nearly more Takes (begins, h) = (
+      begins,
+      record {
+        tolds = h.tolds;
+        begun = h.begun;
+        there = h.there;
+        session = h.session;
+        talks = h.talks;
+        behind = h.behind;
+        accounted = cut-accounted (λ k. k) AnyStep (known_of first) h.there (known_of last) (known_of (having_met other last)) h.tolds h.session h.begun
+            begins h.talks h.behind (met more);
+        few = h.few;
+        in_order = h.in_order;
+        reads = h.reads;
+        taken = h.taken;
+      },
+    )
+
     later : KnowsMore last other → (Reads : List Told → Text → Text → Type 0) → IsExplained (known_of first) (known_of last) (known_of last) x y Reads
         → IsExplained (known_of first) (known_of last) (known_of (having_met other last)) x y Reads
     later more Reads h = record {

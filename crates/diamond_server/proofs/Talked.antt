@@ -37,7 +37,7 @@ use Rattle.session_core.proofs.Moving.{plain-on}
 use Rattle.session_core.proofs.Safe.{AttendsEnd}
 use Rattle.script_runner.specs.Play.{left}
 use Rattle.diamond_server.specs.Talking.{Told, Answers, Does, Talks, AreInOrder, ends, waits, is_over, first_session, printed, output, texts_of, turns_of}
-use Rattle.diamond_server.specs.code.Serving.{Stop, stop_of, StopsBy, Wakes}
+use Rattle.diamond_server.specs.code.Serving.{Wakes}
 use Rattle.diamond_server.specs.Promises.{IsNewTo, IsNew, IsAccounted}
 
 -- ---- one line more
@@ -140,6 +140,11 @@ over-more (first ∷ next ∷ rest) told = over-more (next ∷ rest) told
 abbrev pub IsOrdered : List Told → Option Session → Type 0
 IsOrdered tolds None = AreInOrder tolds × (is_over tolds ≡ true)
 IsOrdered tolds (Some t) = AllByRecursion GoesOn tolds
+
+-- so they are in order
+pub ordered-in : (tolds : List Told) (o : Option Session) → IsOrdered tolds o → AreInOrder tolds
+ordered-in tolds None h = h.0
+ordered-in tolds (Some t) h = (order-on tolds h).0
 
 ordered-more : (tolds : List Told) (told : Told) (o : Option Session) → AllByRecursion GoesOn tolds → (waits told ≡ false) × EndsBy o (ends told)
     → IsOrdered (tolds ++ told ∷ []) o
@@ -296,15 +301,6 @@ follows-on k s is = subst (λ (o : Option SessionError). UnlessOver o (Attends k
 pub told-rises : (r : Result Turn SessionError) (old new : ℕ) → CountsFault error.StoreFault r old new → r ≡ Err error.StoreFault → Rose old new
 told-rises (Ok said) old new told is = absurd (let no : ⊥ = cc in no)
 told-rises (Err e) old new told is = told.rises (let same : e ≡ error.StoreFault = cc in same)
-
--- why a session stops by an error of its line
-pub stops-of : (e : SessionError) (r : Stop) (store store_then writes writes_then : ℕ) → r ≡ stop_of e → (e ≡ error.StoreFault → Rose store store_then)
-    → writes_then ≡ writes → StopsBy r store store_then writes writes_then
-stops-of e r store store_then writes writes_then is rose same = subst (λ (r : Stop). StopsBy r store store_then writes writes_then) (sym is) (by e rose)
-  where
-    by : (e : SessionError) → (e ≡ error.StoreFault → Rose store store_then) → StopsBy (stop_of e) store store_then writes writes_then
-    by error.StoreFault rose = (same, rose refl)
-    by error.NoMemory rose = same
 
 -- ---- the beginning
 

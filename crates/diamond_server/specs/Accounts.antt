@@ -5,7 +5,7 @@ use Rattle.std.specs.Prelude.{Result, Ok, Err, if◌then◌else◌, refl}
 use Rattle.history_lock.specs.declared.limits.TheConstants.{MOST_DRAWS}
 use Rattle.dio_core.specs.declared.listener.Listener.{Ghosts as ListenerTells}
 use Rattle.dio_core.specs.Counts.{IsCounted}
-use Rattle.dio_core.specs.Links.{Both}
+use Rattle.dio_core.specs.Links.{Both, Outgoing}
 use Rattle.dio_core.specs.Sources.{with_prefix}
 use Rattle.dio_core.specs.Sinks.{with_more}
 use Rattle.txn_grammar.specs.Characters.{Text}
@@ -22,9 +22,9 @@ use Rattle.script_runner.specs.declared.status.TheConstants.{WHOLE, NO_MEMORY}
 use Rattle.diamond_server.specs.declared.status.TheConstants.{NO_CLIENT}
 use Rattle.diamond_server.specs.declared.serving_all.Tally.{Tally}
 use Rattle.diamond_server.specs.Talking.{Told, first_session, texts_of, turns_of}
-use Rattle.diamond_server.specs.Promises.{IsAccounted, IsHeard, Promises}
+use Rattle.diamond_server.specs.Promises.{IsAccounted, IsCutShort, IsHeard, Promises}
 use Rattle.diamond_server.specs.Readable.{StaysReadable}
-use Rattle.diamond_server.specs.Ways.{Promising, having_met}
+use Rattle.diamond_server.specs.Ways.{AnyStep, Promising, having_met}
 
 -- ---- one link
 
@@ -66,9 +66,13 @@ pub record IsExplained (k l m : Known) (x y : Both) (Reads : List Told → Text 
   pub accounted : IsAccounted k m tolds
   pub heard : IsHeard tolds x y Reads
 
+-- The same of a session that was cut short, as `IsCutShort` says, each call keeping the clause of every backend.
+abbrev pub IsNearlyExplained : Known → Known → Known → Both → Both → (List Told → Outgoing → Outgoing → Type 0) → Type 0
+IsNearlyExplained k l m x y Takes = Attends k (first_session k) × IsCutShort (λ n. n) AnyStep m k l x y Takes
+
 -- What is promised of a link over which a session's lines are done.
 abbrev pub LinesPromised : Promising
-LinesPromised k l m status x y = Promises (IsExplained k l m x y) k l status x y
+LinesPromised k l m status x y = Promises (IsExplained k l m x y) (IsNearlyExplained k l m x y) k l status x y
 
 -- ---- one link, in whole
 

@@ -11,7 +11,7 @@ use Rattle.session_text.specs.Printing.{printed_reply}
 use Rattle.txn_grammar.specs.Characters.{Text}
 use Rattle.docc_prepare.specs.Calls.{Known, Call, Answer}
 use Rattle.docc_prepare.specs.Backends.{Goes}
-use Rattle.call_programs.specs.Programs.{Program, Leads}
+use Rattle.call_programs.specs.Programs.{Program, Leads, Succeeds, ask_length}
 use Rattle.client_watches.specs.Watching.{none_yet}
 use Rattle.session_core.specs.declared.session.Session.{Session}
 use Rattle.session_core.specs.declared.turn.Turn.{Turn}
@@ -138,7 +138,51 @@ pub data Talks {B : Type 0} (known : B → Known) (goes : B → Call → Answer 
       → Talks known goes old s before mid (Some t) → Does known goes mid t told new o → tolds ≡ before ++ told ∷ []
       → Talks known goes old s tolds new o
 
+-- ---- a line that is begun, and not answered
+
+-- SOME FIRST CALLS OF A PROGRAM were made, each by a step of the relation: none, or one that failed, or one that was answered and then
+-- some of those that follow.
+pub data HasBegun {S A : Type 0} (goes : S → Call → Answer → S → Type 0) : S → Program A → S → Type 0 where
+  no_more : {s : S} {p : Program A} → HasBegun goes s p s
+  last_failed : {s t : S} {call : Call} {next : Answer → Program A} (by_fault : Bool) → goes s call (Answer.failed by_fault) t
+      → HasBegun goes s (Program.asks call next) t
+  then_more : {s m t : S} {call : Call} {next : Answer → Program A} (answer : Answer) → goes s call answer m → Succeeds answer
+      → HasBegun goes m (next answer) t → HasBegun goes s (Program.asks call next) t
+
+-- A LINE OF THE SESSION IS BEGUN: some first calls of its program were made, maybe all. Where it is to wait, the wait may have failed; or
+-- the client was woken, and some first calls of `sync` were made.
+pub data Begins {B : Type 0} (known : B → Known) (goes : B → Call → Answer → B → Type 0) (old : B) (s : Session) (text : Text) (new : B)
+    : Type 0 where
+  at_once : HasBegun (Goes known goes) old (line_over (known old) s (line_of text)) new → Begins known goes old s text new
+  unwoken : (there : B) (u : Session) (by_fault : Bool)
+      → Leads (Goes known goes) old (line_over (known old) s (line_of text)) there (Program.ends (u, turn.WaitWanted))
+      → Goes known goes there Call.wait (Answer.failed by_fault) new → Begins known goes old s text new
+  woken : (there woke : B) (u : Session)
+      → Leads (Goes known goes) old (line_over (known old) s (line_of text)) there (Program.ends (u, turn.WaitWanted))
+      → Goes known goes there Call.wait Answer.done woke → HasBegun (Goes known goes) woke (sync u) new → Begins known goes old s text new
+
+-- Behind a talk a line was begun, where the session goes on, or none was.
+abbrev pub MayBegin : {B : Type 0} → (B → Known) → (B → Call → Answer → B → Type 0) → B → Option Session → Option Text → B → Type 0
+MayBegin known goes old o None new = new ≡ old
+MayBegin known goes old None (Some text) new = ⊥
+MayBegin known goes old (Some s) (Some text) new = (length text ≤ LONGEST_LINE) × Begins known goes old s text new
+
 -- ---- worked lines
+
+-- a call that fails is the last
+begun-failing :
+    {S : Type 0} {goes : S → Call → Answer → S → Type 0} {s t : S} → goes s Call.refresh (Answer.failed false) t → HasBegun goes s ask_length t
+begun-failing step = HasBegun.last_failed false step
+
+-- behind one that is answered others may come
+begun-going_on :
+    {S : Type 0} {goes : S → Call → Answer → S → Type 0} {s t : S} → goes s Call.refresh (Answer.number 3) t → HasBegun goes s ask_length t
+begun-going_on step = HasBegun.then_more (Answer.number 3) step tt HasBegun.no_more
+
+-- behind `quit` no line is begun
+begun-behind-quit :
+    {B : Type 0} (known : B → Known) (goes : B → Call → Answer → B → Type 0) (b c : B) (text : Text) → MayBegin known goes b None (Some text) c → ⊥
+begun-behind-quit known goes b c text begun = begun
 
 -- a reply has no client's number before it
 reply-example : turn_text (turn.Replies (reply.Disk ∷ reply.Dropped ∷ [])) ≡ codes "disk" ++ NEWLINE ∷ codes "dropped" ++ NEWLINE ∷ []

@@ -3,13 +3,18 @@ use Rattle.std.specs.Prelude.{◌≡◌, ℕ, ◌≤◌}
 use mathlib.Core.List.{IsPrefix}
 use Rattle.dio_core.specs.Links.{Both}
 use Rattle.txn_lang.specs.Journals.{IsLegal, own}
-use Rattle.docc_prepare.specs.Calls.{Known}
+use Rattle.docc_prepare.specs.Calls.{Known, Call, Answer}
 use Rattle.diamond_store.specs.Passes.{Passed, known_of}
 
 -- WHAT IS PROMISED OF A LINK THAT IS SERVED, in whatever way: by what its client knew as it joined, at its session's end, and later;
 -- by the status; and from both sides of the link as they were to both as they are.
 abbrev pub Promising : Type 1
 Promising = Known → Known → Known → ℕ → Both → Both → Type 0
+
+-- Any call and answer at all. What is said of steps over what a client knows, in place of a backend, asks no more than the clause of
+-- every backend.
+abbrev pub AnyStep : Known → Call → Answer → Known → Type 0
+AnyStep k c a l = Unit {0}
 
 -- a client that has met what another knows
 abbrev pub having_met : Passed → Passed → Passed

@@ -1,6 +1,6 @@
 //! What a line of the link is answered. The answer is held back, behind those that are.
 
-ghost use Rattle.std.specs.Prelude.{◌≡◌, ◌≤◌, ◌++◌, length, Err, IfOk, IfErr, OnOk};
+ghost use Rattle.std.specs.Prelude.{◌≡◌, ◌≤◌, ◌++◌, length, Some, Err, IfOk, IfErr, OnOk, OnErr};
 ghost use Rattle.dio_core.specs.Counts.{Rose};
 ghost use Rattle.dio_core.specs.Lines.{IsShort};
 ghost use Rattle.dio_core.specs.declared.line.Line.TheVariants as cut;
@@ -8,8 +8,8 @@ ghost use Rattle.session_core.specs.Holding.{Attends};
 ghost use Rattle.script_runner.specs.Play.{left};
 ghost use Rattle.diamond_server.specs.Promises.{sides};
 ghost use Rattle.diamond_server.specs.Talking as spec;
-ghost use Rattle.diamond_server.specs.Talking.{Told, Answers};
-ghost use Rattle.diamond_server.specs.code.Serving.{Wakes, HoldsBack, StopsBy, Replies, kept};
+ghost use Rattle.diamond_server.specs.Talking.{Told, Answers, Begins, MayBegin};
+ghost use Rattle.diamond_server.specs.code.Serving.{Wakes, MayWake, HoldsBack, StopsBy, Replies, kept, text_of};
 
 use crate::link::pass_on;
 use crate::replies::{reply_line, turn_text};
@@ -29,6 +29,7 @@ fn woken<B: Waiter>(
 ) -> Result<Turn, SessionError>
     requires attends { Attends (B.known backend.old) session.old }
     ensures woken { IfOk result (λ turn. Wakes B.known B.goes backend.old session.old turn backend.new session.new) }
+    ensures begun { OnErr result (MayWake B.known B.goes backend.old session.old backend.new) }
     ensures attends { OnOk result (Attends (B.known backend.new) session.new) }
     ensures fault { result ≡ Err SessionError.StoreFault → Rose (B.known backend.old).faults (B.known backend.new).faults }
     ensures home { B.home backend.new ≡ B.home backend.old }
@@ -49,8 +50,9 @@ fn passed_on_and_woken<B: Waiter, K: End>(
     ensures woken { IfOk result (λ turn. Wakes B.known B.goes backend.old session.old turn backend.new session.new) }
     ensures holds { OnOk result (HoldsBack (sides K.Source K.Sink link.old).outwards held.old
         (sides K.Source K.Sink link.new).outwards held.new) }
-    ensures stops { IfErr result (λ stop. StopsBy stop (B.known backend.old).faults (B.known backend.new).faults
-        (sides K.Source K.Sink link.old).outwards.faults (sides K.Source K.Sink link.new).outwards.faults) }
+    ensures stops { IfErr result (λ stop. StopsBy stop (MayWake B.known B.goes backend.old session.old backend.new)
+        (B.known backend.old).faults (B.known backend.new).faults
+        (sides K.Source K.Sink link.old).outwards held.old (sides K.Source K.Sink link.new).outwards held.new) }
     ensures incoming { (sides K.Source K.Sink link.new).inwards ≡ (sides K.Source K.Sink link.old).inwards }
     ensures attends { OnOk result (Attends (B.known backend.new) session.new) }
     ensures home { B.home backend.new ≡ B.home backend.old }
@@ -78,8 +80,9 @@ fn said<B: Waiter, K: End>(
     ensures answers { IfOk result (λ turn. Answers B.known B.goes backend.old session.old text.now turn backend.new session.new) }
     ensures holds { OnOk result (HoldsBack (sides K.Source K.Sink link.old).outwards held.old
         (sides K.Source K.Sink link.new).outwards held.new) }
-    ensures stops { IfErr result (λ stop. StopsBy stop (B.known backend.old).faults (B.known backend.new).faults
-        (sides K.Source K.Sink link.old).outwards.faults (sides K.Source K.Sink link.new).outwards.faults) }
+    ensures stops { IfErr result (λ stop. StopsBy stop (Begins B.known B.goes backend.old session.old text.now backend.new)
+        (B.known backend.old).faults (B.known backend.new).faults
+        (sides K.Source K.Sink link.old).outwards held.old (sides K.Source K.Sink link.new).outwards held.new) }
     ensures incoming { (sides K.Source K.Sink link.new).inwards ≡ (sides K.Source K.Sink link.old).inwards }
     ensures attends { OnOk result (Attends (B.known backend.new) session.new) }
     ensures home { B.home backend.new ≡ B.home backend.old }
@@ -96,6 +99,7 @@ fn said<B: Waiter, K: End>(
 /// Holds back the text of a turn, and says whether the session goes on behind it.
 fn hold_turn(alloc: Global, held: &mut Text, turn: &Turn) -> Result<bool, AllocError>
     ensures held { OnOk result (held.new ≡ held.old ++ spec.turn_text turn.now) }
+    ensures same { OnErr result (held.new ≡ held.old) }
     ensures left { IfOk result (λ goes_on. (s : Session) → left s turn.now ≡ kept goes_on s) }
 {
     let text = turn_text(alloc, turn)?;
@@ -115,7 +119,8 @@ fn goes_on(turn: &Turn) -> bool
 
 /// Holds back the refusal of a line that is too long.
 fn hold_refusal(alloc: Global, held: &mut Text) -> Result<(), AllocError>
-    ensures { OnOk result (held.new ≡ held.old ++ spec.printed Told.long) }
+    ensures held { OnOk result (held.new ≡ held.old ++ spec.printed Told.long) }
+    ensures same { OnErr result (held.new ≡ held.old) }
 {
     let text = reply_line(alloc, &Reply::Refused(Why::Long))?;
     held.extend_from_slice(text.as_slice())
@@ -135,8 +140,9 @@ fn text_answer<B: Waiter, K: End>(
     ensures replies { IfOk result (λ goes_on. Replies B.known B.goes backend.old session.old (cut.Bytes text.now)
         (sides K.Source K.Sink link.old).outwards held.old goes_on backend.new session.new
         (sides K.Source K.Sink link.new).outwards held.new) }
-    ensures stops { IfErr result (λ stop. StopsBy stop (B.known backend.old).faults (B.known backend.new).faults
-        (sides K.Source K.Sink link.old).outwards.faults (sides K.Source K.Sink link.new).outwards.faults) }
+    ensures stops { IfErr result (λ stop. StopsBy stop (MayBegin B.known B.goes backend.old (Some session.old) (Some text.now) backend.new)
+        (B.known backend.old).faults (B.known backend.new).faults
+        (sides K.Source K.Sink link.old).outwards held.old (sides K.Source K.Sink link.new).outwards held.new) }
     ensures incoming { (sides K.Source K.Sink link.new).inwards ≡ (sides K.Source K.Sink link.old).inwards }
     ensures attends { OnOk result (Attends (B.known backend.new) session.new) }
     ensures home { B.home backend.new ≡ B.home backend.old }
@@ -162,8 +168,9 @@ pub fn answer<B: Waiter, K: End>(
     ensures replies { IfOk result (λ goes_on. Replies B.known B.goes backend.old session.old line.now
         (sides K.Source K.Sink link.old).outwards held.old goes_on backend.new session.new
         (sides K.Source K.Sink link.new).outwards held.new) }
-    ensures stops { IfErr result (λ stop. StopsBy stop (B.known backend.old).faults (B.known backend.new).faults
-        (sides K.Source K.Sink link.old).outwards.faults (sides K.Source K.Sink link.new).outwards.faults) }
+    ensures stops { IfErr result (λ stop. StopsBy stop (MayBegin B.known B.goes backend.old (Some session.old) (text_of line.now) backend.new)
+        (B.known backend.old).faults (B.known backend.new).faults
+        (sides K.Source K.Sink link.old).outwards held.old (sides K.Source K.Sink link.new).outwards held.new) }
     ensures incoming { (sides K.Source K.Sink link.new).inwards ≡ (sides K.Source K.Sink link.old).inwards }
     ensures attends { OnOk result (Attends (B.known backend.new) session.new) }
     ensures home { B.home backend.new ≡ B.home backend.old }

@@ -1,12 +1,13 @@
 //! A link as a session uses it: lines come in, and texts go out. Texts are held back while lines are at hand that were read ahead.
 
-ghost use Rattle.std.specs.Prelude.{◌≡◌, ◌≤◌, [], length, true, not, Ok, IfOk, IfErr, IfSome};
+ghost use Rattle.std.specs.Prelude.{◌≡◌, ◌≤◌, [], length, true, not, Ok, None, IfOk, IfErr, OnErr, IfSome};
 ghost use Rattle.std.specs.Bool.{OnTrue};
 ghost use Rattle.dio_core.specs.Counts.{IsCounted};
 ghost use Rattle.dio_core.specs.Lines.{TakesLine, IsShort};
 ghost use Rattle.dio_core.specs.Links.{incoming, outgoing};
-ghost use Rattle.dio_core.specs.Sinks.{with_more, IsPassedOn};
-ghost use Rattle.diamond_server.specs.Promises.{sides};
+ghost use Rattle.dio_core.specs.Sinks.{with_more, TakesPrefix, IsPassedOn};
+ghost use Rattle.dio_core.specs.Told.{WhereTold};
+ghost use Rattle.diamond_server.specs.Promises.{sides, ReadsNext};
 ghost use Rattle.diamond_server.specs.code.Serving.{read_stopped, StopsReading, PassesOn, IsAtHand, FindsLine, Settles};
 
 use crate::status::{Cause, Stop};
@@ -36,6 +37,7 @@ fn read_line<K: End>(alloc: Global, link: &mut K) -> Result<Line, Stop>
 /// Writes a text, and passes it on. `false` is a fault of the link.
 fn say<K: End>(link: &mut K, text: &[u8]) -> bool
     ensures taken { OnTrue result (K.taken link.new ≡ with_more (K.taken link.old) text.now) }
+    ensures part { TakesPrefix text.now (K.taken link.old) (K.taken link.new) }
     ensures passed { OnTrue result (IsPassedOn (K.taken link.new) (K.passed link.new)) }
     ensures writes { IsCounted (not result) (K.write_faults link.old) (K.write_faults link.new) }
     ensures incoming { incoming (K.left link.new) (K.read_faults link.new) ≡ incoming (K.left link.old) (K.read_faults link.old) }
@@ -66,6 +68,7 @@ fn line_ahead_in<K: End>(
     requires { length buf.old ≤ LONGEST_LINE }
     ensures line { IfOk result (λ found. IsAtHand found (K.left link.old) (K.left link.new)) }
     ensures short { IfOk result (λ found. IfSome found IsShort) }
+    ensures lost { OnErr result (WhereTold (ReadsNext None) (K.left link.old) (K.left link.new)) }
     ensures reads { K.read_faults link.new ≡ K.read_faults link.old }
     ensures outgoing { outgoing (K.taken link.new) (K.passed link.new) (K.write_faults link.new)
         ≡ outgoing (K.taken link.old) (K.passed link.old) (K.write_faults link.old) }
@@ -83,6 +86,7 @@ fn line_ahead_in<K: End>(
 fn line_at_hand<K: End>(alloc: Global, link: &mut K) -> Result<Option<Line>, AllocError>
     ensures line { IfOk result (λ found. IsAtHand found (K.left link.old) (K.left link.new)) }
     ensures short { IfOk result (λ found. IfSome found IsShort) }
+    ensures lost { OnErr result (WhereTold (ReadsNext None) (K.left link.old) (K.left link.new)) }
     ensures reads { K.read_faults link.new ≡ K.read_faults link.old }
     ensures outgoing { outgoing (K.taken link.new) (K.passed link.new) (K.write_faults link.new)
         ≡ outgoing (K.taken link.old) (K.passed link.old) (K.write_faults link.old) }
@@ -114,6 +118,13 @@ pub fn find_line<K: End>(alloc: Global, link: &mut K, held: &mut Text) -> Result
     }
 }
 
+/// Whether another line may follow.
+fn goes_on(outcome: Result<bool, Stop>) -> bool
+    ensures { result ≡ true → outcome ≡ Ok true }
+{
+    matches!(outcome, Ok(true))
+}
+
 /// Passes on what is held back, unless the session goes on and it is not too much.
 pub fn settle<K: End>(
     link: &mut K,
@@ -125,7 +136,7 @@ pub fn settle<K: End>(
     ensures emptied { (result ≡ Ok true → ⊥) → held.new ≡ [] }
     ensures incoming { (sides K.Source K.Sink link.new).inwards ≡ (sides K.Source K.Sink link.old).inwards }
 {
-    let holds = matches!(outcome, Ok(true)) && held.len() <= MOST_HELD;
+    let holds = goes_on(outcome) && held.len() <= MOST_HELD;
     if holds || pass_on(link, held) {
         outcome
     } else {

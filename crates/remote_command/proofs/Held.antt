@@ -1,21 +1,21 @@
 -- What a session over a remote client promises of its caller.
-use Rattle.std.proofs.Common.{◌≡◌, ℕ, List, inr, refl, sym, ap, ◌∙◌, subst}
+use Rattle.std.proofs.Common.{◌≡◌, ℕ, List, inl, inr, refl, sym, ap, ◌∙◌, subst}
 use Rattle.std.specs.Prelude.{Option, Some, None, IfSome}
 use Rattle.dio_core.specs.Counts.{Rose, IsCounted}
 use Rattle.dio_core.specs.declared.sink.Sink.{Ghosts as SinkTells}
 use Rattle.dio_core.specs.declared.source.Source.{Ghosts as SourceTells}
-use Rattle.dio_core.specs.Links.{Both}
+use Rattle.dio_core.specs.Links.{Both, Outgoing}
 use Rattle.txn_grammar.specs.Characters.{Text}
 use Rattle.txn_lang.specs.States.{Journal}
 use Rattle.docc_prepare.specs.declared.backend.StoreError.{StoreError}
 use Rattle.docc_prepare.specs.declared.backend.StoreError.TheVariants as store_error
 use Rattle.docc_prepare.specs.Calls.{Known, Call, Answer}
 use Rattle.diamond_server.specs.Talking.{Told}
-use Rattle.diamond_server.specs.Promises.{IsNew, IsNewTo, IsServed, Promises, KeepsPromises}
+use Rattle.diamond_server.specs.Promises.{IsNew, IsNewTo, IsServed, IsCutShort, Promises, KeepsPromises}
 use Rattle.remote_calls.specs.Calling.{is_fault_error}
 use Rattle.remote_client.specs.Standing.{Standing, stood_for, Steps}
 use Rattle.remote_client.specs.Opening.{Begins}
-use Rattle.remote_command.specs.Running.{ends, IsHeld, KeepsOver, failure}
+use Rattle.remote_command.specs.Running.{ends, IsHeld, IsCutOver, KeepsOver, failure}
 
 -- who tells no journal is new
 untold-new : (k : Known) → k.journal ≡ None → IsNew k
@@ -58,6 +58,9 @@ module _ {C : Type 0} (known : C → Known) (home : C → ℕ) (goes : C → Cal
     whole = λ is. held (p.whole is);
     broken_off = λ is. held (p.broken_off is);
     too_many = λ is. held (p.too_many is);
+    cut_off = λ is. short (p.cut_off is);
+    stalled = λ is. short (p.stalled is);
+    failed = λ is. short (p.failed is);
     reads = p.reads;
     writes = p.writes;
     store_failed = λ is. subst (λ (n : ℕ). Rose n (known ended.caller).faults) (opened-faults opened begins) (p.store_failed is);
@@ -68,6 +71,11 @@ module _ {C : Type 0} (known : C → Known) (home : C → ℕ) (goes : C → Cal
       held : {Reads : List Told → Text → Text → Type 0} → IsServed (stood_for known) (Steps goes) opened ended x y Reads
           → IsHeld known home goes caller ended.caller x y Reads
       held served = record { opened = opened; ended = ended; begins = begins; served = served; back_is = refl }
+
+      short : {Takes : List Told → Outgoing → Outgoing → Type 0}
+          → IsCutShort (stood_for known) (Steps goes) (stood_for known ended) opened ended x y Takes
+          → IsCutOver known home goes caller ended.caller x y Takes
+      short cut = inl (record { opened = opened; ended = ended; begins = begins; cut = cut; back_is = refl })
 
   -- so they are of the caller that is given back
   pub over-closed : (opened ended : Standing C) (back : C) (status : ℕ) (x y : Both) → back ≡ ended.caller → Begins known home caller opened
@@ -83,6 +91,9 @@ module _ {C : Type 0} (known : C → Known) (home : C → ℕ) (goes : C → Cal
     whole = λ is. absurd (cc is);
     broken_off = λ is. absurd (cc is);
     too_many = λ is. absurd (cc is);
+    cut_off = λ is. absurd (cc is);
+    stalled = λ is. absurd (cc is);
+    failed = λ is. inr refl;
     reads = refl;
     writes = refl;
     store_failed = λ is. counted;
@@ -93,6 +104,9 @@ module _ {C : Type 0} (known : C → Known) (home : C → ℕ) (goes : C → Cal
     whole = λ is. absurd (cc is);
     broken_off = λ is. absurd (cc is);
     too_many = λ is. absurd (cc is);
+    cut_off = λ is. absurd (cc is);
+    stalled = λ is. inr refl;
+    failed = λ is. absurd (cc is);
     reads = refl;
     writes = refl;
     store_failed = λ is. absurd (cc is);

@@ -5,7 +5,7 @@ use Rattle.std.specs.List.{list_any}
 use Rattle.std.specs.Bool.{OnTrue}
 use Rattle.std.proofs.lemmas.Bool.{eqb-true, OnTrue_at}
 use Rattle.dio_core.specs.Counts.{Rose, IsCounted}
-use Rattle.dio_core.specs.Links.{Both}
+use Rattle.dio_core.specs.Links.{Both, Outgoing}
 use Rattle.txn_grammar.specs.Characters.{Text}
 use Rattle.docc_prepare.specs.Calls.{Known}
 use Rattle.script_runner.specs.declared.status.TheConstants.{WHOLE, READ_FAULT, WRITE_FAULT, NO_MEMORY, TOO_MANY_LINES}
@@ -17,18 +17,22 @@ use Rattle.remote_link.specs.Ends.{LinkEnd, new_end, by_link}
 use Rattle.remote_link.specs.Talks.{HasTalked}
 use Rattle.remote_link.proofs.Talked.{talks-go_on}
 use Rattle.remote_command.specs.declared.remote.TheConstants.{LINK_FAULT, BROKEN_LINK}
-use Rattle.remote_command.specs.Running.{IsHeld, KeepsOver}
+use Rattle.remote_command.specs.Running.{IsHeld, IsCutOver, KeepsOver}
 use Rattle.remote_command.specs.Linked.{knows, nowhere, IsHeldOver, plain, KeepsPromises, HasRisen, status_over}
 use Rattle.remote_command.proofs.Over.{behind-talk}
 
 -- what is promised by one fact of what was held is so by another that follows from it
-held-as : (Held As : (List Told → Text → Text → Type 0) → Type 0) (k l : Known) (status : ℕ) (x y : Both)
-    → ((Reads : List Told → Text → Text → Type 0) → Held Reads → As Reads) → Promises Held k l status x y → Promises As k l status x y
-held-as Held As k l status x y f p = record {
+held-as : (Held As : (List Told → Text → Text → Type 0) → Type 0) (Cut : (List Told → Outgoing → Outgoing → Type 0) → Type 0) (k l : Known)
+    (status : ℕ) (x y : Both) → ((Reads : List Told → Text → Text → Type 0) → Held Reads → As Reads) → Promises Held Cut k l status x y
+    → Promises As Cut k l status x y
+held-as Held As Cut k l status x y f p = record {
   statuses = p.statuses;
   whole = λ is. f _ (p.whole is);
   broken_off = λ is. f _ (p.broken_off is);
   too_many = λ is. f _ (p.too_many is);
+  cut_off = p.cut_off;
+  stalled = p.stalled;
+  failed = p.failed;
   reads = p.reads;
   writes = p.writes;
   store_failed = p.store_failed;
@@ -36,13 +40,16 @@ held-as Held As k l status x y f p = record {
 }
 
 -- where a store has failed, memory may be wanting for all that is promised then
-wanting : (Held : (List Told → Text → Text → Type 0) → Type 0) (k l : Known) (x y : Both)
-    → Promises Held k l STORE_FAULT x y → Promises Held k l NO_MEMORY x y
-wanting Held k l x y p = record {
+wanting : (Held : (List Told → Text → Text → Type 0) → Type 0) (Cut : (List Told → Outgoing → Outgoing → Type 0) → Type 0) (k l : Known)
+    (x y : Both) → Promises Held Cut k l STORE_FAULT x y → Promises Held Cut k l NO_MEMORY x y
+wanting Held Cut k l x y p = record {
   statuses = refl;
   whole = λ is. absurd (cc is);
   broken_off = λ is. absurd (cc is);
   too_many = λ is. absurd (cc is);
+  cut_off = λ is. absurd (cc is);
+  stalled = λ is. p.failed refl;
+  failed = λ is. absurd (cc is);
   reads = p.reads;
   writes = p.writes;
   store_failed = λ is. absurd (cc is);
@@ -50,9 +57,9 @@ wanting Held k l x y p = record {
 }
 
 -- a session over a caller has none of the statuses of links
-none-broken : (Held : (List Told → Text → Text → Type 0) → Type 0) (k l : Known) (status : ℕ) (x y : Both) → Promises Held k l status x y
-    → (status == BROKEN_LINK) ≡ false
-none-broken Held k l status x y p = by (status == BROKEN_LINK) refl
+none-broken : (Held : (List Told → Text → Text → Type 0) → Type 0) (Cut : (List Told → Outgoing → Outgoing → Type 0) → Type 0) (k l : Known)
+    (status : ℕ) (x y : Both) → Promises Held Cut k l status x y → (status == BROKEN_LINK) ≡ false
+none-broken Held Cut k l status x y p = by (status == BROKEN_LINK) refl
   where
     by : (b : Bool) → (status == BROKEN_LINK) ≡ b → b ≡ false
     by false e = refl
@@ -65,7 +72,9 @@ none-broken Held k l status x y p = by (status == BROKEN_LINK) refl
 module _ {K : Type 0} (side : K → Both) (link : K) (ended : LinkEnd K) (x y : Both) where
   -- what a session over the link promises, at the status of the session in between
   abbrev pub Over : ℕ → Type 0
-  Over status = Promises (IsHeldOver side link ended x y) (knows (new_end link)) (knows ended) status x y
+  Over status =
+      Promises (IsHeldOver side link ended x y) (IsCutOver knows nowhere (by_link side) (new_end link) ended x y) (knows (new_end link)) (knows ended)
+      status x y
 
   -- a session that was held over the caller was held over the link
   held-over : (Reads : List Told → Text → Text → Type 0) → IsHeld knows nowhere (by_link side) (new_end link) ended x y Reads
@@ -82,8 +91,8 @@ module _ {K : Type 0} (side : K → Both) (link : K) (ended : LinkEnd K) (x y : 
   -- so are its promises
   over : (status : ℕ) → KeepsOver knows nowhere (by_link side) (new_end link) ended status x y → Over status
   over status p =
-      held-as (IsHeld knows nowhere (by_link side) (new_end link) ended x y) (IsHeldOver side link ended x y) (knows (new_end link)) (knows ended)
-      status x y held-over p
+      held-as (IsHeld knows nowhere (by_link side) (new_end link) ended x y) (IsHeldOver side link ended x y)
+      (IsCutOver knows nowhere (by_link side) (new_end link) ended x y) (knows (new_end link)) (knows ended) status x y held-over p
 
   -- by whether the link is broken, and whether it has failed, where the session's calls failed by a fault
   faulted : (broken failed : Bool) → ended.broken ≡ broken → (failed ≡ true → HasFailed (side link) (side ended.link)) → Over STORE_FAULT
@@ -105,7 +114,8 @@ module _ {K : Type 0} (side : K → Both) (link : K) (ended : LinkEnd K) (x y : 
   faulted false false is rose p = record {
     ended = ended;
     given_back = refl;
-    session = wanting (IsHeldOver side link ended x y) (knows (new_end link)) (knows ended) x y p;
+    session = wanting (IsHeldOver side link ended x y) (IsCutOver knows nowhere (by_link side) (new_end link) ended x y) (knows (new_end link))
+        (knows ended) x y p;
     failed = λ no. absurd (cc no);
     broken = λ no. absurd (cc no);
   }
@@ -130,7 +140,7 @@ module _ {K : Type 0} (side : K → Both) (link : K) (ended : LinkEnd K) (x y : 
       by : (b : Bool) → (status == STORE_FAULT) ≡ b
           → KeepsPromises side link ended.link (cond b (cond ended.broken BROKEN_LINK (cond failed LINK_FAULT NO_MEMORY)) status) x y
       by true e = faulted ended.broken failed refl rose (subst Over (eqb-true status STORE_FAULT e) (over status p))
-      by false e = unfaulted status e (none-broken _ _ _ status x y p) (over status p)
+      by false e = unfaulted status e (none-broken _ _ _ _ status x y p) (over status p)
 
   -- so it is of what the code has found
   pub run-over : (first : LinkEnd K) (back : K) (own status : ℕ) (broken failed : Bool) (reads writes : ℕ) → first ≡ new_end link → back ≡ ended.link

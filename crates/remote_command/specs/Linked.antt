@@ -12,7 +12,7 @@ use Rattle.remote_link.specs.Exchanging.{HasFailed}
 use Rattle.remote_link.specs.Ends.{LinkEnd, new_end, stands, by_link}
 use Rattle.remote_link.specs.Talks.{Talk, HasTalked}
 use Rattle.remote_command.specs.declared.remote.TheConstants.{LINK_FAULT, BROKEN_LINK}
-use Rattle.remote_command.specs.Running.{IsHeld}
+use Rattle.remote_command.specs.Running.{IsHeld, IsCutOver}
 
 statuses-are : LINK_FAULT ∷ BROKEN_LINK ∷ [] ≡ 6 ∷ 10 ∷ []
 statuses-are = refl
@@ -52,7 +52,8 @@ plain-examples = refl
 pub record KeepsPromises {K : Type 0} (side : K → Both) (link back : K) (status : ℕ) (x y : Both) : Type 0 where
   pub ended : LinkEnd K
   pub given_back : ended.link ≡ back
-  pub session : Promises (IsHeldOver side link ended x y) (knows (new_end link)) (knows ended) (plain status) x y
+  pub session : Promises (IsHeldOver side link ended x y) (IsCutOver knows nowhere (by_link side) (new_end link) ended x y) (knows (new_end link))
+      (knows ended) (plain status) x y
   -- at 6 a count of the link rose
   pub failed : status ≡ LINK_FAULT → HasFailed (side link) (side back)
   -- at 10 it gave what is no answer, or what goes back

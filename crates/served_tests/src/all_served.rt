@@ -357,3 +357,116 @@ fn sessions_go_on_where_the_disk_denies_a_commit(rt: HostRuntime) {
     };
     assert!(rt; is_served(&rt, rt.alloc(), keep, Open, &DENIED));
 }
+
+/// Two commits, and a look at how many there are.
+const COMMITS: &[u8] = b"do emit 1;\ndo emit 2;\nseen\nquit\n";
+
+const ANSWERS: &[u8] = b"commit 1 ok 1\ncommit 2 ok 2\nseen 2\ndropped\n";
+
+/// What the session beside it is answered.
+const LOOK: &[u8] = b"at 0 ok 7\ndropped\n";
+
+/// How a session has ended, one of whose link's calls was to fail.
+#[derive(Clone, Copy, Debug, PartialEq, Eq)]
+enum Ending {
+    /// By that fault. The link took a prefix of the answers, and no more than one commit was made that isn't answered in it.
+    CutShort,
+    /// The call wasn't made, and all was answered.
+    Whole,
+    /// Neither way.
+    Otherwise,
+}
+
+/// How many commits these answers tell of.
+fn commits_told(answers: &[u8]) -> usize {
+    let lines = answers.iter().filter(|byte| **byte == b'\n').count();
+    lines.min(2)
+}
+
+/// How the session of this link has ended, with so many commits.
+fn ending_of(link: &MemLink, status: u8, commits: usize, fault: u8) -> Ending {
+    let taken = link.sink.taken();
+    let told = commits_told(taken);
+    if status == WHOLE && commits == 2 && taken == ANSWERS {
+        return Ending::Whole;
+    }
+    if status == fault && told <= commits && commits <= told + 1 && ANSWERS.starts_with(taken) {
+        return Ending::CutShort;
+    }
+    Ending::Otherwise
+}
+
+/// Whether the session that goes on beside it was answered to its end.
+fn went_on(link: &MemLink, status: u8) -> bool {
+    status == WHOLE && link.sink.taken() == LOOK
+}
+
+/// How the first session has ended, where the second has been answered to its end.
+fn ending_in(listener: &MemListener, outcome: &Result<Outcome, AllocError>, fault: u8) -> Ending {
+    match (outcome, listener.back().as_slice()) {
+        (Ok((2, _, false, commits)), [(first, status), (second, other)])
+            if went_on(second, *other) =>
+        {
+            ending_of(first, *status, *commits, fault)
+        }
+        _ => Ending::Otherwise,
+    }
+}
+
+/// Two links, in pieces of three bytes. Of the first these calls fail.
+fn two_links(alloc: Global, reads: &[u64], writes: &[u64]) -> Result<MemListener, AllocError> {
+    let mut links = MemLinks::new(alloc);
+    links.push(MemLink::new(alloc, COMMITS, 3, reads, writes)?)?;
+    links.push(MemLink::new(alloc, b"at 0 emit 7;\nquit\n", 3, &[], &[])?)?;
+    Ok(MemListener::new(alloc, links))
+}
+
+/// How a session ends whose link fails at these calls, beside one whose link doesn't.
+fn ending<R: Threads + Wait + Sync>(
+    rt: &R,
+    alloc: Global,
+    reads: &[u64],
+    writes: &[u64],
+    fault: u8,
+) -> Ending {
+    let Ok(mut listener) = two_links(alloc, reads, writes) else {
+        return Ending::Otherwise;
+    };
+    let outcome = serve_kept(rt, alloc, MemKeep, Open, &mut listener, 2);
+    ending_in(&listener, &outcome, fault)
+}
+
+/// How many calls the link of a session makes at most, a number far above what it does.
+const MOST_CALLS: u64 = 1000;
+
+/// At how many reads of its link a session was cut short, each in a run of its own, up to the first that isn't made.
+fn reads_cut_short<R: Threads + Wait + Sync>(rt: &R, alloc: Global) -> Option<u64> {
+    for call in 0..MOST_CALLS {
+        match ending(rt, alloc, &[call], &[], READ_FAULT) {
+            Ending::CutShort => {}
+            Ending::Whole => return Some(call),
+            Ending::Otherwise => return None,
+        }
+    }
+    None
+}
+
+/// The same of its writes and flushes.
+fn writes_cut_short<R: Threads + Wait + Sync>(rt: &R, alloc: Global) -> Option<u64> {
+    for call in 0..MOST_CALLS {
+        match ending(rt, alloc, &[], &[call], WRITE_FAULT) {
+            Ending::CutShort => {}
+            Ending::Whole => return Some(call),
+            Ending::Otherwise => return None,
+        }
+    }
+    None
+}
+
+/// Of a line's bytes the first is read alone, and the others in pieces of three: 5, 5, 3 and 3 reads. Its answer is written in
+/// pieces of three, and flushed: 6, 6, 4 and 4 calls.
+#[test]
+fn a_link_that_fails_at_any_call_cuts_its_own_session_short(rt: HostRuntime) {
+    assert!(rt; reads_cut_short(&rt, rt.alloc()) == Some(16));
+    assert!(rt; writes_cut_short(&rt, rt.alloc()) == Some(20));
+}

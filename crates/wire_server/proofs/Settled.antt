@@ -9,10 +9,10 @@ use Rattle.docc_prepare.specs.Backends.{IsSameClient}
 use Rattle.session_core.proofs.Grown.{prefix-again}
 use Rattle.diamond_store.specs.Passes.{Passed, known_of}
 use Rattle.diamond_store.proofs.Known.{front-of}
-use Rattle.diamond_server.specs.Ways.{having_met, KnowsMore, StaysPromised}
+use Rattle.diamond_server.specs.Ways.{AnyStep, having_met, KnowsMore, StaysPromised}
 use Rattle.remote_service.specs.declared.service.Service.{Service}
 use Rattle.remote_service.specs.Serving.{HasStalled}
-use Rattle.wire_server.specs.Links.{AnyStep, RequestsPromised}
+use Rattle.wire_server.specs.Links.{RequestsPromised}
 use Rattle.wire_server.specs.Talking.{Exchange, entry_of, first_service}
 use Rattle.wire_server.specs.Promises.{StaysLegal, Reading, IsAccounted, IsServed, IsCutOff, IsStalled, IsFailed, Promises}
 use Rattle.wire_server.proofs.Talked.{talk-known, stalled-known, failed-known}

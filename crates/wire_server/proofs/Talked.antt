@@ -18,7 +18,7 @@ use Rattle.remote_calls.specs.Spelled.{answered_by}
 use Rattle.remote_service.specs.declared.service.Service.{Service}
 use Rattle.remote_service.specs.Serving.{IsSpelling, IsUnchanged, MadeCall, HasFailed, HasStalled}
 use Rattle.remote_service.specs.Serving as service
-use Rattle.wire_server.specs.Links.{AnyStep}
+use Rattle.diamond_server.specs.Ways.{AnyStep}
 use Rattle.wire_server.specs.Talking.{Exchange, Does, Talks, entry_of, appended_by, appended, OwnsAppended, denied_as, denied_by, denied_by_all}
 use Rattle.wire_server.specs.Promises.{StaysLegal, IsAccounted, OwnsOneMore}
 use Rattle.wire_server.proofs.Appended.{own-asked, own-called, own-fault, AddsOne, denied-asked, denials-asked, denied-up}

@@ -1,7 +1,7 @@
 -- What the loop of a session over a link knows of what is held back, of one line, of those so far, and of the end. The laws of
--- proofs/Lines tie a line and those so far to `Talks` of specs/Talking and the end to `IsServed` of specs/Promises; `keeps_promises` of
+-- proofs/Lines tie a line and those so far to `Talks` of specs/Talking and the end to `IsServed` and `IsCutShort` of specs/Promises; `keeps_promises` of
 -- proofs/Promises ties the end and its status to `KeepsPromises`.
-use Rattle.std.specs.Prelude.{◌≡◌, ℕ, ◌⊎◌, Bool, true, false, List, [], ◌++◌, length, Option, Some, None, Result, Ok, Err}
+use Rattle.std.specs.Prelude.{◌≡◌, ℕ, ◌⊎◌, Bool, true, false, List, [], ◌++◌, length, drop, Option, Some, None, Result, Ok, Err}
 use Rattle.plain_data.specs.declared.or_no_memory.OrNoMemory.{OrNoMemory}
 use Rattle.plain_data.specs.declared.or_no_memory.OrNoMemory.TheVariants as stop
 use Rattle.dio_core.specs.Told.{WhereTold}
@@ -10,7 +10,7 @@ use Rattle.dio_core.specs.declared.line.Line.{Line}
 use Rattle.dio_core.specs.declared.line.Line.TheVariants as line
 use Rattle.dio_core.specs.Lines.{TakesLine, BreaksOff}
 use Rattle.dio_core.specs.Links.{Both, Outgoing}
-use Rattle.dio_core.specs.Sinks.{with_more, IsPassedOn}
+use Rattle.dio_core.specs.Sinks.{TakesPrefix, IsPassedOn}
 use Rattle.txn_grammar.specs.Characters.{Text}
 use Rattle.docc_prepare.specs.Calls.{Known, Call, Answer}
 use Rattle.docc_prepare.specs.Backends.{Goes}
@@ -24,8 +24,8 @@ use Rattle.script_runner.specs.declared.status.TheConstants.{WHOLE, READ_FAULT, 
 use Rattle.diamond_server.specs.declared.status.TheConstants.{STORE_FAULT}
 use Rattle.diamond_server.specs.declared.status.Cause.{Cause}
 use Rattle.diamond_server.specs.declared.status.Cause.TheVariants as cause
-use Rattle.diamond_server.specs.Talking.{Told, Does, Talks, first_session, printed, output, line_told}
-use Rattle.diamond_server.specs.Promises.{HasRead, ReadsToTheEnd, ReadsUpToAFault, ReadsOneMore, IsServed}
+use Rattle.diamond_server.specs.Talking.{Told, Does, Talks, HasBegun, MayBegin, first_session, printed, output, line_told}
+use Rattle.diamond_server.specs.Promises.{HasRead, ReadsToTheEnd, ReadsUpToAFault, ReadsOneMore, ReadsNext, TakesPart, TakesWhole, IsServed, IsCutShort}
 
 abbrev pub Stop : Type 0
 Stop = OrNoMemory Cause
@@ -65,16 +65,22 @@ StopsReading (stop.Cause cause.TooManyLines) left left_then = ⊥
 
 -- ---- holding back
 
--- What a link has taken and what is held back behind it are together what they were. What had all been passed on still is.
+-- Of what was held back a link has taken some first bytes, and the others are held back still. What had all been passed on still is.
 pub record HoldsBack (x : Outgoing) (held : Text) (y : Outgoing) (after : Text) : Type 0 where
-  pub said : with_more y.taken after ≡ with_more x.taken held
+  pub part : TakesPrefix held x.taken y.taken
+  pub rest : after ≡ drop part.0 held
   pub flushed : IsPassedOn x.taken x.passed → IsPassedOn y.taken y.passed
   pub writes : y.faults ≡ x.faults
 
--- what was held back is passed on, or a write or the flush has failed
+-- a write or the flush has failed, behind some first bytes
+pub record CutsOff (x : Outgoing) (held : Text) (y : Outgoing) : Type 0 where
+  pub part : TakesPrefix held x.taken y.taken
+  pub rose : Rose x.faults y.faults
+
+-- what was held back is passed on, or that has failed
 abbrev pub PassesOn : Bool → Outgoing → Text → Outgoing → Type 0
 PassesOn true x held y = HoldsBack x held y []
-PassesOn false x held y = (held ≡ [] → ⊥) × Rose x.faults y.faults
+PassesOn false x held y = (held ≡ [] → ⊥) × CutsOff x held y
 
 -- the line's outcome stands
 pub record Stands (outcome result : Result Bool Stop) (x : Outgoing) (held : Text) (y : Outgoing) (after : Text) : Type 0 where
@@ -82,15 +88,16 @@ pub record Stands (outcome result : Result Bool Stop) (x : Outgoing) (held : Tex
   pub holds : HoldsBack x held y after
   pub emptied : held ≡ [] → after ≡ []
 
--- or a write has failed, where there was something to be written
-pub record FailsToWrite (x : Outgoing) (held : Text) (y : Outgoing) (result : Result Bool Stop) : Type 0 where
+-- or a write has failed, where there was something to be written, and nothing is held back any more
+pub record FailsToWrite (x : Outgoing) (held : Text) (y : Outgoing) (after : Text) (result : Result Bool Stop) : Type 0 where
   pub is : result ≡ Err (stop.Cause cause.WriteFault)
   pub some : held ≡ [] → ⊥
-  pub rose : Rose x.faults y.faults
+  pub cuts : CutsOff x held y
+  pub emptied : after ≡ []
 
 -- What becomes of a line's outcome where what is held back may be passed on.
 abbrev pub Settles : Result Bool Stop → Result Bool Stop → Outgoing → Text → Outgoing → Text → Type 0
-Settles outcome result x held y after = Stands outcome result x held y after ⊎ FailsToWrite x held y result
+Settles outcome result x held y after = Stands outcome result x held y after ⊎ FailsToWrite x held y after result
 
 -- ---- finding a line
 
@@ -113,6 +120,19 @@ pub record BreaksOffIn (x : Both) (held : Text) (y : Both) (after : Text) : Type
   pub holds : HoldsBack x.outwards held y.outwards after
   pub emptied : after ≡ []
 
+-- memory was wanting for it, and what was read of it is lost
+pub record LosesLine (x : Both) (held : Text) (y : Both) (after : Text) : Type 0 where
+  pub read : WhereTold (ReadsNext None) x.inwards.left y.inwards.left
+  pub reads : y.inwards.faults ≡ x.inwards.faults
+  pub holds : HoldsBack x.outwards held y.outwards after
+
+-- what was held back could not be written, and nothing was read
+pub record LeavesLine (x : Both) (held : Text) (y : Both) (after : Text) : Type 0 where
+  pub read : y.inwards.left ≡ x.inwards.left
+  pub reads : y.inwards.faults ≡ x.inwards.faults
+  pub cuts : CutsOff x.outwards held y.outwards
+  pub emptied : after ≡ []
+
 -- the counts of a link stood
 abbrev pub SameCounts : Both → Both → Type 0
 SameCounts x y = (y.inwards.faults ≡ x.inwards.faults) × (y.outwards.faults ≡ x.outwards.faults)
@@ -120,9 +140,9 @@ SameCounts x y = (y.inwards.faults ≡ x.inwards.faults) × (y.outwards.faults �
 -- what a look for the next line comes to
 abbrev pub FindsLine : Result Line Stop → Both → Text → Both → Text → Type 0
 FindsLine (Ok l) x held y after = Finds l x held y after
-FindsLine (Err stop.NoMemory) x held y after = SameCounts x y
+FindsLine (Err stop.NoMemory) x held y after = LosesLine x held y after
 FindsLine (Err (stop.Cause cause.ReadFault)) x held y after = BreaksOffIn x held y after
-FindsLine (Err (stop.Cause cause.WriteFault)) x held y after = (y.inwards.faults ≡ x.inwards.faults) × Rose x.outwards.faults y.outwards.faults
+FindsLine (Err (stop.Cause cause.WriteFault)) x held y after = LeavesLine x held y after
 FindsLine (Err (stop.Cause cause.StoreFault)) x held y after = ⊥
 FindsLine (Err (stop.Cause cause.TooManyLines)) x held y after = ⊥
 
@@ -134,6 +154,13 @@ pub record Wakes {B : Type 0} (known : B → Known) (goes : B → Call → Answe
   pub woke : B
   pub waits : Goes known goes old Call.wait Answer.done woke
   pub syncs : Leads (Goes known goes) woke (sync s) new (Program.ends (t, said))
+
+-- it isn't waited for, or in vain; or it is woken, and some first calls of `sync` are made
+pub data MayWake {B : Type 0} (known : B → Known) (goes : B → Call → Answer → B → Type 0) (old : B) (s : Session) (new : B) : Type 0 where
+  asleep : new ≡ old → MayWake known goes old s new
+  unwoken : (by_fault : Bool) → Goes known goes old Call.wait (Answer.failed by_fault) new → MayWake known goes old s new
+  woken : (woke : B) → Goes known goes old Call.wait Answer.done woke → HasBegun (Goes known goes) woke (sync s) new
+      → MayWake known goes old s new
 
 -- a session goes on or not
 abbrev pub kept : Bool → Session → Option Session
@@ -148,13 +175,19 @@ pub record Replies {B : Type 0} (known : B → Known) (goes : B → Call → Ans
   pub does : Does known goes old s told new (kept goes_on t)
   pub holds : HoldsBack x (held ++ printed told) y after
 
--- what an error says of the counts of the store and of a link's writes, where nothing was read
-abbrev pub StopsBy : Stop → ℕ → ℕ → ℕ → ℕ → Type 0
-StopsBy stop.NoMemory store store_then writes writes_then = writes_then ≡ writes
-StopsBy (stop.Cause cause.StoreFault) store store_then writes writes_then = (writes_then ≡ writes) × Rose store store_then
-StopsBy (stop.Cause cause.WriteFault) store store_then writes writes_then = Rose writes writes_then
-StopsBy (stop.Cause cause.ReadFault) store store_then writes writes_then = ⊥
-StopsBy (stop.Cause cause.TooManyLines) store store_then writes writes_then = ⊥
+-- the text of a line, if the session is asked for it
+abbrev pub text_of : Line → Option Text
+text_of (line.Bytes text) = Some text
+text_of line.TooLong = None
+text_of line.End = None
+
+-- What an error says of what is held back and of the store's count, where nothing was read and so much has begun.
+abbrev pub StopsBy : Stop → Type 0 → ℕ → ℕ → Outgoing → Text → Outgoing → Text → Type 0
+StopsBy stop.NoMemory Began store store_then x held y after = Began × HoldsBack x held y after
+StopsBy (stop.Cause cause.StoreFault) Began store store_then x held y after = Began × HoldsBack x held y after × Rose store store_then
+StopsBy (stop.Cause cause.WriteFault) Began store store_then x held y after = Began × CutsOff x held y × (after ≡ [])
+StopsBy (stop.Cause cause.ReadFault) Began store store_then x held y after = ⊥
+StopsBy (stop.Cause cause.TooManyLines) Began store store_then x held y after = ⊥
 
 -- ---- one line
 
@@ -174,16 +207,36 @@ pub record FindsNone {B : Type 0} (old : B) (x : Both) (held : Text) (new : B) (
   pub holds : HoldsBack x.outwards held y.outwards after
   pub backend : new ≡ old
 
+-- The turn stopped in a line that was begun, or before one was.
+pub record StopsIn {B : Type 0} (known : B → Known) (goes : B → Call → Answer → B → Type 0) (old : B) (s : Session) (x : Both) (new : B) (y : Both)
+    : Type 0 where
+  pub begun : Option Text
+  pub begins : MayBegin known goes old (Some s) begun new
+  pub read : WhereTold (ReadsNext begun) x.inwards.left y.inwards.left
+  pub reads : y.inwards.faults ≡ x.inwards.faults
+
+-- One line was read and done, and its answer was cut off.
+pub record DoesUnheard {B : Type 0} (known : B → Known) (goes : B → Call → Answer → B → Type 0) (old : B) (s : Session) (x : Both) (held : Text) (new : B)
+    (y : Both) : Type 0 where
+  pub session : Option Session
+  pub told : Told
+  pub does : Does known goes old s told new session
+  pub read : TakesLine (line_told told) x.inwards.left y.inwards.left
+  pub reads : y.inwards.faults ≡ x.inwards.faults
+  pub cuts : CutsOff x.outwards (held ++ printed told) y.outwards
+
 -- What a turn did: `true` says that another line may follow.
 abbrev pub Turns : {B : Type 0} → (B → Known) → (B → Call → Answer → B → Type 0) → Result Bool Stop → B → Session → Both → Text → B → Session → Both
     → Text → Type 0
 Turns known goes (Ok true) old s x held new t y after = DoesLine known goes old s x held new (Some t) y after
 Turns known goes (Ok false) old s x held new t y after = FindsNone old x held new y after ⊎ DoesLine known goes old s x held new None y after
-Turns known goes (Err stop.NoMemory) old s x held new t y after = SameCounts x y
+Turns known goes (Err stop.NoMemory) old s x held new t y after =
+    StopsIn known goes old s x new y × HoldsBack x.outwards held y.outwards after
 Turns known goes (Err (stop.Cause cause.ReadFault)) old s x held new t y after = BreaksOffIn x held y after × (new ≡ old)
 Turns known goes (Err (stop.Cause cause.WriteFault)) old s x held new t y after =
-    (y.inwards.faults ≡ x.inwards.faults) × Rose x.outwards.faults y.outwards.faults
-Turns known goes (Err (stop.Cause cause.StoreFault)) old s x held new t y after = SameCounts x y × Rose (known old).faults (known new).faults
+    (after ≡ []) × ((StopsIn known goes old s x new y × CutsOff x.outwards held y.outwards) ⊎ DoesUnheard known goes old s x held new y)
+Turns known goes (Err (stop.Cause cause.StoreFault)) old s x held new t y after =
+    StopsIn known goes old s x new y × HoldsBack x.outwards held y.outwards after × Rose (known old).faults (known new).faults
 Turns known goes (Err (stop.Cause cause.TooManyLines)) old s x held new t y after = ⊥
 
 -- ---- many lines
@@ -205,6 +258,8 @@ Ends known goes (Err (stop.Cause cause.ReadFault)) old x new y =
     IsServed known goes old new x y ReadsUpToAFault × Rose x.inwards.faults y.inwards.faults × (y.outwards.faults ≡ x.outwards.faults)
 Ends known goes (Err (stop.Cause cause.TooManyLines)) old x new y =
     IsServed known goes old new x y ReadsOneMore × SameCounts x y
-Ends known goes (Err (stop.Cause cause.WriteFault)) old x new y = (y.inwards.faults ≡ x.inwards.faults) × Rose x.outwards.faults y.outwards.faults
-Ends known goes (Err (stop.Cause cause.StoreFault)) old x new y = SameCounts x y × Rose (known old).faults (known new).faults
-Ends known goes (Err stop.NoMemory) old x new y = SameCounts x y
+Ends known goes (Err (stop.Cause cause.WriteFault)) old x new y =
+    IsCutShort known goes (known new) old new x y TakesPart × (y.inwards.faults ≡ x.inwards.faults) × Rose x.outwards.faults y.outwards.faults
+Ends known goes (Err (stop.Cause cause.StoreFault)) old x new y =
+    IsCutShort known goes (known new) old new x y TakesWhole × SameCounts x y × Rose (known old).faults (known new).faults
+Ends known goes (Err stop.NoMemory) old x new y = IsCutShort known goes (known new) old new x y TakesWhole × SameCounts x y

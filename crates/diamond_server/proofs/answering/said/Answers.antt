@@ -2,6 +2,7 @@ use Rattle.std.proofs.Common.{refl}
 use Rattle.diamond_server.specs.Talking.{Answers}
 use Rattle.diamond_server.proofs.Held.{holds-same}
 use Rattle.diamond_server.proofs.Talked.{came-attends, to-wait, answers-woken}
+use Rattle.diamond_server.proofs.Stopping.{stops-line, stops-waiting}
 use Rattle.diamond_server.proofs.answering.said.Goals as goal
 
 -- the session goes on where it is to wait
@@ -30,3 +31,17 @@ returns-in_default g c = record {
       c.line.new.self c.requires.attends c.requires.short (c.in-Ok.ensures.plays c.requires.attends.on);
   home = c.in-Ok.ensures.home;
 }
+
+-- the session stopped
+pub returns-in-Err-clause-stops : goal.returns-in-Err-clause-stops
+returns-in-Err-clause-stops g c =
+    stops-line g.B.Backend.known g.B.Backend.goes c.args.backend.now c.args.session.now c.args.text.now c.line.new.backend c.in-Err.error c.stop_of.result _ _
+    c.stop_of.ensures (c.in-Err.ensures.plays c.requires.attends.on) (c.in-Err.ensures.told c.requires.attends.on)
+
+-- or behind the answer that it is to wait
+pub returns-in-WaitWanted-clause-stops : goal.returns-in-WaitWanted-clause-stops
+returns-in-WaitWanted-clause-stops g c =
+    stops-waiting g.B.Backend.known g.B.Backend.goes c.args.backend.now c.args.session.now c.args.text.now c.line.new.backend c.line.new.self
+    c.passed_on_and_woken.result c.passed_on_and_woken.new.backend _ _ _ _
+    (to-wait g.B.Backend.known g.B.Backend.goes c.args.backend.now c.args.session.now c.args.text.now c.in-Ok.turn c.line.new.backend c.line.new.self
+    c.in-WaitWanted.is (c.in-Ok.ensures.plays c.requires.attends.on)) c.passed_on_and_woken.ensures.stops

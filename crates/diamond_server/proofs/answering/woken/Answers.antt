@@ -1,6 +1,7 @@
 use Rattle.std.proofs.Common.{ℕ, subst}
 use Rattle.dio_core.specs.Counts.{Rose}
 use Rattle.diamond_server.proofs.Talked.{follows-on, waited-attends, synced-on, told-rises}
+use Rattle.diamond_server.proofs.Stopping.{wakes-failed, wakes-stopped}
 use Rattle.diamond_server.proofs.answering.woken.Goals as goal
 
 -- the session goes on where its client was woken
@@ -22,3 +23,15 @@ pub returns-clause-fault : goal.returns-clause-fault
 returns-clause-fault g c = λ is. subst (λ (n : ℕ). Rose n (g.B.Backend.known c.waited.new.backend).faults) c.in_ok-wait.ensures.goes.answered.goes_on.faults
     (told-rises c.waited.result (g.B.Backend.known c.wait.new.self).faults (g.B.Backend.known c.waited.new.backend).faults
     (c.waited.ensures.told c.requires.attends.on) is)
+
+-- the wait failed
+pub returns-in_err-wait-clause-begun : goal.returns-in_err-wait-clause-begun
+returns-in_err-wait-clause-begun g c =
+    wakes-failed g.B.Backend.known g.B.Backend.goes c.args.backend.now c.args.session.now _ c.from_residual.result c.wait.new.self
+    c.in_err-wait.ensures.goes
+
+-- or what follows it stopped
+pub returns-clause-begun : goal.returns-clause-begun
+returns-clause-begun g c =
+    wakes-stopped g.B.Backend.known g.B.Backend.goes c.args.backend.now c.args.session.now c.wait.new.self c.waited.result c.waited.new.backend
+    c.waited.new.self c.in_ok-wait.ensures.goes (c.waited.ensures.plays c.requires.attends.on)

@@ -24,7 +24,8 @@ loop-init g c =
 pub returns-in_err-serve_line-clause-ends : goal.returns-in_err-serve_line-clause-ends
 returns-in_err-serve_line-clause-ends g c =
     let p = err_from_is_err_and c.from_residual.result c.from_residual.ensures.1 in
-    rw (p.1, p.2) (ends-stopped c.loop.invariant.served c.loop.invariant.first _ _ _ _ _ (omega arith) c.in_err-serve_line.ensures.turns)
+    rw (p.1, p.2) (ends-stopped c.loop.invariant.served c.loop.invariant.first _ _ _ _ _ (omega arith) (c.in_err-serve_line.ensures.emptied (λ is. let no : ⊥ = cc in no))
+    c.in_err-serve_line.ensures.turns)
 
 -- a turn was the last
 pub returns-then-not-branch-clause-ends : goal.returns-then-not-branch-clause-ends
@@ -45,7 +46,7 @@ loop-preserved g c = record {
 pub returns-in_err-await_line-clause-ends : goal.returns-in_err-await_line-clause-ends
 returns-in_err-await_line-clause-ends g c =
     let p = err_from_is_err_and c.from_residual-in_err-await_line.result c.from_residual-in_err-await_line.ensures.1 in
-    rw (p.1, p.2) (ends-unread c.loop.invariant.served c.loop.invariant.first _ _ _ (omega arith) c.in_err-await_line.ensures.finds)
+    rw (p.1, p.2) (ends-unread c.loop.invariant.served c.loop.invariant.first _ _ _ (omega arith) c.await_line.ensures.emptied c.in_err-await_line.ensures.finds)
 
 -- the input ended there
 pub returns-in-End-clause-ends : goal.returns-in-End-clause-ends
