@@ -1,5 +1,5 @@
 -- What is found of a commit, by what its body comes to.
-use Rattle.std.proofs.Common.{◌≡◌, subst}
+use Rattle.std.proofs.Common.{◌≡◌, refl, subst}
 use Rattle.std.specs.Prelude.{Option, Some, None, Result, Ok, Err, IfOk}
 use Rattle.txn_lang.specs.declared.commit.Commit.{Commit}
 use Rattle.txn_lang.specs.declared.run.Run.{Run}
@@ -9,6 +9,11 @@ use Rattle.audit_core.specs.declared.verdict.Flaw.TheVariants as flaw
 use Rattle.audit_core.specs.Dumps.{Values, state_of}
 use Rattle.audit_core.specs.Verdicts.{IsInOrder, IsRunOf, IsFound}
 use Rattle.audit_core.specs.code.Running.{IsRunOrNone, Differs}
+
+-- what isn't there is nothing
+pub none-else : {A : Type 0} (o : Option A) → ((x : A) → o ≡ Some x → ⊥) → o ≡ None
+none-else None not = refl
+none-else (Some x) not = absurd (not x refl)
 
 -- whatever is told of what a call gives, so is what follows from it
 pub ok-map : {A E : Type 0} (r : Result A E) (P Q : A → Type 0) → ((x : A) → P x → Q x) → IfOk r P → IfOk r Q

@@ -7,3 +7,5 @@ pub mod Reports
 pub mod Taking
 pub mod Trees
 pub mod Finding
+pub mod Behind
+pub mod Walks

@@ -22,12 +22,6 @@ use Rattle.audit_core.specs.Dumps.{Values, state_of, with_deltas}
 use Rattle.audit_core.specs.code.Running.{counted}
 use Rattle.audit_core.proofs.Changing.{state-with_deltas}
 
--- there are as many first items as are asked for
-pub length-first : {A : Type 0} (xs : List A) (i : ℕ) → i < length xs → i ≡ length (take i xs)
-length-first [] i within = absurd (omega arith)
-length-first (x ∷ xs) zero within = refl
-length-first (x ∷ xs) (suc i) within = ap suc (length-first xs i (omega arith))
-
 -- ---- the state
 
 -- the deltas of one more commit make of the state what one more commit leaves

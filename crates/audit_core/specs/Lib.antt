@@ -1,4 +1,5 @@
 pub mod Verdicts
 pub mod Dumps
 pub mod Reports
+pub mod Growing
 pub mod code

@@ -75,7 +75,7 @@ legal-nothing : IsVerdict [] (verdict.Legal 0)
 legal-nothing = (refl, tt)
 
 -- a commit that says it is the second of all, and the second of its client
-abbrev second_alone : Commit
+abbrev pub second_alone : Commit
 second_alone = record { number = 2; client = 9; seq = 2; body = []; outcome = outcome.Ok []; deltas = [] }
 
 -- can't stand first, and its number is named first

@@ -1,9 +1,11 @@
-//! The commits of a list, one after another.
+//! What is known of commits, and what is found of the next one.
 
 ghost use Rattle.std.specs.Prelude.{◌≡◌, ◌+◌, ◌++◌, ◌∷◌, [], length, nat_eq, IfOk, OnOk};
 ghost use Rattle.txn_lang.specs.Journals.{MayFollow};
 ghost use Rattle.txn_lang.specs.States.{Journal};
-ghost use Rattle.audit_core.specs.Verdicts.{IsInOrder, IsFound, IsVerdict};
+ghost use Rattle.audit_core.specs.declared.verdict.Verdict.TheVariants.{Legal};
+ghost use Rattle.audit_core.specs.Verdicts.{IsInOrder, IsFound};
+ghost use Rattle.audit_core.specs.code.Growing.{HasFound};
 ghost use Rattle.audit_core.specs.code.Running.{counted, HasTaken};
 
 use crate::comparing::difference;
@@ -12,11 +14,11 @@ use crate::state::State;
 use crate::verdict::{Flaw, Verdict};
 use std::alloc::{AllocError, Global};
 use std::collections::BTreeMap;
-use txn_lang::{Commit, CommitList};
+use txn_lang::Commit;
 
 /// What is known of the commits so far: the state that they leave, and how many each client has.
 #[derive(Drop)]
-struct Auditor {
+pub(crate) struct Auditor {
     alloc: Global,
     state: State,
     seqs: BTreeMap<u32, u64>,
@@ -31,7 +33,7 @@ fn is_behind(number: u64, count: u64) -> bool
 
 impl Auditor {
     /// No commit yet.
-    fn new(alloc: Global) -> Auditor
+    pub(crate) fn new(alloc: Global) -> Auditor
         ensures { HasTaken [] result }
     {
         Auditor {
@@ -85,22 +87,30 @@ impl Auditor {
         self.seqs.insert(commit.client, commit.seq)?;
         Ok(())
     }
-}
 
-/// Audits commits: each is looked at behind those before it, its number and its seq first, and then its body is run anew on
-/// the state that they leave. Nothing of it is taken on trust. A body whose text is longer than four bytes tell is answered as
-/// want of memory.
-///
-/// The state is kept by address and changed in place, so the memory that it takes is that of the state, and that of one run.
-pub fn audit(alloc: Global, commits: &CommitList) -> Result<Verdict, AllocError>
-    ensures { IfOk result (IsVerdict commits.now) }
-{
-    let mut auditor = Auditor::new(alloc);
-    for (count, commit) in commits.as_slice().iter().enumerate() {
-        if let Some(flaw) = auditor.found(count as u64, commit)? {
-            return Ok(Verdict::Broken(count as u64 + 1, flaw));
+    /// What is found once a commit stands behind so many, which are legal. More than eight bytes tell are answered as want of memory.
+    fn next_behind(&mut self, count: u64, commit: &Commit) -> Result<Verdict, AllocError>
+        ensures { (before : Journal) → HasFound before (Legal count) self.old
+            → IfOk result (λ v. HasFound (before ++ commit.now ∷ []) v self.new) }
+    {
+        let Some(place) = count.checked_add(1) else {
+            return Err(AllocError);
+        };
+        if let Some(flaw) = self.found(count, commit)? {
+            return Ok(Verdict::Broken(place, flaw));
         }
-        auditor.take(commit)?;
+        self.take(commit)?;
+        Ok(Verdict::Legal(place))
     }
-    Ok(Verdict::Legal(commits.len() as u64))
+
+    /// What is found once a commit stands behind others, of which this was found.
+    pub(crate) fn next(&mut self, so_far: Verdict, commit: &Commit) -> Result<Verdict, AllocError>
+        ensures { (before : Journal) → HasFound before so_far self.old
+            → IfOk result (λ v. HasFound (before ++ commit.now ∷ []) v self.new) }
+    {
+        match so_far {
+            Verdict::Legal(count) => self.next_behind(count, commit),
+            Verdict::Broken(..) => Ok(so_far),
+        }
+    }
 }

@@ -3,8 +3,10 @@
 ghost use Rattle.std.specs.Prelude.{◌≡◌, ◌++◌, ◌∷◌, map, IfOk, OnOk};
 ghost use Rattle.std.specs.List.{flat_map};
 ghost use Rattle.audit_core.specs.Reports as spec;
+ghost use Rattle.audit_core.specs.code.Growing.{asked_text, told_text};
 
 use crate::dumping::dump;
+use crate::state::State;
 use crate::verdict::{Flaw, Verdict};
 use dtext::{print_item, push_address, push_natural};
 use plain_data::Text;
@@ -163,6 +165,41 @@ pub fn report(
     match (verdict, at) {
         (Verdict::Legal(_), Some(n)) => push_state(alloc, &mut out, commits, n)?,
         _ => {}
+    }
+    Ok(out)
+}
+
+/// Adds the state that was asked for behind a legal journal of so many commits, or that there are fewer. These are its values.
+fn push_asked(
+    alloc: Global,
+    out: &mut Text,
+    count: u64,
+    at: Option<u64>,
+    values: State,
+) -> Result<(), AllocError>
+    ensures { OnOk result (out.new ≡ out.old ++ asked_text count at values) }
+{
+    match at {
+        None => Ok(()),
+        Some(n) if count < n => push_ahead(out, n, count),
+        Some(_) => push_values(alloc, out, &values.into_pairs()?),
+    }
+}
+
+/// What an auditor reads of a verdict, with the values of the state that was asked for.
+pub(crate) fn told(
+    alloc: Global,
+    verdict: Verdict,
+    at: Option<u64>,
+    values: State,
+) -> Result<Text, AllocError>
+    ensures { IfOk result (λ text. text ≡ told_text verdict at values) }
+{
+    let mut out = Text::new(alloc);
+    push_verdict(&mut out, verdict)?;
+    match verdict {
+        Verdict::Legal(count) => push_asked(alloc, &mut out, count, at, values)?,
+        Verdict::Broken(..) => {}
     }
     Ok(out)
 }

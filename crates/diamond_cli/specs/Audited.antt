@@ -1,7 +1,9 @@
 -- What `audit` promises.
 use Rattle.std.specs.Prelude.{◌≡◌, ℕ, Bool, if◌then◌else◌, [], ◌∷◌, Option, IfSome, refl}
 use Rattle.dio_core.specs.Counts.{Rose}
+use Rattle.dio_core.specs.Disks.{DiskState}
 use Rattle.txn_lang.specs.States.{Journal}
+use Rattle.audit_core.specs.declared.growing.Audited.{Audited}
 use Rattle.audit_core.specs.declared.verdict.Flaw.TheVariants as flaw
 use Rattle.audit_core.specs.declared.verdict.Verdict.{Verdict}
 use Rattle.audit_core.specs.declared.verdict.Verdict.TheVariants as verdict
@@ -27,6 +29,13 @@ status_of (verdict.Broken place f) = BROKEN
 
 status_of-example : status_of (verdict.Broken 3 flaw.Outcome) ≡ 11
 status_of-example = refl
+
+-- The commits that the file, where the disk tells, is kept as came to this verdict, and this is their report.
+pub record IsAuditOf (at : Option ℕ) (state : Option DiskState) (audited : Audited) : Type 0 where
+  pub kept : Journal
+  pub read : IfSome state (λ s. IsKeptAs kept s.file)
+  pub holds : IsVerdict kept audited.verdict
+  pub text_is : audited.text ≡ report_of kept audited.verdict at
 
 -- These commits were audited, and the report of what came of it was tried.
 pub record IsReported (commits : Journal) (at : Option ℕ) (status : ℕ) (w : Writing) : Type 0 where

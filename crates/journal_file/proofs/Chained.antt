@@ -1,6 +1,6 @@
 -- A commit more in a chain.
-use Rattle.std.proofs.Common.{◌≡◌, ℕ, suc, ◌+◌, ◌<◌, Bool, true, false, cond, List, [], ◌∷◌, ◌++◌, length, map, get_or, Some, Result, Ok, Err, IfOk, refl, ap, sym, ◌∙◌, arith}
-use Rattle.std.specs.Prelude.{◌==◌}
+use Rattle.std.proofs.Common.{◌≡◌, ℕ, suc, ◌+◌, ◌<◌, Bool, true, false, cond, List, [], ◌∷◌, ◌++◌, length, map, get_or, Some, Result, Ok, Err, IfOk, refl, ap, sym, subst, ◌∙◌, arith}
+use Rattle.std.specs.Prelude.{◌==◌, Option, IfSome}
 use Rattle.std.specs.Map.{lookup}
 use Rattle.std.specs.BTreeMap.{insert_entry, is_at}
 use Rattle.std.specs.Ordering.{nat_cmp, is_eq}
@@ -17,9 +17,13 @@ use Rattle.commit_file.specs.Recovering.{Takes}
 use Rattle.txn_lang.specs.declared.commit.Commit.{Commit}
 use Rattle.txn_lang.specs.States.{Journal}
 use Rattle.txn_lang.specs.Journals.{own}
-use Rattle.record_code.specs.Payloads.{payload}
-use Rattle.journal_file.specs.Chains.{Continues, AreContinued, or_zero, counted, IsChain}
-use Rattle.journal_file.specs.Commits.{in_front, commits_of}
+use Rattle.journal_core.specs.Keeping.{IsNext}
+use Rattle.commit_file.specs.declared.version.Version.TheVariants.{Two}
+use Rattle.record_code.specs.Payloads.{payload, IsRecorded}
+use Rattle.journal_file.specs.declared.counts.Counts.{Counts}
+use Rattle.journal_file.specs.Chains.{Continues, AreContinued, or_zero, counted, AreCounted, IsChain}
+use Rattle.journal_file.specs.Commits.{in_front, commits_of, is_next}
+use Rattle.journal_file.proofs.Following.{passes-next}
 use Rattle.journal_file.proofs.Recorded.{recorded-read}
 
 -- ---- how many each client has
@@ -66,17 +70,31 @@ counts-more seqs commits commit counts next client =
         next ∙ ap (λ k. length (own k commits) + 1) same
     by false e = counts client
 
--- a chain with a commit that continues it
-pub IsChain-more : (seqs : List (ℕ × ℕ)) (commits : Journal) (commit : Commit) → IsChain seqs commits → Continues commits commit
-    → IsChain (insert_entry nat_cmp seqs commit.client commit.seq) (commits ++ commit ∷ [])
-IsChain-more seqs commits commit chain continues = record {
-  continued = IsLawful-push (λ base before c. Continues before c) 0 commits commit chain.continued continues;
-  counts = counts-more seqs commits commit chain.counts continues.next.seq;
+-- one commit more is counted
+pub AreCounted-more : (before : Journal) (commit : Commit) (old new : Counts) → AreCounted before old → IsNext before commit
+    → new.seqs ≡ insert_entry nat_cmp old.seqs commit.client commit.seq → new.all ≡ commit.number → AreCounted (before ++ commit ∷ []) new
+AreCounted-more before commit old new are next seqs all = record {
+  all = all ∙ next.number ∙ sym (length-append before (commit ∷ []));
+  own = λ client. ap (λ s. counted s client) seqs ∙ counts-more old.seqs before commit are.own next.seq client;
 }
 
--- a chain of none
-pub IsChain-none : IsChain [] []
-IsChain-none = record { continued = tt; counts = λ client. refl }
+-- and commits that are continued are so with it
+pub continued-more : (commits : Journal) (commit : Commit) → AreContinued commits → IsRecorded Two commit → IsNext commits commit
+    → AreContinued (commits ++ commit ∷ [])
+continued-more commits commit continued recorded next =
+    IsLawful-push (λ base before c. Continues before c) 0 commits commit continued (record { recorded = recorded; next = next })
+
+-- a chain with a commit more, which passed the test and was counted
+pub IsChain-more : (held told : Option Counts) (counts counts_then : Counts) (before after : Journal) (commit : Commit) (b : Bool)
+    → IsChain held before → told ≡ held → told ≡ Some counts → IsRecorded Two commit
+    → ((j : Journal) → AreCounted j counts → b ≡ is_next j commit) → b ≡ true
+    → ((j : Journal) → AreCounted j counts → IsNext j commit → AreCounted (j ++ commit ∷ []) counts_then)
+    → after ≡ before ++ commit ∷ [] → IsChain (Some counts_then) after
+IsChain-more held told counts counts_then before after commit b chain same is recorded tests passes adds took =
+    let are : AreCounted before counts = subst (λ o. IfSome o (AreCounted before)) (sym same ∙ is) chain.counted in
+    let next : IsNext before commit = passes-next before commit (sym (tests before are) ∙ passes) in
+    subst (IsChain (Some counts_then)) (sym took)
+    (record { continued = continued-more before commit chain.continued recorded next; counted = adds before are next })
 
 -- ---- what the payloads say
 

@@ -9,7 +9,7 @@ use Rattle.txn_lang.specs.declared.commit.Commit.{Commit}
 use Rattle.txn_lang.specs.States.{Journal}
 use Rattle.journal_core.specs.Keeping.{IsNext, StandsFor}
 use Rattle.journal_file.specs.Commits.{commit_of, commits_of, CommitsFollow, IsKeptWith}
-use Rattle.journal_file.specs.Keepers.{IsCoded, AreCommits, IsOfCommits, KeepsThese, MendsSafe, DoubtsOneOf, told_by, doubted_by, commits_where, commit_where}
+use Rattle.journal_file.specs.Keepers.{IsCoded, AreCommits, IsOfCommits, KeepsThese, MendsSafe, DoubtsOneOf, told_by, commits_where, commit_where}
 use Rattle.journal_file.proofs.Grown.{coded-commit, proper-alone}
 use Rattle.journal_file.proofs.Held.{held-commits, doubt, doubt-where}
 

@@ -1,5 +1,5 @@
 -- Commits that were taken one behind another: what is known of each, and how many each client has.
-use Rattle.std.specs.Prelude.{◌≡◌, ℕ, List, length, Option, Some, None}
+use Rattle.std.specs.Prelude.{◌≡◌, ℕ, List, length, Option, Some, None, IfSome}
 use Rattle.std.specs.Map.{lookup}
 use Rattle.std.specs.BTreeMap.{is_at}
 use Rattle.std.specs.Ordering.{nat_cmp}
@@ -10,6 +10,7 @@ use Rattle.txn_lang.specs.Journals.{own}
 use Rattle.journal_core.specs.Keeping.{IsNext}
 use Rattle.commit_file.specs.declared.version.Version.TheVariants.{Two}
 use Rattle.record_code.specs.Payloads.{IsRecorded}
+use Rattle.journal_file.specs.declared.counts.Counts.{Counts}
 
 -- The commit may stand behind these: it has a payload, the next number, and the next seq of its client.
 pub record Continues (before : Journal) (commit : Commit) : Type 0 where
@@ -29,7 +30,12 @@ or_zero (Some n) = n
 abbrev pub counted : List (ℕ × ℕ) → ℕ → ℕ
 counted seqs client = or_zero (lookup (is_at (nat_cmp client)) seqs)
 
--- The commits are continued, and each client's are counted.
-pub record IsChain (seqs : List (ℕ × ℕ)) (commits : Journal) : Type 0 where
+-- So many commits are these, and so many are each client's.
+pub record AreCounted (commits : Journal) (counts : Counts) : Type 0 where
+  pub all : counts.all ≡ length commits
+  pub own : (client : ℕ) → counted counts.seqs client ≡ length (own client commits)
+
+-- The commits are continued, and counted, where they still are.
+pub record IsChain (counts : Option Counts) (commits : Journal) : Type 0 where
   pub continued : AreContinued commits
-  pub counts : (client : ℕ) → counted seqs client ≡ length (own client commits)
+  pub counted : IfSome counts (AreCounted commits)

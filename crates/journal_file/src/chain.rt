@@ -1,36 +1,37 @@
 //! The commits of payloads, taken one behind another.
 
-ghost use Rattle.std.specs.Prelude.{◌≡◌, ◌+◌, ◌<◌, ◌++◌, ◌∷◌, [], ℕ, All, length, map, nat_eq, if◌then◌else◌, OnOk, IfOk, Some, Ok, Err};
+ghost use Rattle.std.specs.Prelude.{◌≡◌, ◌<◌, ◌++◌, ◌∷◌, [], ℕ, All, length, map, if◌then◌else◌, IfOk, Some, Ok, Err};
 ghost use Rattle.std.specs.List.{AllByRecursion};
 ghost use Rattle.std.specs.List.Sorted.{IsStrictlySortedBy};
 ghost use Rattle.std.specs.Map.{keys_of};
 ghost use Rattle.rdt_types.specs.Addresses.{address_cmp};
 ghost use Rattle.commit_file.specs.declared.version.Version.TheVariants.{Two as version_two};
-ghost use Rattle.txn_lang.specs.Journals.{own, IsLegal};
+ghost use Rattle.txn_lang.specs.Journals.{IsLegal};
 ghost use Rattle.journal_core.specs.declared.limits.TheConstants.{FIRST_UNTOLD_CLIENT};
 ghost use Rattle.journal_core.specs.Kinds.{HasKinds};
 ghost use Rattle.journal_core.specs.Pairs.{AreNumbered};
 ghost use Rattle.record_code.specs.declared.decode_error.DecodeError.TheVariants.{BadRecord};
 ghost use Rattle.record_code.specs.Payloads.{payload, decoded, IsRecorded};
-ghost use Rattle.journal_file.specs.Chains.{Continues};
 ghost use Rattle.journal_file.specs.Commits.{commits_of, is_next};
 
+use crate::counts::Counts;
+use crate::taker::CommitTaker;
 use commit_file::{Chain, Version};
-use plain_data::OrderedMap;
 use record_code::{DecodeError, decode, decode_old};
 use std::alloc::{AllocError, Global};
 use std::marker::Model;
-use txn_lang::{Commit, CommitList};
+use txn_lang::Commit;
 
-/// The commits that were taken, and the last seq of each client.
+/// Hands commits on to a taker, each where it may stand behind those before it.
 #[derive(Drop)]
-pub(crate) struct CommitChain {
+pub(crate) struct CommitChain<T: CommitTaker> {
     alloc: Global,
-    commits: CommitList,
-    seqs: OrderedMap<u32, u64>,
+    taker: T,
+    /// How many there are, unless memory was wanting.
+    counts: Option<Counts>,
 }
 
-impl Model for CommitChain {
+impl<T: CommitTaker> Model for CommitChain<T> {
     ghost use Rattle.std.specs.Coded.{coded_list};
     ghost use Rattle.txn_lang.specs.contracts.commit.Commit as commit;
     ghost use Rattle.txn_lang.specs.States.{Journal};
@@ -40,9 +41,9 @@ impl Model for CommitChain {
 
     ghost coded = { coded_list commit.the_row.coded };
 
-    ghost view = { λ chain. chain.commits };
+    ghost view = { λ chain. T.commits chain.taker };
 
-    ghost invariant = { λ chain. IsChain chain.seqs chain.commits };
+    ghost invariant = { λ chain. IsChain chain.counts (T.commits chain.taker) };
 }
 
 /// The commit that a payload of a version is.
@@ -56,83 +57,49 @@ fn read(alloc: Global, version: Version, bytes: &[u8]) -> Result<Commit, DecodeE
     }
 }
 
-/// Whether a number is the next behind so many.
-fn is_behind(number: u64, count: u64) -> bool
-    ensures { result ≡ nat_eq number (count + 1) }
-{
-    number > 0 && number - 1 == count
-}
-
-impl CommitChain {
+impl<T: CommitTaker> CommitChain<T> {
     /// No commit.
-    pub(crate) fn new(alloc: Global) -> CommitChain
+    pub(crate) fn new(alloc: Global, taker: T) -> CommitChain<T>
+        requires { T.commits taker ≡ [] }
         ensures { result ≡ [] }
     {
         CommitChain {
             alloc,
-            commits: CommitList::new(alloc),
-            seqs: OrderedMap::new(alloc),
+            taker,
+            counts: Some(Counts::new(alloc)),
         }
     }
 
-    /// The commits, and what is known of them.
-    pub(crate) fn into_commits(self) -> CommitList
-        ensures commits { result ≡ self }
-        ensures read { commits_of (map payload result) ≡ Some result }
-        ensures legal { IsLegal (length result) result }
-        ensures numbered { AreNumbered result }
-        ensures kinds { HasKinds result }
-        ensures rising { AllByRecursion (λ commit. IsStrictlySortedBy address_cmp (keys_of commit.deltas)) result }
-        ensures clients { All (λ commit. commit.client < FIRST_UNTOLD_CLIENT) result }
+    /// Who took the commits, and what is known of them.
+    pub(crate) fn into_taker(self) -> T
+        ensures commits { T.commits result ≡ self }
+        ensures read { commits_of (map payload (T.commits result)) ≡ Some (T.commits result) }
+        ensures legal { IsLegal (length (T.commits result)) (T.commits result) }
+        ensures numbered { AreNumbered (T.commits result) }
+        ensures kinds { HasKinds (T.commits result) }
+        ensures rising { AllByRecursion (λ commit. IsStrictlySortedBy address_cmp (keys_of commit.deltas)) (T.commits result) }
+        ensures clients { All (λ commit. commit.client < FIRST_UNTOLD_CLIENT) (T.commits result) }
     {
-        let CommitChain { commits, .. } = self;
-        commits
+        let CommitChain { taker, .. } = self;
+        taker
     }
 
-    /// How many commits of a client there are.
-    fn seq_of(&self, client: u32) -> u64
-        ensures { result ≡ length (own client self.now) }
-    {
-        match self.seqs.get(&client) {
-            None => 0,
-            Some(seq) => *seq,
-        }
-    }
-
-    /// Whether a commit has the next number, and the next seq of its client.
-    fn is_next(&self, commit: &Commit) -> bool
-        ensures { result ≡ is_next self.now commit.now }
-    {
-        is_behind(commit.number, self.commits.len() as u64)
-            && is_behind(commit.seq, self.seq_of(commit.client))
-    }
-
-    /// Adds a commit behind the others.
-    fn add(&mut self, commit: Commit) -> Result<(), AllocError>
-        requires { Continues self.old commit }
-        ensures { OnOk result (self.new ≡ self.old ++ commit ∷ []) }
-    {
-        let (client, seq, count) = (commit.client, commit.seq, self.commits.len());
-        self.commits.push(commit)?;
-        match self.seqs.insert(client, seq) {
-            Ok(()) => Ok(()),
-            Err(error) => {
-                self.commits.truncate(count);
-                Err(error)
-            }
-        }
-    }
-
-    /// Takes a commit behind the others, if it may stand there.
+    /// Takes a commit behind the others, if it may stand there. Once memory was wanting, none is taken any more.
     fn take_commit(&mut self, commit: Commit) -> Result<bool, AllocError>
         requires { IsRecorded version_two commit }
         ensures follows { IfOk result (λ took. took ≡ is_next self.old commit) }
         ensures takes { IfOk result (λ took. self.new ≡ (if took then self.old ++ commit ∷ [] else self.old)) }
     {
-        if !self.is_next(&commit) {
+        let Some(mut counts) = self.counts.take() else {
+            return Err(AllocError);
+        };
+        if !counts.is_next(&commit) {
+            self.counts = Some(counts);
             return Ok(false);
         }
-        self.add(commit)?;
+        counts.add(&commit)?;
+        self.taker.take(commit)?;
+        self.counts = Some(counts);
         Ok(true)
     }
 
@@ -144,7 +111,7 @@ impl CommitChain {
     }
 }
 
-impl Chain for CommitChain {
+impl<T: CommitTaker> Chain for CommitChain<T> {
     ghost use Rattle.std.specs.Prelude.{map};
     ghost use Rattle.record_code.specs.Payloads.{payload};
     ghost use Rattle.journal_file.specs.Commits.{CommitsFollow};

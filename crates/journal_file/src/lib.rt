@@ -6,8 +6,11 @@
 
 mod chain;
 mod coded;
+mod counts;
 mod keeper;
 mod recovering;
+mod taker;
 
 pub use keeper::CommitKeeper;
-pub use recovering::{Recovered, read_kept, recover};
+pub use recovering::{Recovered, hand_kept, read_kept, recover};
+pub use taker::CommitTaker;

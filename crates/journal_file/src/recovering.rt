@@ -1,6 +1,6 @@
 //! The commits that a file is kept as.
 
-ghost use Rattle.std.specs.Prelude.{◌≡◌, ◌≢◌, ◌+◌, ◌<◌, ◌^◌, All, length, IfOk, IfErr, IfSome};
+ghost use Rattle.std.specs.Prelude.{◌≡◌, ◌≢◌, ◌+◌, ◌<◌, ◌^◌, All, [], length, IfOk, IfErr, IfSome};
 ghost use Rattle.std.specs.List.{AllByRecursion};
 ghost use Rattle.std.specs.List.Sorted.{IsStrictlySortedBy};
 ghost use Rattle.std.specs.Map.{keys_of};
@@ -19,6 +19,7 @@ ghost use Rattle.journal_file.specs.Commits.{CommitsFollow, IsKeptAs};
 ghost use Rattle.journal_file.specs.Keepers.{Holds};
 
 use crate::chain::CommitChain;
+use crate::taker::CommitTaker;
 use commit_file::RecoverError;
 use dio_core::Disk;
 use std::alloc::Global;
@@ -30,6 +31,32 @@ pub struct Recovered {
     pub commits: CommitList,
     /// Where a keeper goes on.
     pub end: u64,
+}
+
+/// Hands the commits that the file on a disk is kept as to a taker, one behind another, and gives it back. The disk stays as it is.
+pub fn hand_kept<D: Disk, T: CommitTaker + Drop>(
+    alloc: Global,
+    disk: &mut D,
+    taker: T,
+) -> Result<T, RecoverError>
+    requires { T.commits taker ≡ [] }
+    ensures kept { IfOk result (λ t. IfSome (D.state disk.old) (λ s. IsKeptAs (T.commits t) s.file)) }
+    ensures refused { IfErr result (λ e. IfSome (D.state disk.old) (λ s. IsRefused (kept CommitsFollow s.file) e)) }
+
+    // Each commit has the next number and the next seq of its client. That it is what its body does is taken on trust.
+    ensures legal { IfOk result (λ t. IsLegal (length (T.commits t)) (T.commits t)) }
+    ensures numbered { IfOk result (λ t. AreNumbered (T.commits t)) }
+    ensures kinds { IfOk result (λ t. HasKinds (T.commits t)) }
+    ensures rising { IfOk result (λ t. AllByRecursion (λ commit. IsStrictlySortedBy address_cmp (keys_of commit.deltas)) (T.commits t)) }
+    ensures clients { IfOk result (λ t. All (λ commit. commit.client < FIRST_UNTOLD_CLIENT) (T.commits t)) }
+
+    ensures same { D.state disk.new ≡ D.state disk.old }
+    ensures past { D.past disk.new ≡ D.past disk.old }
+    ensures counted { IsCounted (disk_failed result) (D.disk_faults disk.old) (D.disk_faults disk.new) }
+{
+    let mut chain = CommitChain::new(alloc, taker);
+    commit_file::read_kept(alloc, disk, &mut chain)?;
+    Ok(chain.into_taker())
 }
 
 /// The commits that the file on a disk is kept as. The disk stays as it is.
@@ -48,9 +75,7 @@ pub fn read_kept<D: Disk>(alloc: Global, disk: &mut D) -> Result<CommitList, Rec
     ensures past { D.past disk.new ≡ D.past disk.old }
     ensures counted { IsCounted (disk_failed result) (D.disk_faults disk.old) (D.disk_faults disk.new) }
 {
-    let mut chain = CommitChain::new(alloc);
-    commit_file::read_kept(alloc, disk, &mut chain)?;
-    Ok(chain.into_commits())
+    hand_kept(alloc, disk, CommitList::new(alloc))
 }
 
 /// The commits that the file on a disk is kept as. It brings the file's end to rest, and a keeper goes on behind that. A
@@ -83,10 +108,10 @@ pub fn recover<D: Disk>(alloc: Global, disk: &mut D) -> Result<Recovered, Recove
         AtAnyMoment (KeptAlike CommitsFollow s.file) (D.past disk.old) (D.past disk.new) (D.state disk.new)) }
     ensures counted { IsCounted (disk_failed result) (D.disk_faults disk.old) (D.disk_faults disk.new) }
 {
-    let mut chain = CommitChain::new(alloc);
+    let mut chain = CommitChain::new(alloc, CommitList::new(alloc));
     let end = commit_file::recover(alloc, disk, &mut chain)?;
     Ok(Recovered {
-        commits: chain.into_commits(),
+        commits: chain.into_taker(),
         end,
     })
 }

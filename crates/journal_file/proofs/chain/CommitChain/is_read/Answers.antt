@@ -6,5 +6,5 @@ use Rattle.journal_file.proofs.Chained.{continued-read}
 use Rattle.journal_file.proofs.chain.CommitChain.is_read.Goals as goal
 
 pub returns : goal.returns
-returns c =
-    subst (λ (j : Journal). commits_of (map payload j) ≡ Some j) c.self.view_is (continued-read c.self.inside.commits c.self.invariant.continued)
+returns g c =
+    subst (λ (j : Journal). commits_of (map payload j) ≡ Some j) c.self.view_is (continued-read (g.T.CommitTaker.commits c.self.inside.taker) c.self.invariant.continued)

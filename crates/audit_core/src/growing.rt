@@ -1,0 +1,172 @@
+//! An audit to which one commit is handed after another.
+
+ghost use Rattle.std.specs.Prelude.{◌≡◌, [], ◌∷◌, ◌++◌, if◌then◌else◌, IfOk, OnOk, OnErr};
+ghost use Rattle.txn_lang.specs.States.{Journal};
+ghost use Rattle.audit_core.specs.Dumps.{with_deltas};
+ghost use Rattle.audit_core.specs.Growing.{with_commit};
+ghost use Rattle.audit_core.specs.Reports.{report_of};
+ghost use Rattle.audit_core.specs.Verdicts.{IsVerdict};
+ghost use Rattle.audit_core.specs.code.Growing as spec;
+ghost use Rattle.audit_core.specs.code.Growing.{HasGrown};
+
+use crate::auditing::Auditor;
+use crate::reporting::told;
+use crate::state::State;
+use crate::taken::Taken;
+use crate::verdict::Verdict;
+use plain_data::Text;
+use std::alloc::{AllocError, Global};
+use std::marker::Model;
+use txn_lang::{Commit, CommitList};
+
+/// An audit of commits that are handed to it one after another: each is looked at behind those before it, its number and its seq
+/// first, and then its body is run anew on the state that they leave. Nothing of it is taken on trust.
+///
+/// No commit is kept. The state is kept by address and changed in place, and so is that behind so many commits, where it is asked
+/// for. So the memory that it takes is that of these two, and that of one run.
+#[derive(Drop)]
+pub struct GrowingAudit {
+    alloc: Global,
+    auditor: Auditor,
+    /// What was found so far, unless memory was wanting.
+    so_far: Option<Verdict>,
+    at: Option<u64>,
+    /// The state that is asked for, as far as commits were taken.
+    asked: State,
+    taken: Taken,
+}
+
+impl Model for GrowingAudit {
+    ghost use Rattle.std.specs.Prelude.{IfSome};
+    ghost use Rattle.audit_core.specs.Growing.{Growing, growing_code};
+    ghost use Rattle.audit_core.specs.code.Growing.{HasGrown};
+
+    ghost Value = { Growing };
+
+    ghost coded = { growing_code };
+
+    ghost view = { λ a. record { at = a.at; commits = a.taken.commits } };
+
+    ghost invariant = { λ a. IfSome a.so_far (λ v. HasGrown a.at a.taken.commits v a.auditor a.asked) };
+}
+
+/// What an audit came to, and its report.
+#[derive(Debug, Drop)]
+pub struct Audited {
+    pub verdict: Verdict,
+    pub text: Text,
+}
+
+/// Whether the state behind one commit more is asked for, or behind a later one.
+fn is_asked(at: Option<u64>, so_far: Verdict) -> bool
+    ensures { result ≡ spec.is_asked at so_far }
+{
+    match at {
+        None => false,
+        Some(n) => match so_far {
+            Verdict::Legal(count) => count < n,
+            Verdict::Broken(..) => false,
+        },
+    }
+}
+
+/// Goes on with the state that is asked for.
+fn ask(
+    asked: &mut State,
+    at: Option<u64>,
+    so_far: Verdict,
+    commit: &Commit,
+) -> Result<(), AllocError>
+    ensures { OnOk result (asked.new ≡ (if spec.is_asked at so_far then with_deltas asked.old commit.now.deltas else asked.old)) }
+{
+    if is_asked(at, so_far) {
+        asked.change_all(&commit.deltas)?;
+    }
+    Ok(())
+}
+
+/// What is found once a commit stands behind others, of which this was found.
+fn grow(
+    auditor: &mut Auditor,
+    asked: &mut State,
+    at: Option<u64>,
+    so_far: Verdict,
+    commit: &Commit,
+) -> Result<Verdict, AllocError>
+    ensures { (before : Journal) → HasGrown at before so_far auditor.old asked.old
+        → IfOk result (λ v. HasGrown at (before ++ commit.now ∷ []) v auditor.new asked.new) }
+{
+    ask(asked, at, so_far, commit)?;
+    auditor.next(so_far, commit)
+}
+
+impl GrowingAudit {
+    /// An audit of no commit yet. The state behind so many commits may be asked for.
+    pub fn new(alloc: Global, at: Option<u64>) -> GrowingAudit
+        ensures { result ≡ record { at = at; commits = [] } }
+    {
+        GrowingAudit {
+            alloc,
+            auditor: Auditor::new(alloc),
+            so_far: Some(Verdict::Legal(0)),
+            at,
+            asked: State::new(alloc),
+            taken: Taken::none(),
+        }
+    }
+
+    /// Takes a commit behind the others. A body whose text is longer than four bytes tell, and a commit behind more than eight bytes
+    /// tell, are answered as want of memory. Once memory was wanting, none is taken any more.
+    pub fn take(&mut self, commit: &Commit) -> Result<(), AllocError>
+        ensures took { OnOk result (self.new ≡ with_commit self.old commit.now) }
+        ensures same { OnErr result (self.new ≡ self.old) }
+    {
+        let Some(so_far) = self.so_far.take() else {
+            return Err(AllocError);
+        };
+        let found = grow(&mut self.auditor, &mut self.asked, self.at, so_far, commit)?;
+        self.taken = self.taken.and(commit);
+        self.so_far = Some(found);
+        Ok(())
+    }
+
+    /// What the audit says of the commits that it has taken.
+    pub fn verdict(&self) -> Result<Verdict, AllocError>
+        ensures { IfOk result (IsVerdict self.now.commits) }
+    {
+        match self.so_far {
+            Some(verdict) => Ok(verdict),
+            None => Err(AllocError),
+        }
+    }
+
+    /// What the audit says of the commits that it has taken, and the report of it.
+    pub fn finish(self) -> Result<Audited, AllocError>
+        ensures verdict { IfOk result (λ r. IsVerdict self.commits r.verdict) }
+        ensures text { IfOk result (λ r. r.text ≡ report_of self.commits r.verdict self.at) }
+    {
+        let GrowingAudit {
+            alloc,
+            so_far,
+            at,
+            asked,
+            ..
+        } = self;
+        let Some(verdict) = so_far else {
+            return Err(AllocError);
+        };
+        let text = told(alloc, verdict, at, asked)?;
+        Ok(Audited { verdict, text })
+    }
+}
+
+/// Audits the commits of a list.
+pub fn audit(alloc: Global, commits: &CommitList) -> Result<Verdict, AllocError>
+    ensures { IfOk result (IsVerdict commits.now) }
+{
+    let mut audit = GrowingAudit::new(alloc, None);
+    for commit in commits.as_slice() {
+        audit.take(commit)?;
+    }
+    audit.verdict()
+}
