@@ -405,10 +405,7 @@ fn went_on(link: &MemLink, status: u8) -> bool {
 fn ending_in(listener: &MemListener, outcome: &Result<Outcome, AllocError>, fault: u8) -> Ending {
     match (outcome, listener.back().as_slice()) {
         (Ok((2, _, false, commits)), [(first, status), (second, other)])
-            if went_on(second, *other) =>
-        {
-            ending_of(first, *status, *commits, fault)
-        }
+            if went_on(second, *other) => { ending_of(first, *status, *commits, fault) }
         _ => Ending::Otherwise,
     }
 }
