@@ -419,7 +419,7 @@ fn two_links(alloc: Global, reads: &[u64], writes: &[u64]) -> Result<MemListener
 }
 
 /// How a session ends whose link fails at these calls, beside one whose link doesn't.
-fn ending<R: Threads + Wait + Sync>(
+fn end_beside<R: Threads + Wait + Sync>(
     rt: &R,
     alloc: Global,
     reads: &[u64],
@@ -439,7 +439,7 @@ const MOST_CALLS: u64 = 1000;
 /// At how many reads of its link a session was cut short, each in a run of its own, up to the first that isn't made.
 fn reads_cut_short<R: Threads + Wait + Sync>(rt: &R, alloc: Global) -> Option<u64> {
     for call in 0..MOST_CALLS {
-        match ending(rt, alloc, &[call], &[], READ_FAULT) {
+        match end_beside(rt, alloc, &[call], &[], READ_FAULT) {
             Ending::CutShort => {}
             Ending::Whole => return Some(call),
             Ending::Otherwise => return None,
@@ -451,7 +451,7 @@ fn reads_cut_short<R: Threads + Wait + Sync>(rt: &R, alloc: Global) -> Option<u6
 /// The same of its writes and flushes.
 fn writes_cut_short<R: Threads + Wait + Sync>(rt: &R, alloc: Global) -> Option<u64> {
     for call in 0..MOST_CALLS {
-        match ending(rt, alloc, &[], &[call], WRITE_FAULT) {
+        match end_beside(rt, alloc, &[], &[call], WRITE_FAULT) {
             Ending::CutShort => {}
             Ending::Whole => return Some(call),
             Ending::Otherwise => return None,
