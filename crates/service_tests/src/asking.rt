@@ -193,13 +193,16 @@ fn first_wrong_in<N: Naming, R: Wait>(
     alloc: Global,
     opened: Opened<Book<MemKeep>>,
     settings: &Settings,
-    case: &str,
+    case: &[u8],
 ) -> Option<usize>
     requires lock { opened.lock ≡ N.lock }
     requires settings { HasSettings opened.lock.origin settings.now }
     requires author { opened.front.author ≡ None }
     requires from { from_in opened.lock.origin ≡ opened.lock.base }
 {
+    let Ok(case) = str::from_utf8(case) else {
+        return Some(0);
+    };
     let Ok((store, mut first)) = TestStore::<N>::new(alloc, settings, opened, Open) else {
         return Some(0);
     };
@@ -217,7 +220,7 @@ fn first_wrong_in<N: Naming, R: Wait>(
 fn first_wrong_anew<R: Wait>(rt: &R, alloc: Global, case: &str) -> Option<usize> {
     let settings = settings_of(case);
     match open(alloc, &settings, MemKeep, CommitList::new(alloc)) {
-        Ok(opened) => first_wrong_in::<Brand, _>(rt, alloc, opened, &settings, case),
+        Ok(opened) => first_wrong_in::<Brand, _>(rt, alloc, opened, &settings, case.as_bytes()),
         Err(_) => Some(0),
     }
 }
