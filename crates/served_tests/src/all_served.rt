@@ -390,7 +390,11 @@ fn ending_of(link: &MemLink, status: u8, commits: usize, fault: u8) -> Ending {
     if status == WHOLE && commits == 2 && taken == ANSWERS {
         return Ending::Whole;
     }
-    if status == fault && told <= commits && commits <= told + 1 && ANSWERS.starts_with(taken) {
+    if status == fault
+        && told <= commits
+        && commits.saturating_sub(told) <= 1
+        && ANSWERS.starts_with(taken)
+    {
         return Ending::CutShort;
     }
     Ending::Otherwise
