@@ -464,10 +464,10 @@ fn writes_cut_short<R: Threads + Wait + Sync>(rt: &R, alloc: Global) -> Option<u
     None
 }
 
-/// Of a line's bytes the first is read alone, and the others in pieces of three: 5, 5, 3 and 3 reads. Its answer is written in
-/// pieces of three, and flushed: 6, 6, 4 and 4 calls.
+/// A link that sees nothing ahead reads a line byte by byte: 11, 11, 5 and 5 reads. Its answer is written in pieces of three,
+/// and flushed: 6, 6, 4 and 4 calls.
 #[test]
 fn a_link_that_fails_at_any_call_cuts_its_own_session_short(rt: HostRuntime) {
-    assert!(rt; reads_cut_short(&rt, rt.alloc()) == Some(16));
+    assert!(rt; reads_cut_short(&rt, rt.alloc()) == Some(32));
     assert!(rt; writes_cut_short(&rt, rt.alloc()) == Some(20));
 }
