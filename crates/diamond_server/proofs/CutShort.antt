@@ -12,7 +12,7 @@ use Rattle.txn_lang.specs.States.{Journal}
 use Rattle.journal_core.specs.declared.ready.Ready.{Ready}
 use Rattle.session_text.specs.declared.reply.Reply.{Reply}
 use Rattle.docc_prepare.specs.Calls.{Known, Call, Answer}
-use Rattle.docc_prepare.specs.Backends.{IsPrefix, IsSameClient, IsAnswered, Goes}
+use Rattle.docc_prepare.specs.Backends.{IsPrefix, IsSameClient, IsAnswered}
 use Rattle.call_programs.specs.Programs.{Program}
 use Rattle.call_programs.specs.Safe.{MayAsk, IsSafe}
 use Rattle.call_programs.proofs.Programs.{known_leads}
@@ -41,7 +41,7 @@ use Rattle.session_core.proofs.Stays.{explains_stays}
 use Rattle.session_core.proofs.Talked.{finds, can-read}
 use Rattle.session_core.proofs.Telling.{HasSaid, said_on, Tells, LineSaid}
 use Rattle.session_core.proofs.Woken.{HasOwned}
-use Rattle.diamond_server.specs.Promises.{count_of, OwnsMore, MayCountMore, IsNearlyAccounted}
+use Rattle.diamond_server.specs.Promises.{count_of, MayCountMore, IsNearlyAccounted}
 use Rattle.diamond_server.specs.Talking.{Told, Talks, HasBegun, Begins, MayBegin, first_session, texts_of, turns_of}
 use Rattle.diamond_server.proofs.FirstCalls.{begun-led, begun-known}
 use Rattle.diamond_server.proofs.Talked.{talk-is, talk-accounted, waited-attends}

@@ -1,5 +1,5 @@
 -- The first calls of programs, and of lines that are begun.
-use Rattle.std.proofs.Common.{◌≡◌, List, Option, Some, None, ap}
+use Rattle.std.proofs.Common.{List, Option, Some, None, ap}
 use Rattle.docc_prepare.specs.Calls.{Known, Call, Answer}
 use Rattle.docc_prepare.specs.Backends.{Goes, IsAnswered}
 use Rattle.call_programs.specs.Programs.{Program, Leads, Stops}

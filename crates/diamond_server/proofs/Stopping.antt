@@ -1,5 +1,5 @@
 -- Where the answer to a line stops, and what was held back.
-use Rattle.std.proofs.Common.{◌≡◌, ℕ, Bool, true, false, Option, Some, Result, Ok, Err, refl, sym, ap, ◌∙◌, subst, [], ◌++◌}
+use Rattle.std.proofs.Common.{◌≡◌, ℕ, Bool, true, false, Some, Result, Ok, Err, refl, sym, subst, []}
 use Rattle.std.specs.Prelude.{IfErr, OnErr, ◌≤◌, length}
 use Rattle.plain_data.specs.declared.or_no_memory.OrNoMemory.TheVariants as stop
 use Rattle.dio_core.specs.Counts.{Rose}
@@ -23,7 +23,7 @@ use Rattle.session_core.specs.LinePrograms.{line_over, sync}
 use Rattle.session_core.specs.Verbs.{Plays}
 use Rattle.txn_grammar.specs.Characters.{Text}
 use Rattle.diamond_server.specs.declared.status.Cause.TheVariants as cause
-use Rattle.diamond_server.specs.Talking.{Answers, HasBegun, Begins, MayBegin}
+use Rattle.diamond_server.specs.Talking.{Answers, Begins, MayBegin}
 use Rattle.diamond_server.specs.code.Serving.{Stop, stop_of, HoldsBack, PassesOn, StopsBy, text_of, MayWake}
 use Rattle.diamond_server.proofs.FirstCalls.{begun-led, begun-stopped}
 use Rattle.diamond_server.proofs.Held.{holds-same, passes-cut}

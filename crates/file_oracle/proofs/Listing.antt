@@ -1,5 +1,5 @@
 -- Frames, one by one.
-use Rattle.std.proofs.Common.{◌≡◌, ℕ, zero, suc, ◌+◌, List, [], ◌∷◌, ◌++◌, length, drop, Option, Some, None, refl, ap, sym, ◌∙◌, length-append, arith}
+use Rattle.std.proofs.Common.{◌≡◌, ℕ, zero, suc, ◌+◌, List, [], ◌∷◌, length, drop, Some, None, refl, ap, sym, ◌∙◌, length-append, arith}
 use Rattle.commit_file.specs.Files.{frame, frames}
 use Rattle.commit_file.specs.Kept.{payload_at, payloads_past, payloads, stride, listed, behind_frames}
 use Rattle.commit_file.proofs.Frames.{length-body}

@@ -1,6 +1,6 @@
 //! Payloads, each held against those before it.
 
-ghost use Rattle.std.specs.Prelude.{◌≡◌, ◌<◌, ◌+◌, ◌^◌, ◌++◌, [], length, IfOk};
+ghost use Rattle.std.specs.Prelude.{◌≡◌, ◌<◌, ◌+◌, ◌^◌, length, IfOk};
 ghost use Rattle.commit_file.specs.Files as files;
 ghost use Rattle.commit_file.specs.Kept as kept;
 ghost use Rattle.file_oracle.specs.Verdicts.{contents_in, reading_in, all_checked};
