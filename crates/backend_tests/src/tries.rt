@@ -341,7 +341,6 @@ fn tried<N: Naming, R: Wait>(
     requires settings { HasSettings opened.lock.origin settings.now }
     requires from { from_in opened.lock.origin ≡ opened.lock.base }
     requires author { opened.front.author ≡ None }
-    requires empty { opened.lock.base ≡ 0 }
 {
     match TestStore::<N>::new(alloc, settings, opened, Open) {
         Ok((store, first)) => tried_on(rt, alloc, &store, Founder::new(first), row),

@@ -52,7 +52,6 @@ fn serve_over<
     requires author { opened.front.author ≡ None }
     requires from { from_in opened.lock.origin ≡ opened.lock.base }
     requires base { opened.lock.base ≡ length opened.front.seen }
-    requires lawful { IsLawful Follows (length opened.front.seen) opened.front.seen }
     requires clients { NamesBelow client_of opened.lock.first opened.front.seen }
     ensures served { IfOk result (λ served. HasServed V.promised (sides Li.Link.Source Li.Link.Sink) settings.now sessions
         (gatherings Li.Listener listener.old listener.new) opened.front.seen (faults_in opened.lock.origin)

@@ -1,21 +1,27 @@
 -- The client of a pass is new, so its first session attends.
 use Rattle.std.proofs.Common.{◌≡◌, ℕ, ◌≤◌, [], length, None, sym, ap, ◌∙◌, subst}
+use Rattle.plain_data.specs.Histories.{IsLawful}
 use Rattle.rdt_types.specs.declared.limits.TheConstants.{LEAST_SHARDS, MOST_SHARDS}
-use Rattle.txn_lang.specs.Journals.{IsLegal, own}
+use Rattle.txn_lang.specs.Journals.{own}
 use Rattle.client_watches.specs.Watching.{none_yet}
+use Rattle.diamond_store.specs.Following.{Follows as MayStandBehind}
 use Rattle.diamond_store.specs.Passes.{Passed, known_of}
+use Rattle.diamond_store.proofs.Sound.{lawful-sound}
 use Rattle.session_core.specs.declared.session.Session.{Session}
 use Rattle.session_core.specs.Holding.{Follows}
-use Rattle.session_core.proofs.Grown.{prefix-whole}
 use Rattle.diamond_server.specs.Promises.{IsNew}
-use Rattle.diamond_server.specs.Readable.{StaysReadable}
+use Rattle.diamond_server.proofs.Readable.{sound-can, trusted-stays-readable}
 use Rattle.diamond_server.proofs.Talked.{new-attends}
 
--- where the client has no commit, and what the pass knows stays readable
-pub pass-is-new : (p : Passed) → own p.client p.journal ≡ [] → StaysReadable p → p.seen ≤ length p.journal → IsLegal p.trusted p.journal
-    → IsNew (known_of p)
-pass-is-new p none readable within legal =
-    record { none = none; within = within; can = readable.on p.journal (prefix-whole p.journal) legal; can_on = readable.on }
+-- where the client has no commit: what a pass knows can be read
+pub pass-is-new : (p : Passed) → own p.client p.journal ≡ [] → p.seen ≤ length p.journal → p.trusted ≤ length p.journal
+    → IsLawful MayStandBehind p.trusted p.journal → IsNew (known_of p)
+pass-is-new p none within kept lawful = record {
+  none = none;
+  within = within;
+  can = sound-can p.trusted p.journal (lawful-sound p.trusted p.journal lawful);
+  can_on = trusted-stays-readable p.trusted p.journal kept lawful;
+}
 
 -- the session that begins
 abbrev pub begins : ℕ → ℕ → Session

@@ -1,6 +1,6 @@
--- What a pass knows of the journal can be read however legally that grows: where nothing was taken on trust, and where what was taken
--- so may follow in a store, since whatever comes behind it was run.
-use Rattle.std.proofs.Common.{◌≡◌, ℕ, ◌≤◌, [], ◌∷◌, ◌++◌, fold, length, drop, sym, ap, subst, arith, append_assoc, append-nil, length-append}
+-- What a pass knows of the journal can be read however legally that grows, since each of its commits may follow in a store, and whatever
+-- comes behind them was run.
+use Rattle.std.proofs.Common.{◌≡◌, ℕ, ◌≤◌, [], ◌∷◌, ◌++◌, fold, length, drop, sym, subst, arith, append_assoc, append-nil, length-append}
 use Rattle.std.specs.List.Sorted.{IsStrictlySortedBy}
 use Rattle.std.specs.Map.{keys_of}
 use Rattle.plain_data.proofs.Entries.{sorted-insert_entry}
@@ -21,16 +21,11 @@ use Rattle.txn_lang.specs.Execution.{Own, Ran, need, done, ended, own_run, exec}
 use Rattle.txn_lang.specs.Journals.{IsLegal, IsRunAfter, MayFollow}
 use Rattle.journal_core.specs.Kinds.{AreOfTheirKinds}
 use Rattle.journal_core.proofs.OfRuns.{kinds-of-run}
-use Rattle.client_watches.specs.Standing.{CanRead, CanReadOn}
-use Rattle.client_watches.proofs.Lined.{beginnings_attend}
-use Rattle.diamond_store.specs.Answers.{Learns, Joins}
+use Rattle.client_watches.specs.Standing.{CanRead}
 use Rattle.diamond_store.specs.Following.{Follows, IsSound}
-use Rattle.diamond_store.specs.Passes.{Passed}
-use Rattle.diamond_store.proofs.Known.{front-of}
 use Rattle.diamond_store.proofs.Sound.{lawful-sound}
-use Rattle.session_core.proofs.Grown.{longer-is, prefix-again}
-use Rattle.diamond_server.specs.Accounts.{IsNewcomer}
-use Rattle.diamond_server.specs.Readable.{StaysReadable, TrustedStaysReadable}
+use Rattle.session_core.proofs.Grown.{longer-is}
+use Rattle.diamond_server.specs.Readable.{TrustedStaysReadable}
 
 -- ---- a commit of a run
 
@@ -108,7 +103,7 @@ module _ (m : ℕ) where
   grown-follows kept more few lawful legal = lawful-both [] kept more lawful (runs-follow kept more few (lawful-rest [] kept more legal))
 
 -- a sound journal can be read
-sound-can : (m : ℕ) (journal : Journal) → IsSound m journal → CanRead journal
+pub sound-can : (m : ℕ) (journal : Journal) → IsSound m journal → CanRead journal
 sound-can m journal sound = record { orderly = sound.orderly; readable = sound.readable }
 
 -- what may follow can be read, and so can all that it legally grows into
@@ -118,33 +113,3 @@ trusted-stays-readable trusted kept few lawful later grows legal =
     let is : later ≡ kept ++ more = longer-is kept later grows in
     let follows = grown-follows trusted kept more few lawful (subst (λ (j : Journal). IsLegal trusted j) is legal) in
     sound-can trusted later (lawful-sound trusted later (subst (λ (j : Journal). IsLawful Follows trusted j) (sym is) follows))
-
--- ---- passes
-
--- a pass that knows such a journal
-pub trusted-pass : (p : Passed) (kept : Journal) → p.journal ≡ kept → p.trusted ≡ length kept → IsLawful Follows (length kept) kept → StaysReadable p
-trusted-pass p kept knows trusts lawful = record {
-  on = subst (λ (j : Journal). CanReadOn p.trusted j) (sym knows) (subst (λ (n : ℕ). CanReadOn n kept) (sym trusts)
-      (trusted-stays-readable (length kept) kept (omega arith) lawful));
-}
-
--- one of a store that took nothing on trust
-pub untrusting-pass : (p : Passed) → p.trusted ≡ 0 → StaysReadable p
-untrusting-pass p trusts = record { on = subst (λ (n : ℕ). CanReadOn n p.journal) (sym trusts) (beginnings_attend.readable p.journal) }
-
--- one that has learnt more
-pub learnt-pass : (p q : Passed) → Learns p q → StaysReadable p → StaysReadable q
-learnt-pass p q learns is =
-    let same : q.trusted ≡ p.trusted = ap (λ (x : Passed). x.trusted) learns.rest in record {
-      on = λ later grows legal. is.on later (prefix-again p.journal q.journal later (front-of p.journal q.journal learns.begins) grows)
-          (subst (λ (n : ℕ). IsLegal n later) same legal);
-    }
-
--- a new client, which has seen what another has
-pub joined-newcomer : (first : ℕ) (old new joined : Passed) → Joins first old new joined → StaysReadable old → IsNewcomer joined
-joined-newcomer first old new joined joins is = record {
-  none = joins.own_commits;
-  readable = record {
-    on = subst (λ (p : Passed). CanReadOn p.trusted p.journal) (sym joins.rest) is.on;
-  };
-}

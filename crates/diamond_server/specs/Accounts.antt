@@ -23,7 +23,6 @@ use Rattle.diamond_server.specs.declared.status.TheConstants.{NO_CLIENT}
 use Rattle.diamond_server.specs.declared.serving_all.Tally.{Tally}
 use Rattle.diamond_server.specs.Talking.{Told, first_session, texts_of, turns_of}
 use Rattle.diamond_server.specs.Promises.{IsAccounted, IsCutShort, IsHeard, Promises}
-use Rattle.diamond_server.specs.Readable.{StaysReadable}
 use Rattle.diamond_server.specs.Ways.{AnyStep, Promising, having_met}
 
 -- ---- one link
@@ -41,10 +40,9 @@ pub record Seat (L : Type 0) : Type 0 where
   pub was : L
   pub joined : Result Passed JoinError
 
--- a new client: it has no commit in the journal that it knows, and that can be read however legally it grows
-pub record IsNewcomer (pass : Passed) : Type 0 where
-  pub none : own pass.client pass.journal ≡ []
-  pub readable : StaysReadable pass
+-- a new client: it has no commit in the journal that it knows
+abbrev pub IsNewcomer : Passed → Type 0
+IsNewcomer pass = own pass.client pass.journal ≡ []
 
 -- the status of a link that isn't read
 abbrev pub unread : JoinError → ℕ

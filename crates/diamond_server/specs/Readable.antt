@@ -4,13 +4,8 @@ use Rattle.plain_data.specs.Histories.{IsLawful}
 use Rattle.txn_lang.specs.States.{Journal}
 use Rattle.client_watches.specs.Standing.{CanReadOn}
 use Rattle.diamond_store.specs.Following.{Follows}
-use Rattle.diamond_store.specs.Passes.{Passed}
 
--- What a pass knows of the journal can be read, and so can all that it legally grows into. Where nothing was taken on trust this is so
--- of each pass.
-pub record StaysReadable (pass : Passed) : Type 0 where
-  pub on : CanReadOn pass.trusted pass.journal
-
--- A law: so it is of commits that are taken on trust, if each may follow those before it in a store. Whatever comes behind them was run.
+-- A law: what a store has can be read, and so can all that it legally grows into. Of the commits that were taken on trust each may
+-- follow those before it in a store, and whatever comes behind them was run.
 abbrev pub TrustedStaysReadable : Type 0
-TrustedStaysReadable = (trusted : ℕ) (kept : Journal) → trusted ≤ length kept → IsLawful Follows trusted kept → CanReadOn trusted kept
+TrustedStaysReadable = (trusted : ℕ) (journal : Journal) → trusted ≤ length journal → IsLawful Follows trusted journal → CanReadOn trusted journal

@@ -5,7 +5,6 @@ ghost use Rattle.diamond_store.specs.Answers.{Learns};
 ghost use Rattle.script_runner.specs.declared.status.TheConstants.{WHOLE};
 ghost use Rattle.diamond_server.specs.Accounts.{seat_of, joined_in, link_in, gatherings, Accepting, AllServedSince, ServedSince};
 ghost use Rattle.diamond_server.specs.Promises.{sides};
-ghost use Rattle.diamond_server.specs.Readable.{StaysReadable};
 ghost use Rattle.diamond_server.specs.code.Settling.{IsNear, JoinsNext, Settling};
 
 use crate::begun::{Begun, begin};
@@ -55,7 +54,6 @@ pub fn serve_links<
     sessions: u32,
     _way: PhantomData<S>,
 ) -> Result<Tally, AllocError>
-    requires readable { StaysReadable pass.old }
     ensures learns { Learns pass.old pass.new }
     ensures served { IfOk result (AllServedSince S.promised (sides Li.Link.Source Li.Link.Sink) N.lock.first pass.old pass.new sessions
         (gatherings Li.Listener listener.old listener.new)) }
@@ -88,7 +86,6 @@ pub fn serve_all<
     pass: &mut Pass<K, N>,
     sessions: u32,
 ) -> Result<Tally, AllocError>
-    requires readable { StaysReadable pass.old }
     ensures learns { Learns pass.old pass.new }
     ensures served { IfOk result (ServedSince (sides Li.Link.Source Li.Link.Sink) N.lock.first pass.old pass.new sessions
         (gatherings Li.Listener listener.old listener.new)) }
@@ -114,23 +111,16 @@ fn run_scoped<
     pass: &mut Pass<K, N>,
     sessions: u32,
 ) -> Result<(Vec<Ended<Li::Link, K, N, S>>, bool), AllocError>
-    requires readable { StaysReadable pass.old }
     ensures learns { Learns pass.old pass.new }
     ensures given { Li.given_back listener.new ≡ Li.given_back listener.old }
     ensures accepted { IfOk result (λ r. Accepting pass.new (N.lock.first + pass.old.draws) (N.lock.first + pass.new.draws) sessions
         (gatherings Li.Listener listener.old listener.new) (map seat_of r.0.items) r.1) }
     ensures near { IfOk result (λ r. All (IsNear pass.new) r.0.items) }
 {
-    let (ran, listener, _pass) = thread::scope(
-        thread::scope_env(),
-        rt,
-        move |scope|
-            requires readable { StaysReadable pass.now }
-        {
-            let ran = run_all(scope, rt, alloc, listener, store, pass, sessions);
-            (ran, listener, pass)
-        },
-    );
+    let (ran, listener, _pass) = thread::scope(thread::scope_env(), rt, move |scope| {
+        let ran = run_all(scope, rt, alloc, listener, store, pass, sessions);
+        (ran, listener, pass)
+    });
     leave(listener);
     ran
 }
@@ -161,7 +151,6 @@ fn run_all<
     pass: &mut Pass<K, N>,
     sessions: u32,
 ) -> Result<(Vec<Ended<Li::Link, K, N, S>>, bool), AllocError>
-    requires readable { StaysReadable pass.old }
     ensures learns { Learns pass.old pass.new }
     ensures given { Li.given_back listener.new ≡ Li.given_back listener.old }
     ensures accepted { IfOk result (λ r. Accepting pass.new (N.lock.first + pass.old.draws) (N.lock.first + pass.new.draws) sessions
@@ -194,7 +183,6 @@ fn accept_all<
     pass: &mut Pass<K, N>,
     sessions: u32,
 ) -> Result<(Vec<Begun<Li::Link, K, N, S>>, bool), AllocError>
-    requires readable { StaysReadable pass.old }
     ensures learns { Learns pass.old pass.new }
     ensures given { Li.given_back listener.new ≡ Li.given_back listener.old }
     ensures accepted { IfOk result (λ r. Accepting pass.new (N.lock.first + pass.old.draws) (N.lock.first + pass.new.draws) sessions
@@ -233,7 +221,6 @@ fn begin_next<
     pass: &mut Pass<K, N>,
     link: L,
 ) -> Begun<L, K, N, S>
-    requires readable { StaysReadable pass.old }
     ensures learns { Learns pass.old pass.new }
     ensures link { link_in result ≡ link }
     ensures joined { JoinsNext pass.new (N.lock.first + pass.old.draws) (N.lock.first + pass.new.draws) (joined_in result) }

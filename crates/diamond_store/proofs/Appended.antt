@@ -86,7 +86,7 @@ rose-by-one known entered now up is most = by (entered == last_count) refl
             inr (omega arith, last)
 
 module _ (numbers : List ℕ) (m client : ℕ) (old new : tokens.Known Commit) (s taken : ℕ) (settings : Settings)
-    (pass : IsPass numbers client old s taken settings) (subscribed : List Address) (denied : ℕ)
+    (pass : IsPass numbers m client old s taken settings) (subscribed : List Address) (denied : ℕ)
     (ready : Ready) (mine : ready.client ≡ client) (owed : IsOwed (shards_in numbers) old.seen ready) (lawful : IsLawful Follows m new.seen)
     (from : from_in numbers ≡ m) where
   -- the pass before the call
@@ -250,7 +250,7 @@ settled-grows from shards limit ready old decision.Denied new s = subst (IsPrefi
 
 -- the pass that has seen all goes on being one
 pub pass-appended : (numbers : List ℕ) (m client : ℕ) (old new : tokens.Known Commit) (s taken n : ℕ) (settings : Settings) (ready : Ready) (d : Decision)
-    → IsPass numbers client old s taken settings → Adds m numbers old ready d new → n ≡ length new.seen → IsPass numbers client new n taken settings
+    → IsPass numbers m client old s taken settings → Adds m numbers old ready d new → n ≡ length new.seen → IsPass numbers m client new n taken settings
 pass-appended numbers m client old new s taken n settings ready d pass adds is =
     let more = settled-grows (from_in numbers) (shards_in numbers) (limit_in numbers) ready adds.entered.seen d new.seen adds.settles in
     let first = length-prefix old.seen adds.entered.seen adds.later.seen in
@@ -261,12 +261,13 @@ pass-appended numbers m client old new s taken n settings ready d pass adds is =
       author = ap (λ (k : tokens.Known Commit). k.author) adds.rest ∙ adds.later.author ∙ pass.author;
       within = omega arith;
       taken = omega arith;
+      kept = pass.kept;
       settings = pass.settings;
     }
 
 -- the same of numbers and an answer that are found to be those
 pub was-appended-at : (numbers : List ℕ) (m client : ℕ) (old new : tokens.Known Commit) (s taken n : ℕ) (settings : Settings)
-    → (pass : IsPass numbers client old s taken settings) → (subscribed : List Address) (denied denied' : ℕ) (ready : Ready)
+    → (pass : IsPass numbers m client old s taken settings) → (subscribed : List Address) (denied denied' : ℕ) (ready : Ready)
     → CanAppend (known_of (passed m client old s subscribed taken denied settings)) ready → IsLawful Follows m new.seen → from_in numbers ≡ m
     → (known knows : ℕ) (d : Decision) → Adds m numbers old ready d new → new.count ≤ last_count → (answer : Result ℕ StoreAppendError) → answer ≡ answer_of d known knows
     → n ≡ length new.seen → denied' ≡ denials_after denied d

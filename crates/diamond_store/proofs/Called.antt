@@ -46,7 +46,7 @@ use Rattle.diamond_store.proofs.Known as knowing
 use Rattle.diamond_store.proofs.Known.{Grows, answered}
 
 module _ (numbers : List ℕ) (m client : ℕ) (old new : tokens.Known Commit) (s taken : ℕ) (settings : Settings)
-    (pass : IsPass numbers client old s taken settings) (later : IsLater client_of old new) (lawful : IsLawful Follows m new.seen)
+    (pass : IsPass numbers m client old s taken settings) (later : IsLater client_of old new) (lawful : IsLawful Follows m new.seen)
     (subscribed : List Address) (denied : ℕ) where
   -- the pass before the call
   abbrev before : Passed
@@ -179,7 +179,7 @@ but-false true c = refl
 but-false false c = refl
 
 module _ (numbers : List ℕ) (m client : ℕ) (token : tokens.Known Commit) (s taken : ℕ) (settings : Settings)
-    (pass : IsPass numbers client token s taken settings) (lawful : IsLawful Follows m token.seen) (subscribed : List Address) (denied : ℕ)
+    (pass : IsPass numbers m client token s taken settings) (lawful : IsLawful Follows m token.seen) (subscribed : List Address) (denied : ℕ)
     (a : Address) (after : List Address) where
   -- the pass before the call
   abbrev was : Passed

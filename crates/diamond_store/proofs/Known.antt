@@ -77,7 +77,7 @@ module _ (p q : Passed) (grows : Grows p q) where
   }
 
 module _ (numbers : List ℕ) (m client : ℕ) (old new : tokens.Known Commit) (s taken : ℕ) (settings : Settings)
-    (pass : IsPass numbers client old s taken settings) (later : IsLater client_of old new) (lawful : IsLawful Follows m new.seen)
+    (pass : IsPass numbers m client old s taken settings) (later : IsLater client_of old new) (lawful : IsLawful Follows m new.seen)
     (subscribed : List Address) (denied : ℕ) where
   -- the pass before the call
   abbrev before : Passed

@@ -89,12 +89,13 @@ passed trusted client token seen subscribed taken denied settings = record {
   trusted = trusted;
 }
 
--- The token is the client's own, what was seen is within the prefix that it knows, no more was taken, and the settings are the
--- store's.
-pub record IsPass (numbers : List ℕ) (client : ℕ) (token : tokens.Known Commit) (seen took : ℕ) (own : Settings) : Type 0 where
+-- The token is the client's own, what was seen is within the prefix that it knows, no more was taken, no less than the commits with
+-- which the store was made, and the settings are the store's.
+pub record IsPass (numbers : List ℕ) (base client : ℕ) (token : tokens.Known Commit) (seen took : ℕ) (own : Settings) : Type 0 where
   pub author : token.author ≡ Some client
   pub within : seen ≤ length token.seen
   pub taken : took ≤ seen
+  pub kept : base ≤ took
   pub settings : HasSettings numbers own
 
 -- A pass, as the backend that it is. It never fails by a fault, and since each shard follows to what it is asked for, any

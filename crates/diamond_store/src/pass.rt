@@ -2,7 +2,9 @@
 
 ghost use Rattle.std.specs.Prelude.{◌≡◌, ◌≤◌, length};
 ghost use Rattle.rdt_types.specs.declared.limits.TheConstants.{LEAST_SHARDS, MOST_SHARDS};
+ghost use Rattle.plain_data.specs.Histories.{IsLawful};
 ghost use Rattle.txn_lang.specs.Journals.{IsLegal};
+ghost use Rattle.diamond_store.specs.Following.{Follows};
 
 use crate::book::Book;
 use history_lock::{Front, Naming};
@@ -35,7 +37,7 @@ impl<K: Keep, N: Naming> Model for Pass<K, N> {
 
     ghost view = { λ p. passed N.lock.base p.client p.front p.seen p.subscribed.keys p.taken p.denied p.settings };
 
-    ghost invariant = { λ p. IsPass N.lock.origin p.client p.front p.seen p.taken p.settings };
+    ghost invariant = { λ p. IsPass N.lock.origin N.lock.base p.client p.front p.seen p.taken p.settings };
 }
 
 impl<K: Keep, N: Naming> Pass<K, N> {
@@ -46,11 +48,14 @@ impl<K: Keep, N: Naming> Pass<K, N> {
         self.client
     }
 
-    /// How many commits the client has seen.
+    /// How many commits the client has seen. What each pass knows of the journal has the commits with which the store was made,
+    /// and each of its commits may follow those before it in a store.
     pub fn seen(&self) -> u64
         ensures seen { result ≡ self.now.seen }
         ensures within { self.now.seen ≤ length self.now.journal }
         ensures legal { IsLegal self.now.trusted self.now.journal }
+        ensures kept { self.now.trusted ≤ length self.now.journal }
+        ensures lawful { IsLawful Follows self.now.trusted self.now.journal }
     {
         let _known = self.front.count();
         self.seen

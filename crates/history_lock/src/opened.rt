@@ -83,10 +83,11 @@ impl<T: Stands + Drop> Opened<T> {
         })
     }
 
-    /// The lock under the name N, which has to be this lock's, and the first token.
+    /// The lock under the name N, which has to be this lock's, and the first token. That knows the list with which the lock was made.
     pub fn named<N: Naming>(self) -> (HistoryLock<T, N>, Front<T, N>)
         requires named { self.lock ≡ N.lock }
         ensures front { result.1 ≡ self.front }
+        ensures base { self.lock.base ≡ length self.front.seen }
     {
         let Opened {
             table,

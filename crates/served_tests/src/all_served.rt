@@ -42,7 +42,6 @@ fn serve_over<
     requires settings { HasSettings opened.lock.origin settings.now }
     requires author { opened.front.author ≡ None }
     requires from { from_in opened.lock.origin ≡ opened.lock.base }
-    requires whole { opened.lock.base ≡ 0 }
 {
     let (store, mut pass) = Store::<K, G, N>::new(alloc, settings, opened, gate)?;
     let tally = serve_all(rt, alloc, listener, &store, &mut pass, sessions)?;

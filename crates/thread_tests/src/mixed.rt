@@ -204,7 +204,6 @@ fn in_eight_threads<N: Naming + Send + Sync, R: Threads + Wait + Abort + Sync>(
     requires settings { HasSettings opened.lock.origin settings.now }
     requires from { from_in opened.lock.origin ≡ opened.lock.base }
     requires author { opened.front.author ≡ None }
-    requires empty { opened.lock.base ≡ 0 }
 {
     let (store, first) = TestStore::<N>::new(alloc, settings, opened, Open)?;
     let mut first = Founder::new(first);

@@ -130,7 +130,6 @@ fn in_two_threads<N: Naming + Send + Sync, R: Threads + Wait + Abort + Sync>(
     requires settings { HasSettings opened.lock.origin settings.now }
     requires from { from_in opened.lock.origin ≡ opened.lock.base }
     requires author { opened.front.author ≡ None }
-    requires empty { opened.lock.base ≡ 0 }
 {
     let (store, first) = TestStore::<N>::new(alloc, settings, opened, Open)?;
     both_work(rt, alloc, &store, Founder::new(first), line, times)
@@ -224,7 +223,6 @@ fn wait_on_its_own<N: Naming + Send + Sync, R: Threads + Wait + Abort + Sync>(
     requires settings { HasSettings opened.lock.origin settings.now }
     requires from { from_in opened.lock.origin ≡ opened.lock.base }
     requires author { opened.front.author ≡ None }
-    requires empty { opened.lock.base ≡ 0 }
 {
     match TestStore::<N>::new(alloc, settings, opened, Open) {
         Ok((store, first)) => wait_and_work(rt, alloc, &store, Founder::new(first), line),

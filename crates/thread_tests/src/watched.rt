@@ -115,7 +115,6 @@ fn watched<N: Naming, R: Wait + Abort>(
     requires settings { HasSettings opened.lock.origin settings.now }
     requires from { from_in opened.lock.origin ≡ opened.lock.base }
     requires author { opened.front.author ≡ None }
-    requires empty { opened.lock.base ≡ 0 }
 {
     match TestStore::<N>::new(alloc, settings, opened, Open) {
         Ok((store, first)) => watched_on(rt, alloc, &store, Founder::new(first)),

@@ -4,7 +4,6 @@ ghost use Rattle.std.specs.Prelude.{◌≡◌, IfOk};
 ghost use Rattle.diamond_store.specs.Answers.{Learns};
 ghost use Rattle.diamond_server.specs.Accounts.{gatherings, AllServedSince};
 ghost use Rattle.diamond_server.specs.Promises.{sides};
-ghost use Rattle.diamond_server.specs.Readable.{StaysReadable};
 ghost use Rattle.wire_server.specs.Links.{RequestsPromised};
 
 use crate::serving::serve_wire;
@@ -49,7 +48,6 @@ pub fn serve_all_wire<
     pass: &mut Pass<K, N>,
     sessions: u32,
 ) -> Result<Tally, AllocError>
-    requires readable { StaysReadable pass.old }
     ensures learns { Learns pass.old pass.new }
     ensures served { IfOk result (AllServedSince RequestsPromised (sides Li.Link.Source Li.Link.Sink) N.lock.first pass.old pass.new sessions
         (gatherings Li.Listener listener.old listener.new)) }

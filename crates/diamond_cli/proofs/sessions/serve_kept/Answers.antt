@@ -1,10 +1,8 @@
 use Rattle.std.proofs.Common.{length, sym, ap, ◌∙◌, subst}
-use Rattle.plain_data.specs.Histories.{IsLawful}
 use Rattle.history_lock.specs.Entries.{NamesBelow}
 use Rattle.history_lock.specs.declared.known.Known as tokens
 use Rattle.txn_lang.specs.declared.commit.Commit.{Commit}
 use Rattle.diamond_store.specs.Appending.{client_of}
-use Rattle.diamond_store.specs.Following.{Follows}
 use Rattle.diamond_cli.proofs.Served.{ok-map, same-served}
 use Rattle.diamond_cli.proofs.sessions.serve_kept.Goals as goal
 
@@ -12,10 +10,6 @@ use Rattle.diamond_cli.proofs.sessions.serve_kept.Goals as goal
 pub serve_over-requires-clause-base : goal.serve_over-requires-clause-base
 serve_over-requires-clause-base g c ks h =
     let is = c.in_ok-opened.ensures in is.base ∙ ap (λ (k : tokens.Known Commit). length k.seen) (sym is.front)
-
-pub serve_over-requires-clause-lawful : goal.serve_over-requires-clause-lawful
-serve_over-requires-clause-lawful g c ks h =
-    subst (λ (k : tokens.Known Commit). IsLawful Follows (length k.seen) k.seen) (sym c.in_ok-opened.ensures.front) c.requires.lawful
 
 pub serve_over-requires-clause-clients : goal.serve_over-requires-clause-clients
 serve_over-requires-clause-clients g c ks h =

@@ -1,13 +1,6 @@
-use Rattle.std.proofs.Common.{ap, ◌∙◌}
-use Rattle.diamond_server.proofs.Readable.{trusted-pass}
+use Rattle.std.proofs.Common.{ap}
 use Rattle.diamond_cli.proofs.Served.{has-served}
 use Rattle.diamond_cli.proofs.sessions.serve_over.Goals as goal
-
--- what the store took on trust may follow in it
-pub serve_links-requires-clause-readable : goal.serve_links-requires-clause-readable
-serve_links-requires-clause-readable g c ks h =
-    let is = c.in_ok-store.ensures.pass in
-    trusted-pass _ c.args.opened.front.seen is.journal (is.trusted ∙ c.requires.base) c.requires.lawful
 
 -- the pass has learnt all that came of the links, and then closes the store
 pub returns-clause-served : goal.returns-clause-served

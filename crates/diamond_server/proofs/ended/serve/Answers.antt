@@ -9,7 +9,7 @@ use Rattle.diamond_server.proofs.ended.serve.Goals as goal
 -- the pass's client is new
 pub serve-status-requires : goal.serve-status-requires
 serve-status-requires g c = record {
-  new = pass-is-new c.args.pass c.requires.newcomer.none c.requires.newcomer.readable c.seen-seen.ensures.within c.seen-seen.ensures.legal;
+  new = pass-is-new c.args.pass c.requires.newcomer c.seen-seen.ensures.within c.seen-seen.ensures.kept c.seen-seen.ensures.lawful;
 }
 
 -- what is promised stays so where the link is ended

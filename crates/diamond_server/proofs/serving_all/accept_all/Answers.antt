@@ -1,11 +1,7 @@
 use Rattle.std.proofs.Common.{arith, ◌∷◌, [], ◌++◌, ap, ◌∙◌}
 use Rattle.diamond_store.proofs.Waited.{learns-trans}
 use Rattle.diamond_server.proofs.Listing.{turns-next, turns-failed, turns-none, turns-end}
-use Rattle.diamond_server.proofs.Readable.{learnt-pass}
 use Rattle.diamond_server.proofs.serving_all.accept_all.Goals as goal
-
-pub begin_next-requires-clause-readable : goal.begin_next-requires-clause-readable
-begin_next-requires-clause-readable g c lifetimes outlive = learnt-pass _ _ c.loop-turn.invariant.learns c.requires.readable
 
 pub returns-in-Failed-clause-accepted : goal.returns-in-Failed-clause-accepted
 returns-in-Failed-clause-accepted g c =
