@@ -6,13 +6,16 @@ use Rattle.std.specs.List.Sorted.{IsStrictlySortedBy}
 use Rattle.std.specs.Map.{lookup, set_value, keys_of}
 use Rattle.std.specs.BTreeMap.{insert_entry, is_at}
 use Rattle.std.specs.Cmp.{eq_by_cmp_equiv}
-use Rattle.std.specs.Ordering.{is_eq, ordering_reverse}
+use Rattle.std.specs.Ordering.{is_eq, ordering_reverse, match_ordering}
 use Rattle.std.specs.declared.cmp.Ordering.{Ordering}
 use Rattle.std.specs.declared.cmp.Ordering.TheVariants.{Less, Equal, Greater}
 use Rattle.std.proofs.lemmas.Map.{lookup-set_value}
 use Rattle.plain_data.proofs.Entries.{equal, lookup-insert_entry}
+use Rattle.plain_data.proofs.Overlays.{Some_is}
 use Rattle.rdt_types.specs.declared.address.Address.{Address}
+use Rattle.rdt_types.specs.declared.delta.Delta.{Delta}
 use Rattle.rdt_types.specs.declared.value.Value.{Value}
+use Rattle.rdt_types.specs.Deltas.{apply}
 use Rattle.rdt_types.specs.Addresses.{address_cmp}
 use Rattle.rdt_types.specs.Values.{default_of}
 use Rattle.rdt_types.specs.contracts.address.AddressOrd.TheImpl.Laws as order
@@ -21,8 +24,8 @@ use Rattle.txn_lang.specs.declared.snaps.Snap.{Snap}
 use Rattle.txn_lang.specs.States.{State, known}
 use Rattle.txn_lang.specs.Observed.{Extends}
 use Rattle.txn_eval.specs.Running.{values_of}
-use Rattle.audit_core.specs.Dumps.{Values, state_of}
-use Rattle.audit_core.specs.code.Running.{without_value, with_snaps, IsLent}
+use Rattle.audit_core.specs.Dumps.{Values, state_of, with_change}
+use Rattle.audit_core.specs.code.Running.{is_small, left_of, without_value, with_snap, with_snaps, IsLent}
 
 -- ---- maps by address
 
@@ -43,6 +46,49 @@ none_behind q address [] same below = refl
 none_behind q address (pair ∷ pairs) same below =
     ap (λ r. cond (is_eq r) (Some pair.1) (lookup (is_at (address_cmp q)) pairs)) (order.total-law.congr q address pair.0 same ∙ below.0)
     ∙ none_behind q address pairs same below.1
+
+-- what stands in front of an address stands in front of all that stand behind it
+in_front : (a b : Address) (keys : List Address) → address_cmp a b ≡ Less → AllByRecursion (λ y. address_cmp b y ≡ Less) keys
+    → AllByRecursion (λ y. address_cmp a y ≡ Less) keys
+in_front a b [] less below = tt
+in_front a b (key ∷ keys) less below = (order.total-law.trans a b key less below.0, in_front a b keys less below.1)
+
+-- among keys that rise nothing is found behind one that is greater
+none_less : {X : Type 0} (a : Address) (pair : Address × X) (pairs : List (Address × X)) → address_cmp a pair.0 ≡ Less
+    → AllByRecursion (λ y. address_cmp pair.0 y ≡ Less) (keys_of pairs) → lookup (is_at (address_cmp a)) pairs ≡ None
+none_less a pair pairs less below =
+    none_behind a a pairs (equal (address_cmp a a) ((eq_by_cmp_equiv order.total-law).refl a)) (in_front a pair.0 (keys_of pairs) less below)
+
+-- where a value is kept, putting one in its place inserts it
+pub put_there : (address : Address) (values : Values) (w : Value) → IsStrictlySortedBy address_cmp (keys_of values)
+    → IsSome (lookup (is_at (address_cmp address)) values)
+    → set_value (is_at (address_cmp address)) values w ≡ insert_entry address_cmp values address w
+unfolding IsStrictlySortedBy
+put_there address [] w rising there = absurd (cc)
+put_there address (pair ∷ values) w rising there = by (address_cmp address pair.0) refl there (put_there address values w rising.1)
+  where
+    by : (r : Ordering) → address_cmp address pair.0 ≡ r → IsSome (cond (is_eq r) (Some pair.1) (lookup (is_at (address_cmp address)) values))
+        → (IsSome (lookup (is_at (address_cmp address)) values)
+        → set_value (is_at (address_cmp address)) values w ≡ insert_entry address_cmp values address w)
+        → cond (is_eq r) ((pair.0, w) ∷ values) (pair ∷ set_value (is_at (address_cmp address)) values w)
+        ≡ match_ordering r ((address, w) ∷ pair ∷ values) ((pair.0, w) ∷ values) (pair ∷ insert_entry address_cmp values address w)
+    by Less e some rest = absurd (let none = ap is_some (none_less address pair values e rising.0) in cc)
+    by Equal e some rest = refl
+    by Greater e some rest = ap (λ values. pair ∷ values) (rest some)
+
+-- so it is with what a delta makes of the value
+pub changed_there : (address : Address) (values : Values) (delta : Delta) (v w : Value) → IsStrictlySortedBy address_cmp (keys_of values)
+    → lookup (is_at (address_cmp address)) values ≡ Some v → w ≡ apply delta v
+    → set_value (is_at (address_cmp address)) values w ≡ with_change values (address, delta)
+changed_there address values delta v w rising there is =
+    put_there address values w rising (ap is_some there)
+    ∙ ap (insert_entry address_cmp values address) (is ∙ ap (λ o. apply delta (unwrap_or o (default_of address.kind))) (sym there))
+
+-- and where none is kept, one is inserted that a delta makes of the default
+pub changed_first : (address : Address) (values : Values) (delta : Delta) → lookup (is_at (address_cmp address)) values ≡ None
+    → insert_entry address_cmp values address (apply delta (default_of address.kind)) ≡ with_change values (address, delta)
+changed_first address values delta none =
+    ap (λ o. insert_entry address_cmp values address (apply delta (unwrap_or o (default_of address.kind)))) (sym none)
 
 -- equal addresses are equal either way round
 turned : (a b : Address) → is_eq (address_cmp a b) ≡ is_eq (address_cmp b a)
@@ -111,6 +157,7 @@ pub lent-none : (values : Values) → IsLent (state_of values) values []
 lent-none values = record {
   whole = λ a. refl;
   absent = λ a e. ap (λ o. unwrap_or o (default_of a.kind)) e;
+  small = λ a v e is. absurd (cc);
 }
 
 -- what was lent are values of the state
@@ -121,26 +168,61 @@ lent-extends m values snaps lent a v e = ap Some (sym (lent.whole a) ∙ ap (λ 
 abbrev snap_of : Value → Snap
 snap_of value = record { base = 0; value = value }
 
--- one more value is lent, at an address where none was
-pub lent-more : (m : State) (values : Values) (snaps : List (Address × Snap)) (address : Address) → values_of snaps address ≡ None
-    → IsLent m values snaps
-    → IsLent m (without_value values address) (insert_entry address_cmp snaps address (snap_of (state_of values address)))
-lent-more m values snaps address missing lent = record {
-  whole = λ a.
-      ap (λ o. unwrap_or (option_map (λ (s : Snap). s.value) o) (state_of (without_value values address) a))
-      (lookup-insert_entry address_cmp order.total-law a address (snap_of (state_of values address)) snaps)
-      ∙ by a (is_eq (address_cmp a address)) refl;
-  absent = λ a e. lent.absent a (not_before values address (default_of address.kind) a e);
-}
+-- what is there once a value was put in the place of one that is small, and this is what was put
+small-stays : (values : Values) (address : Address) (other : Value) → is_small (state_of values address) ≡ true
+    → state_of (set_value (is_at (address_cmp address)) values (left_of (state_of values address) other)) address ≡ state_of values address
+small-stays values address other is = by (value_at values address) refl
   where
-    by : (a : Address) (b : Bool) → is_eq (address_cmp a address) ≡ b
-        → unwrap_or (option_map (λ (s : Snap). s.value) (cond b (Some (snap_of (state_of values address))) (lookup (is_at (address_cmp a)) snaps)))
-        (state_of (without_value values address) a) ≡ m a
-    by a true e =
-        sym (ap (λ o. unwrap_or o (state_of values address)) missing) ∙ lent.whole address ∙ ap m (sym (same_address a address e))
-    by a false e =
-        ap (λ o. unwrap_or (values_of snaps a) (unwrap_or o (default_of a.kind))) (elsewhere values address (default_of address.kind) a e)
-        ∙ lent.whole a
+    left : left_of (state_of values address) other ≡ state_of values address
+    left = ap (λ b. cond b (state_of values address) other) is
+
+    by : (o : Option Value) → value_at values address ≡ o
+        → state_of (set_value (is_at (address_cmp address)) values (left_of (state_of values address) other)) address ≡ state_of values address
+    by None f =
+        ap (λ all. state_of all address) (nothing_put (is_at (address_cmp address)) values (left_of (state_of values address) other) f)
+    by (Some v) f =
+        ap (λ o. unwrap_or o (default_of address.kind)) (there values address (left_of (state_of values address) other) address v refl f) ∙ left
+
+module _ (m : State) (values : Values) (snaps : List (Address × Snap)) (address : Address) where
+  -- what is left in the place of the value that is lent
+  abbrev left : Value
+  left = left_of (state_of values address) (default_of address.kind)
+
+  -- the value at an address, once it is lent too
+  whole-more : values_of snaps address ≡ None → IsLent m values snaps → (a : Address) (b : Bool) → is_eq (address_cmp a address) ≡ b
+      → unwrap_or (option_map (λ (s : Snap). s.value) (cond b (Some (snap_of (state_of values address))) (lookup (is_at (address_cmp a)) snaps)))
+      (state_of (without_value values address) a) ≡ m a
+  whole-more missing lent a true e =
+      sym (ap (λ o. unwrap_or o (state_of values address)) missing) ∙ lent.whole address ∙ ap m (sym (same_address a address e))
+  whole-more missing lent a false e =
+      ap (λ o. unwrap_or (values_of snaps a) (unwrap_or o (default_of a.kind))) (elsewhere values address left a e) ∙ lent.whole a
+
+  -- what is small stays in its place
+  small-more : IsLent m values snaps → (a : Address) (v : Value) (b : Bool) → is_eq (address_cmp a address) ≡ b
+      → option_map (λ (s : Snap). s.value) (cond b (Some (snap_of (state_of values address))) (lookup (is_at (address_cmp a)) snaps)) ≡ Some v
+      → is_small v ≡ true → state_of (without_value values address) a ≡ v
+  small-more lent a v true e is small =
+      let same : state_of values address ≡ v = Some_is (state_of values address) v is in
+      ap (state_of (without_value values address)) (same_address a address e)
+      ∙ small-stays values address (default_of address.kind) (ap is_small same ∙ small) ∙ same
+  small-more lent a v false e is small =
+      ap (λ o. unwrap_or o (default_of a.kind)) (elsewhere values address left a e) ∙ lent.small a v is small
+
+  -- one more value is lent, at an address where none was
+  pub lent-more : values_of snaps address ≡ None → IsLent m values snaps
+      → IsLent m (without_value values address) (insert_entry address_cmp snaps address (snap_of (state_of values address)))
+  lent-more missing lent = record {
+    whole = λ a.
+        ap (λ o. unwrap_or (option_map (λ (s : Snap). s.value) o) (state_of (without_value values address) a)) (found a)
+        ∙ whole-more missing lent a (is_eq (address_cmp a address)) refl;
+    absent = λ a e. lent.absent a (not_before values address left a e);
+    small = λ a v is.
+        small-more lent a v (is_eq (address_cmp a address)) refl (sym (ap (option_map (λ (s : Snap). s.value)) (found a)) ∙ is);
+  }
+    where
+      found : (a : Address) → lookup (is_at (address_cmp a)) (insert_entry address_cmp snaps address (snap_of (state_of values address)))
+          ≡ cond (is_eq (address_cmp a address)) (Some (snap_of (state_of values address))) (lookup (is_at (address_cmp a)) snaps)
+      found a = lookup-insert_entry address_cmp order.total-law a address (snap_of (state_of values address)) snaps
 
 -- ---- taking back
 
@@ -148,6 +230,19 @@ module _ (m : State) (values : Values) (pair : Address × Snap) (snaps : List (A
   -- the values with the first of those lent back
   abbrev back : Values
   back = set_value (is_at (address_cmp pair.0)) values pair.1.value
+
+  -- what is lent among the others is at another address
+  others : AllByRecursion (λ y. address_cmp pair.0 y ≡ Less) (keys_of snaps) → (a : Address) (v : Value) → values_of snaps a ≡ Some v
+      → is_eq (address_cmp a pair.0) ≡ false
+  others below a v is = by (is_eq (address_cmp a pair.0)) refl
+    where
+      by : (b : Bool) → is_eq (address_cmp a pair.0) ≡ b → b ≡ false
+      by false e = refl
+      by true e = absurd (let none = ap (option_map (λ (s : Snap). s.value)) (none_behind a pair.0 snaps (equal _ e) below) in cc)
+
+  -- so it was lent before, too
+  before : (a : Address) (v : Value) → is_eq (address_cmp a pair.0) ≡ false → values_of snaps a ≡ Some v → values_of (pair ∷ snaps) a ≡ Some v
+  before a v e is = ap (λ b. option_map (λ (s : Snap). s.value) (cond b (Some pair.1) (lookup (is_at (address_cmp a)) snaps))) e ∙ is
 
   -- those of the others are lent still
   back-whole : IsLent m values (pair ∷ snaps) → AllByRecursion (λ y. address_cmp pair.0 y ≡ Less) (keys_of snaps) → (a : Address) (b : Bool)
@@ -175,7 +270,37 @@ module _ (m : State) (values : Values) (pair : Address × Snap) (snaps : List (A
   back-lent lent below = record {
     whole = λ a. back-whole lent below a (is_eq (address_cmp a pair.0)) refl (lent.whole a);
     absent = λ a e. lent.absent a (not_before values pair.0 pair.1.value a e);
+    small = λ a v is small.
+        let e = others below a v is in
+        ap (λ o. unwrap_or o (default_of a.kind)) (elsewhere values pair.0 pair.1.value a e) ∙ lent.small a v (before a v e is) small;
   }
+
+  -- what is small has never left its place
+  small-whole : IsLent m values (pair ∷ snaps) → AllByRecursion (λ y. address_cmp pair.0 y ≡ Less) (keys_of snaps) → is_small pair.1.value ≡ true
+      → (a : Address) (b : Bool) → is_eq (address_cmp a pair.0) ≡ b
+      → unwrap_or (option_map (λ (s : Snap). s.value) (cond b (Some pair.1) (lookup (is_at (address_cmp a)) snaps))) (state_of values a) ≡ m a
+      → unwrap_or (values_of snaps a) (state_of values a) ≡ m a
+  small-whole lent below small a false e whole = whole
+  small-whole lent below small a true e whole =
+      ap (λ o. unwrap_or (option_map (λ (s : Snap). s.value) o) (state_of values a)) (none_behind a pair.0 snaps (equal _ e) below)
+      ∙ lent.small a pair.1.value (ap (λ b. option_map (λ (s : Snap). s.value) (cond b (Some pair.1) (lookup (is_at (address_cmp a)) snaps))) e) small
+      ∙ whole
+
+  small-lent : IsLent m values (pair ∷ snaps) → AllByRecursion (λ y. address_cmp pair.0 y ≡ Less) (keys_of snaps) → is_small pair.1.value ≡ true
+      → IsLent m values snaps
+  small-lent lent below is = record {
+    whole = λ a. small-whole lent below is a (is_eq (address_cmp a pair.0)) refl (lent.whole a);
+    absent = lent.absent;
+    small = λ a v found small. lent.small a v (before a v (others below a v found) found) small;
+  }
+
+  -- either way the others are lent still
+  one_back : IsLent m values (pair ∷ snaps) → AllByRecursion (λ y. address_cmp pair.0 y ≡ Less) (keys_of snaps) → IsLent m (with_snap values pair) snaps
+  one_back lent below = by (is_small pair.1.value) refl
+    where
+      by : (b : Bool) → is_small pair.1.value ≡ b → IsLent m (cond b values back) snaps
+      by true is = small-lent lent below is
+      by false is = back-lent lent below
 
 -- once all are taken back, the values are the state
 pub taken_back : (m : State) (snaps : List (Address × Snap)) (values : Values) → IsLent m values snaps
@@ -183,4 +308,4 @@ pub taken_back : (m : State) (snaps : List (Address × Snap)) (values : Values) 
 unfolding IsStrictlySortedBy
 taken_back m [] values lent rising a = lent.whole a
 taken_back m (pair ∷ snaps) values lent rising a =
-    taken_back m snaps (set_value (is_at (address_cmp pair.0)) values pair.1.value) (back-lent m values pair snaps lent rising.0) rising.1 a
+    taken_back m snaps (with_snap values pair) (one_back m values pair snaps lent rising.0) rising.1 a

@@ -1,12 +1,12 @@
 //! What is known of commits, and what is found of the next one.
 
-ghost use Rattle.std.specs.Prelude.{◌≡◌, ◌+◌, ◌++◌, ◌∷◌, [], length, nat_eq, IfOk, OnOk};
+ghost use Rattle.std.specs.Prelude.{◌≡◌, ◌+◌, ◌++◌, ◌∷◌, [], length, nat_eq, IfOk, IfSome, OnOk};
 ghost use Rattle.txn_lang.specs.Journals.{MayFollow};
 ghost use Rattle.txn_lang.specs.States.{Journal};
 ghost use Rattle.audit_core.specs.declared.verdict.Verdict.TheVariants.{Legal};
 ghost use Rattle.audit_core.specs.Verdicts.{IsInOrder, IsFound};
 ghost use Rattle.audit_core.specs.code.Growing.{HasFound};
-ghost use Rattle.audit_core.specs.code.Running.{counted, HasTaken};
+ghost use Rattle.audit_core.specs.code.Running.{counted, HasTaken, IsBodyOf};
 
 use crate::comparing::difference;
 use crate::running::run_of;
@@ -15,6 +15,7 @@ use crate::verdict::{Flaw, Verdict};
 use std::alloc::{AllocError, Global};
 use std::collections::BTreeMap;
 use txn_lang::Commit;
+use txn_trees::Body;
 
 /// What is known of the commits so far: the state that they leave, and how many each client has.
 #[derive(Drop)]
@@ -54,18 +55,29 @@ impl Auditor {
     }
 
     /// What stands against a commit, when its number and seq are right: its body is run anew.
-    fn found_by_run(&mut self, commit: &Commit) -> Result<Option<Flaw>, AllocError>
+    fn found_by_run(
+        &mut self,
+        commit: &Commit,
+        body: Option<Body>,
+    ) -> Result<Option<Flaw>, AllocError>
+        requires { IfSome body (IsBodyOf commit.now.body) }
         ensures found { (before : Journal) → HasTaken before self.old → IsInOrder before commit.now → IfOk result (IsFound before commit.now) }
         ensures kept { (before : Journal) → HasTaken before self.old → OnOk result (HasTaken before self.new) }
     {
-        match run_of(self.alloc, &commit.body, &mut self.state)? {
+        match run_of(self.alloc, &commit.body, body, &mut self.state)? {
             None => Ok(Some(Flaw::Body)),
             Some(run) => Ok(difference(commit, &run)),
         }
     }
 
     /// What stands against a commit behind so many.
-    fn found(&mut self, count: u64, commit: &Commit) -> Result<Option<Flaw>, AllocError>
+    fn found(
+        &mut self,
+        count: u64,
+        commit: &Commit,
+        body: Option<Body>,
+    ) -> Result<Option<Flaw>, AllocError>
+        requires { IfSome body (IsBodyOf commit.now.body) }
         ensures found { (before : Journal) → HasTaken before self.old → count ≡ length before → IfOk result (IsFound before commit.now) }
         ensures kept { (before : Journal) → HasTaken before self.old → OnOk result (HasTaken before self.new) }
     {
@@ -75,7 +87,7 @@ impl Auditor {
         if !is_behind(commit.seq, self.seq_of(commit.client)) {
             return Ok(Some(Flaw::Seq));
         }
-        self.found_by_run(commit)
+        self.found_by_run(commit, body)
     }
 
     /// Takes a commit behind the others.
@@ -89,27 +101,39 @@ impl Auditor {
     }
 
     /// What is found once a commit stands behind so many, which are legal. More than eight bytes tell are answered as want of memory.
-    fn next_behind(&mut self, count: u64, commit: &Commit) -> Result<Verdict, AllocError>
+    fn next_behind(
+        &mut self,
+        count: u64,
+        commit: &Commit,
+        body: Option<Body>,
+    ) -> Result<Verdict, AllocError>
+        requires { IfSome body (IsBodyOf commit.now.body) }
         ensures { (before : Journal) → HasFound before (Legal count) self.old
             → IfOk result (λ v. HasFound (before ++ commit.now ∷ []) v self.new) }
     {
         let Some(place) = count.checked_add(1) else {
             return Err(AllocError);
         };
-        if let Some(flaw) = self.found(count, commit)? {
+        if let Some(flaw) = self.found(count, commit, body)? {
             return Ok(Verdict::Broken(place, flaw));
         }
         self.take(commit)?;
         Ok(Verdict::Legal(place))
     }
 
-    /// What is found once a commit stands behind others, of which this was found.
-    pub(crate) fn next(&mut self, so_far: Verdict, commit: &Commit) -> Result<Verdict, AllocError>
+    /// What is found once a commit stands behind others, of which this was found. Its body may be given.
+    pub(crate) fn next(
+        &mut self,
+        so_far: Verdict,
+        commit: &Commit,
+        body: Option<Body>,
+    ) -> Result<Verdict, AllocError>
+        requires { IfSome body (IsBodyOf commit.now.body) }
         ensures { (before : Journal) → HasFound before so_far self.old
             → IfOk result (λ v. HasFound (before ++ commit.now ∷ []) v self.new) }
     {
         match so_far {
-            Verdict::Legal(count) => self.next_behind(count, commit),
+            Verdict::Legal(count) => self.next_behind(count, commit, body),
             Verdict::Broken(..) => Ok(so_far),
         }
     }

@@ -1,13 +1,15 @@
 //! An audit to which one commit is handed after another.
 
-ghost use Rattle.std.specs.Prelude.{◌≡◌, [], ◌∷◌, ◌++◌, if◌then◌else◌, IfOk, OnOk, OnErr};
+ghost use Rattle.std.specs.Prelude.{◌≡◌, [], ◌∷◌, ◌++◌, if◌then◌else◌, Some, IfOk, IfSome, OnOk, OnErr};
 ghost use Rattle.txn_lang.specs.States.{Journal};
+ghost use Rattle.txn_lang.specs.Tree.{tree};
 ghost use Rattle.audit_core.specs.Dumps.{with_deltas};
 ghost use Rattle.audit_core.specs.Growing.{with_commit};
 ghost use Rattle.audit_core.specs.Reports.{report_of};
 ghost use Rattle.audit_core.specs.Verdicts.{IsVerdict};
 ghost use Rattle.audit_core.specs.code.Growing as spec;
 ghost use Rattle.audit_core.specs.code.Growing.{HasGrown};
+ghost use Rattle.audit_core.specs.code.Running.{IsBodyOf};
 
 use crate::auditing::Auditor;
 use crate::reporting::told;
@@ -18,6 +20,7 @@ use plain_data::Text;
 use std::alloc::{AllocError, Global};
 use std::marker::Model;
 use txn_lang::{Commit, CommitList};
+use txn_trees::Body;
 
 /// An audit of commits that are handed to it one after another: each is looked at behind those before it, its number and its seq
 /// first, and then its body is run anew on the state that they leave. Nothing of it is taken on trust.
@@ -92,12 +95,14 @@ fn grow(
     at: Option<u64>,
     so_far: Verdict,
     commit: &Commit,
+    body: Option<Body>,
 ) -> Result<Verdict, AllocError>
+    requires { IfSome body (IsBodyOf commit.now.body) }
     ensures { (before : Journal) → HasGrown at before so_far auditor.old asked.old
         → IfOk result (λ v. HasGrown at (before ++ commit.now ∷ []) v auditor.new asked.new) }
 {
     ask(asked, at, so_far, commit)?;
-    auditor.next(so_far, commit)
+    auditor.next(so_far, commit, body)
 }
 
 impl GrowingAudit {
@@ -115,19 +120,44 @@ impl GrowingAudit {
         }
     }
 
-    /// Takes a commit behind the others. A body whose text is longer than four bytes tell, and a commit behind more than eight bytes
-    /// tell, are answered as want of memory. Once memory was wanting, none is taken any more.
-    pub fn take(&mut self, commit: &Commit) -> Result<(), AllocError>
+    /// Takes a commit behind the others, whose body may be given.
+    fn take_with(&mut self, commit: &Commit, body: Option<Body>) -> Result<(), AllocError>
+        requires { IfSome body (IsBodyOf commit.now.body) }
         ensures took { OnOk result (self.new ≡ with_commit self.old commit.now) }
         ensures same { OnErr result (self.new ≡ self.old) }
     {
         let Some(so_far) = self.so_far.take() else {
             return Err(AllocError);
         };
-        let found = grow(&mut self.auditor, &mut self.asked, self.at, so_far, commit)?;
+        let found = grow(
+            &mut self.auditor,
+            &mut self.asked,
+            self.at,
+            so_far,
+            commit,
+            body,
+        )?;
         self.taken = self.taken.and(commit);
         self.so_far = Some(found);
         Ok(())
+    }
+
+    /// Takes a commit behind the others. A body whose text is longer than four bytes tell, and a commit behind more than eight bytes
+    /// tell, are answered as want of memory. Once memory was wanting, none is taken any more.
+    pub fn take(&mut self, commit: &Commit) -> Result<(), AllocError>
+        ensures took { OnOk result (self.new ≡ with_commit self.old commit.now) }
+        ensures same { OnErr result (self.new ≡ self.old) }
+    {
+        self.take_with(commit, None)
+    }
+
+    /// Takes a commit behind the others, as `take` does, with the body that its text is: so the text isn't read once more.
+    pub fn take_read(&mut self, commit: &Commit, body: Body) -> Result<(), AllocError>
+        requires { tree commit.now.body ≡ Some body }
+        ensures took { OnOk result (self.new ≡ with_commit self.old commit.now) }
+        ensures same { OnErr result (self.new ≡ self.old) }
+    {
+        self.take_with(commit, Some(body))
     }
 
     /// What the audit says of the commits that it has taken.

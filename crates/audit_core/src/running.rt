@@ -1,21 +1,22 @@
 //! Bodies, run anew on the state.
 
-ghost use Rattle.std.specs.Prelude.{◌≡◌, IfOk, OnOk};
+ghost use Rattle.std.specs.Prelude.{◌≡◌, IfOk, IfSome, OnOk};
 ghost use Rattle.std.specs.BTreeMap.{insert_entry};
 ghost use Rattle.rdt_types.specs.Addresses.{address_cmp};
 ghost use Rattle.txn_lang.specs.States as states;
 ghost use Rattle.txn_lang.specs.States.{known};
 ghost use Rattle.txn_lang.specs.Execution.{exec, done};
 ghost use Rattle.audit_core.specs.Dumps.{state_of};
-ghost use Rattle.audit_core.specs.code.Running.{IsLent, IsRunOrNone, without_value};
+ghost use Rattle.audit_core.specs.code.Running.{IsBodyOf, IsLent, IsRunOrNone, without_value};
 
-use crate::reading::read;
+use crate::reading::body_of;
 use crate::state::State;
 use plain_data::Text;
 use rdt_types::Address;
 use std::alloc::{AllocError, Global};
 use txn_eval::{Pause, Step, go_on};
 use txn_lang::{Checked, Run, Snap, Snaps, TICK_LIMIT};
+use txn_trees::Body;
 
 /// Lends a value of the state to a run.
 fn lend(state: &mut State, snaps: &mut Snaps, address: Address) -> Result<(), AllocError>
@@ -58,16 +59,18 @@ fn run_on(alloc: Global, body: &Checked, state: &mut State) -> Result<Run, Alloc
     run
 }
 
-/// The run of a text's body on the state, if the text is that of a body.
+/// The run of a text's body on the state, if the text is that of a body. The body may be given.
 pub(crate) fn run_of(
     alloc: Global,
     text: &Text,
+    given: Option<Body>,
     state: &mut State,
 ) -> Result<Option<Run>, AllocError>
+    requires { IfSome given (IsBodyOf text.now) }
     ensures ran { IfOk result (IsRunOrNone (known (state_of state.old)) text.now) }
     ensures same { OnOk result (state_of state.new ≡ state_of state.old) }
 {
-    match read(alloc, text)? {
+    match body_of(alloc, text, given)? {
         None => Ok(None),
         Some(body) => match run_on(alloc, &body, state) {
             Ok(run) => Ok(Some(run)),

@@ -23,6 +23,7 @@ use script_runner::{WHOLE, WRITE_FAULT};
 use std::alloc::{AllocError, Global};
 use std::marker::{Brand, Model, PhantomData};
 use txn_lang::Commit;
+use txn_trees::Body;
 
 /// A commit of the journal isn't what its body does.
 pub const BROKEN: u8 = 11;
@@ -94,8 +95,8 @@ impl<K: Asked> Auditing<K> {
 impl<K: Asked> CommitTaker for Auditing<K> {
     ghost commits = { λ commits. commits };
 
-    fn take(&mut self, commit: Commit) -> Result<(), AllocError> {
-        self.audit.take(&commit)
+    fn take(&mut self, commit: Commit, body: Body) -> Result<(), AllocError> {
+        self.audit.take_read(&commit, body)
     }
 }
 

@@ -7,6 +7,7 @@ ghost use Rattle.std.specs.Map.{keys_of};
 ghost use Rattle.rdt_types.specs.Addresses.{address_cmp};
 ghost use Rattle.commit_file.specs.declared.version.Version.TheVariants.{Two as version_two};
 ghost use Rattle.txn_lang.specs.Journals.{IsLegal};
+ghost use Rattle.txn_lang.specs.Tree.{tree};
 ghost use Rattle.journal_core.specs.declared.limits.TheConstants.{FIRST_UNTOLD_CLIENT};
 ghost use Rattle.journal_core.specs.Kinds.{HasKinds};
 ghost use Rattle.journal_core.specs.Pairs.{AreNumbered};
@@ -17,10 +18,11 @@ ghost use Rattle.journal_file.specs.Commits.{commits_of, is_next};
 use crate::counts::Counts;
 use crate::taker::CommitTaker;
 use commit_file::{Chain, Version};
-use record_code::{DecodeError, decode, decode_old};
+use record_code::{DecodeError, decode_with_body};
 use std::alloc::{AllocError, Global};
 use std::marker::Model;
 use txn_lang::Commit;
+use txn_trees::Body;
 
 /// Hands commits on to a taker, each where it may stand behind those before it.
 #[derive(Drop)]
@@ -44,17 +46,6 @@ impl<T: CommitTaker> Model for CommitChain<T> {
     ghost view = { λ chain. T.commits chain.taker };
 
     ghost invariant = { λ chain. IsChain chain.counts (T.commits chain.taker) };
-}
-
-/// The commit that a payload of a version is.
-fn read(alloc: Global, version: Version, bytes: &[u8]) -> Result<Commit, DecodeError>
-    ensures read { IfOk result (λ commit. decoded version bytes.now ≡ Ok commit) }
-    ensures refused { (place : ℕ) → result ≡ Err (BadRecord place) → decoded version bytes.now ≡ Err place }
-{
-    match version {
-        Version::One => decode_old(alloc, bytes),
-        Version::Two => decode(alloc, bytes),
-    }
 }
 
 impl<T: CommitTaker> CommitChain<T> {
@@ -84,9 +75,11 @@ impl<T: CommitTaker> CommitChain<T> {
         taker
     }
 
-    /// Takes a commit behind the others, if it may stand there. Once memory was wanting, none is taken any more.
-    fn take_commit(&mut self, commit: Commit) -> Result<bool, AllocError>
-        requires { IsRecorded version_two commit }
+    /// Takes a commit behind the others, if it may stand there, with the body that its text is. Once memory was wanting, none is taken
+    /// any more.
+    fn take_commit(&mut self, commit: Commit, body: Body) -> Result<bool, AllocError>
+        requires recorded { IsRecorded version_two commit }
+        requires tree { tree commit.body ≡ Some body }
         ensures follows { IfOk result (λ took. took ≡ is_next self.old commit) }
         ensures takes { IfOk result (λ took. self.new ≡ (if took then self.old ++ commit ∷ [] else self.old)) }
     {
@@ -98,7 +91,7 @@ impl<T: CommitTaker> CommitChain<T> {
             return Ok(false);
         }
         counts.add(&commit)?;
-        self.taker.take(commit)?;
+        self.taker.take(commit, body)?;
         self.counts = Some(counts);
         Ok(true)
     }
@@ -122,8 +115,8 @@ impl<T: CommitTaker> Chain for CommitChain<T> {
 
     fn take(&mut self, version: Version, bytes: &[u8]) -> Result<bool, AllocError> {
         self.is_read();
-        match read(self.alloc, version, bytes) {
-            Ok(commit) => self.take_commit(commit),
+        match decode_with_body(self.alloc, version, bytes) {
+            Ok((commit, body)) => self.take_commit(commit, body),
             Err(DecodeError::BadRecord(_)) => Ok(false),
             Err(DecodeError::NoMemory) => Err(AllocError),
         }

@@ -29,20 +29,29 @@ module _ {A B : Type 0} (seen : A → B) where
   placed_reads place (Err errors.NoMemory) answer o reads placed =
       subst (λ (a : Result A DecodeError). Decodes seen a (or_place place o)) (sym placed) tt
 
--- what is decoded is what is read
-pub decoded_ok : (answer : Result Commit DecodeError) (read : Result Commit ℕ) → Decodes (λ commit. commit) answer read
-    → IfOk answer (λ commit. read ≡ Ok commit)
-decoded_ok (Ok commit) read e = e
-decoded_ok (Err error) read e = tt
+-- what is so of what is read is so of what goes on
+pub placed_keeps : {A : Type 0} (P : A → Type 0) (place : ℕ) (read : Result A FieldError) (answer : Result A DecodeError)
+    → IfOk read P → Placed place read answer → IfOk answer P
+placed_keeps {A} P place (Ok x) answer holds placed = subst (λ (a : Result A DecodeError). IfOk a P) (sym placed) holds
+placed_keeps {A} P place (Err errors.Malformed) answer holds (inl e) = subst (λ (a : Result A DecodeError). IfOk a P) (sym e) tt
+placed_keeps {A} P place (Err errors.Malformed) answer holds (inr e) = subst (λ (a : Result A DecodeError). IfOk a P) (sym e) tt
+placed_keeps {A} P place (Err errors.NoMemory) answer holds placed = subst (λ (a : Result A DecodeError). IfOk a P) (sym placed) tt
 
--- and the place that is named is the place
-pub decoded_err : (answer : Result Commit DecodeError) (read : Result Commit ℕ) → Decodes (λ commit. commit) answer read
-    → (place : ℕ)
-    → answer ≡ Err (decode_errors.BadRecord place) → read ≡ Err place
-decoded_err (Ok commit) read e place is = absurd cc
-decoded_err (Err (decode_errors.BadRecord other)) read e place is = (let same : other ≡ place = cc in
-    e ∙ ap (λ (p : ℕ). Err p) same)
-decoded_err (Err decode_errors.NoMemory) read e place is = absurd cc
+module _ {A : Type 0} (seen : A → Commit) where
+  -- what is decoded is what is read
+  pub decoded_ok : (answer : Result A DecodeError) (read : Result Commit ℕ) → Decodes seen answer read
+      → IfOk answer (λ x. read ≡ Ok (seen x))
+  decoded_ok (Ok x) read e = e
+  decoded_ok (Err error) read e = tt
+
+  -- and the place that is named is the place
+  pub decoded_err : (answer : Result A DecodeError) (read : Result Commit ℕ) → Decodes seen answer read
+      → (place : ℕ)
+      → answer ≡ Err (decode_errors.BadRecord place) → read ≡ Err place
+  decoded_err (Ok x) read e place is = absurd cc
+  decoded_err (Err (decode_errors.BadRecord other)) read e place is = (let same : other ≡ place = cc in
+      e ∙ ap (λ (p : ℕ). Err p) same)
+  decoded_err (Err decode_errors.NoMemory) read e place is = absurd cc
 
 -- what may be kept is read from its payload
 pub read_again : (commit : Commit) (answer : Result (List ℕ) AllocError) → IfOk answer (λ bytes. bytes ≡ payload commit)

@@ -1,6 +1,6 @@
-//! The field of a body's text.
+//! The field of a body's text, with the body that it is.
 
-ghost use Rattle.std.specs.Prelude.{◌≡◌, ◌<◌, ◌≤◌, ◌-◌, ◌^◌, length, is_some};
+ghost use Rattle.std.specs.Prelude.{◌≡◌, ◌<◌, ◌≤◌, ◌-◌, ◌^◌, length, is_some, IfOk, Some};
 ghost use Rattle.txn_lang.specs.Tree.{tree};
 ghost use Rattle.journal_core.specs.Bodies as spec;
 ghost use Rattle.record_code.specs.Reading.{is_body, body_at};
@@ -14,7 +14,7 @@ use dtext::is_blank;
 use journal_core::LONGEST_BODY;
 use plain_data::Text;
 use std::alloc::Global;
-use txn_lang::{CheckError, check};
+use txn_lang::{CheckError, Checked, check};
 use txn_parse::{ParseError, parse};
 
 /// Whether the last byte is a blank.
@@ -27,10 +27,11 @@ fn ends_in_blank(text: &[u8]) -> bool
     }
 }
 
-/// The text back, where it is that of a body that may run.
-fn with_tree(alloc: Global, text: Text) -> Result<Text, FieldError>
+/// The text back with its body, where it is that of one that may run.
+fn with_tree(alloc: Global, text: Text) -> Result<Checked, FieldError>
     requires { length text ≤ LONGEST_BODY }
-    ensures { Tells result text (is_some (tree text)) }
+    ensures text { Tells (λ body. body.source) result text (is_some (tree text)) }
+    ensures tree { IfOk result (λ body. tree body.source ≡ Some body.body) }
 {
     let body = match parse(alloc, text.as_slice()) {
         Ok(body) => body,
@@ -38,17 +39,18 @@ fn with_tree(alloc: Global, text: Text) -> Result<Text, FieldError>
         Err(ParseError::NoMemory) => return Err(FieldError::NoMemory),
     };
     match check(alloc, body, text, false) {
-        Ok(checked) => Ok(checked.source),
+        Ok(checked) => Ok(checked),
         Err(CheckError::BadType(_column)) => Err(FieldError::Malformed),
         Err(CheckError::Writes(_column)) => Err(FieldError::Malformed),
         Err(CheckError::NoMemory) => Err(FieldError::NoMemory),
     }
 }
 
-/// The text back, where it is that of a body, as it is kept, and the version has its kinds.
-fn as_kept(alloc: Global, version: Version, text: Text) -> Result<Text, FieldError>
+/// The text back with its body, where it is that of one, as it is kept, and the version has its kinds.
+fn as_kept(alloc: Global, version: Version, text: Text) -> Result<Checked, FieldError>
     requires { length text ≤ LONGEST_BODY }
-    ensures { Tells result text (is_body version text) }
+    ensures text { Tells (λ body. body.source) result text (is_body version text) }
+    ensures tree { IfOk result (λ body. tree body.source ≡ Some body.body) }
 {
     if ends_in_blank(text.as_slice()) {
         return Err(FieldError::Malformed);
@@ -64,8 +66,9 @@ pub(crate) fn read_body(
     alloc: Global,
     version: Version,
     bytes: &[u8],
-) -> Result<(Text, &[u8]), FieldError>
-    ensures { Reads (λ read. (read.0, read.1.now)) result (body_at version bytes.now) }
+) -> Result<(Checked, &[u8]), FieldError>
+    ensures text { Reads (λ read. (read.0.source, read.1.now)) result (body_at version bytes.now) }
+    ensures tree { IfOk result (λ read. tree read.0.source ≡ Some read.0.body) }
 {
     let (text, rest) = read_text(alloc, LONGEST_BODY, bytes)?;
     Ok((as_kept(alloc, version, text)?, rest))

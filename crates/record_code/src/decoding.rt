@@ -1,10 +1,11 @@
-//! Bytes read as a commit.
+//! Bytes read as a commit, with the body that its text is.
 
-ghost use Rattle.std.specs.Prelude.{◌≡◌, ◌-◌, ◌<◌, ℕ, length, [], IfOk, Ok, Err};
+ghost use Rattle.std.specs.Prelude.{◌≡◌, ◌-◌, ◌<◌, ℕ, length, [], IfOk, Some, Ok, Err};
 ghost use Rattle.std.specs.List.{list_all};
 ghost use Rattle.std.specs.FinMap.Entries.{is_sorted};
 ghost use Rattle.rdt_types.specs.Addresses.{address_cmp};
 ghost use Rattle.commit_file.specs.declared.version.Version.TheVariants.{One, Two};
+ghost use Rattle.txn_lang.specs.Tree.{tree};
 ghost use Rattle.record_code.specs.declared.decode_error.DecodeError.TheVariants.{BadRecord};
 ghost use Rattle.record_code.specs.Reading as spec;
 ghost use Rattle.record_code.specs.Reading.{positive_at, client_at, body_at, outcome_at, deltas_at};
@@ -18,10 +19,10 @@ use crate::field_error::FieldError;
 use crate::numbers::{read_u32, read_u64};
 use commit_file::Version;
 use journal_core::FIRST_UNTOLD_CLIENT;
-use plain_data::Text;
 use rdt_types::{Address, Delta, DeltaMap, Outcome};
 use std::alloc::Global;
-use txn_lang::Commit;
+use txn_lang::{Checked, Commit};
+use txn_trees::Body;
 
 /// Reads a number from 1.
 fn read_positive(bytes: &[u8]) -> Result<(u64, &[u8]), FieldError>
@@ -78,7 +79,7 @@ fn may_write(outcome: &Outcome, pairs: &[(Address, Delta)]) -> bool
 
 /// The deltas of a commit with this outcome, where they may be these.
 fn as_deltas(outcome: &Outcome, pairs: Vec<(Address, Delta)>) -> Result<DeltaMap, FieldError>
-    ensures { Tells result pairs.items (spec.are_deltas outcome.now pairs.items) }
+    ensures { Tells (λ deltas. deltas) result pairs.items (spec.are_deltas outcome.now pairs.items) }
 {
     if rise(&pairs) && suit(&pairs) && may_write(outcome, &pairs) {
         Ok(DeltaMap::from_vec(pairs))
@@ -134,8 +135,9 @@ fn body_field<'a>(
     version: Version,
     whole: &[u8],
     rest: &'a [u8],
-) -> Result<(Text, &'a [u8]), DecodeError>
-    ensures { Decodes (λ read. (read.0, read.1.now)) result (field whole.now (body_at version) rest.now) }
+) -> Result<(Checked, &'a [u8]), DecodeError>
+    ensures text { Decodes (λ read. (read.0.source, read.1.now)) result (field whole.now (body_at version) rest.now) }
+    ensures tree { IfOk result (λ read. tree read.0.source ≡ Some read.0.body) }
 {
     placed(whole, rest, read_body(alloc, version, rest))
 }
@@ -176,10 +178,11 @@ fn end(whole: &[u8], rest: &[u8]) -> Result<(), DecodeError>
     }
 }
 
-/// The commit that the bytes are in a payload of a version.
+/// The commit that the bytes are in a payload of a version, and the body that its text is.
 #[tactic(auto, unfolding(crate::specs::Payloads::decoded))]
-fn decode_by(alloc: Global, version: Version, bytes: &[u8]) -> Result<Commit, DecodeError>
-    ensures { Decodes (λ commit. commit) result (decoded version bytes.now) }
+fn decode_by(alloc: Global, version: Version, bytes: &[u8]) -> Result<(Commit, Body), DecodeError>
+    ensures commit { Decodes (λ read. read.0) result (decoded version bytes.now) }
+    ensures tree { IfOk result (λ read. tree read.0.body ≡ Some read.1) }
 {
     let (number, rest) = number_field(bytes, bytes)?;
     let (client, rest) = client_field(bytes, rest)?;
@@ -188,14 +191,31 @@ fn decode_by(alloc: Global, version: Version, bytes: &[u8]) -> Result<Commit, De
     let (outcome, rest) = outcome_field(alloc, version, bytes, rest)?;
     let (deltas, rest) = deltas_field(alloc, version, &outcome, bytes, rest)?;
     end(bytes, rest)?;
-    Ok(Commit {
+    let commit = Commit {
         number,
         client,
         seq,
-        body,
+        body: body.source,
         outcome,
         deltas,
-    })
+    };
+    Ok((commit, body.body))
+}
+
+/// The commit that the bytes are, all of them, in a payload of a version, and the body that its text is. So whoever is to run it
+/// needn't read the text again.
+pub fn decode_with_body(
+    alloc: Global,
+    version: Version,
+    bytes: &[u8],
+) -> Result<(Commit, Body), DecodeError>
+    ensures read { IfOk result (λ read. decoded version bytes.now ≡ Ok read.0) }
+    ensures tree { IfOk result (λ read. tree read.0.body ≡ Some read.1) }
+
+    // Else they are none, and this is the place.
+    ensures refused { (place : ℕ) → result ≡ Err (BadRecord place) → decoded version bytes.now ≡ Err place }
+{
+    decode_by(alloc, version, bytes)
 }
 
 /// The commit that the bytes are, all of them, in a payload of version 2.
@@ -205,7 +225,8 @@ pub fn decode(alloc: Global, bytes: &[u8]) -> Result<Commit, DecodeError>
     // Else they are none, and this is the place.
     ensures refused { (place : ℕ) → result ≡ Err (BadRecord place) → decoded Two bytes.now ≡ Err place }
 {
-    decode_by(alloc, Version::Two, bytes)
+    let (commit, _body) = decode_with_body(alloc, Version::Two, bytes)?;
+    Ok(commit)
 }
 
 /// The commit that the bytes are, all of them, in a payload of version 1.
@@ -215,5 +236,6 @@ pub fn decode_old(alloc: Global, bytes: &[u8]) -> Result<Commit, DecodeError>
     // Else they are none, and this is the place.
     ensures refused { (place : ℕ) → result ≡ Err (BadRecord place) → decoded One bytes.now ≡ Err place }
 {
-    decode_by(alloc, Version::One, bytes)
+    let (commit, _body) = decode_with_body(alloc, Version::One, bytes)?;
+    Ok(commit)
 }

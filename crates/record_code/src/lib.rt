@@ -20,7 +20,7 @@ mod tags;
 mod texts;
 
 pub use decode_error::DecodeError;
-pub use decoding::{decode, decode_old, read_deltas};
+pub use decoding::{decode, decode_old, decode_with_body, read_deltas};
 pub use deltas::read_map;
 pub use encoding::encode;
 pub use field::{Field, read_list, write_list};

@@ -1,11 +1,14 @@
 -- How the code keeps what it knows between two commits, and what it lends to a run.
-use Rattle.std.specs.Prelude.{◌≡◌, ◌≢◌, ℕ, List, length, fold, Option, Some, None, unwrap_or}
+use Rattle.std.specs.Prelude.{◌≡◌, ◌≢◌, ℕ, Bool, true, false, if◌then◌else◌, List, length, fold, Option, Some, None, unwrap_or}
 use Rattle.std.specs.Map.{lookup, set_value}
 use Rattle.std.specs.BTreeMap.{is_at}
 use Rattle.std.specs.Ordering.{nat_cmp}
 use Rattle.rdt_types.specs.declared.address.Address.{Address}
 use Rattle.rdt_types.specs.Addresses.{address_cmp}
+use Rattle.rdt_types.specs.declared.value.Value.{Value}
+use Rattle.rdt_types.specs.declared.value.Value.TheVariants as value
 use Rattle.rdt_types.specs.Values.{default_of}
+use Rattle.txn_trees.specs.declared.statement.Body.{Body}
 use Rattle.txn_lang.specs.declared.checked.Checked.{Checked}
 use Rattle.txn_lang.specs.declared.commit.Commit.{Commit}
 use Rattle.txn_lang.specs.declared.snaps.Snap.{Snap}
@@ -20,19 +23,35 @@ use Rattle.audit_core.specs.declared.verdict.Flaw.TheVariants as flaw
 use Rattle.audit_core.specs.Dumps.{Values, state_of}
 use Rattle.audit_core.specs.Verdicts.{IsRunOf}
 
--- values, with the default in the place of the one at an address, if there is one
+-- a value is one number or truth value: a run is lent a copy of it
+abbrev pub is_small : Value → Bool
+is_small (value.Bool b) = true
+is_small (value.Counter n) = true
+is_small (value.Peak n) = true
+is_small _ = false
+
+-- what is left of a value that is lent, where another one is at hand
+abbrev pub left_of : Value → Value → Value
+left_of lent other = if is_small lent then lent else other
+
+-- values, of which the one at an address was lent, if there is one: where it isn't small, the default is in its place
 abbrev pub without_value : Values → Address → Values
-without_value values address = set_value (is_at (address_cmp address)) values (default_of address.kind)
+without_value values address = set_value (is_at (address_cmp address)) values (left_of (state_of values address) (default_of address.kind))
+
+-- values, with one that was lent back in its place; what is small has never left it
+abbrev pub with_snap : Values → Address × Snap → Values
+with_snap values pair = if is_small pair.1.value then values else set_value (is_at (address_cmp pair.0)) values pair.1.value
 
 -- values, with those of snaps back in their places
 abbrev pub with_snaps : Values → List (Address × Snap) → Values
-with_snaps values snaps = fold (λ all pair. set_value (is_at (address_cmp pair.0)) all pair.1.value) values snaps
+with_snaps values snaps = fold with_snap values snaps
 
--- Some of a state's values are lent to a run: with these in front, the others are the state; and where nothing is kept, the
--- state has its default.
+-- Some of a state's values are lent to a run: with these in front, the others are the state; where nothing is kept, the state has
+-- its default; and what is small is kept as well.
 pub record IsLent (m : State) (values : Values) (snaps : List (Address × Snap)) : Type 0 where
   pub whole : (a : Address) → unwrap_or (values_of snaps a) (state_of values a) ≡ m a
   pub absent : (a : Address) → lookup (is_at (address_cmp a)) values ≡ None → m a ≡ default_of a.kind
+  pub small : (a : Address) (v : Value) → values_of snaps a ≡ Some v → is_small v ≡ true → state_of values a ≡ v
 
 -- how many commits of a client were counted
 abbrev pub counted : List (ℕ × ℕ) → ℕ → ℕ
@@ -42,6 +61,10 @@ counted seqs client = unwrap_or (lookup (is_at (nat_cmp client)) seqs) 0
 pub record HasTaken (journal : Journal) (auditor : Auditor) : Type 0 where
   pub state : state_of auditor.state ≡ left_by journal
   pub counts : (client : ℕ) → counted auditor.seqs.entries client ≡ length (own client journal)
+
+-- a body is that of a text
+abbrev pub IsBodyOf : List ℕ → Body → Type 0
+IsBodyOf text body = tree text ≡ Some body
 
 -- what a text is read as: a body that may run, or that it is none
 abbrev pub IsReadOrNone : List ℕ → Option Checked → Type 0

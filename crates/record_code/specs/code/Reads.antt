@@ -16,11 +16,11 @@ abbrev pub Reads : {A B : Type 0} → (A → B) → Result A FieldError → Opti
 Reads seen (Ok x) read = read ≡ Some (seen x)
 Reads seen (Err error) read = Refuses error read
 
--- the value that passes a test comes back, want of memory aside
-abbrev pub Tells : {A : Type 0} → Result A FieldError → A → Bool → Type 0
-Tells (Ok x) value passes = (x ≡ value) × (passes ≡ true)
-Tells (Err errors.Malformed) value passes = passes ≡ false
-Tells (Err errors.NoMemory) value passes = Unit {0}
+-- the value that passes a test comes back, as contracts see it, want of memory aside
+abbrev pub Tells : {A B : Type 0} → (A → B) → Result A FieldError → B → Bool → Type 0
+Tells seen (Ok x) value passes = (seen x ≡ value) × (passes ≡ true)
+Tells seen (Err errors.Malformed) value passes = passes ≡ false
+Tells seen (Err errors.NoMemory) value passes = Unit {0}
 
 -- a field of a payload is read as a definition reads it, or the place of the field is named, want of memory aside
 abbrev pub Decodes : {A B : Type 0} → (A → B) → Result A DecodeError → Result B ℕ → Type 0

@@ -6,4 +6,4 @@ pub invariant_of-self-2 : goal.invariant_of-self-2
 invariant_of-self-2 g c =
     IsChain-more c.self.inside.counts c.take.result c.in-Some.counts c.add.new.self (g.T.CommitTaker.commits c.self.inside.taker)
     (g.T.CommitTaker.commits c.take-2.new.self) c.args.commit c.is_next.result
-    c.self.invariant c.take.ensures.value c.in-Some.is c.requires c.is_next.ensures c.if-not-is_next.false c.in_ok-add.ensures c.in_ok-take.ensures.took
+    c.self.invariant c.take.ensures.value c.in-Some.is c.requires.recorded c.is_next.ensures c.if-not-is_next.false c.in_ok-add.ensures c.in_ok-take.ensures.took
