@@ -1,0 +1,10 @@
+//! The laws of a line's reruns. A client's line of watches runs the stale ones one after another, and reads each value that is
+//! missing (`client_watches`). Where none is missing their runs can all be made before any is reported, by as many workers as
+//! there are (`watch_reruns`): the line then does what it does one by one. It stands on these two, and nothing stands on it.
+//!
+//! Read `specs/AtOnce.antt`.
+#![tactic(auto)]
+
+mod laws;
+
+pub use laws::{needs_are_asked, reruns_at_once};

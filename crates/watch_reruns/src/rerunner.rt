@@ -1,0 +1,50 @@
+//! Who runs stale watches anew, and one who does it alone.
+
+ghost use Rattle.std.specs.Prelude.{◌≡◌, IfOk};
+ghost use Rattle.client_cache.specs.Cached.{held};
+ghost use Rattle.watch_reruns.specs.Reruns.{bodies_of, reruns_of};
+
+use crate::reruns::{Reruns, RunList, StaleWatch, WatchRun, run_watch};
+use client_cache::Cache;
+use std::alloc::{AllocError, Global};
+
+/// Runs stale watches anew.
+pub trait Rerunner {
+    /// The runs of stale watches on the values of a cache.
+    fn rerun(
+        &self,
+        alloc: Global,
+        stale: &[StaleWatch<'_>],
+        cache: &Cache,
+    ) -> Result<Reruns, AllocError>
+        ensures { IfOk result (λ all. all ≡ reruns_of (held cache.now) (bodies_of stale.now)) };
+}
+
+/// Runs them one after another, as far as the first that needs a value.
+#[derive(Clone, Copy)]
+pub struct One;
+
+/// The runs one after another.
+fn run_each(alloc: Global, stale: &[StaleWatch<'_>], cache: &Cache) -> Result<Reruns, AllocError>
+    ensures { IfOk result (λ all. all ≡ reruns_of (held cache.now) (bodies_of stale.now)) }
+{
+    let mut list = RunList::new(alloc);
+    for watch in stale {
+        match run_watch(alloc, watch, cache)? {
+            WatchRun::Need(address) => return Ok(Reruns::Need(address)),
+            WatchRun::Done(name, run) => list.push((name, run))?,
+        }
+    }
+    Ok(Reruns::Ran(list))
+}
+
+impl Rerunner for One {
+    fn rerun(
+        &self,
+        alloc: Global,
+        stale: &[StaleWatch<'_>],
+        cache: &Cache,
+    ) -> Result<Reruns, AllocError> {
+        run_each(alloc, stale, cache)
+    }
+}
