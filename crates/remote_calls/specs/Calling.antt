@@ -26,6 +26,10 @@ pub record Spells (k : Known) (asked : Request) : Type 0 where
   pub can : CanCall k call
   pub spelled : request_for call ≡ asked
 
+-- what requests do, by what comes of them
+abbrev pub Doing : Type 0 → Type 1
+Doing B = B → Request → Result WireAnswer StoreError → B → Type 0
+
 -- What may be asked: the greeting, and what spells a call that may be made.
 abbrev pub CanAsk : Known → Request → Type 0
 CanAsk k request.Hello = Unit {0}
@@ -36,10 +40,12 @@ abbrev pub is_fault_error : StoreError → Bool
 is_fault_error store_error.Fault = true
 is_fault_error store_error.NoMemory = false
 
--- A greeting is answered: the client, the shards and what is seen are these, and all else is as it was.
+-- A greeting is answered: the client, the shards and what is seen are these, and all else is as it was. A caller that tells
+-- its journal is greeted as what it is.
 abbrev pub Greets : Known → ℕ → Given → Known → Type 0
 Greets k seen (given.Hello client shards) l =
     (l ≡ record k { client = client; shards = shards; seen = seen }) × IfSome l.journal (IsWhole l)
+    × IfSome k.journal (λ journal. l ≡ k)
 Greets k seen g l = ⊥
 
 -- THE CLAUSE OF A REQUEST: it is answered as each call that may be made and is spelled so.

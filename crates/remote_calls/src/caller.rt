@@ -1,7 +1,10 @@
 //! What has the requests of one client answered: a service beside it, or a link to a server.
 
-ghost use Rattle.std.specs.Prelude.{◌≡◌, ℕ};
+ghost use Rattle.std.specs.Prelude.{◌≡◌, ℕ, Result};
+ghost use Rattle.docc_prepare.specs.declared.backend.StoreError.{StoreError as SpecError};
 ghost use Rattle.docc_prepare.specs.Calls.{Known, Call, Answer};
+ghost use Rattle.remote_wire.specs.declared.request.Request.{Request as SpecRequest};
+ghost use Rattle.remote_wire.specs.declared.answer.WireAnswer.{WireAnswer as SpecAnswer};
 ghost use Rattle.remote_calls.specs.Calling.{CanAsk, IsReplied};
 
 use docc_prepare::StoreError;
@@ -19,10 +22,14 @@ pub trait Caller {
     /// The relation by which calls go through it.
     ghost goes: { Self → Call → Answer → Self → Type 0 };
 
+    /// What one request does to it, a greeting too, by what comes of that.
+    ghost does: { Self → SpecRequest → Result SpecAnswer SpecError → Self → Type 0 };
+
     /// Has a request answered.
     fn call(&mut self, request: &Request) -> Result<WireAnswer, StoreError>
         requires { CanAsk (known self.old) request.now }
         ensures replied { IsReplied known goes self.old request.now result self.new }
+        ensures asked { does self.old request.now result self.new }
         ensures home { home self.new ≡ home self.old };
 
     /// How many calls have failed by a fault.

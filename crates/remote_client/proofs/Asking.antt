@@ -1,5 +1,5 @@
 -- What requests do to a remote client.
-use Rattle.std.proofs.Common.{◌≡◌, ℕ, Bool, true, false, Option, Some, None, Result, Ok, Err, IfOk, refl, sym, ap, ◌∙◌, subst}
+use Rattle.std.proofs.Common.{◌≡◌, ◌⊎◌, ℕ, Bool, true, false, Option, Some, None, Result, Ok, Err, IfOk, inl, inr, refl, sym, ap, ◌∙◌, subst}
 use Rattle.std.specs.Prelude.{IfSome}
 use Rattle.std.proofs.Math.Nat.{le_refl}
 use Rattle.std.proofs.Math.Seq.{take-length}
@@ -21,10 +21,11 @@ use Rattle.remote_wire.specs.declared.answer.Given.TheVariants as given
 use Rattle.remote_wire.specs.declared.answer.WireAnswer.{WireAnswer}
 use Rattle.remote_wire.specs.Answers.{IsAnswerTo}
 use Rattle.remote_calls.specs.Spelled.{request_for, answered_by, seen_behind}
-use Rattle.remote_calls.specs.Calling.{IsWhole, Spells, is_fault_error, Answers, Replies}
+use Rattle.remote_calls.specs.Calling.{IsWhole, Doing, Spells, is_fault_error, Answers, Greets, Replies}
 use Rattle.remote_client.proofs.Answered.{greets-none, answer-succeeds}
-use Rattle.remote_client.specs.Standing.{Standing, standing, IsStanding, stood_for, HasFailed, Steps}
+use Rattle.remote_client.specs.Standing.{Standing, standing, IsStanding, stood_for, AskedInVain, HasFailed, Steps}
 use Rattle.remote_client.specs.Asking.{outcome_of, done_outcome, done_given, Asks}
+use Rattle.remote_client.specs.Opening.{Begins}
 
 -- ---- requests that spell calls
 
@@ -117,19 +118,19 @@ module _ (k : Known) (n : ℕ) (by_fault : Bool) where
 -- ---- calls of a remote client
 
 -- what answers that is no failure has stepped
-steps-of : {C : Type 0} (goes : C → Call → Answer → C → Type 0) (x y : C) (c : Call) (a : Answer) → Succeeds a → goes x c a y
-    → Steps goes (standing x) c a (standing y)
-steps-of goes x y c (Answer.failed by_fault) ok step = absurd ok
-steps-of goes x y c a ok step = record { before = refl; step = step; behind = refl }
+steps-of : {C : Type 0} (goes : C → Call → Answer → C → Type 0) (does : Doing C) (x y : C) (c : Call) (a : Answer) → Succeeds a → goes x c a y
+    → Steps goes does (standing x) c a (standing y)
+steps-of goes does x y c (Answer.failed by_fault) ok step = absurd ok
+steps-of goes does x y c a ok step = record { before = refl; step = step; behind = refl }
 
-module _ {C : Type 0} (known : C → Known) (goes : C → Call → Answer → C → Type 0) where
+module _ {C : Type 0} (known : C → Known) (goes : C → Call → Answer → C → Type 0) (does : Doing C) where
   -- a step of the caller is one of the client over it
-  over : (x y : C) (c : Call) (a : Answer) → Succeeds a → Goes known goes x c a y → Goes (stood_for known) (Steps goes) (standing x) c a (standing y)
-  over x y c a ok h = record { step = steps-of goes x y c a ok h.step; answered = h.answered }
+  over : (x y : C) (c : Call) (a : Answer) → Succeeds a → Goes known goes x c a y → Goes (stood_for known) (Steps goes does) (standing x) c a (standing y)
+  over x y c a ok h = record { step = steps-of goes does x y c a ok h.step; answered = h.answered }
 
   answered-calls : (k : Known) (x y : C) (asked : Request) (answer : WireAnswer) → Spells k asked → Replies known goes x asked answer y
       → (c : Call) → CanCall (known x) c → asked ≡ request_for c
-      → Goes (stood_for known) (Steps goes) (standing x) c (outcome_of (request_for c) (Ok answer)) (standing y)
+      → Goes (stood_for known) (Steps goes does) (standing x) c (outcome_of (request_for c) (Ok answer)) (standing y)
   answered-calls k x y asked answer spells h c can same =
       let answers = answers-of known goes k x y asked answer spells h in
       let fits = subst (λ (q : Request). IsAnswerTo q answer) same answers.fits in
@@ -142,7 +143,7 @@ module _ {C : Type 0} (known : C → Known) (goes : C → Call → Answer → C 
 
   -- where its caller was as it had last answered, and has answered again
   asked-well : (x y : C) (q : Request) (answer : WireAnswer) → Spells (known x) q → Replies known goes x q answer y
-      → (asked : Result Request AllocError) → asked ≡ Ok q → Asks known goes (at x x false) asked (Ok answer) (at y y false)
+      → (asked : Result Request AllocError) → asked ≡ Ok q → Asks known goes does (at x x false) asked (Ok answer) (at y y false)
   asked-well x y q answer spells h asked is c can same =
       answered-calls (known x) x y q answer spells h c can (subst (λ (a : Result Request AllocError). IfOk a (λ q. q ≡ request_for c)) is same)
 
@@ -156,18 +157,19 @@ module _ {C : Type 0} (known : C → Known) (goes : C → Call → Answer → C 
 
   pub asked-answered : (x y p r : C) (is_lost : Bool) (was : Standing C) (asked : Result Request AllocError) (q : Request) (answer : WireAnswer)
       → p ≡ x → r ≡ y → is_lost ≡ false → asked ≡ Ok q → at x p is_lost ≡ was → IfOk asked (Spells (stood_for known was))
-      → Replies known goes x q answer y → Asks known goes (at x p is_lost) asked (Ok answer) (at y r is_lost)
+      → Replies known goes x q answer y → Asks known goes does (at x p is_lost) asked (Ok answer) (at y r is_lost)
   asked-answered x y p r is_lost was asked q answer before behind well is view spells h =
-      subst (λ (l : Bool). Asks known goes (at x p l) asked (Ok answer) (at y r l)) (sym well)
-      (subst (λ (p : C). Asks known goes (at x p false) asked (Ok answer) (at y r false)) (sym before)
-      (subst (λ (r : C). Asks known goes (at x x false) asked (Ok answer) (at y r false)) (sym behind)
+      subst (λ (l : Bool). Asks known goes does (at x p l) asked (Ok answer) (at y r l)) (sym well)
+      (subst (λ (p : C). Asks known goes does (at x p false) asked (Ok answer) (at y r false)) (sym before)
+      (subst (λ (r : C). Asks known goes does (at x x false) asked (Ok answer) (at y r false)) (sym behind)
       (asked-well x y q answer (spells-at x p is_lost was asked q before is view spells) h asked is)))
 
   -- a request that has failed
   asked-failed : (r s : Standing C) (asked : Result Request AllocError) (e : StoreError) → IfSome (known r.stood).journal (IsWhole (known r.stood))
-      → IsCounted (is_fault_error e) (known r.caller).faults (known s.caller).faults → HasFailed r (is_fault_error e) s → Asks known goes r asked (Err e) s
-  asked-failed r s asked e whole counted failed c can spelled = subst (λ (a : Answer). Goes (stood_for known) (Steps goes) r c a s) (named e)
-      (record { step = failed; answered = answered })
+      → IsCounted (is_fault_error e) (known r.caller).faults (known s.caller).faults
+      → ((c : Call) → IfOk asked (λ q. q ≡ request_for c) → HasFailed does r c (is_fault_error e) s) → Asks known goes does r asked (Err e) s
+  asked-failed r s asked e whole counted failed c can spelled = subst (λ (a : Answer). Goes (stood_for known) (Steps goes does) r c a s) (named e)
+      (record { step = failed c spelled; answered = answered })
     where
       named : (e : StoreError) → Answer.failed (is_fault_error e) ≡ store_failed e
       named store_error.Fault = refl
@@ -182,26 +184,56 @@ module _ {C : Type 0} (known : C → Known) (goes : C → Call → Answer → C 
 
       answered : IsAnswered (stood_for known r) c (Answer.failed (is_fault_error e)) (stood_for known s)
       answered = subst (λ (x : C). IsAnswered (stood_for known r) c (Answer.failed (is_fault_error e)) (record (known x) { faults = (known s.caller).faults }))
-          (sym failed.stood) (failed-answered (stood_for known r) (known s.caller).faults (is_fault_error e) c still counted)
+          (sym (failed c spelled).stood) (failed-answered (stood_for known r) (known s.caller).faults (is_fault_error e) c still counted)
 
   -- for which there was no memory
   pub asked-without : (x p : C) (is_lost : Bool) (asked : Result Request AllocError) → IfSome (known p).journal (IsWhole (known p))
-      → Asks known goes (at x p is_lost) asked (Err store_error.NoMemory) (at x p true)
+      → Asks known goes does (at x p is_lost) asked (Err store_error.NoMemory) (at x p true)
   asked-without x p is_lost asked whole = asked-failed (at x p is_lost) (at x p true) asked store_error.NoMemory whole refl
-      (record { stood = refl; lost = refl; silent = λ was. (refl, ap (at x p) (sym was)) })
+      (λ c spelled. record { stood = refl; lost = refl; silent = λ was. (refl, ap (at x p) (sym was)); asked = inl refl })
 
   -- of a client that was lost before
   pub asked-lost : (x p : C) (is_lost : Bool) (asked : Result Request AllocError) → is_lost ≡ true → IfSome (known p).journal (IsWhole (known p))
-      → Asks known goes (at x p is_lost) asked (Err store_error.NoMemory) (at x p is_lost)
+      → Asks known goes does (at x p is_lost) asked (Err store_error.NoMemory) (at x p is_lost)
   asked-lost x p is_lost asked lost whole = asked-failed (at x p is_lost) (at x p is_lost) asked store_error.NoMemory whole refl
-      (record { stood = refl; lost = lost; silent = λ was. (refl, refl) })
+      (λ c spelled. record { stood = refl; lost = lost; silent = λ was. (refl, refl); asked = inl refl })
 
   -- and one that the caller has failed to answer
-  pub asked-failing : (x y p : C) (is_lost : Bool) (asked : Result Request AllocError) (e : StoreError) → is_lost ≡ false
-      → IfSome (known p).journal (IsWhole (known p)) → IsCounted (is_fault_error e) (known x).faults (known y).faults
-      → Asks known goes (at x p is_lost) asked (Err e) (at y p true)
-  asked-failing x y p is_lost asked e well whole counted = asked-failed (at x p is_lost) (at y p true) asked e whole counted
-      (record { stood = refl; lost = refl; silent = λ was. absurd (let both : true ≡ false = sym was ∙ well in cc) })
+  pub asked-failing : (x y p : C) (is_lost : Bool) (asked : Result Request AllocError) (q : Request) (e : StoreError) → is_lost ≡ false → asked ≡ Ok q
+      → IfSome (known p).journal (IsWhole (known p)) → IsCounted (is_fault_error e) (known x).faults (known y).faults → does x q (Err e) y
+      → Asks known goes does (at x p is_lost) asked (Err e) (at y p true)
+  asked-failing x y p is_lost asked q e well is whole counted did = asked-failed (at x p is_lost) (at y p true) asked e whole counted
+      (λ c spelled. record {
+        stood = refl;
+        lost = refl;
+        silent = λ was. absurd (let both : true ≡ false = sym was ∙ well in cc);
+        asked = inr (in_vain c (subst (λ (a : Result Request AllocError). IfOk a (λ q. q ≡ request_for c)) is spelled));
+      })
+    where
+      in_vain : (c : Call) → q ≡ request_for c → AskedInVain does x c (is_fault_error e) y
+      in_vain c spelled = record { error = e; fault = refl; asked = subst (λ (q : Request). does x q (Err e) y) spelled did }
+
+  -- ---- the greeting
+
+  -- who is greeted stands for what it stood for, but for what the greeting has told
+  greeted-as : (k l : Known) (seen : ℕ) (g : Given) → Greets k seen g l
+      → (l ≡ record k { client = l.client; shards = l.shards; seen = l.seen }) × IfSome l.journal (IsWhole l) × IfSome k.journal (λ journal. l ≡ k)
+  greeted-as k l seen (given.Hello client shards) h =
+      (h.0 ∙ ap (λ (n : Known). record k { client = n.client; shards = n.shards; seen = n.seen }) (sym h.0), h.1, h.2)
+  greeted-as k l seen g h = absurd h
+
+  pub begins : (home : C → ℕ) (x y p : C) (answer : WireAnswer) → p ≡ y → home y ≡ home x → Replies known goes x request.Hello answer y
+      → does x request.Hello (Ok answer) y → Begins known home does x (at y p false)
+  begins home x y p answer stood at_home h did = subst (λ (p : C). Begins known home does x (at y p false)) (sym stood)
+      (let told = greeted-as (known x) (known y) answer.seen answer.given h.1 in record {
+        well = refl;
+        answer = answer;
+        greeted = did;
+        known_is = told.0;
+        whole = told.1;
+        same = told.2;
+        home_is = at_home;
+      })
 
   -- what a client keeps that is well, behind an answer
   stands-well : (home : C → ℕ) (x y : C) (q : Request) (answer : WireAnswer) (is_lost : Bool) (client shards seen : ℕ)
@@ -232,9 +264,9 @@ module _ {C : Type 0} (known : C → Known) (goes : C → Call → Answer → C 
 
   -- a call goes by its request
   pub goes-by : (r s : Standing C) (c : Call) (asked : Result Request AllocError) (result : Result WireAnswer StoreError) (a : Answer)
-      → Asks known goes r asked result s → CanCall (stood_for known r) c → IfOk asked (λ q. q ≡ request_for c)
-      → a ≡ outcome_of (request_for c) result → Goes (stood_for known) (Steps goes) r c a s
-  goes-by r s c asked result a h can spelled is = subst (λ (x : Answer). Goes (stood_for known) (Steps goes) r c x s) (sym is) (h c can spelled)
+      → Asks known goes does r asked result s → CanCall (stood_for known r) c → IfOk asked (λ q. q ≡ request_for c)
+      → a ≡ outcome_of (request_for c) result → Goes (stood_for known) (Steps goes does) r c a s
+  goes-by r s c asked result a h can spelled is = subst (λ (x : Answer). Goes (stood_for known) (Steps goes does) r c x s) (sym is) (h c can spelled)
 
 -- ---- what is only done
 

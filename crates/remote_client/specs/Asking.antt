@@ -11,6 +11,7 @@ use Rattle.remote_wire.specs.declared.answer.Given.{Given}
 use Rattle.remote_wire.specs.declared.answer.Given.TheVariants as given
 use Rattle.remote_wire.specs.declared.answer.WireAnswer.{WireAnswer}
 use Rattle.remote_calls.specs.Spelled.{request_for, answered_by}
+use Rattle.remote_calls.specs.Calling.{Doing}
 use Rattle.remote_client.specs.Standing.{Standing, stood_for, Steps}
 
 -- what comes of a request: what its answer says, or that it has failed
@@ -29,11 +30,11 @@ done_outcome (Ok answer) = done_given answer.given
 done_outcome (Err e) = store_failed e
 
 -- WHAT A REQUEST DOES, if there was memory for it: each call that may be made and that it spells goes by its answer.
-abbrev pub Asks : {C : Type 0} → (C → Known) → (C → Call → Answer → C → Type 0) → Standing C → Result Request AllocError
-    → Result WireAnswer StoreError → Standing C → Type 0
-Asks known goes r asked result s =
+abbrev pub Asks : {C : Type 0} → (C → Known) → (C → Call → Answer → C → Type 0) → Doing C → Standing C
+    → Result Request AllocError → Result WireAnswer StoreError → Standing C → Type 0
+Asks known goes does r asked result s =
     (c : Call) → CanCall (stood_for known r) c → IfOk asked (λ q. q ≡ request_for c)
-    → Goes (stood_for known) (Steps goes) r c (outcome_of (request_for c) result) s
+    → Goes (stood_for known) (Steps goes does) r c (outcome_of (request_for c) result) s
 
 -- ---- worked lines
 

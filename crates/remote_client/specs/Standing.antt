@@ -1,8 +1,10 @@
 -- What a client far from its store is, what it stands for, and by what its calls go.
-use Rattle.std.specs.Prelude.{◌≡◌, ℕ, ◌≤◌, Bool, true, false, IfSome, refl}
+use Rattle.std.specs.Prelude.{◌≡◌, ◌⊎◌, ℕ, ◌≤◌, Bool, true, false, Err, IfSome, refl}
 use Rattle.rdt_types.specs.declared.limits.TheConstants.{LEAST_SHARDS, MOST_SHARDS}
+use Rattle.docc_prepare.specs.declared.backend.StoreError.{StoreError}
 use Rattle.docc_prepare.specs.Calls.{Known, Call, Answer}
-use Rattle.remote_calls.specs.Calling.{IsWhole}
+use Rattle.remote_calls.specs.Spelled.{request_for}
+use Rattle.remote_calls.specs.Calling.{IsWhole, Doing, is_fault_error}
 
 -- A REMOTE CLIENT: its caller as it is, the caller as it was when it last answered, and whether a call has failed.
 pub record Standing (C : Type 0) : Type 0 where
@@ -27,17 +29,26 @@ pub record HasStepped {C : Type 0} (goes : C → Call → Answer → C → Type 
   pub step : goes r.stood c a s.stood
   pub behind : s ≡ standing s.stood
 
--- A call that has failed leaves what the client stands for, and from then on the client is lost: each call wants memory and
--- does nothing.
-pub record HasFailed {C : Type 0} (r : Standing C) (by_fault : Bool) (s : Standing C) : Type 0 where
-  pub stood : s.stood ≡ r.stood
-  pub lost : s.lost ≡ true
-  pub silent : r.lost ≡ true → (by_fault ≡ false) × (s ≡ r)
+-- The caller was asked the request that spells the call, and that failed, by a fault or not.
+pub record AskedInVain {C : Type 0} (does : Doing C) (x : C) (c : Call) (by_fault : Bool) (y : C) : Type 0 where
+  pub error : StoreError
+  pub fault : is_fault_error error ≡ by_fault
+  pub asked : does x (request_for c) (Err error) y
 
--- BY WHAT ITS CALLS GO: an answered one by a step of its caller, and one that failed by nothing.
-abbrev pub Steps : {C : Type 0} → (C → Call → Answer → C → Type 0) → Standing C → Call → Answer → Standing C → Type 0
-Steps goes r c (Answer.failed by_fault) s = HasFailed r by_fault s
-Steps goes r c a s = HasStepped goes r c a s
+-- A call that has failed leaves what the client stands for, and from then on the client is lost: each call wants memory and
+-- does nothing. Of the caller nothing was asked, or the one request.
+pub record HasFailed {C : Type 0} (does : Doing C) (r : Standing C) (c : Call) (by_fault : Bool) (s : Standing C) : Type 0
+  where
+    pub stood : s.stood ≡ r.stood
+    pub lost : s.lost ≡ true
+    pub silent : r.lost ≡ true → (by_fault ≡ false) × (s ≡ r)
+    pub asked : (s.caller ≡ r.caller) ⊎ AskedInVain does r.caller c by_fault s.caller
+
+-- BY WHAT ITS CALLS GO: an answered one by a step of its caller, and one that failed by none.
+abbrev pub Steps : {C : Type 0} → (C → Call → Answer → C → Type 0) → Doing C → Standing C → Call → Answer → Standing C
+    → Type 0
+Steps goes does r c (Answer.failed by_fault) s = HasFailed does r c by_fault s
+Steps goes does r c a s = HasStepped goes r c a s
 
 -- ---- what it keeps
 
@@ -60,6 +71,6 @@ stood-example known x = refl
 
 -- an answered call takes the caller from one state to the next
 steps-example :
-    {C : Type 0} (goes : C → Call → Answer → C → Type 0) (x y : C) → goes x Call.refresh (Answer.number 3) y
-    → Steps goes (standing x) Call.refresh (Answer.number 3) (standing y)
-steps-example goes x y step = record { before = refl; step = step; behind = refl }
+    {C : Type 0} (goes : C → Call → Answer → C → Type 0) (does : Doing C) (x y : C) → goes x Call.refresh (Answer.number 3) y
+    → Steps goes does (standing x) Call.refresh (Answer.number 3) (standing y)
+steps-example goes does x y step = record { before = refl; step = step; behind = refl }

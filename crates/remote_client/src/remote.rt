@@ -55,7 +55,7 @@ impl<C: Caller> Model for Remote<C> {
 impl<C: Caller> Remote<C> {
     /// Greets, and then stands for what the caller does. After an error the caller is given back.
     pub fn open(alloc: Global, mut caller: C) -> Result<Remote<C>, (C, StoreError)>
-        ensures { IsOpened C.known C.home caller result }
+        ensures { IsOpened C.known C.home C.does caller result }
     {
         match caller.call(&Request::Hello) {
             Ok(answer) => {
@@ -86,7 +86,7 @@ impl<C: Caller> Remote<C> {
     /// Has a request answered, if there was memory for it and no call has failed yet.
     fn ask(&mut self, request: Result<Request, AllocError>) -> Result<WireAnswer, StoreError>
         requires { IfOk request (Spells (stood_for C.known self.old)) }
-        ensures goes { Asks C.known C.goes self.old request result self.new }
+        ensures goes { Asks C.known C.goes C.does self.old request result self.new }
         ensures home { C.home self.new.caller ≡ C.home self.old.caller }
     {
         let Ok(request) = request else {
@@ -117,7 +117,7 @@ impl<C: Caller> Backend for Remote<C> {
 
     ghost home = { λ r. C.home r.caller };
 
-    ghost goes = { λ r c a s. Steps C.goes r c a s };
+    ghost goes = { λ r c a s. Steps C.goes C.does r c a s };
 
     fn client(&self) -> u32 {
         self.client

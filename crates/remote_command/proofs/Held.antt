@@ -1,6 +1,6 @@
 -- What a session over a remote client promises of its caller.
 use Rattle.std.proofs.Common.{◌≡◌, ℕ, List, inl, inr, refl, sym, ap, ◌∙◌, subst}
-use Rattle.std.specs.Prelude.{Option, Some, None, IfSome}
+use Rattle.std.specs.Prelude.{Option, Some, None, Err, IfSome}
 use Rattle.dio_core.specs.Counts.{Rose, IsCounted}
 use Rattle.dio_core.specs.declared.sink.Sink.{Ghosts as SinkTells}
 use Rattle.dio_core.specs.declared.source.Source.{Ghosts as SourceTells}
@@ -12,7 +12,8 @@ use Rattle.docc_prepare.specs.declared.backend.StoreError.TheVariants as store_e
 use Rattle.docc_prepare.specs.Calls.{Known, Call, Answer}
 use Rattle.diamond_server.specs.Talking.{Told}
 use Rattle.diamond_server.specs.Promises.{IsNew, IsNewTo, IsServed, IsCutShort, Promises, KeepsPromises}
-use Rattle.remote_calls.specs.Calling.{is_fault_error}
+use Rattle.remote_wire.specs.declared.request.Request.TheVariants as request
+use Rattle.remote_calls.specs.Calling.{Doing, is_fault_error}
 use Rattle.remote_client.specs.Standing.{Standing, stood_for, Steps}
 use Rattle.remote_client.specs.Opening.{Begins}
 use Rattle.remote_command.specs.Running.{ends, IsHeld, IsCutOver, KeepsOver, failure}
@@ -39,20 +40,20 @@ module _ {S W C : Type 0} (source : SourceTells S) (sink : SinkTells W) (known :
       subst (λ (x : S). KeepsPromises known goes status old new (ends source sink s u) (ends source sink x b)) (sym is_source)
       (subst (λ (x : W). KeepsPromises known goes status old new (ends source sink s u) (ends source sink t x)) (sym is_sink) p)
 
-module _ {C : Type 0} (known : C → Known) (home : C → ℕ) (goes : C → Call → Answer → C → Type 0) (caller : C) where
+module _ {C : Type 0} (known : C → Known) (home : C → ℕ) (goes : C → Call → Answer → C → Type 0) (does : Doing C) (caller : C) where
   -- so it is behind the greeting of a caller that doesn't tell
-  pub opened-new : (opened : Standing C) → (known caller).journal ≡ None → Begins known home caller opened → IsNew (stood_for known opened)
+  pub opened-new : (opened : Standing C) → (known caller).journal ≡ None → Begins known home does caller opened → IsNew (stood_for known opened)
   opened-new opened none begins =
       untold-new (stood_for known opened) (ap (λ (k : Known). k.journal) begins.known_is ∙ none)
 
   -- the greeting has counted no fault
-  opened-faults : (opened : Standing C) → Begins known home caller opened → (stood_for known opened).faults ≡ (known caller).faults
+  opened-faults : (opened : Standing C) → Begins known home does caller opened → (stood_for known opened).faults ≡ (known caller).faults
   opened-faults opened begins =
       ap (λ (r : Standing C). (known r.caller).faults) begins.well ∙ ap (λ (k : Known). k.faults) begins.known_is
 
   -- behind a greeting: the promises of the session are those of its client's caller
-  pub over-opened : (opened ended : Standing C) (status : ℕ) (x y : Both) → Begins known home caller opened
-      → KeepsPromises (stood_for known) (Steps goes) status opened ended x y → KeepsOver known home goes caller ended.caller status x y
+  pub over-opened : (opened ended : Standing C) (status : ℕ) (x y : Both) → Begins known home does caller opened
+      → KeepsPromises (stood_for known) (Steps goes does) status opened ended x y → KeepsOver known home goes does caller ended.caller status x y
   over-opened opened ended status x y begins p = record {
     statuses = p.statuses;
     whole = λ is. held (p.whole is);
@@ -68,44 +69,44 @@ module _ {C : Type 0} (known : C → Known) (home : C → ℕ) (goes : C → Cal
         p.completes all left few reads writes (subst (λ (n : ℕ). Rose n (known ended.caller).faults → ⊥) (sym (opened-faults opened begins)) faults);
   }
     where
-      held : {Reads : List Told → Text → Text → Type 0} → IsServed (stood_for known) (Steps goes) opened ended x y Reads
-          → IsHeld known home goes caller ended.caller x y Reads
+      held : {Reads : List Told → Text → Text → Type 0} → IsServed (stood_for known) (Steps goes does) opened ended x y Reads
+          → IsHeld known home goes does caller ended.caller x y Reads
       held served = record { opened = opened; ended = ended; begins = begins; served = served; back_is = refl }
 
       short : {Takes : List Told → Outgoing → Outgoing → Type 0}
-          → IsCutShort (stood_for known) (Steps goes) (stood_for known ended) opened ended x y Takes
-          → IsCutOver known home goes caller ended.caller x y Takes
+          → IsCutShort (stood_for known) (Steps goes does) (stood_for known ended) opened ended x y Takes
+          → IsCutOver known home goes does caller ended.caller x y Takes
       short cut = inl (record { opened = opened; ended = ended; begins = begins; cut = cut; back_is = refl })
 
   -- so they are of the caller that is given back
-  pub over-closed : (opened ended : Standing C) (back : C) (status : ℕ) (x y : Both) → back ≡ ended.caller → Begins known home caller opened
-      → KeepsPromises (stood_for known) (Steps goes) status opened ended x y → KeepsOver known home goes caller back status x y
+  pub over-closed : (opened ended : Standing C) (back : C) (status : ℕ) (x y : Both) → back ≡ ended.caller → Begins known home does caller opened
+      → KeepsPromises (stood_for known) (Steps goes does) status opened ended x y → KeepsOver known home goes does caller back status x y
   over-closed opened ended back status x y is begins p =
-      subst (λ (b : C). KeepsOver known home goes caller b status x y) (sym is) (over-opened opened ended status x y begins p)
+      subst (λ (b : C). KeepsOver known home goes does caller b status x y) (sym is) (over-opened opened ended status x y begins p)
 
   -- without a greeting nothing was read and nothing was written
-  pub over-unopened : (back : C) (e : StoreError) (x : Both) → IsCounted (is_fault_error e) (known caller).faults (known back).faults
-      → KeepsOver known home goes caller back (failure e) x x
-  over-unopened back store_error.Fault x counted = record {
+  pub over-unopened : (back : C) (e : StoreError) (x : Both) → does caller request.Hello (Err e) back
+      → IsCounted (is_fault_error e) (known caller).faults (known back).faults → KeepsOver known home goes does caller back (failure e) x x
+  over-unopened back store_error.Fault x failed counted = record {
     statuses = refl;
     whole = λ is. absurd (cc is);
     broken_off = λ is. absurd (cc is);
     too_many = λ is. absurd (cc is);
     cut_off = λ is. absurd (cc is);
     stalled = λ is. absurd (cc is);
-    failed = λ is. inr refl;
+    failed = λ is. inr (record { error = store_error.Fault; failed = failed; same = refl });
     reads = refl;
     writes = refl;
     store_failed = λ is. counted;
     completes = λ all left few reads writes faults. absurd (faults counted);
   }
-  over-unopened back store_error.NoMemory x counted = record {
+  over-unopened back store_error.NoMemory x failed counted = record {
     statuses = refl;
     whole = λ is. absurd (cc is);
     broken_off = λ is. absurd (cc is);
     too_many = λ is. absurd (cc is);
     cut_off = λ is. absurd (cc is);
-    stalled = λ is. inr refl;
+    stalled = λ is. inr (record { error = store_error.NoMemory; failed = failed; same = refl });
     failed = λ is. absurd (cc is);
     reads = refl;
     writes = refl;

@@ -13,26 +13,30 @@ use Rattle.diamond_server.specs.declared.status.TheConstants.{STORE_FAULT}
 use Rattle.diamond_server.specs.Talking.{Told}
 use Rattle.diamond_server.specs.Promises.{Promises}
 use Rattle.remote_link.specs.Exchanging.{HasFailed}
-use Rattle.remote_link.specs.Ends.{LinkEnd, new_end, by_link}
-use Rattle.remote_link.specs.Talks.{HasTalked}
-use Rattle.remote_link.proofs.Talked.{talks-go_on}
+use Rattle.remote_wire.specs.declared.request.Request.{Request}
+use Rattle.remote_wire.specs.declared.request.Request.TheVariants as request
+use Rattle.remote_wire.specs.declared.answer.WireAnswer.{WireAnswer}
+use Rattle.remote_link.specs.Ends.{LinkEnd, new_end, by_link, does_over}
+use Rattle.remote_link.specs.Talks.{HasTalked, HasTalkedShort}
+use Rattle.remote_link.proofs.Parts.{failed-part}
 use Rattle.remote_command.specs.declared.remote.TheConstants.{LINK_FAULT, BROKEN_LINK}
 use Rattle.remote_command.specs.Running.{IsHeld, IsCutOver, KeepsOver}
-use Rattle.remote_command.specs.Linked.{knows, nowhere, IsHeldOver, plain, KeepsPromises, HasRisen, status_over}
-use Rattle.remote_command.proofs.Over.{behind-talk}
+use Rattle.remote_command.specs.Linked.{knows, nowhere, IsHeldOver, IsCutShortOver, plain, KeepsPromises, HasRisen, status_over}
+use Rattle.remote_command.proofs.Over.{behind-talk, behind-last, behind-greeting}
 
--- what is promised by one fact of what was held is so by another that follows from it
-held-as : (Held As : (List Told → Text → Text → Type 0) → Type 0) (Cut : (List Told → Outgoing → Outgoing → Type 0) → Type 0) (k l : Known)
-    (status : ℕ) (x y : Both) → ((Reads : List Told → Text → Text → Type 0) → Held Reads → As Reads) → Promises Held Cut k l status x y
-    → Promises As Cut k l status x y
-held-as Held As Cut k l status x y f p = record {
+-- what is promised by facts of what was held and what was cut short is so by others that follow from them
+held-as : (Held As : (List Told → Text → Text → Type 0) → Type 0) (Cut CutAs : (List Told → Outgoing → Outgoing → Type 0) → Type 0) (k l : Known)
+    (status : ℕ) (x y : Both) → ((Reads : List Told → Text → Text → Type 0) → Held Reads → As Reads)
+    → ((Takes : List Told → Outgoing → Outgoing → Type 0) → Cut Takes → CutAs Takes) → Promises Held Cut k l status x y
+    → Promises As CutAs k l status x y
+held-as Held As Cut CutAs k l status x y f g p = record {
   statuses = p.statuses;
   whole = λ is. f _ (p.whole is);
   broken_off = λ is. f _ (p.broken_off is);
   too_many = λ is. f _ (p.too_many is);
-  cut_off = p.cut_off;
-  stalled = p.stalled;
-  failed = p.failed;
+  cut_off = λ is. g _ (p.cut_off is);
+  stalled = λ is. g _ (p.stalled is);
+  failed = λ is. g _ (p.failed is);
   reads = p.reads;
   writes = p.writes;
   store_failed = p.store_failed;
@@ -73,26 +77,47 @@ module _ {K : Type 0} (side : K → Both) (link : K) (ended : LinkEnd K) (x y : 
   -- what a session over the link promises, at the status of the session in between
   abbrev pub Over : ℕ → Type 0
   Over status =
-      Promises (IsHeldOver side link ended x y) (IsCutOver knows nowhere (by_link side) (new_end link) ended x y) (knows (new_end link)) (knows ended)
-      status x y
+      Promises (IsHeldOver side link ended x y) (IsCutShortOver side link ended x y) (knows (new_end link)) (knows ended) status x y
+
+  -- what a session over the link's caller promises
+  abbrev pub Within : ℕ → Type 0
+  Within status = KeepsOver knows nowhere (by_link side) (does_over side) (new_end link) ended status x y
 
   -- a session that was held over the caller was held over the link
-  held-over : (Reads : List Told → Text → Text → Type 0) → IsHeld knows nowhere (by_link side) (new_end link) ended x y Reads
+  held-over : (Reads : List Told → Text → Text → Type 0) → IsHeld knows nowhere (by_link side) (does_over side) (new_end link) ended x y Reads
       → IsHeldOver side link ended x y Reads
   held-over Reads held =
-      let first = side held.opened.caller.link in
-      let went = behind-talk side first held.served.talks (record { talk = []; talked = talks-go_on.none first }) in
+      let first : Request × WireAnswer = (request.Hello, held.begins.answer) in
+      let went = behind-talk side first (side link) held.served.talks (behind-greeting side link held.opened held.begins) in
       record {
         held = held;
         talk = went.talk;
-        talked = subst (λ (e : LinkEnd K). HasTalked went.talk first (side e.link)) (sym held.back_is) went.talked;
+        talked = subst (λ (e : LinkEnd K). HasTalked (first ∷ went.talk) (side link) (side e.link)) (sym held.back_is) went.talked;
       }
 
+  -- so was one that was cut short
+  short-over : (Takes : List Told → Outgoing → Outgoing → Type 0)
+      → IsCutOver knows nowhere (by_link side) (does_over side) (new_end link) ended x y Takes → IsCutShortOver side link ended x y Takes
+  short-over Takes (inl short) =
+      let first : Request × WireAnswer = (request.Hello, short.begins.answer) in
+      let cut = short.cut in
+      let before = behind-talk side first (side link) cut.talks (behind-greeting side link short.opened short.begins) in
+      let went = behind-last side first (side link) cut.there cut.session cut.begun short.ended cut.behind before in
+      inl (record {
+        held = short;
+        talk = went.talk;
+        next = went.next;
+        talked = subst (λ (e : LinkEnd K). HasTalkedShort (first ∷ went.talk) went.next (side link) (side e.link)) (sym short.back_is) went.talked;
+      })
+  short-over Takes (inr failed) =
+      inr (record { ungreeted = failed; part = failed-part side request.Hello failed.error (new_end link) ended failed.failed })
+
   -- so are its promises
-  over : (status : ℕ) → KeepsOver knows nowhere (by_link side) (new_end link) ended status x y → Over status
+  over : (status : ℕ) → Within status → Over status
   over status p =
-      held-as (IsHeld knows nowhere (by_link side) (new_end link) ended x y) (IsHeldOver side link ended x y)
-      (IsCutOver knows nowhere (by_link side) (new_end link) ended x y) (knows (new_end link)) (knows ended) status x y held-over p
+      held-as (IsHeld knows nowhere (by_link side) (does_over side) (new_end link) ended x y) (IsHeldOver side link ended x y)
+      (IsCutOver knows nowhere (by_link side) (does_over side) (new_end link) ended x y) (IsCutShortOver side link ended x y) (knows (new_end link))
+      (knows ended) status x y held-over short-over p
 
   -- by whether the link is broken, and whether it has failed, where the session's calls failed by a fault
   faulted : (broken failed : Bool) → ended.broken ≡ broken → (failed ≡ true → HasFailed (side link) (side ended.link)) → Over STORE_FAULT
@@ -114,8 +139,7 @@ module _ {K : Type 0} (side : K → Both) (link : K) (ended : LinkEnd K) (x y : 
   faulted false false is rose p = record {
     ended = ended;
     given_back = refl;
-    session = wanting (IsHeldOver side link ended x y) (IsCutOver knows nowhere (by_link side) (new_end link) ended x y) (knows (new_end link))
-        (knows ended) x y p;
+    session = wanting (IsHeldOver side link ended x y) (IsCutShortOver side link ended x y) (knows (new_end link)) (knows ended) x y p;
     failed = λ no. absurd (cc no);
     broken = λ no. absurd (cc no);
   }
@@ -132,7 +156,7 @@ module _ {K : Type 0} (side : K → Both) (link : K) (ended : LinkEnd K) (x y : 
   }
 
   -- the status over the link
-  pub keeps-promises : (status : ℕ) (failed : Bool) → KeepsOver knows nowhere (by_link side) (new_end link) ended status x y
+  pub keeps-promises : (status : ℕ) (failed : Bool) → Within status
       → (failed ≡ true → HasFailed (side link) (side ended.link))
       → KeepsPromises side link ended.link (status_over status ended.broken failed) x y
   keeps-promises status failed p rose = by (status == STORE_FAULT) refl
@@ -146,11 +170,11 @@ module _ {K : Type 0} (side : K → Both) (link : K) (ended : LinkEnd K) (x y : 
   pub run-over : (first : LinkEnd K) (back : K) (own status : ℕ) (broken failed : Bool) (reads writes : ℕ) → first ≡ new_end link → back ≡ ended.link
       → broken ≡ ended.broken → status ≡ status_over own broken failed → reads ≡ (side link).inwards.faults → writes ≡ (side link).outwards.faults
       → OnTrue failed (HasRisen reads writes (side back).inwards.faults (side back).outwards.faults)
-      → KeepsOver knows nowhere (by_link side) first ended own x y → KeepsPromises side link back status x y
+      → KeepsOver knows nowhere (by_link side) (does_over side) first ended own x y → KeepsPromises side link back status x y
   run-over first back own status broken failed reads writes begins given is_broken is_status is_reads is_writes rose p =
       subst (λ (k : K). KeepsPromises side link k status x y) (sym given)
       (subst (λ (n : ℕ). KeepsPromises side link ended.link n x y) (sym (is_status ∙ ap (λ b. status_over own b failed) is_broken))
-      (keeps-promises own failed (subst (λ (e : LinkEnd K). KeepsOver knows nowhere (by_link side) e ended own x y) begins p)
+      (keeps-promises own failed (subst (λ (e : LinkEnd K). KeepsOver knows nowhere (by_link side) (does_over side) e ended own x y) begins p)
       (λ is. subst (λ (k : K). HasFailed (side link) (side k)) given
       (subst (λ (n : ℕ). HasRisen (side link).inwards.faults n (side back).inwards.faults (side back).outwards.faults) is_writes
       (subst (λ (n : ℕ). HasRisen n writes (side back).inwards.faults (side back).outwards.faults) is_reads (OnTrue_at is rose))))))

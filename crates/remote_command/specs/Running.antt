@@ -1,5 +1,5 @@
 -- What a session here over a store elsewhere promises, by the status that it ends with.
-use Rattle.std.specs.Prelude.{◌≡◌, ◌⊎◌, ℕ, List}
+use Rattle.std.specs.Prelude.{◌≡◌, ◌⊎◌, ℕ, List, Err}
 use Rattle.dio_core.specs.declared.sink.Sink.{Ghosts as SinkTells}
 use Rattle.dio_core.specs.declared.source.Source.{Ghosts as SourceTells}
 use Rattle.dio_core.specs.Links.{Both, Outgoing, incoming, outgoing}
@@ -11,6 +11,8 @@ use Rattle.script_runner.specs.declared.status.TheConstants.{NO_MEMORY}
 use Rattle.diamond_server.specs.declared.status.TheConstants.{STORE_FAULT}
 use Rattle.diamond_server.specs.Talking.{Told}
 use Rattle.diamond_server.specs.Promises.{IsServed, IsCutShort, Promises}
+use Rattle.remote_wire.specs.declared.request.Request.TheVariants as request
+use Rattle.remote_calls.specs.Calling.{Doing}
 use Rattle.remote_client.specs.Standing.{Standing, stood_for, Steps}
 use Rattle.remote_client.specs.Opening.{Begins}
 
@@ -27,33 +29,40 @@ ends source sink s w = record {
 
 -- A SESSION WAS HELD: a client greeted by this caller, and then did the lines that were read, each call by a step of what it asks;
 -- behind it the caller is this one.
-pub record IsHeld {C : Type 0} (known : C → Known) (home : C → ℕ) (goes : C → Call → Answer → C → Type 0) (caller back : C) (x y : Both)
-    (Reads : List Told → Text → Text → Type 0) : Type 0 where
+pub record IsHeld {C : Type 0} (known : C → Known) (home : C → ℕ) (goes : C → Call → Answer → C → Type 0) (does : Doing C) (caller back : C)
+    (x y : Both) (Reads : List Told → Text → Text → Type 0) : Type 0 where
   pub opened : Standing C
   pub ended : Standing C
-  pub begins : Begins known home caller opened
-  pub served : IsServed (stood_for known) (Steps goes) opened ended x y Reads
+  pub begins : Begins known home does caller opened
+  pub served : IsServed (stood_for known) (Steps goes does) opened ended x y Reads
   pub back_is : back ≡ ended.caller
 
 -- THE SAME OF A SESSION THAT WAS CUT SHORT: of its output so much was taken, by the sink, and nothing else.
-pub record IsHeldShort {C : Type 0} (known : C → Known) (home : C → ℕ) (goes : C → Call → Answer → C → Type 0) (caller back : C) (x y : Both)
-    (Takes : List Told → Outgoing → Outgoing → Type 0) : Type 0 where
+pub record IsHeldShort {C : Type 0} (known : C → Known) (home : C → ℕ) (goes : C → Call → Answer → C → Type 0) (does : Doing C)
+    (caller back : C) (x y : Both) (Takes : List Told → Outgoing → Outgoing → Type 0) : Type 0 where
   pub opened : Standing C
   pub ended : Standing C
-  pub begins : Begins known home caller opened
-  pub cut : IsCutShort (stood_for known) (Steps goes) (stood_for known ended) opened ended x y Takes
+  pub begins : Begins known home does caller opened
+  pub cut : IsCutShort (stood_for known) (Steps goes does) (stood_for known ended) opened ended x y Takes
   pub back_is : back ≡ ended.caller
 
--- Without a greeting nothing is read, and nothing written.
-abbrev pub IsCutOver : {C : Type 0} → (C → Known) → (C → ℕ) → (C → Call → Answer → C → Type 0) → C → C → Both → Both
+-- Where the greeting failed nothing was read, and nothing written.
+pub record IsUngreeted {C : Type 0} (does : Doing C) (caller back : C) (x y : Both) : Type 0 where
+  pub error : StoreError
+  pub failed : does caller request.Hello (Err error) back
+  pub same : y ≡ x
+
+-- one or the other
+abbrev pub IsCutOver : {C : Type 0} → (C → Known) → (C → ℕ) → (C → Call → Answer → C → Type 0) → Doing C → C → C → Both → Both
     → (List Told → Outgoing → Outgoing → Type 0) → Type 0
-IsCutOver known home goes caller back x y Takes = IsHeldShort known home goes caller back x y Takes ⊎ (y ≡ x)
+IsCutOver known home goes does caller back x y Takes =
+    IsHeldShort known home goes does caller back x y Takes ⊎ IsUngreeted does caller back x y
 
 -- WHAT A SESSION OVER A CALLER PROMISES: all that a session over a link to its own store does, but that its client has greeted first. At
 -- 6 the caller has counted a fault.
-abbrev pub KeepsOver : {C : Type 0} → (C → Known) → (C → ℕ) → (C → Call → Answer → C → Type 0) → C → C → ℕ → Both → Both → Type 0
-KeepsOver known home goes caller back status x y =
-    Promises (IsHeld known home goes caller back x y) (IsCutOver known home goes caller back x y) (known caller) (known back) status x y
+abbrev pub KeepsOver : {C : Type 0} → (C → Known) → (C → ℕ) → (C → Call → Answer → C → Type 0) → Doing C → C → C → ℕ → Both → Both → Type 0
+KeepsOver known home goes does caller back status x y =
+    Promises (IsHeld known home goes does caller back x y) (IsCutOver known home goes does caller back x y) (known caller) (known back) status x y
 
 -- the status of a session whose client isn't greeted
 abbrev pub failure : StoreError → ℕ

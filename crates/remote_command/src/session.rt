@@ -28,7 +28,7 @@ fn serve_named<'a, 'b, S: Source, W: Sink, C: Caller, N: Naming>(
     requires new { IsNew (stood_for C.known remote.old) }
     ensures same_source { result.1.0.ghost_name ≡ source.entry.ghost_name }
     ensures same_sink { result.1.1.ghost_name ≡ sink.entry.ghost_name }
-    ensures promises { KeepsPromises (stood_for C.known) (Steps C.goes) result.0 remote.old remote.new
+    ensures promises { KeepsPromises (stood_for C.known) (Steps C.goes C.does) result.0 remote.old remote.new
         (ends S.Source W.Sink source.old sink.old) (ends S.Source W.Sink result.1.0.now result.1.1.now) }
     ensures home { C.home remote.new.caller ≡ C.home remote.old.caller }
 {
@@ -45,7 +45,7 @@ fn serve_remote<S: Source, W: Sink, C: Caller>(
     sink: &mut W,
 ) -> u8
     requires new { IsNew (stood_for C.known remote.old) }
-    ensures promises { KeepsPromises (stood_for C.known) (Steps C.goes) result remote.old remote.new
+    ensures promises { KeepsPromises (stood_for C.known) (Steps C.goes C.does) result remote.old remote.new
         (ends S.Source W.Sink source.old sink.old) (ends S.Source W.Sink source.new sink.new) }
     ensures home { C.home remote.new.caller ≡ C.home remote.old.caller }
 {
@@ -85,7 +85,7 @@ pub fn run_over<S: Source, W: Sink, C: Caller>(
     caller: C,
 ) -> (C, u8)
     requires untold { (C.known caller).journal ≡ None }
-    ensures promises { KeepsOver C.known C.home C.goes caller result.0 result.1
+    ensures promises { KeepsOver C.known C.home C.goes C.does caller result.0 result.1
         (ends S.Source W.Sink source.old sink.old) (ends S.Source W.Sink source.new sink.new) }
     ensures home { C.home result.0 ≡ C.home caller }
 {

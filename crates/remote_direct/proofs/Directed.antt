@@ -22,7 +22,7 @@ use Rattle.remote_service.specs.declared.service.Service.{Service}
 use Rattle.remote_service.specs.Malformed.{Meaning, meaning, meaning_if, meaning_in}
 use Rattle.remote_service.specs.Serving.{Serves, Served, Greeted, IsUnchanged, WasMade, ByCall, Answered, IsRefused, MadeCall, HasFailed, HasStalled}
 use Rattle.remote_service.specs.Serving as serving
-use Rattle.remote_direct.specs.Directing.{Beside, known_at, known_beside, Tells, IsBeside, Through, goes_beside, HasStopped, IsTold}
+use Rattle.remote_direct.specs.Directing.{Beside, known_at, known_beside, Tells, IsBeside, Through, goes_beside, does_beside, IsTold}
 use Rattle.remote_direct.specs.code.Telling.{ReadsBack, TellsAs}
 use Rattle.remote_direct.specs.Laws.{IsSameCall}
 use Rattle.remote_direct.proofs.Meaning.{means, never}
@@ -48,6 +48,11 @@ module _ {B : Type 0} (known : B → Known) (goes : B → Call → Answer → B 
   if-whole : (s : Service) (l : Known) → Tells l → IfSome l.journal (IsWhole (known_at l s))
   if-whole s l tells = subst (λ (o : Option Journal). IfSome o (IsWhole (known_at l s))) (sym tells.told)
       (record { legal = tells.whole.legal; within = tells.whole.within })
+
+  -- what is so is so where a journal is told
+  if-some : {P : Type 0} (o : Option Journal) → P → IfSome o (λ journal. P)
+  if-some None h = tt
+  if-some (Some journal) h = h
 
   -- ---- a call
 
@@ -111,6 +116,7 @@ module _ {B : Type 0} (known : B → Known) (goes : B → Call → Answer → B 
           (
             ap (known_beside known) same,
             if-whole t (known d) (subst (λ (x : B). Tells (known x)) (sym h.backend) beside.tells),
+            if-some (known b).journal (ap (known_beside known) same),
           ),
         )) h.fits
     replies asked w h = call-answers asked w h
@@ -208,8 +214,12 @@ module _ {B : Type 0} (known : B → Known) (goes : B → Call → Answer → B 
       module _ (spelled : bytes ≡ request_bytes asked) where
         -- what was done where no answer is read back
         pub told-stopped : (told : List ℕ) (result : Result WireAnswer StoreError) → Answered known goes s b bytes t d told → ReadsBack asked told result
-            → HasStopped known goes old asked result new
-        told-stopped told (Ok w) h reads = tt
+            → does_beside known goes old asked result new
+        told-stopped told (Ok w) h reads =
+            let x = told-of told h in
+            let both : Some x.answer ≡ Some w = sym x.again ∙ reads in
+            let is : x.answer ≡ w = cc in
+            subst (λ (v : WireAnswer). serving.IsAnswered known goes s b asked v t d) is x.answered
         told-stopped told (Err store_error.Fault) h reads = absurd (cc)
         told-stopped told (Err store_error.NoMemory) h reads = let x = told-of told h in
             subst (λ (xs : List ℕ). HasStalled known goes s b xs t d) spelled (made-of x.answer x.answered)
@@ -217,9 +227,9 @@ module _ {B : Type 0} (known : B → Known) (goes : B → Call → Answer → B 
         -- and where the service has none
         pub failed-stopped : (e : ServiceError) (x : StoreError) → TellsAs e x
             → (failing e ≡ failing error.StoreFault → HasFailed known goes s b bytes d)
-            → (failing e ≡ failing error.NoMemory → HasStalled known goes s b bytes t d) → HasStopped known goes old asked (Err x) new
-        failed-stopped error.StoreFault x tells failed stalled = subst (λ (y : StoreError). HasStopped known goes old asked (Err y) new) (sym tells)
+            → (failing e ≡ failing error.NoMemory → HasStalled known goes s b bytes t d) → does_beside known goes old asked (Err x) new
+        failed-stopped error.StoreFault x tells failed stalled = subst (λ (y : StoreError). does_beside known goes old asked (Err y) new) (sym tells)
             (subst (λ (xs : List ℕ). HasFailed known goes s b xs d) spelled (failed refl))
-        failed-stopped error.NoMemory x tells failed stalled = subst (λ (y : StoreError). HasStopped known goes old asked (Err y) new) (sym tells)
+        failed-stopped error.NoMemory x tells failed stalled = subst (λ (y : StoreError). does_beside known goes old asked (Err y) new) (sym tells)
             (subst (λ (xs : List ℕ). HasStalled known goes s b xs t d) spelled (stalled refl))
         failed-stopped error.Malformed x tells failed stalled = absurd tells

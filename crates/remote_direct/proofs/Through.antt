@@ -5,12 +5,12 @@ use Rattle.docc_prepare.specs.Backends.{IsAnswered, Goes}
 use Rattle.call_programs.specs.Programs.{Program, Leads, Performs, Succeeds}
 use Rattle.call_programs.proofs.Programs.{leads_over, stops_over}
 use Rattle.remote_client.specs.Standing.{Standing, stood_for, Steps}
-use Rattle.remote_direct.specs.Directing.{Beside, known_beside, goes_beside}
+use Rattle.remote_direct.specs.Directing.{Beside, known_beside, goes_beside, does_beside}
 use Rattle.remote_direct.specs.Laws.{Takes, SessionsGoThrough}
 
 module _ {B : Type 0} (known : B → Known) (goes : B → Call → Answer → B → Type 0) where
   -- an answered call is a step of the backend, and one that failed leaves it
-  taken : (r s : Standing (Beside B)) (c : Call) (a : Answer) → Goes (stood_for (known_beside known)) (Steps (goes_beside known goes)) r c a s
+  taken : (r s : Standing (Beside B)) (c : Call) (a : Answer) → Goes (stood_for (known_beside known)) (Steps (goes_beside known goes) (does_beside known goes)) r c a s
       → Takes known goes r.stood.backend c a s.stood.backend
   taken r s c (Answer.failed by_fault) h = ap (λ (d : Beside B). d.backend) h.step.stood
   taken r s c a h = h.step.step
@@ -29,7 +29,7 @@ module _ {B : Type 0} (known : B → Known) (goes : B → Call → Answer → B 
   sessions-go-through A T E = record { performs = performs; answered = λ b d p q led. leads led }
     where
       performs : (fault : E) (r s : Standing (Beside B)) (p : Program A) (result : Result T E) (give : T → A)
-          → Performs (Goes (stood_for (known_beside known)) (Steps (goes_beside known goes))) fault r p result give s
+          → Performs (Goes (stood_for (known_beside known)) (Steps (goes_beside known goes) (does_beside known goes))) fault r p result give s
           → Performs (Takes known goes) fault r.stood.backend p result give s.stood.backend
       performs fault r s p (Ok x) give led = leads_over (λ (r : Standing (Beside B)). r.stood.backend) taken led
       performs fault r s p (Err e) give stop = stops_over (λ (r : Standing (Beside B)). r.stood.backend) taken stop

@@ -1,11 +1,10 @@
 -- A service beside its backend: what the two stand for, and by what the calls of a client go that asks them.
-use Rattle.std.specs.Prelude.{◌≡◌, ℕ, Bool, true, false, ◌&&◌, ◌==◌, List, [], ◌∷◌, Some, Result, Ok, Err, refl}
+use Rattle.std.specs.Prelude.{◌≡◌, ℕ, Bool, true, false, ◌&&◌, ◌==◌, List, [], ◌∷◌, Some, Ok, Err, refl}
 use Rattle.std.specs.List.{list_any}
 use Rattle.abort_witness.specs.declared.witness.Based.{Based}
 use Rattle.txn_lang.specs.States.{Journal}
 use Rattle.journal_core.specs.declared.ready.PreparedFront.{PreparedFront}
 use Rattle.journal_core.specs.declared.ready.Ready.{Ready}
-use Rattle.docc_prepare.specs.declared.backend.StoreError.{StoreError}
 use Rattle.docc_prepare.specs.declared.backend.StoreError.TheVariants as store_error
 use Rattle.docc_prepare.specs.Calls.{Known, Call, Answer}
 use Rattle.docc_prepare.specs.Backends.{IsAnswered, Goes}
@@ -13,11 +12,12 @@ use Rattle.remote_wire.specs.declared.request.Request.{Request}
 use Rattle.remote_wire.specs.declared.answer.WireAnswer.{WireAnswer}
 use Rattle.remote_wire.specs.Spelling.{request_bytes}
 use Rattle.remote_wire.specs.Answers.{answer_in}
-use Rattle.remote_calls.specs.Calling.{IsWhole}
+use Rattle.remote_calls.specs.Calling.{IsWhole, Doing}
 use Rattle.remote_service.specs.declared.kept.KeptFront.{KeptFront}
 use Rattle.remote_service.specs.declared.service.Service.{Service}
 use Rattle.remote_service.specs.Keeping.{was_given, is_front_of}
 use Rattle.remote_service.specs.Serving.{Serves, HasFailed, HasStalled}
+use Rattle.remote_service.specs.Serving as serving
 
 -- A SERVICE BESIDE ITS BACKEND.
 pub record Beside (B : Type 0) : Type 0 where
@@ -76,12 +76,12 @@ Through known goes b c a d = Goes known goes b c a d
 abbrev pub goes_beside : {B : Type 0} → (B → Known) → (B → Call → Answer → B → Type 0) → Beside B → Call → Answer → Beside B → Type 0
 goes_beside known goes d c a e = Through known goes d.backend c a e.backend
 
--- WHERE THERE IS NO ANSWER, nothing was done, or the one call was made that the request means; and the backend failed by a fault exactly
--- where that is told.
-abbrev pub HasStopped : {B : Type 0} → (B → Known) → (B → Call → Answer → B → Type 0) → Beside B → Request → Result WireAnswer StoreError → Beside B → Type 0
-HasStopped known goes d asked (Ok answer) e = Unit {0}
-HasStopped known goes d asked (Err store_error.Fault) e = HasFailed known goes d.service d.backend (request_bytes asked) e.backend
-HasStopped known goes d asked (Err store_error.NoMemory) e = HasStalled known goes d.service d.backend (request_bytes asked) e.service e.backend
+-- WHAT A REQUEST DOES: a greeting is answered by no call, and any other request by the one call that it means. Where there is no answer,
+-- nothing was done, or that call was made; and the backend failed by a fault exactly where that is told.
+abbrev pub does_beside : {B : Type 0} → (B → Known) → (B → Call → Answer → B → Type 0) → Doing (Beside B)
+does_beside known goes d asked (Ok answer) e = serving.IsAnswered known goes d.service d.backend asked answer e.service e.backend
+does_beside known goes d asked (Err store_error.Fault) e = HasFailed known goes d.service d.backend (request_bytes asked) e.backend
+does_beside known goes d asked (Err store_error.NoMemory) e = HasStalled known goes d.service d.backend (request_bytes asked) e.service e.backend
 
 -- ---- bytes
 

@@ -11,7 +11,7 @@ use Rattle.remote_calls.specs.Calling.{CanAsk}
 use Rattle.remote_service.specs.declared.service.Service.{Service}
 use Rattle.remote_service.specs.Malformed.{Meaning, meaning}
 use Rattle.remote_client.specs.Standing.{Standing, stood_for, Steps}
-use Rattle.remote_direct.specs.Directing.{Beside, known_at, known_beside, IsBeside, with_fronts, Through, goes_beside}
+use Rattle.remote_direct.specs.Directing.{Beside, known_at, known_beside, IsBeside, with_fronts, Through, goes_beside, does_beside}
 
 -- ---- what requests mean
 
@@ -44,7 +44,7 @@ Takes known goes b c a d = Through known goes b c a d
 -- whatever such answers explain, its journal does.
 pub record SessionsGoThrough {B : Type 0} (known : B → Known) (goes : B → Call → Answer → B → Type 0) (A T E : Type 0) : Type 0 where
   pub performs : (fault : E) (r s : Standing (Beside B)) (p : Program A) (result : Result T E) (give : T → A)
-      → Performs (Goes (stood_for (known_beside known)) (Steps (goes_beside known goes))) fault r p result give s
+      → Performs (Goes (stood_for (known_beside known)) (Steps (goes_beside known goes) (does_beside known goes))) fault r p result give s
       → Performs (Takes known goes) fault r.stood.backend p result give s.stood.backend
   pub answered : (b d : B) (p q : Program A) → Leads (Takes known goes) b p d q → Leads IsAnswered (known b) p (known d) q
 

@@ -3,7 +3,7 @@
 ghost use Rattle.std.specs.Prelude.{◌≡◌};
 ghost use Rattle.remote_calls.specs.Calling.{CanAsk, IsReplied};
 ghost use Rattle.remote_service.specs.Serving.{Serves};
-ghost use Rattle.remote_direct.specs.Directing.{Tells, known_beside, goes_beside, HasStopped};
+ghost use Rattle.remote_direct.specs.Directing.{Tells, known_beside, goes_beside, does_beside};
 
 use crate::telling::{error_of, read_back};
 use docc_prepare::{StoreError, Waiter};
@@ -70,13 +70,15 @@ impl<B: Waiter> Caller for Direct<B> {
 
     ghost goes = { λ d c a e. goes_beside B.known B.goes d c a e };
 
+    ghost does = { λ d asked result e. does_beside B.known B.goes d asked result e };
+
     fn call(&mut self, request: &Request) -> Result<WireAnswer, StoreError>
         requires { CanAsk (known_beside B.known self.old) request.now }
         ensures replied { IsReplied (known_beside B.known) (goes_beside B.known B.goes) self.old request.now result self.new }
         ensures home { B.home self.new.backend ≡ B.home self.old.backend }
 
-        // What was done at the backend, where there is no answer.
-        ensures stopped { HasStopped B.known B.goes self.old request.now result self.new }
+        // What was done at the backend, and by which call.
+        ensures asked { does_beside B.known B.goes self.old request.now result self.new }
     {
         let Ok(spelled) = encode_request(self.alloc, request) else {
             return Err(StoreError::NoMemory);

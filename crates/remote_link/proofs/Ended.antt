@@ -15,13 +15,14 @@ use Rattle.remote_wire.specs.declared.answer.WireAnswer.{WireAnswer}
 use Rattle.remote_wire.specs.Answers.{IsAnswerTo}
 use Rattle.remote_calls.specs.Spelled.{request_for, answered_by}
 use Rattle.remote_calls.specs.Calling.{Answers, Replies, Greets, IsReplied}
-use Rattle.remote_link.specs.Exchanging.{IsSound, Exchanges}
+use Rattle.remote_link.specs.Exchanging.{IsSound, TakesPart, Exchanges}
 use Rattle.remote_link.specs.Linking.{Linked, known_at, linked_behind, IsNoLess}
 use Rattle.remote_link.specs.Kept.{Kept, linked_of, one_fault_more}
 use Rattle.remote_link.specs.Ends.{LinkEnd, stands, by_link, IsAnswered, Asks, KeepsAnswer, hands}
 use Rattle.remote_link.specs.Table.{IsAnswer}
 use Rattle.remote_link.proofs.Rows.{in_table}
 use Rattle.remote_link.proofs.Linked.{links_answer}
+use Rattle.remote_link.proofs.Parts.{all_taken}
 
 -- what goes back behind nothing that was answered goes back behind nothing that is seen
 less_yet : (asked : Request) (seen last now : ℕ) → seen ≤ last → IsNoLess asked last now → IsNoLess asked seen now
@@ -55,7 +56,7 @@ end_answers side asked said old new up is = record {
 -- a greeting says who the client is
 greets : (old new : Kept) (seen : ℕ) (g : Given) → IsAnswer request.Hello seen g
     → linked_of new ≡ linked_behind (linked_of old) request.Hello (record { seen = seen; given = g }) → Greets (stands old) seen g (stands new)
-greets old new seen (given.Hello client shards) is kept = (ap known_at kept, tt)
+greets old new seen (given.Hello client shards) is kept = (ap known_at kept, tt, tt)
 greets old new seen g is kept = absurd is
 
 end_replies : {K : Type 0} (side : K → Both) (asked : Request) (said : WireAnswer) (old new : LinkEnd K) → old.kept.seen ≤ old.last
@@ -104,6 +105,8 @@ asks_answer {A} {K} side asked said link (Err store_error.Fault) old new unbroke
     }))
 asks_answer {A} {K} side asked said link (Err store_error.NoMemory) old new unbroken found exchanged keeps = record {
   sound = subst (λ (k : K). IsSound (side old.link) (side k)) (sym (ap (λ (e : LinkEnd K). e.link) keeps)) exchanged.sound;
+  part = subst (λ (k : K). TakesPart asked (side old.link) (side k)) (sym (ap (λ (e : LinkEnd K). e.link) keeps))
+      (all_taken _ _ _ exchanged.took.taken);
   unbroken = (unbroken, ap (λ (e : LinkEnd K). e.broken) keeps ∙ unbroken);
   lost = ap (λ (e : LinkEnd K). e.lost) keeps;
   kept = ap (λ (e : LinkEnd K). e.kept) keeps;

@@ -9,7 +9,7 @@ use Rattle.remote_wire.specs.declared.answer.WireAnswer.{WireAnswer}
 use Rattle.remote_calls.specs.Spelled.{request_for, answered_by}
 use Rattle.remote_link.specs.declared.exchange.Failure.{Failure}
 use Rattle.remote_link.specs.declared.exchange.Failure.TheVariants as failure
-use Rattle.remote_link.specs.Exchanging.{HasFailed, IsSound, Exchanges, Misanswers}
+use Rattle.remote_link.specs.Exchanging.{HasFailed, IsSound, TakesPart, Exchanges, Misanswers}
 use Rattle.remote_link.specs.Linking.{known_at, IsNoLess}
 use Rattle.remote_link.specs.Kept.{Kept, nothing_kept, linked_of, one_fault_more, TakesIn}
 
@@ -56,9 +56,10 @@ pub record StaysBroken {K : Type 0} (old new : LinkEnd K) : Type 0 where
   pub broken : old.broken ≡ true
   pub same : new ≡ record old { kept = one_fault_more old.kept; lost = true }
 
--- The link failed.
-pub record LinkFails {K : Type 0} (side : K → Both) (old new : LinkEnd K) : Type 0 where
+-- The link failed, and took a part of the request's frame.
+pub record LinkFails {K : Type 0} (side : K → Both) (asked : Request) (old new : LinkEnd K) : Type 0 where
   pub failed : HasFailed (side old.link) (side new.link)
+  pub part : TakesPart asked (side old.link) (side new.link)
   pub unbroken : (old.broken ≡ false) × (new.broken ≡ false)
   pub same : new ≡ record old { link = new.link; kept = one_fault_more old.kept; lost = true }
 
@@ -68,9 +69,11 @@ pub record Breaks {K : Type 0} (side : K → Both) (asked : Request) (old new : 
   pub broken : (old.broken ≡ false) × (new.broken ≡ true)
   pub same : new ≡ record old { link = new.link; kept = one_fault_more old.kept; lost = true; broken = true }
 
--- Memory was wanting, in this call or an earlier one, or an earlier one has failed. Nothing is kept but that.
-pub record IsLost {K : Type 0} (side : K → Both) (old new : LinkEnd K) : Type 0 where
+-- Memory was wanting, in this call or an earlier one, or an earlier one has failed. Nothing is kept but that, and the link took a
+-- part of the request's frame.
+pub record IsLost {K : Type 0} (side : K → Both) (asked : Request) (old new : LinkEnd K) : Type 0 where
   pub sound : IsSound (side old.link) (side new.link)
+  pub part : TakesPart asked (side old.link) (side new.link)
   pub unbroken : (old.broken ≡ false) × (new.broken ≡ false)
   pub lost : new.lost ≡ true
   pub kept : new.kept ≡ old.kept
@@ -80,10 +83,14 @@ pub record IsLost {K : Type 0} (side : K → Both) (old new : LinkEnd K) : Type 
 -- and the end breaks only for what the link gave.
 abbrev pub Asks : {K : Type 0} → (K → Both) → Request → Result WireAnswer StoreError → LinkEnd K → LinkEnd K → Type 0
 Asks side asked (Ok said) old new = IsAnswered side asked said old new
-Asks side asked (Err store_error.Fault) old new = StaysBroken old new ⊎ (LinkFails side old new ⊎ Breaks side asked old new)
-Asks side asked (Err store_error.NoMemory) old new = IsLost side old new
+Asks side asked (Err store_error.Fault) old new = StaysBroken old new ⊎ (LinkFails side asked old new ⊎ Breaks side asked old new)
+Asks side asked (Err store_error.NoMemory) old new = IsLost side asked old new
 
--- ---- the relation by which calls go
+-- ---- the relations by which requests and calls go
+
+-- A REQUEST OVER A LINK: what it does to the end, by what comes of it
+abbrev pub does_over : {K : Type 0} → (K → Both) → LinkEnd K → Request → Result WireAnswer StoreError → LinkEnd K → Type 0
+does_over side old asked result new = Asks side asked result old new
 
 -- A CALL OVER A LINK: the link took the frame of the request that spells it, and gave the frame of an answer that says this.
 pub record GoesOver (c : Call) (a : Answer) (old new : Both) : Type 0 where

@@ -5,7 +5,7 @@ use Rattle.dio_core.specs.declared.source.Source.{Ghosts as SourceTells}
 use Rattle.dio_core.specs.Counts.{Rose}
 use Rattle.dio_core.specs.Links.{Both, incoming, outgoing}
 use Rattle.dio_core.specs.Sources.{with_prefix}
-use Rattle.dio_core.specs.Sinks.{with_more, IsPassedOn}
+use Rattle.dio_core.specs.Sinks.{with_more, TakesPrefix, IsPassedOn}
 use Rattle.wire_frames.specs.Frames.{frame, IsAtEnd, IsBroken}
 use Rattle.remote_wire.specs.declared.answer_limits.TheConstants.{LONGEST_ANSWER}
 use Rattle.remote_wire.specs.declared.request.Request.{Request}
@@ -37,6 +37,10 @@ pub record TakesRequest (asked : Request) (old new : Both) : Type 0 where
   pub taken : new.outwards.taken ≡ with_more old.outwards.taken (frame (request_bytes asked))
   pub passed : IsPassedOn new.outwards.taken new.outwards.passed
 
+-- the link took a part of the frame of a request: none of it, some, or all
+abbrev pub TakesPart : Request → Both → Both → Type 0
+TakesPart asked old new = TakesPrefix (frame (request_bytes asked)) old.outwards.taken new.outwards.taken
+
 -- A REQUEST IS ANSWERED: the link took exactly its frame and gave exactly the frame of this answer, and neither count rose.
 pub record Exchanges (asked : Request) (said : WireAnswer) (old new : Both) : Type 0 where
   pub answers : IsAnswerTo asked said
@@ -61,9 +65,9 @@ pub record Misanswers (asked : Request) (old new : Both) : Type 0 where
   pub gave : GivesNoAnswer asked old.inwards.left new.inwards.left
   pub sound : IsSound old new
 
--- WHAT ONE EXCHANGE DID.
+-- WHAT ONE EXCHANGE DID. Where the link failed, or memory was wanting, it took a part of the request's frame.
 abbrev pub Exchanged : Request → Result WireAnswer Failure → Both → Both → Type 0
 Exchanged asked (Ok said) old new = Exchanges asked said old new
-Exchanged asked (Err failure.Link) old new = HasFailed old new
+Exchanged asked (Err failure.Link) old new = HasFailed old new × TakesPart asked old new
 Exchanged asked (Err failure.Broken) old new = Misanswers asked old new
-Exchanged asked (Err failure.NoMemory) old new = IsSound old new
+Exchanged asked (Err failure.NoMemory) old new = IsSound old new × TakesPart asked old new

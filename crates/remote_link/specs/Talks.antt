@@ -1,5 +1,5 @@
 -- The talk over a link: requests, each with its answer, in order.
-use Rattle.std.specs.Prelude.{◌≡◌, ℕ, List, [], ◌∷◌, ◌++◌, map, refl}
+use Rattle.std.specs.Prelude.{◌≡◌, ℕ, List, [], ◌∷◌, ◌++◌, map, Option, Some, None, refl}
 use Rattle.dio_core.specs.Links.{Both}
 use Rattle.dio_core.specs.Sources.{with_prefix}
 use Rattle.dio_core.specs.Sinks.{with_more}
@@ -10,7 +10,7 @@ use Rattle.remote_wire.specs.declared.answer.Given.TheVariants as given
 use Rattle.remote_wire.specs.declared.answer.WireAnswer.{WireAnswer}
 use Rattle.remote_wire.specs.Spelling.{request_bytes}
 use Rattle.remote_wire.specs.AnswerSpelling.{answer_bytes}
-use Rattle.remote_link.specs.Exchanging.{IsSound, Exchanges}
+use Rattle.remote_link.specs.Exchanging.{IsSound, TakesPart, Exchanges}
 
 abbrev pub Talk : Type 0
 Talk = List (Request × WireAnswer)
@@ -35,6 +35,18 @@ pub record HasTalked (talk : Talk) (old new : Both) : Type 0 where
   pub taken : new.outwards.taken ≡ with_more old.outwards.taken (asked_in talk)
   pub gave : old.inwards.left ≡ with_prefix (said_in talk) new.inwards.left
   pub sound : IsSound old new
+
+-- behind a talk nothing went over the link, or of one request more a part of its frame was taken
+abbrev pub TakesNext : Option Request → Both → Both → Type 0
+TakesNext None old new = new ≡ old
+TakesNext (Some asked) old new = TakesPart asked old new
+
+-- A TALK WAS CUT SHORT: the link took the frames of its requests and gave those of their answers, and then took a part at most of one
+-- frame more. So of the frames of all these requests it took a prefix.
+pub record HasTalkedShort (talk : Talk) (next : Option Request) (old new : Both) : Type 0 where
+  pub there : Both
+  pub talked : HasTalked talk old there
+  pub behind : TakesNext next there new
 
 -- A law: a talk begins with nothing, and goes on by each request that is answered.
 pub record TalksGoOn : Type 0 where

@@ -4,7 +4,7 @@ ghost use Rattle.std.specs.Prelude.{◌≡◌, ◌≤◌, length, not};
 ghost use Rattle.std.specs.Bool.{OnTrue};
 ghost use Rattle.dio_core.specs.Counts.{IsCounted};
 ghost use Rattle.dio_core.specs.Links.{incoming, outgoing};
-ghost use Rattle.dio_core.specs.Sinks.{with_more, IsPassedOn};
+ghost use Rattle.dio_core.specs.Sinks.{with_more, TakesPrefix, IsPassedOn};
 ghost use Rattle.wire_frames.specs.Frames.{frame, TakesFrame, frame_failed};
 ghost use Rattle.remote_wire.specs.declared.limits.TheConstants.{LONGEST_REQUEST};
 ghost use Rattle.remote_wire.specs.declared.answer_limits.TheConstants.{LONGEST_ANSWER};
@@ -69,6 +69,7 @@ impl From<WireError> for Failure {
 }
 
 /// Writes the frame of a request, and reads a frame that is an answer to it.
+#[tactic(auto, using(crate::proofs::Parts::none_taken, crate::proofs::Parts::all_taken))]
 pub fn exchange<K: End>(
     alloc: Global,
     link: &mut K,
@@ -90,6 +91,7 @@ pub fn exchange<K: End>(
 fn send<K: End>(link: &mut K, bytes: &[u8]) -> bool
     requires short { length bytes.now ≤ LONGEST_REQUEST }
     ensures taken { OnTrue result (K.taken link.new ≡ with_more (K.taken link.old) (frame bytes.now)) }
+    ensures prefix { TakesPrefix (frame bytes.now) (K.taken link.old) (K.taken link.new) }
     ensures passed { OnTrue result (IsPassedOn (K.taken link.new) (K.passed link.new)) }
     ensures writes { IsCounted (not result) (K.write_faults link.old) (K.write_faults link.new) }
     ensures incoming { incoming (K.left link.new) (K.read_faults link.new) ≡ incoming (K.left link.old) (K.read_faults link.old) }

@@ -6,7 +6,7 @@ ghost use Rattle.remote_wire.specs.Answers.{IsAnswerTo};
 ghost use Rattle.remote_calls.specs.Calling.{IsReplied};
 ghost use Rattle.remote_link.specs.Exchanging.{sides};
 ghost use Rattle.remote_link.specs.Linking.{IsNoLess};
-ghost use Rattle.remote_link.specs.Ends.{LinkEnd, new_end, stands, by_link, Asks, Fails, KeepsAnswer, hands};
+ghost use Rattle.remote_link.specs.Ends.{LinkEnd, new_end, stands, by_link, does_over, Asks, Fails, KeepsAnswer, hands};
 
 use crate::exchange::{Failure, exchange};
 use crate::standing::Standing;
@@ -131,6 +131,9 @@ impl<K: End> Caller for LinkCaller<K> {
 
     ghost goes = { by_link (sides K.Source K.Sink) };
 
+    ghost does = { does_over (sides K.Source K.Sink) };
+
+    #[tactic(auto, using(crate::proofs::Parts::none_taken))]
     fn call(&mut self, request: &Request) -> Result<WireAnswer, StoreError>
         ensures replied { IsReplied (λ c. stands c.kept) (by_link (sides K.Source K.Sink)) self.old request.now result self.new }
 

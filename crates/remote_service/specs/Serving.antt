@@ -13,6 +13,7 @@ use Rattle.journal_core.specs.declared.ready.PreparedFront.{PreparedFront}
 use Rattle.docc_prepare.specs.Attempts.{SnapFits, FrontFits}
 use Rattle.docc_prepare.specs.Calls.{Known, Call, Answer, is_fault}
 use Rattle.docc_prepare.specs.Backends.{IsGiven, CanCall, Goes}
+use Rattle.remote_wire.specs.declared.request.Base.{Base}
 use Rattle.remote_wire.specs.declared.request.Request.{Request}
 use Rattle.remote_wire.specs.declared.request.Request.TheVariants as request
 use Rattle.remote_wire.specs.declared.answer.Given.{Given}
@@ -27,7 +28,8 @@ use Rattle.remote_service.specs.declared.error.ServiceError.TheVariants as error
 use Rattle.remote_service.specs.declared.kept.KeptSnap.{KeptSnap}
 use Rattle.remote_service.specs.declared.kept.KeptFront.{KeptFront}
 use Rattle.remote_service.specs.declared.service.Service.{Service}
-use Rattle.remote_service.specs.Malformed.{Meaning, meaning, meaning_in, IsMalformed}
+use Rattle.remote_service.specs.Anew.{made_anew}
+use Rattle.remote_service.specs.Malformed.{Meaning, meaning, appending, meaning_in, IsMalformed}
 
 -- ---- what is kept
 
@@ -144,6 +146,18 @@ Responds known goes s b asked Meaning.malformed (Err error.Malformed) t d = IsUn
 Responds known goes s b asked Meaning.malformed (Err error.NoMemory) t d = IsUnchanged s b t d
 Responds known goes s b asked Meaning.greeting (Err error.NoMemory) t d = IsUnchanged s b t d
 Responds known goes s b asked m result t d = ⊥
+
+-- WHAT A SERVICE MAKES OF A REQUEST: it is answered by what it means to the service as it is.
+abbrev pub Does : {B : Type 0} → (B → Known) → (B → Call → Answer → B → Type 0)
+    → Service → B → Request → Result WireAnswer ServiceError → Service → B → Type 0
+Does known goes s b asked result t d = Responds known goes s b asked (meaning s (known b) asked) result t d
+
+-- of an append whose place is the next: by its body, run anew
+abbrev pub AppendsAnew : {B : Type 0} → (B → Known) → (B → Call → Answer → B → Type 0)
+    → Service → B → List ℕ → List Base → Result WireAnswer ServiceError → Service → B → Type 0
+AppendsAnew known goes s b body named result t d =
+    Responds known goes s b (request.Append s.seq body named)
+    (appending (made_anew s (known b).client (known b).shards body named)) result t d
 
 -- ---- over bytes
 

@@ -1,10 +1,8 @@
 //! Requests answered by calls of the backend.
 
 ghost use Rattle.std.specs.Prelude.{◌≡◌};
-ghost use Rattle.remote_wire.specs.declared.request.Request.TheVariants as asks;
-ghost use Rattle.remote_service.specs.Anew as anew;
-ghost use Rattle.remote_service.specs.Malformed.{meaning, appending};
-ghost use Rattle.remote_service.specs.Serving.{Serves, Responds};
+ghost use Rattle.remote_wire.specs.declared.request.Request.TheVariants as ask;
+ghost use Rattle.remote_service.specs.Serving.{Serves, Does, AppendsAnew};
 
 use crate::error::ServiceError;
 use crate::handing::Whose;
@@ -22,7 +20,7 @@ impl Service {
     /// Answers a greeting.
     fn greet<B: Waiter>(&mut self, backend: &mut B) -> Result<WireAnswer, ServiceError>
         requires serves { Serves self.old (B.known backend.old) }
-        ensures responds { Responds B.known B.goes self.old backend.old asks.Hello (meaning self.old (B.known backend.old) asks.Hello) result self.new backend.new }
+        ensures responds { Does B.known B.goes self.old backend.old ask.Hello result self.new backend.new }
         ensures serves { Serves self.new (B.known backend.new) }
         ensures home { B.home backend.new ≡ B.home backend.old }
     {
@@ -33,7 +31,7 @@ impl Service {
     /// Answers a refresh.
     fn refresh<B: Waiter>(&mut self, backend: &mut B) -> Result<WireAnswer, ServiceError>
         requires serves { Serves self.old (B.known backend.old) }
-        ensures responds { Responds B.known B.goes self.old backend.old asks.Refresh (meaning self.old (B.known backend.old) asks.Refresh) result self.new backend.new }
+        ensures responds { Does B.known B.goes self.old backend.old ask.Refresh result self.new backend.new }
         ensures serves { Serves self.new (B.known backend.new) }
         ensures home { B.home backend.new ≡ B.home backend.old }
     {
@@ -47,7 +45,7 @@ impl Service {
         address: &Address,
     ) -> Result<WireAnswer, ServiceError>
         requires serves { Serves self.old (B.known backend.old) }
-        ensures responds { Responds B.known B.goes self.old backend.old (asks.Read address.now) (meaning self.old (B.known backend.old) (asks.Read address.now)) result self.new backend.new }
+        ensures responds { Does B.known B.goes self.old backend.old (ask.Read address.now) result self.new backend.new }
         ensures serves { Serves self.new (B.known backend.new) }
         ensures home { B.home backend.new ≡ B.home backend.old }
     {
@@ -66,7 +64,7 @@ impl Service {
         observed: &BasedList,
     ) -> Result<WireAnswer, ServiceError>
         requires serves { Serves self.old (B.known backend.old) }
-        ensures responds { Responds B.known B.goes self.old backend.old (asks.Prepare shard observed.now) (meaning self.old (B.known backend.old) (asks.Prepare shard observed.now)) result self.new backend.new }
+        ensures responds { Does B.known B.goes self.old backend.old (ask.Prepare shard observed.now) result self.new backend.new }
         ensures serves { Serves self.new (B.known backend.new) }
         ensures home { B.home backend.new ≡ B.home backend.old }
     {
@@ -92,7 +90,7 @@ impl Service {
         named: &BaseList,
     ) -> Result<WireAnswer, ServiceError>
         requires serves { Serves self.old (B.known backend.old) }
-        ensures responds { Responds B.known B.goes self.old backend.old (asks.Append self.old.seq body.now named.now) (appending (anew.made_anew self.old (B.known backend.old).client (B.known backend.old).shards body.now named.now)) result self.new backend.new }
+        ensures responds { AppendsAnew B.known B.goes self.old backend.old body.now named.now result self.new backend.new }
         ensures serves { Serves self.new (B.known backend.new) }
         ensures home { B.home backend.new ≡ B.home backend.old }
     {
@@ -116,7 +114,7 @@ impl Service {
         number: u64,
     ) -> Result<WireAnswer, ServiceError>
         requires serves { Serves self.old (B.known backend.old) }
-        ensures responds { Responds B.known B.goes self.old backend.old (asks.ReadAt address.now number) (meaning self.old (B.known backend.old) (asks.ReadAt address.now number)) result self.new backend.new }
+        ensures responds { Does B.known B.goes self.old backend.old (ask.ReadAt address.now number) result self.new backend.new }
         ensures serves { Serves self.new (B.known backend.new) }
         ensures home { B.home backend.new ≡ B.home backend.old }
     {
@@ -134,7 +132,7 @@ impl Service {
         address: &Address,
     ) -> Result<WireAnswer, ServiceError>
         requires serves { Serves self.old (B.known backend.old) }
-        ensures responds { Responds B.known B.goes self.old backend.old (asks.Subscribe address.now) (meaning self.old (B.known backend.old) (asks.Subscribe address.now)) result self.new backend.new }
+        ensures responds { Does B.known B.goes self.old backend.old (ask.Subscribe address.now) result self.new backend.new }
         ensures serves { Serves self.new (B.known backend.new) }
         ensures home { B.home backend.new ≡ B.home backend.old }
     {
@@ -152,7 +150,7 @@ impl Service {
         address: &Address,
     ) -> Result<WireAnswer, ServiceError>
         requires serves { Serves self.old (B.known backend.old) }
-        ensures responds { Responds B.known B.goes self.old backend.old (asks.Unsubscribe address.now) (meaning self.old (B.known backend.old) (asks.Unsubscribe address.now)) result self.new backend.new }
+        ensures responds { Does B.known B.goes self.old backend.old (ask.Unsubscribe address.now) result self.new backend.new }
         ensures serves { Serves self.new (B.known backend.new) }
         ensures home { B.home backend.new ≡ B.home backend.old }
     {
@@ -166,7 +164,7 @@ impl Service {
     /// Answers a take.
     fn take<B: Waiter>(&mut self, backend: &mut B) -> Result<WireAnswer, ServiceError>
         requires serves { Serves self.old (B.known backend.old) }
-        ensures responds { Responds B.known B.goes self.old backend.old asks.Take (meaning self.old (B.known backend.old) asks.Take) result self.new backend.new }
+        ensures responds { Does B.known B.goes self.old backend.old ask.Take result self.new backend.new }
         ensures serves { Serves self.new (B.known backend.new) }
         ensures home { B.home backend.new ≡ B.home backend.old }
     {
@@ -177,7 +175,7 @@ impl Service {
     /// Answers a wait.
     fn wait<B: Waiter>(&mut self, backend: &mut B) -> Result<WireAnswer, ServiceError>
         requires serves { Serves self.old (B.known backend.old) }
-        ensures responds { Responds B.known B.goes self.old backend.old asks.Wait (meaning self.old (B.known backend.old) asks.Wait) result self.new backend.new }
+        ensures responds { Does B.known B.goes self.old backend.old ask.Wait result self.new backend.new }
         ensures serves { Serves self.new (B.known backend.new) }
         ensures home { B.home backend.new ≡ B.home backend.old }
     {
@@ -193,7 +191,7 @@ impl Service {
         asked: &Request,
     ) -> Result<WireAnswer, ServiceError>
         requires serves { Serves self.old (B.known backend.old) }
-        ensures responds { Responds B.known B.goes self.old backend.old asked.now (meaning self.old (B.known backend.old) asked.now) result self.new backend.new }
+        ensures responds { Does B.known B.goes self.old backend.old asked.now result self.new backend.new }
         ensures serves { Serves self.new (B.known backend.new) }
         ensures home { B.home backend.new ≡ B.home backend.old }
     {

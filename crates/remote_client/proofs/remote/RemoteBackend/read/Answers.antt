@@ -9,5 +9,5 @@ ask-requires g c = spells-of _ (Call.read c.args.address.now) c.requires c.read_
 -- by the request
 pub returns-clause-goes : goal.returns-clause-goes
 returns-clause-goes g c =
-    goes-by g.C.Caller.known g.C.Caller.goes c.args.self.now c.ask.new.self (Call.read c.args.address.now) c.read_request.result c.ask.result _ c.ask.ensures.goes c.requires c.read_request.ensures
+    goes-by g.C.Caller.known g.C.Caller.goes g.C.Caller.does c.args.self.now c.ask.new.self (Call.read c.args.address.now) c.read_request.result c.ask.result _ c.ask.ensures.goes c.requires c.read_request.ensures
     (c.snap_of.ensures c.args.address.now)

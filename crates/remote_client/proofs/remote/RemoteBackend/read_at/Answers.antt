@@ -9,5 +9,5 @@ ask-requires g c = spells-of _ (Call.read_at c.args.address.now c.args.number) (
 -- by the request
 pub returns-clause-goes : goal.returns-clause-goes
 returns-clause-goes g c =
-    goes-by g.C.Caller.known g.C.Caller.goes c.args.self.now c.ask.new.self (Call.read_at c.args.address.now c.args.number) c.read_at_request.result c.ask.result _ c.ask.ensures.goes (c.requires.short, c.requires.seen) c.read_at_request.ensures
+    goes-by g.C.Caller.known g.C.Caller.goes g.C.Caller.does c.args.self.now c.ask.new.self (Call.read_at c.args.address.now c.args.number) c.read_at_request.result c.ask.result _ c.ask.ensures.goes (c.requires.short, c.requires.seen) c.read_at_request.ensures
     (c.value_of.ensures c.args.address.now c.args.number)

@@ -10,5 +10,5 @@ ask-requires g c = spells-of _ (Call.subscribe c.args.address.now) c.requires c.
 -- by the request
 pub returns-clause-goes : goal.returns-clause-goes
 returns-clause-goes g c =
-    goes-by g.C.Caller.known g.C.Caller.goes c.args.self.now c.ask.new.self (Call.subscribe c.args.address.now) c.subscribe_request.result c.ask.result _ c.ask.ensures.goes c.requires c.subscribe_request.ensures
+    goes-by g.C.Caller.known g.C.Caller.goes g.C.Caller.does c.args.self.now c.ask.new.self (Call.subscribe c.args.address.now) c.subscribe_request.result c.ask.result _ c.ask.ensures.goes c.requires c.subscribe_request.ensures
     (c.done_of.ensures ∙ subscribe-done c.args.address.now c.ask.result)

@@ -11,5 +11,5 @@ ask-requires g c = record { call = Call.wait; can = tt; spelled = refl }
 -- by the request
 pub returns-clause-goes : goal.returns-clause-goes
 returns-clause-goes g c =
-    goes-by g.C.Caller.known g.C.Caller.goes c.args.self.now c.ask.new.self Call.wait (Ok request.Wait) c.ask.result _ c.ask.ensures.goes tt refl
+    goes-by g.C.Caller.known g.C.Caller.goes g.C.Caller.does c.args.self.now c.ask.new.self Call.wait (Ok request.Wait) c.ask.result _ c.ask.ensures.goes tt refl
     (c.done_of.ensures ∙ wait-done c.ask.result)

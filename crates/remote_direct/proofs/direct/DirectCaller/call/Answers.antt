@@ -2,7 +2,7 @@ use Rattle.std.proofs.Common.{ℕ, List, Err, sym, ap, ◌∙◌, subst}
 use Rattle.remote_wire.specs.Requests.{request_in}
 use Rattle.remote_calls.specs.Calling.{CanAsk}
 use Rattle.remote_service.specs.Serving.{Answered}
-use Rattle.remote_direct.specs.Directing.{Beside, known_beside, HasStopped}
+use Rattle.remote_direct.specs.Directing.{Beside, known_beside, does_beside}
 use Rattle.remote_direct.specs.code.Telling.{ReadsBack}
 use Rattle.remote_direct.proofs.Directed.{is-told, never-refused, told-replied, told-tells, told-stopped, failed-replied, failed-tells, failed-stopped}
 use Rattle.remote_direct.proofs.direct.DirectCaller.call.Goals as goal
@@ -23,8 +23,8 @@ returns-in-Ok-answer-clause-replied g c = rw (← c.self.view_is)
     c.in-Ok-answer.told c.read_back.result c.in-Ok-answer.ensures.answered
     (subst (λ (xs : List ℕ). ReadsBack c.args.request.now xs c.read_back.result) c.as_slice.ensures c.read_back.ensures))
 
-pub returns-in-Ok-answer-clause-stopped : goal.returns-in-Ok-answer-clause-stopped
-returns-in-Ok-answer-clause-stopped g c = rw (← c.self.view_is)
+pub returns-in-Ok-answer-clause-asked : goal.returns-in-Ok-answer-clause-asked
+returns-in-Ok-answer-clause-asked g c = rw (← c.self.view_is)
     (told-stopped g.B.Backend.known g.B.Backend.goes c.self.inside.service c.answer.new.self c.self.inside.backend c.answer.new.backend
     c.self.invariant c.args.request.now c.as_slice-bytes.result.now (ap request_in c.as_slice-bytes.ensures ∙ c.in-Ok.ensures.again)
     (c.as_slice-bytes.ensures ∙ c.in-Ok.ensures.written) c.in-Ok-answer.told c.read_back.result c.in-Ok-answer.ensures.answered
@@ -53,9 +53,9 @@ returns-clause-replied g c = rw (← c.self.view_is)
     c.self.invariant c.args.request.now c.as_slice-bytes.result.now (ap request_in c.as_slice-bytes.ensures ∙ c.in-Ok.ensures.again) c.in-Err.error
     c.error_of.result c.error_of.ensures c.in-Err.ensures.failed c.in-Err.ensures.stalled)
 
-pub returns-clause-stopped : goal.returns-clause-stopped
-returns-clause-stopped g c =
-    subst (λ (d : Beside g.row.B.Denot). HasStopped g.B.Backend.known g.B.Backend.goes d c.args.request.now (Err c.error_of.result)
+pub returns-clause-asked : goal.returns-clause-asked
+returns-clause-asked g c =
+    subst (λ (d : Beside g.row.B.Denot). does_beside g.B.Backend.known g.B.Backend.goes d c.args.request.now (Err c.error_of.result)
     (record { backend = c.answer.new.backend; service = c.answer.new.self })) c.self.view_is
     (failed-stopped g.B.Backend.known g.B.Backend.goes c.self.inside.service c.answer.new.self c.self.inside.backend c.answer.new.backend
     c.self.invariant c.args.request.now c.as_slice-bytes.result.now (ap request_in c.as_slice-bytes.ensures ∙ c.in-Ok.ensures.again)

@@ -1,0 +1,17 @@
+//! Tests of clients far from a store that are served over links (`wire_server`), over a shared store: what came of links against
+//! what went in, which no clause sees. They stand apart from that crate since each test function is proved as any other, and would
+//! be proved with its library each time that one changes.
+//!
+//! `serving` serves one link over a store of its own, and `absent` is a store that isn't there.
+#![tactic(auto)]
+
+#[cfg(test)]
+mod absent;
+#[cfg(test)]
+mod all_links;
+#[cfg(test)]
+mod lengths;
+#[cfg(test)]
+mod one_link;
+#[cfg(test)]
+mod serving;
