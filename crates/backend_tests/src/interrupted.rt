@@ -94,8 +94,8 @@ impl<'a, N: Naming, R: Wait> Interrupted<'a, N, R> {
         left: u64,
     ) -> Interrupted<'a, N, R> {
         let pass = newcomer.into_pass();
-        let session = first_session(alloc, &pass);
         let served = Served { store, pass, rt };
+        let session = first_session(alloc, &served);
         let backend = Broken::new(served, left);
         Interrupted { backend, session }
     }

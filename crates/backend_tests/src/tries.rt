@@ -318,8 +318,8 @@ fn tried_on<'a, N: Naming, R: Wait>(
     };
     let other = Talker::new(rt, alloc, store, faster);
     let pass = client.into_pass();
-    let mut session = first_session(alloc, &pass);
     let served = Served { store, pass, rt };
+    let mut session = first_session(alloc, &served);
     let mut rival = Rival {
         alloc,
         served,

@@ -17,7 +17,8 @@ use Rattle.docc_prepare.specs.Calls.{Known, Call, Answer}
 use Rattle.docc_prepare.specs.Backends.{IsAnswered, IsPrefix}
 use Rattle.client_watches.specs.declared.watching.Watching.{Watching}
 use Rattle.client_watches.specs.Watching.{after_feed, with_value, is_idle, without_value}
-use Rattle.client_watches.specs.Standing.{Subscribes, Stands, CanRead}
+use Rattle.client_watches.specs.Standing.{Subscribes, Stands}
+use Rattle.docc_prepare.specs.Readable.{CanRead}
 use Rattle.client_watches.specs.Goals.{Goal}
 use Rattle.client_watches.specs.Explained.{ShownList, shown_of, AllHold, IsShownAt, IsCutShort, IsCutAtRerun}
 use Rattle.client_watches.specs.Explained.{GoalPasses}

@@ -18,7 +18,8 @@ use Rattle.call_programs.proofs.Programs.{always_bind}
 use Rattle.client_watches.specs.declared.watching.Watching.{Watching}
 use Rattle.client_watches.specs.Watching.{none_loose, with_value, is_idle, without_value}
 use Rattle.client_watches.specs.Keeping.{Keeps}
-use Rattle.client_watches.specs.Standing.{Subscribes, Stands, CanRead, CanReadOn}
+use Rattle.client_watches.specs.Standing.{Subscribes, Stands}
+use Rattle.docc_prepare.specs.Readable.{CanRead, CanReadOn}
 use Rattle.client_watches.specs.Laws.{Attends}
 use Rattle.client_watches.specs.Lines.{kept, read, fetch}
 use Rattle.client_watches.specs.Lines.{let_go, drop_one, drop_each, drop_idle}

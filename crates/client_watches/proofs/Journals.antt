@@ -27,7 +27,7 @@ use Rattle.version_shard.proofs.Stepping.{left}
 use Rattle.rerun_driver.specs.Touched.{meets, is_touched}
 use Rattle.docc_prepare.specs.Backends.{IsPrefix}
 use Rattle.docc_prepare.specs.Serial.{AreOfTheirKinds as OfKinds}
-use Rattle.client_watches.specs.Standing.{CanRead}
+use Rattle.docc_prepare.specs.Readable.{CanRead}
 
 -- ---- prefixes
 

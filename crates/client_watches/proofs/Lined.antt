@@ -2,8 +2,7 @@
 use Rattle.std.proofs.Common.{◌≡◌, false, Option, Some, None, is_some, refl, subst, arith}
 use Rattle.std.specs.List.Sorted.{IsStrictlySortedBy}
 use Rattle.dio_core.specs.Told.{WhereTold}
-use Rattle.version_shard.proofs.Legal.{legal-is-readable}
-use Rattle.docc_prepare.proofs.Growing.{legal_is_orderly}
+use Rattle.docc_prepare.proofs.Readable.{legal-reads}
 use Rattle.docc_prepare.specs.Backends.{HasGrown}
 use Rattle.rerun_driver.specs.declared.watch.Watch.{Watch}
 use Rattle.client_watches.specs.GoingOn.{LinesGoOn}
@@ -33,7 +32,7 @@ beginnings_attend = record {
     stands = record { within = within; values = λ a v found. absurd (cc); watches = tt };
     can = can;
   };
-  readable = λ journal later grows legal. record { orderly = legal_is_orderly later legal; readable = legal-is-readable later legal };
+  readable = λ journal later grows legal. legal-reads later legal;
 }
 
 -- ---- between lines

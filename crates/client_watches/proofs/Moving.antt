@@ -34,7 +34,8 @@ use Rattle.docc_prepare.specs.Backends.{IsAnswered, SaysOfJournal}
 use Rattle.client_watches.specs.declared.watching.Watching.{Watching}
 use Rattle.client_watches.specs.Watching.{after_feed, with_value, with_rerun, with_first, without, without_value}
 use Rattle.client_watches.specs.Keeping.{AreDistinct, Keeps}
-use Rattle.client_watches.specs.Standing.{Subscribes, AreHeld, WatchStands, Stands, CanRead}
+use Rattle.client_watches.specs.Standing.{Subscribes, AreHeld, WatchStands, Stands}
+use Rattle.docc_prepare.specs.Readable.{CanRead}
 use Rattle.client_watches.proofs.Names.{reported_in}
 use Rattle.client_watches.proofs.Stale.{has-run, first-among}
 use Rattle.client_watches.proofs.Journals.{prefix-state, prefix-touched, journal-kinds, state-between}

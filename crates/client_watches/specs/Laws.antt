@@ -9,7 +9,8 @@ use Rattle.docc_prepare.specs.Backends.{IsPrefix, IsLater}
 use Rattle.client_watches.specs.declared.watching.Watching.{Watching}
 use Rattle.client_watches.specs.Watching.{none_yet}
 use Rattle.client_watches.specs.Keeping.{Keeps}
-use Rattle.client_watches.specs.Standing.{Subscribes, Stands, CanRead, CanReadOn}
+use Rattle.client_watches.specs.Standing.{Subscribes, Stands}
+use Rattle.docc_prepare.specs.Readable.{CanRead, CanReadOn}
 use Rattle.client_watches.specs.Goals.{Goal}
 use Rattle.client_watches.specs.Explained.{Shown, ShownList, shown_of, GoalPasses, UnwatchPasses}
 

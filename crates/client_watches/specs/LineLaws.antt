@@ -10,7 +10,7 @@ use Rattle.call_programs.specs.Safe.{IsSafe, AlwaysEnds, IsWithin}
 use Rattle.client_watches.specs.declared.watching.Watching.{Watching}
 use Rattle.client_watches.specs.Keeping.{AreDistinct, Keeps}
 use Rattle.client_watches.specs.GoingOn.{WatchLine}
-use Rattle.client_watches.specs.Standing.{CanReadOn}
+use Rattle.docc_prepare.specs.Readable.{CanReadOn}
 use Rattle.client_watches.specs.Bounds.{most_calls}
 use Rattle.client_watches.specs.Saying.{IsOfWatches}
 use Rattle.client_watches.specs.Goals.{Goal}

@@ -1,6 +1,6 @@
 -- What is kept of watches stands for the journal, where the backend tells that: the values are those that some prefix leaves, and
 -- each watch has the report of its body's run on a prefix, and is stale where it was touched since.
-use Rattle.std.specs.Prelude.{◌≡◌, ◌≤◌, ℕ, true, List, length, Some, IsSome}
+use Rattle.std.specs.Prelude.{◌≡◌, ◌≤◌, true, List, length, Some, IsSome}
 use Rattle.std.specs.List.{AllByRecursion}
 use Rattle.std.specs.List.Sorted.{IsStrictlySortedBy}
 use Rattle.std.specs.Map.{keys_of}
@@ -10,17 +10,13 @@ use Rattle.rdt_types.specs.declared.value.Value.{Value}
 use Rattle.rdt_types.specs.Addresses.{address_cmp}
 use Rattle.txn_lang.specs.declared.run.Run.{Run}
 use Rattle.txn_lang.specs.declared.run.Seen.{Seen}
-use Rattle.txn_lang.specs.Journals.{IsLegal}
 use Rattle.txn_lang.specs.States.{Journal, known, state}
 use Rattle.txn_lang.specs.Execution.{done, exec}
 use Rattle.journal_core.specs.Changes.{changes}
-use Rattle.version_shard.specs.Standing.{IsReadable}
 use Rattle.client_cache.specs.Cached.{Cached, held}
 use Rattle.rerun_driver.specs.declared.watch.Watch.{Watch}
 use Rattle.rerun_driver.specs.Touched.{is_touched}
 use Rattle.docc_prepare.specs.Calls.{Known}
-use Rattle.docc_prepare.specs.Backends.{IsPrefix}
-use Rattle.docc_prepare.specs.Serial.{IsOrderly}
 use Rattle.client_watches.specs.declared.watching.Watching.{Watching}
 
 -- ---- what the backend tells of
@@ -52,14 +48,3 @@ pub record Stands (journal : Journal) (w : Watching) : Type 0 where
   pub within : w.cache.at ≤ length journal
   pub values : (address : Address) (value : Value) → held w.cache address ≡ Some value → value ≡ state journal w.cache.at address
   pub watches : AllByRecursion (λ (entry : Bytes × Watch). WatchStands journal w.cache entry.1) w.watches
-
--- ---- journals that can be read
-
--- a journal's commits are numbered, and their deltas rise and are of the kinds of their addresses
-pub record CanRead (journal : Journal) : Type 0 where
-  pub orderly : IsOrderly journal
-  pub readable : IsReadable journal
-
--- However legally a journal grows it can be read. Where nothing is taken on trust that is so of every journal.
-abbrev pub CanReadOn : ℕ → Journal → Type 0
-CanReadOn trusted journal = (later : Journal) → IsPrefix journal later → IsLegal trusted later → CanRead later

@@ -16,7 +16,7 @@ use Rattle.docc_prepare.specs.Backends.{IsPrefix, IsSameClient, IsAnswered}
 use Rattle.call_programs.specs.Programs.{Program}
 use Rattle.call_programs.specs.Safe.{MayAsk, IsSafe}
 use Rattle.call_programs.proofs.Programs.{known_leads}
-use Rattle.client_watches.specs.Standing.{CanRead}
+use Rattle.docc_prepare.specs.Readable.{CanRead}
 use Rattle.session_core.specs.declared.line.Line.TheVariants as asked
 use Rattle.session_core.specs.declared.session.Session.{Session}
 use Rattle.session_core.specs.declared.turn.Turn.{Turn}

@@ -5,7 +5,5 @@ pub mod Stopping
 pub mod CutShort
 pub mod Lines
 pub mod Promises
-pub mod Beginning
-pub mod Readable
 pub mod Settled
 pub mod Listing

@@ -8,8 +8,10 @@ use Rattle.dio_core.specs.declared.line.TheConstants.{LONGEST_LINE}
 use Rattle.rdt_types.specs.declared.limits.TheConstants.{LEAST_SHARDS, MOST_SHARDS}
 use Rattle.dio_core.specs.Counts.{Rose}
 use Rattle.txn_grammar.specs.Characters.{Text}
+use Rattle.txn_lang.specs.Journals.{own}
 use Rattle.txn_lang.specs.States.{Journal}
 use Rattle.docc_prepare.specs.Calls.{Known, Call, Answer}
+use Rattle.docc_prepare.specs.Readable.{IsReadOn, StaysReadable, IsNew}
 use Rattle.docc_prepare.specs.Backends.{Goes}
 use Rattle.call_programs.specs.Programs.{Program, Leads}
 use Rattle.call_programs.proofs.Counted.{counts_over}
@@ -38,7 +40,7 @@ use Rattle.session_core.proofs.Safe.{AttendsEnd}
 use Rattle.script_runner.specs.Play.{left}
 use Rattle.diamond_server.specs.Talking.{Told, Answers, Does, Talks, AreInOrder, ends, waits, is_over, first_session, printed, output, texts_of, turns_of}
 use Rattle.diamond_server.specs.code.Serving.{Wakes}
-use Rattle.diamond_server.specs.Promises.{IsNewTo, IsNew, IsAccounted}
+use Rattle.diamond_server.specs.Promises.{IsAccounted}
 
 -- ---- one line more
 
@@ -311,22 +313,22 @@ first-is k client at e f =
     ap (λ (n : ℕ). record { client = n; seq = 1; at = at; attempt = None; watching = none_yet at; over = None }) e
     ∙ ap (λ (n : ℕ). record { client = k.client; seq = 1; at = n; attempt = None; watching = none_yet n; over = None }) f
 
--- a new client's session goes on
-pub new-attends : (k : Known) → (LEAST_SHARDS ≤ k.shards) × (k.shards ≤ MOST_SHARDS) → IsNew k → Attends k (first_session k)
-new-attends k shards new = record {
+-- a new client's session goes on, since what it knows stays readable
+pub new-attends : (k : Known) → (LEAST_SHARDS ≤ k.shards) × (k.shards ≤ MOST_SHARDS) → StaysReadable k → IsNew k → Attends k (first_session k)
+new-attends k shards readable new = record {
   on = refl;
   shards = shards;
   client = refl;
   begun = omega arith;
-  counts = counts k.journal new;
+  counts = counts k.journal readable new;
   attempt = tt;
-  watches = record { keeps = none-keeps k k.seen (omega arith); told = minds k.journal new };
+  watches = record { keeps = none-keeps k k.seen (omega arith); told = minds k.journal readable };
 }
   where
-    counts : (o : Option Journal) → IfSome o (IsNewTo k) → IfSome o (Counts k 1)
-    counts None h = tt
-    counts (Some journal) h = record { seq_is = ap (λ (xs : Journal). length xs + 1) (sym h.none); within = h.within }
+    counts : (o : Option Journal) → IfSome o (IsReadOn k) → IfSome o (λ journal. own k.client journal ≡ []) → IfSome o (Counts k 1)
+    counts None h none = tt
+    counts (Some journal) h none = record { seq_is = ap (λ (xs : Journal). length xs + 1) (sym none); within = h.within }
 
-    minds : (o : Option Journal) → IfSome o (IsNewTo k) → IfSome o (Minds k (first_session k).watching)
+    minds : (o : Option Journal) → IfSome o (IsReadOn k) → IfSome o (Minds k (first_session k).watching)
     minds None h = tt
     minds (Some journal) h = none-minds k k.seen journal h.within h.can h.can_on

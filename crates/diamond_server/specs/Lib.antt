@@ -1,6 +1,5 @@
 pub mod Talking
 pub mod Promises
-pub mod Readable
 pub mod Ways
 pub mod Accounts
 pub mod code

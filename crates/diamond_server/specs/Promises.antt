@@ -16,7 +16,6 @@ use Rattle.txn_lang.specs.declared.commit.Commit.{Commit}
 use Rattle.txn_lang.specs.Journals.{own}
 use Rattle.txn_lang.specs.States.{Journal}
 use Rattle.docc_prepare.specs.Calls.{Known, Call, Answer}
-use Rattle.client_watches.specs.Standing.{CanRead, CanReadOn}
 use Rattle.session_core.specs.declared.session.Session.{Session}
 use Rattle.session_core.specs.Explained.{story_of, setting_of}
 use Rattle.session_core.specs.Sessions.{OwnsAnswered, committed_by, denied_by_all, all_replies, ExplainsAll}
@@ -38,17 +37,6 @@ sides source sink link = record {
   inwards = incoming (source.left link) (source.read_faults link);
   outwards = outgoing (sink.taken link) (sink.passed link) (sink.write_faults link);
 }
-
--- of a journal that is told: the client has no commit in it, what it has seen is there, and it can be read however it grows
-pub record IsNewTo (k : Known) (journal : Journal) : Type 0 where
-  pub none : own k.client journal ≡ []
-  pub within : k.seen ≤ length journal
-  pub can : CanRead journal
-  pub can_on : CanReadOn k.trusted journal
-
--- THE CONDITION OF A SESSION: its client is new.
-abbrev pub IsNew : Known → Type 0
-IsNew k = IfSome k.journal (IsNewTo k)
 
 -- ---- what a talk comes to
 

@@ -82,7 +82,6 @@ pub(crate) fn serve<L: End, K: Keep, G: Gate + Drop, N: Naming, S: Serves, R: Wa
     requires newcomer { IsNewcomer pass }
     ensures told { IsTold S.promised (λ p. p) (sides L.Source L.Sink link) (sides L.Source L.Sink result.0) result.2 (Ok (pass, result.1)) }
 {
-    let _seen = pass.seen();
     let mut served = Served { store, pass, rt };
     let status = S::serve(alloc, &mut served, &mut link);
     let Served { pass, .. } = served;

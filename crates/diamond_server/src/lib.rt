@@ -10,7 +10,6 @@
 mod answering;
 mod begun;
 mod ended;
-mod laws;
 mod link;
 mod replies;
 mod serving;
@@ -18,7 +17,6 @@ mod serving_all;
 mod status;
 mod ways;
 
-pub use laws::trusted_journals_stay_readable;
 pub use serving::serve_session;
 pub use serving_all::{Tally, serve_all, serve_links};
 pub use status::{NO_CLIENT, STORE_FAULT};

@@ -2,7 +2,8 @@
 
 ghost use Rattle.std.specs.Prelude.{◌≡◌, [], true, Ok, OnOk};
 ghost use Rattle.session_core.specs.Holding.{Attends};
-ghost use Rattle.diamond_server.specs.Promises.{sides, IsNew, KeepsPromises};
+ghost use Rattle.docc_prepare.specs.Readable.{IsNew};
+ghost use Rattle.diamond_server.specs.Promises.{sides, KeepsPromises};
 ghost use Rattle.diamond_server.specs.code.Serving.{Turns, Ends};
 
 use crate::answering::answer;

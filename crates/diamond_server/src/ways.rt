@@ -1,7 +1,8 @@
 //! Ways to serve the link of a new client.
 
 ghost use Rattle.std.specs.Prelude.{◌≡◌};
-ghost use Rattle.diamond_server.specs.Promises.{sides, IsNew};
+ghost use Rattle.docc_prepare.specs.Readable.{IsNew};
+ghost use Rattle.diamond_server.specs.Promises.{sides};
 ghost use Rattle.diamond_server.specs.Ways.{Promising, StaysPromised};
 
 use crate::serving::serve_session;
@@ -36,7 +37,7 @@ impl Serves for SessionLines {
     ghost promised = { LinesPromised };
 
     fn serve<B: Waiter, K: End>(alloc: Global, backend: &mut B, link: &mut K) -> u8 {
-        let _shards = backend.shards();
+        let (_shards, _seen) = (backend.shards(), backend.seen());
         serve_session(alloc, backend, link)
     }
 

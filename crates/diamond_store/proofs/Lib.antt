@@ -1,5 +1,6 @@
 pub mod Prefixes
 pub mod Sound
+pub mod Readable
 pub mod Owed
 pub mod Known
 pub mod Bases

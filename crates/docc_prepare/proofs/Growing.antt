@@ -56,7 +56,7 @@ fits_stays journal later attempt fits = record {
 -- ---- legal journals
 
 -- the deltas of a commit are those of its run
-kinds-of-commit : (before : Journal) (commit : Commit) → IsRunAfter before commit → AreOfTheirKinds commit.deltas
+pub kinds-of-commit : (before : Journal) (commit : Commit) → IsRunAfter before commit → AreOfTheirKinds commit.deltas
 kinds-of-commit before commit runs = subst AreOfTheirKinds (sym runs.deltas) (kinds-of-run runs.body (known (left_by before)) runs.run runs.ran)
 
 -- each commit of a legal journal is one of a run, nothing being taken on trust

@@ -1,9 +1,8 @@
 -- What others do between a client's calls, together with the next call.
-use Rattle.std.proofs.Common.{◌≡◌, ℕ, ◌≤◌, ◌<◌, Bool, true, false, cond, ◌&&◌, ◌||◌, not, max, length, take, Option, Some, None, inl}
-use Rattle.std.proofs.Common.{inr, refl, sym, ap, ◌∙◌, subst, arith}
+use Rattle.std.proofs.Common.{◌≡◌, ℕ, ◌≤◌, ◌<◌, Bool, true, false, cond, ◌&&◌, ◌||◌, not, max, Option, Some, None, inl}
+use Rattle.std.proofs.Common.{inr, refl, ap, ◌∙◌, subst, arith}
 use Rattle.std.specs.Prelude.{nat_lt}
 use Rattle.std.specs.BTreeMap.{is_at}
-use Rattle.std.proofs.lemmas.List.{length-take, take-take}
 use Rattle.std.proofs.lemmas.Bool.Decides.{nat_tests}
 use Rattle.dio_core.specs.Counts.{one_more, Rose, IsCounted}
 use Rattle.dio_core.specs.Told.{WhereTold}
@@ -16,18 +15,11 @@ use Rattle.journal_core.specs.declared.ready.Ready.{Ready}
 use Rattle.journal_core.specs.Changes.{changes, between}
 use Rattle.journal_core.specs.Holds.{bars}
 use Rattle.docc_prepare.specs.Calls.{Known, Call, Answer, is_fault}
-use Rattle.docc_prepare.specs.Backends.{IsPrefix, IsBelowHorizon, IsUnbarred, Row, OwnRow, SaysOfJournal, Shows, IsSameClient, KeepsGiven}
+use Rattle.docc_prepare.specs.Backends.{IsBelowHorizon, IsUnbarred, Row, OwnRow, SaysOfJournal, Shows, IsSameClient, KeepsGiven}
 use Rattle.docc_prepare.specs.Backends.{Keeps, subscribed_after, taken_after, denied_after, KnowsDenials, IsAnswered, HasGrown, IsLater, OthersCountAsWithin}
+use Rattle.docc_prepare.proofs.Prefixes.{prefix-again}
 
--- ---- prefixes and counts
-
--- a front of a front is a front
-prefix-again : (first second third : Journal) → IsPrefix first second → IsPrefix second third → IsPrefix first third
-prefix-again first second third p q =
-    let size = length-take (length first) second in
-    let same = ap (λ (xs : Journal). length xs) p in
-    let shorter : length first ≤ length second = omega arith in
-    sym (take-take (length first) (length second) third shorter) ∙ ap (λ (xs : Journal). take (length first) xs) q ∙ p
+-- ---- counts
 
 -- what rose from a count has risen from a lesser one, by whether that one is below where it came to
 rose-since : (k l m : ℕ) → k ≤ l → Rose l m → Rose k m

@@ -15,7 +15,9 @@ pub mod LeastBase
 pub mod Answered
 pub mod StepDoes
 pub mod Elsewhere
+pub mod Prefixes
 pub mod Laters
+pub mod Readable
 pub mod Reported
 pub mod Sound
 pub mod Pauses

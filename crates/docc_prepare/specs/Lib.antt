@@ -4,4 +4,5 @@ pub mod Worlds
 pub mod Witnesses
 pub mod Calls
 pub mod Backends
+pub mod Readable
 pub mod Stores

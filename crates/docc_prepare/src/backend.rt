@@ -5,6 +5,7 @@ ghost use Rattle.rdt_types.specs.declared.limits.TheConstants.{LEAST_SHARDS, MOS
 ghost use Rattle.txn_lang.specs.Short.{IsShortAddress};
 ghost use Rattle.docc_prepare.specs.Calls.{Known, Call, Answer, number_answered, snap_answered, front_answered, commit_answered, value_answered, done_answered, feed_answered};
 ghost use Rattle.docc_prepare.specs.Backends.{Goes, CanPrepare, CanAppend};
+ghost use Rattle.docc_prepare.specs.Readable.{StaysReadable};
 
 use abort_witness::{BasedList, Witness};
 use change_feed::Feed;
@@ -80,9 +81,10 @@ pub trait Backend {
         ensures shards { result ≡ (known self.now).shards }
         ensures in_range { (LEAST_SHARDS ≤ result) × (result ≤ MOST_SHARDS) };
 
-    /// How many commits the client has seen.
+    /// How many commits the client has seen. They stand in the journal, where that is told, and it can be read, however it grows.
     fn seen(&self) -> u64
-        ensures { result ≡ (known self.now).seen };
+        ensures seen { result ≡ (known self.now).seen }
+        ensures readable { StaysReadable (known self.now) };
 
     /// How often the store failed.
     fn store_faults(&self) -> u64

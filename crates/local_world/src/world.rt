@@ -104,7 +104,8 @@ impl World {
     /// How many commits a client has seen.
     pub(crate) fn seen(&self, client: u32) -> u64
         requires { client < CLIENTS }
-        ensures { result ≡ seen_by (store_of self.now) client }
+        ensures seen { result ≡ seen_by (store_of self.now) client }
+        ensures sound { IsSound (store_of self.now) }
     {
         self.seens.as_slice()[client as usize]
     }

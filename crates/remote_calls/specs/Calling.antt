@@ -1,5 +1,5 @@
 -- What a caller owes for a request, and what it is owed.
-use Rattle.std.specs.Prelude.{◌≡◌, ℕ, ◌≤◌, Bool, true, false, length, IfSome, Result, Ok, Err}
+use Rattle.std.specs.Prelude.{◌≡◌, ℕ, Bool, true, false, IfSome, Result, Ok, Err}
 use Rattle.dio_core.specs.Counts.{IsCounted}
 use Rattle.txn_lang.specs.States.{Journal}
 use Rattle.txn_lang.specs.Journals.{IsLegal}
@@ -7,6 +7,7 @@ use Rattle.docc_prepare.specs.declared.backend.StoreError.{StoreError}
 use Rattle.docc_prepare.specs.declared.backend.StoreError.TheVariants as store_error
 use Rattle.docc_prepare.specs.Calls.{Known, Call, Answer}
 use Rattle.docc_prepare.specs.Backends.{CanCall, Goes}
+use Rattle.docc_prepare.specs.Readable.{IsReadOn}
 use Rattle.remote_wire.specs.declared.request.Request.{Request}
 use Rattle.remote_wire.specs.declared.request.Request.TheVariants as request
 use Rattle.remote_wire.specs.declared.answer.Given.{Given}
@@ -15,10 +16,10 @@ use Rattle.remote_wire.specs.declared.answer.WireAnswer.{WireAnswer}
 use Rattle.remote_wire.specs.Answers.{IsAnswerTo}
 use Rattle.remote_calls.specs.Spelled.{request_for, answered_by, seen_behind}
 
--- The journal that is told is legal, and what was seen is there.
+-- The journal that is told is legal, what was seen is there, and it can be read, however it grows.
 pub record IsWhole (k : Known) (journal : Journal) : Type 0 where
   pub legal : IsLegal k.trusted journal
-  pub within : k.seen ≤ length journal
+  pub readable : IsReadOn k journal
 
 -- a call that may be made, and that is spelled so
 pub record Spells (k : Known) (asked : Request) : Type 0 where

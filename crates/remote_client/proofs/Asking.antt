@@ -1,5 +1,5 @@
 -- What requests do to a remote client.
-use Rattle.std.proofs.Common.{◌≡◌, ◌⊎◌, ℕ, Bool, true, false, Option, Some, None, Result, Ok, Err, IfOk, inl, inr, refl, sym, ap, ◌∙◌, subst}
+use Rattle.std.proofs.Common.{◌≡◌, ℕ, Bool, true, false, Option, Some, None, Result, Ok, Err, IfOk, inl, inr, refl, sym, ap, ◌∙◌, subst}
 use Rattle.std.specs.Prelude.{IfSome}
 use Rattle.std.proofs.Math.Nat.{le_refl}
 use Rattle.std.proofs.Math.Seq.{take-length}
@@ -10,6 +10,7 @@ use Rattle.txn_lang.specs.States.{Journal}
 use Rattle.docc_prepare.specs.declared.backend.StoreError.{StoreError}
 use Rattle.docc_prepare.specs.declared.backend.StoreError.TheVariants as store_error
 use Rattle.docc_prepare.specs.Calls.{Known, Call, Answer, store_failed}
+use Rattle.docc_prepare.specs.Readable.{IsReadOn, StaysReadable}
 use Rattle.docc_prepare.specs.Backends.{CanCall, SaysOfJournal, KeepsGiven, Keeps, OwnRow, subscribed_after, taken_after, denied_after}
 use Rattle.docc_prepare.specs.Backends.{Gives, KnowsDenials, IsAnswered, Goes}
 use Rattle.rdt_types.specs.declared.address.Address.{Address}
@@ -90,7 +91,7 @@ module _ (k : Known) (n : ℕ) (by_fault : Bool) where
   failed-told c (Some journal) whole = record {
     grows = take-length journal;
     legal = whole.legal;
-    within = whole.within;
+    within = whole.readable.within;
     row = tt;
     same_own = failed-own c journal;
   }
@@ -164,6 +165,22 @@ module _ {C : Type 0} (known : C → Known) (goes : C → Call → Answer → C 
       (subst (λ (r : C). Asks known goes does (at x x false) asked (Ok answer) (at y r false)) (sym behind)
       (asked-well x y q answer (spells-at x p is_lost was asked q before is view spells) h asked is)))
 
+  -- what it stands for is as whole as what its caller stood for
+  still-whole : (r : Standing C) → IfSome (known r.stood).journal (IsWhole (known r.stood)) → IfSome (stood_for known r).journal (IsWhole (stood_for known r))
+  still-whole r = by (known r.stood).journal
+    where
+      by : (o : Option Journal) → IfSome o (IsWhole (known r.stood)) → IfSome o (IsWhole (stood_for known r))
+      by None h = tt
+      by (Some journal) h = let is = h.readable in record { legal = h.legal; readable = record { within = is.within; can = is.can; can_on = is.can_on } }
+
+  -- so it can be read
+  pub still-reads : (r : Standing C) → IfSome (known r.stood).journal (IsWhole (known r.stood)) → StaysReadable (stood_for known r)
+  still-reads r whole = by (known r.stood).journal (still-whole r whole)
+    where
+      by : (o : Option Journal) → IfSome o (IsWhole (stood_for known r)) → IfSome o (IsReadOn (stood_for known r))
+      by None h = tt
+      by (Some journal) h = h.readable
+
   -- a request that has failed
   asked-failed : (r s : Standing C) (asked : Result Request AllocError) (e : StoreError) → IfSome (known r.stood).journal (IsWhole (known r.stood))
       → IsCounted (is_fault_error e) (known r.caller).faults (known s.caller).faults
@@ -175,16 +192,9 @@ module _ {C : Type 0} (known : C → Known) (goes : C → Call → Answer → C 
       named store_error.Fault = refl
       named store_error.NoMemory = refl
 
-      still : IfSome (stood_for known r).journal (IsWhole (stood_for known r))
-      still = by (known r.stood).journal whole
-        where
-          by : (o : Option Journal) → IfSome o (IsWhole (known r.stood)) → IfSome o (IsWhole (stood_for known r))
-          by None h = tt
-          by (Some journal) h = record { legal = h.legal; within = h.within }
-
       answered : IsAnswered (stood_for known r) c (Answer.failed (is_fault_error e)) (stood_for known s)
       answered = subst (λ (x : C). IsAnswered (stood_for known r) c (Answer.failed (is_fault_error e)) (record (known x) { faults = (known s.caller).faults }))
-          (sym (failed c spelled).stood) (failed-answered (stood_for known r) (known s.caller).faults (is_fault_error e) c still counted)
+          (sym (failed c spelled).stood) (failed-answered (stood_for known r) (known s.caller).faults (is_fault_error e) c (still-whole r whole) counted)
 
   -- for which there was no memory
   pub asked-without : (x p : C) (is_lost : Bool) (asked : Result Request AllocError) → IfSome (known p).journal (IsWhole (known p))

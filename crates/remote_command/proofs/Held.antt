@@ -1,17 +1,19 @@
 -- What a session over a remote client promises of its caller.
 use Rattle.std.proofs.Common.{◌≡◌, ℕ, List, inl, inr, refl, sym, ap, ◌∙◌, subst}
-use Rattle.std.specs.Prelude.{Option, Some, None, Err, IfSome}
+use Rattle.std.specs.Prelude.{[], Option, None, Err, IfSome}
 use Rattle.dio_core.specs.Counts.{Rose, IsCounted}
 use Rattle.dio_core.specs.declared.sink.Sink.{Ghosts as SinkTells}
 use Rattle.dio_core.specs.declared.source.Source.{Ghosts as SourceTells}
 use Rattle.dio_core.specs.Links.{Both, Outgoing}
 use Rattle.txn_grammar.specs.Characters.{Text}
 use Rattle.txn_lang.specs.States.{Journal}
+use Rattle.txn_lang.specs.Journals.{own}
 use Rattle.docc_prepare.specs.declared.backend.StoreError.{StoreError}
 use Rattle.docc_prepare.specs.declared.backend.StoreError.TheVariants as store_error
 use Rattle.docc_prepare.specs.Calls.{Known, Call, Answer}
+use Rattle.docc_prepare.specs.Readable.{IsNew}
 use Rattle.diamond_server.specs.Talking.{Told}
-use Rattle.diamond_server.specs.Promises.{IsNew, IsNewTo, IsServed, IsCutShort, Promises, KeepsPromises}
+use Rattle.diamond_server.specs.Promises.{IsServed, IsCutShort, KeepsPromises}
 use Rattle.remote_wire.specs.declared.request.Request.TheVariants as request
 use Rattle.remote_calls.specs.Calling.{Doing, is_fault_error}
 use Rattle.remote_client.specs.Standing.{Standing, stood_for, Steps}
@@ -20,7 +22,7 @@ use Rattle.remote_command.specs.Running.{ends, IsHeld, IsCutOver, KeepsOver, fai
 
 -- who tells no journal is new
 untold-new : (k : Known) → k.journal ≡ None → IsNew k
-untold-new k none = subst (λ (o : Option Journal). IfSome o (IsNewTo k)) (sym none) tt
+untold-new k none = subst (λ (o : Option Journal). IfSome o (λ journal. own k.client journal ≡ [])) (sym none) tt
 
 module _ {S W C : Type 0} (source : SourceTells S) (sink : SinkTells W) (known : C → Known) (goes : C → Call → Answer → C → Type 0) where
   -- a session over the two that were joined is one over these two, as they were and as they are given back

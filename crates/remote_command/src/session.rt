@@ -1,8 +1,8 @@
 //! A session over a client whose requests a caller has answered.
 
-ghost use Rattle.std.specs.Prelude.{◌≡◌, None, IfSome};
-ghost use Rattle.docc_prepare.specs.declared.backend.StoreError.TheVariants as store_error;
-ghost use Rattle.diamond_server.specs.Promises.{IsNew, KeepsPromises};
+ghost use Rattle.std.specs.Prelude.{◌≡◌, None};
+ghost use Rattle.docc_prepare.specs.Readable.{IsNew};
+ghost use Rattle.diamond_server.specs.Promises.{KeepsPromises};
 ghost use Rattle.remote_client.specs.Standing.{stood_for, Steps};
 ghost use Rattle.remote_command.specs.Running.{ends, KeepsOver, failure};
 

@@ -8,6 +8,8 @@ use Rattle.docc_prepare.specs.declared.backend.StoreError.{StoreError}
 use Rattle.docc_prepare.specs.declared.backend.StoreError.TheVariants as store_error
 use Rattle.docc_prepare.specs.Calls.{Known, Call, Answer}
 use Rattle.docc_prepare.specs.Backends.{CanCall, SaysOfJournal, IsAnswered, Goes}
+use Rattle.docc_prepare.specs.Readable.{IsReadOn}
+use Rattle.docc_prepare.proofs.Readable.{read-on}
 use Rattle.remote_wire.specs.declared.request.Request.{Request}
 use Rattle.remote_wire.specs.declared.request.Request.TheVariants as request
 use Rattle.remote_wire.specs.declared.answer.WireAnswer.{WireAnswer}
@@ -42,12 +44,22 @@ module _ {B : Type 0} (known : B → Known) (goes : B → Call → Answer → B 
       by : (o p : Option Journal) → o ≡ Some tells.journal → WhereTold (SaysOfJournal k l c a) o p → l.journal ≡ p → Tells l
       by None p e told is = absurd (cc)
       by (Some old) None e told is = absurd told
-      by (Some old) (Some new) e told is = record { journal = new; told = is; whole = record { legal = told.legal; within = told.within } }
+      by (Some old) (Some new) e told is = record {
+        journal = new;
+        told = is;
+        whole = record {
+          legal = told.legal;
+          readable = read-on k l c a old new event.client.trusted told (subst (λ (j : Journal). IsReadOn k j) (let same : tells.journal ≡ old = cc in same) tells.whole.readable);
+        };
+      }
 
   -- so what is whole of the backend is, of what it stands for
   if-whole : (s : Service) (l : Known) → Tells l → IfSome l.journal (IsWhole (known_at l s))
   if-whole s l tells = subst (λ (o : Option Journal). IfSome o (IsWhole (known_at l s))) (sym tells.told)
-      (record { legal = tells.whole.legal; within = tells.whole.within })
+      (let readable = tells.whole.readable in record {
+        legal = tells.whole.legal;
+        readable = record { within = readable.within; can = readable.can; can_on = readable.can_on };
+      })
 
   -- what is so is so where a journal is told
   if-some : {P : Type 0} (o : Option Journal) → P → IfSome o (λ journal. P)

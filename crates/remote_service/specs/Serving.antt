@@ -55,10 +55,6 @@ pub record Serves (s : Service) (k : Known) : Type 0 where
   pub fronted : AllByRecursion (λ x. k.fronted x.shard x.based x.front ≡ true) s.fronts
   pub told : IfSome k.journal (Stands s k.client)
 
--- a client that has no commit yet
-abbrev pub IsNew : Known → Type 0
-IsNew k = IfSome k.journal (λ journal. own k.client journal ≡ [])
-
 -- the service with a value more
 abbrev pub with_snap : Service → Address → ℕ → Value → Service
 with_snap s address base v = record s { snaps = s.snaps ++ record { address = address; base = base; value = v } ∷ [] }

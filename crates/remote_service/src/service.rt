@@ -2,7 +2,8 @@
 
 ghost use Rattle.std.specs.Prelude.{◌≡◌, []};
 ghost use Rattle.docc_prepare.specs.Calls.{Known};
-ghost use Rattle.remote_service.specs.Serving.{IsNew, Serves};
+ghost use Rattle.docc_prepare.specs.Readable.{IsNew};
+ghost use Rattle.remote_service.specs.Serving.{Serves};
 
 use crate::kept::{KeptFront, KeptSnap};
 use plain_data::Sequence;

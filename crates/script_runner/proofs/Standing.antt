@@ -14,15 +14,13 @@ use Rattle.dio_core.specs.Lines.{lines, line_of as cut_of, IsShort}
 use Rattle.rdt_types.specs.declared.settings.Settings.{Settings}
 use Rattle.txn_grammar.specs.Characters.{Text, is_blank}
 use Rattle.txn_lang.specs.Journals.{IsLegal}
-use Rattle.txn_lang.specs.States.{Journal}
-use Rattle.client_watches.specs.Standing.{CanRead}
-use Rattle.client_watches.proofs.Lined.{beginnings_attend}
-use Rattle.session_core.proofs.Grown.{prefix-whole}
 use Rattle.session_core.proofs.Minding.{none-keeps, none-minds}
+use Rattle.client_watches.proofs.Lined.{beginnings_attend}
 use Rattle.docc_prepare.specs.declared.limits.TheConstants.{CLIENTS}
 use Rattle.docc_prepare.specs.Stores.{Store, IsSound, known_by, first_store, followed}
 use Rattle.docc_prepare.proofs.Stored.{first_store_is_sound}
 use Rattle.docc_prepare.proofs.Elsewhere.{shards_follow}
+use Rattle.docc_prepare.proofs.Readable.{legal-reads}
 use Rattle.session_core.specs.declared.line.Line.{Line as Asked}
 use Rattle.session_core.specs.declared.session.Session.{Session}
 use Rattle.session_core.specs.declared.turn.Turn.{Turn}
@@ -65,10 +63,6 @@ each-first (suc n) client = by (each-first n client) (at-end (first_sessions n) 
         → goal (get_or (first_sessions n ++ Some (first_session n) ∷ []) client None)
     by before (inl same) = subst goal (sym same) before
     by before (inr last) = subst goal (sym last.1) (ap first_session (sym (last.0 ∙ many-first n)))
-
--- a journal of which nothing is taken on trust can be read
-pub legal-reads : (journal : Journal) → IsLegal 0 journal → CanRead journal
-legal-reads journal legal = beginnings_attend.readable journal journal (prefix-whole journal) legal
 
 -- a first session attends the first store
 first-attends : (settings : Settings) (client : ℕ)

@@ -25,6 +25,7 @@ use Rattle.docc_prepare.specs.Backends.{IsPrefix}
 use Rattle.docc_prepare.specs.declared.limits.TheConstants.{CLIENTS}
 use Rattle.docc_prepare.specs.Stores.{Store, IsSound, known_by, seen_by}
 use Rattle.docc_prepare.proofs.Elsewhere.{shards_follow}
+use Rattle.docc_prepare.proofs.Readable.{legal-reads}
 use Rattle.session_core.specs.declared.line.Line.{Line as Asked}
 use Rattle.session_core.specs.declared.session.Session.{Session}
 use Rattle.session_core.specs.declared.turn.Turn.{Turn}
@@ -50,7 +51,7 @@ use Rattle.script_runner.specs.Laws.{IsOfClient, LinesHaveEntries}
 use Rattle.script_runner.specs.Explained.{setting_of, first_story, is_to, told_to, ExplainsTold, ExplainsScript}
 use Rattle.script_runner.specs.Worlds.{Stands}
 use Rattle.script_runner.proofs.Places.{set-here, set-elsewhere, same-or-not}
-use Rattle.script_runner.proofs.Standing.{each-first, first-stands, answer-stands, legal-reads, played-stands, trimmed-shorter, after-shorter, cut-short}
+use Rattle.script_runner.proofs.Standing.{each-first, first-stands, answer-stands, played-stands, trimmed-shorter, after-shorter, cut-short}
 use Rattle.script_runner.proofs.Stood.{setting_in, IsPlayedTo, line-played}
 
 -- ---- what a client's line tells it

@@ -38,7 +38,6 @@ fn serve_new<K: End, N: Naming, R: Wait>(
 ) -> u8
     requires none { own pass.client pass.journal ≡ [] }
 {
-    let _seen = pass.seen();
     let mut served = Served { store, pass, rt };
     serve_session(alloc, &mut served, link)
 }

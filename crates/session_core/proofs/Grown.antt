@@ -1,9 +1,9 @@
 -- What holds of a journal and of every longer one.
 use Rattle.std.proofs.Common.{◌≡◌, ℕ, zero, suc, ◌-◌, ◌≤◌, Bool, true, false, cond, List, [], ◌∷◌, ◌++◌, append_assoc, length, take, drop}
-use Rattle.std.proofs.Common.{Option, Some, None, refl, sym, ap, ◌∙◌, subst, arith}
+use Rattle.std.proofs.Common.{Option, Some, None, refl, sym, ap, ◌∙◌, subst}
 use Rattle.std.specs.Prelude.{◌==◌, slice_get}
 use Rattle.std.specs.Option.{option_and_then}
-use Rattle.std.proofs.lemmas.List.{take-append-drop, take-append-le, length-take, take-take}
+use Rattle.std.proofs.lemmas.List.{take-append-drop, take-append-le}
 use Rattle.std.proofs.Math.Seq.{take-length}
 use Rattle.rdt_types.specs.declared.address.Address.{Address}
 use Rattle.abort_witness.specs.declared.witness.Based.{Based}
@@ -16,25 +16,13 @@ use Rattle.journal_core.specs.Journals.{commit_at}
 use Rattle.journal_core.specs.Pairs.{hits_from, pairs, least_pair}
 use Rattle.docc_prepare.specs.Backends.{IsPrefix}
 use Rattle.docc_prepare.specs.Witnesses.{witness_in, witness_of, least_witness}
+pub use Rattle.docc_prepare.proofs.Prefixes.{prefix-shorter, prefix-again, longer-is}
 
 -- ---- prefixes
 
 -- all of it is its own front
 pub prefix-whole : (journal : Journal) → IsPrefix journal journal
 prefix-whole journal = take-length journal
-
--- a front is no longer than the whole
-pub prefix-shorter : (old new : Journal) → IsPrefix old new → length old ≤ length new
-prefix-shorter old new p = let size = length-take (length old) new in let same = ap (λ (xs : Journal). length xs) p in omega arith
-
--- a front of a front is a front
-pub prefix-again : (first second third : Journal) → IsPrefix first second → IsPrefix second third → IsPrefix first third
-prefix-again first second third p q =
-    sym (take-take (length first) (length second) third (prefix-shorter first second p)) ∙ ap (λ (xs : Journal). take (length first) xs) q ∙ p
-
--- a longer journal is the journal, and more
-pub longer-is : (old new : Journal) → IsPrefix old new → new ≡ old ++ drop (length old) new
-longer-is old new p = sym (take-append-drop (length old) new) ∙ ap (λ (first : Journal). first ++ drop (length old) new) p
 
 -- the first commits are the same
 pub prefix-take : (old new : Journal) (n : ℕ) → IsPrefix old new → n ≤ length old → take n new ≡ take n old

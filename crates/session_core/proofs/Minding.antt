@@ -1,5 +1,5 @@
 -- What a session's watches rest on: it stays over calls that neither subscribe nor take, and over what others do.
-use Rattle.std.proofs.Common.{◌≡◌, ℕ, ◌≤◌, List, length, Option, Some, None, refl, sym, ◌∙◌, subst, arith}
+use Rattle.std.proofs.Common.{◌≡◌, ℕ, ◌≤◌, length, Option, Some, None, refl, sym, subst, arith}
 use Rattle.std.specs.Prelude.{IfSome}
 use Rattle.std.specs.List.Sorted.{IsStrictlySortedBy}
 use Rattle.dio_core.specs.Told.{WhereTold}
@@ -10,10 +10,11 @@ use Rattle.txn_lang.specs.States.{Journal}
 use Rattle.docc_prepare.specs.Calls.{Known, Call, Answer}
 use Rattle.docc_prepare.specs.Backends.{IsPrefix, IsAnswered, SaysOfJournal, HasGrown, IsLater}
 use Rattle.docc_prepare.specs.Stores.{HasFollowed}
+use Rattle.docc_prepare.proofs.Readable.{can-read-on}
 use Rattle.client_watches.specs.declared.watching.Watching.{Watching}
 use Rattle.client_watches.specs.Watching.{none_yet}
 use Rattle.client_watches.specs.Keeping.{Keeps}
-use Rattle.client_watches.specs.Standing.{CanRead, CanReadOn}
+use Rattle.docc_prepare.specs.Readable.{CanRead, CanReadOn}
 use Rattle.client_watches.specs.Explained.{shown_of}
 use Rattle.client_watches.specs.Laws.{Attends, MayBeShown}
 use Rattle.client_watches.proofs.Answering.{subscribes-on}
@@ -21,14 +22,6 @@ use Rattle.client_watches.proofs.Kept.{keeps-on}
 use Rattle.client_watches.proofs.Stays.{stands-stay}
 use Rattle.client_watches.proofs.Telling.{all-up-to, up-to-more}
 use Rattle.session_core.specs.Holding.{Minds, WatchesAttend}
-use Rattle.session_core.proofs.Grown.{prefix-again}
-
--- ---- journals that can be read
-
--- a journal that has grown can be read, however it grows
-pub can-read-on : (trusted trusts : ℕ) (old new : Journal) → trusts ≡ trusted → IsPrefix old new → CanReadOn trusted old → CanReadOn trusts new
-can-read-on trusted trusts old new same grows on later more legal =
-    on later (prefix-again old new later grows more) (subst (λ (n : ℕ). IsLegal n later) same legal)
 
 -- what stands for a journal stands for one that has grown, where the same is subscribed to and taken
 minds-on : (k l : Known) (w : Watching) (old new : Journal) → ((a : Address) → l.subscribed a ≡ k.subscribed a) → l.taken ≡ k.taken

@@ -20,7 +20,7 @@ use Rattle.session_core.specs.Lines.{line_of}
 use Rattle.session_core.specs.Events.{opened}
 use Rattle.client_watches.specs.Explained.{ShownList, GoalPasses}
 use Rattle.client_watches.specs.Goals.{Goal}
-use Rattle.client_watches.specs.Standing.{CanRead}
+use Rattle.docc_prepare.specs.Readable.{CanRead}
 use Rattle.client_watches.proofs.Lined.{passing_stays}
 use Rattle.client_watches.proofs.Stays.{AreUpTo}
 use Rattle.client_watches.proofs.Telling.{up-to-more}

@@ -4,7 +4,7 @@ use Rattle.txn_lang.specs.States.{Journal}
 use Rattle.docc_prepare.specs.Calls.{Known}
 use Rattle.docc_prepare.specs.Backends.{IsPrefix}
 use Rattle.client_watches.specs.Explained.{ShownList, shown_of}
-use Rattle.client_watches.specs.Standing.{CanRead}
+use Rattle.docc_prepare.specs.Readable.{CanRead}
 use Rattle.session_core.specs.declared.line.Line.{Line}
 use Rattle.session_core.specs.declared.session.Session.{Session}
 use Rattle.session_core.specs.declared.turn.Turn.{Turn}

@@ -18,7 +18,7 @@ use Rattle.session_core.specs.declared.turn.Turn.{Turn}
 use Rattle.session_core.specs.Lines.{line_of}
 use Rattle.session_core.specs.Holding.{Holds, Counts, Minds, Attends}
 use Rattle.client_watches.specs.Explained.{shown_of}
-use Rattle.client_watches.specs.Standing.{CanRead}
+use Rattle.docc_prepare.specs.Readable.{CanRead}
 use Rattle.session_core.specs.Explained.{Setting, Attempting, Story, attempting_of, story_of, Passes, low_after}
 use Rattle.session_core.specs.Explained.{attempting_after, begun_after, Explains}
 use Rattle.session_core.specs.Explained.{AreFrom, AreReported, MayBeTold}

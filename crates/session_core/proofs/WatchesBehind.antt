@@ -1,15 +1,15 @@
 -- The watches that a line leaves are those of the backend's client, and stand for the journal where that is told.
-use Rattle.std.proofs.Common.{◌≡◌, ℕ, Option, Some, None, refl, sym, ◌∙◌, subst}
+use Rattle.std.proofs.Common.{◌≡◌, Option, Some, None, refl, sym, ◌∙◌, subst}
 use Rattle.std.specs.Prelude.{IfSome}
 use Rattle.txn_lang.specs.States.{Journal}
-use Rattle.docc_prepare.specs.Calls.{Known, Call, Answer}
+use Rattle.docc_prepare.specs.Calls.{Known}
 use Rattle.docc_prepare.specs.Backends.{IsAnswered, IsSameClient}
 use Rattle.call_programs.specs.Programs.{Program}
 use Rattle.call_programs.specs.Safe.{MayAsk, IsSafe, AsksAny, AlwaysEnds}
 use Rattle.call_programs.proofs.Programs.{always_more}
 use Rattle.client_watches.specs.declared.watching.Watching.{Watching}
 use Rattle.client_watches.specs.Keeping.{Keeps}
-use Rattle.client_watches.specs.Standing.{CanReadOn}
+use Rattle.docc_prepare.specs.Readable.{CanReadOn}
 use Rattle.client_watches.specs.Goals.{Goal}
 use Rattle.client_watches.specs.Laws.{Attends, GoesOn, MayBeShown, Passes, Forgets}
 use Rattle.client_watches.specs.GoingOn.{WatchLine}
@@ -20,7 +20,8 @@ use Rattle.client_watches.proofs.Explaining.{sync_is_explained}
 use Rattle.client_watches.proofs.Forgotten.{unwatch_is_explained}
 use Rattle.client_watches.proofs.Making.{watch_is_explained}
 use Rattle.session_core.specs.Holding.{Minds, WatchesAttend}
-use Rattle.session_core.proofs.Minding.{can-read-on, untold-on, told-attends, reported-seen}
+use Rattle.docc_prepare.proofs.Readable.{can-read-on}
+use Rattle.session_core.proofs.Minding.{untold-on, told-attends, reported-seen}
 
 -- ---- every program
 

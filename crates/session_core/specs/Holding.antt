@@ -17,7 +17,8 @@ use Rattle.docc_prepare.specs.Calls.{Known}
 use Rattle.docc_prepare.specs.Backends.{IsGiven}
 use Rattle.client_watches.specs.declared.watching.Watching.{Watching}
 use Rattle.client_watches.specs.Keeping.{Keeps}
-use Rattle.client_watches.specs.Standing.{Subscribes, Stands, CanRead, CanReadOn}
+use Rattle.client_watches.specs.Standing.{Subscribes, Stands}
+use Rattle.docc_prepare.specs.Readable.{CanRead, CanReadOn}
 use Rattle.session_core.specs.declared.line.Line.{Line}
 use Rattle.session_core.specs.declared.line.Line.TheVariants as asked
 use Rattle.session_core.specs.declared.session.Session.{Session}

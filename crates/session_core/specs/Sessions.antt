@@ -15,7 +15,7 @@ use Rattle.journal_core.specs.Journals.{commit_at}
 use Rattle.docc_prepare.specs.Calls.{Known}
 use Rattle.docc_prepare.specs.Backends.{IsPrefix, IsLater}
 use Rattle.call_programs.specs.Safe.{CountsFault}
-use Rattle.client_watches.specs.Standing.{CanRead}
+use Rattle.docc_prepare.specs.Readable.{CanRead}
 use Rattle.session_core.specs.declared.line.Line.{Line}
 use Rattle.session_core.specs.declared.line.Line.TheVariants as asked
 use Rattle.session_core.specs.declared.session.Session.{Session}

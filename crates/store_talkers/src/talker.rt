@@ -2,7 +2,7 @@
 
 ghost use Rattle.std.specs.Prelude.{◌≡◌, []};
 ghost use Rattle.txn_lang.specs.Journals.{own};
-ghost use Rattle.diamond_store.specs.Passes.{known_of};
+ghost use Rattle.docc_prepare.specs.Readable.{IsNew};
 ghost use Rattle.session_core.specs.Holding.{Follows};
 
 use diamond_store::{Open, Pass, Served, Store};
@@ -37,13 +37,13 @@ pub fn say<B: Backend>(
     session.line(alloc, backend, line)
 }
 
-/// The first session of a client that has no commit yet.
-pub fn first_session<N: Naming>(alloc: Global, pass: &TestPass<N>) -> Session
-    requires own_commits { own pass.now.client pass.now.journal ≡ [] }
-    ensures { Follows (known_of pass.now) result }
+/// The first session of a backend's client, which has no commit yet.
+pub fn first_session<B: Backend>(alloc: Global, backend: &B) -> Session
+    requires { IsNew (B.known backend.now) }
+    ensures { Follows (B.known backend.now) result }
 {
-    let _shards = pass.shards();
-    Session::new(alloc, pass.client(), pass.seen())
+    let _shards = backend.shards();
+    Session::new(alloc, backend.client(), backend.seen())
 }
 
 /// The pass of a client that has no commit yet. It can go to another thread, where its session is made.
@@ -67,12 +67,14 @@ impl<N: Naming> Model for Newcomer<N> {
 }
 
 impl<N: Naming> Newcomer<N> {
+    /// The client of a pass, which has no commit yet.
     pub fn new(pass: TestPass<N>) -> Newcomer<N>
         requires own_commits { own pass.client pass.journal ≡ [] }
     {
         Newcomer { pass }
     }
 
+    /// The client's pass, of which it is still known that no commit is its own.
     pub fn into_pass(self) -> TestPass<N>
         ensures own_commits { own result.client result.journal ≡ [] }
     {
@@ -112,8 +114,8 @@ impl<'a, N: Naming, R: Wait> Talker<'a, N, R> {
         newcomer: Newcomer<N>,
     ) -> Talker<'a, N, R> {
         let pass = newcomer.into_pass();
-        let session = first_session(alloc, &pass);
         let served = Served { store, pass, rt };
+        let session = first_session(alloc, &served);
         Talker { served, session }
     }
 

@@ -29,7 +29,7 @@ use Rattle.version_shard.specs.Laws.{LegalIsReadable, TailsAreOfTheirKinds}
 use Rattle.version_shard.proofs.Folding.{AreRising}
 
 -- deltas stand by rising address
-abbrev IsRising : Deltas → Type 0
+abbrev pub IsRising : Deltas → Type 0
 IsRising deltas = IsStrictlySortedBy address_cmp (keys_of deltas)
 
 -- ---- the deltas of a run rise
@@ -65,7 +65,7 @@ unfolding exec
 run-rises body s run e = subst RanRises e (ended-rises (own_run body s))
 
 -- a commit has the deltas of its run
-commit-rises : (before : Journal) (commit : Commit) → IsRunAfter before commit → IsRising commit.deltas
+pub commit-rises : (before : Journal) (commit : Commit) → IsRunAfter before commit → IsRising commit.deltas
 commit-rises before commit runs = subst IsRising (sym runs.deltas) (run-rises runs.body (known (left_by before)) runs.run runs.ran)
 
 -- ---- a journal

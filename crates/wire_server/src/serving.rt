@@ -2,7 +2,8 @@
 
 ghost use Rattle.std.specs.Prelude.{◌≡◌, ◌<◌, ◌^◌, true, length, Ok, IfOk, OnOk};
 ghost use Rattle.diamond_server.specs.Promises.{sides};
-ghost use Rattle.remote_service.specs.Serving.{IsNew, Serves};
+ghost use Rattle.docc_prepare.specs.Readable.{IsNew};
+ghost use Rattle.remote_service.specs.Serving.{Serves};
 ghost use Rattle.wire_server.specs.Promises.{KeepsPromises};
 ghost use Rattle.wire_server.specs.code.Serving as spec;
 ghost use Rattle.wire_server.specs.code.Serving.{Turns, Ends};

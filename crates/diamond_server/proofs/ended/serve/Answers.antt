@@ -2,15 +2,8 @@ use Rattle.std.proofs.Common.{sym, subst}
 use Rattle.dio_core.specs.Links.{Both}
 use Rattle.diamond_store.specs.Passes.{known_of}
 use Rattle.diamond_server.specs.Promises.{sides}
-use Rattle.diamond_server.proofs.Beginning.{pass-is-new}
 use Rattle.diamond_server.proofs.Settled.{sides-same}
 use Rattle.diamond_server.proofs.ended.serve.Goals as goal
-
--- the pass's client is new
-pub serve-status-requires : goal.serve-status-requires
-serve-status-requires g c = record {
-  new = pass-is-new c.args.pass c.requires.newcomer c.seen-seen.ensures.within c.seen-seen.ensures.kept c.seen-seen.ensures.lawful;
-}
 
 -- what is promised stays so where the link is ended
 pub returns : goal.returns

@@ -12,8 +12,8 @@ pub loop-init : goal.loop-init
 loop-init g c =
     let known = g.B.Backend.known c.args.backend.now in
     let shards = subst (λ (n : ℕ). (LEAST_SHARDS ≤ n) × (n ≤ MOST_SHARDS)) c.shards-shards.ensures.shards c.shards-shards.ensures.in_range in
-    let first = new-attends known shards c.requires.new in
-    let session = c.new-session.ensures ∙ first-is known c.client.result c.seen.result c.client.ensures c.seen.ensures in record {
+    let first = new-attends known shards c.seen.ensures.readable c.requires.new in
+    let session = c.new-session.ensures ∙ first-is known c.client.result c.seen.result c.client.ensures c.seen.ensures.seen in record {
       served = serves-none session c.new-held.ensures;
       attends = subst (λ (s : Session). Attends known s) (sym session) first;
       first = first;

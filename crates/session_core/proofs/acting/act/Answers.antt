@@ -86,7 +86,7 @@ returns-in-Wait-clause-plays g c =
 pub returns-in-Seen-clause-plays : goal.returns-in-Seen-clause-plays
 returns-in-Seen-clause-plays g c =
     does_of _ _ _ _ _ c.said-in-Seen.result (ap (line_over (g.B.Backend.known c.args.backend.now) c.args.session.now) c.in-Seen.is
-    ∙ ap (λ n. says c.args.session.now (reply.Seen n)) (sym c.seen.ensures))
+    ∙ ap (λ n. says c.args.session.now (reply.Seen n)) (sym c.seen.ensures.seen))
     (said_does _ _ _ _ _ (Ok (reply.Seen c.seen.result)) c.said-in-Seen.result c.args.session.now c.said-in-Seen.ensures Leads.stays)
 
 pub returns-in-Quit-clause-plays : goal.returns-in-Quit-clause-plays

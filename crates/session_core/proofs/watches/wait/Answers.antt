@@ -21,10 +21,10 @@ pub returns-then-branch-clause-plays : goal.returns-then-branch-clause-plays
 returns-then-branch-clause-plays g c =
     performs_behind _ _ _ c.sync.result (one_call (Answer.number c.in_ok-refresh.field-0) c.in_ok-refresh.ensures.goes tt
     (waited_for c.args.session.now (g.B.Backend.known c.args.backend.now).seen c.in_ok-refresh.field-0
-    (let more = c.if-branch.true in let is = c.seen-seen.ensures in omega arith))) c.sync.ensures.plays
+    (let more = c.if-branch.true in let is = c.seen-seen.ensures.seen in omega arith))) c.sync.ensures.plays
 
 pub returns-else-branch-clause-plays : goal.returns-else-branch-clause-plays
 returns-else-branch-clause-plays g c =
     one_call (Answer.number c.in_ok-refresh.field-0) c.in_ok-refresh.ensures.goes tt
     (none_to_wait_for c.args.session.now (g.B.Backend.known c.args.backend.now).seen c.in_ok-refresh.field-0
-    (let few = c.if-branch.false in let is = c.seen-seen.ensures in omega arith))
+    (let few = c.if-branch.false in let is = c.seen-seen.ensures.seen in omega arith))

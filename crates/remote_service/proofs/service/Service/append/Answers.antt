@@ -49,7 +49,7 @@ returns-clause-responds g c =
       subst (λ (xs : List Base). AreSame xs (bases_of ready.based)) c.as_slice.ensures
           (same-named s c.client.result c.shards.result c.args.body.now c.as_slice.result.now ready made),
     )
-    c.append-outcome.result c.seen.result c.seen.ensures c.append-outcome.ensures.goes)))
+    c.append-outcome.result c.seen.result c.seen.ensures.seen c.append-outcome.ensures.goes)))
 
 -- and it goes on serving
 pub returns-clause-serves : goal.returns-clause-serves

@@ -23,7 +23,7 @@ returns-clause-responds g c =
     (Call.prepare c.args.shard c.args.observed.now) c.keep_front.result passes
     (prepare-responds g.B.Backend.known g.B.Backend.goes c.args.self.now c.args.backend.now c.prepare-outcome.new.self c.requires.serves
     c.keep_front.new.self c.args.shard c.args.observed.now (may-prepare c.args.self.now k c.args.shard c.args.observed.now c.requires.serves passes)
-    c.prepare-outcome.result c.seen.result c.keep_front.result c.seen.ensures c.prepare-outcome.ensures.goes c.keep_front.ensures)
+    c.prepare-outcome.result c.seen.result c.keep_front.result c.seen.ensures.seen c.prepare-outcome.ensures.goes c.keep_front.ensures)
 
 -- what was given is kept
 pub returns-clause-serves : goal.returns-clause-serves

@@ -6,5 +6,5 @@ use Rattle.remote_service.proofs.service.Service.read_at.Goals as goal
 pub returns-clause-serves : goal.returns-clause-serves
 returns-clause-serves g c = read_at-serves g.B.Backend.known g.B.Backend.goes c.args.self.now c.args.backend.now c.read_at-outcome.new.self
     c.requires.serves c.args.address.now c.args.number
-    (short c.args.address.now (sym c.if-not-is_short.ensures), subst (λ (n : ℕ). c.args.number ≤ n) c.seen.ensures c.if-number-seen.false)
+    (short c.args.address.now (sym c.if-not-is_short.ensures), subst (λ (n : ℕ). c.args.number ≤ n) c.seen.ensures.seen c.if-number-seen.false)
     c.read_at-outcome.result c.read_at-outcome.ensures.goes
