@@ -29,6 +29,7 @@ pub mod GoingOn
 pub mod Within
 pub mod AskingFew
 pub mod Safe
+pub mod Approaching
 pub mod WatchCalls
 pub mod WatchesBehind
 pub mod LinesSafe

@@ -124,7 +124,7 @@ module _ {B : Type 0} {known : B → Known} {goes : B → Call → Answer → B 
 -- ---- rounds
 
 -- so many are left, of which this is one
-one_event : (i : ℕ) → i < MOST_EVENTS → events - i ≡ suc (events - (i + 1))
+pub one_event : (i : ℕ) → i < MOST_EVENTS → events - i ≡ suc (events - (i + 1))
 unfolding events
 one_event i within = omega arith
 

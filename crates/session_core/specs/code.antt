@@ -1,2 +1,3 @@
+pub mod Approaching
 pub mod Reading
 pub mod Turning

@@ -3,13 +3,15 @@
 ghost use Rattle.std.specs.Prelude.{◌≡◌, ◌-◌};
 ghost use Rattle.session_core.specs.Events as spec;
 ghost use Rattle.session_core.specs.Events.{closed};
+ghost use Rattle.session_core.specs.code.Approaching.{Approaches, DoesLast};
 ghost use Rattle.session_core.specs.code.Turning as turning;
 ghost use Rattle.session_core.specs.Holding.{Attends, Holds};
 ghost use Rattle.session_core.specs.Stopping.{Does};
 ghost use Rattle.session_core.specs.Verbs as verbs;
 
+use crate::approach::Approach;
 use crate::error::SessionError;
-use crate::event::event_on;
+use crate::event::{append_event, append_last, event_on};
 use crate::limits::MOST_EVENTS;
 use crate::remembered::Remembered;
 use crate::session::Session;
@@ -17,28 +19,50 @@ use docc_prepare::{Attempt, Backend};
 use session_text::Reply;
 use std::alloc::Global;
 
-/// Makes events of an attempt until its end, and answers the reply that shows that.
-pub fn drive<B: Backend>(
+/// Makes events of an attempt until its append is next, or it has ended.
+#[inline(always)]
+fn until_append<B: Backend>(
     alloc: Global,
     backend: &mut B,
     session: &Session,
     attempt: &mut Attempt,
-) -> Result<Reply, SessionError>
+) -> Result<Approach, SessionError>
     requires attends { Attends (B.known backend.old) (closed session.now) }
     requires holds { Holds (B.known backend.old) attempt.old }
-    ensures plays { Does B.known B.goes backend.old (verbs.drive session.now attempt.old) result
-        (λ reply. (attempt.new, reply)) backend.new }
+    ensures approaches { Approaches B.known B.goes session.now backend.old attempt.old result
+        backend.new attempt.new }
     ensures home { B.home backend.new ≡ B.home backend.old }
 {
     let mut known = Remembered::nothing(alloc);
     for _ in 0..MOST_EVENTS {
-        let end = event_on(alloc, backend, session, attempt, &mut known)?;
-        if let Some(reply) = end {
-            return Ok(reply);
+        let near = event_on(alloc, backend, session, attempt, &mut known)?;
+        if let Some(end) = near {
+            return Ok(end);
         }
     }
     // An attempt makes no more events than its run has ticks, the store has shards, and one.
     unreachable!()
+}
+
+/// Makes events of an attempt until its end, and answers the reply that shows that. The attempt isn't needed again.
+pub fn drive<B: Backend>(
+    alloc: Global,
+    backend: &mut B,
+    session: &Session,
+    attempt: Attempt,
+) -> Result<Reply, SessionError>
+    requires attends { Attends (B.known backend.old) (closed session.now) }
+    requires holds { Holds (B.known backend.old) attempt }
+    ensures plays { DoesLast B.known B.goes backend.old (verbs.drive session.now attempt) result
+        backend.new }
+    ensures home { B.home backend.new ≡ B.home backend.old }
+{
+    let mut attempt = attempt;
+    let end = until_append(alloc, backend, session, &mut attempt)?;
+    match end {
+        Approach::End(reply) => Ok(reply),
+        Approach::Append(run, based) => append_last(alloc, backend, session, attempt, run, based),
+    }
 }
 
 /// One attempt from its beginning to its end: a refresh, and its events.
@@ -53,6 +77,27 @@ fn attempt_once<B: Backend>(
     ensures plays { Does B.known B.goes backend.old
         (verbs.attempt_once session.now attempt.old) result
         (λ reply. (attempt.new, reply)) backend.new }
+    ensures home { B.home backend.new ≡ B.home backend.old }
+{
+    backend.refresh()?;
+    let end = until_append(alloc, backend, session, attempt)?;
+    match end {
+        Approach::End(reply) => Ok(reply),
+        Approach::Append(run, based) => append_event(alloc, backend, session, attempt, run, based),
+    }
+}
+
+/// The same, where the attempt isn't needed again.
+fn last_attempt<B: Backend>(
+    alloc: Global,
+    backend: &mut B,
+    session: &Session,
+    attempt: Attempt,
+) -> Result<Reply, SessionError>
+    requires attends { Attends (B.known backend.old) (closed session.now) }
+    requires holds { Holds (B.known backend.old) attempt }
+    ensures plays { DoesLast B.known B.goes backend.old (verbs.attempt_once session.now attempt)
+        result backend.new }
     ensures home { B.home backend.new ≡ B.home backend.old }
 {
     backend.refresh()?;
@@ -109,5 +154,5 @@ pub fn try_times<B: Backend>(
         }
         attempt = afresh(alloc, attempt);
     }
-    attempt_once(alloc, backend, session, &mut attempt)
+    last_attempt(alloc, backend, session, attempt)
 }

@@ -1,21 +1,23 @@
 //! One event of an attempt: the call that its next event is, and what the answer makes of it.
 
-ghost use Rattle.std.specs.Prelude.{◌≡◌, ℕ, Some, None, IfOk, IfSome, OnOk, Err};
-ghost use Rattle.txn_lang.specs.declared.run.Run.{Run};
+ghost use Rattle.std.specs.Prelude.{◌≡◌, Some, None, IfOk, OnOk, Err};
 ghost use Rattle.docc_prepare.specs.declared.attempt.Attempt.{Attempt};
 ghost use Rattle.docc_prepare.specs.Attempts.{in_shard, based, next_event, ready_of, with_front, KeepsPauses, Prepares};
 ghost use Rattle.docc_prepare.specs.Calls.{snap_answered, front_answered, commit_answered};
+ghost use Rattle.docc_prepare.specs.Backends.{CanAppend};
 ghost use Rattle.session_core.specs.Events.{closed};
 ghost use Rattle.session_core.specs.Holding.{Attends, Holds};
 ghost use Rattle.session_core.specs.code.Turning.{Turned, Appends, moved_on_read, moved_on_prepare, moved_on_append};
-ghost use Rattle.session_core.specs.Remembering.{AreAllOf, IsRunOf, IsKnownOf, Remembers};
+ghost use Rattle.session_core.specs.Remembering.{AreAllOf, IsKnownOf, Remembers};
+ghost use Rattle.session_core.specs.code.Approaching.{IsReadyOf, Nears};
 ghost use Rattle.session_core.specs.Verbs as verbs;
 ghost use Rattle.session_core.specs.Verbs.{was_read, was_prepared};
 ghost use Rattle.session_core.specs.Stopping.{Does};
 
+use crate::approach::Approach;
 use crate::error::SessionError;
 use crate::moved::Moved;
-use crate::remembered::{Ran, Remembered};
+use crate::remembered::Remembered;
 use crate::session::Session;
 use abort_witness::BasedList;
 use docc_prepare::{AppendError, Attempt, Backend, Next, PrepareError, StoreError};
@@ -23,7 +25,7 @@ use journal_core::{Barred, Ready};
 use rdt_types::{Address, Outcome};
 use session_text::Reply;
 use std::alloc::{AllocError, Global};
-use txn_lang::{Run, Snap};
+use txn_lang::{Checked, Run, Snap};
 use version_shard::Prepared;
 
 /// What an answered read makes of an attempt, and the front at which the value was read.
@@ -84,13 +86,9 @@ fn after_prepare(
 
 /// The reply with which an attempt ends at an answered append.
 #[inline(always)]
-fn after_append(
-    attempt: &Attempt,
-    outcome: Outcome,
-    answer: Result<u64, AppendError>,
-) -> Result<Reply, SessionError>
-    requires { Appends attempt.now outcome }
-    ensures { Turned attempt.now (commit_answered answer) (moved_on_append attempt.now result) }
+fn after_append(outcome: Outcome, answer: Result<u64, AppendError>) -> Result<Reply, SessionError>
+    ensures { (a : Attempt) → Appends a outcome →
+        Turned a (commit_answered answer) (moved_on_append a result) }
 {
     match answer {
         Ok(number) => Ok(Reply::Commit(number, outcome)),
@@ -151,23 +149,6 @@ fn based_here(
     match attempt.based(alloc, run, shard) {
         Ok(all) => Ok(all),
         Err(AllocError) => Err(SessionError::NoMemory),
-    }
-}
-
-/// What a run observed in one shard, where that is all that it observed: then its append is next once the shard is prepared.
-fn whole(run: &Run, here: BasedList) -> Option<BasedList>
-    ensures all { (a : Attempt) (shard : ℕ) →
-        here ≡ in_shard a.shards shard (based a.snaps run.now.observations) →
-        AreAllOf a run.now result }
-    ensures append { (a : Attempt) (shard front : ℕ) →
-        here ≡ in_shard a.shards shard (based a.snaps run.now.observations) →
-        next_event a ≡ Next.Prepare shard run.now →
-        IfSome result (λ all. next_event (with_front a shard front) ≡ Next.Append run.now) }
-{
-    if here.len() == run.observations.len() {
-        Some(here)
-    } else {
-        None
     }
 }
 
@@ -244,9 +225,22 @@ fn readied(
     }
 }
 
+/// Hands to the journal what was made of an attempt whose append is next, and answers the reply with which that ends.
+#[inline(always)]
+fn handed<B: Backend>(backend: &mut B, ready: Ready) -> Result<Reply, SessionError>
+    requires { CanAppend (B.known backend.old) ready }
+    ensures plays { (s : Session) (a : Attempt) → IsReadyOf s a ready →
+        Does B.known B.goes backend.old (verbs.event s a) result (Moved.End a) backend.new }
+    ensures home { B.home backend.new ≡ B.home backend.old }
+{
+    let answer = backend.append(&ready);
+    let Ready { run, .. } = ready;
+    after_append(run.outcome, answer)
+}
+
 /// Hands an attempt to the journal, and answers the reply with which it ends.
 #[inline(always)]
-fn append_event<B: Backend>(
+pub fn append_event<B: Backend>(
     alloc: Global,
     backend: &mut B,
     session: &Session,
@@ -263,47 +257,84 @@ fn append_event<B: Backend>(
     ensures home { B.home backend.new ≡ B.home backend.old }
 {
     let ready = readied(alloc, session, attempt, run, based)?;
-    let answer = backend.append(&ready);
-    let Ready { run, .. } = ready;
-    after_append(attempt, run.outcome, answer)
+    handed(backend, ready)
 }
 
-/// The next event of an attempt whose run is known, and what that observed with bases, where it is at hand. The append is next then.
+/// What is handed to the journal of an attempt that isn't needed again. Its text and its fronts are moved.
 #[inline(always)]
-fn next_known(attempt: &Attempt, ran: Ran) -> (Next, Option<BasedList>)
-    requires { IsRunOf attempt.now ran }
-    ensures next { result.0 ≡ next_event attempt.now }
-    ensures based { (run : Run) → result.0 ≡ Next.Append run → AreAllOf attempt.now run result.1 }
+fn taken_apart(session: &Session, attempt: Attempt, run: Run, based: BasedList) -> Ready
+    requires { AreAllOf attempt run (Some based) }
+    ensures { result ≡ ready_of attempt run session.now.client session.now.seq }
 {
-    let Ran { run, based } = ran;
-    let next = match based {
-        Some(_) => Next::Append(run),
-        None => attempt.next_on(run),
-    };
-    (next, based)
+    let Attempt { body, fronts, .. } = attempt;
+    let Checked { source, .. } = body;
+    Ready {
+        client: session.client,
+        seq: session.seq,
+        body: source,
+        run,
+        based,
+        fronts,
+    }
 }
 
-/// The next event of an attempt, by what is known of its run, and what that observed with bases, where it is at hand. A run that
-/// is known is taken.
+/// The same, where observations with bases may not be at hand.
 #[inline(always)]
-fn next_of(
+fn last_readied(
     alloc: Global,
-    attempt: &Attempt,
-    known: &mut Remembered,
-) -> Result<(Next, Option<BasedList>), SessionError>
+    session: &Session,
+    attempt: Attempt,
+    run: Run,
+    based: Option<BasedList>,
+) -> Result<Ready, SessionError>
+    requires next { next_event attempt ≡ Next.Append run }
+    requires based { AreAllOf attempt run based }
+    ensures ok { IfOk result (λ ready.
+        ready ≡ ready_of attempt run session.now.client session.now.seq) }
+    ensures err { (e : SessionError) → result ≡ Err e → e ≡ SessionError.NoMemory }
+{
+    match based {
+        Some(all) => Ok(taken_apart(session, attempt, run, all)),
+        None => readied(alloc, session, &attempt, run, None),
+    }
+}
+
+/// Hands an attempt that isn't needed again to the journal, and answers the reply with which it ends.
+#[inline(always)]
+pub fn append_last<B: Backend>(
+    alloc: Global,
+    backend: &mut B,
+    session: &Session,
+    attempt: Attempt,
+    run: Run,
+    based: Option<BasedList>,
+) -> Result<Reply, SessionError>
+    requires attends { Attends (B.known backend.old) (closed session.now) }
+    requires holds { Holds (B.known backend.old) attempt }
+    requires next { next_event attempt ≡ Next.Append run }
+    requires based { AreAllOf attempt run based }
+    ensures plays { Does B.known B.goes backend.old (verbs.event session.now attempt) result
+        (Moved.End attempt) backend.new }
+    ensures home { B.home backend.new ≡ B.home backend.old }
+{
+    let ready = last_readied(alloc, session, attempt, run, based)?;
+    handed(backend, ready)
+}
+
+/// The next event of an attempt, by what is known of its run. A run that is known is taken.
+#[inline(always)]
+fn next_of(alloc: Global, attempt: &Attempt, known: &mut Remembered) -> Result<Next, SessionError>
     requires { IsKnownOf attempt.now known.old }
-    ensures ok { IfOk result (λ next. next.0 ≡ next_event attempt.now) }
-    ensures based { IfOk result (λ next. (run : Run) →
-        next.0 ≡ Next.Append run → AreAllOf attempt.now run next.1) }
+    ensures ok { IfOk result (λ next. next ≡ next_event attempt.now) }
     ensures known { IfOk result (λ next. IsKnownOf attempt.now known.new) }
     ensures taken { IfOk result (λ next. known.new.ran ≡ None) }
     ensures err { (e : SessionError) → result ≡ Err e → e ≡ SessionError.NoMemory }
 {
-    if let Some(ran) = known.ran.take() {
-        return Ok(next_known(attempt, ran));
+    if let Some(run) = known.ran.take() {
+        return Ok(attempt.next_on(run));
     }
     match attempt.next_from(alloc, &mut known.pause) {
-        Ok(next) => Ok((next, None)),
+        Ok(next) => Ok(next),
         Err(AllocError) => Err(SessionError::NoMemory),
     }
 }
@@ -319,26 +350,26 @@ fn next_anew(alloc: Global, attempt: &Attempt) -> Result<Next, SessionError>
     }
 }
 
-/// Makes the next event of an attempt of a session, by what is known of its run. What is then known of it stands in that place: a
-/// read leaves the run where it has paused, and a preparing changes nothing of it. Where the attempt has ended it answers the
-/// reply that shows its end.
+/// Makes the next event of an attempt of a session, by what is known of its run, unless that is the append. What is then known of
+/// the run stands in that place: a read leaves it where it has paused, and a preparing changes nothing of it. It answers where the
+/// attempt has come to, if it has ended or its append is next.
+#[inline(always)]
 pub fn event_on<B: Backend>(
     alloc: Global,
     backend: &mut B,
     session: &Session,
     attempt: &mut Attempt,
     known: &mut Remembered,
-) -> Result<Option<Reply>, SessionError>
+) -> Result<Option<Approach>, SessionError>
     requires attends { Attends (B.known backend.old) (closed session.now) }
     requires holds { Holds (B.known backend.old) attempt.old }
     requires known { IsKnownOf attempt.old known.old }
-    ensures plays { Does B.known B.goes backend.old (verbs.event_on session.now attempt.old) result
-        (λ end. (attempt.new, end)) backend.new }
-    ensures known { IfOk result (λ end. Remembers attempt.new end known.new) }
+    ensures nears { Nears B.known B.goes session.now backend.old attempt.old result backend.new
+        attempt.new }
+    ensures known { IfOk result (λ near. Remembers attempt.new near known.new) }
     ensures home { B.home backend.new ≡ B.home backend.old }
 {
-    let (next, based) = next_of(alloc, attempt, known)?;
-    match next {
+    match next_of(alloc, attempt, known)? {
         Next::Read(address) => {
             read_event(backend, session, attempt, address)?;
             Ok(None)
@@ -347,17 +378,17 @@ pub fn event_on<B: Backend>(
             let all = based_here(alloc, attempt, &run, shard)?;
             match prepare_event(backend, session, attempt, shard, &run, &all)? {
                 Ok(_) => {
-                    let based = whole(&run, all);
-                    known.ran = Some(Ran { run, based });
+                    // One shard has all that was observed, so the append is next.
+                    if all.len() == run.observations.len() {
+                        return Ok(Some(Approach::Append(run, Some(all))));
+                    }
+                    known.ran = Some(run);
                     Ok(None)
                 }
-                Err(reply) => Ok(Some(reply)),
+                Err(reply) => Ok(Some(Approach::End(reply))),
             }
         }
-        Next::Append(run) => {
-            let reply = append_event(alloc, backend, session, attempt, run, based)?;
-            Ok(Some(reply))
-        }
+        Next::Append(run) => Ok(Some(Approach::Append(run, None))),
     }
 }
 

@@ -9,6 +9,7 @@
 #![tactic(auto)]
 
 mod acting;
+mod approach;
 mod body;
 mod driving;
 mod error;

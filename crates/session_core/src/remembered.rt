@@ -3,24 +3,15 @@
 ghost use Rattle.docc_prepare.specs.declared.attempt.Attempt.{Attempt};
 ghost use Rattle.session_core.specs.Remembering.{IsKnownOf};
 
-use abort_witness::BasedList;
 use std::alloc::Global;
 use txn_eval::Pause;
 use txn_lang::Run;
-
-/// A run that is done.
-#[derive(Drop)]
-pub(crate) struct Ran {
-    pub run: Run,
-    /// All that it observed, with bases, where one shard has it and was prepared.
-    pub based: Option<BasedList>,
-}
 
 /// What is known of an attempt's run between its events, so that nothing of its body is run again.
 #[derive(Drop)]
 pub(crate) struct Remembered {
     /// The run, where it is done.
-    pub ran: Option<Ran>,
+    pub ran: Option<Run>,
     /// Where the run has paused.
     pub pause: Pause,
 }

@@ -126,8 +126,7 @@ pub fn go<B: Backend>(
     match session.attempt.take() {
         None => Ok(Reply::Refused(Why::NoAttempt)),
         Some(attempt) => {
-            let mut attempt = attempt;
-            let reply = drive(alloc, backend, session, &mut attempt)?;
+            let reply = drive(alloc, backend, session, attempt)?;
             session.seq = next_seq(session.seq, &reply);
             Ok(reply)
         }

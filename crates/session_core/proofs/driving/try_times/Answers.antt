@@ -43,7 +43,7 @@ loop-preserved g c =
 pub returns-clause-plays : goal.returns-clause-plays
 returns-clause-plays g c =
     let last : c.args.tries - c.loop.counter ≡ 0 = omega arith in
-    does_behind _ _ c.attempt_once-2.result
+    does_behind _ _ c.last_attempt.result
     (to_same (ap (λ (n : ℕ). try_times n c.args.session.now c.loop.attempt) last) c.loop.invariant.plays)
     (once_asks c.args.session.now c.loop.attempt last_shown)
-    (does_made _ _ _ _ _ _ (λ (end : AttemptEnd). end.1) c.attempt_once-2.result c.attempt_once-2.ensures.plays)
+    (does_made _ _ _ _ _ _ (λ (end : AttemptEnd). end.1) c.last_attempt.result c.last_attempt.ensures.plays.1)

@@ -27,13 +27,13 @@ returns-in_err-reply-in-Some-clause-plays g c =
     let s = c.args.session.now in
     let begun = open_is s (goes_on s) c.in-Some.attempt (sym c.take.ensures.value ∙ c.in-Some.is)
     ∙ ap (λ (o : Option Attempt). bind (drive (with_attempt s o) c.in-Some.attempt) (shown s)) (sym c.take.ensures.after) in
-    does_fail _ c.from_residual.result c.from_residual.ensures.1 (short_of begun (short_in (shown s) c.in_err-reply-in-Some.ensures.plays))
+    does_fail _ c.from_residual.result c.from_residual.ensures.1 (short_of begun (short_in (shown s) c.in_err-reply-in-Some.ensures.plays.1))
 
 pub returns-in_ok-reply-in-Some-clause-plays : goal.returns-in_ok-reply-in-Some-clause-plays
 returns-in_ok-reply-in-Some-clause-plays g c =
     let s = c.args.session.now in
     let begun = open_is s (goes_on s) c.in-Some.attempt (sym c.take.ensures.value ∙ c.in-Some.is)
     ∙ ap (λ (o : Option Attempt). bind (drive (with_attempt s o) c.in-Some.attempt) (shown s)) (sym c.take.ensures.after) in
-    and_then (here begun) (bound (shown s) c.in_ok-reply-in-Some.ensures.plays
+    and_then (here begun) (bound (shown s) c.in_ok-reply-in-Some.ensures.plays.1
     (here (ap (λ t. Program.ends (t, said c.in_ok-reply-in-Some.reply))
     (ended_as s c.take.new.self c.next_seq-session.result c.in_ok-reply-in-Some.reply c.take.ensures.after c.next_seq-session.ensures))))

@@ -5,7 +5,7 @@ use Rattle.session_core.specs.Events.{closed}
 use Rattle.session_core.specs.Holding.{Attends, Holds}
 use Rattle.session_core.specs.Remembering.{IsKnownOf}
 use Rattle.session_core.specs.Verbs.{events, drive_in, drive}
-use Rattle.session_core.proofs.driving.drive.Given as goal
+use Rattle.session_core.proofs.driving.until_append.Given as goal
 
 abbrev pub invariant-loop : goal.invariant-loop
 invariant-loop g l = record {
