@@ -181,34 +181,49 @@ fn what_two_threads_raise_counts_their_commits(rt: HostRuntime) {
     }
 }
 
-/// A client that has seen nothing waits for a commit. It answers how many there are then.
+/// A client that has seen nothing waits, until there are so many commits. It answers how many there are then.
 fn awaited<N: Naming, R: Wait>(
     rt: &R,
     store: &TestStore<N>,
     newcomer: Newcomer<N>,
+    commits: u64,
 ) -> Result<u64, StoreError> {
     let mut pass = newcomer.into_pass();
-    store.wait(rt, &mut pass)?;
+    for _ in 0..commits {
+        if store.length(&mut pass) >= commits {
+            break;
+        }
+        store.wait(rt, &mut pass)?;
+    }
     Ok(store.length(&mut pass))
 }
 
-/// One client waits, while another says a line once.
+/// Two clients wait, each in a thread of its own, while another says a line so many times.
 fn wait_and_work<N: Naming + Send + Sync, R: Threads + Wait + Abort + Sync>(
     rt: &R,
     alloc: Global,
     store: &TestStore<N>,
     mut first: Founder<N>,
     line: &[u8],
+    times: u64,
 ) {
     let waiter = new_client(rt, store, &mut first);
+    let other = new_client(rt, store, &mut first);
     let writer = new_client(rt, store, &mut first);
-    let (waited, (_pass, tally)) = join(
+    let (waited, (other, (_pass, tally))) = join(
         rt,
-        || awaited(rt, store, waiter),
-        || work(rt, alloc, store, writer, line, 1),
+        || awaited(rt, store, waiter, times),
+        || {
+            join(
+                rt,
+                || awaited(rt, store, other, times),
+                || work(rt, alloc, store, writer, line, times),
+            )
+        },
     );
-    assert!(rt; tally.is_ok_and(|tally| tally.commits == 1));
-    assert!(rt; waited.is_ok_and(|length| length == 1));
+    assert!(rt; tally.is_ok_and(|tally| tally.commits == times));
+    assert!(rt; waited.is_ok_and(|length| length == times));
+    assert!(rt; other.is_ok_and(|length| length == times));
 }
 
 /// The same on a store of its own.
@@ -218,6 +233,7 @@ fn wait_on_its_own<N: Naming + Send + Sync, R: Threads + Wait + Abort + Sync>(
     opened: Opened<Book<MemKeep>>,
     settings: &Settings,
     line: &[u8],
+    times: u64,
 )
     requires lock { opened.lock ≡ N.lock }
     requires settings { HasSettings opened.lock.origin settings.now }
@@ -225,17 +241,29 @@ fn wait_on_its_own<N: Naming + Send + Sync, R: Threads + Wait + Abort + Sync>(
     requires author { opened.front.author ≡ None }
 {
     match TestStore::<N>::new(alloc, settings, opened, Open) {
-        Ok((store, first)) => wait_and_work(rt, alloc, &store, Founder::new(first), line),
+        Ok((store, first)) => {
+            wait_and_work(rt, alloc, &store, Founder::new(first), line, times);
+        }
+        Err(_) => assert!(rt; false),
+    }
+}
+
+/// Two wait while another adds so many times.
+fn wait_for<R: Threads + Wait + Abort + Sync>(rt: &R, alloc: Global, times: u64) {
+    let settings = Settings::standard();
+    let line = b"do counter(\"x\").add(1);";
+    match open(alloc, &settings, MemKeep, CommitList::new(alloc)) {
+        Ok(opened) => wait_on_its_own::<Brand, _>(rt, alloc, opened, &settings, line, times),
         Err(_) => assert!(rt; false),
     }
 }
 
 #[test]
-fn who_waits_returns_once_another_has_committed(rt: HostRuntime) {
-    let settings = Settings::standard();
-    let line = b"do counter(\"x\").add(1);";
-    match open(rt.alloc(), &settings, MemKeep, CommitList::new(rt.alloc())) {
-        Ok(opened) => wait_on_its_own::<Brand, _>(&rt, rt.alloc(), opened, &settings, line),
-        Err(_) => assert!(rt; false),
-    }
+fn one_commit_wakes_all_who_wait(rt: HostRuntime) {
+    wait_for(&rt, rt.alloc(), 1);
+}
+
+#[test]
+fn no_commit_comes_unheard(rt: HostRuntime) {
+    wait_for(&rt, rt.alloc(), 300);
 }

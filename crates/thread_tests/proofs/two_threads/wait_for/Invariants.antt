@@ -1,4 +1,4 @@
-use Rattle.thread_tests.proofs.two_threads.who_waits_returns_once_another_has_committed.Given as goal
+use Rattle.thread_tests.proofs.two_threads.wait_for.Given as goal
 
 -- the lock that was just opened
 abbrev pub ghosts-wait_on_its_own : goal.ghosts-wait_on_its_own
