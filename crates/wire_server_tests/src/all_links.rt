@@ -33,7 +33,7 @@ const WIRE_ANSWERED: usize = 42;
 const LINES: &[u8] = b"do emit 7;\ndo emit 8;\n";
 
 /// Serves a session of lines of a new client.
-fn serve_lines<K: End, N: Naming, R: Wait>(
+pub(crate) fn serve_lines<K: End, N: Naming, R: Wait>(
     rt: &R,
     alloc: Global,
     store: &TestStore<N>,

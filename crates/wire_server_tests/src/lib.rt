@@ -10,8 +10,12 @@ mod absent;
 #[cfg(test)]
 mod all_links;
 #[cfg(test)]
+mod journal;
+#[cfg(test)]
 mod lengths;
 #[cfg(test)]
 mod one_link;
+#[cfg(test)]
+mod race;
 #[cfg(test)]
 mod serving;
