@@ -1,5 +1,5 @@
 -- A line's reruns by what runs next: a watch that has run is reported, and the others are left.
-use Rattle.std.proofs.Common.{◌≡◌, ℕ, suc, ◌-◌, Bool, true, false, Some, List, [], ◌∷◌, ◌++◌, append_assoc, refl, sym, ap, ◌∙◌, subst}
+use Rattle.std.proofs.Common.{◌≡◌, ℕ, suc, ◌-◌, true, false, Some, List, [], ◌∷◌, ◌++◌, append_assoc, refl, sym, ap, ◌∙◌, subst}
 use Rattle.std.proofs.lemmas.List.{append-nil}
 use Rattle.plain_data.specs.Texts.{Bytes}
 use Rattle.rdt_types.specs.declared.address.Address.{Address}
@@ -9,10 +9,9 @@ use Rattle.txn_lang.specs.declared.run.Run.{Run}
 use Rattle.txn_lang.specs.States.{PartialState}
 use Rattle.txn_lang.specs.Execution.{Ran, need, done, exec}
 use Rattle.client_cache.specs.Cached.{held}
-use Rattle.rerun_driver.specs.declared.watch.Watch.{Watch}
 use Rattle.rerun_driver.specs.declared.rerun.Rerun.{Rerun}
 use Rattle.rerun_driver.specs.declared.rerun.Rerun.TheVariants as rerun
-use Rattle.rerun_driver.specs.Watches.{Watches, next_rerun, with_report}
+use Rattle.rerun_driver.specs.Watches.{next_rerun, with_report}
 use Rattle.docc_prepare.specs.Calls.{Answer}
 use Rattle.call_programs.specs.Programs.{Program, bind}
 use Rattle.client_watches.specs.declared.watching.Watching.{Watching}
@@ -25,14 +24,9 @@ use Rattle.client_watches.proofs.Stale.{one-fewer, it-needs, has-run}
 use Rattle.watch_reruns.specs.declared.reruns.Reruns.{Reruns}
 use Rattle.watch_reruns.specs.declared.reruns.Reruns.TheVariants as reruns
 use Rattle.watch_reruns.specs.Reruns.{Bodies, stale_of, in_front, reruns_of, all_reruns}
-use Rattle.watch_reruns.specs.Repeated.{or_again, HaveNamesApart}
-use Rattle.watch_reruns.proofs.Repeated.{all-by-next, fresh, others-left, first-among}
+use Rattle.rerun_lines.specs.Repeated.{or_again}
+use Rattle.rerun_lines.proofs.Repeated.{all-by-next, fresh, others-left, others-among}
 use Rattle.rerun_lines.specs.AtOnce.{with_reruns, reports_of, done_by, runs_before, AsksFirst, RerunsAtOnce, NeedsAreAsked}
-
--- names that are distinct are apart
-apart-of : (ws : Watches) → AreDistinct ws → HaveNamesApart ws
-apart-of [] all = tt
-apart-of (x ∷ ws) all = (all.0, apart-of ws all.1)
 
 -- ---- one round
 
@@ -71,7 +65,7 @@ after_report w name run = all_reruns (held w.cache) (with_report w.watches name 
 -- all reruns are the next one and what follows
 all-are : (w : Watching) (r : Rerun) → AreDistinct w.watches → next_rerun (held w.cache) w.watches ≡ r
     → all_reruns (held w.cache) w.watches ≡ or_again (after_report w) r
-all-are w r all e = all-by-next (held w.cache) w.cache.at w.watches (apart-of w.watches all) ∙ ap (or_again (after_report w)) e
+all-are w r all e = all-by-next (held w.cache) w.cache.at w.watches all ∙ ap (or_again (after_report w)) e
 
 -- where a run is in front, something has run
 some-ran : (ran : Bytes × Run) (r : Reruns) → in_front ran r ≡ reruns.Ran [] → ⊥
@@ -171,13 +165,13 @@ asks-next b bs w said address (rerun.Need other) all e is h rest =
     let both : reruns.Need other ≡ reruns.Need address = sym (all-are w _ all e) ∙ h in
     let same : other ≡ address = cc in
     let needs = it-needs state w.watches other e in
-    let first = (first-among w.watches needs.entry (apart-of w.watches all) needs.first).others (fresh needs.entry.1) refl in
+    let first = others-among w.watches needs.entry (fresh needs.entry.1) all needs.first refl in
     subst (Asks w said address) (sym (before-by state needs.entry.0 needs.entry.1.body (b ∷ bs) _ (need other) (sym is ∙ first) needs.needed))
     (asks-here w said address (e ∙ ap rerun.Need same))
 asks-next b bs w said address (rerun.Ran name run) all e is h rest =
     let state = held w.cache in
     let ran = has-run state w.watches name run e in
-    let first = sym is ∙ others-left w.watches (name, ran.watch) w.cache.at run (apart-of w.watches all) ran.first in
+    let first = sym is ∙ others-left w.watches (name, ran.watch) w.cache.at run all ran.first in
     let left : bs ≡ stale_of (with_report w.watches name w.cache.at run) = cc in
     subst (Asks w said address)
     (sym (before-by state name ran.watch.body (b ∷ bs) _ (done run) first ran.done ∙ ap (λ o. (name, run) ∷ runs_before state o) (sym left)))

@@ -1,6 +1,13 @@
 //! Laws: functions that do nothing, whose contracts are theorems over the definitions.
 
 ghost use Rattle.rerun_lines.specs.AtOnce.{NeedsAreAsked, RerunsAtOnce};
+ghost use Rattle.rerun_lines.specs.Repeated.{RerunsAreRepeated};
+
+/// The law that the reruns of a driver's stale watches are what its next rerun and the report of that give, again and again,
+/// until none is stale or one needs a value.
+pub fn reruns_are_repeated()
+    ensures { RerunsAreRepeated }
+{}
 
 /// The law that a line whose reruns need no value asks for nothing, and reports all of them.
 pub fn reruns_at_once()

@@ -1,16 +1,10 @@
 -- What is known of reruns once the first of them are done.
 use Rattle.std.proofs.Common.{◌≡◌, List, [], ◌∷◌, ◌++◌, append_assoc, refl, sym, ap}
 use Rattle.plain_data.specs.Texts.{Bytes}
-use Rattle.rdt_types.specs.declared.address.Address.{Address}
 use Rattle.txn_lang.specs.declared.run.Run.{Run}
 use Rattle.watch_reruns.specs.declared.reruns.Reruns.{Reruns}
 use Rattle.watch_reruns.specs.declared.reruns.Reruns.TheVariants as reruns
-use Rattle.watch_reruns.specs.Reruns.{in_front}
-
--- others are behind runs that are done
-abbrev pub behind : List (Bytes × Run) → Reruns → Reruns
-behind list (reruns.Need address) = reruns.Need address
-behind list (reruns.Ran others) = reruns.Ran (list ++ others)
+use Rattle.watch_reruns.specs.Reruns.{in_front, behind}
 
 -- behind none
 pub behind-none : (all : Reruns) → behind [] all ≡ all

@@ -1,7 +1,5 @@
 -- What the reruns of stale watches come to, on the values of one state.
-use Rattle.std.specs.Prelude.{◌≡◌, List, [], ◌∷◌, map, if◌then◌else◌, Result, IfOk, refl}
-use Rattle.std.specs.List.{AllZip}
-use Rattle.std.specs.declared.alloc.AllocError.{AllocError}
+use Rattle.std.specs.Prelude.{◌≡◌, List, [], ◌∷◌, ◌++◌, map, if◌then◌else◌, refl}
 use Rattle.plain_data.specs.Texts.{Bytes}
 use Rattle.rdt_types.specs.declared.address.Address.{Address}
 use Rattle.txn_lang.specs.declared.checked.Checked.{Checked}
@@ -42,6 +40,11 @@ abbrev pub in_front : Bytes × Run → Reruns → Reruns
 in_front ran (reruns.Need address) = reruns.Need address
 in_front ran (reruns.Ran list) = reruns.Ran (ran ∷ list)
 
+-- a list of watches has run, and then others
+abbrev pub behind : List (Bytes × Run) → Reruns → Reruns
+behind list (reruns.Need address) = reruns.Need address
+behind list (reruns.Ran others) = reruns.Ran (list ++ others)
+
 -- a watch's run needs a value, and that is all; or it is done, and is in front of the others
 abbrev pub begun_by : WatchRun → Reruns → Reruns
 begun_by (watch_run.Need address) others = reruns.Need address
@@ -55,14 +58,6 @@ reruns_of state (watch ∷ others) = begun_by (watch_rerun state watch.0 watch.1
 -- the same of the stale ones among all watches
 abbrev pub all_reruns : PartialState → Watches → Reruns
 all_reruns state watches = reruns_of state (stale_of watches)
-
--- a run is that of a watch, unless memory was wanting
-abbrev pub IsRunOf : PartialState → Bytes × Checked → Result WatchRun AllocError → Type 0
-IsRunOf state watch run = IfOk run (λ r. r ≡ watch_rerun state watch.0 watch.1)
-
--- each run is that of the watch in its place
-abbrev pub AreRunsOf : PartialState → Bodies → List (Result WatchRun AllocError) → Type 0
-AreRunsOf state bodies runs = AllZip (IsRunOf state) bodies runs
 
 -- ---- worked
 

@@ -24,20 +24,6 @@ pub trait Rerunner {
 #[derive(Clone, Copy)]
 pub struct One;
 
-/// The runs one after another.
-fn run_each(alloc: Global, stale: &[StaleWatch<'_>], cache: &Cache) -> Result<Reruns, AllocError>
-    ensures { IfOk result (λ all. all ≡ reruns_of (held cache.now) (bodies_of stale.now)) }
-{
-    let mut list = RunList::new(alloc);
-    for watch in stale {
-        match run_watch(alloc, watch, cache)? {
-            WatchRun::Need(address) => return Ok(Reruns::Need(address)),
-            WatchRun::Done(name, run) => list.push((name, run))?,
-        }
-    }
-    Ok(Reruns::Ran(list))
-}
-
 impl Rerunner for One {
     fn rerun(
         &self,
@@ -45,6 +31,13 @@ impl Rerunner for One {
         stale: &[StaleWatch<'_>],
         cache: &Cache,
     ) -> Result<Reruns, AllocError> {
-        run_each(alloc, stale, cache)
+        let mut list = RunList::new(alloc);
+        for watch in stale {
+            match run_watch(alloc, watch, cache)? {
+                WatchRun::Need(address) => return Ok(Reruns::Need(address)),
+                WatchRun::Done(name, run) => list.push((name, run))?,
+            }
+        }
+        Ok(Reruns::Ran(list))
     }
 }

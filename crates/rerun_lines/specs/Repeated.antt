@@ -1,12 +1,13 @@
 -- Reruns one after another, each of the first stale watch, whose report is taken then; and the law that this gives what all reruns
 -- come to.
-use Rattle.std.specs.Prelude.{◌≡◌, ◌<◌, ℕ, zero, suc, List, [], ◌∷◌, length, None, refl}
+use Rattle.std.specs.Prelude.{◌≡◌, ◌<◌, ℕ, zero, suc, [], length, refl}
 use Rattle.plain_data.specs.Texts.{Bytes}
 use Rattle.txn_lang.specs.declared.run.Run.{Run}
 use Rattle.txn_lang.specs.States.{PartialState}
 use Rattle.rerun_driver.specs.declared.rerun.Rerun.{Rerun}
 use Rattle.rerun_driver.specs.declared.rerun.Rerun.TheVariants as rerun
-use Rattle.rerun_driver.specs.Watches.{Watches, watch_of, with_report, next_rerun}
+use Rattle.rerun_driver.specs.Watches.{Watches, with_report, next_rerun}
+use Rattle.client_watches.specs.Keeping.{AreDistinct}
 use Rattle.watch_reruns.specs.declared.reruns.Reruns.{Reruns}
 use Rattle.watch_reruns.specs.declared.reruns.Reruns.TheVariants as reruns
 use Rattle.watch_reruns.specs.Reruns.{stale_of, in_front, all_reruns}
@@ -24,15 +25,11 @@ repeated zero state number watches = reruns.Ran []
 repeated (suc n) state number watches =
     or_again (λ name run. repeated n state number (with_report watches name number run)) (next_rerun state watches)
 
--- no two watches have one name
-abbrev pub HaveNamesApart : Watches → Type 0
-HaveNamesApart [] = Unit {0}
-HaveNamesApart (entry ∷ watches) = (watch_of watches entry.0 ≡ None) × HaveNamesApart watches
-
--- Where it is repeated more often than watches are stale, it gives what all reruns come to.
+-- REPEATED IS ALL: where no two watches have one name, and it is repeated more often than watches are stale, it gives what all
+-- reruns come to.
 abbrev pub RerunsAreRepeated : Type 0
 RerunsAreRepeated =
-    (state : PartialState) (number n : ℕ) (watches : Watches) → HaveNamesApart watches → length (stale_of watches) < n
+    (state : PartialState) (number n : ℕ) (watches : Watches) → AreDistinct watches → length (stale_of watches) < n
     → repeated n state number watches ≡ all_reruns state watches
 
 -- ---- worked

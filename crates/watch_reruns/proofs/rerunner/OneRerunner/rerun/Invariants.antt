@@ -1,8 +1,7 @@
 use Rattle.std.proofs.Common.{◌≡◌, drop}
 use Rattle.client_cache.specs.Cached.{held}
-use Rattle.watch_reruns.specs.Reruns.{bodies_of, reruns_of}
-use Rattle.watch_reruns.proofs.Behind.{behind}
-use Rattle.watch_reruns.proofs.rerunner.run_each.Given as goal
+use Rattle.watch_reruns.specs.Reruns.{behind, bodies_of, reruns_of}
+use Rattle.watch_reruns.proofs.rerunner.OneRerunner.rerun.Given as goal
 
 -- the runs so far, and behind them what the other watches' come to, are all
 abbrev pub invariant-loop-watch : goal.invariant-loop-watch
