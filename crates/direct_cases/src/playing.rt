@@ -96,7 +96,7 @@ fn far_client<'a, N: Naming, R: Wait>(
     }
 }
 
-/// Plays a case over a store that was just opened. No `&str` stands among the parameters of a call that names a lock.
+/// Plays a case over a store that was just opened. The case is bytes, since a caller can name the lock of no callee that takes a `&str`.
 fn played<N: Naming, R: Wait>(
     rt: &R,
     alloc: Global,

@@ -4,7 +4,6 @@ ghost use Rattle.std.specs.Prelude.{◌≡◌, None, []};
 ghost use Rattle.txn_lang.specs.Journals.{own};
 ghost use Rattle.diamond_store.specs.Numbers.{from_in, HasSettings};
 
-use crate::serving::{TestPass, TestStore};
 use diamond_server::{Tally, serve_session};
 use diamond_store::{Book, JoinError, Open, Served, open};
 use dio_core::{End, MemLink, MemLinks, MemListener};
@@ -17,6 +16,7 @@ use std::marker::Brand;
 use std::process::Abort;
 use std::sync::Wait;
 use std::thread::{Threads, join};
+use store_talkers::{TestPass, TestStore};
 use txn_lang::CommitList;
 use wire_server::{MALFORMED, serve_all_wire};
 

@@ -2,7 +2,8 @@
 //! what went in, which no clause sees. They stand apart from that crate since each test function is proved as any other, and would
 //! be proved with its library each time that one changes.
 //!
-//! `serving` serves one link over a store of its own, and `absent` is a store that isn't there.
+//! `serving` serves one link over a store of its own, `absent` is a store that isn't there, and `journal` holds what clients were
+//! told against the journal that is left.
 #![tactic(auto)]
 
 #[cfg(test)]

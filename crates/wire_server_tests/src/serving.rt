@@ -4,7 +4,7 @@ ghost use Rattle.std.specs.Prelude.{◌≡◌, None, []};
 ghost use Rattle.txn_lang.specs.Journals.{own};
 ghost use Rattle.diamond_store.specs.Numbers.{from_in, HasSettings};
 
-use diamond_store::{Book, Open, Pass, Served, Store, open};
+use diamond_store::{Book, Open, Served, open};
 use dio_core::End;
 use history_lock::{Naming, Opened};
 use journal_core::MemKeep;
@@ -12,14 +12,9 @@ use rdt_types::Settings;
 use std::alloc::{AllocError, Global};
 use std::marker::Brand;
 use std::sync::Wait;
+use store_talkers::{TestPass, TestStore};
 use txn_lang::CommitList;
 use wire_server::serve_wire;
-
-/// The store of a test: it keeps nothing, and holds nobody up.
-pub(crate) type TestStore<N> = Store<MemKeep, Open, N>;
-
-/// A client's pass on it.
-pub(crate) type TestPass<N> = Pass<MemKeep, N>;
 
 /// Answers the requests of a new client. The status, and its pass.
 pub(crate) fn serve_new<K: End, N: Naming, R: Wait>(
