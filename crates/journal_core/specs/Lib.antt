@@ -1,5 +1,6 @@
 pub mod Changes
 pub mod Pairs
+pub mod Lent
 pub mod Tails
 pub mod Readies
 pub mod Kinds

@@ -2,7 +2,6 @@
 use Rattle.std.specs.Prelude.{◌≡◌, ℕ, List}
 use Rattle.change_feed.specs.declared.change.Change.{Change}
 use Rattle.change_feed.specs.declared.tail.Tail.{Tail}
-use Rattle.change_feed.specs.Lists.{listed}
 use Rattle.journal_core.specs.declared.lent.LentTail.{LentTail}
 
 -- the tail goes from one number to another, and has exactly these changes
@@ -13,4 +12,4 @@ pub record HasAll (first last : ℕ) (all : List Change) (tail : Tail) : Type 0 
 
 -- what is lent is a tail
 abbrev pub tail_of : LentTail → Tail
-tail_of lent = record { from = lent.from; to = lent.to; changes = listed lent.changes; in_order = lent.in_order }
+tail_of lent = record { from = lent.from; to = lent.to; changes = lent.changes.now; in_order = lent.in_order }

@@ -27,8 +27,8 @@ fn add_of_address(
     Ok(())
 }
 
-/// Copies of the changes at an address.
-pub(crate) fn copies_of_address(
+/// Copies of the changes at an address, in order. It goes through all of them.
+pub fn copies_of_address(
     alloc: Global,
     mut changes: Changes<'_>,
     address: &Address,

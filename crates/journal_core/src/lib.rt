@@ -29,11 +29,14 @@ mod tails;
 mod walk;
 
 pub use appended::Appended;
+pub use copying::copies_of_address;
 pub use hold::{Barred, Hold};
 pub use journal::Journal;
 pub use keep::{Keep, KeepFault, MemKeep};
 pub use laws::{least_is_first, least_pair_is_least};
-pub use lent::LentTail;
+pub use lent::{LentChanges, LentTail};
 pub use limits::{FIRST_UNTOLD_CLIENT, HOLD_LASTS, LONGEST_BODY};
 pub use ready::{FrontList, PreparedFront, Ready};
+pub use segments::Segments;
 pub use slot::Slot;
+pub use walk::between;

@@ -48,7 +48,7 @@ fn seal(
 /// Changes in order, and for how many more there is memory. Contracts see the pair of both. Those in sealed segments don't
 /// change any more, and are shared with whoever follows them.
 #[derive(Debug, Drop)]
-pub(crate) struct Segments {
+pub struct Segments {
     alloc: Global,
     sealed: Vec<Segment>,
     last: Vec<Change>,
@@ -73,7 +73,7 @@ impl Model for Segments {
 
 impl Segments {
     /// No changes.
-    pub(crate) fn new(alloc: Global) -> Segments
+    pub fn new(alloc: Global) -> Segments
         ensures { result.0 ≡ [] }
     {
         Segments {
@@ -84,7 +84,7 @@ impl Segments {
     }
 
     /// The changes, lent.
-    pub(crate) fn lend(&self) -> Changes<'_>
+    pub fn lend(&self) -> Changes<'_>
         ensures changes { listed result ≡ self.now.0 }
         ensures whole { IsWhole result }
     {
@@ -96,7 +96,7 @@ impl Segments {
     }
 
     /// Takes memory for some more changes. The last segment is sealed first, if it is full.
-    pub(crate) fn reserve(&mut self, more: usize) -> Result<(), AllocError>
+    pub fn reserve(&mut self, more: usize) -> Result<(), AllocError>
         ensures items { self.new.0 ≡ self.old.0 }
         ensures kept { self.old.1 ≤ self.new.1 }
         ensures ok { OnOk result (more ≤ self.new.1) }
@@ -108,7 +108,7 @@ impl Segments {
     }
 
     /// Adds a change for which there is memory.
-    pub(crate) fn push(&mut self, change: Change)
+    pub fn push(&mut self, change: Change)
         requires { 0 < self.old.1 }
         ensures items { self.new.0 ≡ self.old.0 ++ change ∷ [] }
         ensures room { self.old.1 ≤ self.new.1 + 1 }

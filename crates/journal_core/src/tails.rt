@@ -8,7 +8,7 @@ ghost use Rattle.journal_core.specs.Pairs.{AreNumbered};
 ghost use Rattle.journal_core.specs.Tails.{HasAll, tail_of};
 
 use crate::copying::{all_changes, copies_of_address};
-use crate::lent::LentTail;
+use crate::lent::{LentChanges, LentTail};
 use crate::log::Log;
 use crate::walk::between;
 use change_feed::{ChangeList, Changes, Tail};
@@ -85,11 +85,8 @@ pub(crate) fn lent_in_shard(log: &Log, shard: u8, from: u64, to: u64) -> LentTai
     requires { from ≤ to }
     ensures { HasAll from to (spec.of_shard log.now.shards shard (spec.between from to (spec.changes log.now.commits))) (tail_of result) }
 {
-    LentTail {
-        from,
-        to,
-        changes: between_in_shard(log, shard, from, to),
-    }
+    let changes = LentChanges::of(between_in_shard(log, shard, from, to));
+    LentTail { from, to, changes }
 }
 
 /// The tail of the changes in a shard, which shares segments.
@@ -104,7 +101,8 @@ pub(crate) fn tail_of_shard(
     ensures { IfOk result (HasAll from to (spec.of_shard log.now.shards shard (spec.between from to (spec.changes log.now.commits)))) }
 {
     let lent = lent_in_shard(log, shard, from, to);
-    let changes = lent.changes.share(alloc)?;
+    let pieces = lent.changes.pieces();
+    let changes = pieces.share(alloc)?;
     Ok(as_tail(from, to, changes))
 }
 

@@ -88,8 +88,9 @@ pub(crate) fn up_to(changes: Changes<'_>, to: u64) -> Changes<'_>
     }
 }
 
-/// The changes of commits past one number and up to another, of changes whose numbers don't fall.
-pub(crate) fn between(changes: Changes<'_>, from: u64, to: u64) -> Changes<'_>
+/// The changes of commits past one number and up to another, of changes whose numbers don't fall. It takes no memory, and
+/// a few steps: the places are found by halving.
+pub fn between(changes: Changes<'_>, from: u64, to: u64) -> Changes<'_>
     requires whole { IsWhole changes }
     requires order { Rises 0 (listed changes) }
     ensures { listed result ≡ spec.between from to (listed changes.entry) }

@@ -38,10 +38,10 @@ fn follow_one(
 /// Follows changes one by one. Where there is no memory for one of them it answers the number of its commit.
 fn follow_each(kept: &mut Kept, alloc: Global, tail: &LentTail<'_>, window: u16) -> Result<(), u64>
     requires { AreKept tail.now.from kept.old }
-    ensures ok { OnOk result ((a : Address) → versions_of kept.new a ≡ followed_along window a (listed tail.now.changes) (versions_of kept.old a)) }
+    ensures ok { OnOk result ((a : Address) → versions_of kept.new a ≡ followed_along window a tail.now.changes.now (versions_of kept.old a)) }
     ensures err { IfErr result (λ number. StopsAt window (tail_of tail.now) number kept.old kept.new) }
 {
-    let mut rest = tail.changes;
+    let mut rest = tail.changes.pieces();
     while let Some(piece) = rest.next_piece() {
         for change in piece {
             if follow_one(kept, alloc, change, window).is_err() {
@@ -80,15 +80,16 @@ pub(crate) fn reach(
     window: u16,
 ) -> Result<(), u64>
     requires { AreKept tail.now.from kept.old }
-    ensures ok { OnOk result (Reaches window (listed tail.now.changes) tail.now.to kept.old kept.new) }
+    ensures ok { OnOk result (Reaches window tail.now.changes.now tail.now.to kept.old kept.new) }
     ensures within { IfErr result (λ front. (tail.now.from ≤ front) × (front ≤ tail.now.to)) }
-    ensures err { IfErr result (λ front. Reaches window (listed tail.now.changes) front kept.old kept.new) }
+    ensures err { IfErr result (λ front. Reaches window tail.now.changes.now front kept.old kept.new) }
 {
     match follow_each(kept, alloc, tail, window) {
         Ok(()) => Ok(()),
         Err(number) => {
             let front = number - 1;
-            cut_each(kept, &tail.changes, front);
+            let pieces = tail.changes.pieces();
+            cut_each(kept, &pieces, front);
             Err(front)
         }
     }

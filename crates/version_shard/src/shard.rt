@@ -3,7 +3,6 @@
 ghost use Rattle.std.specs.Prelude.{◌≡◌, ◌+◌, ◌<◌, ◌≤◌, take, OnOk, IfOk};
 ghost use Rattle.std.specs.List.{AllByRecursion};
 ghost use Rattle.change_feed.specs.Feeds.{AreOfTheirKinds};
-ghost use Rattle.change_feed.specs.Lists.{listed};
 ghost use Rattle.abort_witness.specs.Kinds.{IsBasedOfOneKind};
 ghost use Rattle.txn_lang.specs.States.{Journal, state};
 ghost use Rattle.version_shard.specs.Shards as spec;
@@ -22,7 +21,7 @@ use crate::validating::{late_base, least_hit, witness_of};
 use abort_witness::Based;
 use change_feed::Tail;
 use conflict_table::Steps;
-use journal_core::LentTail;
+use journal_core::{LentChanges, LentTail};
 use rdt_types::{Address, Settings, Value, default_value};
 use std::alloc::{AllocError, Global};
 use std::marker::Model;
@@ -107,17 +106,18 @@ impl Shard {
         ensures within { self.new.front ≤ tail.now.to }
         ensures holds { (journal : Journal) → IsNext journal self.old tail.now → HoldsSoFar journal self.old → HoldsSoFar journal self.new }
     {
+        let changes = LentChanges::of(tail.changes.lend());
         self.follow_lent(&LentTail {
             from: tail.from,
             to: tail.to,
-            changes: tail.changes.lend(),
+            changes,
         })
     }
 
     /// Follows a tail that a journal lends.
     pub fn follow_lent(&mut self, tail: &LentTail<'_>) -> Result<(), AllocError>
         requires from { tail.now.from ≡ self.old.front }
-        requires kinds { AreOfTheirKinds (listed tail.now.changes) }
+        requires kinds { AreOfTheirKinds tail.now.changes.now }
         ensures same { self.new ≡ record self.old { front = self.new.front; kept = self.new.kept } }
         ensures reached { OnOk result (self.new.front ≡ tail.now.to) }
         ensures never_back { self.old.front ≤ self.new.front }

@@ -8,11 +8,13 @@ use Rattle.version_shard.proofs.Pieces.{AreLeft, all-left, pieces-left, none-lef
 use Rattle.version_shard.proofs.following.follow_each.Goals as goal
 
 pub loop-piece-init : goal.loop-piece-init
-loop-piece-init c = all-left c.args.window (listed c.args.tail.now.changes) c.args.kept.now
+loop-piece-init c =
+    let all = c.args.tail.now.changes.now in
+    subst (λ l. AreLeft c.args.window all l c.args.kept.now c.args.kept.now) (sym c.pieces-rest.ensures) (all-left c.args.window all c.args.kept.now)
 
 pub loop-change-init : goal.loop-change-init
 loop-change-init c =
-    pieces-left c.args.window (listed c.args.tail.now.changes) (listed c.loop-piece.rest) c.args.kept.now c.loop-piece.kept c.loop-piece.invariant
+    pieces-left c.args.window c.args.tail.now.changes.now (listed c.loop-piece.rest) c.args.kept.now c.loop-piece.kept c.loop-piece.invariant
     c.in-Some.piece.now (listed c.next_piece.new.self) c.in-Some.ensures.piece
 
 pub follow_one-requires : goal.follow_one-requires
@@ -64,10 +66,10 @@ loop-change-preserved c =
 
 pub loop-piece-preserved : goal.loop-piece-preserved
 loop-piece-preserved c =
-    subst (λ l. AreLeft c.args.window (listed c.args.tail.now.changes) (l ++ listed c.next_piece.new.self) c.args.kept.now c.loop-change.kept)
+    subst (λ l. AreLeft c.args.window c.args.tail.now.changes.now (l ++ listed c.next_piece.new.self) c.args.kept.now c.loop-change.kept)
     (drop_of_length-le c.in-Some.piece.now c.loop-change-test.false) c.loop-change.invariant
 
 pub returns-clause-ok : goal.returns-clause-ok
 returns-clause-ok c =
-    none-left c.args.window (listed c.args.tail.now.changes) (listed c.loop-piece.rest) c.args.kept.now c.loop-piece.kept c.loop-piece.invariant
+    none-left c.args.window c.args.tail.now.changes.now (listed c.loop-piece.rest) c.args.kept.now c.loop-piece.kept c.loop-piece.invariant
     c.in_default.ensures.piece

@@ -5,7 +5,7 @@ use Rattle.version_shard.proofs.following.follow_each.Given as goal
 
 -- those so far were followed
 abbrev pub invariant-loop-piece : goal.invariant-loop-piece
-invariant-loop-piece l = AreLeft l.window (listed l.tail.changes) (listed l.rest) l.fn.kept l.kept
+invariant-loop-piece l = AreLeft l.window l.tail.changes.now (listed l.rest) l.fn.kept l.kept
 
 -- the pieces come to an end
 abbrev pub decreases-loop-piece : goal.decreases-loop-piece
@@ -13,4 +13,4 @@ decreases-loop-piece l = pieces_left l.rest
 
 -- of a piece too
 abbrev pub invariant-loop-change : goal.invariant-loop-change
-invariant-loop-change l = AreLeft l.window (listed l.tail.changes) (drop l.change-index l.piece ++ listed l.rest) l.fn.kept l.kept
+invariant-loop-change l = AreLeft l.window l.tail.changes.now (drop l.change-index l.piece ++ listed l.rest) l.fn.kept l.kept

@@ -1,5 +1,7 @@
-use Rattle.std.proofs.Common.{arith}
+use Rattle.std.proofs.Common.{arith, ap, ◌-◌, ◌∙◌}
 use Rattle.journal_core.specs.Tails.{tail_of}
+use Rattle.version_shard.specs.Shards.{versions_of}
+use Rattle.version_shard.specs.code.Following.{cut_along}
 use Rattle.version_shard.proofs.Keeping.{reaches-whole, reaches-part}
 use Rattle.version_shard.proofs.following.reach.Goals as goal
 
@@ -20,4 +22,5 @@ pub returns-in-Err-clause-err : goal.returns-in-Err-clause-err
 returns-in-Err-clause-err c =
     reaches-part c.args.window (tail_of c.args.tail.now) c.args.kept.now c.requires c.in-Err.number c.follow_each.new.kept c.cut_each.new.kept
     c.in-Err.ensures.err
-    c.cut_each.ensures
+    (λ a. c.cut_each.ensures a
+    ∙ ap (λ l. cut_along (c.in-Err.number - 1) a l (versions_of c.follow_each.new.kept a)) c.pieces-pieces.ensures)

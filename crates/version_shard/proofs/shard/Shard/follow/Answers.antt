@@ -4,7 +4,7 @@ use Rattle.change_feed.specs.Feeds.{AreOfTheirKinds}
 use Rattle.version_shard.proofs.shard.Shard.follow.Goals as goal
 
 pub follow_lent-requires-clause-kinds : goal.follow_lent-requires-clause-kinds
-follow_lent-requires-clause-kinds c = subst (λ (l : List Change). AreOfTheirKinds l) (sym c.lend.ensures) c.requires.kinds
+follow_lent-requires-clause-kinds c = subst (λ (l : List Change). AreOfTheirKinds l) (sym (c.of-changes.ensures ∙ c.lend.ensures)) c.requires.kinds
 
 -- the same tail, lent
 pub returns-clause-holds : goal.returns-clause-holds
@@ -13,6 +13,6 @@ returns-clause-holds c journal next holds =
     (record {
       readable = next.readable;
       within = next.within;
-      exact = record { begins = next.exact.begins; ends = next.exact.ends; exact = c.lend.ensures ∙ next.exact.exact };
+      exact = record { begins = next.exact.begins; ends = next.exact.ends; exact = c.of-changes.ensures ∙ c.lend.ensures ∙ next.exact.exact };
     })
     holds
