@@ -1,5 +1,6 @@
 pub mod Names
 pub mod Stale
+pub mod Reruns
 pub mod Kept
 pub mod Parts
 pub mod Journals

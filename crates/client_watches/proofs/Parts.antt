@@ -1,6 +1,8 @@
 -- What functions owe that perform parts of a line, and what these parts come to.
 use Rattle.std.proofs.Common.{◌≡◌, ◌↔◌, ℕ, suc, ◌+◌, ◌-◌, ◌<◌, true, false, cond, List, [], ◌∷◌, length, get_or, drop, Option, Some, None, is_some}
-use Rattle.std.proofs.Common.{Ok, Err, refl, sym, ap, ◌∙◌, arith, add-one}
+use Rattle.std.proofs.Common.{Bool, Result, Ok, Err, refl, sym, ap, subst, ◌∙◌, arith, add-one}
+use Rattle.std.proofs.lemmas.Result.{err_from_is_err_and}
+use Rattle.std.specs.Prelude.{IsErrAnd}
 use Rattle.std.proofs.Math.Seq.{drop-cons}
 use Rattle.plain_data.specs.Texts.{Bytes}
 use Rattle.rdt_types.specs.declared.address.Address.{Address}
@@ -18,7 +20,8 @@ use Rattle.docc_prepare.specs.declared.backend.StoreError.{StoreError}
 use Rattle.docc_prepare.specs.declared.backend.StoreError.TheVariants as store_error
 use Rattle.docc_prepare.specs.declared.backend.ReadAtError.{ReadAtError}
 use Rattle.docc_prepare.specs.declared.backend.ReadAtError.TheVariants as read_at_error
-use Rattle.docc_prepare.specs.Calls.{Call, Answer, store_failed, value_answered}
+use Rattle.docc_prepare.specs.Backends.{Goes}
+use Rattle.docc_prepare.specs.Calls.{Known, Call, Answer, store_failed, value_answered}
 use Rattle.call_programs.specs.Programs.{Program, bind, Leads, Stops, Always, Succeeds}
 use Rattle.call_programs.specs.Safe.{AsksAny}
 use Rattle.call_programs.proofs.Programs.{call_failed, along}
@@ -27,7 +30,7 @@ use Rattle.client_watches.specs.declared.error.WatchError.TheVariants as error
 use Rattle.client_watches.specs.declared.watching.Watching.{Watching}
 use Rattle.client_watches.specs.Errors.{error_of, reply_of}
 use Rattle.client_watches.specs.Watching.{with_value, without}
-use Rattle.client_watches.specs.Lines.{Told, rounds, kept, read, fetch, rerun_by, rerun_one, run_by, run_body, take_feed, make, ending, watch, unwatch}
+use Rattle.client_watches.specs.Lines.{Told, GoesOn, rounds, catch_up, kept, read, fetch, rerun_by, rerun_one, run_by, run_body, take_feed, make, ending, watch, unwatch}
 
 -- ---- what stops
 
@@ -51,6 +54,15 @@ pub read_broken : (x : ReadAtError) (e : WatchError) → Err e ≡ reply_of x �
 read_broken (read_at_error.Late n horizon) e is = absurd (cc)
 read_broken read_at_error.Fault e is = (λ h. refl, λ h. let same : e ≡ error.StoreFault = cc in same)
 read_broken read_at_error.NoMemory e is = (λ h. absurd (let same : e ≡ error.NoMemory = cc in cc), λ h. absurd (cc))
+
+-- what a function owes that does a part of a line's reruns and answers an error
+pub goes_fail : {B : Type 0} {known : B → Known} {goes : B → Call → Answer → B → Type 0} {old new : B} {x : WatchError}
+    (before after : Told) (r : Result (Option Bool) WatchError) → IsErrAnd r (λ e. e ≡ x)
+    → Stops (Goes known goes) old (catch_up before.0 before.1) (x ≡ error.StoreFault) new → GoesOn known goes old before r new after
+goes_fail {known} {goes} {old} {new} before after r is stop =
+    let y = err_from_is_err_and r is in
+    subst (λ r. GoesOn known goes old before r new after) (sym y.1)
+    (subst (λ e. Stops (Goes known goes) old (catch_up before.0 before.1) (e ≡ error.StoreFault) new) (sym y.2) stop)
 
 -- ---- items
 

@@ -1,6 +1,6 @@
 -- What a line of watches does: programs of calls, a function of the code each. There is no journal in them, and no store.
 use Rattle.std.specs.Prelude.{◌≡◌, ℕ, zero, suc, ◌+◌, ◌-◌, Bool, true, false, if◌then◌else◌, List, [], ◌∷◌, ◌++◌}
-use Rattle.std.specs.Prelude.{Option, Some, None, is_some, Result, codes, refl}
+use Rattle.std.specs.Prelude.{Option, Some, None, is_some, Result, Ok, Err, codes, refl}
 use Rattle.std.proofs.Common.{ap}
 use Rattle.plain_data.specs.Texts.{Bytes}
 use Rattle.rdt_types.specs.declared.address.Address.{Address}
@@ -20,7 +20,7 @@ use Rattle.rerun_driver.specs.declared.watch.Watch.{Watch}
 use Rattle.rerun_driver.specs.Watches.{watch_of, next_rerun}
 use Rattle.docc_prepare.specs.Calls.{Known, Call, Answer}
 use Rattle.docc_prepare.specs.Backends.{Goes}
-use Rattle.call_programs.specs.Programs.{Program, bind, Performs}
+use Rattle.call_programs.specs.Programs.{Program, bind, Leads, Stops, Performs}
 use Rattle.client_watches.specs.declared.error.WatchError.{WatchError}
 use Rattle.client_watches.specs.declared.error.WatchError.TheVariants as error
 use Rattle.client_watches.specs.declared.watching.Watching.{Watching}
@@ -182,6 +182,13 @@ unwatch w name = if is_some (watch_of w.watches name) then ending (without w nam
 abbrev pub Plays : {B A T : Type 0} → (B → Known) → (B → Call → Answer → B → Type 0) → B → Program A → Result T WatchError → (T → A) → B
     → Type 0
 Plays known goes old p result give new = Performs (Goes known goes) error.StoreFault old p result give new
+
+-- A function that may fail has done a part of a line's reruns: they have ended with what it has found, or, where that is nothing yet,
+-- those of what is kept then are left.
+abbrev pub GoesOn : {B : Type 0} → (B → Known) → (B → Call → Answer → B → Type 0) → B → Told → Result (Option Bool) WatchError → B → Told → Type 0
+GoesOn known goes old before (Ok found) new after =
+    Leads (Goes known goes) old (catch_up before.0 before.1) new (or_more catch_up (found, after.0, after.1))
+GoesOn known goes old before (Err e) new after = Stops (Goes known goes) old (catch_up before.0 before.1) (e ≡ error.StoreFault) new
 
 -- ---- worked lines
 

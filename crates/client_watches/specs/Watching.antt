@@ -1,5 +1,5 @@
 -- What is kept of a client's watches, and what feeds, values, runs and their ends make of it.
-use Rattle.std.specs.Prelude.{◌≡◌, ℕ, suc, Bool, true, false, not, ◌&&◌, List, [], ◌∷◌, ◌++◌, map, Option, Some, None, is_some}
+use Rattle.std.specs.Prelude.{◌≡◌, ◌<◌, ℕ, suc, Bool, true, false, not, ◌&&◌, List, [], ◌∷◌, ◌++◌, map, Option, Some, None, is_some}
 use Rattle.plain_data.specs.Texts.{Bytes}
 use Rattle.rdt_types.specs.declared.address.Address.{Address}
 use Rattle.rdt_types.specs.declared.value.Value.{Value}
@@ -79,6 +79,10 @@ stale_count (entry ∷ watches) = one_if entry.1.stale (stale_count watches)
 -- one less is stale
 abbrev pub IsOneFewer : Watching → Watching → Type 0
 IsOneFewer old new = stale_count old.watches ≡ suc (stale_count new.watches)
+
+-- fewer are stale
+abbrev pub AreFewer : Watching → Watching → Type 0
+AreFewer old new = stale_count new.watches < stale_count old.watches
 
 -- ---- runs
 

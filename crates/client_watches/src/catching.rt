@@ -1,10 +1,15 @@
-//! Watches are brought up to date: the stale ones run anew, in the order of their making.
+//! Watches are brought up to date: the stale ones run anew, and are reported in the order of their making.
 
-ghost use Rattle.std.specs.Prelude.{◌≡◌, ◌∷◌, [], ◌++◌, IfOk, OnOk, IfNone, IsSome};
+ghost use Rattle.std.specs.Prelude.{◌≡◌, ◌<◌, ◌∷◌, [], ◌++◌, true, IfOk, OnOk, IfNone, IfSome, IsSome};
+ghost use Rattle.client_cache.specs.Cached.{held};
 ghost use Rattle.rerun_driver.specs.Watches.{watch_of};
+ghost use Rattle.watch_reruns.specs.declared.reruns.Reruns.TheVariants as reruns_of;
+ghost use Rattle.watch_reruns.specs.Reruns.{all_reruns};
+ghost use Rattle.docc_prepare.specs.Calls.{Known};
+ghost use Rattle.call_programs.specs.Programs.{Program};
 ghost use Rattle.client_watches.specs.Watching as spec;
-ghost use Rattle.client_watches.specs.Keeping.{Keeps};
-ghost use Rattle.client_watches.specs.Lines.{Plays};
+ghost use Rattle.client_watches.specs.Keeping.{AreDistinct, Keeps};
+ghost use Rattle.client_watches.specs.Lines.{Plays, GoesOn};
 ghost use Rattle.client_watches.specs.Lines as lines;
 
 use crate::error::WatchError;
@@ -16,9 +21,10 @@ use plain_data::{Text, copied};
 use rdt_types::Outcome;
 use rerun_driver::{Driver, Rerun};
 use session_text::Reply;
-use std::alloc::AllocError;
+use std::alloc::{AllocError, Global};
 use std::mem::replace;
 use txn_lang::{Run, Seen, TICK_LIMIT};
+use watch_reruns::{Rerunner, Reruns, RunList, rerun_stale};
 
 /// Adds the addresses at which something was observed.
 fn add_addresses(loose: &mut AddressList, observations: &[Seen]) -> Result<(), AllocError>
@@ -101,8 +107,72 @@ fn rerun_one<B: Backend>(
     unreachable!()
 }
 
-/// Runs the stale watches one after another. It answers whether none is stale then; else a value was late, and that was said.
-pub(crate) fn catch_up<B: Backend>(
+/// The runs of all stale watches on the values that are held, unless one of them needs another value.
+fn runs_of<R: Rerunner>(
+    reruns: &R,
+    alloc: Global,
+    watching: &Watching,
+) -> Result<Option<RunList>, AllocError>
+    ensures { IfOk result (λ runs. IfSome runs (λ list.
+        all_reruns (held watching.now.cache) watching.now.watches ≡ reruns_of.Ran list)) }
+{
+    match rerun_stale(reruns, alloc, &watching.watches, &watching.cache)? {
+        Reruns::Ran(list) => Ok(Some(list)),
+        Reruns::Need(_) => Ok(None),
+    }
+}
+
+/// The stale watches take the reports of their runs, in order, which are said. No watch is stale then.
+fn report_all(
+    watching: &mut Watching,
+    said: &mut ReplyList,
+    runs: RunList,
+) -> Result<(), AllocError>
+    requires names { AreDistinct watching.old.watches }
+    requires all { all_reruns (held watching.old.cache) watching.old.watches ≡ reruns_of.Ran runs }
+    ensures done { OnOk result
+        (lines.catch_up watching.old said.old ≡ Program.ends (true, watching.new, said.new)) }
+    ensures keeps { OnOk result ((k : Known) → Keeps k watching.old → Keeps k watching.new) }
+    ensures free { OnOk result (spec.KeepsFree watching.old watching.new) }
+{
+    for ran in runs.into_vec() {
+        let (name, run) = ran;
+        report(watching, said, name, run)?;
+    }
+    Ok(())
+}
+
+/// Runs so many stale watches one after another, if there are as many, and reads each value that their runs need. Where none was
+/// stale any longer, or a value was late and that was said, it answers whether none was.
+fn rerun_some<B: Backend>(
+    backend: &mut B,
+    watching: &mut Watching,
+    said: &mut ReplyList,
+    count: usize,
+) -> Result<Option<bool>, WatchError>
+    requires keeps { Keeps (B.known backend.old) watching.old }
+    requires some { 0 < count }
+    ensures goes { GoesOn B.known B.goes backend.old (watching.old, said.old) result backend.new (watching.new, said.new) }
+    ensures keeps { IfOk result (λ all. Keeps (B.known backend.new) watching.new) }
+    ensures free { IfOk result (λ all. spec.KeepsFree watching.old watching.new) }
+    ensures fewer { IfOk result (λ all. IfNone all (spec.AreFewer watching.old watching.new)) }
+    ensures home { B.home backend.new ≡ B.home backend.old }
+{
+    for _ in 0..count {
+        if let Some(all) = rerun_one(backend, watching, said)? {
+            return Ok(Some(all));
+        }
+    }
+    Ok(None)
+}
+
+/// Runs the stale watches. It answers whether none is stale then; else a value was late, and that was said.
+///
+/// The runs are made all at once, by who makes reruns, and reported in order. Where one needs a value that isn't held, watches run
+/// one after another, as many as were reported so far, before all are tried again. So if each needs one, few runs are made twice.
+pub(crate) fn catch_up<B: Backend, R: Rerunner>(
+    reruns: &R,
+    alloc: Global,
     backend: &mut B,
     watching: &mut Watching,
     said: &mut ReplyList,
@@ -115,7 +185,12 @@ pub(crate) fn catch_up<B: Backend>(
     ensures home { B.home backend.new ≡ B.home backend.old }
 {
     loop {
-        if let Some(all) = rerun_one(backend, watching, said)? {
+        if let Some(runs) = runs_of(reruns, alloc, watching)? {
+            report_all(watching, said, runs)?;
+            return Ok(true);
+        }
+        let count = said.len().max(1);
+        if let Some(all) = rerun_some(backend, watching, said, count)? {
             return Ok(all);
         }
     }

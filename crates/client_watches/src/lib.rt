@@ -1,6 +1,6 @@
 //! A client's watches over any backend: bodies that only read, of which each report stands for one prefix of the journal. They
 //! are brought up to date by what changed, made, and forgotten; each value that they rest on is read once, and its changes are
-//! told from then on. It stands on `rerun_driver` and `client_cache` (what is kept), on `docc_prepare` (what every backend
+//! told from then on. It stands on `rerun_driver` and `client_cache` (what is kept), on `watch_reruns` (who makes reruns), on `docc_prepare` (what every backend
 //! promises) and on `call_programs` (what a client does, as data); a client's session stands on it (`session_core`).
 //!
 //! Read first `specs/Watching` (what is kept) and `specs/Lines` (what a line does, as a program of calls). `specs/Explained` says

@@ -21,6 +21,7 @@ use rerun_driver::Driver;
 use session_text::{Reply, Why};
 use std::alloc::{AllocError, Global};
 use txn_lang::Checked;
+use watch_reruns::{One, Rerunner};
 
 /// One reply.
 fn one_reply(alloc: Global, reply: Reply) -> Result<ReplyList, AllocError>
@@ -41,7 +42,9 @@ fn forget(watching: &mut Watching, name: &Text) -> Result<(), AllocError>
 }
 
 /// Brings all watches up to date, and says that they hold, unless a value was late.
-fn say_current<B: Backend>(
+fn say_current<B: Backend, R: Rerunner>(
+    reruns: &R,
+    alloc: Global,
     backend: &mut B,
     watching: &mut Watching,
     said: &mut ReplyList,
@@ -52,7 +55,7 @@ fn say_current<B: Backend>(
     ensures keeps { IfOk result (λ u. Keeps (B.known backend.new) watching.new) }
     ensures home { B.home backend.new ≡ B.home backend.old }
 {
-    let all = catch_up(backend, watching, said)?;
+    let all = catch_up(reruns, alloc, backend, watching, said)?;
     if !all {
         return Ok(());
     }
@@ -61,7 +64,8 @@ fn say_current<B: Backend>(
 }
 
 /// Brings all watches up to date, and makes a new one, unless a value was late.
-fn make<B: Backend>(
+fn make<B: Backend, R: Rerunner>(
+    reruns: &R,
     alloc: Global,
     backend: &mut B,
     watching: &mut Watching,
@@ -76,7 +80,7 @@ fn make<B: Backend>(
     ensures keeps { IfOk result (λ u. Keeps (B.known backend.new) watching.new) }
     ensures home { B.home backend.new ≡ B.home backend.old }
 {
-    let all = catch_up(backend, watching, said)?;
+    let all = catch_up(reruns, alloc, backend, watching, said)?;
     if !all {
         return Ok(());
     }
@@ -97,7 +101,7 @@ impl Watching {
         }
     }
 
-    /// Brings all watches up to date: each that is touched runs anew, in the order of their making, and is reported.
+    /// Brings all watches up to date: each that is touched runs anew, and is reported, in the order of their making.
     pub fn sync<B: Backend>(
         &mut self,
         alloc: Global,
@@ -109,9 +113,25 @@ impl Watching {
         ensures keeps { IfOk result (λ said. Keeps (B.known backend.new) self.new) }
         ensures home { B.home backend.new ≡ B.home backend.old }
     {
+        self.sync_by(alloc, backend, &One)
+    }
+
+    /// The same, where the reruns are made by others.
+    pub fn sync_by<B: Backend, R: Rerunner>(
+        &mut self,
+        alloc: Global,
+        backend: &mut B,
+        reruns: &R,
+    ) -> Result<ReplyList, WatchError>
+        requires { Keeps (B.known backend.old) self.old }
+        ensures plays { Plays B.known B.goes backend.old (lines.sync self.old) result
+            (λ said. (self.new, said)) backend.new }
+        ensures keeps { IfOk result (λ said. Keeps (B.known backend.new) self.new) }
+        ensures home { B.home backend.new ≡ B.home backend.old }
+    {
         let mut said = none_said(alloc)?;
         take(backend, self)?;
-        say_current(backend, self, &mut said)?;
+        say_current(reruns, alloc, backend, self, &mut said)?;
         drop_idle(alloc, backend, self)?;
         Ok(said)
     }
@@ -130,13 +150,31 @@ impl Watching {
         ensures keeps { IfOk result (λ said. Keeps (B.known backend.new) self.new) }
         ensures home { B.home backend.new ≡ B.home backend.old }
     {
+        self.watch_by(alloc, backend, &One, name, body)
+    }
+
+    /// The same, where the reruns are made by others.
+    pub fn watch_by<B: Backend, R: Rerunner>(
+        &mut self,
+        alloc: Global,
+        backend: &mut B,
+        reruns: &R,
+        name: Text,
+        body: Checked,
+    ) -> Result<ReplyList, WatchError>
+        requires { Keeps (B.known backend.old) self.old }
+        ensures plays { Plays B.known B.goes backend.old (lines.watch self.old name body) result
+            (λ said. (self.new, said)) backend.new }
+        ensures keeps { IfOk result (λ said. Keeps (B.known backend.new) self.new) }
+        ensures home { B.home backend.new ≡ B.home backend.old }
+    {
         let refusal = one_reply(alloc, Reply::Refused(Why::Name))?;
         if self.watches.has(&name) {
             return Ok(refusal);
         }
         let mut said = none_said(alloc)?;
         take(backend, self)?;
-        make(alloc, backend, self, &mut said, name, body)?;
+        make(reruns, alloc, backend, self, &mut said, name, body)?;
         drop_idle(alloc, backend, self)?;
         Ok(said)
     }

@@ -9,10 +9,11 @@ use Rattle.txn_lang.specs.declared.run.Run.{Run}
 use Rattle.txn_lang.specs.States.{PartialState}
 use Rattle.watch_reruns.specs.declared.reruns.Reruns.{Reruns}
 use Rattle.watch_reruns.specs.declared.reruns.Reruns.TheVariants as reruns
-use Rattle.watch_reruns.specs.declared.reruns.StaleWatch.{StaleWatch}
+use Rattle.rerun_driver.specs.declared.watch.StaleWatch.{StaleWatch}
 use Rattle.watch_reruns.specs.declared.reruns.WatchRun.{WatchRun}
 use Rattle.watch_reruns.specs.declared.reruns.WatchRun.TheVariants as watch_run
-use Rattle.watch_reruns.specs.Reruns.{Bodies, bodies_of, behind, begun_by, watch_rerun, reruns_of}
+use Rattle.rerun_driver.specs.Watches.{Bodies, bodies_of}
+use Rattle.watch_reruns.specs.Reruns.{behind, begun_by, watch_rerun, reruns_of}
 use Rattle.watch_reruns.proofs.Behind.{behind-none}
 use Rattle.par_rerun.specs.Parts.{in_turn, all_parts}
 

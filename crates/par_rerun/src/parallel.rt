@@ -4,7 +4,8 @@ ghost use Rattle.std.specs.Prelude.{◌≡◌, map, IfOk};
 ghost use Rattle.std.specs.Fork.{slice_chunk};
 ghost use Rattle.std.specs.List.{range_with_len};
 ghost use Rattle.client_cache.specs.Cached.{held};
-ghost use Rattle.watch_reruns.specs.Reruns.{bodies_of, reruns_of};
+ghost use Rattle.rerun_driver.specs.Watches.{bodies_of};
+ghost use Rattle.watch_reruns.specs.Reruns.{reruns_of};
 
 use crate::meet::Meet;
 use crate::parts::{joined, run_numbered, run_part};

@@ -3,7 +3,8 @@
 ghost use Rattle.std.specs.Prelude.{◌≡◌, IfOk};
 ghost use Rattle.std.specs.Fork.{slice_chunk};
 ghost use Rattle.client_cache.specs.Cached.{held};
-ghost use Rattle.watch_reruns.specs.Reruns.{bodies_of, reruns_of};
+ghost use Rattle.rerun_driver.specs.Watches.{bodies_of};
+ghost use Rattle.watch_reruns.specs.Reruns.{reruns_of};
 ghost use Rattle.par_rerun.specs.Parts.{all_parts};
 
 use crate::meet::Meet;

@@ -3,6 +3,7 @@ pub mod Shown
 pub mod CacheRuns
 pub mod Rising
 pub mod Rolls
+pub mod Listing
 pub mod Placed
 pub mod Links
 pub mod Keeping

@@ -76,7 +76,7 @@ position-cons test x xs = by (test x)
         ∙ behind p (nat_lt p (length xs))
 
 -- what a place behind the first is of
-and-then-suc : {X : Type 0} (x : X) (xs : List X) (o : Option ℕ) → option_and_then (slice_get (x ∷ xs)) (option_map suc o) ≡ option_and_then (slice_get xs) o
+pub and-then-suc : {X : Type 0} (x : X) (xs : List X) (o : Option ℕ) → option_and_then (slice_get (x ∷ xs)) (option_map suc o) ≡ option_and_then (slice_get xs) o
 and-then-suc x xs None = refl
 and-then-suc x xs (Some p) = refl
 
@@ -232,7 +232,7 @@ seen-added name v made n (m ∷ ms) (w ∷ ws) same all =
 -- ---- the stale ones
 
 -- what holds of all numbers holds of the stale ones, which are among them
-all-stale : (P : ℕ → Type 0) (order : List ℕ) (vs : List Watch) → AllByRecursion P order → AllByRecursion P (stale_numbers order vs)
+pub all-stale : (P : ℕ → Type 0) (order : List ℕ) (vs : List Watch) → AllByRecursion P order → AllByRecursion P (stale_numbers order vs)
 all-stale P [] vs all = tt
 all-stale P (n ∷ ns) [] all = tt
 all-stale P (n ∷ ns) (v ∷ vs) all = by v.stale (all-stale P ns vs all.1)

@@ -1,5 +1,5 @@
 -- Watches: bodies that are run anew once a change touches what their last run observed.
-use Rattle.std.specs.Prelude.{◌≡◌, ℕ, Bool, true, false, ◌||◌, List, [], ◌∷◌, ◌++◌, map, Option, codes, pos, refl}
+use Rattle.std.specs.Prelude.{◌≡◌, ℕ, Bool, true, false, ◌||◌, List, [], ◌∷◌, ◌++◌, map, Option, if◌then◌else◌, codes, pos, refl}
 use Rattle.std.specs.List.{list_any, find}
 use Rattle.std.specs.Map.{lookup, remove_entry, set_value}
 use Rattle.std.specs.Option.{option_map_or}
@@ -18,6 +18,7 @@ use Rattle.txn_lang.specs.declared.run.Run.{Run}
 use Rattle.txn_lang.specs.declared.run.Seen.{Seen}
 use Rattle.txn_lang.specs.States.{PartialState}
 use Rattle.txn_lang.specs.Execution.{Ran, need, done, exec}
+use Rattle.rerun_driver.specs.declared.watch.StaleWatch.{StaleWatch}
 use Rattle.rerun_driver.specs.declared.watch.Watch.{Watch}
 use Rattle.rerun_driver.specs.declared.rerun.Rerun.{Rerun}
 use Rattle.rerun_driver.specs.declared.rerun.Rerun.TheVariants as rerun
@@ -76,6 +77,19 @@ all_told changes watches = map (λ entry. (entry.0, told changes entry.1)) watch
 abbrev pub first_stale : Watches → Option (Bytes × Watch)
 first_stale watches = find (λ entry. entry.1.stale) watches
 
+-- names of watches, each with its body
+abbrev pub Bodies : Type 0
+Bodies = List (Bytes × Checked)
+
+-- those of stale watches, as a list of these has them
+abbrev pub bodies_of : List StaleWatch → Bodies
+bodies_of stale = map (λ watch. (watch.name.now, watch.body.now)) stale
+
+-- THE STALE WATCHES, in the order of their making
+abbrev pub stale_of : Watches → Bodies
+stale_of [] = []
+stale_of (entry ∷ watches) = if entry.1.stale then (entry.0, entry.1.body) ∷ stale_of watches else stale_of watches
+
 -- what the run of a watch comes to
 abbrev pub rerun_of : Bytes → Ran → Rerun
 rerun_of name (need address) = rerun.Need address
@@ -96,6 +110,12 @@ abbrev pub is_observed : Watches → Address → Bool
 is_observed watches address = list_any (λ entry. is_observed_by address entry.1.observations) watches
 
 -- ---- worked
+
+-- of two watches the second alone is stale, and is listed
+stale-second : (one two : Bytes) (body : Checked) (n : ℕ)
+    → stale_of ((one, record { body = body; number = n; observations = []; stale = false })
+    ∷ (two, record { body = body; number = n; observations = []; stale = true }) ∷ []) ≡ (two, body) ∷ []
+stale-second one two body n = refl
 
 -- the counter of a key
 abbrev counter : List ℕ → Address

@@ -5,7 +5,7 @@ ghost use Rattle.std.specs.List.{list_any};
 ghost use Rattle.std.specs.Option.{option_copied};
 ghost use Rattle.client_cache.specs.Cached.{held};
 ghost use Rattle.rerun_driver.specs.Watches as spec;
-ghost use Rattle.rerun_driver.specs.Watches.{watch_of, is_observed, next_rerun};
+ghost use Rattle.rerun_driver.specs.Watches.{watch_of, is_observed, next_rerun, bodies_of, stale_of};
 ghost use Rattle.rerun_driver.specs.code.Rolls.{seen_by};
 
 use crate::places::Places;
@@ -14,7 +14,7 @@ use crate::rerun::{Rerun, run_watch};
 use crate::roll::Roll;
 use crate::telling::tell_placed;
 use crate::touching::{are_where, is_observed_by};
-use crate::watch::Watch;
+use crate::watch::{StaleWatch, Watch};
 use change_feed::Feed;
 use client_cache::Cache;
 use plain_data::Text;
@@ -153,6 +153,13 @@ impl Driver {
             Some((name, watch)) => run_watch(self.alloc, name, &watch.body, cache),
             None => Ok(Rerun::NoneLeft),
         }
+    }
+
+    /// The stale watches, in the order of their making.
+    pub fn stale(&self) -> Result<Vec<StaleWatch<'_>>, AllocError>
+        ensures { IfOk result (λ list. bodies_of list.items ≡ stale_of self.now) }
+    {
+        self.roll.stale(self.alloc)
     }
 
     /// A watch takes the report of its run at a number. It is never refused for want of memory.

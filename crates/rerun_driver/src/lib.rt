@@ -1,6 +1,6 @@
 //! The watches of a client: bodies that are run anew once a change touches what their last run observed. A [`Driver`] keeps
-//! them in the order of their making; it is told of feeds, names the first watch that is stale, runs its body on the values of
-//! a cache, and takes the report. It stands on `txn_eval` and `client_cache`; a client's watches over a store stand on it
+//! them in the order of their making; it is told of feeds, names the watches that are stale, runs the body of the first on the
+//! values of a cache, and takes the report. It stands on `txn_eval` and `client_cache`; a client's watches over a store stand on it
 //! (`client_watches`).
 //!
 //! Read first `specs/Watches.antt` (what is kept of a watch, what a feed does to it, and what is run next) and then
@@ -21,4 +21,4 @@ mod watch;
 pub use driver::Driver;
 pub use laws::stale_is_touched;
 pub use rerun::{Rerun, run_on};
-pub use watch::Watch;
+pub use watch::{StaleWatch, Watch};

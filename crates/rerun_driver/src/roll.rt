@@ -5,14 +5,14 @@ ghost use Rattle.std.specs.List.{list_any};
 ghost use Rattle.std.specs.Map.{values_of};
 ghost use Rattle.std.specs.Option.{option_copied};
 ghost use Rattle.rerun_driver.specs.Watches as spec;
-ghost use Rattle.rerun_driver.specs.Watches.{watch_of, first_stale};
+ghost use Rattle.rerun_driver.specs.Watches.{watch_of, first_stale, bodies_of, stale_of};
 ghost use Rattle.rerun_driver.specs.code.Numbers.{IsRising};
-ghost use Rattle.rerun_driver.specs.code.Rolls.{IsInOrder, number_of, seen_by, stale_numbers, told_at, told_place};
+ghost use Rattle.rerun_driver.specs.code.Rolls.{IsInOrder, body_by, number_of, seen_by, stale_numbers, told_at, told_place};
 ghost use Rattle.rerun_driver.specs.code.Shown.{shown};
 
 use crate::numbers::Numbers;
 use crate::touching::is_observed_by;
-use crate::watch::Watch;
+use crate::watch::{StaleWatch, Watch};
 use indexmap::IndexMap;
 use plain_data::Text;
 use rdt_types::{Address, DeltaMap};
@@ -226,6 +226,36 @@ impl Roll {
             Some((name, watch)) => Some((name.as_slice(), watch)),
             None => None,
         }
+    }
+
+    /// The watch of a number, as far as a rerun goes.
+    fn watch_at(&self, number: u64) -> Option<StaleWatch<'_>>
+        ensures { option_map (λ watch. (watch.name.now, watch.body.now)) result ≡ body_by self.now number }
+    {
+        let Some(place) = self.order.place_of(number) else {
+            return None;
+        };
+        match self.watches.get_index(place) {
+            Some((name, watch)) => Some(StaleWatch {
+                name: name.as_slice(),
+                body: &watch.body,
+            }),
+            None => None,
+        }
+    }
+
+    /// The stale watches, in the order of their making.
+    pub fn stale(&self, alloc: Global) -> Result<Vec<StaleWatch<'_>>, AllocError>
+        ensures { IfOk result (λ list. bodies_of list.items ≡ stale_of self.now.1) }
+    {
+        let numbers = self.stale.as_slice();
+        let mut list = Vec::with_capacity(alloc, numbers.len())?;
+        for number in numbers {
+            if let Some(watch) = self.watch_at(*number) {
+                list.push(watch)?;
+            }
+        }
+        Ok(list)
     }
 
     /// Whether the last run of a watch observed something at an address.

@@ -21,6 +21,13 @@ pub struct Watch {
     pub stale: bool,
 }
 
+/// A stale watch, as far as its rerun goes.
+#[derive(Clone, Copy)]
+pub struct StaleWatch<'w> {
+    pub name: &'w [u8],
+    pub body: &'w Checked,
+}
+
 impl Watch {
     /// A watch whose first run is reported.
     pub(crate) fn new(body: Checked, number: u64, run: Run) -> Watch

@@ -1,5 +1,5 @@
 -- A line's reruns by what runs next: a watch that has run is reported, and the others are left.
-use Rattle.std.proofs.Common.{◌≡◌, ℕ, suc, ◌-◌, true, false, Some, List, [], ◌∷◌, ◌++◌, append_assoc, refl, sym, ap, ◌∙◌, subst}
+use Rattle.std.proofs.Common.{◌≡◌, ◌-◌, true, false, Some, List, [], ◌∷◌, ◌++◌, append_assoc, refl, sym, ap, ◌∙◌, subst}
 use Rattle.std.proofs.lemmas.List.{append-nil}
 use Rattle.plain_data.specs.Texts.{Bytes}
 use Rattle.rdt_types.specs.declared.address.Address.{Address}
@@ -11,74 +11,26 @@ use Rattle.txn_lang.specs.Execution.{Ran, need, done, exec}
 use Rattle.client_cache.specs.Cached.{held}
 use Rattle.rerun_driver.specs.declared.rerun.Rerun.{Rerun}
 use Rattle.rerun_driver.specs.declared.rerun.Rerun.TheVariants as rerun
-use Rattle.rerun_driver.specs.Watches.{next_rerun, with_report}
+use Rattle.rerun_driver.specs.Watches.{Bodies, stale_of, next_rerun, with_report}
 use Rattle.docc_prepare.specs.Calls.{Answer}
 use Rattle.call_programs.specs.Programs.{Program, bind}
 use Rattle.client_watches.specs.declared.watching.Watching.{Watching}
 use Rattle.client_watches.specs.Watching.{with_rerun, report_of, stale_count}
 use Rattle.client_watches.specs.Keeping.{AreDistinct}
-use Rattle.client_watches.specs.Lines.{rounds, read, rerun_one, rerun_by, or_late, or_more, catch_up}
+use Rattle.client_watches.specs.Lines.{rounds, read, rerun_one, or_late, or_more, catch_up}
 use Rattle.client_watches.specs.Lines.{reruns as reruns_in}
 use Rattle.client_watches.proofs.Names.{distinct-report}
-use Rattle.client_watches.proofs.Stale.{one-fewer, it-needs, has-run}
+use Rattle.client_watches.proofs.Reruns.{fresh, others-left, others-among, begins, goes-on, after_report, all-are, first-ran, at-end}
+use Rattle.client_watches.proofs.Stale.{it-needs, has-run}
 use Rattle.watch_reruns.specs.declared.reruns.Reruns.{Reruns}
 use Rattle.watch_reruns.specs.declared.reruns.Reruns.TheVariants as reruns
-use Rattle.watch_reruns.specs.Reruns.{Bodies, stale_of, in_front, reruns_of, all_reruns}
-use Rattle.rerun_lines.specs.Repeated.{or_again}
-use Rattle.rerun_lines.proofs.Repeated.{all-by-next, fresh, others-left, others-among}
+use Rattle.watch_reruns.specs.Reruns.{in_front, reruns_of, all_reruns}
 use Rattle.rerun_lines.specs.AtOnce.{with_reruns, reports_of, done_by, runs_before, AsksFirst, RerunsAtOnce, NeedsAreAsked}
-
--- ---- one round
-
--- there is a first round
-first-round : rounds ≡ suc (rounds - 1)
-unfolding rounds
-first-round = refl
-
--- a line's reruns begin with what runs next
-begins : (w : Watching) (said : List Reply) (r : Rerun) → next_rerun (held w.cache) w.watches ≡ r
-    → catch_up w said ≡ bind (rerun_by (rerun_one (rounds - 1) said) w said r) (or_more (reruns_in (stale_count w.watches)))
-begins w said r e =
-    ap (λ (n : ℕ). bind (rerun_one n said w) (or_more (reruns_in (stale_count w.watches)))) first-round
-    ∙ ap (λ (x : Rerun). bind (rerun_by (rerun_one (rounds - 1) said) w said x) (or_more (reruns_in (stale_count w.watches)))) e
-
--- a watch that has run is reported, and the line's reruns go on
-goes-on : (w : Watching) (said : List Reply) (name : Bytes) (run : Run) → AreDistinct w.watches
-    → next_rerun (held w.cache) w.watches ≡ rerun.Ran name run
-    → catch_up w said ≡ catch_up (with_rerun w name run) (said ++ report_of w name run ∷ [])
-goes-on w said name run all e =
-    begins w said (rerun.Ran name run) e
-    ∙ ap (λ (n : ℕ). reruns_in n (with_rerun w name run) (said ++ report_of w name run ∷ []))
-    (one-fewer (held w.cache) w.watches name w.cache.at run all e)
 
 -- the replies to the first of some runs, and to the others
 reports-on : (w : Watching) (said : List Reply) (name : Bytes) (run : Run) (others : List (Bytes × Run))
     → (said ++ report_of w name run ∷ []) ++ reports_of w others ≡ said ++ reports_of w ((name, run) ∷ others)
 reports-on w said name run others = append_assoc said (report_of w name run ∷ []) (reports_of w others)
-
--- ---- all reruns
-
--- what follows once a run is reported
-abbrev after_report : Watching → Bytes → Run → Reruns
-after_report w name run = all_reruns (held w.cache) (with_report w.watches name w.cache.at run)
-
--- all reruns are the next one and what follows
-all-are : (w : Watching) (r : Rerun) → AreDistinct w.watches → next_rerun (held w.cache) w.watches ≡ r
-    → all_reruns (held w.cache) w.watches ≡ or_again (after_report w) r
-all-are w r all e = all-by-next (held w.cache) w.cache.at w.watches all ∙ ap (or_again (after_report w)) e
-
--- where a run is in front, something has run
-some-ran : (ran : Bytes × Run) (r : Reruns) → in_front ran r ≡ reruns.Ran [] → ⊥
-some-ran ran (reruns.Need address) h = cc
-some-ran ran (reruns.Ran list) h = cc
-
--- it is the first, and the others are behind it
-first-ran : (ran x : Bytes × Run) (xs : List (Bytes × Run)) (r : Reruns) → in_front ran r ≡ reruns.Ran (x ∷ xs) → (ran ≡ x) × (r ≡ reruns.Ran xs)
-first-ran ran x xs (reruns.Need address) h = absurd (cc)
-first-ran ran x xs (reruns.Ran list) h = (
-  let same : ran ≡ x = cc in same,
-  let rest : list ≡ xs = cc in ap reruns.Ran rest,
-)
 
 -- where one behind a run needs a value, all do
 behind-needs : (ran : Bytes × Run) (address : Address) (r : Reruns) → in_front ran r ≡ reruns.Need address → r ≡ reruns.Need address
@@ -86,13 +38,6 @@ behind-needs ran address (reruns.Need other) h = h
 behind-needs ran address (reruns.Ran list) h = absurd (cc)
 
 -- ---- no value is missing
-
--- none is stale
-at-end : (w : Watching) (said : List Reply) (r : Rerun) → AreDistinct w.watches → next_rerun (held w.cache) w.watches ≡ r
-    → all_reruns (held w.cache) w.watches ≡ reruns.Ran [] → catch_up w said ≡ Program.ends (true, w, said)
-at-end w said (rerun.Need address) all e h = absurd (let both : reruns.Need address ≡ reruns.Ran [] = sym (all-are w _ all e) ∙ h in cc)
-at-end w said (rerun.Ran name run) all e h = absurd (some-ran (name, run) (after_report w name run) (sym (all-are w _ all e) ∙ h))
-at-end w said rerun.NoneLeft all e h = begins w said rerun.NoneLeft e
 
 -- one has run, and the others are known
 abbrev Ends : Watching → List Reply → List (Bytes × Run) → Type 0

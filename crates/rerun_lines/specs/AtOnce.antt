@@ -15,7 +15,8 @@ use Rattle.client_watches.specs.Watching.{with_rerun, report_of}
 use Rattle.client_watches.specs.Keeping.{AreDistinct}
 use Rattle.client_watches.specs.Lines.{With, catch_up}
 use Rattle.watch_reruns.specs.declared.reruns.Reruns.TheVariants as reruns
-use Rattle.watch_reruns.specs.Reruns.{Bodies, stale_of, all_reruns}
+use Rattle.rerun_driver.specs.Watches.{Bodies, stale_of}
+use Rattle.watch_reruns.specs.Reruns.{all_reruns}
 
 -- watches take the reports of their runs, one after another
 abbrev pub with_reruns : Watching → List (Bytes × Run) → Watching

@@ -1,22 +1,12 @@
 -- Reruns one after another, each of the first stale watch, whose report is taken then; and the law that this gives what all reruns
 -- come to.
 use Rattle.std.specs.Prelude.{◌≡◌, ◌<◌, ℕ, zero, suc, [], length, refl}
-use Rattle.plain_data.specs.Texts.{Bytes}
-use Rattle.txn_lang.specs.declared.run.Run.{Run}
 use Rattle.txn_lang.specs.States.{PartialState}
-use Rattle.rerun_driver.specs.declared.rerun.Rerun.{Rerun}
-use Rattle.rerun_driver.specs.declared.rerun.Rerun.TheVariants as rerun
-use Rattle.rerun_driver.specs.Watches.{Watches, with_report, next_rerun}
+use Rattle.rerun_driver.specs.Watches.{Watches, stale_of, with_report, next_rerun}
 use Rattle.client_watches.specs.Keeping.{AreDistinct}
 use Rattle.watch_reruns.specs.declared.reruns.Reruns.{Reruns}
 use Rattle.watch_reruns.specs.declared.reruns.Reruns.TheVariants as reruns
-use Rattle.watch_reruns.specs.Reruns.{stale_of, in_front, all_reruns}
-
--- the next rerun needs a value, or none is stale, and that is all; or a watch has run, and more follows
-abbrev pub or_again : (Bytes → Run → Reruns) → Rerun → Reruns
-or_again more (rerun.Need address) = reruns.Need address
-or_again more (rerun.Ran name run) = in_front (name, run) (more name run)
-or_again more rerun.NoneLeft = reruns.Ran []
+use Rattle.watch_reruns.specs.Reruns.{all_reruns, or_again}
 
 -- REPEATED: the first stale watch runs on the values of a state and takes its report at a number, again and again, so many times
 -- at most.

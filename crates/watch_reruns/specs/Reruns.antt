@@ -1,30 +1,18 @@
 -- What the reruns of stale watches come to, on the values of one state.
-use Rattle.std.specs.Prelude.{◌≡◌, List, [], ◌∷◌, ◌++◌, map, if◌then◌else◌, refl}
+use Rattle.std.specs.Prelude.{◌≡◌, List, [], ◌∷◌, ◌++◌, refl}
 use Rattle.plain_data.specs.Texts.{Bytes}
 use Rattle.rdt_types.specs.declared.address.Address.{Address}
 use Rattle.txn_lang.specs.declared.checked.Checked.{Checked}
 use Rattle.txn_lang.specs.declared.run.Run.{Run}
 use Rattle.txn_lang.specs.States.{PartialState}
 use Rattle.txn_lang.specs.Execution.{Ran, need, done, exec}
-use Rattle.rerun_driver.specs.Watches.{Watches}
+use Rattle.rerun_driver.specs.declared.rerun.Rerun.{Rerun}
+use Rattle.rerun_driver.specs.declared.rerun.Rerun.TheVariants as rerun
+use Rattle.rerun_driver.specs.Watches.{Watches, Bodies, stale_of}
 use Rattle.watch_reruns.specs.declared.reruns.Reruns.{Reruns}
 use Rattle.watch_reruns.specs.declared.reruns.Reruns.TheVariants as reruns
-use Rattle.watch_reruns.specs.declared.reruns.StaleWatch.{StaleWatch}
 use Rattle.watch_reruns.specs.declared.reruns.WatchRun.{WatchRun}
 use Rattle.watch_reruns.specs.declared.reruns.WatchRun.TheVariants as watch_run
-
--- names of watches, each with its body
-abbrev pub Bodies : Type 0
-Bodies = List (Bytes × Checked)
-
--- those of stale watches, as a list of these has them
-abbrev pub bodies_of : List StaleWatch → Bodies
-bodies_of stale = map (λ watch. (watch.name.now, watch.body.now)) stale
-
--- those of the stale ones among all watches, in the order of their making
-abbrev pub stale_of : Watches → Bodies
-stale_of [] = []
-stale_of (entry ∷ watches) = if entry.1.stale then (entry.0, entry.1.body) ∷ stale_of watches else stale_of watches
 
 -- what the run of a watch comes to, by its name
 abbrev pub run_of : Bytes → Ran → WatchRun
@@ -58,6 +46,12 @@ reruns_of state (watch ∷ others) = begun_by (watch_rerun state watch.0 watch.1
 -- the same of the stale ones among all watches
 abbrev pub all_reruns : PartialState → Watches → Reruns
 all_reruns state watches = reruns_of state (stale_of watches)
+
+-- the next rerun of a driver needs a value, or none is stale, and that is all; or a watch has run, and more follows
+abbrev pub or_again : (Bytes → Run → Reruns) → Rerun → Reruns
+or_again more (rerun.Need address) = reruns.Need address
+or_again more (rerun.Ran name run) = in_front (name, run) (more name run)
+or_again more rerun.NoneLeft = reruns.Ran []
 
 -- ---- worked
 

@@ -2,10 +2,12 @@
 
 ghost use Rattle.std.specs.Prelude.{◌≡◌, IfOk};
 ghost use Rattle.client_cache.specs.Cached.{held};
-ghost use Rattle.watch_reruns.specs.Reruns.{bodies_of, reruns_of};
+ghost use Rattle.rerun_driver.specs.Watches.{bodies_of};
+ghost use Rattle.watch_reruns.specs.Reruns.{all_reruns, reruns_of};
 
-use crate::reruns::{Reruns, RunList, StaleWatch, WatchRun, run_watch};
+use crate::reruns::{Reruns, RunList, WatchRun, run_watch};
 use client_cache::Cache;
+use rerun_driver::{Driver, StaleWatch};
 use std::alloc::{AllocError, Global};
 
 /// Runs stale watches anew.
@@ -40,4 +42,17 @@ impl Rerunner for One {
         }
         Ok(Reruns::Ran(list))
     }
+}
+
+/// The runs of a driver's stale watches on the values of a cache, by who runs them.
+pub fn rerun_stale<R: Rerunner>(
+    reruns: &R,
+    alloc: Global,
+    driver: &Driver,
+    cache: &Cache,
+) -> Result<Reruns, AllocError>
+    ensures { IfOk result (λ all. all ≡ all_reruns (held cache.now) driver.now) }
+{
+    let stale = driver.stale()?;
+    reruns.rerun(alloc, stale.as_slice(), cache)
 }

@@ -1,4 +1,4 @@
-//! Stale watches, and what their reruns come to.
+//! What the reruns of stale watches come to.
 
 ghost use Rattle.std.specs.Prelude.{◌≡◌, IfOk};
 ghost use Rattle.client_cache.specs.Cached.{held};
@@ -7,17 +7,10 @@ ghost use Rattle.watch_reruns.specs.Reruns.{watch_rerun};
 use client_cache::Cache;
 use plain_data::{Sequence, Text};
 use rdt_types::Address;
-use rerun_driver::run_on;
+use rerun_driver::{StaleWatch, run_on};
 use std::alloc::{AllocError, Global};
 use txn_eval::Step;
-use txn_lang::{Checked, Run};
-
-/// A stale watch, as far as its rerun goes.
-#[derive(Clone, Copy)]
-pub struct StaleWatch<'w> {
-    pub name: &'w [u8],
-    pub body: &'w Checked,
-}
+use txn_lang::Run;
 
 /// The names of watches, each with its run.
 pub type RunList = Sequence<(Text, Run)>;

@@ -1,6 +1,6 @@
 -- The watches of a client by their numbers: each is given one at its making, above all before it. `along-all` of proofs/Placed ties
 -- who is told to `all_told` of specs/Watches, `first-place` of proofs/Rolls and `found_at` of proofs/Shown the stale ones to
--- `first_stale`, and `named-none` of proofs/Rolls a name without a number to `watch_of`.
+-- `first_stale`, `stale-bodies` of proofs/Listing all of them to `stale_of`, and `named-none` of proofs/Rolls a name without a number to `watch_of`.
 use Rattle.std.specs.Prelude.{◌≡◌, ℕ, zero, suc, ◌<◌, ◌≤◌, Bool, true, false, List, [], ◌∷◌, fold, length, Option, Some, None, Vec, if◌then◌else◌, nat_eq}
 use Rattle.std.specs.declared.alloc.Global.{Global}
 use Rattle.std.specs.List.{AllByRecursion}
@@ -9,10 +9,11 @@ use Rattle.std.specs.Str.{bytes_eq}
 use Rattle.plain_data.specs.Texts.{Bytes}
 use Rattle.rdt_types.specs.declared.address.Address.{Address}
 use Rattle.rdt_types.specs.DeltaMaps.{Deltas}
+use Rattle.txn_lang.specs.declared.checked.Checked.{Checked}
 use Rattle.txn_lang.specs.declared.run.Seen.{Seen}
 use Rattle.rerun_driver.specs.declared.watch.Watch.{Watch}
 use Rattle.rerun_driver.specs.declared.places.Places.{Places}
-use Rattle.rerun_driver.specs.Watches.{Watches, told, is_observed_by}
+use Rattle.rerun_driver.specs.Watches.{Watches, Bodies, told, is_observed_by}
 use Rattle.rerun_driver.specs.code.Numbers.{Roomy, IsRising}
 use Rattle.rerun_driver.specs.code.Places.{numbers_at, stands}
 
@@ -56,6 +57,26 @@ seen_in (m ∷ ms) (e ∷ es) n = if nat_eq m n then e.1.observations else seen_
 -- the same of a whole roll
 abbrev pub seen_by : Rolled → ℕ → List Seen
 seen_by roll n = seen_in roll.0 roll.1 n
+
+-- the name and the body of the watch of a number
+abbrev pub body_in : List ℕ → Watches → ℕ → Option (Bytes × Checked)
+body_in [] watches n = None
+body_in (m ∷ ms) [] n = None
+body_in (m ∷ ms) (e ∷ es) n = if nat_eq m n then Some (e.0, e.1.body) else body_in ms es n
+
+-- the same of a whole roll
+abbrev pub body_by : Rolled → ℕ → Option (Bytes × Checked)
+body_by roll n = body_in roll.0 roll.1 n
+
+-- one in front of others, where there is one
+abbrev pub and_those : Option (Bytes × Checked) → Bodies → Bodies
+and_those None bodies = bodies
+and_those (Some entry) bodies = entry ∷ bodies
+
+-- the names and the bodies of the watches of some numbers
+abbrev pub bodies_in : List ℕ → Watches → List ℕ → Bodies
+bodies_in order watches [] = []
+bodies_in order watches (n ∷ ns) = and_those (body_in order watches n) (bodies_in order watches ns)
 
 -- ---- told one by one
 

@@ -4,7 +4,8 @@ use Rattle.std.specs.List.{range_with_len}
 use Rattle.rayon.specs.Lists.{min_len_base, range_start, range_end}
 use Rattle.rayon.specs.Numbers.{nat_range}
 use Rattle.client_cache.specs.Cached.{held}
-use Rattle.watch_reruns.specs.Reruns.{bodies_of, reruns_of}
+use Rattle.rerun_driver.specs.Watches.{bodies_of}
+use Rattle.watch_reruns.specs.Reruns.{reruns_of}
 use Rattle.par_rerun.proofs.Gathered.{matched-ok, all-gathered}
 use Rattle.par_rerun.proofs.parallel.run_parts.Goals as goal
 

@@ -1,6 +1,7 @@
 use Rattle.std.proofs.Common.{◌≡◌, drop}
 use Rattle.client_cache.specs.Cached.{held}
-use Rattle.watch_reruns.specs.Reruns.{behind, bodies_of, reruns_of}
+use Rattle.rerun_driver.specs.Watches.{bodies_of}
+use Rattle.watch_reruns.specs.Reruns.{behind, reruns_of}
 use Rattle.par_rerun.proofs.parts.run_part.Given as goal
 
 -- the runs so far, and behind them what the other watches' come to, are all

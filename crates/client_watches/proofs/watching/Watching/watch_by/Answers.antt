@@ -5,7 +5,7 @@ use Rattle.call_programs.proofs.Programs.{and_then, bound, here, stops_in, stops
 use Rattle.client_watches.specs.Lines as lines
 use Rattle.client_watches.proofs.Lined.{free-name}
 use Rattle.client_watches.proofs.Parts.{wants, made_after, watch_refused, watch_made}
-use Rattle.client_watches.proofs.watching.Watching.watch.Goals as goal
+use Rattle.client_watches.proofs.watching.Watching.watch_by.Goals as goal
 
 pub returns-in_err-refusal-clause-plays : goal.returns-in_err-refusal-clause-plays
 returns-in_err-refusal-clause-plays g c = fails _ c.from_residual.result c.from_residual.ensures.1 (wants Leads.stays)

@@ -4,7 +4,7 @@ use Rattle.call_programs.proofs.Programs.{bound, stops_in, stops_after, fails}
 use Rattle.client_watches.specs.declared.watching.Watching.{Watching}
 use Rattle.client_watches.specs.Lines as lines
 use Rattle.client_watches.proofs.Parts.{wants}
-use Rattle.client_watches.proofs.watching.Watching.sync.Goals as goal
+use Rattle.client_watches.proofs.watching.Watching.sync_by.Goals as goal
 
 -- what follows once what changed was told
 abbrev rest : Watching → Program lines.Told
