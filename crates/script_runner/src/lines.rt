@@ -20,10 +20,12 @@ use plain_data::Text;
 use session_core::{Session, Turn, is_quiet, trimmed_start};
 use session_text::{Reply, Why};
 use std::alloc::{AllocError, Global};
+use watch_reruns::Rerunner;
 
 /// Does a line of a session over its client's view. The store of one thread never fails, so an error is want of memory.
-fn over_view(
+fn over_view<R: Rerunner>(
     alloc: Global,
+    reruns: &R,
     view: &mut View<'_>,
     session: &mut Session,
     text: &[u8],
@@ -34,15 +36,16 @@ fn over_view(
         (spec.play_line view.old.client (store_of view.old.world.now) session.old (line_of text.now)) }
     ensures home { view.new.world.ghost_name ≡ view.old.world.ghost_name }
 {
-    match session.line(alloc, view, text) {
+    match session.line_by(alloc, view, reruns, text) {
         Ok(turn) => Ok(turn),
         Err(_) => Err(AllocError),
     }
 }
 
 /// Does a line of a client's session.
-fn in_world(
+fn in_world<R: Rerunner>(
     alloc: Global,
+    reruns: &R,
     world: &mut World,
     client: u32,
     session: &mut Session,
@@ -55,7 +58,7 @@ fn in_world(
         (spec.play_line client (store_of world.old) session.old (line_of text.now)) }
 {
     let mut view = View { world, client };
-    over_view(alloc, &mut view, session, text)
+    over_view(alloc, reruns, &mut view, session, text)
 }
 
 /// Whether a turn ends its session.
@@ -87,8 +90,9 @@ fn follow_line(
 }
 
 /// What follows a client, whose session stands at the place.
-fn client_line(
+fn client_line<R: Rerunner>(
     alloc: Global,
+    reruns: &R,
     world: &mut World,
     client: u32,
     place: &mut Option<Session>,
@@ -108,7 +112,7 @@ fn client_line(
         let shard = shard_named(world.shards(), after_word(text));
         return follow_line(world, client, shard, output);
     }
-    let turn = in_world(alloc, world, client, session, text)?;
+    let turn = in_world(alloc, reruns, world, client, session, text)?;
     if is_end(&turn) {
         *place = None;
     }
@@ -116,8 +120,9 @@ fn client_line(
 }
 
 /// What follows the first word of a line, which names a client or none.
-fn named_line(
+fn named_line<R: Rerunner>(
     alloc: Global,
+    reruns: &R,
     script: &mut Script,
     client: Option<u32>,
     text: &[u8],
@@ -131,15 +136,24 @@ fn named_line(
     match client {
         Some(client) => {
             let place = &mut script.sessions[client as usize];
-            client_line(alloc, &mut script.world, client, place, text, output)
+            client_line(
+                alloc,
+                reruns,
+                &mut script.world,
+                client,
+                place,
+                text,
+                output,
+            )
         }
         None => push_refused(output, None, Why::Client),
     }
 }
 
 /// A line without the blanks at its beginning.
-fn text_line(
+fn text_line<R: Rerunner>(
     alloc: Global,
+    reruns: &R,
     script: &mut Script,
     text: &[u8],
     output: &mut Text,
@@ -152,12 +166,13 @@ fn text_line(
         return Ok(());
     }
     let client = client_named(first_word(text));
-    named_line(alloc, script, client, after_word(text), output)
+    named_line(alloc, reruns, script, client, after_word(text), output)
 }
 
-/// Does a line, and adds the bytes of its reply to the output. After want of memory the script is of no use.
-pub fn answer(
+/// Does a line, and adds the bytes of its reply to the output. Who makes reruns of watches is given. After want of memory the script is of no use.
+pub fn answer<R: Rerunner>(
     alloc: Global,
+    reruns: &R,
     script: &mut Script,
     line: &Line,
     output: &mut Text,
@@ -168,7 +183,13 @@ pub fn answer(
     ensures stands { OnOk result (Stands (world_of script.new)) }
 {
     match line {
-        Line::Bytes(bytes) => text_line(alloc, script, trimmed_start(bytes.as_slice()), output),
+        Line::Bytes(bytes) => text_line(
+            alloc,
+            reruns,
+            script,
+            trimmed_start(bytes.as_slice()),
+            output,
+        ),
         Line::TooLong => push_refused(output, None, Why::Long),
         Line::End => Ok(()),
     }

@@ -20,6 +20,7 @@ use plain_data::{OrNoMemory, Text};
 use rdt_types::Settings;
 use std::alloc::Global;
 use std::mem::ManuallyDrop;
+use watch_reruns::{One, Rerunner};
 
 /// The next line of the source.
 fn read_line<S: Source>(alloc: Global, source: &mut S) -> Result<Line, Stop>
@@ -46,8 +47,9 @@ fn pass_on<S: Source, W: Sink>(source: &S, sink: &mut W) -> bool
 }
 
 /// Reads, does and answers one line. `false` says that there was none. The reply is made in memory that all lines share.
-fn turn<S: Source, W: Sink>(
+fn turn<S: Source, W: Sink, R: Rerunner>(
     alloc: Global,
+    reruns: &R,
     script: &mut Script,
     reply: &mut Text,
     source: &mut S,
@@ -67,7 +69,7 @@ fn turn<S: Source, W: Sink>(
         line => line,
     };
     reply.truncate(0);
-    answer(alloc, script, &line, reply)?;
+    answer(alloc, reruns, script, &line, reply)?;
     if write_all(sink, reply.as_slice()) && pass_on(source, sink) {
         Ok(true)
     } else {
@@ -76,8 +78,9 @@ fn turn<S: Source, W: Sink>(
 }
 
 /// Reads, does and answers the lines of the source to its end.
-fn run_lines<S: Source, W: Sink>(
+fn run_lines<S: Source, W: Sink, R: Rerunner>(
     alloc: Global,
+    reruns: &R,
     settings: &Settings,
     source: &mut S,
     sink: &mut W,
@@ -90,7 +93,7 @@ fn run_lines<S: Source, W: Sink>(
     let mut script = Script::new(alloc, settings)?;
     let mut reply = Text::new(alloc);
     for _ in 0..MOST_LINES {
-        if !turn(alloc, &mut script, &mut reply, source, sink)? {
+        if !turn(alloc, reruns, &mut script, &mut reply, source, sink)? {
             leave(script);
             return Ok(());
         }
@@ -121,7 +124,21 @@ pub fn run_script<S: Source, W: Sink>(
     ensures { KeepsPromises settings.now result (reading S.Source source.old source.new)
         (writing W.Sink sink.old sink.new) }
 {
-    let ended = run_lines(alloc, settings, source, sink);
+    run_script_by(alloc, settings, source, sink, &One)
+}
+
+/// The same, where reruns of watches are made by others.
+pub fn run_script_by<S: Source, W: Sink, R: Rerunner>(
+    alloc: Global,
+    settings: &Settings,
+    source: &mut S,
+    sink: &mut W,
+    reruns: &R,
+) -> u8
+    ensures { KeepsPromises settings.now result (reading S.Source source.old source.new)
+        (writing W.Sink sink.old sink.new) }
+{
+    let ended = run_lines(alloc, reruns, settings, source, sink);
     close(sink, ended)
 }
 

@@ -22,6 +22,7 @@ use dio_core::LONGEST_LINE;
 use docc_prepare::Backend;
 use session_text::Reply;
 use std::alloc::{AllocError, Global};
+use watch_reruns::Rerunner;
 
 /// Memory for one reply.
 fn place(alloc: Global) -> Result<Vec<Reply>, AllocError>
@@ -57,9 +58,10 @@ fn said(place: Vec<Reply>, reply: Result<Reply, SessionError>) -> Result<Turn, S
 }
 
 /// Does what a line asks for. The memory for its reply is taken before.
-fn act<B: Backend>(
+fn act<B: Backend, R: Rerunner>(
     alloc: Global,
     backend: &mut B,
+    reruns: &R,
     session: &mut Session,
     line: Line,
 ) -> Result<Turn, SessionError>
@@ -82,10 +84,10 @@ fn act<B: Backend>(
         Line::Drop => said(place, Ok(give_up(session))),
         Line::Look(body) => said(place, look(alloc, backend, session, None, &body)),
         Line::At(number, body) => said(place, look(alloc, backend, session, Some(number), &body)),
-        Line::Watch(name, body) => watch(alloc, backend, session, name, body),
+        Line::Watch(name, body) => watch(alloc, backend, reruns, session, name, body),
         Line::Unwatch(name) => unwatch(alloc, backend, session, &name),
-        Line::Sync => sync(alloc, backend, session),
-        Line::Wait => wait(alloc, backend, session),
+        Line::Sync => sync(alloc, backend, reruns, session),
+        Line::Wait => wait(alloc, backend, reruns, session),
         Line::Seen => said(place, Ok(Reply::Seen(backend.seen()))),
         Line::Quit => {
             session.attempt = None;
@@ -95,9 +97,10 @@ fn act<B: Backend>(
 }
 
 /// Does a line of a session that isn't over.
-pub fn turn<B: Backend>(
+pub fn turn<B: Backend, R: Rerunner>(
     alloc: Global,
     backend: &mut B,
+    reruns: &R,
     session: &mut Session,
     bytes: &[u8],
 ) -> Result<Turn, SessionError>
@@ -115,13 +118,14 @@ pub fn turn<B: Backend>(
         return Err(SessionError::NoMemory);
     }
     let line = read_line(alloc, bytes)?;
-    act(alloc, backend, session, line)
+    act(alloc, backend, reruns, session, line)
 }
 
 /// Brings the watches of a session that isn't over up to date.
-pub fn sync_turn<B: Backend>(
+pub fn sync_turn<B: Backend, R: Rerunner>(
     alloc: Global,
     backend: &mut B,
+    reruns: &R,
     session: &mut Session,
 ) -> Result<Turn, SessionError>
     requires attends { Attends (B.known backend.old) session.old }
@@ -132,5 +136,5 @@ pub fn sync_turn<B: Backend>(
     ensures attends { IfOk result (λ turn. Attends (B.known backend.new) session.new) }
     ensures home { B.home backend.new ≡ B.home backend.old }
 {
-    sync(alloc, backend, session)
+    sync(alloc, backend, reruns, session)
 }

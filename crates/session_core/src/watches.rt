@@ -14,6 +14,7 @@ use docc_prepare::Backend;
 use plain_data::Text;
 use std::alloc::Global;
 use txn_lang::Checked;
+use watch_reruns::Rerunner;
 
 /// The turn of a line of watches.
 fn turned(answer: Result<ReplyList, WatchError>) -> Result<Turn, SessionError>
@@ -27,9 +28,10 @@ fn turned(answer: Result<ReplyList, WatchError>) -> Result<Turn, SessionError>
 }
 
 /// `watch`.
-pub fn watch<B: Backend>(
+pub fn watch<B: Backend, R: Rerunner>(
     alloc: Global,
     backend: &mut B,
+    reruns: &R,
     session: &mut Session,
     name: Text,
     body: Checked,
@@ -39,7 +41,11 @@ pub fn watch<B: Backend>(
         (λ turn. (session.new, turn)) backend.new }
     ensures home { B.home backend.new ≡ B.home backend.old }
 {
-    turned(session.watching.watch(alloc, backend, name, body))
+    turned(
+        session
+            .watching
+            .watch_by(alloc, backend, reruns, name, body),
+    )
 }
 
 /// `unwatch`.
@@ -58,9 +64,10 @@ pub fn unwatch<B: Backend>(
 }
 
 /// `sync`.
-pub fn sync<B: Backend>(
+pub fn sync<B: Backend, R: Rerunner>(
     alloc: Global,
     backend: &mut B,
+    reruns: &R,
     session: &mut Session,
 ) -> Result<Turn, SessionError>
     requires { Attends (B.known backend.old) session.old }
@@ -68,13 +75,14 @@ pub fn sync<B: Backend>(
         (λ turn. (session.new, turn)) backend.new }
     ensures home { B.home backend.new ≡ B.home backend.old }
 {
-    turned(session.watching.sync(alloc, backend))
+    turned(session.watching.sync_by(alloc, backend, reruns))
 }
 
 /// `wait`: as `sync`, once there is a commit past those that were seen.
-pub fn wait<B: Backend>(
+pub fn wait<B: Backend, R: Rerunner>(
     alloc: Global,
     backend: &mut B,
+    reruns: &R,
     session: &mut Session,
 ) -> Result<Turn, SessionError>
     requires { Attends (B.known backend.old) session.old }
@@ -85,7 +93,7 @@ pub fn wait<B: Backend>(
 {
     let seen = backend.seen();
     if seen < backend.refresh()? {
-        sync(alloc, backend, session)
+        sync(alloc, backend, reruns, session)
     } else {
         Ok(Turn::WaitWanted)
     }

@@ -11,7 +11,7 @@ use Rattle.script_runner.proofs.lines.answer.Goals as goal
 
 -- the world stands behind every line
 pub returns-in-Bytes-clause-stands : goal.returns-in-Bytes-clause-stands
-returns-in-Bytes-clause-stands c =
+returns-in-Bytes-clause-stands g c =
     let old = world_of c.args.script.now in
     let new = world_of c.text_line.new.script in
     let before = c.args.output.now in

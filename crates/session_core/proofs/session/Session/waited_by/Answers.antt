@@ -3,7 +3,7 @@ use Rattle.call_programs.proofs.Counted.{counts_over}
 use Rattle.session_core.specs.declared.error.SessionError.TheVariants as error
 use Rattle.session_core.specs.LinePrograms.{sync}
 use Rattle.session_core.proofs.LinePerforming.{performs_err}
-use Rattle.session_core.proofs.session.Session.waited.Goals as goal
+use Rattle.session_core.proofs.session.Session.waited_by.Goals as goal
 
 pub returns-in-Some-clause-told : goal.returns-in-Some-clause-told
 returns-in-Some-clause-told g c = λ none. let both : Some c.in-Some.error ≡ None = sym c.in-Some.is ∙ none in absurd (cc)

@@ -7,7 +7,7 @@ use Rattle.session_core.specs.Lines.{line_of}
 use Rattle.session_core.proofs.Accounting.{follows-on, where-ok}
 use Rattle.session_core.proofs.LinePerforming.{performs_err}
 use Rattle.session_core.proofs.Quitting.{quits}
-use Rattle.session_core.proofs.session.Session.line.Goals as goal
+use Rattle.session_core.proofs.session.Session.line_by.Goals as goal
 
 pub returns-in_default-turn-clause-follows : goal.returns-in_default-turn-clause-follows
 returns-in_default-turn-clause-follows g c = follows-on (g.B.Backend.known c.turn-turn.new.backend) c.turn-turn.new.session

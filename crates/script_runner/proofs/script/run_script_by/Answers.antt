@@ -4,7 +4,7 @@ use Rattle.dio_core.specs.Told.{WhereTold}
 use Rattle.script_runner.specs.Script.{reading, writing, HasPassedOn}
 use Rattle.script_runner.specs.code.Turns.{Ends, StopsBetween}
 use Rattle.script_runner.proofs.Promises.{keeps_promises}
-use Rattle.script_runner.proofs.script.run_script.Goals as goal
+use Rattle.script_runner.proofs.script.run_script_by.Goals as goal
 
 -- the end of the run took nothing more
 pub returns : goal.returns
