@@ -37,7 +37,7 @@ use Rattle.diamond_store.specs.Owing.{IsOwed}
 use Rattle.diamond_store.specs.Passes.{Passed, passed, known_of, is_in, IsPass}
 use Rattle.diamond_store.specs.Settling.{IsClear, IsUnbarred, Settles}
 use Rattle.diamond_store.proofs.Sound.{lawful-sound}
-use Rattle.diamond_store.proofs.Prefixes.{length-prefix}
+use Rattle.journal_relay.proofs.Prefixes.{length-prefix}
 use Rattle.diamond_store.proofs.Known.{Grows, answered, front-of}
 use Rattle.diamond_store.proofs.Owed.{owed-later, all-clear, least-is, kinds-owed}
 

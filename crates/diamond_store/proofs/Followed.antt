@@ -13,7 +13,7 @@ use Rattle.version_shard.proofs.Legal.{tails-are-of-their-kinds}
 use Rattle.diamond_store.specs.Following.{IsSound}
 use Rattle.diamond_store.specs.Numbers.{shards_in, HasSettings}
 use Rattle.diamond_store.specs.Replicas.{Replicates}
-use Rattle.diamond_store.proofs.Prefixes.{length-prefix, take-prefix}
+use Rattle.journal_relay.proofs.Prefixes.{length-prefix, take-prefix}
 
 -- it holds the same commits of a longer journal
 pub replicates-later : (numbers : List ℕ) (journal later : Journal) (place : ℕ) (s : Sharded) → Replicates numbers journal place s → IsPrefix journal later

@@ -18,7 +18,7 @@ use Rattle.diamond_store.specs.Answers.{Learns}
 use Rattle.diamond_store.specs.Appending.{client_of}
 use Rattle.diamond_store.specs.Following.{Follows, IsSound}
 use Rattle.diamond_store.specs.Passes.{Passed, passed, known_of, is_in, IsPass}
-use Rattle.diamond_store.proofs.Prefixes.{length-prefix}
+use Rattle.journal_relay.proofs.Prefixes.{length-prefix}
 use Rattle.diamond_store.proofs.Sound.{lawful-sound}
 
 -- a journal that goes on after another is one of which that is the front

@@ -1,4 +1,3 @@
-pub mod Prefixes
 pub mod Sound
 pub mod Readable
 pub mod Owed
@@ -8,6 +7,7 @@ pub mod Decided
 pub mod Called
 pub mod Added
 pub mod Appended
+pub mod Relayed
 pub mod Followed
 pub mod Validated
 pub mod Waited

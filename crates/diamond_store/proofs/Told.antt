@@ -1,5 +1,5 @@
 -- What the registry behind its lock stands for, as it follows and as clients come, and what it has for a client.
-use Rattle.std.proofs.Common.{◌≡◌, ℕ, ◌≤◌, Bool, true, false, cond, ◌&&◌, ◌||◌, List, [], ◌∷◌, ◌++◌, filter, length, take, drop, Option, Some, None, option_map}
+use Rattle.std.proofs.Common.{◌≡◌, ℕ, ◌≤◌, Bool, true, false, cond, ◌&&◌, ◌||◌, List, [], ◌∷◌, ◌++◌, filter, length, Option, Some, None, option_map}
 use Rattle.std.proofs.Common.{option_and_then, Result, Ok, Err, IfOk, OnOk, OnErr, refl, sym, ap, ◌∙◌, subst, arith}
 use Rattle.std.specs.Prelude.{nat_le}
 use Rattle.std.proofs.lemmas.Bool.Decides.{nat_tests}
@@ -9,8 +9,6 @@ use Rattle.std.specs.List.Sorted.{IsStrictlySortedBy}
 use Rattle.std.specs.Map.{keys_of}
 use Rattle.std.specs.Cmp.{eq_by_cmp_equiv}
 use Rattle.std.specs.BTreeMap.{is_at}
-use Rattle.std.proofs.Math.Seq.{take-length}
-use Rattle.std.proofs.lemmas.List.{append_assoc, take-append-drop, take-take}
 use mathlib.Core.List.{IsPrefix}
 use Rattle.rdt_types.specs.declared.address.Address.{Address}
 use Rattle.rdt_types.specs.Addresses.{address_cmp}
@@ -23,10 +21,9 @@ use Rattle.change_feed.specs.Tails.{IsTail}
 use Rattle.change_feed.specs.Feeds.{Fed, begun, with_changes}
 use Rattle.change_feed.specs.Pending.{deltas_at, pending}
 use Rattle.txn_lang.specs.States.{Journal}
-use Rattle.journal_core.specs.Changes.{changes_of, changes, up_to, past, between, of_address}
+use Rattle.journal_core.specs.Changes.{changes, up_to, past, between, of_address}
 use Rattle.journal_core.specs.Pairs.{AreNumbered}
 use Rattle.journal_core.specs.Tails.{HasAll}
-use Rattle.journal_core.proofs.ByShard.{changes-up_to, changes-between, numbered-take}
 use Rattle.reactive_registry.specs.Registered.{Kept, Registered, kept_of, with_kept, is_address, is_subscribed, told, emptied, subscribed}
 use Rattle.reactive_registry.specs.Registered.{pending_for, pending_of, empty}
 use Rattle.reactive_registry.specs.Standing.{KeptFor, StandsFor}
@@ -39,29 +36,17 @@ use Rattle.local_world.proofs.SamePairs.{same_pairs}
 use Rattle.local_world.proofs.Registries.{none-rising, rising-with_changes}
 use Rattle.diamond_store.specs.Feeders.{Tells, taken_of, feed_between}
 use Rattle.diamond_store.specs.Passes.{is_in}
-use Rattle.diamond_store.proofs.Prefixes.{length-prefix, take-prefix}
+use Rattle.journal_relay.proofs.Prefixes.{length-prefix}
+use Rattle.journal_relay.proofs.Relaying.{changes-first, changes-split}
 
 -- ---- the journal grows
 
 module _ (journal later : Journal) (more : IsPrefix journal later) (numbered : AreNumbered later) where
-  -- what begins a numbered journal is numbered
-  numbered-first : AreNumbered journal
-  numbered-first =
-      subst AreNumbered (take-prefix (length journal) journal later more (omega arith) ∙ take-length journal)
-      (numbered-take 0 (length journal) later numbered)
-
-  -- the first commits stay, so their changes do
-  changes-first : (n : ℕ) → n ≤ length journal → up_to n (changes later) ≡ up_to n (changes journal)
-  changes-first n within =
-      changes-up_to n 0 n later (omega arith) numbered
-      ∙ ap changes (take-prefix n journal later more within)
-      ∙ sym (changes-up_to n 0 n journal (omega arith) numbered-first)
-
   -- so the registry stands for the longer journal's changes up to its front
   pub tells-later : (registry : Registered) → Tells journal registry → Tells later registry
   tells-later registry tells = record {
     reached = (let r = tells.reached in let l = length-prefix journal later more in omega arith);
-    stands = subst (λ (cs : List Change). StandsFor cs registry) (sym (changes-first registry.front tells.reached)) tells.stands;
+    stands = subst (λ (cs : List Change). StandsFor cs registry) (sym (changes-first journal later more numbered registry.front tells.reached)) tells.stands;
   }
 
   -- and what changed up to a number of the first commits is what changed in them
@@ -69,7 +54,7 @@ module _ (journal later : Journal) (more : IsPrefix journal later) (numbered : A
       → feed_between later addresses from to ≡ feed_between journal addresses from to
   feed-first addresses from to within =
       ap (λ (cs : List Change). let f : Fed = record { to = to; changes = with_changes [] (filter (λ c. is_in addresses c.address) (past from cs)) } in f)
-      (changes-first to within)
+      (changes-first journal later more numbered to within)
 
   -- so a feed up to a front that is at their end is what changed up to their end
   pub fed-whole : (addresses : List Address) (from front to : ℕ) (feed : Fed) → feed ≡ feed_between later addresses from front → front ≡ to
@@ -78,24 +63,6 @@ module _ (journal later : Journal) (more : IsPrefix journal later) (numbered : A
       is ∙ ap (feed_between later addresses from) (reached ∙ end) ∙ feed-first addresses from (length journal) (omega arith)
 
 -- ---- the registry follows
-
--- the changes of some commits and then others are theirs in turn
-changes-append : (journal later : Journal) → changes (journal ++ later) ≡ changes journal ++ changes later
-changes-append [] later = refl
-changes-append (commit ∷ journal) later = ap (λ more. changes_of commit ++ more) (changes-append journal later)
-    ∙ sym (append_assoc (changes_of commit) (changes journal) (changes later))
-
--- those up to a number, and then those up to another, are those up to the other
-changes-split : (journal : Journal) (from to : ℕ) → from ≤ to → AreNumbered journal
-    → up_to from (changes journal) ++ between from to (changes journal) ≡ up_to to (changes journal)
-changes-split journal from to order numbered =
-    let first : Journal = take to journal in
-    ap (λ cs. cs ++ between from to (changes journal))
-    (changes-up_to from 0 from journal (omega arith) numbered ∙ ap changes (sym (take-take from to journal order)))
-    ∙ ap (λ cs. changes (take from first) ++ cs) (sym (changes-between from to journal numbered))
-    ∙ sym (changes-append (take from first) (drop from first))
-    ∙ ap changes (take-append-drop from first)
-    ∙ sym (changes-up_to to 0 to journal (omega arith) numbered)
 
 module _ (journal : Journal) (old new : Registered) (tells : Tells journal old) where
   -- the changes that the registry stands for

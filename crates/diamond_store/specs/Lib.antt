@@ -6,6 +6,7 @@ pub mod Decided
 pub mod Replicas
 pub mod Reading
 pub mod Passes
+pub mod Hands
 pub mod Feeders
 pub mod Owing
 pub mod Appending

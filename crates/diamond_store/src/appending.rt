@@ -11,7 +11,8 @@ ghost use Rattle.diamond_store.specs.Settling.{IfDenied};
 
 use crate::book::Book;
 use crate::decision::Decision;
-use history_lock::{Front, HistoryLock, Naming};
+use crate::history::History;
+use history_lock::{Front, Naming};
 use journal_core::{Keep, Ready};
 use std::alloc::AllocError;
 use std::sync::Wait;
@@ -19,7 +20,7 @@ use std::sync::Wait;
 /// Hands what is ready to the journal, under its lock. For want of memory nothing is added.
 pub(crate) fn add<K: Keep, N: Naming, R: Wait>(
     rt: &R,
-    journal: &HistoryLock<Book<K>, N>,
+    history: &History<K, N>,
     token: &mut Front<Book<K>, N>,
     ready: &Ready,
 ) -> Result<Decision, AllocError>
@@ -31,8 +32,8 @@ pub(crate) fn add<K: Keep, N: Naming, R: Wait>(
     ensures may_fail { IfOk result (λ decision. IfDenied decision (K.may_fail ≡ true)) }
 {
     let _rising = ready.run.deltas.as_slice();
-    let mut guard = journal.enter(rt, token);
+    let mut guard = history.journal.enter(rt, token);
     let decision = guard.value.append(ready);
-    journal.leave(rt, token, guard);
+    history.leave(rt, token, guard);
     decision
 }

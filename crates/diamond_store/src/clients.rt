@@ -9,6 +9,7 @@ ghost use Rattle.diamond_store.specs.Numbers.{faults_in, home_in};
 
 use crate::book::Book;
 use crate::gate::Gate;
+use crate::history::History;
 use crate::join_error::JoinError;
 use crate::pass::Pass;
 use crate::store::Store;
@@ -33,12 +34,12 @@ impl<K: Keep, G: Gate + Drop, N: Naming> Store<K, G, N> {
         ensures joins { IfOk result (Joins N.lock.first pass.old pass.new) }
         ensures clients { IfErr result (AllDrawn pass.new) }
     {
-        let token = self.journal.split(&mut pass.front);
-        match self.journal.draw_author(token) {
+        let token = self.history.journal.split(&mut pass.front);
+        match self.history.journal.draw_author(token) {
             Drawn::Author(author) => {
                 let Author { mut front, number } = author;
-                let copy = self.journal.split(&mut front);
-                self.journal.meet(&mut pass.front, copy);
+                let copy = self.history.journal.split(&mut front);
+                self.history.journal.meet(&mut pass.front, copy);
                 Ok(Pass {
                     client: number,
                     front,
@@ -50,7 +51,7 @@ impl<K: Keep, G: Gate + Drop, N: Naming> Store<K, G, N> {
                 })
             }
             Drawn::Spent(token, drawn) => {
-                self.journal.meet(&mut pass.front, token);
+                self.history.journal.meet(&mut pass.front, token);
                 Err(JoinError::Clients(drawn))
             }
         }
@@ -61,7 +62,7 @@ impl<K: Keep, G: Gate + Drop, N: Naming> Store<K, G, N> {
         ensures unchanged { pass.new ≡ pass.old }
         ensures token { (result.seen ≡ pass.old.journal) × (result.count ≡ pass.old.denials) }
     {
-        self.journal.split(&mut pass.front)
+        self.history.journal.split(&mut pass.front)
     }
 
     /// The pass learns what a token knows, and has then seen as much.
@@ -70,7 +71,7 @@ impl<K: Keep, G: Gate + Drop, N: Naming> Store<K, G, N> {
         ensures meets { Meets pass.old pass.new token }
     {
         let length = token.entries();
-        self.journal.meet(&mut pass.front, token);
+        self.history.journal.meet(&mut pass.front, token);
         pass.seen = pass.seen.max(length);
     }
 
@@ -88,7 +89,8 @@ impl<K: Keep, G: Gate + Drop, N: Naming> Store<K, G, N> {
         ensures counted { IsAtMostRise (faults_in N.lock.origin) pass.denials (K.keep_faults result.keeper) }
         ensures home { K.home result.keeper ≡ home_in N.lock.origin }
     {
-        let Store { journal, .. } = self;
+        let Store { history, .. } = self;
+        let History { journal, .. } = history;
         let Pass { front, .. } = pass;
         let (keeper, commits) = journal.close(rt, front).close();
         Closed { keeper, commits }

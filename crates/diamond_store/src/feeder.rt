@@ -1,7 +1,7 @@
 //! What stands behind the registry's lock: the registry of subscriptions, and a token that has seen at least the commits that
 //! it has followed.
 
-ghost use Rattle.std.specs.Prelude.{◌≡◌, ℕ, ◌≤◌, ◌<◌, true, length, Some, None, if◌then◌else◌, IfOk, IfSome, OnOk, OnErr};
+ghost use Rattle.std.specs.Prelude.{◌≡◌, ℕ, ◌+◌, ◌≤◌, ◌<◌, true, length, Some, None, if◌then◌else◌, IfOk, IfSome, OnOk, OnErr};
 ghost use Rattle.std.specs.Bool.{MatchBool};
 ghost use Rattle.std.specs.BTreeMap.{is_at};
 ghost use mathlib.Core.List.{IsPrefix};
@@ -16,14 +16,16 @@ ghost use Rattle.reactive_registry.specs.Registered.{is_subscribed};
 ghost use Rattle.diamond_store.specs.Appending.{client_of};
 ghost use Rattle.diamond_store.specs.Feeders.{Tells, IsFeedOf, taken_of, feed_between};
 ghost use Rattle.diamond_store.specs.Following.{Follows};
+ghost use Rattle.diamond_store.specs.Hands.{turned};
 ghost use Rattle.diamond_store.specs.Passes.{is_in};
 
 use crate::book::Book;
 use crate::gate::Gate;
 use crate::hand::Hand;
+use crate::history::History;
 use crate::store::Store;
 use crate::telling::{feed_of, is_within};
-use change_feed::{Feed, Tail};
+use change_feed::Feed;
 use history_lock::{Front, HistoryLock, Naming};
 use journal_core::Keep;
 use rdt_types::Address;
@@ -80,47 +82,6 @@ fn learn<K: Keep, N: Naming>(
     length
 }
 
-/// All changes of commits past one number and up to another, taken under the journal's lock.
-fn changes_between<K: Keep, N: Naming, R: Wait>(
-    rt: &R,
-    journal: &HistoryLock<Book<K>, N>,
-    token: &mut Front<Book<K>, N>,
-    from: u64,
-    to: u64,
-) -> Result<Tail, AllocError>
-    requires order { from ≤ to }
-    requires within { to ≤ length token.old.seen }
-    ensures begins { IsPrefix token.old.seen token.new.seen }
-    ensures lawful { IsLawful Follows N.lock.base token.new.seen }
-    ensures tail { IfOk result (HasAll from to (between from to (changes token.new.seen))) }
-{
-    let guard = journal.enter(rt, token);
-    let tail = guard.value.tail_all(from, to);
-    journal.leave(rt, token, guard);
-    tail
-}
-
-/// The changes at an address, of commits past one number and up to another, taken under the journal's lock.
-fn changes_at<K: Keep, N: Naming, R: Wait>(
-    rt: &R,
-    journal: &HistoryLock<Book<K>, N>,
-    token: &mut Front<Book<K>, N>,
-    address: &Address,
-    from: u64,
-    to: u64,
-) -> Result<Tail, AllocError>
-    requires order { from ≤ to }
-    requires within { to ≤ length token.old.seen }
-    ensures begins { IsPrefix token.old.seen token.new.seen }
-    ensures lawful { IsLawful Follows N.lock.base token.new.seen }
-    ensures tail { IfOk result (HasAll from to (of_address address.now (between from to (changes token.new.seen)))) }
-{
-    let guard = journal.enter(rt, token);
-    let tail = guard.value.tail_at(address, from, to);
-    journal.leave(rt, token, guard);
-    tail
-}
-
 /// The registry begins anew at a number, and nobody has entered. Who had is given by the journal what it missed.
 fn begin_anew(alloc: Global, registry: &mut Registry, at: u64)
     ensures front { registry.new.front ≡ at }
@@ -135,7 +96,7 @@ fn begin_anew(alloc: Global, registry: &mut Registry, at: u64)
 fn follow<K: Keep, N: Naming, R: Wait>(
     rt: &R,
     alloc: Global,
-    journal: &HistoryLock<Book<K>, N>,
+    history: &History<K, N>,
     token: &mut Front<Book<K>, N>,
     registry: &mut Registry,
     to: u64,
@@ -157,7 +118,7 @@ fn follow<K: Keep, N: Naming, R: Wait>(
         begin_anew(alloc, registry, to);
         return Ok(());
     }
-    let tail = changes_between(rt, journal, token, front, to)?;
+    let tail = history.tail_all(rt, token, front, to)?;
     registry.follow(&tail)
 }
 
@@ -174,7 +135,7 @@ fn has_taken(registry: &Registry, client: u32, taken: u64) -> bool
 /// Has the changes at an address told to a client, and those since it took last.
 fn register<K: Keep, N: Naming, R: Wait>(
     rt: &R,
-    journal: &HistoryLock<Book<K>, N>,
+    history: &History<K, N>,
     token: &mut Front<Book<K>, N>,
     registry: &mut Registry,
     client: u32,
@@ -194,14 +155,14 @@ fn register<K: Keep, N: Naming, R: Wait>(
         return Ok(());
     }
     let front = registry.front();
-    let missed = changes_at(rt, journal, token, address, taken, front)?;
+    let missed = history.tail_at(rt, token, address, taken, front)?;
     registry.subscribe(client, address, &missed)
 }
 
 /// Has the changes at some addresses told to a client, and those since it took last.
 fn register_all<K: Keep, N: Naming, R: Wait>(
     rt: &R,
-    journal: &HistoryLock<Book<K>, N>,
+    history: &History<K, N>,
     token: &mut Front<Book<K>, N>,
     registry: &mut Registry,
     client: u32,
@@ -217,7 +178,7 @@ fn register_all<K: Keep, N: Naming, R: Wait>(
     ensures told { OnOk result ((a : Address) → is_in addresses.now.keys a ≡ true → is_subscribed registry.new client a ≡ true) }
 {
     for address in addresses {
-        register(rt, journal, token, registry, client, taken, address)?;
+        register(rt, history, token, registry, client, taken, address)?;
     }
     Ok(())
 }
@@ -249,7 +210,7 @@ fn take_pending(
 /// What the registry has for a client, where it keeps of it what its pass says.
 fn from_registry<K: Keep, N: Naming, R: Wait>(
     rt: &R,
-    journal: &HistoryLock<Book<K>, N>,
+    history: &History<K, N>,
     token: &mut Front<Book<K>, N>,
     registry: &mut Registry,
     client: u32,
@@ -266,7 +227,7 @@ fn from_registry<K: Keep, N: Naming, R: Wait>(
     if !has_taken(registry, client, taken) {
         return Ok(None);
     }
-    register_all(rt, journal, token, registry, client, taken, addresses)?;
+    register_all(rt, history, token, registry, client, taken, addresses)?;
     take_pending(registry, client, taken, addresses)
 }
 
@@ -286,6 +247,7 @@ fn enter_anew(registry: &mut Registry, client: u32) -> Result<(), AllocError>
 fn let_go(registry: &mut Registry, client: u32, window: u16)
     ensures front { registry.new.front ≡ registry.old.front }
     ensures newest { (c : ℕ) → taken_of registry.old c ≡ Some registry.old.front → taken_of registry.new c ≡ Some registry.old.front }
+    ensures lagging { (taken : ℕ) → taken_of registry.new client ≡ Some taken → registry.old.front ≤ taken + window }
     ensures tells { (journal : Journal) → Tells journal registry.old → Tells journal registry.new }
 {
     let Some(taken) = registry.taken(client) else {
@@ -296,12 +258,24 @@ fn let_go(registry: &mut Registry, client: u32, window: u16)
     }
 }
 
+/// Where a client has taken, the hand moves on, and the client to whom it comes is let go where it lags.
+fn look_round(hand: &mut Hand, registry: &mut Registry, client: u32, window: u16)
+    ensures moves { hand.new ≡ turned hand.old client }
+    ensures front { registry.new.front ≡ registry.old.front }
+    ensures newest { (c : ℕ) → taken_of registry.old c ≡ Some registry.old.front → taken_of registry.new c ≡ Some registry.old.front }
+    ensures lagging { (taken : ℕ) → taken_of registry.new hand.new.at ≡ Some taken → registry.old.front ≤ taken + window }
+    ensures tells { (journal : Journal) → Tells journal registry.old → Tells journal registry.new }
+{
+    let next = hand.turn(client);
+    let_go(registry, next, window);
+}
+
 /// What the journal has for one with some addresses past one number and up to another. One without addresses has nothing
 /// there.
 fn from_journal<K: Keep, N: Naming, R: Wait>(
     rt: &R,
     alloc: Global,
-    journal: &HistoryLock<Book<K>, N>,
+    history: &History<K, N>,
     token: &mut Front<Book<K>, N>,
     addresses: &BTreeSet<Address>,
     from: u64,
@@ -317,7 +291,7 @@ fn from_journal<K: Keep, N: Naming, R: Wait>(
         let _known = token.count();
         return Ok(Feed::new(alloc, to));
     }
-    let tail = changes_between(rt, journal, token, from, to)?;
+    let tail = history.tail_all(rt, token, from, to)?;
     feed_of(alloc, &tail, addresses)
 }
 
@@ -340,13 +314,13 @@ fn take_followed<K: Keep, G: Gate + Drop, N: Naming, R: Wait>(
     ensures front { registry.new.front ≡ registry.old.front }
     ensures took { OnOk result (taken_of registry.new client ≡ Some registry.old.front) }
 {
-    let journal = &store.journal;
-    if let Some(feed) = from_registry(rt, journal, token, registry, client, taken, addresses)? {
+    let history = &store.history;
+    if let Some(feed) = from_registry(rt, history, token, registry, client, taken, addresses)? {
         return Ok(feed);
     }
     enter_anew(registry, client)?;
     let front = registry.front();
-    from_journal(rt, store.alloc, journal, token, addresses, taken, front)
+    from_journal(rt, store.alloc, history, token, addresses, taken, front)
 }
 
 impl<K: Keep, N: Naming> Feeder<K, N> {
@@ -378,12 +352,12 @@ impl<K: Keep, N: Naming> Feeder<K, N> {
         ensures feed { IfOk result (λ feed. feed ≡ feed_between token.new.seen addresses.now.keys taken (length token.new.seen)) }
         ensures took { OnOk result (taken_of self.new client ≡ Some (length token.new.seen)) }
     {
-        let (journal, registry, own) = (&store.journal, &mut self.registry, &mut self.token);
+        let (history, registry, own) = (&store.history, &mut self.registry, &mut self.token);
         let (alloc, window) = (store.alloc, store.settings.window);
-        let to = learn(journal, own, token);
-        follow(rt, alloc, journal, own, registry, to, window)?;
+        let to = learn(&history.journal, own, token);
+        follow(rt, alloc, history, own, registry, to, window)?;
         let feed = take_followed(rt, store, own, registry, client, taken, addresses)?;
-        let_go(registry, self.hand.turn(client), window);
+        look_round(&mut self.hand, registry, client, window);
         let _known = own.count();
         Ok(feed)
     }

@@ -1,5 +1,8 @@
 //! Whom the registry looks at next.
 
+ghost use Rattle.std.specs.Prelude.{◌≡◌};
+ghost use Rattle.diamond_store.specs.Hands.{turned};
+
 /// A hand that goes round the clients that have taken, from the least number to the greatest and over again.
 #[derive(Debug, Drop)]
 pub(crate) struct Hand {
@@ -19,7 +22,10 @@ impl Hand {
     }
 
     /// Moves on, where a client has taken, and answers to whom.
-    pub(crate) fn turn(&mut self, client: u32) -> u32 {
+    pub(crate) fn turn(&mut self, client: u32) -> u32
+        ensures moves { self.new ≡ turned self.old client }
+        ensures at { result ≡ self.new.at }
+    {
         self.least = self.least.min(client);
         self.greatest = self.greatest.max(client);
         self.at = if self.least <= self.at && self.at < self.greatest {

@@ -12,6 +12,7 @@ mod decision;
 mod feeder;
 mod gate;
 mod hand;
+mod history;
 mod join_error;
 mod opening;
 mod pass;

@@ -6,8 +6,6 @@ ghost use Rattle.abort_witness.specs.Kinds.{IsBasedOfOneKind};
 ghost use Rattle.plain_data.specs.Histories.{IsLawful};
 ghost use Rattle.history_lock.specs.Tokens.{IsLater};
 ghost use Rattle.rdt_types.specs.Shards.{shard_of};
-ghost use Rattle.journal_core.specs.Changes.{changes, between, of_shard};
-ghost use Rattle.journal_core.specs.Tails.{HasAll};
 ghost use Rattle.diamond_store.specs.Appending.{client_of};
 ghost use Rattle.diamond_store.specs.Following.{Follows, IsSound};
 ghost use Rattle.diamond_store.specs.Numbers.{shards_in, window_in, HasSettings};
@@ -20,12 +18,13 @@ ghost use Rattle.version_shard.specs.Standing.{HoldsSoFar};
 
 use crate::book::Book;
 use crate::gate::Gate;
+use crate::history::History;
 use crate::store::Store;
 use abort_witness::Based;
 use change_feed::Tail;
 use conflict_table::Steps;
 use docc_prepare::{PrepareError, ReadAtError};
-use history_lock::{Front, HistoryLock, Naming};
+use history_lock::{Front, Naming};
 use journal_core::Keep;
 use rdt_types::{Address, Settings, Value, shard_of};
 use std::alloc::{AllocError, Global};
@@ -65,31 +64,10 @@ fn empty_shard(alloc: Global, place: u8, settings: &Settings) -> Result<Shard, A
     Shard::new(alloc, place, settings, &Tail::none(alloc, 0))
 }
 
-/// The changes in a shard past one number and up to another, taken under the journal's lock.
-fn tail_of<K: Keep, N: Naming, R: Wait>(
-    rt: &R,
-    journal: &HistoryLock<Book<K>, N>,
-    token: &mut Front<Book<K>, N>,
-    place: u8,
-    from: u64,
-    to: u64,
-) -> Result<Tail, AllocError>
-    requires order { from ≤ to }
-    requires within { to ≤ length token.old.seen }
-    ensures later { IsLater client_of token.old token.new }
-    ensures lawful { IsLawful Follows N.lock.base token.new.seen }
-    ensures tail { IfOk result (HasAll from to (of_shard (shards_in N.lock.origin) place (between from to (changes token.new.seen)))) }
-{
-    let guard = journal.enter(rt, token);
-    let tail = guard.value.tail(place, from, to);
-    journal.leave(rt, token, guard);
-    tail
-}
-
 /// The shard follows to a number, where it is behind that. For want of memory it may stand at a front between.
 fn follow<K: Keep, N: Naming, R: Wait>(
     rt: &R,
-    journal: &HistoryLock<Book<K>, N>,
+    history: &History<K, N>,
     token: &mut Front<Book<K>, N>,
     shard: &mut Shard,
     place: u8,
@@ -106,14 +84,14 @@ fn follow<K: Keep, N: Naming, R: Wait>(
     if to <= front {
         return Ok(());
     }
-    let tail = tail_of(rt, journal, token, place, front, to)?;
+    let tail = history.tail(rt, token, place, front, to)?;
     shard.follow(&tail)
 }
 
 /// The shard's token and another learn of each other, and the shard follows to a number that the other has seen.
 fn reach<K: Keep, N: Naming, R: Wait>(
     rt: &R,
-    journal: &HistoryLock<Book<K>, N>,
+    history: &History<K, N>,
     token: &mut Front<Book<K>, N>,
     shard: &mut Shard,
     place: u8,
@@ -128,11 +106,11 @@ fn reach<K: Keep, N: Naming, R: Wait>(
     ensures reached { OnOk result (to ≤ shard.new.front) }
     ensures told { OnOk result (Replicates N.lock.origin other.new.seen place shard.new) }
 {
-    let copy = journal.split(other);
-    journal.meet(token, copy);
-    let followed = follow(rt, journal, token, shard, place, to);
-    let copy = journal.split(token);
-    journal.meet(other, copy);
+    let copy = history.journal.split(other);
+    history.journal.meet(token, copy);
+    let followed = follow(rt, history, token, shard, place, to);
+    let copy = history.journal.split(token);
+    history.journal.meet(other, copy);
     followed
 }
 
@@ -226,8 +204,8 @@ impl<K: Keep, N: Naming> Replica<K, N> {
         let _known = token.count();
         let place = shard_of(address, store.settings.shards);
         self.settle(store.alloc, place, &store.settings)?;
-        let (journal, shard) = (&store.journal, &mut self.shard);
-        reach(rt, journal, &mut self.token, shard, place, token, seen)?;
+        let (history, shard) = (&store.history, &mut self.shard);
+        reach(rt, history, &mut self.token, shard, place, token, seen)?;
         store.gate.at(place);
         self.shard.read(address)
     }
@@ -269,8 +247,8 @@ impl<K: Keep, N: Naming> Replica<K, N> {
         let _known = token.count();
         let place = shard_of(address, store.settings.shards);
         self.settle(store.alloc, place, &store.settings)?;
-        let (journal, shard) = (&store.journal, &mut self.shard);
-        reach(rt, journal, &mut self.token, shard, place, token, number)?;
+        let (history, shard) = (&store.history, &mut self.shard);
+        reach(rt, history, &mut self.token, shard, place, token, number)?;
         store.gate.at(place);
         value_at(&self.shard, address, number)
     }
@@ -294,10 +272,10 @@ impl<K: Keep, N: Naming> Replica<K, N> {
     {
         let _known = token.count();
         self.settle(store.alloc, place, &store.settings)?;
-        let (journal, shard) = (&store.journal, &mut self.shard);
+        let (history, shard) = (&store.history, &mut self.shard);
         reach(
             rt,
-            journal,
+            history,
             &mut self.token,
             shard,
             place,

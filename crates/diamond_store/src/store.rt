@@ -16,6 +16,7 @@ use crate::book::Book;
 use crate::decision::counted;
 use crate::feeder::Feeder;
 use crate::gate::Gate;
+use crate::history::History;
 use crate::pass::Pass;
 use crate::replica::Replica;
 use crate::telling::{hush, tell};
@@ -33,12 +34,12 @@ use std::sync::{Mutex, Wait};
 use txn_lang::{CommitList, Snap};
 use version_shard::Prepared;
 
-/// The store of the name N: the one journal under its lock, and each shard and the registry under a lock of its own.
+/// The store of the name N: the history of the one journal, and each shard and the registry under a lock of its own.
 #[derive(Drop)]
 pub struct Store<K: Keep, G: Gate + Drop, N: Naming> {
     pub(crate) alloc: Global,
     pub(crate) settings: Settings,
-    pub(crate) journal: HistoryLock<Book<K>, N>,
+    pub(crate) history: History<K, N>,
     pub(crate) gate: Box<G>,
     pub(crate) bell: Bell,
     shards: Vec<Mutex<Replica<K, N>>>,
@@ -109,7 +110,7 @@ impl<K: Keep, G: Gate + Drop, N: Naming> Store<K, G, N> {
         let store = Store {
             alloc,
             settings: *settings,
-            journal,
+            history: History::new(alloc, settings, journal),
             gate,
             bell: Bell::new(),
             shards,
@@ -127,13 +128,23 @@ impl<K: Keep, G: Gate + Drop, N: Naming> Store<K, G, N> {
         Ok((store, pass))
     }
 
+    /// From now on the store hands on what is committed beside the journal too, so that no call but an append waits for the keeper
+    /// of an append. That takes a copy of each change, and serves where a keeper may wait, as for a disk.
+    pub fn begin_relay<R: Wait>(&mut self, rt: &R, pass: &mut Pass<K, N>) -> Result<(), AllocError>
+        ensures store { self.new ≡ self.old }
+        ensures pass { pass.new ≡ pass.old }
+    {
+        let token = self.history.journal.split(&mut pass.front);
+        self.history.begin_relay(rt, token)
+    }
+
     /// Learns the journal's length.
     pub fn length(&self, pass: &mut Pass<K, N>) -> u64
         ensures answered { IsAnswered (known_of pass.old) Call.refresh (Answer.number result) (known_of pass.new) }
         ensures learns { Learns pass.old pass.new }
         ensures looks { pass.old.looks < pass.new.looks }
     {
-        let length = self.journal.length(&mut pass.front);
+        let length = self.history.journal.length(&mut pass.front);
         pass.seen = length;
         length
     }
@@ -195,7 +206,7 @@ impl<K: Keep, G: Gate + Drop, N: Naming> Store<K, G, N> {
         ensures may_fail { IfDisk result (λ known knows. K.may_fail ≡ true) }
     {
         let known = pass.front.count();
-        let Ok(decision) = add(rt, &self.journal, &mut pass.front, ready) else {
+        let Ok(decision) = add(rt, &self.history, &mut pass.front, ready) else {
             return Err(StoreAppendError::NoMemory);
         };
         pass.seen = pass.front.entries();

@@ -30,7 +30,7 @@ returns-clause-adds g c =
     let t = c.enter-guard.new.front in
     let b = c.deref_mut.result.now in
     let left = c.append-decision.new.self.journal.commits in
-    adds-says g.N.Naming.lock.base g.N.Naming.lock.origin c.args.token.now t c.leave.new.front c.args.ready.now c.append-decision.result left b.denials
+    adds-says g.N.Naming.lock.base g.N.Naming.lock.origin c.args.token.now t c.leave.new.token c.args.ready.now c.append-decision.result left b.denials
     c.append-decision.new.self.denials c.enter-guard.ensures.later (lawful-sound g.N.Naming.lock.base t.seen c.enter-guard.ensures.lawful)
     (settles-here g.N.Naming.lock.origin b t.seen c.args.ready.now c.append-decision.result left
     (c.enter-guard.ensures.value.seen ∙ ap (λ (x : Booked). x.journal.commits) (sym c.deref_mut.ensures.value))

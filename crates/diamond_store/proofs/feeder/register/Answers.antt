@@ -8,16 +8,16 @@ returns-then-has-clause-told g c = λ a. told-already c.args.registry.now c.args
 
 pub returns-in_err-missed-clause-tells : goal.returns-in_err-missed-clause-tells
 returns-in_err-missed-clause-tells g c =
-    let t = c.changes_at in
-    tells-later c.args.token.now.seen t.new.token.seen t.ensures.begins
+    let t = c.tail_at in
+    tells-later c.args.token.now.seen t.new.token.seen t.ensures.later.seen
     (lawful-sound g.N.Naming.lock.base t.new.token.seen t.ensures.lawful).orderly.numbered c.args.registry.now c.requires.tells
 
 pub returns-clause-tells : goal.returns-clause-tells
 returns-clause-tells g c =
-    let t = c.changes_at in
+    let t = c.tail_at in
     let seen = t.new.token.seen in
     let numbered = (lawful-sound g.N.Naming.lock.base seen t.ensures.lawful).orderly.numbered in
     tells-registered seen c.args.registry.now c.subscribe.new.self c.args.client c.args.taken c.args.address.now
-    (tells-later c.args.token.now.seen seen t.ensures.begins numbered c.args.registry.now c.requires.tells)
+    (tells-later c.args.token.now.seen seen t.ensures.later.seen numbered c.args.registry.now c.requires.tells)
     c.requires.taken c.subscribe.ensures.front c.subscribe.result c.in_ok-missed.missed c.front-front.result c.front-front.ensures
     c.in_ok-missed.ensures.tail c.subscribe.ensures.ok c.subscribe.ensures.err

@@ -1,22 +1,22 @@
 use Rattle.std.proofs.Common.{arith}
 use Rattle.diamond_store.specs.Numbers.{shards_in}
 use Rattle.diamond_store.proofs.Followed.{tail-kinds, replicates-followed, replicates-later}
-use Rattle.diamond_store.proofs.Prefixes.{length-prefix}
+use Rattle.journal_relay.proofs.Prefixes.{length-prefix}
 use Rattle.diamond_store.proofs.Sound.{lawful-sound}
 use Rattle.diamond_store.proofs.replica.follow.Goals as goal
 
 pub follow-requires-clause-kinds : goal.follow-requires-clause-kinds
 follow-requires-clause-kinds g c =
-    tail-kinds g.N.Naming.lock.base c.tail_of.new.token.seen (shards_in g.N.Naming.lock.origin) c.args.place c.front-front.result c.args.to c.in_ok-tail.tail
-    (lawful-sound g.N.Naming.lock.base c.tail_of.new.token.seen c.tail_of.ensures.lawful) c.in_ok-tail.ensures.tail
+    tail-kinds g.N.Naming.lock.base c.tail.new.token.seen (shards_in g.N.Naming.lock.origin) c.args.place c.front-front.result c.args.to c.in_ok-tail.tail
+    (lawful-sound g.N.Naming.lock.base c.tail.new.token.seen c.tail.ensures.lawful) c.in_ok-tail.ensures.tail
 
 pub returns-clause-replicates : goal.returns-clause-replicates
 returns-clause-replicates g c =
-    let later = c.tail_of.ensures.later.seen in
-    let seen = c.tail_of.new.token.seen in
+    let later = c.tail.ensures.later.seen in
+    let seen = c.tail.new.token.seen in
     let longer = length-prefix c.args.token.now.seen seen later in
     let within = c.requires.within in
     replicates-followed g.N.Naming.lock.base g.N.Naming.lock.origin seen c.args.place
-    (lawful-sound g.N.Naming.lock.base seen c.tail_of.ensures.lawful) c.front-front.result c.args.to c.args.shard.now c.follow.new.self c.in_ok-tail.tail
+    (lawful-sound g.N.Naming.lock.base seen c.tail.ensures.lawful) c.front-front.result c.args.to c.args.shard.now c.follow.new.self c.in_ok-tail.tail
     (replicates-later g.N.Naming.lock.origin c.args.token.now.seen seen c.args.place c.args.shard.now c.requires.replicates later)
     c.front-front.ensures (omega arith) c.in_ok-tail.ensures.tail c.follow.ensures.same c.follow.ensures.within c.follow.ensures.holds

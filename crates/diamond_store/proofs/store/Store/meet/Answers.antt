@@ -1,6 +1,6 @@
 use Rattle.std.proofs.Common.{arith}
 use Rattle.diamond_store.proofs.Known.{learns, seen-within}
-use Rattle.diamond_store.proofs.Prefixes.{length-prefix}
+use Rattle.journal_relay.proofs.Prefixes.{length-prefix}
 use Rattle.diamond_store.proofs.store.Store.meet.Goals as goal
 
 pub returns-clause-learns : goal.returns-clause-learns

@@ -6,5 +6,5 @@ pub returns : goal.returns
 returns g c = record {
   pass = drawn-first c.args.opened.lock.base _ _ _ _ c.args.opened.front _ _ _ c.args.settings.now (ap (λ lock. lock.base) (sym c.requires.lock))
       (c.split.ensures.unchanged ∙ c.in_ok-shards.ensures.same ∙ c.named-journal.ensures.front) c.in-Author.ensures.author c.entries-seen.ensures
-      c.new-4.ensures.empty;
+      c.new-5.ensures.empty;
 }
