@@ -21,10 +21,10 @@ use journal_file::{CommitKeeper, Recovered, recover};
 use rdt_types::Settings;
 use script_runner::NO_MEMORY;
 use std::alloc::{AllocError, Global};
-use std::marker::PhantomData;
 use std::sync::Wait;
 use std::thread::Threads;
 use txn_lang::CommitList;
+use watch_reruns::One;
 use wire_server::Requests;
 
 /// The disk failed while its file was recovered.
@@ -41,7 +41,7 @@ struct Filed {
 }
 
 /// Serves over a file that was recovered, and gives its disk back.
-fn serve_recovered<D: Disk + Send, Li: Listener, V: Serves + Send, R: Threads + Wait + Sync>(
+fn serve_recovered<D: Disk + Send, Li: Listener, V: Serves + Sync, R: Threads + Wait + Sync>(
     rt: &R,
     alloc: Global,
     settings: &Settings,
@@ -49,7 +49,7 @@ fn serve_recovered<D: Disk + Send, Li: Listener, V: Serves + Send, R: Threads + 
     recovered: Recovered,
     disk: &mut D,
     listener: &mut Li,
-    way: PhantomData<V>,
+    way: &V,
 ) -> Result<Filed, AllocError>
     requires lawful { IsLawful Follows (length recovered.commits) recovered.commits }
     requires clients { AreClients recovered.commits }
@@ -65,7 +65,7 @@ fn serve_recovered<D: Disk + Send, Li: Listener, V: Serves + Send, R: Threads + 
     let Recovered { commits, end } = recovered;
     let keeper = CommitKeeper::new(disk, end);
     let served = serve_kept(
-        rt, alloc, settings, keeper, commits, listener, sessions, way,
+        rt, alloc, settings, keeper, commits, true, listener, sessions, way,
     )?;
     let Served {
         tally,
@@ -79,7 +79,7 @@ fn serve_recovered<D: Disk + Send, Li: Listener, V: Serves + Send, R: Threads + 
 }
 
 /// Recovers the file, serves, and answers the status. Where an error comes, nothing was written.
-fn serve_links<W: Sink, D: Disk + Send, Li: Listener, V: Serves + Send, R: Threads + Wait + Sync>(
+fn serve_links<W: Sink, D: Disk + Send, Li: Listener, V: Serves + Sync, R: Threads + Wait + Sync>(
     rt: &R,
     alloc: Global,
     settings: &Settings,
@@ -87,7 +87,7 @@ fn serve_links<W: Sink, D: Disk + Send, Li: Listener, V: Serves + Send, R: Threa
     sink: &mut W,
     disk: &mut D,
     listener: &mut Li,
-    way: PhantomData<V>,
+    way: &V,
 ) -> Result<u8, RecoverError>
     requires pending { NothingPending (D.state disk.old) }
     ensures filed { IfOk result (λ status. IsFiled V.promised (sides Li.Link.Source Li.Link.Sink) settings.now sessions
@@ -114,7 +114,7 @@ pub(crate) fn status_of(error: RecoverError) -> u8
 }
 
 /// Serves links in this way over the file of a disk, and answers the status.
-fn serve_way<W: Sink, D: Disk + Send, Li: Listener, V: Serves + Send, R: Threads + Wait + Sync>(
+fn serve_way<W: Sink, D: Disk + Send, Li: Listener, V: Serves + Sync, R: Threads + Wait + Sync>(
     rt: &R,
     alloc: Global,
     settings: &Settings,
@@ -122,7 +122,7 @@ fn serve_way<W: Sink, D: Disk + Send, Li: Listener, V: Serves + Send, R: Threads
     sink: &mut W,
     disk: &mut D,
     listener: &mut Li,
-    way: PhantomData<V>,
+    way: &V,
 ) -> u8
     requires pending { NothingPending (D.state disk.old) }
     ensures { ServesFile V.promised (sides Li.Link.Source Li.Link.Sink) settings.now sessions
@@ -155,13 +155,12 @@ pub(crate) fn serve_file<W: Sink, D: Disk + Send, Li: Listener, R: Threads + Wai
     ensures { ServesFile (promised_of wire) (sides Li.Link.Source Li.Link.Sink) settings.now sessions
         (gatherings Li.Listener listener.old listener.new) (storing D.Disk disk.old disk.new) result (writing W.Sink sink.old sink.new) }
 {
-    let lines: PhantomData<SessionLines> = PhantomData;
-    let requests: PhantomData<Requests> = PhantomData;
     if wire {
         serve_way(
-            rt, alloc, settings, sessions, sink, disk, listener, requests,
+            rt, alloc, settings, sessions, sink, disk, listener, &Requests,
         )
     } else {
-        serve_way(rt, alloc, settings, sessions, sink, disk, listener, lines)
+        let lines = SessionLines { reruns: &One };
+        serve_way(rt, alloc, settings, sessions, sink, disk, listener, &lines)
     }
 }

@@ -14,40 +14,42 @@ use journal_core::MemKeep;
 use rdt_types::Settings;
 use script_runner::NO_MEMORY;
 use std::alloc::{AllocError, Global};
-use std::marker::PhantomData;
 use std::sync::Wait;
 use std::thread::Threads;
 use txn_lang::CommitList;
+use watch_reruns::One;
 use wire_server::Requests;
 
 /// Serves, and answers the status, unless memory was wanting. Then nothing was written.
-fn serve_links<W: Sink, Li: Listener, V: Serves + Send, R: Threads + Wait + Sync>(
+fn serve_links<W: Sink, Li: Listener, V: Serves + Sync, R: Threads + Wait + Sync>(
     rt: &R,
     alloc: Global,
     settings: &Settings,
     sessions: u32,
     sink: &mut W,
     listener: &mut Li,
-    way: PhantomData<V>,
+    way: &V,
 ) -> Result<u8, AllocError>
     ensures ended { IfOk result (λ status. IsEnded V.promised (sides Li.Link.Source Li.Link.Sink) settings.now sessions
         (gatherings Li.Listener listener.old listener.new) [] 0 0 status (writing W.Sink sink.old sink.new)) }
     ensures unwritten { OnErr result (sink.new ≡ sink.old) }
 {
     let none = CommitList::new(alloc);
-    let served = serve_kept(rt, alloc, settings, MemKeep, none, listener, sessions, way)?;
+    let served = serve_kept(
+        rt, alloc, settings, MemKeep, none, false, listener, sessions, way,
+    )?;
     say(alloc, served.tally, &served.commits, sink)
 }
 
 /// Serves links in this way, and answers the status.
-fn serve_way<W: Sink, Li: Listener, V: Serves + Send, R: Threads + Wait + Sync>(
+fn serve_way<W: Sink, Li: Listener, V: Serves + Sync, R: Threads + Wait + Sync>(
     rt: &R,
     alloc: Global,
     settings: &Settings,
     sessions: u32,
     sink: &mut W,
     listener: &mut Li,
-    way: PhantomData<V>,
+    way: &V,
 ) -> u8
     ensures { ServesLinks V.promised (sides Li.Link.Source Li.Link.Sink) settings.now sessions
         (gatherings Li.Listener listener.old listener.new) result (writing W.Sink sink.old sink.new) }
@@ -75,11 +77,10 @@ pub(crate) fn serve<W: Sink, Li: Listener, R: Threads + Wait + Sync>(
     ensures { ServesLinks (promised_of wire) (sides Li.Link.Source Li.Link.Sink) settings.now sessions
         (gatherings Li.Listener listener.old listener.new) result (writing W.Sink sink.old sink.new) }
 {
-    let lines: PhantomData<SessionLines> = PhantomData;
-    let requests: PhantomData<Requests> = PhantomData;
     if wire {
-        serve_way(rt, alloc, settings, sessions, sink, listener, requests)
+        serve_way(rt, alloc, settings, sessions, sink, listener, &Requests)
     } else {
-        serve_way(rt, alloc, settings, sessions, sink, listener, lines)
+        let lines = SessionLines { reruns: &One };
+        serve_way(rt, alloc, settings, sessions, sink, listener, &lines)
     }
 }

@@ -3,6 +3,7 @@
 ghost use Rattle.std.specs.Prelude.{◌≡◌, None, length, IfOk, IfSome};
 ghost use Rattle.plain_data.specs.Histories.{IsLawful};
 ghost use Rattle.history_lock.specs.Entries.{NamesBelow};
+ghost use Rattle.diamond_store.specs.Answers.{IsFirst};
 ghost use Rattle.diamond_store.specs.Appending.{client_of};
 ghost use Rattle.diamond_store.specs.Following.{Follows};
 ghost use Rattle.diamond_store.specs.Numbers.{faults_in, from_in, home_in, HasSettings};
@@ -12,13 +13,13 @@ ghost use Rattle.diamond_server.specs.Accounts.{gatherings};
 ghost use Rattle.diamond_cli.specs.Serving.{HasServed};
 
 use diamond_server::{Serves, Tally, serve_links};
-use diamond_store::{Book, Closed, Open, Store, open};
+use diamond_store::{Book, Closed, Open, Pass, Store, open};
 use dio_core::Listener;
 use history_lock::{Naming, Opened};
 use journal_core::Keep;
 use rdt_types::Settings;
 use std::alloc::{AllocError, Global};
-use std::marker::{Brand, PhantomData};
+use std::marker::Brand;
 use std::sync::Wait;
 use std::thread::Threads;
 use txn_lang::CommitList;
@@ -31,21 +32,43 @@ pub(crate) struct Served<K: Keep> {
     pub(crate) commits: CommitList,
 }
 
+/// The store of a journal that was just opened, with or without a relay beside it, and the pass of its first client.
+fn begun<K: Keep, N: Naming, R: Wait>(
+    rt: &R,
+    alloc: Global,
+    settings: &Settings,
+    opened: Opened<Book<K>>,
+    relayed: bool,
+) -> Result<(Store<K, Open, N>, Pass<K, N>), AllocError>
+    requires lock { opened.lock ≡ N.lock }
+    requires settings { HasSettings opened.lock.origin settings.now }
+    requires author { opened.front.author ≡ None }
+    requires from { from_in opened.lock.origin ≡ opened.lock.base }
+    ensures pass { IfOk result (λ both. IsFirst opened.lock.base opened.front settings.now both.1) }
+{
+    let (mut store, mut pass) = Store::<K, Open, N>::new(alloc, settings, opened, Open)?;
+    if relayed {
+        store.begin_relay(rt, &mut pass)?;
+    }
+    Ok((store, pass))
+}
+
 /// Serves over a store of a journal that was just opened, and ends the store.
 fn serve_over<
     Li: Listener,
     K: Keep + Send,
     N: Naming + Send + Sync,
-    V: Serves + Send,
+    V: Serves + Sync,
     R: Threads + Wait + Sync,
 >(
     rt: &R,
     alloc: Global,
     opened: Opened<Book<K>>,
     settings: &Settings,
+    relayed: bool,
     listener: &mut Li,
     sessions: u32,
-    way: PhantomData<V>,
+    way: &V,
 ) -> Result<Served<K>, AllocError>
     requires lock { opened.lock ≡ N.lock }
     requires settings { HasSettings opened.lock.origin settings.now }
@@ -59,7 +82,7 @@ fn serve_over<
     ensures kept { IfOk result (λ served. IfSome (K.kept served.keeper) (λ list. list ≡ served.commits)) }
     ensures home { IfOk result (λ served. K.home served.keeper ≡ home_in opened.lock.origin) }
 {
-    let (store, mut pass) = Store::<K, Open, N>::new(alloc, settings, opened, Open)?;
+    let (store, mut pass) = begun::<K, N, R>(rt, alloc, settings, opened, relayed)?;
     let tally = serve_links(rt, alloc, listener, &store, &mut pass, sessions, way)?;
     let Closed { keeper, commits } = store.close(rt, pass);
     Ok(Served {
@@ -70,16 +93,17 @@ fn serve_over<
 }
 
 /// Serves at most so many links in this way over one store, each in a thread of its own, and ends the store. It begins with the
-/// commits that its keeper has kept.
-pub(crate) fn serve_kept<Li: Listener, K: Keep + Send, V: Serves + Send, R: Threads + Wait + Sync>(
+/// commits that its keeper has kept. A relay is for a keeper that may wait, so that none who reads waits for it.
+pub(crate) fn serve_kept<Li: Listener, K: Keep + Send, V: Serves + Sync, R: Threads + Wait + Sync>(
     rt: &R,
     alloc: Global,
     settings: &Settings,
     keeper: K,
     kept: CommitList,
+    relayed: bool,
     listener: &mut Li,
     sessions: u32,
-    way: PhantomData<V>,
+    way: &V,
 ) -> Result<Served<K>, AllocError>
     requires lawful { IsLawful Follows (length kept) kept }
     requires clients { AreClients kept }
@@ -91,5 +115,7 @@ pub(crate) fn serve_kept<Li: Listener, K: Keep + Send, V: Serves + Send, R: Thre
     ensures home { IfOk result (λ served. K.home served.keeper ≡ K.home keeper) }
 {
     let opened = open(alloc, settings, keeper, kept)?;
-    serve_over::<_, _, Brand, _, _>(rt, alloc, opened, settings, listener, sessions, way)
+    serve_over::<_, _, Brand, _, _>(
+        rt, alloc, opened, settings, relayed, listener, sessions, way,
+    )
 }

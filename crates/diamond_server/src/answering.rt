@@ -20,11 +20,13 @@ use plain_data::{OrNoMemory, Text};
 use session_core::{Session, SessionError, Turn};
 use session_text::{Reply, Why};
 use std::alloc::{AllocError, Global};
+use watch_reruns::Rerunner;
 
 /// Waits for a commit to tell of, and then does what `sync` does.
-fn woken<B: Waiter>(
+fn woken<B: Waiter, R: Rerunner>(
     alloc: Global,
     backend: &mut B,
+    reruns: &R,
     session: &mut Session,
 ) -> Result<Turn, SessionError>
     requires attends { Attends (B.known backend.old) session.old }
@@ -35,13 +37,14 @@ fn woken<B: Waiter>(
     ensures home { B.home backend.new ≡ B.home backend.old }
 {
     backend.wait()?;
-    session.waited(alloc, backend)
+    session.waited_by(alloc, backend, reruns)
 }
 
 /// Passes on what is held back, and then waits and does what `sync` does.
-fn passed_on_and_woken<B: Waiter, K: End>(
+fn passed_on_and_woken<B: Waiter, K: End, R: Rerunner>(
     alloc: Global,
     backend: &mut B,
+    reruns: &R,
     link: &mut K,
     session: &mut Session,
     held: &mut Text,
@@ -60,16 +63,17 @@ fn passed_on_and_woken<B: Waiter, K: End>(
     if !pass_on(link, held) {
         return Err(OrNoMemory::Cause(Cause::WriteFault));
     }
-    match woken(alloc, backend, session) {
+    match woken(alloc, backend, reruns, session) {
         Ok(turn) => Ok(turn),
         Err(error) => Err(stop_of(error)),
     }
 }
 
 /// Does a line of the session. One that is to wait waits.
-fn said<B: Waiter, K: End>(
+fn said<B: Waiter, K: End, R: Rerunner>(
     alloc: Global,
     backend: &mut B,
+    reruns: &R,
     link: &mut K,
     session: &mut Session,
     held: &mut Text,
@@ -87,9 +91,9 @@ fn said<B: Waiter, K: End>(
     ensures attends { OnOk result (Attends (B.known backend.new) session.new) }
     ensures home { B.home backend.new ≡ B.home backend.old }
 {
-    match session.line(alloc, backend, text) {
+    match session.line_by(alloc, backend, reruns, text) {
         Ok(turn) => match turn {
-            Turn::WaitWanted => passed_on_and_woken(alloc, backend, link, session, held),
+            Turn::WaitWanted => passed_on_and_woken(alloc, backend, reruns, link, session, held),
             turn => Ok(turn),
         },
         Err(error) => Err(stop_of(error)),
@@ -127,9 +131,10 @@ fn hold_refusal(alloc: Global, held: &mut Text) -> Result<(), AllocError>
 }
 
 /// Does a line of the session, whose text was short enough to be read, and holds back its answer.
-fn text_answer<B: Waiter, K: End>(
+fn text_answer<B: Waiter, K: End, R: Rerunner>(
     alloc: Global,
     backend: &mut B,
+    reruns: &R,
     link: &mut K,
     session: &mut Session,
     held: &mut Text,
@@ -147,16 +152,17 @@ fn text_answer<B: Waiter, K: End>(
     ensures attends { OnOk result (Attends (B.known backend.new) session.new) }
     ensures home { B.home backend.new ≡ B.home backend.old }
 {
-    match said(alloc, backend, link, session, held, text.as_slice()) {
+    match said(alloc, backend, reruns, link, session, held, text.as_slice()) {
         Ok(turn) => Ok(hold_turn(alloc, held, &turn)?),
         Err(stop) => Err(stop),
     }
 }
 
 /// Does a line that was found, and holds back its answer. It says whether the session goes on.
-pub fn answer<B: Waiter, K: End>(
+pub fn answer<B: Waiter, K: End, R: Rerunner>(
     alloc: Global,
     backend: &mut B,
+    reruns: &R,
     link: &mut K,
     session: &mut Session,
     held: &mut Text,
@@ -176,7 +182,7 @@ pub fn answer<B: Waiter, K: End>(
     ensures home { B.home backend.new ≡ B.home backend.old }
 {
     match line {
-        Line::Bytes(text) => text_answer(alloc, backend, link, session, held, text),
+        Line::Bytes(text) => text_answer(alloc, backend, reruns, link, session, held, text),
         _ => {
             hold_refusal(alloc, held)?;
             Ok(true)

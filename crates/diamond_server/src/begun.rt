@@ -99,7 +99,7 @@ pub(crate) fn begin<
     K: Keep + Send + 'e,
     G: Gate + Drop + Send + Sync,
     N: Naming + Send + Sync + 'e,
-    S: Serves + Send + 'e,
+    S: Serves + Sync + 'e,
     R: Threads + Wait + Sync,
 >(
     scope: &'s Scope<'s, &'e ()>,
@@ -108,17 +108,17 @@ pub(crate) fn begin<
     store: &'e Store<K, G, N>,
     link: L,
     pass: Pass<K, N>,
+    way: &'e S,
 ) -> Begun<L, K, N, S>
     requires newcomer { IsNewcomer pass }
     ensures { result ≡ seat link (Ok pass) }
 {
     let (link_was, pass_was) = (Snapshot::of(&link), Snapshot::of(&pass));
     let (was, had) = (Snapshot::of(&link), Snapshot::of(&pass));
-    let way: PhantomData<S> = PhantomData;
     let promise = Serving {
         link: Snapshot::of(&link),
         pass: Snapshot::of(&pass),
-        way,
+        way: PhantomData,
     };
     let run = match scope.spawn_with(promise, move || serve(rt, alloc, store, link, pass, way)) {
         Ok(handle) => Ok(Running { was, had, handle }),

@@ -77,13 +77,13 @@ pub(crate) fn serve<L: End, K: Keep, G: Gate + Drop, N: Naming, S: Serves, R: Wa
     store: &Store<K, G, N>,
     mut link: L,
     pass: Pass<K, N>,
-    _way: PhantomData<S>,
+    way: &S,
 ) -> (L, Pass<K, N>, u8)
     requires newcomer { IsNewcomer pass }
     ensures told { IsTold S.promised (λ p. p) (sides L.Source L.Sink link) (sides L.Source L.Sink result.0) result.2 (Ok (pass, result.1)) }
 {
     let mut served = Served { store, pass, rt };
-    let status = S::serve(alloc, &mut served, &mut link);
+    let status = way.serve(alloc, &mut served, &mut link);
     let Served { pass, .. } = served;
     link.end();
     (link, pass, status)

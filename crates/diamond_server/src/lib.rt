@@ -17,7 +17,7 @@ mod serving_all;
 mod status;
 mod ways;
 
-pub use serving::serve_session;
-pub use serving_all::{Tally, serve_all, serve_links};
+pub use serving::{serve_by, serve_session};
+pub use serving_all::{Tally, serve_all, serve_all_by, serve_links};
 pub use status::{NO_CLIENT, STORE_FAULT};
 pub use ways::{Serves, SessionLines};

@@ -15,11 +15,13 @@ use plain_data::{OrNoMemory, Text};
 use script_runner::MOST_LINES;
 use session_core::Session;
 use std::alloc::Global;
+use watch_reruns::{One, Rerunner};
 
 /// Finds and does one line, and holds back what answers it. `true` says that another may follow.
-fn do_line<B: Waiter, K: End>(
+fn do_line<B: Waiter, K: End, R: Rerunner>(
     alloc: Global,
     backend: &mut B,
+    reruns: &R,
     link: &mut K,
     session: &mut Session,
     held: &mut Text,
@@ -35,13 +37,14 @@ fn do_line<B: Waiter, K: End>(
         Line::End => return Ok(false),
         line => line,
     };
-    answer(alloc, backend, link, session, held, &line)
+    answer(alloc, backend, reruns, link, session, held, &line)
 }
 
 /// Finds, does and answers one line. Only where another may follow is an answer held back.
-fn serve_line<B: Waiter, K: End>(
+fn serve_line<B: Waiter, K: End, R: Rerunner>(
     alloc: Global,
     backend: &mut B,
+    reruns: &R,
     link: &mut K,
     session: &mut Session,
     held: &mut Text,
@@ -54,12 +57,17 @@ fn serve_line<B: Waiter, K: End>(
     ensures attends { result ≡ Ok true → Attends (B.known backend.new) session.new }
     ensures home { B.home backend.new ≡ B.home backend.old }
 {
-    let outcome = do_line(alloc, backend, link, session, held);
+    let outcome = do_line(alloc, backend, reruns, link, session, held);
     settle(link, held, outcome)
 }
 
 /// Serves the lines of a link to its end, or to a line that ends the session.
-fn serve_lines<B: Waiter, K: End>(alloc: Global, backend: &mut B, link: &mut K) -> Result<(), Stop>
+fn serve_lines<B: Waiter, K: End, R: Rerunner>(
+    alloc: Global,
+    backend: &mut B,
+    reruns: &R,
+    link: &mut K,
+) -> Result<(), Stop>
     requires new { IsNew (B.known backend.old) }
     ensures ends { Ends B.known B.goes result
         backend.old (sides K.Source K.Sink link.old)
@@ -70,7 +78,7 @@ fn serve_lines<B: Waiter, K: End>(alloc: Global, backend: &mut B, link: &mut K) 
     let mut session = Session::new(alloc, backend.client(), backend.seen());
     let mut held = Text::new(alloc);
     for _ in 0..MOST_LINES {
-        if !serve_line(alloc, backend, link, &mut session, &mut held)? {
+        if !serve_line(alloc, backend, reruns, link, &mut session, &mut held)? {
             return Ok(());
         }
     }
@@ -92,6 +100,21 @@ pub fn serve_session<B: Waiter, K: End>(alloc: Global, backend: &mut B, link: &m
         (sides K.Source K.Sink link.old) (sides K.Source K.Sink link.new) }
     ensures home { B.home backend.new ≡ B.home backend.old }
 {
-    let ended = serve_lines(alloc, backend, link);
+    serve_by(alloc, backend, link, &One)
+}
+
+/// The same, where reruns of watches are made by others.
+pub fn serve_by<B: Waiter, K: End, R: Rerunner>(
+    alloc: Global,
+    backend: &mut B,
+    link: &mut K,
+    reruns: &R,
+) -> u8
+    requires new { IsNew (B.known backend.old) }
+    ensures promises { KeepsPromises B.known B.goes result backend.old backend.new
+        (sides K.Source K.Sink link.old) (sides K.Source K.Sink link.new) }
+    ensures home { B.home backend.new ≡ B.home backend.old }
+{
+    let ended = serve_lines(alloc, backend, reruns, link);
     status_of(ended)
 }

@@ -16,10 +16,10 @@ use history_lock::Naming;
 use journal_core::Keep;
 use script_runner::WHOLE;
 use std::alloc::{AllocError, Global};
-use std::marker::PhantomData;
 use std::sync::Wait;
 use std::thread;
 use std::thread::{Scope, Threads};
+use watch_reruns::{One, Rerunner};
 
 /// What came of the links of a listener.
 #[derive(Clone, Copy, Debug, PartialEq, Eq)]
@@ -43,7 +43,7 @@ pub fn serve_links<
     K: Keep + Send,
     G: Gate + Drop + Send + Sync,
     N: Naming + Send + Sync,
-    S: Serves + Send,
+    S: Serves + Sync,
     R: Threads + Wait + Sync,
 >(
     rt: &R,
@@ -52,14 +52,14 @@ pub fn serve_links<
     store: &Store<K, G, N>,
     pass: &mut Pass<K, N>,
     sessions: u32,
-    _way: PhantomData<S>,
+    way: &S,
 ) -> Result<Tally, AllocError>
     ensures learns { Learns pass.old pass.new }
     ensures served { IfOk result (AllServedSince S.promised (sides Li.Link.Source Li.Link.Sink) N.lock.first pass.old pass.new sessions
         (gatherings Li.Listener listener.old listener.new)) }
 {
     let ran: Result<(Vec<Ended<Li::Link, K, N, S>>, bool), AllocError> = run_scoped(
-        rt, alloc, listener, store, pass, sessions,
+        rt, alloc, listener, store, pass, sessions, way,
     );
     let (ended, failed) = ran?;
     let accepted = ended.len() as u32;
@@ -90,8 +90,32 @@ pub fn serve_all<
     ensures served { IfOk result (ServedSince (sides Li.Link.Source Li.Link.Sink) N.lock.first pass.old pass.new sessions
         (gatherings Li.Listener listener.old listener.new)) }
 {
-    let lines: PhantomData<SessionLines> = PhantomData;
-    serve_links(rt, alloc, listener, store, pass, sessions, lines)
+    serve_all_by(rt, alloc, listener, store, pass, sessions, &One)
+}
+
+/// The same, where reruns of watches are made by others, whom all sessions share.
+pub fn serve_all_by<
+    Li: Listener,
+    K: Keep + Send,
+    G: Gate + Drop + Send + Sync,
+    N: Naming + Send + Sync,
+    R: Threads + Wait + Sync,
+    P: Rerunner + Sync,
+>(
+    rt: &R,
+    alloc: Global,
+    listener: &mut Li,
+    store: &Store<K, G, N>,
+    pass: &mut Pass<K, N>,
+    sessions: u32,
+    reruns: &P,
+) -> Result<Tally, AllocError>
+    ensures learns { Learns pass.old pass.new }
+    ensures served { IfOk result (ServedSince (sides Li.Link.Source Li.Link.Sink) N.lock.first pass.old pass.new sessions
+        (gatherings Li.Listener listener.old listener.new)) }
+{
+    let lines = SessionLines { reruns };
+    serve_links(rt, alloc, listener, store, pass, sessions, &lines)
 }
 
 /// Accepts and runs the sessions in a scope. The scope's closure gives back the `&mut`s that it was given, since what it writes
@@ -101,7 +125,7 @@ fn run_scoped<
     K: Keep + Send,
     G: Gate + Drop + Send + Sync,
     N: Naming + Send + Sync,
-    S: Serves + Send,
+    S: Serves + Sync,
     R: Threads + Wait + Sync,
 >(
     rt: &R,
@@ -110,6 +134,7 @@ fn run_scoped<
     store: &Store<K, G, N>,
     pass: &mut Pass<K, N>,
     sessions: u32,
+    way: &S,
 ) -> Result<(Vec<Ended<Li::Link, K, N, S>>, bool), AllocError>
     ensures learns { Learns pass.old pass.new }
     ensures given { Li.given_back listener.new ≡ Li.given_back listener.old }
@@ -118,7 +143,7 @@ fn run_scoped<
     ensures near { IfOk result (λ r. All (IsNear pass.new) r.0.items) }
 {
     let (ran, listener, _pass) = thread::scope(thread::scope_env(), rt, move |scope| {
-        let ran = run_all(scope, rt, alloc, listener, store, pass, sessions);
+        let ran = run_all(scope, rt, alloc, listener, store, pass, sessions, way);
         (ran, listener, pass)
     });
     leave(listener);
@@ -140,7 +165,7 @@ fn run_all<
     K: Keep + Send + 'e,
     G: Gate + Drop + Send + Sync,
     N: Naming + Send + Sync + 'e,
-    S: Serves + Send + 'e,
+    S: Serves + Sync + 'e,
     R: Threads + Wait + Sync,
 >(
     scope: &'s Scope<'s, &'e ()>,
@@ -150,6 +175,7 @@ fn run_all<
     store: &'e Store<K, G, N>,
     pass: &mut Pass<K, N>,
     sessions: u32,
+    way: &'e S,
 ) -> Result<(Vec<Ended<Li::Link, K, N, S>>, bool), AllocError>
     ensures learns { Learns pass.old pass.new }
     ensures given { Li.given_back listener.new ≡ Li.given_back listener.old }
@@ -157,7 +183,7 @@ fn run_all<
         (gatherings Li.Listener listener.old listener.new) (map seat_of r.0.items) r.1) }
     ensures near { IfOk result (λ r. All (IsNear pass.new) r.0.items) }
 {
-    let accepted = accept_all(scope, rt, alloc, listener, store, pass, sessions);
+    let accepted = accept_all(scope, rt, alloc, listener, store, pass, sessions, way);
     listener.close();
     let (begun, failed) = accepted?;
     Ok((join_all(rt, alloc, store, pass, begun)?, failed))
@@ -172,7 +198,7 @@ fn accept_all<
     K: Keep + Send + 'e,
     G: Gate + Drop + Send + Sync,
     N: Naming + Send + Sync + 'e,
-    S: Serves + Send + 'e,
+    S: Serves + Sync + 'e,
     R: Threads + Wait + Sync,
 >(
     scope: &'s Scope<'s, &'e ()>,
@@ -182,6 +208,7 @@ fn accept_all<
     store: &'e Store<K, G, N>,
     pass: &mut Pass<K, N>,
     sessions: u32,
+    way: &'e S,
 ) -> Result<(Vec<Begun<Li::Link, K, N, S>>, bool), AllocError>
     ensures learns { Learns pass.old pass.new }
     ensures given { Li.given_back listener.new ≡ Li.given_back listener.old }
@@ -194,7 +221,7 @@ fn accept_all<
         begun.reserve(1)?;
         match listener.accept() {
             Accepted::Link(link) => {
-                begun.push_reserved(begin_next(scope, rt, alloc, store, pass, link));
+                begun.push_reserved(begin_next(scope, rt, alloc, store, pass, link, way));
             }
             Accepted::NoMore => return Ok((begun, false)),
             Accepted::Failed => return Ok((begun, true)),
@@ -211,7 +238,7 @@ fn begin_next<
     K: Keep + Send + 'e,
     G: Gate + Drop + Send + Sync,
     N: Naming + Send + Sync + 'e,
-    S: Serves + Send + 'e,
+    S: Serves + Sync + 'e,
     R: Threads + Wait + Sync,
 >(
     scope: &'s Scope<'s, &'e ()>,
@@ -220,13 +247,14 @@ fn begin_next<
     store: &'e Store<K, G, N>,
     pass: &mut Pass<K, N>,
     link: L,
+    way: &'e S,
 ) -> Begun<L, K, N, S>
     ensures learns { Learns pass.old pass.new }
     ensures link { link_in result ≡ link }
     ensures joined { JoinsNext pass.new (N.lock.first + pass.old.draws) (N.lock.first + pass.new.draws) (joined_in result) }
 {
     match store.join(pass) {
-        Ok(joined) => begin(scope, rt, alloc, store, link, joined),
+        Ok(joined) => begin(scope, rt, alloc, store, link, joined, way),
         Err(error) => Begun::unread(link, error),
     }
 }

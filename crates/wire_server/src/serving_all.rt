@@ -14,11 +14,11 @@ use docc_prepare::Waiter;
 use history_lock::Naming;
 use journal_core::Keep;
 use std::alloc::{AllocError, Global};
-use std::marker::PhantomData;
 use std::sync::Wait;
 use std::thread::Threads;
 
 /// Links are served as requests of a client far from the store.
+#[derive(Clone, Copy)]
 pub struct Requests;
 
 impl Serves for Requests {
@@ -26,7 +26,7 @@ impl Serves for Requests {
 
     ghost promised = { RequestsPromised };
 
-    fn serve<B: Waiter, K: End>(alloc: Global, backend: &mut B, link: &mut K) -> u8 {
+    fn serve<B: Waiter, K: End>(&self, alloc: Global, backend: &mut B, link: &mut K) -> u8 {
         serve_wire(alloc, backend, link)
     }
 
@@ -52,6 +52,5 @@ pub fn serve_all_wire<
     ensures served { IfOk result (AllServedSince RequestsPromised (sides Li.Link.Source Li.Link.Sink) N.lock.first pass.old pass.new sessions
         (gatherings Li.Listener listener.old listener.new)) }
 {
-    let requests: PhantomData<Requests> = PhantomData;
-    serve_links(rt, alloc, listener, store, pass, sessions, requests)
+    serve_links(rt, alloc, listener, store, pass, sessions, &Requests)
 }

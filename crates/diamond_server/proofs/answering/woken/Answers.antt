@@ -5,8 +5,8 @@ use Rattle.diamond_server.proofs.Stopping.{wakes-failed, wakes-stopped}
 use Rattle.diamond_server.proofs.answering.woken.Goals as goal
 
 -- the session goes on where its client was woken
-pub waited-requires : goal.waited-requires
-waited-requires g c = record {
+pub waited_by-requires : goal.waited_by-requires
+waited_by-requires g c = record {
   follows = follows-on (g.B.Backend.known c.wait.new.self) c.args.session.now
       (waited-attends g.B.Backend.known g.B.Backend.goes c.args.backend.now c.args.session.now c.wait.new.self c.requires.attends c.in_ok-wait.ensures.goes);
 }
@@ -14,15 +14,15 @@ waited-requires g c = record {
 -- and behind its answer
 pub returns-clause-attends : goal.returns-clause-attends
 returns-clause-attends g c =
-    synced-on g.B.Backend.known g.B.Backend.goes c.wait.new.self c.args.session.now c.waited.result c.waited.new.backend c.waited.new.self
+    synced-on g.B.Backend.known g.B.Backend.goes c.wait.new.self c.args.session.now c.waited_by.result c.waited_by.new.backend c.waited_by.new.self
     (waited-attends g.B.Backend.known g.B.Backend.goes c.args.backend.now c.args.session.now c.wait.new.self c.requires.attends c.in_ok-wait.ensures.goes)
-    (c.waited.ensures.plays c.requires.attends.on)
+    (c.waited_by.ensures.plays c.requires.attends.on)
 
 -- a fault that it tells was counted, since up to there none was
 pub returns-clause-fault : goal.returns-clause-fault
-returns-clause-fault g c = λ is. subst (λ (n : ℕ). Rose n (g.B.Backend.known c.waited.new.backend).faults) c.in_ok-wait.ensures.goes.answered.goes_on.faults
-    (told-rises c.waited.result (g.B.Backend.known c.wait.new.self).faults (g.B.Backend.known c.waited.new.backend).faults
-    (c.waited.ensures.told c.requires.attends.on) is)
+returns-clause-fault g c = λ is. subst (λ (n : ℕ). Rose n (g.B.Backend.known c.waited_by.new.backend).faults) c.in_ok-wait.ensures.goes.answered.goes_on.faults
+    (told-rises c.waited_by.result (g.B.Backend.known c.wait.new.self).faults (g.B.Backend.known c.waited_by.new.backend).faults
+    (c.waited_by.ensures.told c.requires.attends.on) is)
 
 -- the wait failed
 pub returns-in_err-wait-clause-begun : goal.returns-in_err-wait-clause-begun
@@ -33,5 +33,5 @@ returns-in_err-wait-clause-begun g c =
 -- or what follows it stopped
 pub returns-clause-begun : goal.returns-clause-begun
 returns-clause-begun g c =
-    wakes-stopped g.B.Backend.known g.B.Backend.goes c.args.backend.now c.args.session.now c.wait.new.self c.waited.result c.waited.new.backend
-    c.waited.new.self c.in_ok-wait.ensures.goes (c.waited.ensures.plays c.requires.attends.on)
+    wakes-stopped g.B.Backend.known g.B.Backend.goes c.args.backend.now c.args.session.now c.wait.new.self c.waited_by.result c.waited_by.new.backend
+    c.waited_by.new.self c.in_ok-wait.ensures.goes (c.waited_by.ensures.plays c.requires.attends.on)

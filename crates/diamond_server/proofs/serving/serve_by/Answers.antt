@@ -1,7 +1,7 @@
 use Rattle.std.proofs.Common.{ℕ, sym, subst}
 use Rattle.diamond_server.specs.Promises.{sides, KeepsPromises}
 use Rattle.diamond_server.proofs.Promises.{keeps_promises}
-use Rattle.diamond_server.proofs.serving.serve_session.Goals as goal
+use Rattle.diamond_server.proofs.serving.serve_by.Goals as goal
 
 -- the status is that of how the lines ended
 pub returns : goal.returns
