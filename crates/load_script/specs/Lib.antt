@@ -1,0 +1,3 @@
+pub mod LoadText
+pub mod Counting
+pub mod LoadLine
