@@ -5,6 +5,7 @@ ghost use Rattle.std.specs.Prelude.{◌≡◌};
 ghost use Rattle.docc_prepare.specs.Attempts.{Prepares, next_event};
 
 mod appending;
+mod relayed;
 mod segments;
 
 use crate::bodies::checked;

@@ -14,6 +14,8 @@ mod mixed;
 #[cfg(test)]
 mod replay;
 #[cfg(test)]
+mod slow_keeper;
+#[cfg(test)]
 mod stores;
 #[cfg(test)]
 mod two_threads;

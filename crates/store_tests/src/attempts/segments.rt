@@ -17,7 +17,7 @@ const COMMITS: u64 = 45;
 /// Numbers before, at and behind the ends of segments, and those of the first commit and the last.
 static NUMBERS: [u64; 12] = [0, 1, 12, 13, 14, 25, 26, 27, 38, 39, 40, COMMITS];
 
-fn numbers() -> &'static [u64] {
+pub(super) fn numbers() -> &'static [u64] {
     &NUMBERS
 }
 
@@ -50,7 +50,7 @@ fn is_by(change: Option<&Change>, number: u64, address: &Address, delta: &Delta)
 }
 
 /// Whether changes are what the commits past one number and up to another did.
-fn are_of(changes: Changes<'_>, journal: &Journal<MemKeep>, from: u64, to: u64) -> bool {
+pub(super) fn are_of(changes: Changes<'_>, journal: &Journal<MemKeep>, from: u64, to: u64) -> bool {
     let mut place: usize = 0;
     for number in from..to {
         let Some(commit) = journal.commit(number + 1) else {
@@ -73,8 +73,9 @@ fn is_right(journal: &Journal<MemKeep>, from: u64, to: u64) -> bool {
     }
     match journal.tail(0, from, to) {
         Ok(tail) => {
+            let lent = journal.lend_tail(0, from, to);
             are_of(tail.changes.lend(), journal, from, to)
-                && are_of(journal.lend_tail(0, from, to).changes, journal, from, to)
+                && are_of(lent.changes.pieces(), journal, from, to)
         }
         Err(_) => false,
     }
@@ -101,7 +102,7 @@ fn shared(journal: &Journal<MemKeep>) -> usize {
 }
 
 /// Adds the commits to a journal.
-fn grows(alloc: Global, journal: &mut Journal<MemKeep>) -> bool {
+pub(super) fn grows(alloc: Global, journal: &mut Journal<MemKeep>) -> bool {
     for number in 0..COMMITS {
         match added(alloc, journal, 0, CHANGES_FIVE, 0) {
             Ok(end) if end == End::Number(number + 1) => {}
