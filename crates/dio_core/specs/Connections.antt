@@ -1,7 +1,8 @@
 -- What a connection does to the bytes that are to come and to those that were sent, or None where it doesn't tell.
-use Rattle.std.specs.Prelude.{◌≡◌, ℕ, ◌≤◌, List, [], length, take, Option, IfSome, Result, Ok, Err}
+use Rattle.std.specs.Prelude.{◌≡◌, ℕ, ◌≤◌, Bool, true, false, List, [], length, take, Option, Some, IfSome, IsTrue, Result, Ok, Err, refl}
 use Rattle.dio_core.specs.Sources.{with_prefix}
 use Rattle.dio_core.specs.Sinks.{with_more}
+use Rattle.dio_core.specs.Links.{Incoming, Outgoing}
 
 -- So many bytes are received, the next that were to come, or none since none was; a fault changes nothing.
 abbrev pub Receives : {E : Type 0} → Result ℕ E → List ℕ → Option (List ℕ) → Option (List ℕ) → Type 0
@@ -17,3 +18,25 @@ Sends (Err e) bytes old new = new ≡ old
 abbrev pub last_of : {C S : Type 0} → (S → C) → Result C S → C
 last_of value (Ok connection) = connection
 last_of value (Err closed) = value closed
+
+-- there is no connection any more
+abbrev pub has_ended : {C S : Type 0} → Result C S → Bool
+has_ended (Ok connection) = false
+has_ended (Err closed) = true
+
+-- A connection that is let go of has ended its sending, where it tells.
+abbrev pub ShutAtEnd : Bool → Option Bool → Type 0
+ShutAtEnd true is_shut = IfSome is_shut IsTrue
+ShutAtEnd false is_shut = Unit {0}
+
+-- a connection that was let go of after it was shut
+ShutAtEnd-example : ShutAtEnd true (Some true)
+ShutAtEnd-example = refl
+
+-- A link over a connection.
+pub record Linked : Type 0 where
+  pub inwards : Incoming
+  pub outwards : Outgoing
+  pub passed : Option (List ℕ)  -- of the bytes sent those that the connection keeps back no more, or None where it doesn't tell
+  pub is_shut : Option Bool  -- whether its sending has ended, or None
+  pub ended : Bool  -- whether the connection is closed

@@ -1,6 +1,6 @@
 //! Where links come in, and are given back when they are done.
 
-ghost use Rattle.std.specs.Prelude.{◌≡◌, ℕ, List, [], ◌∷◌, Option, None, OnOk, OnErr};
+ghost use Rattle.std.specs.Prelude.{◌≡◌, ℕ, List, [], ◌∷◌, Bool, Option, None, IfSome, IsTrue, OnOk, OnErr};
 ghost use Rattle.dio_core.specs.Counts.{one_more, IsCounted};
 ghost use Rattle.dio_core.specs.Lines.{IsLineAhead};
 ghost use Rattle.dio_core.specs.Links.{incoming, outgoing};
@@ -16,8 +16,12 @@ use std::marker::Model;
 
 /// A link that can be closed.
 pub trait End: Source + Sink {
+    /// Whether the link has been closed, or None where it doesn't tell.
+    ghost ended: { Self → Option Bool } = { λ _. None };
+
     /// Closes the link. What it tells and its counts stay.
     fn end(&mut self)
+        ensures ended { IfSome (Self.ended self.new) IsTrue }
         ensures left { Self.left self.new ≡ Self.left self.old }
         ensures taken { Self.taken self.new ≡ Self.taken self.old }
         ensures passed { Self.passed self.new ≡ Self.passed self.old }

@@ -2,15 +2,19 @@
 //!
 //! The process's own streams tell nothing, so of a program's own run the contracts say only what they say of streams
 //! that don't tell. Over a reader and a writer that tell their bytes these contracts are those of any source and sink.
+//! A writer of std tells nothing of its flushes; so the sink is one over any connection, and that a flush isn't left out
+//! is proved over those that tell.
 
-ghost use Rattle.std.specs.Prelude.{◌≡◌, IfOk};
+ghost use Rattle.std.specs.Prelude.{◌≡◌, [], Some, IfOk};
 ghost use Rattle.dio_core.specs.Links.{no_sink, no_source, incoming, outgoing};
 
+use crate::connection::Connection;
 use crate::count::Count;
 use crate::sink::{Sink, Took};
 use crate::source::{Got, Source, copy_through};
 use memchr::memrchr;
 use std::alloc::{AllocError, Global};
+use std::io;
 use std::io::{BufRead, BufReader, Read, Write};
 use std::marker::Model;
 use std::snapshot::Snapshot;
@@ -94,42 +98,34 @@ impl<R: Read + Drop> Source for StdSource<R> {
     }
 }
 
-/// A sink over a writer, which holds nothing back itself. What the writer passes on isn't told.
+/// A sink over a connection, which holds nothing back itself. It tells what the connection tells, and counts each error.
 #[derive(Drop)]
-pub struct StdSink<W: Write> {
-    writer: W,
-    first: Snapshot<W>,
+pub struct StreamSink<C: Connection> {
+    stream: C,
     faults: Count,
 }
 
-impl<W: Write> Model for StdSink<W> {
-    ghost use Rattle.std.specs.Prelude.{◌≡◌, None, is_some, true};
+impl<C: Connection> Model for StreamSink<C> {
     ghost use Rattle.dio_core.specs.Links.{Outgoing, outgoing};
-    ghost use Rattle.dio_core.specs.Streams.{told_since};
 
     ghost Value = { Outgoing };
 
-    ghost view = { λ s. outgoing (told_since (W.contents s.first.value) (W.contents s.writer)) None s.faults };
-
-    ghost invariant = { λ s. is_some (W.contents s.first.value) ≡ true → is_some (W.contents s.writer) ≡ true };
+    ghost view = { λ s. outgoing (C.sent s.stream) (C.passed s.stream) s.faults };
 }
 
-impl<W: Write + Drop> StdSink<W> {
-    ghost use Rattle.std.specs.Prelude.{◌≡◌, None};
-
-    /// A sink over this writer.
-    pub fn new(writer: W) -> StdSink<W>
-        ensures { result ≡ outgoing (W.contents writer) None 0 }
+impl<C: Connection + Drop> StreamSink<C> {
+    /// A sink over this connection.
+    pub fn over(stream: C) -> StreamSink<C>
+        ensures { result ≡ outgoing (C.sent stream) (C.passed stream) 0 }
     {
-        StdSink {
-            first: Snapshot::of(&writer),
-            writer,
+        StreamSink {
+            stream,
             faults: Count::new(),
         }
     }
 }
 
-impl<W: Write + Drop> Sink for StdSink<W> {
+impl<C: Connection + Drop> Sink for StreamSink<C> {
     ghost taken = { λ s. s.taken };
 
     ghost passed = { λ s. s.passed };
@@ -139,7 +135,7 @@ impl<W: Write + Drop> Sink for StdSink<W> {
     ghost unread = { λ _. no_source };
 
     fn write(&mut self, bytes: &[u8]) -> Took {
-        match self.writer.write(bytes) {
+        match self.stream.send(bytes) {
             Ok(count) if count > 0 => Took::Bytes(count),
             _ => {
                 self.faults.add_one();
@@ -149,7 +145,7 @@ impl<W: Write + Drop> Sink for StdSink<W> {
     }
 
     fn flush(&mut self) -> bool {
-        if self.writer.flush().is_err() {
+        if self.stream.flush().is_err() {
             self.faults.add_one();
             return false;
         }
@@ -158,5 +154,61 @@ impl<W: Write + Drop> Sink for StdSink<W> {
 
     fn write_faults(&self) -> u64 {
         self.faults.get()
+    }
+}
+
+/// A writer of std as a connection, on which nothing comes in. It tells the bytes that the writer tells; what the writer passes
+/// on isn't told.
+#[derive(Drop)]
+pub struct Written<W: Write> {
+    writer: W,
+    first: Snapshot<W>,
+}
+
+impl<W: Write> Model for Written<W> {
+    ghost use Rattle.std.specs.Prelude.{◌≡◌, ℕ, List, Option, is_some, true};
+    ghost use Rattle.dio_core.specs.Streams.{told_since};
+
+    ghost Value = { Option (List ℕ) };
+
+    ghost view = { λ w. told_since (W.contents w.first.value) (W.contents w.writer) };
+
+    ghost invariant = { λ w. is_some (W.contents w.first.value) ≡ true → is_some (W.contents w.writer) ≡ true };
+}
+
+impl<W: Write + Drop> Connection for Written<W> {
+    ghost coming = { λ _. Some [] };
+
+    ghost sent = { λ w. w };
+
+    fn receive(&mut self, _buf: &mut [u8]) -> io::Result<usize> {
+        Ok(0)
+    }
+
+    fn send(&mut self, bytes: &[u8]) -> io::Result<usize> {
+        self.writer.write(bytes)
+    }
+
+    fn flush(&mut self) -> io::Result<()> {
+        self.writer.flush()
+    }
+
+    fn shut(&mut self) {}
+}
+
+/// A sink over a writer of std.
+pub type StdSink<W> = StreamSink<Written<W>>;
+
+impl<W: Write + Drop> StreamSink<Written<W>> {
+    ghost use Rattle.std.specs.Prelude.{◌≡◌, None};
+
+    /// A sink over this writer.
+    pub fn new(writer: W) -> StdSink<W>
+        ensures { result ≡ outgoing (W.contents writer) None 0 }
+    {
+        StreamSink::over(Written {
+            first: Snapshot::of(&writer),
+            writer,
+        })
     }
 }

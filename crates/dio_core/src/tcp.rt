@@ -1,9 +1,12 @@
 //! Links over TCP, or over any connection. They tell what the connection tells, and count each error.
 
-ghost use Rattle.std.specs.Prelude.{◌≡◌};
+ghost use Rattle.std.specs.Prelude.{◌≡◌, ◌<◌, length, true, false, not, IfSome, IsTrue};
+ghost use Rattle.std.specs.Bool.{OnTrue};
 ghost use Rattle.dio_core.specs.Counts.{IsCounted};
 ghost use Rattle.dio_core.specs.Links.{incoming, outgoing};
 ghost use Rattle.dio_core.specs.Listeners.{Accepts, accept_failed};
+ghost use Rattle.dio_core.specs.Sources.{Gives, read_failed};
+ghost use Rattle.dio_core.specs.Sinks.{Takes, write_failed, PassesOn, IsPassedOn};
 
 use crate::connection::Connection;
 use crate::count::Count;
@@ -33,24 +36,30 @@ pub struct TcpLink<C: Connection> {
 
 impl<C: Connection> Model for TcpLink<C> {
     ghost use Rattle.std.specs.Prelude.{None};
-    ghost use Rattle.dio_core.specs.Links.{Both, incoming, outgoing};
-    ghost use Rattle.dio_core.specs.Connections.{last_of};
+    ghost use Rattle.dio_core.specs.Links.{incoming, outgoing};
+    ghost use Rattle.dio_core.specs.Connections.{Linked, last_of, has_ended, ShutAtEnd};
 
-    ghost Value = { Both };
+    ghost Value = { Linked };
 
     ghost view = { λ l. record {
       inwards = incoming (C.coming (last_of (λ s. s.value) l.connection)) l.read_faults;
       outwards = outgoing (C.sent (last_of (λ s. s.value) l.connection)) None l.write_faults;
+      passed = C.passed (last_of (λ s. s.value) l.connection);
+      is_shut = C.is_shut (last_of (λ s. s.value) l.connection);
+      ended = has_ended l.connection;
     } };
+
+    ghost invariant = { λ l. ShutAtEnd (has_ended l.connection) (C.is_shut (last_of (λ s. s.value) l.connection)) };
 }
 
 impl<C: Connection> TcpLink<C> {
-    ghost use Rattle.std.specs.Prelude.{◌≡◌, None};
+    ghost use Rattle.std.specs.Prelude.{◌≡◌, None, false};
 
     /// A link over this connection, which from now on keeps no small piece back.
     pub fn new(connection: C) -> TcpLink<C>
         ensures inwards { result.inwards ≡ incoming (C.coming connection) 0 }
         ensures outwards { result.outwards ≡ outgoing (C.sent connection) None 0 }
+        ensures open { result.ended ≡ false }
     {
         connection.hurry();
         TcpLink {
@@ -68,7 +77,13 @@ impl<C: Connection> Source for TcpLink<C> {
 
     ghost written = { λ l. l.outwards };
 
-    fn read(&mut self, buf: &mut [u8]) -> Got {
+    fn read(&mut self, buf: &mut [u8]) -> Got
+        requires { 0 < length buf.old }
+        ensures gives { Gives result buf.new self.old.inwards.left self.new.inwards.left }
+        ensures written { self.new.outwards ≡ self.old.outwards }
+        ensures counted { IsCounted (read_failed result) self.old.inwards.faults self.new.inwards.faults }
+        ensures ended { OnTrue self.old.ended (result ≡ Got.Failed) }
+    {
         let received = match &mut self.connection {
             Ok(connection) => connection.receive(buf).ok(),
             Err(_) => None,
@@ -97,7 +112,14 @@ impl<C: Connection> Sink for TcpLink<C> {
 
     ghost unread = { λ l. l.inwards };
 
-    fn write(&mut self, bytes: &[u8]) -> Took {
+    fn write(&mut self, bytes: &[u8]) -> Took
+        requires { 0 < length bytes.now }
+        ensures takes { Takes result bytes.now self.old.outwards.taken self.new.outwards.taken }
+        ensures passes { PassesOn self.new.outwards.taken self.old.outwards.passed self.new.outwards.passed }
+        ensures unread { self.new.inwards ≡ self.old.inwards }
+        ensures counted { IsCounted (write_failed result) self.old.outwards.faults self.new.outwards.faults }
+        ensures ended { OnTrue self.old.ended (result ≡ Took.Failed) }
+    {
         let sent = match &mut self.connection {
             Ok(connection) => connection.send(bytes).ok(),
             Err(_) => None,
@@ -111,12 +133,26 @@ impl<C: Connection> Sink for TcpLink<C> {
         }
     }
 
-    fn flush(&mut self) -> bool {
-        if self.connection.is_err() {
+    /// Has the connection pass on what it keeps back.
+    fn flush(&mut self) -> bool
+        ensures flushed { OnTrue result (IsPassedOn self.new.outwards.taken self.new.outwards.passed) }
+        ensures same { self.new.outwards.taken ≡ self.old.outwards.taken }
+        ensures passes { PassesOn self.new.outwards.taken self.old.outwards.passed self.new.outwards.passed }
+        ensures unread { self.new.inwards ≡ self.old.inwards }
+
+        // The connection has passed on all, and there was one.
+        ensures through { OnTrue result (IsPassedOn self.new.outwards.taken self.new.passed) }
+        ensures ended { OnTrue self.old.ended (result ≡ false) }
+        ensures counted { IsCounted (not result) self.old.outwards.faults self.new.outwards.faults }
+    {
+        let is_flushed = match &mut self.connection {
+            Ok(connection) => connection.flush().is_ok(),
+            Err(_) => false,
+        };
+        if !is_flushed {
             self.write_faults.add_one();
-            return false;
         }
-        true
+        is_flushed
     }
 
     fn write_faults(&self) -> u64 {
@@ -126,16 +162,24 @@ impl<C: Connection> Sink for TcpLink<C> {
 
 impl<C: Connection + Drop> End for TcpLink<C> {
     ghost use Rattle.std.proofs.Common.{refl};
+    ghost use Rattle.std.specs.Prelude.{Some};
 
     ghost written_is = { λ x. refl };
 
     ghost unread_is = { λ x. refl };
 
-    /// Closes the connection, once it has finished. Each read, write and flush after it is a fault.
+    ghost ended = { λ l. Some l.ended };
+
+    /// Ends the sending, and closes the connection once it has finished. Each read, write and flush after it is a fault.
     fn end(&mut self)
-        ensures { self.new ≡ self.old }
+        ensures ended { self.new.ended ≡ true }
+        ensures shut { IfSome self.new.is_shut IsTrue }
+        ensures inwards { self.new.inwards ≡ self.old.inwards }
+        ensures outwards { self.new.outwards ≡ self.old.outwards }
+        ensures passed { self.new.passed ≡ self.old.passed }
     {
-        if let Ok(connection) = &self.connection {
+        if let Ok(connection) = &mut self.connection {
+            connection.shut();
             connection.finish();
             self.connection = Err(Snapshot::of(connection));
         }

@@ -1,6 +1,6 @@
 //! A link that reads ahead.
 
-ghost use Rattle.std.specs.Prelude.{◌≡◌, ◌+◌, ◌<◌, ◌≤◌, [], ◌∷◌, ◌++◌, length, take, drop, not, IfSome};
+ghost use Rattle.std.specs.Prelude.{◌≡◌, ◌+◌, ◌<◌, ◌≤◌, [], ◌∷◌, ◌++◌, length, take, drop, not, IfSome, IsTrue};
 ghost use Rattle.std.specs.Bool.{OnTrue};
 ghost use Rattle.dio_core.specs.Counts.{IsCounted};
 ghost use Rattle.dio_core.specs.Sources.{Gives, read_failed};
@@ -186,8 +186,11 @@ impl<K: End> End for BufferedLink<K> {
 
     ghost unread_is = { λ x. refl };
 
+    ghost ended = { λ l. K.ended l.link };
+
     /// Closes the link below. What is held may still be read.
     fn end(&mut self)
+        ensures ended { IfSome (K.ended self.new.link) IsTrue }
         ensures held { self.new.held ≡ self.old.held }
         ensures left { K.left self.new.link ≡ K.left self.old.link }
         ensures taken { K.taken self.new.link ≡ K.taken self.old.link }

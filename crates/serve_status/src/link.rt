@@ -128,6 +128,8 @@ impl<K: End> End for CountedLink<K> {
 
     ghost unread_is = { λ x. K.unread_is x };
 
+    ghost ended = { λ x. K.ended x };
+
     /// Ends the link below, and with it the session.
     fn end(&mut self) {
         self.link.end();

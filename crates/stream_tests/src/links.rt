@@ -85,16 +85,21 @@ fn an_accept_that_is_to_fail_leaves_the_links(rt: HostRuntime) {
     }
 }
 
-/// A connection in memory, which tells what it holds.
+/// A connection in memory, which tells what it holds, what it has passed on, and whether its sending has ended.
 #[derive(Drop)]
 struct Wire {
     link: MemLink,
+    is_shut: bool,
 }
 
 impl Connection for Wire {
     ghost coming = { λ w. Some w.link.source.left };
 
     ghost sent = { λ w. Some w.link.sink.taken };
+
+    ghost passed = { λ w. Some w.link.sink.passed };
+
+    ghost is_shut = { λ w. Some w.is_shut };
 
     fn receive(&mut self, buf: &mut [u8]) -> io::Result<usize> {
         match self.link.read(buf) {
@@ -105,6 +110,9 @@ impl Connection for Wire {
     }
 
     fn send(&mut self, bytes: &[u8]) -> io::Result<usize> {
+        if self.is_shut {
+            return Err(ErrorKind::BrokenPipe.into());
+        }
         if bytes.is_empty() {
             return Ok(0);
         }
@@ -112,6 +120,18 @@ impl Connection for Wire {
             Took::Bytes(count) => Ok(count),
             Took::Failed => Err(ErrorKind::BrokenPipe.into()),
         }
+    }
+
+    fn flush(&mut self) -> io::Result<()> {
+        if self.link.flush() {
+            Ok(())
+        } else {
+            Err(ErrorKind::BrokenPipe.into())
+        }
+    }
+
+    fn shut(&mut self) {
+        self.is_shut = true;
     }
 }
 
@@ -126,7 +146,10 @@ fn wired(
     requires { 0 < piece }
 {
     let link = MemLink::new(alloc, bytes, piece, reads, writes)?;
-    Ok(TcpLink::new(Wire { link }))
+    Ok(TcpLink::new(Wire {
+        link,
+        is_shut: false,
+    }))
 }
 
 static GIVES: [Move; 5] = [
@@ -137,12 +160,13 @@ static GIVES: [Move; 5] = [
     Move::Faults(1, 0),
 ];
 
-static SENDS: [Move; 5] = [
+static SENDS: [Move; 6] = [
     Move::Writes(b"abcde", true),
     Move::Flushes(true),
     Move::Writes(b"f", false),
     Move::Writes(b"g", true),
-    Move::Faults(0, 1),
+    Move::Flushes(false),
+    Move::Faults(0, 2),
 ];
 
 static IS_ENDED: [Move; 6] = [
@@ -172,7 +196,7 @@ fn is_ended() -> &'static [Move] {
 fn a_link_over_a_connection_counts_its_errors_and_fails_when_it_is_ended(rt: HostRuntime) {
     let alloc = rt.alloc();
     assert!(rt; go_all(alloc, wired(alloc, b"ab\ncd", 1, &[1], &[]), gives()));
-    assert!(rt; go_all(alloc, wired(alloc, b"", 2, &[], &[3]), sends()));
+    assert!(rt; go_all(alloc, wired(alloc, b"", 2, &[], &[4, 6]), sends()));
     assert!(rt; go_all(alloc, wired(alloc, b"ab", 1, &[], &[]), is_ended()));
 }
 
@@ -202,7 +226,10 @@ impl OpenListener for Troubled {
         }
         let link = MemLink::new(self.alloc, b"a", 1, &[], &[])?;
         Ok((
-            Wire { link },
+            Wire {
+                link,
+                is_shut: false,
+            },
             SocketAddr::new(IpAddr::V4(Ipv4Addr::LOCALHOST), 1),
         ))
     }
