@@ -1,84 +1,426 @@
-//! Going on from a pause.
+//! Going on from a pause, down to the statement at which a run has paused and up from there.
 
-ghost use Rattle.std.specs.Prelude.{◌≡◌, ◌+◌, false, [], OnOk, length};
-ghost use Rattle.std.specs.Bool.{OnTrue};
+ghost use Rattle.std.specs.Prelude.{◌≡◌, ◌∷◌, false, [], drop, map, length, slice_get, IfOk, OnOk};
+ghost use Rattle.rdt_types.specs.declared.outcome.Item.{Item};
+ghost use Rattle.txn_trees.specs.declared.expression.Expr.{Expr};
+ghost use Rattle.txn_trees.specs.declared.statement.Stmt.{out-Stmt};
+ghost use Rattle.txn_trees.specs.declared.statement.StmtNode.{out-StmtNode};
+ghost use Rattle.txn_trees.specs.declared.statement.StmtNode.TheOpen.{StmtNode-F};
 ghost use Rattle.txn_lang.specs.Rules as rules;
-ghost use Rattle.txn_lang.specs.Execution.{begun};
-ghost use Rattle.txn_eval.specs.Pausing.{IsPauseOf};
+ghost use Rattle.txn_lang.specs.States.{PartialState};
+ghost use Rattle.txn_eval.specs.Pausing.{texts_over};
 ghost use Rattle.txn_eval.specs.Running.{values_of};
-ghost use Rattle.txn_eval.specs.code.Buffering.{kept, nothing_kept};
+ghost use Rattle.txn_eval.specs.code.Answers.{Answers};
+ghost use Rattle.txn_eval.specs.code.Buffering.{kept};
+ghost use Rattle.txn_eval.specs.code.Forms.{charged};
 ghost use Rattle.txn_eval.specs.code.Loops.{stmts_on};
-ghost use Rattle.txn_eval.specs.code.Pauses.{Tells, OnNeed, HasOnlyLooked, IsUndone, holds_block, taken_back};
-ghost use Rattle.txn_eval.specs.declared.pause.Pause.{Pause};
+ghost use Rattle.txn_eval.specs.code.Pauses.{holds_block, taken_back, Goes, GoesOn, GoesIn, Gives, GivesOver, Enters, OnGoing, inside};
+ghost use Rattle.txn_eval.specs.code.Pauses.{stmts_left, stmt_left, block_left, node_left};
 
+use crate::charging::charge;
+use crate::environment::Environment;
+use crate::expression::value_of;
+use crate::items::{bool_in, into_texts};
 use crate::kept::Kept;
+use crate::naming::text_over;
 use crate::pause::Pause;
-use crate::statement::step;
+use crate::statement::simple;
+use crate::trail::{Around, Frame, Over};
+use plain_data::Text;
+use rdt_types::{Address, Item};
 use std::alloc::Global;
 use txn_lang::{Progress, Snaps, Stop};
-use txn_trees::{Stmt, StmtNode};
+use txn_trees::{Expr, ExprNode, Stmt, StmtNode};
 
-/// Whether a statement holds blocks.
-fn is_block(stmt: &Stmt) -> bool
-    ensures { result ≡ holds_block stmt.now }
-{
-    match &stmt.node {
-        StmtNode::If(..) => true,
-        StmtNode::For(..) => true,
-        _ => false,
-    }
-}
-
-/// Takes back ticks and observations, where the observations allow it.
-fn take_back(run: &mut Progress<Kept>, ticks: u64, count: usize) -> bool
-    ensures { OnTrue result (run.new ≡ taken_back ticks count run.old) }
+/// Takes back what a step has charged and observed.
+fn take_back(run: &mut Progress<Kept>, ticks: u64, count: usize)
+    ensures { run.new ≡ taken_back ticks count run.old }
 {
     run.ticks = ticks;
-    run.memory.observations.cut(count)
+    run.memory.observations.cut(count);
 }
 
-/// Takes back a statement that needs a value: where it holds no block it has only charged ticks and observed. Else the run
-/// begins anew.
-fn undo(alloc: Global, pause: &mut Pause, stmt: &Stmt, ticks: u64, count: usize)
-    ensures { (old : Pause) → (holds_block stmt.now ≡ false → HasOnlyLooked old pause.old) → ticks ≡ old.run.ticks
-        → count ≡ length old.run.memory.observations → IsUndone old pause.new }
+/// What an expression gives, behind the tick of its statement.
+fn charged_value(
+    alloc: Global,
+    snaps: &Snaps,
+    names: &Environment,
+    run: &mut Progress<Kept>,
+    expr: &Expr,
+) -> Result<Item, Stop>
+    ensures { Answers result run.new (charged (rules.expr_run (kept (values_of snaps.now)) expr.now names.now) run.old) }
 {
-    if is_block(stmt) || !take_back(&mut pause.run, ticks, count) {
-        *pause = Pause::first(alloc);
+    charge(run, 1)?;
+    value_of(alloc, snaps, names, run, expr)
+}
+
+/// The same. Where it needs a value, what it has charged and observed is taken back.
+fn head(
+    alloc: Global,
+    snaps: &Snaps,
+    names: &Environment,
+    run: &mut Progress<Kept>,
+    expr: &Expr,
+) -> Result<Item, Stop>
+    ensures { Gives (values_of snaps.now) result run.new run.old (λ t. charged (rules.expr_run (kept t) expr.now names.now) run.old) }
+{
+    let ticks = run.ticks;
+    let count = run.memory.observations.len();
+    match charged_value(alloc, snaps, names, run, expr) {
+        Ok(item) => Ok(item),
+        Err(stop) => match stop {
+            Stop::Need(address) => {
+                take_back(run, ticks, count);
+                Err(Stop::Need(address))
+            }
+            stop => Err(stop),
+        },
     }
 }
 
-/// Does the statement before which a run has paused. Where it needs a value, it leaves what a run may go on from.
-fn advance(alloc: Global, snaps: &Snaps, pause: &mut Pause, stmt: &Stmt) -> Result<(), Stop>
-    ensures told { Tells result pause.new.names pause.new.run (rules.stmt_run (kept (values_of snaps.now)) stmt.now pause.old.names pause.old.run) }
-    ensures undone { OnNeed result (IsUndone pause.old pause.new) }
-    ensures place { OnOk result (pause.new.at ≡ pause.old.at) }
+/// What a loop over an expression goes over, behind the tick of its statement. The list that a name stands for stays in its place.
+fn over_of(
+    alloc: Global,
+    snaps: &Snaps,
+    names: &Environment,
+    run: &mut Progress<Kept>,
+    expr: &Expr,
+) -> Result<Over, Stop>
+    ensures { GivesOver (values_of snaps.now) result names.now run.new run.old (λ t. charged (rules.expr_run (kept t) expr.now names.now) run.old) }
 {
-    let ticks = pause.run.ticks;
-    let count = pause.run.memory.observations.len();
-    match step(alloc, snaps, &mut pause.names, &mut pause.run, stmt) {
-        Err(Stop::Need(address)) => {
-            undo(alloc, pause, stmt, ticks, count);
-            Err(Stop::Need(address))
+    match &expr.node {
+        ExprNode::Name(listed) => {
+            charge(run, 1)?;
+            charge(run, 1)?;
+            Ok(Over::Name(listed.clone()?))
         }
-        done => done,
+        _ => {
+            let item = head(alloc, snaps, names, run, expr)?;
+            Ok(Over::Texts(into_texts(alloc, item)))
+        }
     }
 }
 
-/// Goes on with statements from a pause to their end, or to where they stop.
+/// A statement that holds no block. Where it needs a value, it has only charged ticks and observed, and that is taken back.
+fn plain(
+    alloc: Global,
+    snaps: &Snaps,
+    names: &mut Environment,
+    run: &mut Progress<Kept>,
+    stmt: &Stmt,
+) -> Result<(), Stop>
+    requires { holds_block stmt.now ≡ false }
+    ensures { Goes (values_of snaps.now) result names.new run.new
+        (λ t. rules.stmt_run (kept t) stmt.now names.new run.new) (λ t. rules.stmt_run (kept t) stmt.now names.old run.old) }
+{
+    let ticks = run.ticks;
+    let count = run.memory.observations.len();
+    match simple(alloc, snaps, names, run, stmt) {
+        Ok(()) => Ok(()),
+        Err(stop) => match stop {
+            Stop::Need(address) => {
+                take_back(run, ticks, count);
+                Err(Stop::Need(address))
+            }
+            stop => Err(stop),
+        },
+    }
+}
+
+/// Where a value is needed in a block, the run pauses inside of the statement around it.
+fn enter(pause: &mut Pause, around: Around, outside: usize, here: usize, address: Address) -> Stop
+    ensures { Enters result address pause.new (inside around outside here pause.old) }
+{
+    let at = pause.at;
+    pause.at = here;
+    let frame = Frame {
+        around,
+        outside,
+        at,
+    };
+    match pause.trail.put(frame) {
+        Ok(()) => Stop::Need(address),
+        Err(_) => Stop::NoMemory,
+    }
+}
+
+/// What is left of a block, from its statement at which the run stands. It forgets the names that it bound.
+#[cycle(step)]
+fn block(
+    alloc: Global,
+    snaps: &Snaps,
+    pause: &mut Pause,
+    outside: usize,
+    stmts: &[Stmt],
+) -> Result<(), Stop>
+    ensures goes { GoesOn (values_of snaps.now) result (block_left stmts.now outside) pause.old pause.new }
+    ensures trail { OnOk result (pause.new.trail ≡ []) }
+{
+    go_through(alloc, snaps, pause, stmts)?;
+    pause.names.truncate(outside)?;
+    Ok(())
+}
+
+/// A branch of an `if`, from a statement of it on.
+#[cycle(step)]
+fn branch(
+    alloc: Global,
+    snaps: &Snaps,
+    pause: &mut Pause,
+    around: Around,
+    outside: usize,
+    at: usize,
+    stmts: &[Stmt],
+) -> Result<(), Stop>
+    ensures goes { (node : StmtNode-F StmtNode Stmt) → ((t : PartialState) (k : Pause) → block_left stmts.now outside t k ≡ node_left node around outside t k)
+        → GoesIn (values_of snaps.now) result (node_left node) (λ t. block_left stmts.now outside t (record pause.old { at = at })) pause.new }
+    ensures trail { OnOk result (pause.new.trail ≡ []) }
+    ensures at { OnGoing result (pause.new.at ≡ pause.old.at) }
+{
+    let here = pause.at;
+    pause.at = at;
+    match block(alloc, snaps, pause, outside, stmts) {
+        Ok(()) => {
+            pause.at = here;
+            Ok(())
+        }
+        Err(stop) => match stop {
+            Stop::Need(address) => Err(enter(pause, around, outside, here, address)),
+            stop => Err(stop),
+        },
+    }
+}
+
+/// A turn of a loop, with its text. It forgets the names that it bound.
+#[cycle(step)]
+fn turn(
+    alloc: Global,
+    snaps: &Snaps,
+    pause: &mut Pause,
+    name: &Text,
+    text: Text,
+    stmts: &[Stmt],
+) -> Result<(), Stop>
+    requires { pause.old.trail ≡ [] }
+    ensures goes { Goes (values_of snaps.now) result pause.new.names pause.new.run (λ t. block_left stmts.now (length pause.old.names) t pause.new)
+        (λ t. rules.turn name.now (map (rules.stmt_run (kept t)) stmts.now) text pause.old.names pause.old.run) }
+    ensures trail { OnOk result (pause.new.trail ≡ []) }
+{
+    charge(&mut pause.run, 1)?;
+    let outside = pause.names.len();
+    pause.names.bind(name, Item::Text(text))?;
+    pause.at = 0;
+    block(alloc, snaps, pause, outside, stmts)
+}
+
+/// The turns of a loop from a place on.
+#[cycle(step)]
+fn turns(
+    alloc: Global,
+    snaps: &Snaps,
+    pause: &mut Pause,
+    name: &Text,
+    over: Over,
+    place: usize,
+    stmts: &[Stmt],
+) -> Result<(), Stop>
+    requires { pause.old.trail ≡ [] }
+    ensures goes { (e : Expr) → GoesIn (values_of snaps.now) result (node_left (StmtNode-F.For name.now e stmts.now))
+        (λ t. rules.turns name.now (map (rules.stmt_run (kept t)) stmts.now) (drop place (texts_over over pause.old.names)) pause.old.names pause.old.run)
+        pause.new }
+    ensures trail { OnOk result (pause.new.trail ≡ []) }
+    ensures at { OnGoing result (pause.new.at ≡ pause.old.at) }
+{
+    let here = pause.at;
+    let outside = pause.names.len();
+    let mut next = place;
+    while let Some(text) = text_over(&over, &pause.names, next)? {
+        next += 1;
+        match turn(alloc, snaps, pause, name, text, stmts) {
+            Ok(()) => pause.at = here,
+            Err(stop) => match stop {
+                Stop::Need(address) => {
+                    let around = Around::Turn(over, next);
+                    return Err(enter(pause, around, outside, here, address));
+                }
+                stop => return Err(stop),
+            },
+        }
+    }
+    Ok(())
+}
+
+/// A loop from a statement of a turn on, behind which the turns go on from a place.
+#[cycle(step)]
+fn round(
+    alloc: Global,
+    snaps: &Snaps,
+    pause: &mut Pause,
+    name: &Text,
+    over: Over,
+    place: usize,
+    outside: usize,
+    at: usize,
+    stmts: &[Stmt],
+) -> Result<(), Stop>
+    ensures goes { (e : Expr) → GoesIn (values_of snaps.now) result (node_left (StmtNode-F.For name.now e stmts.now))
+        (λ t. node_left (StmtNode-F.For name.now e stmts.now) (Around.Turn over place) outside t (record pause.old { at = at })) pause.new }
+    ensures trail { OnOk result (pause.new.trail ≡ []) }
+    ensures at { OnGoing result (pause.new.at ≡ pause.old.at) }
+{
+    let here = pause.at;
+    pause.at = at;
+    match block(alloc, snaps, pause, outside, stmts) {
+        Ok(()) => {
+            pause.at = here;
+            turns(alloc, snaps, pause, name, over, place, stmts)
+        }
+        Err(stop) => match stop {
+            Stop::Need(address) => {
+                let around = Around::Turn(over, place);
+                Err(enter(pause, around, outside, here, address))
+            }
+            stop => Err(stop),
+        },
+    }
+}
+
+/// What is left of a statement in whose block the run stands. A frame that no such statement has is of no run of this body.
+#[cycle(step)]
+fn within(
+    alloc: Global,
+    snaps: &Snaps,
+    pause: &mut Pause,
+    stmt: &Stmt,
+    frame: Frame,
+) -> Result<(), Stop>
+    ensures goes { GoesOn (values_of snaps.now) result (stmt_left stmt.now) (record pause.old { trail = frame ∷ pause.old.trail }) pause.new }
+    ensures trail { OnOk result (pause.new.trail ≡ []) }
+    ensures at { OnGoing result (pause.new.at ≡ pause.old.at) }
+{
+    let Frame {
+        around,
+        outside,
+        at,
+    } = frame;
+    match around {
+        Around::Then => match &stmt.node {
+            StmtNode::If(_, yes, _) => {
+                branch(
+                    alloc,
+                    snaps,
+                    pause,
+                    Around::Then,
+                    outside,
+                    at,
+                    yes.as_slice(),
+                )
+            }
+            _ => Err(Stop::NoMemory),
+        },
+        Around::Else => match &stmt.node {
+            StmtNode::If(_, _, no) => match no {
+                Some(no) => {
+                    branch(
+                        alloc,
+                        snaps,
+                        pause,
+                        Around::Else,
+                        outside,
+                        at,
+                        no.as_slice(),
+                    )
+                }
+                None => Err(Stop::NoMemory),
+            },
+            _ => Err(Stop::NoMemory),
+        },
+        Around::Turn(over, place) => match &stmt.node {
+            StmtNode::For(name, _, stmts) => {
+                round(
+                    alloc,
+                    snaps,
+                    pause,
+                    name,
+                    over,
+                    place,
+                    outside,
+                    at,
+                    stmts.as_slice(),
+                )
+            }
+            _ => Err(Stop::NoMemory),
+        },
+    }
+}
+
+/// A statement from its start.
+#[cycle(step)]
+fn fresh(alloc: Global, snaps: &Snaps, pause: &mut Pause, stmt: &Stmt) -> Result<(), Stop>
+    requires { pause.old.trail ≡ [] }
+    ensures goes { GoesOn (values_of snaps.now) result (stmt_left stmt.now) pause.old pause.new }
+    ensures trail { OnOk result (pause.new.trail ≡ []) }
+    ensures at { OnGoing result (pause.new.at ≡ pause.old.at) }
+{
+    match &stmt.node {
+        StmtNode::If(expr, yes, no) => {
+            let outside = pause.names.len();
+            let item = head(alloc, snaps, &pause.names, &mut pause.run, expr)?;
+            if bool_in(&item) {
+                branch(
+                    alloc,
+                    snaps,
+                    pause,
+                    Around::Then,
+                    outside,
+                    0,
+                    yes.as_slice(),
+                )
+            } else {
+                match no {
+                    Some(no) => {
+                        branch(alloc, snaps, pause, Around::Else, outside, 0, no.as_slice())
+                    }
+                    None => Ok(()),
+                }
+            }
+        }
+        StmtNode::For(name, expr, stmts) => {
+            let over = over_of(alloc, snaps, &pause.names, &mut pause.run, expr)?;
+            turns(alloc, snaps, pause, name, over, 0, stmts.as_slice())
+        }
+        _ => plain(alloc, snaps, &mut pause.names, &mut pause.run, stmt),
+    }
+}
+
+/// What is left of a statement at which the run stands.
+#[cycle(step)]
+fn step(alloc: Global, snaps: &Snaps, pause: &mut Pause, stmt: &Stmt) -> Result<(), Stop>
+    ensures goes { GoesOn (values_of snaps.now) result (stmt_left stmt.now) pause.old pause.new }
+    ensures trail { OnOk result (pause.new.trail ≡ []) }
+    ensures at { OnGoing result (pause.new.at ≡ pause.old.at) }
+{
+    match pause.trail.take() {
+        None => fresh(alloc, snaps, pause, stmt),
+        Some(frame) => within(alloc, snaps, pause, stmt, frame),
+    }
+}
+
+/// Goes on with statements from the one at which the run stands, to their end or to where they stop.
+#[cycle(step)]
 pub(crate) fn go_through(
     alloc: Global,
     snaps: &Snaps,
-    stmts: &[Stmt],
     pause: &mut Pause,
+    stmts: &[Stmt],
 ) -> Result<(), Stop>
-    requires { IsPauseOf stmts.now snaps.now pause.old }
-    ensures told { Tells result pause.new.names pause.new.run (rules.all_steps (stmts_on snaps.now stmts.now) [] (begun nothing_kept)) }
-    ensures paused { OnNeed result (IsPauseOf stmts.now snaps.now pause.new) }
+    ensures goes { GoesOn (values_of snaps.now) result (stmts_left stmts.now) pause.old pause.new }
+    ensures trail { OnOk result (pause.new.trail ≡ []) }
 {
     while let Some(stmt) = stmts.get(pause.at) {
-        advance(alloc, snaps, pause, stmt)?;
+        step(alloc, snaps, pause, stmt)?;
         pause.at += 1;
     }
+    pause.trail.clear();
     Ok(())
 }

@@ -21,6 +21,7 @@ mod running;
 mod seen_key;
 mod sizes;
 mod statement;
+mod trail;
 mod words;
 
 pub use laws::pauses_stay;

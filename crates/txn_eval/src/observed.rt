@@ -1,18 +1,18 @@
 //! What a run has observed.
 
-ghost use Rattle.std.specs.Prelude.{◌≡◌, ◌≤◌, ◌++◌, true, not, ◌||◌, nat_le, if◌then◌else◌, [], take, drop, length, IfOk, OnOk, OnErr};
-ghost use Rattle.std.specs.Bool.{OnTrue, OnFalse};
+ghost use Rattle.std.specs.Prelude.{◌≡◌, ◌≤◌, false, Some, if◌then◌else◌, [], take, length, OnOk, OnErr};
+ghost use Rattle.std.specs.Option.{option_copied};
 ghost use Rattle.std.specs.BTreeMap.{is_at};
 ghost use Rattle.txn_lang.specs.Own.{with_seen};
 ghost use Rattle.txn_eval.specs.declared.seen_key.SeenKey.{SeenKey};
 ghost use Rattle.txn_eval.specs.contracts.seen_key.SeenKeyOrd.TheImpl as order;
-ghost use Rattle.txn_eval.specs.code.Found.{has_key};
+ghost use Rattle.txn_eval.specs.code.Found.{is_listed, place_kept, stands};
 ghost use Rattle.txn_eval.specs.declared.observed.TheConstants.{LOOKED_THROUGH};
 
 use crate::seen_key::{SeenKey, key_of};
 use plain_data::Sequence;
 use std::alloc::{AllocError, Global};
-use std::collections::BTreeSet;
+use std::collections::BTreeMap;
 use std::marker::Model;
 use txn_lang::{Seen, SeenList};
 
@@ -24,12 +24,12 @@ const LOOKED_THROUGH: usize = 8;
 #[derive(Drop)]
 pub(crate) struct Observed {
     list: SeenList,
-    /// By what those behind the first ones are found.
-    keys: BTreeSet<SeenKey>,
+    /// The places of those behind the first ones. A place counts only where that observation stands there.
+    places: BTreeMap<SeenKey, usize>,
 }
 
 impl Model for Observed {
-    ghost use Rattle.std.specs.Prelude.{List, drop};
+    ghost use Rattle.std.specs.Prelude.{List};
     ghost use Rattle.txn_lang.specs.declared.run.Seen.{Seen};
     ghost use Rattle.txn_eval.specs.code.Found.{AreFound};
     ghost use Rattle.txn_eval.specs.declared.observed.TheConstants.{LOOKED_THROUGH};
@@ -38,7 +38,7 @@ impl Model for Observed {
 
     ghost view = { λ o. o.list };
 
-    ghost invariant = { λ o. AreFound o.keys (drop LOOKED_THROUGH o.list) };
+    ghost invariant = { λ o. AreFound LOOKED_THROUGH o.places o.list };
 }
 
 /// The first observations.
@@ -52,15 +52,26 @@ fn first(list: &[Seen]) -> &[Seen]
     }
 }
 
-/// Keeps one key more, and answers whether it is new.
-fn keep(keys: &mut BTreeSet<SeenKey>, key: SeenKey) -> Result<bool, AllocError>
-    ensures answer { IfOk result (λ added. has_key keys.old key ≡ not added) }
-    ensures ok { OnOk result ((q : SeenKey) → has_key keys.new q ≡ (if is_at (order.ghosts.cmp key) q then true else has_key keys.old q)) }
-    ensures same { IfOk result (λ added. OnFalse added (keys.new.keys ≡ keys.old.keys)) }
-    ensures err { OnErr result (keys.new.keys ≡ keys.old.keys) }
+/// Whether an observation stands at the place that is kept with its key.
+fn stands_at(list: &[Seen], place: Option<&usize>, seen: &Seen) -> bool
+    ensures { result ≡ stands (option_copied place.entry) list.now seen.now }
 {
-    let added = keys.insert(key)?;
-    Ok(added)
+    match place {
+        None => false,
+        Some(place) => match list.get(*place) {
+            None => false,
+            Some(other) => other == seen,
+        },
+    }
+}
+
+/// Keeps the place of a key, in the stead of one that was kept.
+fn keep(keys: &mut BTreeMap<SeenKey, usize>, key: SeenKey, place: usize) -> Result<(), AllocError>
+    ensures ok { OnOk result ((q : SeenKey) → place_kept keys.new q ≡ (if is_at (order.ghosts.cmp key) q then Some place else place_kept keys.old q)) }
+    ensures err { OnErr result (keys.new.entries ≡ keys.old.entries) }
+{
+    keys.insert(key, place)?;
+    Ok(())
 }
 
 impl Observed {
@@ -70,7 +81,7 @@ impl Observed {
     {
         Observed {
             list: Sequence::new(alloc),
-            keys: BTreeSet::new(alloc),
+            places: BTreeMap::new(alloc),
         }
     }
 
@@ -88,21 +99,21 @@ impl Observed {
         self.note_behind(seen)
     }
 
-    /// Lists an observation, unless it is listed behind the first ones. Its key is looked for once.
+    /// Lists an observation that isn't among the first ones, unless it is listed behind them.
     fn note_behind(&mut self, seen: Seen) -> Result<(), AllocError>
-        requires { LOOKED_THROUGH ≤ length self.old }
-        ensures ok { OnOk result (self.new ≡ take LOOKED_THROUGH self.old ++ with_seen (drop LOOKED_THROUGH self.old) seen) }
+        requires many { LOOKED_THROUGH ≤ length self.old }
+        requires missed { is_listed seen (take LOOKED_THROUGH self.old) ≡ false }
+        ensures ok { OnOk result (self.new ≡ with_seen self.old seen) }
         ensures err { OnErr result (self.new ≡ self.old) }
     {
         let key = key_of(&seen)?;
+        if stands_at(self.list.as_slice(), self.places.get(&key), &seen) {
+            return Ok(());
+        }
         let count = self.list.len();
         self.list.push(seen)?;
-        match keep(&mut self.keys, key) {
-            Ok(true) => Ok(()),
-            Ok(false) => {
-                self.list.truncate(count);
-                Ok(())
-            }
+        match keep(&mut self.places, key, count) {
+            Ok(()) => Ok(()),
             Err(error) => {
                 self.list.truncate(count);
                 Err(error)
@@ -110,21 +121,12 @@ impl Observed {
         }
     }
 
-    /// Forgets all but the first so many, unless one of those that it would forget may be in the tree. It answers
-    /// whether there are no more now: so it does where there were no more, and where none stands behind the first ones.
-    pub fn cut(&mut self, count: usize) -> bool
-        ensures answer { result ≡ (nat_le (length self.old) count || nat_le (length self.old) LOOKED_THROUGH) }
-        ensures done { OnTrue result (self.new ≡ take count self.old) }
-        ensures same { OnFalse result (self.new ≡ self.old) }
+    /// Forgets all but the first so many. It is never refused for want of memory: the places of those that it forgets stay,
+    /// and nothing stands there that has their keys.
+    pub fn cut(&mut self, count: usize)
+        ensures { self.new ≡ take count self.old }
     {
-        if self.list.len() <= count {
-            return true;
-        }
-        if self.list.len() > LOOKED_THROUGH {
-            return false;
-        }
         self.list.truncate(count);
-        true
     }
 
     /// How many observations are listed.
@@ -138,7 +140,7 @@ impl Observed {
     pub fn into_list(self) -> SeenList
         ensures { result ≡ self }
     {
-        let Observed { list, keys: _ } = self;
+        let Observed { list, places: _ } = self;
         list
     }
 }

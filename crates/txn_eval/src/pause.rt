@@ -10,18 +10,21 @@ ghost use Rattle.txn_eval.specs.code.Pauses.{first_pause};
 use crate::environment::Environment;
 use crate::kept::Kept;
 use crate::observed::Observed;
+use crate::trail::Trail;
 use rdt_types::ItemList;
 use std::alloc::Global;
 use txn_lang::Progress;
 use write_buffer::Buffer;
 
-/// A run that has paused before one of its body's own statements, with all that those before it have done.
+/// A run that has paused where it needs a value, with all that it has done so far.
 #[derive(Drop)]
 pub struct Pause {
-    /// The statement that comes next.
+    /// The statement of the body's own that comes next, or in which the run has paused.
     pub(crate) at: usize,
     pub(crate) names: Environment,
     pub(crate) run: Progress<Kept>,
+    /// The statements in whose blocks the run has paused.
+    pub(crate) trail: Trail,
 }
 
 impl Pause {
@@ -41,6 +44,7 @@ impl Pause {
                 ticks: 0,
                 load: 0,
             },
+            trail: Trail::new(alloc),
         }
     }
 

@@ -9,6 +9,7 @@ ghost use Rattle.txn_eval.specs.Running.{ran_of, values_of};
 ghost use Rattle.txn_eval.specs.code.Answers.{EndsAs};
 ghost use Rattle.txn_eval.specs.code.Buffering.{kept_ended, nothing_kept};
 ghost use Rattle.txn_eval.specs.code.Loops.{stmts_on};
+ghost use Rattle.txn_eval.specs.code.Pauses.{first_pause};
 
 use crate::going::go_through;
 use crate::kept::Kept;
@@ -85,8 +86,17 @@ fn ended(alloc: Global, run: Progress<Kept>, ran: Result<(), Stop>) -> Result<St
     }
 }
 
+/// How a run ended that has come to a pause, which is then that of a run which begins.
+fn settled(alloc: Global, pause: &mut Pause, ran: Result<(), Stop>) -> Result<Step, AllocError>
+    ensures ended { IfOk result (λ step. EndsAs ran pause.old.run (ran_of step)) }
+    ensures told { OnErr result (ran ≡ Err NoMemory) }
+    ensures first { pause.new ≡ first_pause }
+{
+    let done = replace(pause, Pause::first(alloc));
+    ended(alloc, done.run, ran)
+}
+
 /// The run of statements over the deltas of their writes, from a pause.
-#[tactic(auto, using(crate::proofs::Ending::ends_told))]
 fn run_from(
     alloc: Global,
     snaps: &Snaps,
@@ -95,19 +105,20 @@ fn run_from(
 ) -> Result<Step, AllocError>
     requires { IsPauseOf stmts.now snaps.now pause.old }
     ensures ran { IfOk result (λ step. ran_of step ≡ kept_ended (all_steps (stmts_on snaps.now stmts.now) [] (begun nothing_kept))) }
-    ensures paused { IfOk result (λ step. IsPauseOf stmts.now snaps.now pause.new) }
+    ensures paused { IsPauseOf stmts.now snaps.now pause.new }
 {
-    let ran = go_through(alloc, snaps, stmts, pause);
-    if let Err(Stop::Need(address)) = ran {
-        return Ok(Step::Need(address));
+    match go_through(alloc, snaps, pause, stmts) {
+        Ok(()) => settled(alloc, pause, Ok(())),
+        Err(stop) => match stop {
+            Stop::Need(address) => Ok(Step::Need(address)),
+            stop => settled(alloc, pause, Err(stop)),
+        },
     }
-    let done = replace(pause, Pause::first(alloc));
-    ended(alloc, done.run, ran)
 }
 
 /// Goes on with the run of a checked body from a pause, on values that may be more than it came on. Where it needs a value it
 /// leaves a pause from which it may go on; else it is done, as the run from the start is, and the pause is that of a run which
-/// begins. Where memory runs out nothing is said of the pause, which is then of no use: a run begins anew from `Pause::begun`.
+/// begins. So it is where memory runs out, and the call may be made again.
 pub fn go_on(
     alloc: Global,
     body: &Checked,
@@ -117,6 +128,7 @@ pub fn go_on(
     requires { IsPauseOf body.now.body.stmts snaps.now pause.old }
     ensures ran { IfOk result (λ step. ran_of step ≡ exec body.now.body (values_of snaps.now)) }
     ensures paused { IfOk result (λ step. IsPauseOf body.now.body.stmts snaps.now pause.new) }
+    ensures again { OnErr result (IsPauseOf body.now.body.stmts snaps.now pause.new) }
 {
     run_from(alloc, snaps, body.body.stmts.as_slice(), pause)
 }

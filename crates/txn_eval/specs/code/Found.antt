@@ -1,8 +1,8 @@
 -- By what the evaluator finds an observation among those that are listed: a key, which says as much and has an order. The
 -- clauses of `Observed` in src/observed.rt, by the lemmas of proofs/FoundKept, tie it to `with_seen` of `txn_lang`.
-use Rattle.std.specs.Prelude.{◌≡◌, Bool, List, codes, refl}
+use Rattle.std.specs.Prelude.{◌≡◌, ◌≤◌, ℕ, Bool, true, false, List, [], Option, Some, None, slice_get, codes, refl}
 use Rattle.std.specs.List.{list_any}
-use Rattle.std.specs.BTreeSet.{BTreeSet, contains}
+use Rattle.std.specs.BTreeMap.{BTreeMap, get}
 use Rattle.rdt_types.specs.declared.address.Kind.TheVariants as kind
 use Rattle.conflict_table.specs.declared.observation.Obs.{Obs}
 use Rattle.conflict_table.specs.declared.observation.Obs.TheVariants as obs
@@ -33,13 +33,30 @@ part_of obs.ListAll = part.Whole
 abbrev pub key_of : Seen → SeenKey
 key_of seen = record { address = seen.address; kind = kind_observed seen.obs; part = part_of seen.obs }
 
--- whether a key is kept
-abbrev pub has_key : BTreeSet SeenKey → SeenKey → Bool
-has_key keys key = contains order.ghosts.cmp keys key
+-- whether an observation is listed
+abbrev pub is_listed : Seen → List Seen → Bool
+is_listed s xs = list_any (λ t. seen_eq.ghosts.eq t s) xs
 
--- a key is kept of exactly the observations that are listed
-abbrev pub AreFound : BTreeSet SeenKey → List Seen → Type 0
-AreFound keys seen = (s : Seen) → has_key keys (key_of s) ≡ list_any (λ t. seen_eq.ghosts.eq t s) seen
+-- the place that is kept with a key
+abbrev pub place_kept : BTreeMap SeenKey ℕ → SeenKey → Option ℕ
+place_kept places key = get order.ghosts.cmp places key
+
+-- whether this stands at a place: nothing does past the end
+abbrev pub is_it : Option Seen → Seen → Bool
+is_it None s = false
+is_it (Some t) s = seen_eq.ghosts.eq t s
+
+abbrev pub stands : Option ℕ → List Seen → Seen → Bool
+stands None xs s = false
+stands (Some i) xs s = is_it (slice_get xs i) s
+
+-- Of each observation from a place on, that place is kept. What is kept besides is of no observation that is listed.
+abbrev pub AreFound : ℕ → BTreeMap SeenKey ℕ → List Seen → Type 0
+AreFound from places seen = (i : ℕ) (t s : Seen) → from ≤ i → slice_get seen i ≡ Some t → seen_eq.ghosts.eq t s ≡ true → place_kept places (key_of s) ≡ Some i
+
+-- where fewer are listed nothing is kept
+AreFound-example : (places : BTreeMap SeenKey ℕ) → AreFound 0 places []
+AreFound-example places i t s from is same = absurd (cc)
 
 -- whether the element `x` is in the set `k`
 key_of-example : key_of (record { address = record { kind = kind.Set; key = codes "k" }; obs = obs.SetHas (codes "x") })

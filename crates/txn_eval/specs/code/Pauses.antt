@@ -1,22 +1,29 @@
--- How the code comes from pause to pause. The lemmas `pause_next` and `undone_is` of proofs/Pauses tie it to `IsPauseOf` of
--- specs/Pausing, of which alone the clauses of `go_on` speak.
-use Rattle.std.specs.Prelude.{◌≡◌, ◌≢◌, ℕ, Bool, true, false, [], take, length, Result, Ok, Err}
+-- How the code comes from pause to pause. The lemmas of proofs/Pauses tie it to `IsPauseOf` of specs/Pausing, of which alone the
+-- clauses of `go_on` speak.
+use Rattle.std.specs.Prelude.{◌≡◌, ◌≢◌, ℕ, Bool, true, false, List, [], ◌∷◌, take, drop, length, Result, Ok, Err}
+use Rattle.rdt_types.specs.declared.address.Address.{Address}
+use Rattle.rdt_types.specs.declared.outcome.Item.{Item}
 use Rattle.txn_trees.specs.declared.statement.Stmt.{Stmt, out-Stmt}
 use Rattle.txn_trees.specs.declared.statement.StmtNode.{StmtNode, out-StmtNode}
 use Rattle.txn_trees.specs.declared.statement.StmtNode.TheOpen.{StmtNode-F}
 use Rattle.txn_lang.specs.declared.progress.Stop.{Stop}
 use Rattle.txn_lang.specs.declared.progress.Stop.TheVariants as stop
 use Rattle.txn_lang.specs.declared.progress.Progress.{Progress}
-use Rattle.txn_lang.specs.Items.{Names}
-use Rattle.txn_lang.specs.Steps.{Step, stopped, gives}
+use Rattle.txn_lang.specs.States.{PartialState}
+use Rattle.txn_lang.specs.Observed.{Extends}
+use Rattle.txn_lang.specs.Items.{Names, texts_in}
+use Rattle.txn_lang.specs.Steps.{Step, stopped, gives, and_then, pure}
 use Rattle.txn_lang.specs.Execution.{begun}
 use Rattle.txn_eval.specs.declared.kept.Kept.{Kept}
+use Rattle.txn_eval.specs.declared.trail.Over.{Over}
+use Rattle.txn_eval.specs.declared.trail.Around.{Around}
 use Rattle.txn_eval.specs.declared.pause.Pause.{Pause}
-use Rattle.txn_eval.specs.code.Buffering.{nothing_kept}
+use Rattle.txn_eval.specs.code.Buffering.{kept, nothing_kept}
+use Rattle.txn_eval.specs.Pausing.{texts_over, around_rest, first_rest, stmt_rest, stmts_rest}
 
 -- before the first statement nothing was done
 abbrev pub first_pause : Pause
-first_pause = record { at = 0; names = []; run = begun nothing_kept }
+first_pause = record { at = 0; names = []; run = begun nothing_kept; trail = [] }
 
 -- whether a statement holds blocks
 abbrev pub node_holds_block : StmtNode-F StmtNode Stmt → Bool
@@ -27,16 +34,67 @@ node_holds_block _ = false
 abbrev pub holds_block : Stmt → Bool
 holds_block s = node_holds_block (out-StmtNode (out-Stmt s).node)
 
--- what a result tells of a step. Where a value is needed it doesn't tell how far the run has come.
-abbrev pub Tells : Result (Unit {0}) Stop → Names → Progress Kept → Step Kept Names → Type 0
-Tells (Ok _) names p step = step ≡ gives names p
-Tells (Err (stop.Need a)) names p step = (q : Progress Kept) × (step ≡ stopped (stop.Need a) q)
-Tells (Err s) names p step = s ≢ stop.NoMemory → step ≡ stopped s p
+-- what a step does, on each state
+abbrev pub Steps : Type 0
+Steps = PartialState → Step Kept Names
 
--- a fact where a value is needed
-abbrev pub OnNeed : Result (Unit {0}) Stop → Type 0 → Type 0
-OnNeed (Err (stop.Need a)) P = P
-OnNeed _ P = Unit {0}
+-- What a result tells of a step on the values of a state. Where it goes through, it does so on whatever more is known. Where a
+-- value is needed, what is left then is what the step does, on whatever more is known.
+abbrev pub Goes : PartialState → Result (Unit {0}) Stop → Names → Progress Kept → Steps → Steps → Type 0
+Goes s (Ok _) names p rest whole = (t : PartialState) → Extends s t → whole t ≡ gives names p
+Goes s (Err (stop.Need a)) names p rest whole =
+    ((q : Progress Kept) × (whole s ≡ stopped (stop.Need a) q)) × ((t : PartialState) → Extends s t → whole t ≡ rest t)
+Goes s (Err e) names p rest whole = e ≢ stop.NoMemory → whole s ≡ stopped e p
+
+-- the same of a run that stands at a pause before and behind the step, where this is left of it from a pause
+abbrev pub GoesOn : PartialState → Result (Unit {0}) Stop → (PartialState → Pause → Step Kept Names) → Pause → Pause → Type 0
+GoesOn s result left old new = Goes s result new.names new.run (λ t. left t new) (λ t. left t old)
+
+-- what is left of statements, and of a statement, from a pause
+abbrev pub stmts_left : List Stmt → PartialState → Pause → Step Kept Names
+stmts_left stmts t pause = stmts_rest (kept t) stmts pause
+
+abbrev pub stmt_left : Stmt → PartialState → Pause → Step Kept Names
+stmt_left stmt t pause = stmt_rest (kept t) pause.trail stmt pause.names pause.run
+
+-- what is left of a block, which forgets the names that it bound
+abbrev pub block_left : List Stmt → ℕ → PartialState → Pause → Step Kept Names
+block_left stmts outside t pause = and_then (stmts_left stmts t pause) (λ after. pure (take outside after))
+
+-- where a value is needed in a block, the pause is inside of the statement that has it
+abbrev pub inside : Around → ℕ → ℕ → Pause → Pause
+inside around outside here pause =
+    record pause { at = here; trail = record { around = around; outside = outside; at = pause.at } ∷ pause.trail }
+
+-- what stops the run where a value is needed in a block, and what is left then
+abbrev pub Enters : Stop → Address → Pause → Pause → Type 0
+Enters (stop.Need b) a new k = (b ≡ a) × (new ≡ k)
+Enters stop.NoMemory a new k = Unit {0}
+Enters _ a new k = ⊥
+
+-- what is left of a form in whose block a run has paused
+abbrev pub node_left : StmtNode-F StmtNode Stmt → Around → ℕ → PartialState → Pause → Step Kept Names
+node_left node around outside t k =
+    around_rest (kept t) around outside (λ ss. first_rest (kept t) (stmt_rest (kept t) k.trail) (drop k.at ss)) node k.names k.run
+
+-- What a result tells of a step that ends in a block where a value is needed. Then the pause is inside of the statement around it.
+abbrev pub GoesIn : PartialState → Result (Unit {0}) Stop → (Around → ℕ → PartialState → Pause → Step Kept Names) → Steps → Pause → Type 0
+GoesIn s (Ok _) left whole new = (t : PartialState) → Extends s t → whole t ≡ gives new.names new.run
+GoesIn s (Err (stop.Need a)) left whole new = ((q : Progress Kept) × (whole s ≡ stopped (stop.Need a) q)) × ((x : Around) × (outside : ℕ) × (k : Pause)
+    × (new ≡ inside x outside new.at k) × ((t : PartialState) → Extends s t → whole t ≡ left x outside t k))
+GoesIn s (Err e) left whole new = e ≢ stop.NoMemory → whole s ≡ stopped e new.run
+
+-- a fact where a run goes through, or may go on
+abbrev pub OnGoing : Result (Unit {0}) Stop → Type 0 → Type 0
+OnGoing (Ok _) P = P
+OnGoing (Err (stop.Need a)) P = P
+OnGoing (Err e) P = Unit {0}
+
+-- what a result tells of an expression behind the tick of its statement: where a value is needed, the run is as it was
+abbrev pub Gives : PartialState → Result Item Stop → Progress Kept → Progress Kept → (PartialState → Step Kept Item) → Type 0
+Gives s (Ok i) new old whole = (t : PartialState) → Extends s t → whole t ≡ gives i new
+Gives s (Err (stop.Need a)) new old whole = ((q : Progress Kept) × (whole s ≡ stopped (stop.Need a) q)) × (new ≡ old)
+Gives s (Err e) new old whole = e ≢ stop.NoMemory → whole s ≡ stopped e new
 
 -- what was emitted and written stays, and what was observed is observed first
 pub record Stays (p q : Progress Kept) : Type 0 where
@@ -45,17 +103,13 @@ pub record Stays (p q : Progress Kept) : Type 0 where
   pub buffer : q.memory.buffer ≡ p.memory.buffer
   pub seen : take (length p.memory.observations) q.memory.observations ≡ p.memory.observations
 
--- a run has only charged ticks and observed
-pub record HasOnlyLooked (old new : Pause) : Type 0 where
-  pub at : new.at ≡ old.at
-  pub names : new.names ≡ old.names
-  pub run : Stays old.run new.run
-
--- what a statement did was undone, or all was
-pub data IsUndone (old new : Pause) : Type 0 where
-  as_before : new ≡ old → IsUndone old new
-  as_first : new ≡ first_pause → IsUndone old new
-
 -- a run with so many ticks, of whose observations only so many are left
 abbrev pub taken_back : ℕ → ℕ → Progress Kept → Progress Kept
 taken_back ticks count p = record p { ticks = ticks; memory = record p.memory { observations = take count p.memory.observations } }
+
+-- the same of the texts that an expression gives, which are those that a loop goes over
+abbrev pub GivesOver : PartialState → Result Over Stop → Names → Progress Kept → Progress Kept → (PartialState → Step Kept Item) → Type 0
+GivesOver s (Ok over) names new old whole =
+    (i : Item) × (texts_in i ≡ texts_over over names) × ((t : PartialState) → Extends s t → whole t ≡ gives i new)
+GivesOver s (Err (stop.Need a)) names new old whole = ((q : Progress Kept) × (whole s ≡ stopped (stop.Need a) q)) × (new ≡ old)
+GivesOver s (Err e) names new old whole = e ≢ stop.NoMemory → whole s ≡ stopped e new

@@ -1,35 +1,42 @@
-use Rattle.std.proofs.Common.{◌≤◌, ap, ◌∙◌, not, drop, length, arith, rules}
+use Rattle.std.proofs.Common.{◌≡◌, take, refl, ap, sym, ◌∙◌, subst}
+use Rattle.std.specs.Option.{option_copied}
+use Rattle.txn_lang.specs.Own.{with_seen}
 use Rattle.txn_eval.specs.declared.observed.TheConstants.{LOOKED_THROUGH}
-use Rattle.txn_eval.proofs.FoundKept.{found-push, found-back, taken_back, behind_push, behind_new, behind_old}
+use Rattle.txn_eval.specs.code.Found.{is_listed, stands}
+use Rattle.txn_eval.proofs.FoundKept.{found-push, found-back, taken_back, seen_new, seen_there}
 use Rattle.txn_eval.proofs.observed.Observed.note_behind.Goals as goal
 
-pub invariant_of-self-in-Ok-true : goal.invariant_of-self-in-Ok-true
-invariant_of-self-in-Ok-true c =
-    let many : LOOKED_THROUGH ≤ length c.self.inside.list = omega (arith, c.requires, ap length c.self.view_is) in
-    found-push c.self.inside.keys c.keep.new.keys (drop LOOKED_THROUGH c.self.inside.list) (drop LOOKED_THROUGH c.push.new.self) c.args.seen
-    c.in_ok-key.key c.self.invariant c.in_ok-key.ensures
-    (behind_push LOOKED_THROUGH c.self.inside.list c.push.new.self c.args.seen many c.in_ok-push.ensures.ok) c.in-Ok-true.ensures.ok
+pub returns-then-stands_at-clause-ok : goal.returns-then-stands_at-clause-ok
+returns-then-stands_at-clause-ok c =
+    seen_there LOOKED_THROUGH c.args.self.now c.args.seen (option_copied c.get.result)
+    (ap (λ zs. stands (option_copied c.get.result) zs c.args.seen) (sym c.self.view_is ∙ sym c.as_slice.ensures) ∙ sym c.stands_at.ensures ∙ c.if-stands_at.true)
 
-pub invariant_of-self-in-Ok-false : goal.invariant_of-self-in-Ok-false
-invariant_of-self-in-Ok-false c =
-    let same = taken_back c.self.inside.list c.push.new.self c.args.seen c.len-count.result c.len-count.ensures c.in_ok-push.ensures.ok in
-    rw (c.truncate.ensures)
-    (found-back c.self.inside.keys c.keep.new.keys (drop LOOKED_THROUGH c.self.inside.list) _ c.self.invariant (search rules) (ap (drop LOOKED_THROUGH) same))
+pub invariant_of-self : goal.invariant_of-self
+invariant_of-self c =
+    found-back LOOKED_THROUGH c.self.inside.places c.self.inside.places c.self.inside.list c.push.new.self c.self.invariant refl c.in_err-push.ensures.err
+
+pub invariant_of-self-in-Ok : goal.invariant_of-self-in-Ok
+invariant_of-self-in-Ok c =
+    found-push LOOKED_THROUGH c.self.inside.places c.keep.new.keys c.self.inside.list c.push.new.self c.args.seen c.in_ok-key.key c.len-count.result
+    c.self.invariant c.in_ok-key.ensures c.in_ok-push.ensures.ok c.len-count.ensures
+    (ap (λ o. stands o c.self.inside.list c.args.seen) (sym c.get.ensures.value)
+    ∙ ap (λ zs. stands (option_copied c.get.result) zs c.args.seen) (sym c.as_slice.ensures)
+    ∙ sym c.stands_at.ensures
+    ∙ c.if-stands_at.false)
+    c.in-Ok.ensures.ok
 
 pub invariant_of-self-in-Err : goal.invariant_of-self-in-Err
 invariant_of-self-in-Err c =
-    let same = taken_back c.self.inside.list c.push.new.self c.args.seen c.len-count.result c.len-count.ensures c.in_ok-push.ensures.ok in
-    rw (c.truncate-in-Err.ensures)
-    (found-back c.self.inside.keys c.keep.new.keys (drop LOOKED_THROUGH c.self.inside.list) _ c.self.invariant c.in-Err.ensures.err
-    (ap (drop LOOKED_THROUGH) same))
+    found-back LOOKED_THROUGH c.self.inside.places c.keep.new.keys c.self.inside.list c.truncate.new.self c.self.invariant c.in-Err.ensures.err
+    (c.truncate.ensures ∙ taken_back c.self.inside.list c.push.new.self c.args.seen c.len-count.result c.len-count.ensures c.in_ok-push.ensures.ok)
 
-pub returns-in-Ok-true-clause-ok : goal.returns-in-Ok-true-clause-ok
-returns-in-Ok-true-clause-ok c =
-    behind_new LOOKED_THROUGH c.args.self.now c.self.inside.list c.push.new.self c.args.seen c.self.inside.keys c.in_ok-key.key c.self.view_is
-    c.self.invariant c.in_ok-key.ensures (c.in-Ok-true.ensures.answer ∙ ap not c.in-Ok-true.field-0-test) c.in_ok-push.ensures.ok
-
-pub returns-in-Ok-false-clause-ok : goal.returns-in-Ok-false-clause-ok
-returns-in-Ok-false-clause-ok c =
-    let same = taken_back c.self.inside.list c.push.new.self c.args.seen c.len-count.result c.len-count.ensures c.in_ok-push.ensures.ok in
-    behind_old LOOKED_THROUGH c.args.self.now c.self.inside.list _ c.args.seen c.self.inside.keys c.in_ok-key.key c.self.view_is
-    c.self.invariant c.in_ok-key.ensures (c.in-Ok-false.ensures.answer ∙ ap not c.in-Ok-false.field-0-test) (c.truncate.ensures ∙ same)
+pub returns-in-Ok-clause-ok : goal.returns-in-Ok-clause-ok
+returns-in-Ok-clause-ok c =
+    subst (λ zs. c.push.new.self ≡ with_seen zs c.args.seen) c.self.view_is
+    (seen_new LOOKED_THROUGH c.self.inside.list c.args.seen c.self.inside.places c.in_ok-key.key c.self.invariant c.in_ok-key.ensures c.push.new.self
+    (ap (λ zs. is_listed c.args.seen (take LOOKED_THROUGH zs)) c.self.view_is ∙ c.requires.missed)
+    (ap (λ o. stands o c.self.inside.list c.args.seen) (sym c.get.ensures.value)
+    ∙ ap (λ zs. stands (option_copied c.get.result) zs c.args.seen) (sym c.as_slice.ensures)
+    ∙ sym c.stands_at.ensures
+    ∙ c.if-stands_at.false)
+    c.in_ok-push.ensures.ok)
