@@ -24,7 +24,7 @@ use session_text::Reply;
 use std::alloc::{AllocError, Global};
 use std::mem::replace;
 use txn_lang::{Run, Seen, TICK_LIMIT};
-use watch_reruns::{Rerunner, Reruns, RunList, rerun_stale};
+use watch_reruns::{Rerunner, Reruns, RunList};
 
 /// Adds the addresses at which something was observed.
 fn add_addresses(loose: &mut AddressList, observations: &[Seen]) -> Result<(), AllocError>
@@ -116,7 +116,7 @@ fn runs_of<R: Rerunner>(
     ensures { IfOk result (λ runs. IfSome runs (λ list.
         all_reruns (held watching.now.cache) watching.now.watches ≡ reruns_of.Ran list)) }
 {
-    match rerun_stale(reruns, alloc, &watching.watches, &watching.cache)? {
+    match reruns.rerun(alloc, &watching.watches, &watching.cache)? {
         Reruns::Ran(list) => Ok(Some(list)),
         Reruns::Need(_) => Ok(None),
     }

@@ -1,2 +1,3 @@
-mod Gathered
 mod InParts
+mod Listed
+mod Shared

@@ -1,20 +1,18 @@
 //! Reruns by as many workers as there are processors.
 
-ghost use Rattle.std.specs.Prelude.{◌≡◌, map, IfOk};
-ghost use Rattle.std.specs.Fork.{slice_chunk};
-ghost use Rattle.std.specs.List.{range_with_len};
+ghost use Rattle.std.specs.Prelude.{◌≡◌, ◌≤◌, drop, take, IfOk};
 ghost use Rattle.client_cache.specs.Cached.{held};
-ghost use Rattle.rerun_driver.specs.Watches.{bodies_of};
-ghost use Rattle.watch_reruns.specs.Reruns.{reruns_of};
+ghost use Rattle.rerun_driver.specs.Watches.{stale_of};
+ghost use Rattle.watch_reruns.specs.Reruns.{all_reruns, reruns_of};
 
-use crate::meet::Meet;
-use crate::parts::{joined, run_numbered, run_part};
+use crate::meet::{Meet, NoMeet};
+use crate::parts::{followed, run_behind, run_part};
 use client_cache::Cache;
 use rayon::current_num_threads;
-use rayon::prelude::*;
+use rerun_driver::Driver;
 use std::alloc::{AllocError, Global};
-use std::thread::Threads;
-use watch_reruns::{Reruns, StaleWatch};
+use std::thread::{Threads, join};
+use watch_reruns::{Rerunner, Reruns};
 
 /// How few watches are worth a thread.
 const LEAST_PART: usize = 128;
@@ -26,41 +24,60 @@ pub struct Parallel<'r, M, R> {
     meet: M,
 }
 
+/// A part of a list, from a place on, and how many parts come behind it.
+#[derive(Clone, Copy)]
+struct Part {
+    from: usize,
+    size: usize,
+    behind: usize,
+}
+
 /// In how many parts so many watches are run: no more than there are processors.
-fn parts_of(rt: &impl Threads, count: usize) -> usize {
+fn parts_of(rt: &impl Threads, count: usize) -> usize
+    ensures { 1 ≤ result }
+{
     let most = count / LEAST_PART;
     if most < 2 {
         1
     } else {
-        most.min(current_num_threads(rt))
+        most.min(current_num_threads(rt)).max(1)
     }
 }
 
-/// The reruns of each part of a list, side by side.
-fn run_parts<M: Meet + Sync, R: Threads + Sync>(
+/// The reruns of a driver's stale watches from a part on: those of the part in a thread of its own, and meanwhile those behind it
+/// by who calls, in parts again. The last part is all that is left.
+fn run_from<M: Meet + Sync, R: Threads>(
     rt: &R,
     alloc: Global,
     meet: &M,
-    stale: &[StaleWatch<'_>],
-    parts: usize,
-    size: usize,
+    driver: &Driver,
     cache: &Cache,
-) -> Result<Vec<Reruns>, AllocError>
-    ensures { IfOk result (λ all. all.items
-        ≡ map (λ number. reruns_of (held cache.now) (bodies_of (slice_chunk stale.now size number))) (range_with_len 0 parts)) }
+    part: Part,
+) -> Result<Reruns, AllocError>
+    ensures { IfOk result (λ all. all ≡ reruns_of (held cache.now) (drop part.from (stale_of driver.now))) }
 {
-    (0..parts)
-        .into_par_iter()
-        .with_min_len(1)
-        .map(
-            |number: usize| -> Result<Reruns, AllocError>
-                ensures { IfOk result (λ all. all ≡ reruns_of (held cache.entry.now) (bodies_of (slice_chunk stale.entry.now size number))) }
-            { run_numbered(alloc, meet, stale, size, number, cache) },
-        )
-        .collect::<Result<Vec<Reruns>, AllocError>>(rt, alloc)?
+    let Part { from, size, .. } = part;
+    let (Some(behind), Some(next)) = (part.behind.checked_sub(1), from.checked_add(size)) else {
+        return run_behind(alloc, meet, driver, cache, from);
+    };
+    let others = Part {
+        from: next,
+        size,
+        behind,
+    };
+    let (first, others) = join(
+        rt,
+        || -> Result<Reruns, AllocError>
+            ensures { IfOk result (λ all. all ≡ reruns_of (held cache.entry.now) (take size (drop from (stale_of driver.entry.now)))) }
+        { run_part(alloc, meet, driver, cache, from, size) },
+        || -> Result<Reruns, AllocError>
+            ensures { IfOk result (λ all. all ≡ reruns_of (held cache.entry.now) (drop others.from (stale_of driver.entry.now))) }
+        { run_from(rt, alloc, meet, driver, cache, others) },
+    );
+    followed(first?, others?)
 }
 
-impl<'r, M: Meet + Sync, R: Threads + Sync> Parallel<'r, M, R> {
+impl<'r, M: Meet + Sync, R: Threads> Parallel<'r, M, R> {
     /// One whose reruns are told to this.
     pub fn new(rt: &'r R, meet: M) -> Self
         ensures { result.meet ≡ meet }
@@ -68,21 +85,28 @@ impl<'r, M: Meet + Sync, R: Threads + Sync> Parallel<'r, M, R> {
         Parallel { rt, meet }
     }
 
-    /// The runs of stale watches on the values of a cache.
-    pub fn rerun(
+    /// The runs of a driver's stale watches on the values of a cache, each told before it is made.
+    pub fn rerun_told(
         &self,
         alloc: Global,
-        stale: &[StaleWatch<'_>],
+        driver: &Driver,
         cache: &Cache,
     ) -> Result<Reruns, AllocError>
-        ensures { IfOk result (λ all. all ≡ reruns_of (held cache.now) (bodies_of stale.now)) }
+        ensures { IfOk result (λ all. all ≡ all_reruns (held cache.now) driver.now) }
     {
-        let parts = parts_of(self.rt, stale.len());
-        if parts < 2 {
-            return run_part(alloc, &self.meet, 0, stale, cache);
-        }
-        let size = stale.len().div_ceil(parts);
-        let all = run_parts(self.rt, alloc, &self.meet, stale, parts, size, cache)?;
-        joined(alloc, all)
+        let count = driver.stale()?.len();
+        let parts = parts_of(self.rt, count);
+        let first = Part {
+            from: 0,
+            size: count.div_ceil(parts),
+            behind: parts - 1,
+        };
+        run_from(self.rt, alloc, &self.meet, driver, cache, first)
+    }
+}
+
+impl<'r, R: Threads> Rerunner for Parallel<'r, NoMeet, R> {
+    fn rerun(&self, alloc: Global, driver: &Driver, cache: &Cache) -> Result<Reruns, AllocError> {
+        self.rerun_told(alloc, driver, cache)
     }
 }

@@ -4,6 +4,8 @@
 #![tactic(auto)]
 
 #[cfg(test)]
+mod drivers;
+#[cfg(test)]
 mod lists;
 #[cfg(test)]
 mod workers;

@@ -1,12 +1,14 @@
 //! Lists of stale watches that are run anew. What they come to was worked out by hand.
 
+use crate::drivers::{counter, put, touch_all};
 use client_cache::Cache;
 use plain_data::Text;
 use rdt_types::{Address, Item, Kind, Outcome, Value};
-use std::alloc::{AllocError, Global};
+use rerun_driver::{Driver, StaleWatch};
+use std::alloc::Global;
 use txn_lang::{Checked, Run, check};
 use txn_parse::parse;
-use watch_reruns::{One, Rerunner, Reruns, RunList, StaleWatch, WatchRun, run_watch};
+use watch_reruns::{One, Rerunner, Reruns, RunList, WatchRun, run_watch};
 
 /// A watch's name and body.
 pub(crate) type Watch = (&'static [u8], &'static [u8]);
@@ -105,39 +107,24 @@ pub(crate) fn checked(alloc: Global, source: &[u8]) -> Option<Checked> {
     check(alloc, body, text, true).ok()
 }
 
-/// The bodies of a row's watches.
-fn bodies(alloc: Global, row: &Row) -> Option<Vec<Checked>> {
-    let mut bodies = Vec::new(alloc);
-    for (_, source) in row.watches {
-        bodies.push(checked(alloc, source)?).ok()?;
-    }
-    Some(bodies)
-}
-
 /// A cache that holds 7 at each of some counters.
 pub(crate) fn held(alloc: Global, keys: &[&[u8]]) -> Option<Cache> {
     let mut cache = Cache::new(alloc, 3);
     for key in keys {
-        let address = Address {
-            kind: Kind::Counter,
-            key: Text::from_slice(alloc, key).ok()?,
-        };
-        cache.fill(address, Value::Counter(7)).ok()?;
+        cache.fill(counter(alloc, key)?, Value::Counter(7)).ok()?;
     }
     Some(cache)
 }
 
-/// The stale watches of a row.
-fn stale<'w>(
-    alloc: Global,
-    row: &Row,
-    bodies: &'w [Checked],
-) -> Result<Vec<StaleWatch<'w>>, AllocError> {
-    let mut stale = Vec::new(alloc);
-    for ((name, _), body) in row.watches.iter().zip(bodies) {
-        stale.push(StaleWatch { name, body })?;
+/// A driver of a row's watches, all of them stale.
+fn driver(alloc: Global, row: &Row) -> Option<Driver> {
+    let mut driver = Driver::new(alloc);
+    for (name, source) in row.watches {
+        let name = Text::from_slice(alloc, name).ok()?;
+        put(&mut driver, alloc, name, checked(alloc, source)?)?;
     }
-    Ok(stale)
+    touch_all(&mut driver, alloc)?;
+    Some(driver)
 }
 
 /// Whether a run came to this.
@@ -180,10 +167,9 @@ fn is_as_wanted(row: &Row, all: &Reruns) -> bool {
 
 /// What the reruns of a row come to.
 fn reruns(alloc: Global, row: &Row) -> Option<Reruns> {
-    let bodies = bodies(alloc, row)?;
+    let driver = driver(alloc, row)?;
     let cache = held(alloc, row.held)?;
-    let stale = stale(alloc, row, bodies.as_slice()).ok()?;
-    One.rerun(alloc, stale.as_slice(), &cache).ok()
+    One.rerun(alloc, &driver, &cache).ok()
 }
 
 #[test]

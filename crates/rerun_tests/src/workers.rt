@@ -1,13 +1,14 @@
 //! Lists of stale watches that workers run anew, in parts. What they come to was worked out by hand.
 
+use crate::drivers::{put, touch_all};
 use crate::lists::{Came, FIVE, SPENT, Want, Watch, X, Y, checked, has_come, held, is_counter};
 use par_rerun::{Meet, NoMeet, Parallel};
 use plain_data::Text;
-use std::alloc::{AllocError, Global};
+use rerun_driver::Driver;
+use std::alloc::Global;
 use std::sync::atomic::{AtomicU64, Ordering};
 use std::thread::Threads;
-use txn_lang::Checked;
-use watch_reruns::{Reruns, RunList, StaleWatch};
+use watch_reruns::{Rerunner, Reruns, RunList};
 
 /// A list of watches that emit 5 but at some places, the counters whose values are held (each is 7), and what is wanted. Where all
 /// run, it says what the watches at these places come to, in their order.
@@ -96,11 +97,11 @@ fn long_lists() -> &'static [Long] {
     &LONG
 }
 
-/// A long list's names and bodies.
+/// A long list's names, and a driver of its watches, all of them stale.
 #[derive(Drop)]
 struct Prepared {
     names: Vec<Text>,
-    bodies: Vec<Checked>,
+    driver: Driver,
 }
 
 /// The source of the body at a place.
@@ -113,30 +114,23 @@ fn source_at(long: &Long, place: usize) -> &'static [u8] {
     FIVE.1
 }
 
-/// The names and bodies of a long list. Each name tells its place.
+/// The names of a long list, each of which tells its place, and a driver of its watches.
 fn prepare(alloc: Global, long: &Long) -> Option<Prepared> {
     let mut names = Vec::new(alloc);
-    let mut bodies = Vec::new(alloc);
+    let mut driver = Driver::new(alloc);
     for place in 0..long.count {
         let name = format!(in alloc; "w{place}").ok()?;
-        names
-            .push(Text::from_slice(alloc, name.as_bytes()).ok()?)
-            .ok()?;
-        bodies.push(checked(alloc, source_at(long, place))?).ok()?;
+        let name = Text::from_slice(alloc, name.as_bytes()).ok()?;
+        names.push(name.clone().ok()?).ok()?;
+        put(
+            &mut driver,
+            alloc,
+            name,
+            checked(alloc, source_at(long, place))?,
+        )?;
     }
-    Some(Prepared { names, bodies })
-}
-
-/// The stale watches of these names and bodies.
-fn stale(alloc: Global, made: &Prepared) -> Result<Vec<StaleWatch<'_>>, AllocError> {
-    let mut stale = Vec::new(alloc);
-    for (name, body) in made.names.iter().zip(&made.bodies) {
-        stale.push(StaleWatch {
-            name: name.as_slice(),
-            body,
-        })?;
-    }
-    Ok(stale)
+    touch_all(&mut driver, alloc)?;
+    Some(Prepared { names, driver })
 }
 
 /// What the watch at a place comes to, where those at the other places come to this.
@@ -171,10 +165,9 @@ fn is_as_wanted<M: Meet + Sync + Drop>(
     meet: M,
 ) -> Option<bool> {
     let made = prepare(alloc, long)?;
-    let stale = stale(alloc, &made).ok()?;
     let cache = held(alloc, long.held)?;
     let all = Parallel::new(rt, meet)
-        .rerun(alloc, stale.as_slice(), &cache)
+        .rerun_told(alloc, &made.driver, &cache)
         .ok()?;
     Some(match (&all, long.want) {
         (Reruns::Need(address), Want::Need(key)) => is_counter(address, key),
@@ -192,6 +185,22 @@ fn workers_run_long_lists_as_they_should(rt: HostRuntime) {
             "list {place}"
         );
     }
+}
+
+/// The reruns of a long list that needs no value, by any rerunner.
+fn run_all<W: Rerunner>(reruns: &W, alloc: Global, long: &Long) -> Option<usize> {
+    let made = prepare(alloc, long)?;
+    let cache = held(alloc, long.held)?;
+    match reruns.rerun(alloc, &made.driver, &cache).ok()? {
+        Reruns::Ran(list) => Some(list.len()),
+        Reruns::Need(_) => None,
+    }
+}
+
+#[test]
+fn workers_are_rerunners(rt: HostRuntime) {
+    let workers = Parallel::new(&rt, NoMeet);
+    assert_eq!(rt; run_all(&workers, rt.alloc(), &MANY), Some(4_096));
 }
 
 /// How often the first and the last place look for one another before they give up.

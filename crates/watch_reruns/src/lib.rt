@@ -10,5 +10,5 @@ mod rerunner;
 mod reruns;
 
 pub use rerun_driver::StaleWatch;
-pub use rerunner::{One, Rerunner, rerun_stale};
+pub use rerunner::{One, Rerunner};
 pub use reruns::{Reruns, RunList, WatchRun, run_watch};

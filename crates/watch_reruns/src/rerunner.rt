@@ -12,14 +12,9 @@ use std::alloc::{AllocError, Global};
 
 /// Runs stale watches anew.
 pub trait Rerunner {
-    /// The runs of stale watches on the values of a cache.
-    fn rerun(
-        &self,
-        alloc: Global,
-        stale: &[StaleWatch<'_>],
-        cache: &Cache,
-    ) -> Result<Reruns, AllocError>
-        ensures { IfOk result (λ all. all ≡ reruns_of (held cache.now) (bodies_of stale.now)) };
+    /// The runs of a driver's stale watches on the values of a cache.
+    fn rerun(&self, alloc: Global, driver: &Driver, cache: &Cache) -> Result<Reruns, AllocError>
+        ensures { IfOk result (λ all. all ≡ all_reruns (held cache.now) driver.now) };
 }
 
 /// Runs them one after another, as far as the first that needs a value.
@@ -27,32 +22,22 @@ pub trait Rerunner {
 pub struct One;
 
 impl Rerunner for One {
-    fn rerun(
-        &self,
-        alloc: Global,
-        stale: &[StaleWatch<'_>],
-        cache: &Cache,
-    ) -> Result<Reruns, AllocError> {
-        let mut list = RunList::new(alloc);
-        for watch in stale {
-            match run_watch(alloc, watch, cache)? {
-                WatchRun::Need(address) => return Ok(Reruns::Need(address)),
-                WatchRun::Done(name, run) => list.push((name, run))?,
-            }
-        }
-        Ok(Reruns::Ran(list))
+    fn rerun(&self, alloc: Global, driver: &Driver, cache: &Cache) -> Result<Reruns, AllocError> {
+        let stale = driver.stale()?;
+        run_watches(alloc, stale.as_slice(), cache)
     }
 }
 
-/// The runs of a driver's stale watches on the values of a cache, by who runs them.
-pub fn rerun_stale<R: Rerunner>(
-    reruns: &R,
-    alloc: Global,
-    driver: &Driver,
-    cache: &Cache,
-) -> Result<Reruns, AllocError>
-    ensures { IfOk result (λ all. all ≡ all_reruns (held cache.now) driver.now) }
+/// Runs watches one after another, as far as the first that needs a value.
+fn run_watches(alloc: Global, stale: &[StaleWatch<'_>], cache: &Cache) -> Result<Reruns, AllocError>
+    ensures { IfOk result (λ all. all ≡ reruns_of (held cache.now) (bodies_of stale.now)) }
 {
-    let stale = driver.stale()?;
-    reruns.rerun(alloc, stale.as_slice(), cache)
+    let mut list = RunList::new(alloc);
+    for watch in stale {
+        match run_watch(alloc, watch, cache)? {
+            WatchRun::Need(address) => return Ok(Reruns::Need(address)),
+            WatchRun::Done(name, run) => list.push((name, run))?,
+        }
+    }
+    Ok(Reruns::Ran(list))
 }

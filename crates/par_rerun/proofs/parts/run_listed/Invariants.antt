@@ -2,9 +2,9 @@ use Rattle.std.proofs.Common.{◌≡◌, drop}
 use Rattle.client_cache.specs.Cached.{held}
 use Rattle.rerun_driver.specs.Watches.{bodies_of}
 use Rattle.watch_reruns.specs.Reruns.{behind, reruns_of}
-use Rattle.watch_reruns.proofs.rerunner.OneRerunner.rerun.Given as goal
+use Rattle.par_rerun.proofs.parts.run_listed.Given as goal
 
 -- the runs so far, and behind them what the other watches' come to, are all
 abbrev pub invariant-loop-watch : goal.invariant-loop-watch
-invariant-loop-watch l =
-    behind l.list (reruns_of (held l.cache) (bodies_of (drop l.watch-index l.stale))) ≡ reruns_of (held l.fn.cache) (bodies_of l.fn.stale)
+invariant-loop-watch g l =
+    behind l.list (reruns_of (held l.cache) (bodies_of (drop l.watch-index l.part))) ≡ reruns_of (held l.fn.cache) (bodies_of l.fn.part)
