@@ -48,7 +48,7 @@ reads_joined c given next o value taken free e =
     ∙ ap (ready c) e
 
 -- an option is read, however it is spelled
-option_read : (c : CommandName) (words rest : List Word) (given next : Given) → IsOption c words rest given next
+pub option_read : (c : CommandName) (words rest : List Word) (given next : Given) → IsOption c words rest given next
     → after words (reading.Ready c given) ≡ after rest (reading.Ready c next)
 option_read c words rest given next is = by is.spelled
   where

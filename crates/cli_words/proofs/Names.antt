@@ -38,6 +38,8 @@ option_named-complete option.Address = refl
 option_named-complete option.File = refl
 option_named-complete option.At = refl
 option_named-complete option.Form = refl
+option_named-complete option.Seed = refl
+option_named-complete option.Count = refl
 
 -- the same of commands
 pub command_named-sound : (w : Word) (c : CommandName) → command_named w ≡ Some c → w ≡ command_word c
@@ -49,6 +51,7 @@ command_named-complete command.Run = refl
 command_named-complete command.Serve = refl
 command_named-complete command.Audit = refl
 command_named-complete command.Remote = refl
+command_named-complete command.Load = refl
 
 -- the test of which options a command takes
 pub takes-sound : (c : CommandName) (o : OptionName) → takes c o ≡ true → Takes c o
@@ -60,6 +63,8 @@ takes-sound command.Run option.Address h = absurd (cc)
 takes-sound command.Run option.File h = absurd (cc)
 takes-sound command.Run option.At h = absurd (cc)
 takes-sound command.Run option.Form h = absurd (cc)
+takes-sound command.Run option.Seed h = absurd (cc)
+takes-sound command.Run option.Count h = absurd (cc)
 takes-sound command.Serve option.Shards h = tt
 takes-sound command.Serve option.Window h = tt
 takes-sound command.Serve option.Limit h = tt
@@ -68,6 +73,8 @@ takes-sound command.Serve option.Address h = tt
 takes-sound command.Serve option.File h = tt
 takes-sound command.Serve option.At h = absurd (cc)
 takes-sound command.Serve option.Form h = tt
+takes-sound command.Serve option.Seed h = absurd (cc)
+takes-sound command.Serve option.Count h = absurd (cc)
 takes-sound command.Audit option.Shards h = absurd (cc)
 takes-sound command.Audit option.Window h = absurd (cc)
 takes-sound command.Audit option.Limit h = absurd (cc)
@@ -76,6 +83,8 @@ takes-sound command.Audit option.Address h = absurd (cc)
 takes-sound command.Audit option.File h = tt
 takes-sound command.Audit option.At h = tt
 takes-sound command.Audit option.Form h = absurd (cc)
+takes-sound command.Audit option.Seed h = absurd (cc)
+takes-sound command.Audit option.Count h = absurd (cc)
 takes-sound command.Remote option.Shards h = absurd (cc)
 takes-sound command.Remote option.Window h = absurd (cc)
 takes-sound command.Remote option.Limit h = absurd (cc)
@@ -84,6 +93,18 @@ takes-sound command.Remote option.Address h = tt
 takes-sound command.Remote option.File h = absurd (cc)
 takes-sound command.Remote option.At h = absurd (cc)
 takes-sound command.Remote option.Form h = absurd (cc)
+takes-sound command.Remote option.Seed h = absurd (cc)
+takes-sound command.Remote option.Count h = absurd (cc)
+takes-sound command.Load option.Shards h = tt
+takes-sound command.Load option.Window h = tt
+takes-sound command.Load option.Limit h = tt
+takes-sound command.Load option.Sessions h = absurd (cc)
+takes-sound command.Load option.Address h = absurd (cc)
+takes-sound command.Load option.File h = absurd (cc)
+takes-sound command.Load option.At h = absurd (cc)
+takes-sound command.Load option.Form h = absurd (cc)
+takes-sound command.Load option.Seed h = tt
+takes-sound command.Load option.Count h = tt
 
 -- and what the form lets a command take passes the test
 pub takes-complete : (c : CommandName) (o : OptionName) → Takes c o → takes c o ≡ true
@@ -95,6 +116,8 @@ takes-complete command.Run option.Address h = absurd h
 takes-complete command.Run option.File h = absurd h
 takes-complete command.Run option.At h = absurd h
 takes-complete command.Run option.Form h = absurd h
+takes-complete command.Run option.Seed h = absurd h
+takes-complete command.Run option.Count h = absurd h
 takes-complete command.Serve option.Shards h = refl
 takes-complete command.Serve option.Window h = refl
 takes-complete command.Serve option.Limit h = refl
@@ -103,6 +126,8 @@ takes-complete command.Serve option.Address h = refl
 takes-complete command.Serve option.File h = refl
 takes-complete command.Serve option.At h = absurd h
 takes-complete command.Serve option.Form h = refl
+takes-complete command.Serve option.Seed h = absurd h
+takes-complete command.Serve option.Count h = absurd h
 takes-complete command.Audit option.Shards h = absurd h
 takes-complete command.Audit option.Window h = absurd h
 takes-complete command.Audit option.Limit h = absurd h
@@ -111,6 +136,8 @@ takes-complete command.Audit option.Address h = absurd h
 takes-complete command.Audit option.File h = refl
 takes-complete command.Audit option.At h = refl
 takes-complete command.Audit option.Form h = absurd h
+takes-complete command.Audit option.Seed h = absurd h
+takes-complete command.Audit option.Count h = absurd h
 takes-complete command.Remote option.Shards h = absurd h
 takes-complete command.Remote option.Window h = absurd h
 takes-complete command.Remote option.Limit h = absurd h
@@ -119,6 +146,18 @@ takes-complete command.Remote option.Address h = refl
 takes-complete command.Remote option.File h = absurd h
 takes-complete command.Remote option.At h = absurd h
 takes-complete command.Remote option.Form h = absurd h
+takes-complete command.Remote option.Seed h = absurd h
+takes-complete command.Remote option.Count h = absurd h
+takes-complete command.Load option.Shards h = refl
+takes-complete command.Load option.Window h = refl
+takes-complete command.Load option.Limit h = refl
+takes-complete command.Load option.Sessions h = absurd h
+takes-complete command.Load option.Address h = absurd h
+takes-complete command.Load option.File h = absurd h
+takes-complete command.Load option.At h = absurd h
+takes-complete command.Load option.Form h = absurd h
+takes-complete command.Load option.Seed h = refl
+takes-complete command.Load option.Count h = refl
 
 -- ---- a name and a value in one word
 
@@ -142,6 +181,8 @@ name-alone option.Address = refl
 name-alone option.File = refl
 name-alone option.At = refl
 name-alone option.Form = refl
+name-alone option.Seed = refl
+name-alone option.Count = refl
 
 -- so none has a value
 pub value-alone : (o : OptionName) → has_value (option_word o) ≡ false
@@ -153,6 +194,8 @@ value-alone option.Address = refl
 value-alone option.File = refl
 value-alone option.At = refl
 value-alone option.Form = refl
+value-alone option.Seed = refl
+value-alone option.Count = refl
 
 -- and where `=` stands behind it, that is the first
 pub name-joined : (o : OptionName) (value : Word) → name_part (option_word o ++ EQUALS ∷ value) ≡ option_word o
@@ -164,6 +207,8 @@ name-joined option.Address value = refl
 name-joined option.File value = refl
 name-joined option.At value = refl
 name-joined option.Form value = refl
+name-joined option.Seed value = refl
+name-joined option.Count value = refl
 
 -- what stands behind is the value
 pub value-joined : (o : OptionName) (value : Word) → value_part (option_word o ++ EQUALS ∷ value) ≡ value
@@ -175,6 +220,8 @@ value-joined option.Address value = refl
 value-joined option.File value = refl
 value-joined option.At value = refl
 value-joined option.Form value = refl
+value-joined option.Seed value = refl
+value-joined option.Count value = refl
 
 -- as the place of `=` is within the word
 pub has_value-joined : (o : OptionName) (value : Word) → has_value (option_word o ++ EQUALS ∷ value) ≡ true
@@ -186,3 +233,5 @@ has_value-joined option.Address value = lt-ltb 9 (length (option_word option.Add
 has_value-joined option.File value = lt-ltb 6 (length (option_word option.File ++ EQUALS ∷ value)) (omega arith)
 has_value-joined option.At value = lt-ltb 4 (length (option_word option.At ++ EQUALS ∷ value)) (omega arith)
 has_value-joined option.Form value = lt-ltb 6 (length (option_word option.Form ++ EQUALS ∷ value)) (omega arith)
+has_value-joined option.Seed value = lt-ltb 6 (length (option_word option.Seed ++ EQUALS ∷ value)) (omega arith)
+has_value-joined option.Count value = lt-ltb 7 (length (option_word option.Count ++ EQUALS ∷ value)) (omega arith)

@@ -1,6 +1,6 @@
 -- Where words are refused: up to there they go on to a form, and no further.
 use Rattle.std.proofs.Common.{◌≡◌, ℕ, ◌+◌, ◌<◌, ◌≤◌, Bool, true, false, cond, List, [], ◌∷◌, ◌++◌, inl, refl, ap, sym, ◌∙◌, subst, arith}
-use Rattle.std.specs.Prelude.{codes, Option, Some, None, is_some, Result, Ok, Err, take, drop, length, get_or}
+use Rattle.std.specs.Prelude.{codes, Option, Some, None, IsSome, is_some, Result, Ok, Err, take, drop, length, get_or}
 use denote.Bor.{Bor}
 use Rattle.std.proofs.lemmas.List.{take_more, take_all, take-append-drop, length-map, get_or-map}
 use Rattle.std.proofs.lemmas.Option.{slice_get-get_or}
@@ -17,12 +17,13 @@ use Rattle.cli_words.specs.declared.refusal.Missing.{Missing}
 use Rattle.cli_words.specs.declared.refusal.Missing.TheVariants as missing
 use Rattle.cli_words.specs.declared.reading.Reading.{Reading}
 use Rattle.cli_words.specs.declared.reading.Reading.TheVariants as reading
-use Rattle.cli_words.specs.Forms.{Word, texts, Takes, Given, IsWhole, IsNoForm, IsPlan, Spells}
+use Rattle.cli_words.specs.Forms.{Word, texts, option_word, Takes, Given, IsWhole, IsNoForm, IsPlan, Spells}
 use Rattle.cli_words.specs.Refusals.{GoesOn, IsCutShort, Refuses}
-use Rattle.cli_words.specs.code.Reading.{with_value, ready, step, on, after, missing_of}
+use Rattle.cli_words.specs.code.Reading.{is_given, with_value, ready, step, on, after, missing_of}
 use Rattle.cli_words.specs.code.Answers.{Makes, Finishes, Explains, error_of}
 use Rattle.cli_words.proofs.Sound.{form-sound}
-use Rattle.cli_words.proofs.Complete.{options_read, form_read}
+use Rattle.cli_words.proofs.Complete.{option_read, form_read}
+use Rattle.cli_words.proofs.Values.{value-sound}
 
 -- what words make, and then others
 on_by : (words more : List Word) (made : Result Reading Why) → ((r : Reading) → after (words ++ more) r ≡ on (after more) (after words r))
@@ -55,54 +56,57 @@ record Completes (r : Reading) : Type 0 where
   made : after more r ≡ Ok (reading.Ready name given)
   whole : IsWhole name given
 
--- with no address yet, one can follow, for a command that takes one and is whole with it
-address_for : (c : CommandName) → Takes c option.Address → ((a : Word) (given : Given) → given.address ≡ Some a → IsWhole c given)
-    → (given : Given) → given.address ≡ None → Completes (reading.Ready c given)
-address_for c takes whole given e = record {
-  more = codes "--address" ∷ codes "a" ∷ [];
-  name = c;
-  given = record given { address = Some (codes "a") };
-  made = options_read 1 c (codes "--address" ∷ codes "a" ∷ []) given (record given { address = Some (codes "a") }) (
-    [],
-    record given { address = Some (codes "a") },
-    record { option = option.Address; value = codes "a"; taken = takes; spelled = inl refl; gives = (e, (λ h. absurd (omega (arith, h))), refl) },
-    (refl, refl),
-  );
-  whole = whole (codes "a") (record given { address = Some (codes "a") }) refl;
+-- where nothing is missing, nothing need follow
+is_complete : (c : CommandName) (given : Given) → IsWhole c given → Completes (reading.Ready c given)
+is_complete c given whole = record { more = []; name = c; given = given; made = refl; whole = whole }
+
+-- an option that is not given yet can follow, and then what goes on from there
+with_one : (c : CommandName) (o : OptionName) (value : Word) (given next : Given) → Takes c o → is_given o given ≡ false
+    → with_value o value given ≡ Ok next → Completes (reading.Ready c next) → Completes (reading.Ready c given)
+with_one c o value given next takes free e k = record {
+  more = option_word o ∷ value ∷ k.more;
+  name = k.name;
+  given = k.given;
+  made = option_read c (option_word o ∷ value ∷ k.more) k.more given next
+      (record { option = o; value = value; taken = takes; spelled = inl refl; gives = value-sound o value given next free e }) ∙ k.made;
+  whole = k.whole;
 }
 
--- with an address nothing more is wanted
+-- an address can follow where none is given, for a command that takes one and is whole with it
 address_completes : (c : CommandName) → Takes c option.Address → ((a : Word) (given : Given) → given.address ≡ Some a → IsWhole c given)
     → (given : Given) (found : Option Word) → given.address ≡ found → Completes (reading.Ready c given)
-address_completes c takes whole given None e = address_for c takes whole given e
-address_completes c takes whole given (Some a) e = record { more = []; name = c; given = given; made = refl; whole = whole a given e }
+address_completes c takes whole given None e =
+    let next = record given { address = Some (codes "a") } in
+    with_one c option.Address (codes "a") given next takes (ap is_some e) refl (is_complete c next (whole (codes "a") next refl))
+address_completes c takes whole given (Some a) e = is_complete c given (whole a given e)
 
--- with no file yet, one can follow
-file_for : (given : Given) → given.file ≡ None → Completes (reading.Ready command.Audit given)
-file_for given e = record {
-  more = codes "--file" ∷ codes "f" ∷ [];
-  name = command.Audit;
-  given = record given { file = Some (codes "f") };
-  made = options_read 1 command.Audit (codes "--file" ∷ codes "f" ∷ []) given (record given { file = Some (codes "f") }) (
-    [],
-    record given { file = Some (codes "f") },
-    record { option = option.File; value = codes "f"; taken = tt; spelled = inl refl; gives = (e, (λ h. absurd (omega (arith, h))), refl) },
-    (refl, refl),
-  );
-  whole = refl;
-}
-
--- with a file nothing more is wanted
+-- so can a file
 audit_completes : (given : Given) (found : Option Word) → given.file ≡ found → Completes (reading.Ready command.Audit given)
-audit_completes given None e = file_for given e
-audit_completes given (Some f) e = record { more = []; name = command.Audit; given = given; made = refl; whole = ap is_some e }
+audit_completes given None e =
+    let next = record given { file = Some (codes "f") } in
+    with_one command.Audit option.File (codes "f") given next tt (ap is_some e) refl (is_complete command.Audit next refl)
+audit_completes given (Some f) e = is_complete command.Audit given (ap is_some e)
+
+-- and the two numbers of a load: how many rounds, and before that the seed
+count_completes : (given : Given) (found : Option ℕ) → IsSome given.seed → given.count ≡ found → Completes (reading.Ready command.Load given)
+count_completes given None seed e =
+    let next = record given { count = Some 1 } in
+    with_one command.Load option.Count (codes "1") given next tt (ap is_some e) refl (is_complete command.Load next (seed, refl))
+count_completes given (Some n) seed e = is_complete command.Load given (seed, ap is_some e)
+
+load_completes : (given : Given) (found : Option ℕ) → given.seed ≡ found → Completes (reading.Ready command.Load given)
+load_completes given None e =
+    let next = record given { seed = Some 1 } in
+    with_one command.Load option.Seed (codes "1") given next tt (ap is_some e) refl (count_completes next given.count refl refl)
+load_completes given (Some n) e = count_completes given given.count (ap is_some e) refl
 
 -- `run` wants nothing more
 ready_completes : (c : CommandName) (given : Given) → Completes (reading.Ready c given)
-ready_completes command.Run given = record { more = []; name = command.Run; given = given; made = refl; whole = tt }
+ready_completes command.Run given = is_complete command.Run given tt
 ready_completes command.Serve given = address_completes command.Serve tt (λ a g e. ap is_some e) given given.address refl
 ready_completes command.Audit given = audit_completes given given.file refl
 ready_completes command.Remote given = address_completes command.Remote tt (λ a g e. ap is_some e) given given.address refl
+ready_completes command.Load given = load_completes given given.seed refl
 
 -- a value that any option takes can follow its name
 value_completes : (c : CommandName) (given next : Given) (o : OptionName) (value : Word)
@@ -112,7 +116,7 @@ value_completes c given next o value e =
     let k = ready_completes c next in
     record { more = value ∷ k.more; name = k.name; given = k.given; made = ap (λ made. on (after k.more) (ready c made)) e ∙ k.made; whole = k.whole }
 
--- whatever was read goes on to a whole command line: with `run`, with nothing, an address or a file, or with a value first
+-- whatever was read goes on to a whole command line: with `run`, with what is missing, or with a value first
 completes : (r : Reading) → Completes r
 unfolding step
 completes reading.Start = record { more = codes "run" ∷ []; name = command.Run; given = _; made = refl; whole = tt }
@@ -125,6 +129,8 @@ completes (reading.Waiting c given option.Address) = value_completes c given (re
 completes (reading.Waiting c given option.File) = value_completes c given (record given { file = Some (codes "f") }) option.File (codes "f") refl
 completes (reading.Waiting c given option.At) = value_completes c given (record given { at = Some 1 }) option.At (codes "1") refl
 completes (reading.Waiting c given option.Form) = value_completes c given (record given { wire = Some true }) option.Form (codes "wire") refl
+completes (reading.Waiting c given option.Seed) = value_completes c given (record given { seed = Some 1 }) option.Seed (codes "1") refl
+completes (reading.Waiting c given option.Count) = value_completes c given (record given { count = Some 1 }) option.Count (codes "1") refl
 
 -- so the words that were read do, and what is read is of a form
 pub goes_on : (words : List Word) (r : Reading) → after words reading.Start ≡ Ok r → GoesOn words
@@ -157,6 +163,13 @@ whole-not_missing command.Audit given m whole e = by (is_some given.file) whole 
     by : (there : Bool) → there ≡ true → cond there None (Some (missing.Option option.File)) ≡ Some m → ⊥
     by true h e = absurd (cc)
     by false h e = absurd (cc)
+whole-not_missing command.Load given m whole e = by (is_some given.seed) (is_some given.count) whole.0 whole.1 e
+  where
+    by : (seed count : Bool) → seed ≡ true → count ≡ true
+        → cond seed (cond count None (Some (missing.Option option.Count))) (Some (missing.Option option.Seed)) ≡ Some m → ⊥
+    by true true h k e = absurd (cc)
+    by true false h k e = absurd (cc)
+    by false count h k e = absurd (cc)
 
 -- they are of no form themselves, since something is missing of what they make
 pub cut_short : (words : List Word) (r : Reading) (m : Missing) → after words reading.Start ≡ Ok r → missing_of r ≡ Some m → IsCutShort words
@@ -174,18 +187,27 @@ plan-whole command.Run given (plan.Run settings) h = tt
 plan-whole command.Run given (plan.Serve settings address sessions file wire) h = absurd h
 plan-whole command.Run given (plan.Audit file at) h = absurd h
 plan-whole command.Run given (plan.Remote address) h = absurd h
+plan-whole command.Run given (plan.Load settings seed count) h = absurd h
 plan-whole command.Serve given (plan.Run settings) h = absurd h
 plan-whole command.Serve given (plan.Serve settings address sessions file wire) h = ap is_some h.1
 plan-whole command.Serve given (plan.Audit file at) h = absurd h
 plan-whole command.Serve given (plan.Remote address) h = absurd h
+plan-whole command.Serve given (plan.Load settings seed count) h = absurd h
 plan-whole command.Audit given (plan.Run settings) h = absurd h
 plan-whole command.Audit given (plan.Serve settings address sessions file wire) h = absurd h
 plan-whole command.Audit given (plan.Audit file at) h = ap is_some h.0
 plan-whole command.Audit given (plan.Remote address) h = absurd h
+plan-whole command.Audit given (plan.Load settings seed count) h = absurd h
 plan-whole command.Remote given (plan.Run settings) h = absurd h
 plan-whole command.Remote given (plan.Serve settings address sessions file wire) h = absurd h
 plan-whole command.Remote given (plan.Audit file at) h = absurd h
 plan-whole command.Remote given (plan.Remote address) h = ap is_some h
+plan-whole command.Remote given (plan.Load settings seed count) h = absurd h
+plan-whole command.Load given (plan.Run settings) h = absurd h
+plan-whole command.Load given (plan.Serve settings address sessions file wire) h = absurd h
+plan-whole command.Load given (plan.Audit file at) h = absurd h
+plan-whole command.Load given (plan.Remote address) h = absurd h
+plan-whole command.Load given (plan.Load settings seed count) h = (ap is_some h.1, ap is_some h.2)
 
 -- at the end a plan is made of a command and its options alone, which are of a form
 pub spelled : (words : List Word) (r : Reading) (p : Plan) → after words reading.Start ≡ Ok r → Finishes r (Ok p) → Spells words p

@@ -5,7 +5,7 @@ use Rattle.std.specs.Str.{bytes_eq}
 use Rattle.std.proofs.lemmas.Bool.{eqb-false, ne_eqb, not-true}
 use Rattle.std.proofs.lemmas.Slice.Eq.{bytes_eq-Decides}
 use Rattle.rdt_types.specs.declared.limits.TheConstants.{LEAST_SHARDS, MOST_SHARDS, LEAST_WINDOW, MOST_WINDOW, LEAST_COMMITS, MOST_COMMITS}
-use Rattle.cli_words.specs.declared.limits.TheConstants.{LEAST_SESSIONS, MOST_SESSIONS, MOST_AT}
+use Rattle.cli_words.specs.declared.limits.TheConstants.{LEAST_SESSIONS, MOST_SESSIONS, MOST_AT, MOST_SEED, LEAST_COUNT, MOST_COUNT}
 use Rattle.cli_words.specs.declared.name.OptionName.{OptionName}
 use Rattle.cli_words.specs.declared.name.OptionName.TheVariants as option
 use Rattle.cli_words.specs.declared.refusal.Why.{Why}
@@ -104,6 +104,12 @@ value-sound option.At word given next free h =
 value-sound option.Form word given next free h =
     let k = form_by (λ wire. record given { wire = Some wire }) next (wire_named word) h in
     (not_there given.wire free, k.0, wire-named word k.0 k.1, k.2)
+value-sound option.Seed word given next free h =
+    let k = put-sound 0 MOST_SEED word (λ n. record given { seed = Some n }) next h in
+    (not_there given.seed free, k.number, k.is, k.puts)
+value-sound option.Count word given next free h =
+    let k = put-sound LEAST_COUNT MOST_COUNT word (λ n. record given { count = Some n }) next h in
+    (not_there given.count free, k.number, k.is, k.puts)
 
 -- an option that is given had not been, and its value is read
 pub free-complete : (o : OptionName) (word : Word) (given next : Given) → Gives o word given next → is_given o given ≡ false
@@ -115,6 +121,8 @@ free-complete option.Address word given next h = ap is_some h.0
 free-complete option.File word given next h = ap is_some h.0
 free-complete option.At word given next h = ap is_some h.0
 free-complete option.Form word given next h = ap is_some h.0
+free-complete option.Seed word given next h = ap is_some h.0
+free-complete option.Count word given next h = ap is_some h.0
 
 -- and what the form gives is read
 pub value-complete : (o : OptionName) (word : Word) (given next : Given) → Gives o word given next → with_value o word given ≡ Ok next
@@ -135,3 +143,7 @@ value-complete option.At word given next h =
 value-complete option.Form word given next h =
     let put : Bool → Given = λ wire. record given { wire = Some wire } in
     ap (λ w. put_form put (wire_named w)) h.2 ∙ ap (put_form put) (wire-complete h.1) ∙ ap Ok (sym h.3)
+value-complete option.Seed word given next h =
+    put-complete 0 MOST_SEED word (λ n. record given { seed = Some n }) next h.1 (omega arith) h.2 h.3
+value-complete option.Count word given next h =
+    put-complete LEAST_COUNT MOST_COUNT word (λ n. record given { count = Some n }) next h.1 (omega arith) h.2 h.3

@@ -8,7 +8,7 @@ use denote.Bor.{Bor}
 use Rattle.rdt_types.specs.declared.limits.TheConstants.{LEAST_SHARDS, MOST_SHARDS, STANDARD_SHARDS, LEAST_WINDOW, MOST_WINDOW}
 use Rattle.rdt_types.specs.declared.limits.TheConstants.{STANDARD_WINDOW, LEAST_COMMITS, MOST_COMMITS, STANDARD_COMMITS}
 use Rattle.rdt_types.specs.declared.settings.Settings.{Settings}
-use Rattle.cli_words.specs.declared.limits.TheConstants.{LEAST_SESSIONS, MOST_SESSIONS, STANDARD_SESSIONS, MOST_AT}
+use Rattle.cli_words.specs.declared.limits.TheConstants.{LEAST_SESSIONS, MOST_SESSIONS, STANDARD_SESSIONS, MOST_AT, MOST_SEED, LEAST_COUNT, MOST_COUNT}
 use Rattle.cli_words.specs.declared.name.CommandName.{CommandName}
 use Rattle.cli_words.specs.declared.name.CommandName.TheVariants as command
 use Rattle.cli_words.specs.declared.name.OptionName.{OptionName}
@@ -43,6 +43,7 @@ command_word command.Run = codes "run"
 command_word command.Serve = codes "serve"
 command_word command.Audit = codes "audit"
 command_word command.Remote = codes "remote"
+command_word command.Load = codes "load"
 
 -- the word of an option
 abbrev pub option_word : OptionName → Word
@@ -54,22 +55,30 @@ option_word option.Address = codes "--address"
 option_word option.File = codes "--file"
 option_word option.At = codes "--at"
 option_word option.Form = codes "--form"
+option_word option.Seed = codes "--seed"
+option_word option.Count = codes "--count"
 
--- Which options a command takes: `run` takes the settings of a store alone, `serve` all but `--at`, `audit` takes its file
--- and `--at` alone, and `remote` the address alone.
+-- Which options a command takes: `run` takes the settings of a store alone, and `load` its seed and its count besides; `serve` takes
+-- all but these two and `--at`, `audit` its file and `--at` alone, and `remote` the address alone.
 abbrev pub Takes : CommandName → OptionName → Type 0
 Takes command.Run option.Sessions = ⊥
 Takes command.Run option.Address = ⊥
 Takes command.Run option.File = ⊥
 Takes command.Run option.At = ⊥
 Takes command.Run option.Form = ⊥
+Takes command.Run option.Seed = ⊥
+Takes command.Run option.Count = ⊥
 Takes command.Serve option.At = ⊥
+Takes command.Serve option.Seed = ⊥
+Takes command.Serve option.Count = ⊥
 Takes command.Audit option.Shards = ⊥
 Takes command.Audit option.Window = ⊥
 Takes command.Audit option.Limit = ⊥
 Takes command.Audit option.Sessions = ⊥
 Takes command.Audit option.Address = ⊥
 Takes command.Audit option.Form = ⊥
+Takes command.Audit option.Seed = ⊥
+Takes command.Audit option.Count = ⊥
 Takes command.Remote option.Shards = ⊥
 Takes command.Remote option.Window = ⊥
 Takes command.Remote option.Limit = ⊥
@@ -77,6 +86,13 @@ Takes command.Remote option.Sessions = ⊥
 Takes command.Remote option.File = ⊥
 Takes command.Remote option.At = ⊥
 Takes command.Remote option.Form = ⊥
+Takes command.Remote option.Seed = ⊥
+Takes command.Remote option.Count = ⊥
+Takes command.Load option.Sessions = ⊥
+Takes command.Load option.Address = ⊥
+Takes command.Load option.File = ⊥
+Takes command.Load option.At = ⊥
+Takes command.Load option.Form = ⊥
 Takes c o = Unit {0}
 
 -- ---- values
@@ -107,10 +123,23 @@ pub record Given : Type 0 where
   pub file : Option Word
   pub at : Option ℕ
   pub wire : Option Bool
+  pub seed : Option ℕ
+  pub count : Option ℕ
 
 -- no option is given
 abbrev pub nothing_given : Given
-nothing_given = record { shards = None; window = None; limit = None; sessions = None; address = None; file = None; at = None; wire = None }
+nothing_given = record {
+  shards = None;
+  window = None;
+  limit = None;
+  sessions = None;
+  address = None;
+  file = None;
+  at = None;
+  wire = None;
+  seed = None;
+  count = None;
+}
 
 -- An option is given that had not been, and its value is of its form.
 abbrev pub Gives : OptionName → Word → Given → Given → Type 0
@@ -122,6 +151,8 @@ Gives option.Address word old new = (old.address ≡ None) × IsPlace word × (n
 Gives option.File word old new = (old.file ≡ None) × IsPlace word × (new ≡ record old { file = Some word })
 Gives option.At word old new = (old.at ≡ None) × (n : ℕ) × IsNumber 0 MOST_AT word n × (new ≡ record old { at = Some n })
 Gives option.Form word old new = (old.wire ≡ None) × (wire : Bool) × (word ≡ form_word wire) × (new ≡ record old { wire = Some wire })
+Gives option.Seed word old new = (old.seed ≡ None) × (n : ℕ) × IsNumber 0 MOST_SEED word n × (new ≡ record old { seed = Some n })
+Gives option.Count word old new = (old.count ≡ None) × (n : ℕ) × IsNumber LEAST_COUNT MOST_COUNT word n × (new ≡ record old { count = Some n })
 
 -- An option is spelled by two words, its name and its value, or by one, with `=` between them.
 abbrev pub SpellsOption : OptionName → Word → List Word → List Word → Type 0
@@ -140,12 +171,13 @@ abbrev pub AreOptions : CommandName → ℕ → List Word → Given → Given �
 AreOptions c zero words old new = (words ≡ []) × (new ≡ old)
 AreOptions c (suc n) words old new = (rest : List Word) × (next : Given) × IsOption c words rest old next × AreOptions c n rest next new
 
--- nothing is missing: who serves has to be told where, so does who goes there, and who audits what
+-- nothing is missing: who serves has to be told where, so does who goes there, who audits what, and who loads both numbers
 abbrev pub IsWhole : CommandName → Given → Type 0
 IsWhole command.Run given = Unit {0}
 IsWhole command.Serve given = IsSome given.address
 IsWhole command.Audit given = IsSome given.file
 IsWhole command.Remote given = IsSome given.address
+IsWhole command.Load given = IsSome given.seed × IsSome given.count
 
 -- ---- forms
 
@@ -175,6 +207,7 @@ IsPlan command.Serve given (plan.Serve settings address sessions file wire) =
     × (wire ≡ unwrap_or given.wire false)
 IsPlan command.Audit given (plan.Audit file at) = (given.file ≡ Some file) × (at ≡ given.at)
 IsPlan command.Remote given (plan.Remote address) = given.address ≡ Some address
+IsPlan command.Load given (plan.Load settings seed count) = HasSettings given settings × (given.seed ≡ Some seed) × (given.count ≡ Some count)
 IsPlan c given p = ⊥
 
 -- The plan that words spell.

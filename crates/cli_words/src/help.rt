@@ -29,7 +29,7 @@ pub fn asked(words: &[&str]) -> Option<Question>
 }
 
 /// Commands as they are typed.
-const EXAMPLES: [&str; 7] = [
+const EXAMPLES: [&str; 8] = [
     "\nExamples:\n",
     "  diamond run < sale.txt\n",
     "  diamond serve --address 127.0.0.1:4000 --sessions 100\n",
@@ -37,11 +37,15 @@ const EXAMPLES: [&str; 7] = [
     "  diamond audit --file sale.journal --at 100\n",
     "  diamond serve --address 127.0.0.1:4001 --sessions 100 --form wire\n",
     "  diamond remote --address 127.0.0.1:4001 < session.txt\n",
+    "  diamond load --seed 1 --count 1000\n",
 ];
 
 /// What `remote` does, in a line.
 const REMOTE_DOES: &str =
     "Run a session, read from the input, over a store that is served elsewhere";
+
+/// What `load` does, in a line.
+const LOAD_DOES: &str = "Run the script that a number makes, and count what comes of it";
 
 /// How the program is used: its commands, the options of each, and examples.
 pub fn help_text(alloc: Global) -> Result<String, AllocError> {
@@ -54,6 +58,8 @@ pub fn help_text(alloc: Global) -> Result<String, AllocError> {
     text.push_str(audit(alloc)?.render_help()?.as_str())?;
     text.push_str("\n")?;
     text.push_str(remote(alloc)?.render_help()?.as_str())?;
+    text.push_str("\n")?;
+    text.push_str(load(alloc)?.render_help()?.as_str())?;
     for line in EXAMPLES {
         text.push_str(line)?;
     }
@@ -94,6 +100,7 @@ fn program<'a>(alloc: Global) -> Result<Command<'a>, AllocError> {
     .subcommand(bare(alloc, "serve", "Serve sessions at an address"))?
     .subcommand(bare(alloc, "audit", "Check the journal in a file"))?
     .subcommand(bare(alloc, "remote", REMOTE_DOES))?
+    .subcommand(bare(alloc, "load", LOAD_DOES))?
     .arg(flag(alloc, "help", "Print this"))?
     .arg(flag(alloc, "version", "Print the version"))
 }
@@ -184,4 +191,21 @@ fn remote<'a>(alloc: Global) -> Result<Command<'a>, AllocError> {
         "A",
         "Where a store is served with --form wire; it must be given",
     ))
+}
+
+fn load<'a>(alloc: Global) -> Result<Command<'a>, AllocError> {
+    let command = bare(alloc, "diamond load", LOAD_DOES)
+        .arg(option(
+            alloc,
+            "seed",
+            "S",
+            "The number that makes the script, from 0 to 65535; it must be given",
+        ))?
+        .arg(option(
+            alloc,
+            "count",
+            "C",
+            "How many rounds the script has, from 1 to 40000; it must be given",
+        ))?;
+    with_settings(alloc, command)
 }

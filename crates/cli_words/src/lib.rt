@@ -15,7 +15,9 @@ mod reading;
 mod refusal;
 
 pub use help::{Question, VERSION, asked, help_text};
-pub use limits::{LEAST_SESSIONS, MOST_AT, MOST_SESSIONS, STANDARD_SESSIONS};
+pub use limits::{
+    LEAST_COUNT, LEAST_SESSIONS, MOST_AT, MOST_COUNT, MOST_SEED, MOST_SESSIONS, STANDARD_SESSIONS,
+};
 pub use name::{CommandName, OptionName};
 pub use plan::Plan;
 pub use reading::{laws_of_words, read_words};

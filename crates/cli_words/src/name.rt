@@ -11,6 +11,7 @@ pub enum CommandName {
     Serve,
     Audit,
     Remote,
+    Load,
 }
 
 /// What can be told of a command.
@@ -24,18 +25,21 @@ pub enum OptionName {
     File,
     At,
     Form,
+    Seed,
+    Count,
 }
 
 /// All commands.
-pub(crate) const COMMANDS: [CommandName; 4] = [
+pub(crate) const COMMANDS: [CommandName; 5] = [
     CommandName::Run,
     CommandName::Serve,
     CommandName::Audit,
     CommandName::Remote,
+    CommandName::Load,
 ];
 
 /// All options.
-pub(crate) const OPTIONS: [OptionName; 8] = [
+pub(crate) const OPTIONS: [OptionName; 10] = [
     OptionName::Shards,
     OptionName::Window,
     OptionName::Limit,
@@ -44,6 +48,8 @@ pub(crate) const OPTIONS: [OptionName; 8] = [
     OptionName::File,
     OptionName::At,
     OptionName::Form,
+    OptionName::Seed,
+    OptionName::Count,
 ];
 
 impl CommandName {
@@ -56,6 +62,7 @@ impl CommandName {
             CommandName::Serve => "serve",
             CommandName::Audit => "audit",
             CommandName::Remote => "remote",
+            CommandName::Load => "load",
         }
     }
 
@@ -75,9 +82,10 @@ impl CommandName {
     {
         match self {
             CommandName::Run => option.is_setting(),
-            CommandName::Serve => option != OptionName::At,
+            CommandName::Serve => option != OptionName::At && !option.is_of_load(),
             CommandName::Audit => option == OptionName::File || option == OptionName::At,
             CommandName::Remote => option == OptionName::Address,
+            CommandName::Load => option.is_setting() || option.is_of_load(),
         }
     }
 }
@@ -96,6 +104,8 @@ impl OptionName {
             OptionName::File => "--file",
             OptionName::At => "--at",
             OptionName::Form => "--form",
+            OptionName::Seed => "--seed",
+            OptionName::Count => "--count",
         }
     }
 
@@ -105,6 +115,16 @@ impl OptionName {
     {
         match self {
             OptionName::Shards | OptionName::Window | OptionName::Limit => true,
+            _ => false,
+        }
+    }
+
+    /// Whether it is one of those that say which load is made.
+    fn is_of_load(self) -> bool
+        ensures { result ≡ spec.is_of_load self }
+    {
+        match self {
+            OptionName::Seed | OptionName::Count => true,
             _ => false,
         }
     }

@@ -5,7 +5,7 @@ ghost use Rattle.cli_words.specs.Forms.{nothing_given, HasSettings};
 ghost use Rattle.cli_words.specs.code.Reading as spec;
 ghost use Rattle.cli_words.specs.code.Answers.{Makes, Finds};
 
-use crate::limits::{LEAST_SESSIONS, MOST_AT, MOST_SESSIONS};
+use crate::limits::{LEAST_COUNT, LEAST_SESSIONS, MOST_AT, MOST_COUNT, MOST_SEED, MOST_SESSIONS};
 use crate::name::OptionName;
 use crate::number::number_within;
 use crate::refusal::Why;
@@ -28,6 +28,8 @@ pub(crate) struct Options {
     pub(crate) file: Option<Text>,
     pub(crate) at: Option<u64>,
     pub(crate) wire: Option<bool>,
+    pub(crate) seed: Option<u32>,
+    pub(crate) count: Option<u32>,
 }
 
 impl Model for Options {
@@ -47,6 +49,8 @@ impl Model for Options {
       file = o.file;
       at = o.at;
       wire = o.wire;
+      seed = o.seed;
+      count = o.count;
     } };
 
     ghost invariant = { λ o.
@@ -69,6 +73,8 @@ impl Options {
             file: None,
             at: None,
             wire: None,
+            seed: None,
+            count: None,
         }
     }
 
@@ -85,6 +91,8 @@ impl Options {
             OptionName::File => self.file.is_some(),
             OptionName::At => self.at.is_some(),
             OptionName::Form => self.wire.is_some(),
+            OptionName::Seed => self.seed.is_some(),
+            OptionName::Count => self.count.is_some(),
         }
     }
 
@@ -106,6 +114,8 @@ impl Options {
             OptionName::File => self.with_file(alloc, value),
             OptionName::At => self.with_at(value),
             OptionName::Form => self.with_form(value),
+            OptionName::Seed => self.with_seed(value),
+            OptionName::Count => self.with_count(value),
         }
     }
 
@@ -198,6 +208,30 @@ impl Options {
                 Ok(self)
             }
             None => Err(OrNoMemory::Cause(Why::NotAForm)),
+        }
+    }
+
+    fn with_seed(mut self, value: &str) -> Result<Options, OrNoMemory<Why>>
+        ensures { Makes result (spec.with_value OptionName.Seed value.now self) }
+    {
+        match number_between(0, u64::from(MOST_SEED), value) {
+            Ok(n) => {
+                self.seed = Some(n as u32);
+                Ok(self)
+            }
+            Err(why) => Err(OrNoMemory::Cause(why)),
+        }
+    }
+
+    fn with_count(mut self, value: &str) -> Result<Options, OrNoMemory<Why>>
+        ensures { Makes result (spec.with_value OptionName.Count value.now self) }
+    {
+        match number_between(u64::from(LEAST_COUNT), u64::from(MOST_COUNT), value) {
+            Ok(n) => {
+                self.count = Some(n as u32);
+                Ok(self)
+            }
+            Err(why) => Err(OrNoMemory::Cause(why)),
         }
     }
 

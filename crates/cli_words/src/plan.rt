@@ -26,4 +26,10 @@ pub enum Plan {
     Remote {
         address: Text,
     },
+    /// Run the script that a number makes, of so many rounds, over a store with these settings, and count what comes of it.
+    Load {
+        settings: Settings,
+        seed: u32,
+        count: u32,
+    },
 }

@@ -134,6 +134,23 @@ fn reaching(options: Options) -> Result<Plan, Missing>
     }
 }
 
+/// Which load is to be run, where both its numbers are told.
+fn loading(options: Options) -> Result<Plan, Missing>
+    ensures { Finishes (Reading.Ready CommandName.Load options) result }
+{
+    let settings = options.settings();
+    let Options { seed, count, .. } = options;
+    match (seed, count) {
+        (Some(seed), Some(count)) => Ok(Plan::Load {
+            settings,
+            seed,
+            count,
+        }),
+        (None, _) => Err(Missing::Option(OptionName::Seed)),
+        (_, None) => Err(Missing::Option(OptionName::Count)),
+    }
+}
+
 impl Reading {
     /// What a word makes of this.
     #[tactic(auto, unfolding(crate::specs::code::Reading::step))]
@@ -160,6 +177,7 @@ impl Reading {
             Reading::Ready(CommandName::Serve, options) => serving(options),
             Reading::Ready(CommandName::Audit, options) => auditing(options),
             Reading::Ready(CommandName::Remote, options) => reaching(options),
+            Reading::Ready(CommandName::Load, options) => loading(options),
         }
     }
 }

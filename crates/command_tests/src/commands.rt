@@ -77,7 +77,7 @@ fn faults_stop_a_run(rt: HostRuntime) {
 /// Words, the script, the status, and what is written.
 type Row = (&'static [&'static str], &'static [u8], u8, &'static [u8]);
 
-static WORDS: [Row; 12] = [
+static WORDS: [Row; 15] = [
     // Words that ask for nothing.
     (&[], LINE, BAD_WORDS, b""),
     (&["fly"], LINE, BAD_WORDS, b""),
@@ -103,6 +103,9 @@ static WORDS: [Row; 12] = [
         BAD_WORDS,
         b"",
     ),
+    (&["load"], LINE, BAD_WORDS, b""),
+    (&["load", "--seed", "1"], LINE, BAD_WORDS, b""),
+    (&["load", "--seed=1", "--count=0"], LINE, BAD_WORDS, b""),
     // Words that give the settings.
     (&["run", "--shards=4"], LINE, WHOLE, REPLY),
     (
@@ -132,6 +135,68 @@ fn words_ask_for_nothing_or_give_the_settings(rt: HostRuntime) {
         assert!(rt;
             ends_so(&rt, rt.alloc(), words, streams, script, *status, output),
             "row {number}"
+        );
+    }
+}
+
+/// The line of a small load.
+const SMALL: &[u8] = b"load 3 commits 5 aborts 1 runs 1 journal 5\n";
+
+/// The words of that load.
+const SMALL_WORDS: &[&str] = &["load", "--seed", "1", "--count", "3"];
+
+/// Loads, and their lines. These were reckoned by another program, which plays the scripts by the rules. One load comes twice.
+static LOADS: [(&[&str], &[u8]); 3] = [
+    (SMALL_WORDS, SMALL),
+    (
+        &["load", "--seed", "7", "--count", "2000"],
+        b"load 2000 commits 3505 aborts 495 runs 115 journal 3505\n",
+    ),
+    (
+        &["load", "--count=2000", "--seed=7"],
+        b"load 2000 commits 3505 aborts 495 runs 115 journal 3505\n",
+    ),
+];
+
+fn loads() -> &'static [(&'static [&'static str], &'static [u8])] {
+    &LOADS
+}
+
+#[test]
+fn loads_are_counted(rt: HostRuntime) {
+    // Nothing is read: a read would fail.
+    let streams = (1, 4096, [0].as_slice(), [].as_slice());
+    for (words, line) in loads() {
+        assert!(rt; ends_so(&rt, rt.alloc(), words, streams, LINE, WHOLE, line));
+    }
+}
+
+/// Which write or flush of the line fails, where it is written byte by byte, and what is written.
+static LOAD_FAULTS: [(&[u64], &[u8]); 3] = [
+    (&[0], b""),
+    (&[4], b"load"),
+    // The flush.
+    (&[43], SMALL),
+];
+
+fn load_faults() -> &'static [(&'static [u64], &'static [u8])] {
+    &LOAD_FAULTS
+}
+
+#[test]
+fn faults_stop_the_line_of_a_load(rt: HostRuntime) {
+    for (writes, output) in load_faults() {
+        let streams = (1, 1, [].as_slice(), *writes);
+        assert!(rt;
+            ends_so(
+                &rt,
+                rt.alloc(),
+                SMALL_WORDS,
+                streams,
+                LINE,
+                WRITE_FAULT,
+                output
+            )
         );
     }
 }

@@ -285,7 +285,7 @@ fn run<R: Threads + Wait + Sync>(
         return answer(rt, question);
     }
     match read_words(rt.alloc(), texts) {
-        Ok(Plan::Run(_)) => {
+        Ok(Plan::Run(_) | Plan::Load { .. }) => {
             command(
                 rt,
                 threads,

@@ -47,6 +47,12 @@ pub remotes-something : (words : List (Bor Word)) (p : Plan) (address : Word) �
     → AsksNothing words → ⊥
 remotes-something words p address spells is nothing = nothing.4 (address, plan-asks (texts words) p (plan.Remote address) spells is)
 
+-- or one for a load
+pub loads-something : (words : List (Bor Word)) (p : Plan) (settings : Settings) (seed count : ℕ) → Spells (texts words) p
+    → p ≡ plan.Load settings seed count → AsksNothing words → ⊥
+loads-something words p settings seed count spells is nothing =
+    nothing.5 (settings, seed, count, plan-asks (texts words) p (plan.Load settings seed count) spells is)
+
 -- a plan whose file is another's by name
 pub with-file : (p : Plan) (settings : Settings) (address : Word) (sessions : ℕ) (file other : Option Word) (wire : Bool)
     → p ≡ plan.Serve settings address sessions file wire → file ≡ other → p ≡ plan.Serve settings address sessions other wire
@@ -71,6 +77,7 @@ command_number command.Run = 0
 command_number command.Serve = 1
 command_number command.Audit = 2
 command_number command.Remote = 3
+command_number command.Load = 4
 
 -- and so their plans
 abbrev pub plan_number : Plan → ℕ
@@ -78,6 +85,7 @@ plan_number (plan.Run settings) = 0
 plan_number (plan.Serve settings address sessions file wire) = 1
 plan_number (plan.Audit path at) = 2
 plan_number (plan.Remote address) = 3
+plan_number (plan.Load settings seed count) = 4
 
 -- a plan is that of its command
 plan-number : (c : CommandName) (given : Given) (p : Plan) → IsPlan c given p → plan_number p ≡ command_number c
@@ -86,18 +94,27 @@ plan-number command.Run given (plan.Run settings) is = refl
 plan-number command.Run given (plan.Serve settings address sessions file wire) is = absurd is
 plan-number command.Run given (plan.Audit path at) is = absurd is
 plan-number command.Run given (plan.Remote address) is = absurd is
+plan-number command.Run given (plan.Load settings seed count) is = absurd is
 plan-number command.Serve given (plan.Run settings) is = absurd is
 plan-number command.Serve given (plan.Serve settings address sessions file wire) is = refl
 plan-number command.Serve given (plan.Audit path at) is = absurd is
 plan-number command.Serve given (plan.Remote address) is = absurd is
+plan-number command.Serve given (plan.Load settings seed count) is = absurd is
 plan-number command.Audit given (plan.Run settings) is = absurd is
 plan-number command.Audit given (plan.Serve settings address sessions file wire) is = absurd is
 plan-number command.Audit given (plan.Audit path at) is = refl
 plan-number command.Audit given (plan.Remote address) is = absurd is
+plan-number command.Audit given (plan.Load settings seed count) is = absurd is
 plan-number command.Remote given (plan.Run settings) is = absurd is
 plan-number command.Remote given (plan.Serve settings address sessions file wire) is = absurd is
 plan-number command.Remote given (plan.Audit path at) is = absurd is
 plan-number command.Remote given (plan.Remote address) is = refl
+plan-number command.Remote given (plan.Load settings seed count) is = absurd is
+plan-number command.Load given (plan.Run settings) is = absurd is
+plan-number command.Load given (plan.Serve settings address sessions file wire) is = absurd is
+plan-number command.Load given (plan.Audit path at) is = absurd is
+plan-number command.Load given (plan.Remote address) is = absurd is
+plan-number command.Load given (plan.Load settings seed count) is = refl
 
 -- WORDS ARE OF ONE COMMAND: they don't spell the plans of two.
 pub other-command : (words : List Word) (p q : Plan) → nat_eq (plan_number p) (plan_number q) ≡ false → Spells words p → Spells words q → ⊥
@@ -119,8 +136,10 @@ memory-no-file words settings own address there sessions many path wire other me
     by command.Run d g h one two e = one
     by command.Audit d g h one two e = one
     by command.Remote d g h one two e = one
+    by command.Load d g h one two e = one
     by command.Serve command.Run g h one two e = two
     by command.Serve command.Audit g h one two e = two
     by command.Serve command.Remote g h one two e = two
+    by command.Serve command.Load g h one two e = two
     by command.Serve command.Serve g h one two e =
         let no : ◌≡◌ {A = Option Word} None (Some path) = one.3 ∙ ap (λ (x : Given). x.file) e ∙ sym two.3 in absurd (cc no)

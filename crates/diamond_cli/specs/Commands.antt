@@ -7,8 +7,9 @@ use Rattle.rdt_types.specs.declared.limits.TheConstants.{STANDARD_SHARDS, STANDA
 use Rattle.rdt_types.specs.declared.settings.Settings.{Settings}
 use Rattle.cli_words.specs.Forms.{Word}
 use Rattle.script_runner.specs.Script.{Reading, Writing, KeepsPromises}
+use Rattle.load_runner.specs.Loads.{Loads}
 use Rattle.diamond_cli.specs.declared.top.TheConstants.{BAD_WORDS}
-use Rattle.diamond_cli.specs.Words.{AsksRunWith, AsksServeWith, AsksServeFileWith, AsksAuditWith, AsksRemoteWith}
+use Rattle.diamond_cli.specs.Words.{AsksRunWith, AsksServeWith, AsksServeFileWith, AsksAuditWith, AsksRemoteWith, AsksLoadWith}
 use Rattle.diamond_server.specs.Accounts.{Gatherings}
 use Rattle.diamond_server.specs.Promises.{sides}
 use Rattle.diamond_cli.specs.Serving.{promised_of, ServesLinks}
@@ -65,3 +66,11 @@ pub record Remotes {L : Type 0} (words : List (Bor Word)) (source : SourceTells 
   pub address : Word
   pub asked : AsksRemoteWith words address
   pub promises : Reaches (sides source sink) g status x y
+
+-- `load` keeps the promises of a load, with the settings and of the script that the words ask for.
+pub record LoadsScript (words : List (Bor Word)) (status : ℕ) (w : Writing) : Type 0 where
+  pub settings : Settings
+  pub seed : ℕ
+  pub count : ℕ
+  pub asked : AsksLoadWith words settings seed count
+  pub promises : Loads settings seed count status w

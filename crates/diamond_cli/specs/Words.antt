@@ -49,10 +49,19 @@ AsksRemoteWith words address = Spells (texts words) (plan.Remote address)
 abbrev pub AsksRemote : List (Bor Word) → Type 0
 AsksRemote words = (address : Word) × AsksRemoteWith words address
 
+-- they ask to run the script that a number makes, of so many rounds, over a store with these settings
+abbrev pub AsksLoadWith : List (Bor Word) → Settings → ℕ → ℕ → Type 0
+AsksLoadWith words settings seed count = Spells (texts words) (plan.Load settings seed count)
+
+-- they ask for a load
+abbrev pub AsksLoad : List (Bor Word) → Type 0
+AsksLoad words = (settings : Settings) × (seed : ℕ) × (count : ℕ) × AsksLoadWith words settings seed count
+
 -- they ask for nothing
 abbrev pub AsksNothing : List (Bor Word) → Type 0
 AsksNothing words =
     (AsksRun words → ⊥) × (AsksServe words → ⊥) × (AsksServeFile words → ⊥) × (AsksAudit words → ⊥) × (AsksRemote words → ⊥)
+    × (AsksLoad words → ⊥)
 
 -- `run` alone asks for a run, over a store with the standard settings
 run-spells : (settings : Settings) → HasSettings nothing_given settings → Spells (codes "run" ∷ []) (plan.Run settings)

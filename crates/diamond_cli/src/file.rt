@@ -18,13 +18,13 @@ use commit_file::RecoverError;
 use diamond_server::{Serves, SessionLines, Tally};
 use dio_core::{Disk, Listener, Sink};
 use journal_file::{CommitKeeper, Recovered, recover};
+use par_rerun::{NoMeet, Parallel};
 use rdt_types::Settings;
 use script_runner::NO_MEMORY;
 use std::alloc::{AllocError, Global};
 use std::sync::Wait;
 use std::thread::Threads;
 use txn_lang::CommitList;
-use watch_reruns::One;
 use wire_server::Requests;
 
 /// The disk failed while its file was recovered.
@@ -160,7 +160,8 @@ pub(crate) fn serve_file<W: Sink, D: Disk + Send, Li: Listener, R: Threads + Wai
             rt, alloc, settings, sessions, sink, disk, listener, &Requests,
         )
     } else {
-        let lines = SessionLines { reruns: &One };
+        let reruns = Parallel::new(rt, NoMeet);
+        let lines = SessionLines { reruns: &reruns };
         serve_way(rt, alloc, settings, sessions, sink, disk, listener, &lines)
     }
 }

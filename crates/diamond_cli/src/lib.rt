@@ -10,6 +10,7 @@ mod audited;
 mod file;
 mod line;
 mod remote;
+mod run;
 mod serve;
 mod sessions;
 mod top;

@@ -11,13 +11,13 @@ use crate::sessions::serve_kept;
 use diamond_server::{Serves, SessionLines};
 use dio_core::{Listener, Sink};
 use journal_core::MemKeep;
+use par_rerun::{NoMeet, Parallel};
 use rdt_types::Settings;
 use script_runner::NO_MEMORY;
 use std::alloc::{AllocError, Global};
 use std::sync::Wait;
 use std::thread::Threads;
 use txn_lang::CommitList;
-use watch_reruns::One;
 use wire_server::Requests;
 
 /// Serves, and answers the status, unless memory was wanting. Then nothing was written.
@@ -80,7 +80,8 @@ pub(crate) fn serve<W: Sink, Li: Listener, R: Threads + Wait + Sync>(
     if wire {
         serve_way(rt, alloc, settings, sessions, sink, listener, &Requests)
     } else {
-        let lines = SessionLines { reruns: &One };
+        let reruns = Parallel::new(rt, NoMeet);
+        let lines = SessionLines { reruns: &reruns };
         serve_way(rt, alloc, settings, sessions, sink, listener, &lines)
     }
 }

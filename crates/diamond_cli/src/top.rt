@@ -6,17 +6,19 @@ ghost use Rattle.script_runner.specs.Script.{reading, writing};
 ghost use Rattle.script_runner.specs.declared.status.TheConstants.{NO_MEMORY};
 ghost use Rattle.diamond_server.specs.Accounts.{gatherings};
 ghost use Rattle.remote_command.specs.Running.{ends};
-ghost use Rattle.diamond_cli.specs.Words.{AsksRun, AsksServe, AsksServeFile, AsksAudit, AsksRemote, AsksNothing};
+ghost use Rattle.diamond_cli.specs.Words.{AsksRun, AsksServe, AsksServeFile, AsksAudit, AsksRemote, AsksLoad, AsksNothing};
 ghost use Rattle.diamond_cli.specs.Filed.{storing};
-ghost use Rattle.diamond_cli.specs.Commands.{RunsScript, Serves, Files, AuditsFile, Remotes};
+ghost use Rattle.diamond_cli.specs.Commands.{RunsScript, Serves, Files, AuditsFile, Remotes, LoadsScript};
 
 use crate::audited::audit_file;
 use crate::file::serve_file;
 use crate::remote::remote;
+use crate::run::run;
 use crate::serve::serve;
 use cli_words::{Plan, WordsError, read_words};
 use dio_core::{Disk, Listener, Sink, Source};
-use script_runner::{NO_MEMORY, run_script};
+use load_runner::run_load;
+use script_runner::NO_MEMORY;
 use std::alloc::Global;
 use std::sync::Wait;
 use std::thread::Threads;
@@ -25,7 +27,7 @@ use std::thread::Threads;
 pub const BAD_WORDS: u8 = 1;
 
 /// Runs a command, and answers its status. The words don't include the program's name. What starts threads and waits
-/// comes first; `run` does neither.
+/// comes first; `run` doesn't wait for others, and starts threads where many watches are run anew.
 ///
 /// `run` reads a script from the source, and writes the replies to each line before it reads the next one. It uses
 /// neither disk nor listener. The statuses are 0 where the input was read to its end, 1 where the words ask for nothing,
@@ -48,6 +50,9 @@ pub const BAD_WORDS: u8 = 1;
 /// link, and writes the replies to the sink. The address is the listener's affair. It doesn't use the disk. The statuses are 0 where the
 /// input was read to its end or to a `quit`, 3, 4, 5 and 9 as of `run`, 6 where the link failed, 8 where the accept failed, 10 where
 /// what the link gave is no answer, and 12 where no link is left.
+///
+/// `load` runs the script that a number makes in memory, and writes to the sink one line of what came of it. It uses neither source,
+/// disk nor listener. The statuses are 0 where the line was written, 4 where a write or the flush failed, and 5 for want of memory.
 pub fn diamond<R: Threads + Wait + Sync, S: Source, W: Sink, D: Disk + Send, N: Listener>(
     rt: &R,
     alloc: Global,
@@ -90,9 +95,13 @@ pub fn diamond<R: Threads + Wait + Sync, S: Source, W: Sink, D: Disk + Send, N: 
     ensures remote { AsksRemote words.now → Remotes words.now N.Link.Source N.Link.Sink (gatherings N.Listener listener.old listener.new)
         result (ends S.Source W.Sink source.old sink.old) (ends S.Source W.Sink source.new sink.new) }
     ensures unused_by_remote { AsksRemote words.now → disk.new ≡ disk.old }
+
+    // `load` keeps what it promises of its line, and uses nothing but the sink.
+    ensures load { AsksLoad words.now → LoadsScript words.now result (writing W.Sink sink.old sink.new) }
+    ensures unused_by_load { AsksLoad words.now → (source.new ≡ source.old) × (disk.new ≡ disk.old) × (listener.new ≡ listener.old) }
 {
     match read_words(alloc, words) {
-        Ok(Plan::Run(settings)) => run_script(alloc, &settings, source, sink),
+        Ok(Plan::Run(settings)) => run(rt, alloc, &settings, source, sink),
         Ok(
             Plan::Serve {
                 settings,
@@ -107,6 +116,13 @@ pub fn diamond<R: Threads + Wait + Sync, S: Source, W: Sink, D: Disk + Send, N: 
         },
         Ok(Plan::Audit { at, .. }) => audit_file(alloc, at, sink, disk),
         Ok(Plan::Remote { .. }) => remote(alloc, source, sink, listener),
+        Ok(
+            Plan::Load {
+                settings,
+                seed,
+                count,
+            },
+        ) => run_load(alloc, &settings, seed, count, sink),
         Err(WordsError::BadWords(_)) => BAD_WORDS,
         Err(WordsError::NoMemory) => NO_MEMORY,
     }

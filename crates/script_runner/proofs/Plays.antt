@@ -3,7 +3,8 @@ use Rattle.std.proofs.Common.{◌≡◌, ℕ, suc, ◌+◌, ◌-◌, ◌≤◌, 
 use Rattle.std.proofs.Common.{◌∙◌, arith, append_assoc, length-append, fold, ◌⊎◌, inl, inr, subst}
 use Rattle.plain_data.specs.declared.or_no_memory.OrNoMemory.{OrNoMemory}
 use Rattle.plain_data.specs.declared.or_no_memory.OrNoMemory.TheVariants as stop
-use Rattle.std.specs.Prelude.{IfSome}
+use Rattle.std.specs.Prelude.{Result, IfSome, IfOk}
+use Rattle.std.specs.Result.{result_unwrap_or}
 use Rattle.std.proofs.lemmas.List.{append-nil, nil_from_length, take-append-drop, take_all, take_at}
 use Rattle.std.proofs.lemmas.List.Sums.{fold-append}
 use Rattle.dio_core.specs.declared.line.TheConstants.{LONGEST_RUN, NEWLINE}
@@ -21,8 +22,8 @@ use Rattle.txn_grammar.specs.Characters.{Text}
 use Rattle.script_runner.specs.declared.stop.Cause.{Cause}
 use Rattle.script_runner.specs.declared.stop.Cause.TheVariants as cause
 use Rattle.script_runner.specs.declared.stop.TheConstants.{MOST_LINES}
-use Rattle.script_runner.specs.Play.{ScriptWorld, Played, played, nothing_played, first_world, one_more, world_after, reply_to}
-use Rattle.script_runner.specs.Script.{IsPlayed, IsBrokenOff, HasTooManyLines, IsCutOff, IsCutOffBehindLine, HasPassedOn, Writing, writing, but_last}
+use Rattle.script_runner.specs.Play.{ScriptWorld, Played, played, play, nothing_played, first_world, one_more, world_after, reply_to}
+use Rattle.script_runner.specs.Script.{IsPlayed, IsBrokenOff, HasTooManyLines, IsCutOff, IsCutOffBehindLine, HasPassedOn, HasCommits, Writing, writing, but_last}
 use Rattle.script_runner.specs.code.Turns.{Moment, moment, DoesLine, BeginsLine, Turns, StopsReading, HasPlayed, Plays, Ran, StopsBetween}
 
 -- one more line, played after the others
@@ -110,10 +111,34 @@ module _ (settings : Settings) where
       }
 
   -- a turn that found no line
-  pub plays-ended : (n : ℕ) (left taken : Option Text) (now then : Moment) → n ≤ MOST_LINES → Plays settings n left taken now → Turns (Ok false) now then
-      → Ran settings (Ok tt) left taken then.left then.taken
-  plays-ended n left taken now then few past none =
+  pub plays-ended : {A : Type 0} (made : A) (n : ℕ) (left taken : Option Text) (now then : Moment) → n ≤ MOST_LINES → Plays settings n left taken now → Turns (Ok false) now then
+      → Ran settings (Ok made) left taken then.left then.taken
+  plays-ended made n left taken now then few past none =
       WhereTold-then left now.left then.left (λ all mid rest. ended n left taken now then all mid rest few none.1) past none.0
+
+  -- what the script has behind these lines is what the whole input leaves
+  all_played : (n : ℕ) (taken : Option Text) (now : Moment) (all mid rest : Text) → HasPlayed settings n taken now all mid
+      → (mid ≡ []) × (rest ≡ []) → now.world ≡ (play settings all).world
+  all_played n taken now all mid rest past none =
+      let read : lines all ≡ past.raws = past.read ∙ ap (λ bytes. past.raws ++ lines bytes) none.0 ∙ append-nil past.raws in
+      past.made ∙ ap (λ raws. (played settings raws).world) (sym read)
+
+  -- so the commits that it has are those that the input leaves
+  pub plays-counted : (n : ℕ) (left taken : Option Text) (now then : Moment) (number : Option ℕ) → Plays settings n left taken now
+      → Turns (Ok false) now then → IfSome number (λ k. k ≡ length now.world.store.journal) → IfSome left (HasCommits settings number)
+  plays-counted n left taken now then number past none counted = by left now.left then.left past none.0
+    where
+      count : (all : Text) → now.world ≡ (play settings all).world → (number : Option ℕ) → IfSome number (λ k. k ≡ length now.world.store.journal)
+          → HasCommits settings number all
+      count all is None counted = tt
+      count all is (Some k) counted = counted ∙ ap (λ (w : ScriptWorld). length w.store.journal) is
+
+      by : (x y z : Option Text) → WhereTold (HasPlayed settings n taken now) x y → WhereTold (λ all rest. (all ≡ []) × (rest ≡ [])) y z
+          → IfSome x (HasCommits settings number)
+      by None y z past none = tt
+      by (Some all) None z past none = absurd past
+      by (Some all) (Some mid) None past none = absurd none
+      by (Some all) (Some mid) (Some rest) past none = count all (all_played n taken now all mid rest past none) number counted
 
   -- a line was begun behind these, and nothing more was written
   broken : (n k : ℕ) (left taken : Option Text) (now then : Moment) (all mid rest : Text) → n ≤ MOST_LINES → k < LONGEST_RUN → then.taken ≡ now.taken
@@ -169,37 +194,37 @@ module _ (settings : Settings) where
       }
 
   -- a line broke off behind these
-  stopped_reading : (n : ℕ) (left taken : Option Text) (now then : Moment) → n ≤ MOST_LINES → Plays settings n left taken now → then.taken ≡ now.taken
-      → (e : OrNoMemory Cause) → StopsReading e now.left then.left → Ran settings (Err e) left taken then.left then.taken
-  stopped_reading n left taken now then few past same (stop.Cause cause.ReadFault) off =
+  stopped_reading : (A : Type 0) (n : ℕ) (left taken : Option Text) (now then : Moment) → n ≤ MOST_LINES → Plays settings n left taken now → then.taken ≡ now.taken
+      → (e : OrNoMemory Cause) → StopsReading e now.left then.left → Ran {A = A} settings (Err e) left taken then.left then.taken
+  stopped_reading A n left taken now then few past same (stop.Cause cause.ReadFault) off =
       WhereTold-then left now.left then.left (λ all mid rest. broken n off.0 left taken now then all mid rest few off.2 same) past off.3
-  stopped_reading n left taken now then few past same (stop.Cause cause.WriteFault) off = absurd off
-  stopped_reading n left taken now then few past same (stop.Cause cause.TooManyLines) off = absurd off
-  stopped_reading n left taken now then few past same stop.NoMemory off =
+  stopped_reading A n left taken now then few past same (stop.Cause cause.WriteFault) off = absurd off
+  stopped_reading A n left taken now then few past same (stop.Cause cause.TooManyLines) off = absurd off
+  stopped_reading A n left taken now then few past same stop.NoMemory off =
       WhereTold-then left now.left then.left
       (λ all mid rest played begun. cut_broken taken then.taken all rest
       (broken n off.0 left taken now then all mid rest few off.2 same played begun))
       past off.3
 
   -- a turn that stopped
-  pub plays-stopped : (n : ℕ) (left taken : Option Text) (now then : Moment) → n < MOST_LINES → Plays settings n left taken now → (e : OrNoMemory Cause)
-      → Turns (Err e) now then → Ran settings (Err e) left taken then.left then.taken
+  pub plays-stopped : (A : Type 0) (n : ℕ) (left taken : Option Text) (now then : Moment) → n < MOST_LINES → Plays settings n left taken now → (e : OrNoMemory Cause)
+      → Turns (Err e) now then → Ran {A = A} settings (Err e) left taken then.left then.taken
   unfolding cut_begun
-  plays-stopped n left taken now then few past (stop.Cause cause.ReadFault) turn =
-      stopped_reading n left taken now then (omega arith) past turn.1 (stop.Cause cause.ReadFault) turn.0
-  plays-stopped n left taken now then few past (stop.Cause cause.WriteFault) turn =
+  plays-stopped A n left taken now then few past (stop.Cause cause.ReadFault) turn =
+      stopped_reading A n left taken now then (omega arith) past turn.1 (stop.Cause cause.ReadFault) turn.0
+  plays-stopped A n left taken now then few past (stop.Cause cause.WriteFault) turn =
       WhereTold-then left now.left then.left
       (λ all mid rest played line. (cut_begun n left taken now then all mid rest few played line, refl)) past turn
-  plays-stopped n left taken now then few past (stop.Cause cause.TooManyLines) turn = absurd turn
-  plays-stopped n left taken now then few past stop.NoMemory (inl off) = stopped_reading n left taken now then
+  plays-stopped A n left taken now then few past (stop.Cause cause.TooManyLines) turn = absurd turn
+  plays-stopped A n left taken now then few past stop.NoMemory (inl off) = stopped_reading A n left taken now then
       (omega arith) past off.1 stop.NoMemory off.0
-  plays-stopped n left taken now then few past stop.NoMemory (inr line) =
+  plays-stopped A n left taken now then few past stop.NoMemory (inr line) =
       WhereTold-then left now.left then.left (λ all mid rest. cut_begun n left taken now then all mid rest few) past line
 
   -- a line broke off behind the last one that may be read
-  pub plays-unread : (n : ℕ) (left taken : Option Text) (now then : Moment) → n ≤ MOST_LINES → Plays settings n left taken now → then.taken ≡ now.taken
-      → (e : OrNoMemory Cause) → StopsReading e now.left then.left → Ran settings (Err e) left taken then.left then.taken
-  plays-unread n left taken now then few past same e off = stopped_reading n left taken now then few past same e off
+  pub plays-unread : (A : Type 0) (n : ℕ) (left taken : Option Text) (now then : Moment) → n ≤ MOST_LINES → Plays settings n left taken now → then.taken ≡ now.taken
+      → (e : OrNoMemory Cause) → StopsReading e now.left then.left → Ran {A = A} settings (Err e) left taken then.left then.taken
+  plays-unread A n left taken now then few past same e off = stopped_reading A n left taken now then few past same e off
 
   -- a line behind the last one that may be read
   one_too_many : (n : ℕ) (left taken : Option Text) (now then : Moment) (l : Line) (all mid rest : Text) → n ≡ MOST_LINES → then.taken ≡ now.taken
@@ -222,9 +247,9 @@ module _ (settings : Settings) where
   }
 
   -- where the source tells its bytes
-  pub plays-too_many : (n : ℕ) (left taken : Option Text) (now then : Moment) (l : Line) → n ≡ MOST_LINES → then.taken ≡ now.taken → (l ≡ line.End → ⊥)
-      → Plays settings n left taken now → TakesLine l now.left then.left → Ran settings (Err (stop.Cause cause.TooManyLines)) left taken then.left then.taken
-  plays-too_many n left taken now then l most same some =
+  pub plays-too_many : (A : Type 0) (n : ℕ) (left taken : Option Text) (now then : Moment) (l : Line) → n ≡ MOST_LINES → then.taken ≡ now.taken → (l ≡ line.End → ⊥)
+      → Plays settings n left taken now → TakesLine l now.left then.left → Ran {A = A} settings (Err (stop.Cause cause.TooManyLines)) left taken then.left then.taken
+  plays-too_many A n left taken now then l most same some =
       WhereTold-then left now.left then.left (λ all mid rest. one_too_many n left taken now then l all mid rest most same some)
 
 -- a run whose flush failed at the end is cut off behind the last line
@@ -288,11 +313,20 @@ lines-between settings n left now w past same passed = by left now.left past pas
         record { answered = past.raws; behind = mid; read = past.read; output = sym same ∙ past.output; passed = inr passed }
 
 -- a run that stops for want of memory has written nothing since its last answer
-pub stops-between : (settings : Settings) {W : Type 0} (told : SinkTells W) (n : ℕ) (left : Option Text) (now : Moment) (first last then : W)
+pub stops-between : (A : Type 0) (settings : Settings) {W : Type 0} (told : SinkTells W) (n : ℕ) (left : Option Text) (now : Moment) (first last then : W)
     → Plays settings n left (told.taken first) now → now.taken ≡ told.taken last
     → (n ≡ 0) ⊎ (IsAhead NEWLINE now.left ⊎ IsPassedOn (told.taken last) (told.passed last))
-    → (e : OrNoMemory Cause) → (e ≡ stop.NoMemory → then ≡ last) → StopsBetween settings (Err e) left (writing told first then)
-stops-between settings {W} told n left now first last then past same passed (stop.Cause cause) wrote = tt
-stops-between settings {W} told n left now first last then past same passed stop.NoMemory wrote =
+    → (e : OrNoMemory Cause) → (e ≡ stop.NoMemory → then ≡ last) → StopsBetween {A = A} settings (Err e) left (writing told first then)
+stops-between A settings {W} told n left now first last then past same passed (stop.Cause cause) wrote = tt
+stops-between A settings {W} told n left now first last then past same passed stop.NoMemory wrote =
     subst (λ (x : W). IfSome left (HasPassedOn settings (writing told first x))) (sym (wrote refl))
     (lines-between settings n left now (writing told first last) past same passed)
+
+-- ---- how many commits were made
+
+-- what a run whose lines ended so answers of that
+pub counted-end : (settings : Settings) (left : Option Text) (ended : Result (Option ℕ) (OrNoMemory Cause)) (number : Option ℕ)
+    → IfOk ended (λ n. IfSome left (HasCommits settings n)) → number ≡ result_unwrap_or ended None → IfSome left (HasCommits settings number)
+counted-end settings left (Ok n) number counted is = subst (λ (m : Option ℕ). IfSome left (HasCommits settings m)) (sym is) counted
+counted-end settings None (Err e) number counted is = tt
+counted-end settings (Some all) (Err e) number counted is = subst (λ (m : Option ℕ). HasCommits settings m all) (sym is) tt

@@ -90,11 +90,11 @@ module _ (settings : Settings) (r : Reading) (w : Writing) where
       at s is = subst Says is says
 
   -- how the lines ended and what the end of the run then did, from what had been taken and counted after the lines
-  abbrev Closed : Result (Unit {0}) (OrNoMemory Cause) → ℕ → Option Text → ℕ → Type 0
+  abbrev Closed : {A : Type 0} → Result A (OrNoMemory Cause) → ℕ → Option Text → ℕ → Type 0
   Closed ended status taken faults = Closes ended status (record w { taken = taken; faults = faults })
 
   -- A run keeps its promises, however its lines ended.
-  pub keeps_promises : (ended : Result (Unit {0}) (OrNoMemory Cause)) (status : ℕ) (taken : Option Text) (faults : ℕ)
+  pub keeps_promises : {A : Type 0} (ended : Result A (OrNoMemory Cause)) (status : ℕ) (taken : Option Text) (faults : ℕ)
       → WhereTold (Ends settings ended w.taken w.taken_then) r.left r.left_then
       → IsCounted (read_stopped ended) r.faults r.faults_then → IsCounted (write_stopped ended) w.faults faults
       → Closed ended status taken faults → (ended ≡ Err stop.NoMemory → IfSome r.left (HasPassedOn settings w)) → KeepsPromises settings status r w
@@ -130,7 +130,7 @@ pub unstarted : (settings : Settings) (left taken passed : Option Text) (reads w
 unstarted settings left taken passed reads writes = keeps_promises settings
     (record { left = left; left_then = left; faults = reads; faults_then = reads })
     (record { taken = taken; taken_then = taken; passed_then = passed; faults = writes; faults_then = writes })
-    (Err stop.NoMemory) NO_MEMORY taken writes (cut_unread settings left taken) refl refl (refl, refl) (λ is. unread-between settings left _ refl)
+    {A = Option ℕ} (Err stop.NoMemory) NO_MEMORY taken writes (cut_unread settings left taken) refl refl (refl, refl) (λ is. unread-between settings left _ refl)
 
 -- the status of the words is none of a run's
 pub no-words-status : (settings : Settings) (status : ℕ) (r : Reading) (w : Writing) → KeepsPromises settings status r w → status ≡ 1 → ⊥

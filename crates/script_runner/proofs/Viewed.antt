@@ -1,8 +1,8 @@
 -- A session's line over a client's view comes to what its program is played to.
-use Rattle.std.proofs.Common.{◌≡◌, ℕ, Some, refl, ◌∙◌, subst}
+use Rattle.std.proofs.Common.{◌≡◌, ℕ, length, Some, refl, ap, ◌∙◌, subst}
 use Rattle.docc_prepare.specs.Calls.{Known, Call, Answer}
 use Rattle.docc_prepare.specs.Backends.{Goes}
-use Rattle.docc_prepare.specs.Stores.{Does, IsSound, known_by}
+use Rattle.docc_prepare.specs.Stores.{Store, Does, IsSound, known_by}
 use Rattle.local_world.specs.Stored.{store_of}
 use Rattle.local_world.specs.declared.view.View.{View}
 use Rattle.call_programs.specs.Programs.{Program, Leads}
@@ -35,3 +35,8 @@ pub view-played : (b c : View) (session next : Session) (line : Line) (turn : Tu
     → Leads (Goes known goes) b (line_over (known b) session line) c (Program.ends (next, turn))
     → play_line b.client (store_of b.world.now) session line ≡ (Some (next, turn), store_of c.world.now)
 view-played b c session next line turn led = played b.client (led-by-steps b.client refl led)
+
+-- and who learns the journal's length by a call of a view is told that of its store
+pub refreshed : (b c : View) (n : ℕ) → Goes known goes b Call.refresh (Answer.number n) c → n ≡ length (store_of b.world.now).journal
+refreshed b c n learnt =
+    let told : Answer.number n ≡ Answer.number (length (store_of b.world.now).journal) = ap (λ (p : Store × Answer). p.1) learnt.step.1 in cc

@@ -219,6 +219,10 @@ played settings raws = fold one_more (nothing_played settings) raws
 abbrev pub play : Settings → Text → Played
 play settings bytes = played settings (lines bytes)
 
+-- how many commits it leaves
+abbrev pub commits_left : Settings → Text → ℕ
+commits_left settings bytes = length (play settings bytes).world.store.journal
+
 -- ---- worked lines
 
 -- a reply to nobody's line
@@ -256,3 +260,7 @@ idle-is-told client = refl
 -- who quits has no session any more
 quit-ends : (asked_line 5 here (first_session 5) asks.Quit).session ≡ None
 quit-ends = refl
+
+-- a script without lines leaves no commit
+none-left : (settings : Settings) → commits_left settings [] ≡ 0
+none-left settings = refl

@@ -14,7 +14,7 @@ use Rattle.txn_grammar.specs.Characters.{Text}
 use Rattle.txn_lang.specs.Journals.{IsLegal}
 use Rattle.script_runner.specs.declared.status.TheConstants.{WHOLE, READ_FAULT, WRITE_FAULT, NO_MEMORY, TOO_MANY_LINES}
 use Rattle.script_runner.specs.declared.stop.TheConstants.{MOST_LINES}
-use Rattle.script_runner.specs.Play.{played, play}
+use Rattle.script_runner.specs.Play.{played, play, commits_left}
 use Rattle.script_runner.specs.Explained.{ExplainsScript}
 
 -- ---- the limits and the statuses
@@ -152,3 +152,9 @@ pub record KeepsPromises (settings : Settings) (status : ℕ) (r : Reading) (w :
   pub completes : (all : Text) → r.left ≡ Some all → length (lines all) ≤ MOST_LINES → ¬ (Rose r.faults r.faults_then)
       → ¬ (Rose w.faults w.faults_then)
       → (status ≡ WHOLE) ⊎ (status ≡ NO_MEMORY)
+
+-- ---- how many commits were made
+
+-- a number, where one is answered, is that of the commits that the whole input leaves
+abbrev pub HasCommits : Settings → Option ℕ → Text → Type 0
+HasCommits settings number all = IfSome number (λ n. n ≡ commits_left settings all)

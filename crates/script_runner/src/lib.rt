@@ -16,7 +16,7 @@ mod words;
 mod world;
 
 pub use laws::{lines_are_over, lines_have_entries, scripts_stand};
-pub use script::{run_script, run_script_by};
+pub use script::{run_counted, run_script, run_script_by};
 pub use status::{NO_MEMORY, READ_FAULT, TOO_MANY_LINES, WHOLE, WRITE_FAULT};
 pub use stop::MOST_LINES;
 pub use words::LAST_CLIENT;

@@ -1,6 +1,6 @@
 //! A script: its lines are read, done and answered, one after another.
 
-ghost use Rattle.std.specs.Prelude.{◌≡◌, ◌⊎◌, not, true, Ok, Err, IfOk, IfErr, OnOk};
+ghost use Rattle.std.specs.Prelude.{◌≡◌, ◌⊎◌, not, true, false, length, Ok, Err, IfOk, IfErr, IfSome, OnOk};
 ghost use Rattle.std.specs.Bool.{OnTrue};
 ghost use Rattle.dio_core.specs.Counts.{IsCounted};
 ghost use Rattle.dio_core.specs.Lines.{TakesLine, IsShort};
@@ -8,13 +8,13 @@ ghost use Rattle.dio_core.specs.Sinks.{IsPassedOn};
 ghost use Rattle.dio_core.specs.Sources.{IsAhead};
 ghost use Rattle.plain_data.specs.declared.or_no_memory.OrNoMemory.TheVariants as stop;
 ghost use Rattle.script_runner.specs.Worlds.{world_of, Stands};
-ghost use Rattle.script_runner.specs.Script.{reading, writing, TriesFlush, KeepsPromises};
+ghost use Rattle.script_runner.specs.Script.{reading, writing, TriesFlush, KeepsPromises, HasCommits};
 ghost use Rattle.script_runner.specs.code.Turns.{moment, read_stopped, write_stopped, StopsReading, Turns, Ran, StopsBetween, Closes};
 
 use crate::lines::answer;
 use crate::status::{NO_MEMORY, READ_FAULT, TOO_MANY_LINES, WHOLE, WRITE_FAULT};
 use crate::stop::{Cause, MOST_LINES, Stop};
-use crate::world::Script;
+use crate::world::{Script, commits_in};
 use dio_core::{Line, LineFault, NEWLINE, Sink, Source, next_line, write_all};
 use plain_data::{OrNoMemory, Text};
 use rdt_types::Settings;
@@ -60,6 +60,7 @@ fn turn<S: Source, W: Sink, R: Rerunner>(
         (moment (world_of script.new) (S.left source.new) (W.taken sink.new)) }
     ensures stands { OnOk result (Stands (world_of script.new)) }
     ensures passed { result ≡ Ok true → IsAhead NEWLINE (S.left source.new) ⊎ IsPassedOn (W.taken sink.new) (W.passed sink.new) }
+    ensures idle { result ≡ Ok false → world_of script.new ≡ world_of script.old }
     ensures wanting { result ≡ Err stop.NoMemory → sink.new ≡ sink.old }
     ensures reads { IsCounted (read_stopped result) (S.read_faults source.old) (S.read_faults source.new) }
     ensures writes { IsCounted (write_stopped result) (W.write_faults sink.old) (W.write_faults sink.new) }
@@ -77,16 +78,17 @@ fn turn<S: Source, W: Sink, R: Rerunner>(
     }
 }
 
-/// Reads, does and answers the lines of the source to its end.
+/// Reads, does and answers the lines of the source to its end. It answers how many commits there are then.
 fn run_lines<S: Source, W: Sink, R: Rerunner>(
     alloc: Global,
     reruns: &R,
     settings: &Settings,
     source: &mut S,
     sink: &mut W,
-) -> Result<(), Stop>
+) -> Result<Option<u64>, Stop>
     ensures ran { Ran settings.now result (S.left source.old) (W.taken sink.old) (S.left source.new) (W.taken sink.new) }
     ensures between { StopsBetween settings.now result (S.left source.old) (writing W.Sink sink.old sink.new) }
+    ensures commits { IfOk result (λ number. IfSome (S.left source.old) (HasCommits settings.now number)) }
     ensures reads { IsCounted (read_stopped result) (S.read_faults source.old) (S.read_faults source.new) }
     ensures writes { IsCounted (write_stopped result) (W.write_faults sink.old) (W.write_faults sink.new) }
 {
@@ -94,20 +96,23 @@ fn run_lines<S: Source, W: Sink, R: Rerunner>(
     let mut reply = Text::new(alloc);
     for _ in 0..MOST_LINES {
         if !turn(alloc, reruns, &mut script, &mut reply, source, sink)? {
-            leave(script);
-            return Ok(());
+            return Ok(commits_of(script));
         }
     }
     match read_line(alloc, source)? {
-        Line::End => Ok(()),
+        Line::End => Ok(commits_of(script)),
         _ => Err(OrNoMemory::Cause(Cause::TooManyLines)),
     }
 }
 
-/// Leaves what a script has to the end of the process, which comes with the end of the run: to take its store apart, value by
-/// value, would cost a tenth of the run.
-fn leave(script: Script) {
+/// How many commits a script has made, unless memory is wanting for the answer. What it has is left to the end of the process, which
+/// comes with the end of the run: to take its store apart, value by value, would cost a tenth of the run.
+fn commits_of(mut script: Script) -> Option<u64>
+    ensures { IfSome result (λ n. n ≡ length (world_of script).store.journal) }
+{
+    let commits = commits_in(&mut script.world);
     let _left = ManuallyDrop::new(script);
+    commits
 }
 
 /// Runs a script: each line is read, done and answered before the next one is read. It answers a status. The sink is flushed
@@ -138,18 +143,35 @@ pub fn run_script_by<S: Source, W: Sink, R: Rerunner>(
     ensures { KeepsPromises settings.now result (reading S.Source source.old source.new)
         (writing W.Sink sink.old sink.new) }
 {
+    run_counted(alloc, settings, source, sink, reruns).0
+}
+
+/// The same. Where the input was read to its end, it answers besides how many commits the script made, unless memory is wanting
+/// for that.
+pub fn run_counted<S: Source, W: Sink, R: Rerunner>(
+    alloc: Global,
+    settings: &Settings,
+    source: &mut S,
+    sink: &mut W,
+    reruns: &R,
+) -> (u8, Option<u64>)
+    ensures keeps { KeepsPromises settings.now result.0 (reading S.Source source.old source.new)
+        (writing W.Sink sink.old sink.new) }
+    ensures commits { IfSome (S.left source.old) (HasCommits settings.now result.1) }
+{
     let ended = run_lines(alloc, reruns, settings, source, sink);
-    close(sink, ended)
+    let commits = ended.unwrap_or(None);
+    (close(sink, ended), commits)
 }
 
 /// Ends a run whose lines ended so: it flushes the sink, unless a write or memory has failed, and answers the status.
-fn close<W: Sink>(sink: &mut W, ended: Result<(), Stop>) -> u8
+fn close<W: Sink>(sink: &mut W, ended: Result<Option<u64>, Stop>) -> u8
     ensures taken { W.taken sink.new ≡ W.taken sink.old }
     ensures wanting { ended ≡ Err stop.NoMemory → sink.new ≡ sink.old }
     ensures closes { Closes ended result (writing W.Sink sink.old sink.new) }
 {
     match ended {
-        Ok(()) => { if sink.flush() { WHOLE } else { WRITE_FAULT } }
+        Ok(_) => { if sink.flush() { WHOLE } else { WRITE_FAULT } }
         Err(OrNoMemory::NoMemory) => NO_MEMORY,
         Err(OrNoMemory::Cause(Cause::WriteFault)) => WRITE_FAULT,
         Err(OrNoMemory::Cause(Cause::ReadFault)) => flushed(sink, READ_FAULT),

@@ -1,12 +1,14 @@
 //! What a script has: the world of one thread, and a session for each client.
 
-ghost use Rattle.std.specs.Prelude.{◌≡◌, IfOk};
+ghost use Rattle.std.specs.Prelude.{◌≡◌, length, IfOk, IfSome};
 ghost use Rattle.docc_prepare.specs.declared.limits.TheConstants.{CLIENTS};
+ghost use Rattle.local_world.specs.Stored.{store_of};
 ghost use Rattle.script_runner.specs.Play as spec;
 ghost use Rattle.script_runner.specs.Worlds.{world_of, Stands};
 
 use crate::words::LAST_CLIENT;
-use local_world::World;
+use docc_prepare::Backend;
+use local_world::{View, World};
 use rdt_types::Settings;
 use session_core::Session;
 use std::alloc::{AllocError, Global};
@@ -40,4 +42,15 @@ fn first_sessions(alloc: Global) -> Result<Vec<Option<Session>>, AllocError>
         sessions.push(Some(Session::new(alloc, client, 0)))?;
     }
     Ok(sessions)
+}
+
+/// How many commits a world has, unless memory is wanting for the answer.
+pub fn commits_in(world: &mut World) -> Option<u64>
+    ensures { IfSome result (λ n. n ≡ length (store_of world.old).journal) }
+{
+    let mut view = View { world, client: 0 };
+    match view.refresh() {
+        Ok(number) => Some(number),
+        Err(_) => None,
+    }
 }

@@ -67,6 +67,15 @@ fn push_plan(out: &mut Text, plan: &Plan) -> Result<(), AllocError> {
             out.extend_from_slice(b"remote --address ")?;
             Ok(out.extend_from_slice(address.as_slice())?)
         }
+        Plan::Load {
+            settings,
+            seed,
+            count,
+        } => {
+            push_option(out, b"load --seed ", u64::from(*seed))?;
+            push_option(out, b" --count ", u64::from(*count))?;
+            push_settings(out, settings)
+        }
     }
 }
 

@@ -33,6 +33,8 @@ fn names_all(text: &str) -> bool {
         OptionName::File,
         OptionName::At,
         OptionName::Form,
+        OptionName::Seed,
+        OptionName::Count,
     ] {
         if !helps(text, &[option.word()]) {
             return false;
@@ -45,6 +47,7 @@ fn names_all(text: &str) -> bool {
             CommandName::Serve.word(),
             CommandName::Audit.word(),
             CommandName::Remote.word(),
+            CommandName::Load.word(),
             "--help",
             "--version",
         ],

@@ -6,7 +6,7 @@ use Rattle.std.specs.List.{find, position_or_len, before_first, after_first}
 use Rattle.std.specs.Str.{bytes_eq, all_ascii_digits}
 use Rattle.std.specs.Str.Parse.{digits_value}
 use Rattle.rdt_types.specs.declared.limits.TheConstants.{LEAST_SHARDS, MOST_SHARDS, LEAST_WINDOW, MOST_WINDOW, LEAST_COMMITS, MOST_COMMITS}
-use Rattle.cli_words.specs.declared.limits.TheConstants.{LEAST_SESSIONS, MOST_SESSIONS, MOST_AT}
+use Rattle.cli_words.specs.declared.limits.TheConstants.{LEAST_SESSIONS, MOST_SESSIONS, MOST_AT, MOST_SEED, LEAST_COUNT, MOST_COUNT}
 use Rattle.cli_words.specs.declared.name.CommandName.{CommandName}
 use Rattle.cli_words.specs.declared.name.CommandName.TheVariants as command
 use Rattle.cli_words.specs.declared.name.OptionName.{OptionName}
@@ -36,15 +36,22 @@ is_setting option.Window = true
 is_setting option.Limit = true
 is_setting o = false
 
+-- one of those that say which load is made
+abbrev pub is_of_load : OptionName → Bool
+is_of_load option.Seed = true
+is_of_load option.Count = true
+is_of_load o = false
+
 abbrev pub takes : CommandName → OptionName → Bool
 takes command.Run o = is_setting o
 takes command.Serve option.At = false
-takes command.Serve o = true
+takes command.Serve o = not (is_of_load o)
 takes command.Audit option.File = true
 takes command.Audit option.At = true
 takes command.Audit o = false
 takes command.Remote option.Address = true
 takes command.Remote o = false
+takes command.Load o = is_setting o || is_of_load o
 
 -- ---- numbers
 
@@ -79,6 +86,8 @@ is_given option.Address given = is_some given.address
 is_given option.File given = is_some given.file
 is_given option.At given = is_some given.at
 is_given option.Form given = is_some given.wire
+is_given option.Seed given = is_some given.seed
+is_given option.Count given = is_some given.count
 
 -- a number is put in its place, or is none within the limits
 abbrev pub put_number : ℕ → ℕ → (ℕ → Given) → Option ℕ → Result Given Why
@@ -116,6 +125,9 @@ with_value option.Address word given = put_place why.NotAnAddress (record given 
 with_value option.File word given = put_place why.NotAPath (record given { file = Some word }) (is_place word)
 with_value option.At word given = put_number 0 MOST_AT (λ n. record given { at = Some n }) (number_within 0 MOST_AT word)
 with_value option.Form word given = put_form (λ wire. record given { wire = Some wire }) (wire_named word)
+with_value option.Seed word given = put_number 0 MOST_SEED (λ n. record given { seed = Some n }) (number_within 0 MOST_SEED word)
+with_value option.Count word given =
+    put_number LEAST_COUNT MOST_COUNT (λ n. record given { count = Some n }) (number_within LEAST_COUNT MOST_COUNT word)
 
 -- ---- words
 
@@ -177,6 +189,8 @@ missing_of (reading.Ready command.Run given) = None
 missing_of (reading.Ready command.Serve given) = if is_some given.address then None else Some (missing.Option option.Address)
 missing_of (reading.Ready command.Audit given) = if is_some given.file then None else Some (missing.Option option.File)
 missing_of (reading.Ready command.Remote given) = if is_some given.address then None else Some (missing.Option option.Address)
+missing_of (reading.Ready command.Load given) =
+    if is_some given.seed then (if is_some given.count then None else Some (missing.Option option.Count)) else Some (missing.Option option.Seed)
 
 -- ---- worked lines
 

@@ -88,7 +88,7 @@ abbrev pub Plays : Settings → ℕ → Option Text → Option Text → Moment �
 Plays settings count left taken now = WhereTold (HasPlayed settings count taken now) left now.left
 
 -- how a run ended
-abbrev pub Ends : Settings → Result (Unit {0}) (OrNoMemory Cause) → Option Text → Option Text → Text → Text → Type 0
+abbrev pub Ends : {A : Type 0} → Settings → Result A (OrNoMemory Cause) → Option Text → Option Text → Text → Text → Type 0
 Ends settings (Ok done) taken taken_then = IsPlayed settings taken taken_then
 Ends settings (Err (stop.Cause cause.ReadFault)) taken taken_then = IsBrokenOff settings taken taken_then
 Ends settings (Err (stop.Cause cause.TooManyLines)) taken taken_then = HasTooManyLines settings taken taken_then
@@ -96,11 +96,11 @@ Ends settings (Err (stop.Cause cause.WriteFault)) taken taken_then = IsCutOffBeh
 Ends settings (Err stop.NoMemory) taken taken_then = IsCutOff settings taken taken_then
 
 -- what a run did, of a source that may not tell what it has left
-abbrev pub Ran : Settings → Result (Unit {0}) (OrNoMemory Cause) → Option Text → Option Text → Option Text → Option Text → Type 0
+abbrev pub Ran : {A : Type 0} → Settings → Result A (OrNoMemory Cause) → Option Text → Option Text → Option Text → Option Text → Type 0
 Ran settings result left taken left_then taken_then = WhereTold (Ends settings result taken taken_then) left left_then
 
 -- how a run stopped for want of memory: between two answers
-abbrev pub StopsBetween : Settings → Result (Unit {0}) (OrNoMemory Cause) → Option Text → Writing → Type 0
+abbrev pub StopsBetween : {A : Type 0} → Settings → Result A (OrNoMemory Cause) → Option Text → Writing → Type 0
 StopsBetween settings (Ok done) left w = Unit {0}
 StopsBetween settings (Err (stop.Cause cause)) left w = Unit {0}
 StopsBetween settings (Err stop.NoMemory) left w = IfSome left (HasPassedOn settings w)
@@ -114,7 +114,7 @@ ClosesWhole status w =
     ⊎ ((status ≡ WRITE_FAULT) × Rose w.faults w.faults_then)
 
 -- The status that a run answers whose lines ended so. A flush is tried unless a write failed or memory was wanting.
-abbrev pub Closes : Result (Unit {0}) (OrNoMemory Cause) → ℕ → Writing → Type 0
+abbrev pub Closes : {A : Type 0} → Result A (OrNoMemory Cause) → ℕ → Writing → Type 0
 Closes (Ok done) status w = ClosesWhole status w
 Closes (Err (stop.Cause cause.ReadFault)) status w = (status ≡ READ_FAULT) × TriesFlush w
 Closes (Err (stop.Cause cause.TooManyLines)) status w = (status ≡ TOO_MANY_LINES) × TriesFlush w

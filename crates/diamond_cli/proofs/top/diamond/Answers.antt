@@ -2,7 +2,8 @@ use Rattle.std.proofs.Common.{refl}
 use Rattle.std.specs.Prelude.{None, Some}
 use Rattle.cli_words.specs.Forms.{texts}
 use Rattle.script_runner.proofs.Promises.{unstarted}
-use Rattle.diamond_cli.proofs.Asked.{plan-asks, runs-something, serves-something, files-something, audits-something, remotes-something}
+use Rattle.load_runner.proofs.Told.{loads-unmade}
+use Rattle.diamond_cli.proofs.Asked.{plan-asks, runs-something, serves-something, files-something, audits-something, remotes-something, loads-something}
 use Rattle.diamond_cli.proofs.Asked.{with-file, refused-no-plan, other-command, memory-no-file}
 use Rattle.diamond_cli.proofs.Auditing.{no-memory, audits-unread}
 use Rattle.diamond_cli.proofs.Reached.{unreached}
@@ -26,7 +27,7 @@ pub returns-in-Ok-Run-clause-run : goal.returns-in-Ok-Run-clause-run
 returns-in-Ok-Run-clause-run g c = λ asks. record {
   settings = c.in-Ok-Run.settings;
   asked = plan-asks (texts c.args.words.now) _ _ c.in-Ok-Run.ensures.plan c.in-Ok-Run.field-0-is;
-  promises = c.run_script.ensures;
+  promises = c.run.ensures;
 }
 
 pub returns-in-Ok-Run-clause-serve : goal.returns-in-Ok-Run-clause-serve
@@ -52,6 +53,12 @@ returns-in-Ok-Run-clause-spared_by_audit g c = λ asks. absurd (other-command (t
 
 pub returns-in-Ok-Run-clause-remote : goal.returns-in-Ok-Run-clause-remote
 returns-in-Ok-Run-clause-remote g c = λ asks. absurd (other-command (texts c.args.words.now) _ _ refl (plan-asks (texts c.args.words.now) _ _ c.in-Ok-Run.ensures.plan c.in-Ok-Run.field-0-is) asks.1)
+
+pub returns-in-Ok-Run-clause-load : goal.returns-in-Ok-Run-clause-load
+returns-in-Ok-Run-clause-load g c = λ asks. absurd (other-command (texts c.args.words.now) _ _ refl (plan-asks (texts c.args.words.now) _ _ c.in-Ok-Run.ensures.plan c.in-Ok-Run.field-0-is) asks.3)
+
+pub returns-in-Ok-Run-clause-unused_by_load : goal.returns-in-Ok-Run-clause-unused_by_load
+returns-in-Ok-Run-clause-unused_by_load g c = λ asks. absurd (other-command (texts c.args.words.now) _ _ refl (plan-asks (texts c.args.words.now) _ _ c.in-Ok-Run.ensures.plan c.in-Ok-Run.field-0-is) asks.3)
 
 -- ---- serving in memory
 
@@ -97,6 +104,12 @@ returns-in-None-clause-spared_by_audit g c = λ asks. absurd (other-command (tex
 
 pub returns-in-None-clause-remote : goal.returns-in-None-clause-remote
 returns-in-None-clause-remote g c = λ asks. absurd (other-command (texts c.args.words.now) _ _ refl (plan-asks (texts c.args.words.now) _ _ c.in-Ok-Serve.ensures.plan (with-file _ _ _ _ _ None _ c.in-Ok-Serve.field-0-is c.in-None.is)) asks.1)
+
+pub returns-in-None-clause-load : goal.returns-in-None-clause-load
+returns-in-None-clause-load g c = λ asks. absurd (other-command (texts c.args.words.now) _ _ refl (plan-asks (texts c.args.words.now) _ _ c.in-Ok-Serve.ensures.plan (with-file _ _ _ _ _ None _ c.in-Ok-Serve.field-0-is c.in-None.is)) asks.3)
+
+pub returns-in-None-clause-unused_by_load : goal.returns-in-None-clause-unused_by_load
+returns-in-None-clause-unused_by_load g c = λ asks. absurd (other-command (texts c.args.words.now) _ _ refl (plan-asks (texts c.args.words.now) _ _ c.in-Ok-Serve.ensures.plan (with-file _ _ _ _ _ None _ c.in-Ok-Serve.field-0-is c.in-None.is)) asks.3)
 
 -- ---- serving in a file
 
@@ -147,6 +160,12 @@ returns-in-Ok-Serve-clause-remote g c = λ asks. absurd (other-command (texts c.
 pub returns-in-Ok-Serve-clause-unused_by_remote : goal.returns-in-Ok-Serve-clause-unused_by_remote
 returns-in-Ok-Serve-clause-unused_by_remote g c = λ asks. absurd (other-command (texts c.args.words.now) _ _ refl (plan-asks (texts c.args.words.now) _ _ c.in-Ok-Serve.ensures.plan (with-file _ _ _ _ _ _ _ c.in-Ok-Serve.field-0-is c.in-Some.is)) asks.1)
 
+pub returns-in-Ok-Serve-clause-load : goal.returns-in-Ok-Serve-clause-load
+returns-in-Ok-Serve-clause-load g c = λ asks. absurd (other-command (texts c.args.words.now) _ _ refl (plan-asks (texts c.args.words.now) _ _ c.in-Ok-Serve.ensures.plan (with-file _ _ _ _ _ _ _ c.in-Ok-Serve.field-0-is c.in-Some.is)) asks.3)
+
+pub returns-in-Ok-Serve-clause-unused_by_load : goal.returns-in-Ok-Serve-clause-unused_by_load
+returns-in-Ok-Serve-clause-unused_by_load g c = λ asks. absurd (other-command (texts c.args.words.now) _ _ refl (plan-asks (texts c.args.words.now) _ _ c.in-Ok-Serve.ensures.plan (with-file _ _ _ _ _ _ _ c.in-Ok-Serve.field-0-is c.in-Some.is)) asks.3)
+
 -- ---- an audit
 
 pub returns-in-Ok-Audit-clause-other : goal.returns-in-Ok-Audit-clause-other
@@ -193,6 +212,12 @@ returns-in-Ok-Audit-clause-remote g c = λ asks. absurd (other-command (texts c.
 pub returns-in-Ok-Audit-clause-unused_by_remote : goal.returns-in-Ok-Audit-clause-unused_by_remote
 returns-in-Ok-Audit-clause-unused_by_remote g c = λ asks. absurd (other-command (texts c.args.words.now) _ _ refl (plan-asks (texts c.args.words.now) _ _ c.in-Ok-Audit.ensures.plan c.in-Ok-Audit.field-0-is) asks.1)
 
+pub returns-in-Ok-Audit-clause-load : goal.returns-in-Ok-Audit-clause-load
+returns-in-Ok-Audit-clause-load g c = λ asks. absurd (other-command (texts c.args.words.now) _ _ refl (plan-asks (texts c.args.words.now) _ _ c.in-Ok-Audit.ensures.plan c.in-Ok-Audit.field-0-is) asks.3)
+
+pub returns-in-Ok-Audit-clause-unused_by_load : goal.returns-in-Ok-Audit-clause-unused_by_load
+returns-in-Ok-Audit-clause-unused_by_load g c = λ asks. absurd (other-command (texts c.args.words.now) _ _ refl (plan-asks (texts c.args.words.now) _ _ c.in-Ok-Audit.ensures.plan c.in-Ok-Audit.field-0-is) asks.3)
+
 -- ---- a session over a store elsewhere
 
 pub returns-in-Ok-Remote-clause-other : goal.returns-in-Ok-Remote-clause-other
@@ -235,6 +260,47 @@ returns-in-Ok-Remote-clause-remote g c = λ asks. record {
   promises = c.remote.ensures;
 }
 
+pub returns-in-Ok-Remote-clause-load : goal.returns-in-Ok-Remote-clause-load
+returns-in-Ok-Remote-clause-load g c = λ asks. absurd (other-command (texts c.args.words.now) _ _ refl (plan-asks (texts c.args.words.now) _ _ c.in-Ok-Remote.ensures.plan c.in-Ok-Remote.field-0-is) asks.3)
+
+pub returns-in-Ok-Remote-clause-unused_by_load : goal.returns-in-Ok-Remote-clause-unused_by_load
+returns-in-Ok-Remote-clause-unused_by_load g c = λ asks. absurd (other-command (texts c.args.words.now) _ _ refl (plan-asks (texts c.args.words.now) _ _ c.in-Ok-Remote.ensures.plan c.in-Ok-Remote.field-0-is) asks.3)
+
+-- ---- a load
+
+pub returns-in-Ok-Load-clause-other : goal.returns-in-Ok-Load-clause-other
+returns-in-Ok-Load-clause-other g c = λ no. absurd (loads-something c.args.words.now _ _ _ _ c.in-Ok-Load.ensures.plan c.in-Ok-Load.field-0-is no)
+
+pub returns-in-Ok-Load-clause-unread : goal.returns-in-Ok-Load-clause-unread
+returns-in-Ok-Load-clause-unread g c = λ no. absurd (loads-something c.args.words.now _ _ _ _ c.in-Ok-Load.ensures.plan c.in-Ok-Load.field-0-is no)
+
+pub returns-in-Ok-Load-clause-unwritten : goal.returns-in-Ok-Load-clause-unwritten
+returns-in-Ok-Load-clause-unwritten g c = λ no. absurd (loads-something c.args.words.now _ _ _ _ c.in-Ok-Load.ensures.plan c.in-Ok-Load.field-0-is no)
+
+pub returns-in-Ok-Load-clause-run : goal.returns-in-Ok-Load-clause-run
+returns-in-Ok-Load-clause-run g c = λ asks. absurd (other-command (texts c.args.words.now) _ _ refl (plan-asks (texts c.args.words.now) _ _ c.in-Ok-Load.ensures.plan c.in-Ok-Load.field-0-is) asks.1)
+
+pub returns-in-Ok-Load-clause-serve : goal.returns-in-Ok-Load-clause-serve
+returns-in-Ok-Load-clause-serve g c = λ asks. absurd (other-command (texts c.args.words.now) _ _ refl (plan-asks (texts c.args.words.now) _ _ c.in-Ok-Load.ensures.plan c.in-Ok-Load.field-0-is) asks.4)
+
+pub returns-in-Ok-Load-clause-files : goal.returns-in-Ok-Load-clause-files
+returns-in-Ok-Load-clause-files g c = λ asks. absurd (other-command (texts c.args.words.now) _ _ refl (plan-asks (texts c.args.words.now) _ _ c.in-Ok-Load.ensures.plan c.in-Ok-Load.field-0-is) asks.5)
+
+pub returns-in-Ok-Load-clause-audit : goal.returns-in-Ok-Load-clause-audit
+returns-in-Ok-Load-clause-audit g c = λ asks. absurd (other-command (texts c.args.words.now) _ _ refl (plan-asks (texts c.args.words.now) _ _ c.in-Ok-Load.ensures.plan c.in-Ok-Load.field-0-is) asks.2)
+
+pub returns-in-Ok-Load-clause-remote : goal.returns-in-Ok-Load-clause-remote
+returns-in-Ok-Load-clause-remote g c = λ asks. absurd (other-command (texts c.args.words.now) _ _ refl (plan-asks (texts c.args.words.now) _ _ c.in-Ok-Load.ensures.plan c.in-Ok-Load.field-0-is) asks.1)
+
+pub returns-in-Ok-Load-clause-load : goal.returns-in-Ok-Load-clause-load
+returns-in-Ok-Load-clause-load g c = λ asks. record {
+  settings = c.in-Ok-Load.settings;
+  seed = c.in-Ok-Load.seed;
+  count = c.in-Ok-Load.count;
+  asked = plan-asks (texts c.args.words.now) _ _ c.in-Ok-Load.ensures.plan c.in-Ok-Load.field-0-is;
+  promises = c.run_load.ensures;
+}
+
 -- ---- words of no form
 
 pub returns-in-Err-BadWords-clause-form : goal.returns-in-Err-BadWords-clause-form
@@ -244,6 +310,7 @@ returns-in-Err-BadWords-clause-form g c = λ one. (
   λ asks. refused-no-plan (texts c.args.words.now) _ c.in-Err-BadWords.field-0-0 _ c.in-Err-BadWords.ensures.refused c.in-Err-BadWords.field-0-is asks.5,
   λ asks. refused-no-plan (texts c.args.words.now) _ c.in-Err-BadWords.field-0-0 _ c.in-Err-BadWords.ensures.refused c.in-Err-BadWords.field-0-is asks.2,
   λ asks. refused-no-plan (texts c.args.words.now) _ c.in-Err-BadWords.field-0-0 _ c.in-Err-BadWords.ensures.refused c.in-Err-BadWords.field-0-is asks.1,
+  λ asks. refused-no-plan (texts c.args.words.now) _ c.in-Err-BadWords.field-0-0 _ c.in-Err-BadWords.ensures.refused c.in-Err-BadWords.field-0-is asks.3,
 )
 
 pub returns-in-Err-BadWords-clause-run : goal.returns-in-Err-BadWords-clause-run
@@ -265,6 +332,10 @@ returns-in-Err-BadWords-clause-audit g c = λ asks. absurd
 pub returns-in-Err-BadWords-clause-remote : goal.returns-in-Err-BadWords-clause-remote
 returns-in-Err-BadWords-clause-remote g c = λ asks. absurd
     (refused-no-plan (texts c.args.words.now) _ c.in-Err-BadWords.field-0-0 _ c.in-Err-BadWords.ensures.refused c.in-Err-BadWords.field-0-is asks.1)
+
+pub returns-in-Err-BadWords-clause-load : goal.returns-in-Err-BadWords-clause-load
+returns-in-Err-BadWords-clause-load g c = λ asks. absurd
+    (refused-no-plan (texts c.args.words.now) _ c.in-Err-BadWords.field-0-0 _ c.in-Err-BadWords.ensures.refused c.in-Err-BadWords.field-0-is asks.3)
 
 -- ---- no memory for the words
 
@@ -310,4 +381,13 @@ returns-clause-remote g c = λ asks. record {
   address = asks.0;
   asked = asks.1;
   promises = unreached _ _ _ _;
+}
+
+pub returns-clause-load : goal.returns-clause-load
+returns-clause-load g c = λ asks. record {
+  settings = asks.0;
+  seed = asks.1;
+  count = asks.2;
+  asked = asks.3;
+  promises = loads-unmade asks.0 asks.1 asks.2 _ refl refl;
 }

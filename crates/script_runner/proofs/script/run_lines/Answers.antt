@@ -1,12 +1,14 @@
-use Rattle.std.proofs.Common.{Bool, Ok, Err, inl, inr, refl, ap, subst, arith}
+use Rattle.std.proofs.Common.{◌≡◌, ℕ, Option, Bool, Ok, Err, length, inl, inr, refl, ap, subst, arith}
+use Rattle.std.specs.Prelude.{IfSome}
 use Rattle.std.proofs.lemmas.Grind.{common_steps}
 use Rattle.std.proofs.lemmas.Result.{err_from_is_err_and}
 use Rattle.dio_core.specs.declared.line.Line.{Line}
 use Rattle.dio_core.specs.Lines.{TakesLine}
+use Rattle.script_runner.specs.Play.{ScriptWorld}
 use Rattle.script_runner.specs.Script.{writing}
 use Rattle.script_runner.specs.Worlds.{world_of}
 use Rattle.script_runner.specs.code.Turns.{moment, Turns}
-use Rattle.script_runner.proofs.Plays.{plays-none, plays-more, plays-ended, plays-stopped, plays-unread, plays-too_many, cut_unread, stops-between, unread-between}
+use Rattle.script_runner.proofs.Plays.{plays-none, plays-more, plays-ended, plays-stopped, plays-unread, plays-too_many, plays-counted, cut_unread, stops-between, unread-between}
 use Rattle.script_runner.proofs.script.run_lines.Goals as goal
 
 -- no line was played yet
@@ -27,7 +29,7 @@ returns-then-not-branch-clause-ran g c =
     let taken = g.W.Sink.taken in
     let now = moment (world_of c.loop.script) (left c.loop.source) (taken c.loop.sink) in
     let then = moment (world_of c.turn.new.script) (left c.turn.new.source) (taken c.turn.new.sink) in
-    plays-ended c.args.settings.now c.loop.counter (left c.args.source.now) (taken c.args.sink.now) now then (omega arith) c.loop.invariant.plays
+    plays-ended c.args.settings.now c.commits_of.result c.loop.counter (left c.args.source.now) (taken c.args.sink.now) now then (omega arith) c.loop.invariant.plays
     (subst (λ (b : Bool). Turns (Ok b) now then) c.if-not-branch.true c.in_ok-turn.ensures.turns)
 
 -- behind the last line that may be read there is none
@@ -37,7 +39,7 @@ returns-in-End-clause-ran g c =
     let taken = g.W.Sink.taken in
     let now = moment (world_of c.loop.script) (left c.loop.source) (taken c.loop.sink) in
     let then = moment (world_of c.loop.script) (left c.read_line.new.source) (taken c.loop.sink) in
-    plays-ended c.args.settings.now c.loop.counter (left c.args.source.now) (taken c.args.sink.now) now then (omega arith) c.loop.invariant.plays
+    plays-ended c.args.settings.now c.commits_of-in-End.result c.loop.counter (left c.args.source.now) (taken c.args.sink.now) now then (omega arith) c.loop.invariant.plays
     (subst (λ (l : Line). TakesLine l now.left then.left) c.in-End.is c.in_ok-read_line.ensures.line, refl)
 
 -- a turn stopped
@@ -48,7 +50,7 @@ returns-in_err-turn-clause-ran g c =
     let now = moment (world_of c.loop.script) (left c.loop.source) (taken c.loop.sink) in
     let then = moment (world_of c.turn.new.script) (left c.turn.new.source) (taken c.turn.new.sink) in
     let p = err_from_is_err_and c.from_residual-in_err-turn.result c.from_residual-in_err-turn.ensures.1 in
-    rw (p.1, p.2) (plays-stopped c.args.settings.now c.loop.counter (left c.args.source.now) (taken c.args.sink.now) now then
+    rw (p.1, p.2) (plays-stopped c.args.settings.now (Option ℕ) c.loop.counter (left c.args.source.now) (taken c.args.sink.now) now then
     (omega arith) c.loop.invariant.plays c.in_err-turn.field-0.0
     c.in_err-turn.ensures.turns)
 
@@ -75,7 +77,7 @@ returns-in_err-read_line-clause-ran g c =
     let now = moment (world_of c.loop.script) (left c.loop.source) (taken c.loop.sink) in
     let then = moment (world_of c.loop.script) (left c.read_line.new.source) (taken c.loop.sink) in
     let p = err_from_is_err_and c.from_residual-in_err-read_line.result c.from_residual-in_err-read_line.ensures.1 in
-    rw (p.1, p.2) (plays-unread c.args.settings.now c.loop.counter (left c.args.source.now) (taken c.args.sink.now) now then
+    rw (p.1, p.2) (plays-unread c.args.settings.now (Option ℕ) c.loop.counter (left c.args.source.now) (taken c.args.sink.now) now then
     (omega arith) c.loop.invariant.plays refl
     c.in_err-read_line.field-0.0 c.in_err-read_line.ensures.stops)
 
@@ -86,15 +88,16 @@ returns-in_err-script-clause-ran g c =
     rw (p.1, p.2) (cut_unread c.args.settings.now (g.S.Source.left c.args.source.now) (g.W.Sink.taken c.args.sink.now))
 
 -- there is a line behind the last one that may be read
-pub returns : goal.returns
-returns g c =
+pub returns-in_default : goal.returns-in_default
+returns-in_default g c =
     let left = g.S.Source.left in
     let taken = g.W.Sink.taken in
     let now = moment (world_of c.loop.script) (left c.loop.source) (taken c.loop.sink) in
     let then = moment (world_of c.loop.script) (left c.read_line.new.source) (taken c.loop.sink) in record {
-      ran = plays-too_many c.args.settings.now c.loop.counter (left c.args.source.now) (taken c.args.sink.now) now then c.in_ok-read_line.field-0
+      ran = plays-too_many c.args.settings.now (Option ℕ) c.loop.counter (left c.args.source.now) (taken c.args.sink.now) now then c.in_ok-read_line.field-0
           (omega arith) refl c.in_default.not-End c.loop.invariant.plays c.in_ok-read_line.ensures.line;
       between = tt;
+      commits = tt;
       reads = grind (arith, common_steps);
       writes = c.loop.invariant.writes;
     }
@@ -104,7 +107,7 @@ pub returns-in_err-turn-clause-between : goal.returns-in_err-turn-clause-between
 returns-in_err-turn-clause-between g c =
     let now = moment (world_of c.loop.script) (g.S.Source.left c.loop.source) (g.W.Sink.taken c.loop.sink) in
     let p = err_from_is_err_and c.from_residual-in_err-turn.result c.from_residual-in_err-turn.ensures.1 in
-    rw (p.1, p.2) (stops-between c.args.settings.now g.W.Sink c.loop.counter (g.S.Source.left c.args.source.now) now c.args.sink.now c.loop.sink
+    rw (p.1, p.2) (stops-between (Option ℕ) c.args.settings.now g.W.Sink c.loop.counter (g.S.Source.left c.args.source.now) now c.args.sink.now c.loop.sink
     c.turn.new.sink c.loop.invariant.plays refl c.loop.invariant.passed c.in_err-turn.field-0.0
     (λ is. c.in_err-turn.ensures.wanting (ap Err is)))
 
@@ -113,7 +116,7 @@ pub returns-in_err-read_line-clause-between : goal.returns-in_err-read_line-clau
 returns-in_err-read_line-clause-between g c =
     let now = moment (world_of c.loop.script) (g.S.Source.left c.loop.source) (g.W.Sink.taken c.loop.sink) in
     let p = err_from_is_err_and c.from_residual-in_err-read_line.result c.from_residual-in_err-read_line.ensures.1 in
-    rw (p.1, p.2) (stops-between c.args.settings.now g.W.Sink c.loop.counter (g.S.Source.left c.args.source.now) now c.args.sink.now c.loop.sink
+    rw (p.1, p.2) (stops-between (Option ℕ) c.args.settings.now g.W.Sink c.loop.counter (g.S.Source.left c.args.source.now) now c.args.sink.now c.loop.sink
     c.loop.sink c.loop.invariant.plays refl c.loop.invariant.passed c.in_err-read_line.field-0.0 (λ is. refl))
 
 -- or before the first
@@ -121,3 +124,24 @@ pub returns-in_err-script-clause-between : goal.returns-in_err-script-clause-bet
 returns-in_err-script-clause-between g c =
     let p = err_from_is_err_and c.from_residual.result c.from_residual.ensures.1 in
     rw (p.1, p.2) (unread-between c.args.settings.now (g.S.Source.left c.args.source.now) (writing g.W.Sink c.args.sink.now c.args.sink.now) refl)
+
+-- what the script has behind all lines is what the input leaves
+pub returns-then-not-branch-clause-commits : goal.returns-then-not-branch-clause-commits
+returns-then-not-branch-clause-commits g c =
+    let left = g.S.Source.left in
+    let taken = g.W.Sink.taken in
+    let now = moment (world_of c.loop.script) (left c.loop.source) (taken c.loop.sink) in
+    let then = moment (world_of c.turn.new.script) (left c.turn.new.source) (taken c.turn.new.sink) in
+    plays-counted c.args.settings.now c.loop.counter (left c.args.source.now) (taken c.args.sink.now) now then _ c.loop.invariant.plays
+    (subst (λ (b : Bool). Turns (Ok b) now then) c.if-not-branch.true c.in_ok-turn.ensures.turns)
+    (subst (λ (w : ScriptWorld). IfSome c.commits_of.result (λ k. k ≡ length w.store.journal)) (c.in_ok-turn.ensures.idle (ap Ok c.if-not-branch.true)) c.commits_of.ensures)
+
+pub returns-in-End-clause-commits : goal.returns-in-End-clause-commits
+returns-in-End-clause-commits g c =
+    let left = g.S.Source.left in
+    let taken = g.W.Sink.taken in
+    let now = moment (world_of c.loop.script) (left c.loop.source) (taken c.loop.sink) in
+    let then = moment (world_of c.loop.script) (left c.read_line.new.source) (taken c.loop.sink) in
+    plays-counted c.args.settings.now c.loop.counter (left c.args.source.now) (taken c.args.sink.now) now then _ c.loop.invariant.plays
+    (subst (λ (l : Line). TakesLine l now.left then.left) c.in-End.is c.in_ok-read_line.ensures.line, refl)
+    c.commits_of-in-End.ensures

@@ -16,6 +16,7 @@ returns-in_err-answer g c =
       turns = inr wanting;
       stands = tt;
       passed = λ is. absurd (cc is);
+      idle = λ is. absurd (cc is);
       wanting = λ is. refl;
       reads = c.in_ok-line.ensures.reads;
       writes = refl;
