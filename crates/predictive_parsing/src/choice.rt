@@ -11,10 +11,10 @@ use plain_data::OrNoMemory;
 
 /// What is spelled by a word.
 pub trait Spelled: Copy {
-    ghost use Rattle.std.specs.Prelude.{List, ℕ};
+    ghost use Rattle.plain_data.specs.Texts.{Bytes};
 
-    /// The bytes of the word.
-    ghost spelled: { Self → List ℕ };
+    /// The bytes of the word, each below 256, since `bytes` answers them.
+    ghost spelled: { Self → Bytes };
 
     /// The bytes of the word.
     fn bytes(self) -> &'static [u8]
