@@ -1,6 +1,6 @@
 -- The printed form of values, outcomes and write parts. That of texts and addresses stands beside addresses, since it
 -- says in which shard a value is kept.
-use Rattle.std.specs.Prelude.{◌≡◌, Bool, true, false, List, [], ◌∷◌, ◌++◌, negsuc, codes, refl}
+use Rattle.std.specs.Prelude.{◌≡◌, Bool, true, false, List, [], ◌∷◌, ◌++◌, length, take, negsuc, codes, refl}
 use Rattle.std.specs.List.{flat_map}
 use Rattle.std.specs.Fmt.{signed_decimal, digits}
 use Rattle.plain_data.specs.Texts.{Bytes}
@@ -11,6 +11,10 @@ use Rattle.rdt_types.specs.declared.outcome.Outcome.TheVariants as outcome
 use Rattle.rdt_types.specs.declared.operation.WriteOp.{WriteOp}
 use Rattle.rdt_types.specs.declared.operation.WriteOp.TheVariants as op
 use Rattle.rdt_types.specs.Printed.{printed_text}
+
+-- what stood in a text stands, whatever a printer answers: behind it are some more bytes, or none
+abbrev pub Grows : Bytes → Bytes → Type 0
+Grows old new = take (length old) new ≡ old
 
 -- a truth value, by its word
 abbrev pub printed_bool : Bool → Bytes
@@ -66,6 +70,10 @@ printed_part op.ListClear = codes "clear"
 printed_part (op.Raise n) = codes "raise " ++ signed_decimal n
 
 -- ---- worked rows
+
+-- a text behind which one more byte stands
+one-more : Grows (codes "ok ") (codes "ok 1")
+one-more = refl
 
 -- two values
 two-values : printed_outcome (outcome.Ok (item.Bool true ∷ item.Texts (codes "a" ∷ codes "" ∷ []) ∷ [])) ≡ codes "ok true [\"a\",\"\"]"

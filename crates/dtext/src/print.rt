@@ -15,7 +15,8 @@ use std::alloc::{AllocError, Global};
 
 /// Adds a byte of a text as it is spelled between quotes.
 fn push_byte(out: &mut Text, byte: u8) -> Result<(), AllocError>
-    ensures { OnOk result (out.new ≡ out.old ++ printed.spelled (printed.spelling_of byte)) }
+    ensures ok { OnOk result (out.new ≡ out.old ++ printed.spelled (printed.spelling_of byte)) }
+    ensures grows { spec.Grows out.old out.new }
 {
     match spelling_of(byte) {
         Spelling::Plain(byte) => out.push(byte),
@@ -26,7 +27,9 @@ fn push_byte(out: &mut Text, byte: u8) -> Result<(), AllocError>
 
 /// Adds the bytes of a text as they are spelled between quotes.
 fn push_bytes(out: &mut Text, bytes: &[u8]) -> Result<(), AllocError>
-    ensures { OnOk result (out.new ≡ out.old ++ flat_map (λ byte. printed.spelled (printed.spelling_of byte)) bytes.now) }
+    ensures ok { OnOk result (out.new ≡ out.old
+        ++ flat_map (λ byte. printed.spelled (printed.spelling_of byte)) bytes.now) }
+    ensures grows { spec.Grows out.old out.new }
 {
     for byte in bytes {
         push_byte(out, *byte)?;
@@ -36,7 +39,8 @@ fn push_bytes(out: &mut Text, bytes: &[u8]) -> Result<(), AllocError>
 
 /// Adds a text in quotes.
 pub fn push_text(out: &mut Text, text: &Text) -> Result<(), AllocError>
-    ensures { OnOk result (out.new ≡ out.old ++ printed.printed_text text.now) }
+    ensures ok { OnOk result (out.new ≡ out.old ++ printed.printed_text text.now) }
+    ensures grows { spec.Grows out.old out.new }
 {
     out.push(b'"')?;
     push_bytes(out, text.as_slice())?;
@@ -45,7 +49,8 @@ pub fn push_text(out: &mut Text, text: &Text) -> Result<(), AllocError>
 
 /// Adds a number.
 pub fn push_number(out: &mut Text, number: i64) -> Result<(), AllocError>
-    ensures { OnOk result (out.new ≡ out.old ++ signed_decimal number) }
+    ensures ok { OnOk result (out.new ≡ out.old ++ signed_decimal number) }
+    ensures grows { spec.Grows out.old out.new }
 {
     let mut digits = Buffer::new();
     out.extend_from_slice(digits.format(number).as_bytes())
@@ -53,7 +58,8 @@ pub fn push_number(out: &mut Text, number: i64) -> Result<(), AllocError>
 
 /// Adds a number without a sign.
 pub fn push_natural(out: &mut Text, number: u64) -> Result<(), AllocError>
-    ensures { OnOk result (out.new ≡ out.old ++ decimal number) }
+    ensures ok { OnOk result (out.new ≡ out.old ++ decimal number) }
+    ensures grows { spec.Grows out.old out.new }
 {
     let mut digits = Buffer::new();
     out.extend_from_slice(digits.format(number).as_bytes())
@@ -61,7 +67,8 @@ pub fn push_natural(out: &mut Text, number: u64) -> Result<(), AllocError>
 
 /// Adds an address: the word of its kind, and its key in parentheses.
 pub fn push_address(out: &mut Text, address: &Address) -> Result<(), AllocError>
-    ensures { OnOk result (out.new ≡ out.old ++ printed.printed_address address.now) }
+    ensures ok { OnOk result (out.new ≡ out.old ++ printed.printed_address address.now) }
+    ensures grows { spec.Grows out.old out.new }
 {
     out.extend_from_slice(address.kind.word())?;
     out.push(b'(')?;
@@ -71,7 +78,8 @@ pub fn push_address(out: &mut Text, address: &Address) -> Result<(), AllocError>
 
 /// Adds texts, each behind a comma.
 fn push_more(out: &mut Text, texts: &[Text]) -> Result<(), AllocError>
-    ensures { OnOk result (out.new ≡ out.old ++ flat_map spec.after_comma texts.now) }
+    ensures ok { OnOk result (out.new ≡ out.old ++ flat_map spec.after_comma texts.now) }
+    ensures grows { spec.Grows out.old out.new }
 {
     for text in texts {
         out.push(b',')?;
@@ -82,7 +90,8 @@ fn push_more(out: &mut Text, texts: &[Text]) -> Result<(), AllocError>
 
 /// Adds texts with a comma between each two.
 fn push_separated(out: &mut Text, texts: &[Text]) -> Result<(), AllocError>
-    ensures { OnOk result (out.new ≡ out.old ++ spec.separated texts.now) }
+    ensures ok { OnOk result (out.new ≡ out.old ++ spec.separated texts.now) }
+    ensures grows { spec.Grows out.old out.new }
 {
     let Some((first, rest)) = texts.split_first() else {
         return Ok(());
@@ -92,7 +101,8 @@ fn push_separated(out: &mut Text, texts: &[Text]) -> Result<(), AllocError>
 }
 
 fn push_texts(out: &mut Text, texts: &TextList) -> Result<(), AllocError>
-    ensures { OnOk result (out.new ≡ out.old ++ spec.printed_texts texts.now) }
+    ensures ok { OnOk result (out.new ≡ out.old ++ spec.printed_texts texts.now) }
+    ensures grows { spec.Grows out.old out.new }
 {
     out.push(b'[')?;
     push_separated(out, texts.as_slice())?;
@@ -100,7 +110,8 @@ fn push_texts(out: &mut Text, texts: &TextList) -> Result<(), AllocError>
 }
 
 fn push_item(out: &mut Text, item: &Item) -> Result<(), AllocError>
-    ensures { OnOk result (out.new ≡ out.old ++ spec.printed_item item.now) }
+    ensures ok { OnOk result (out.new ≡ out.old ++ spec.printed_item item.now) }
+    ensures grows { spec.Grows out.old out.new }
 {
     match item {
         Item::Int(number) => push_number(out, *number),
@@ -112,7 +123,8 @@ fn push_item(out: &mut Text, item: &Item) -> Result<(), AllocError>
 
 /// Adds values, each behind a space.
 fn push_items(out: &mut Text, items: &[Item]) -> Result<(), AllocError>
-    ensures { OnOk result (out.new ≡ out.old ++ flat_map spec.after_space items.now) }
+    ensures ok { OnOk result (out.new ≡ out.old ++ flat_map spec.after_space items.now) }
+    ensures grows { spec.Grows out.old out.new }
 {
     for item in items {
         out.push(b' ')?;
@@ -123,7 +135,8 @@ fn push_items(out: &mut Text, items: &[Item]) -> Result<(), AllocError>
 
 /// Adds a word, and a text behind it.
 fn push_named(out: &mut Text, word: &[u8], text: &Text) -> Result<(), AllocError>
-    ensures { OnOk result (out.new ≡ out.old ++ (word.now ++ printed.printed_text text.now)) }
+    ensures ok { OnOk result (out.new ≡ out.old ++ (word.now ++ printed.printed_text text.now)) }
+    ensures grows { spec.Grows out.old out.new }
 {
     out.extend_from_slice(word)?;
     push_text(out, text)
@@ -131,21 +144,25 @@ fn push_named(out: &mut Text, word: &[u8], text: &Text) -> Result<(), AllocError
 
 /// Adds a word, and a number behind it.
 fn push_counted(out: &mut Text, word: &[u8], number: i64) -> Result<(), AllocError>
-    ensures { OnOk result (out.new ≡ out.old ++ (word.now ++ signed_decimal number)) }
+    ensures ok { OnOk result (out.new ≡ out.old ++ (word.now ++ signed_decimal number)) }
+    ensures grows { spec.Grows out.old out.new }
 {
     out.extend_from_slice(word)?;
     push_number(out, number)
 }
 
 fn push_put_bool(out: &mut Text, value: bool) -> Result<(), AllocError>
-    ensures { OnOk result (out.new ≡ out.old ++ spec.printed_part (op.PutBool value)) }
+    ensures ok { OnOk result (out.new ≡ out.old ++ spec.printed_part (op.PutBool value)) }
+    ensures grows { spec.Grows out.old out.new }
 {
     out.extend_from_slice(b"put ")?;
     out.extend_from_slice(bool_word(value))
 }
 
 fn push_field(out: &mut Text, field: &Text, text: &Text) -> Result<(), AllocError>
-    ensures { OnOk result (out.new ≡ out.old ++ spec.printed_part (op.HashPut field.now text.now)) }
+    ensures ok { OnOk result (out.new ≡ out.old
+        ++ spec.printed_part (op.HashPut field.now text.now)) }
+    ensures grows { spec.Grows out.old out.new }
 {
     push_named(out, b"put ", field)?;
     out.push(b' ')?;
@@ -154,7 +171,8 @@ fn push_field(out: &mut Text, field: &Text, text: &Text) -> Result<(), AllocErro
 
 /// Adds one write, without its kind.
 pub fn push_part(out: &mut Text, part: &WriteOp) -> Result<(), AllocError>
-    ensures { OnOk result (out.new ≡ out.old ++ spec.printed_part part.now) }
+    ensures ok { OnOk result (out.new ≡ out.old ++ spec.printed_part part.now) }
+    ensures grows { spec.Grows out.old out.new }
 {
     match part {
         WriteOp::PutBool(value) => push_put_bool(out, *value),
@@ -176,7 +194,8 @@ pub fn push_part(out: &mut Text, part: &WriteOp) -> Result<(), AllocError>
 
 /// Adds how a body ended.
 pub fn push_outcome(out: &mut Text, outcome: &Outcome) -> Result<(), AllocError>
-    ensures { OnOk result (out.new ≡ out.old ++ spec.printed_outcome outcome.now) }
+    ensures ok { OnOk result (out.new ≡ out.old ++ spec.printed_outcome outcome.now) }
+    ensures grows { spec.Grows out.old out.new }
 {
     match outcome {
         Outcome::Ok(items) => {
