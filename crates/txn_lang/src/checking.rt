@@ -6,7 +6,7 @@ ghost use Rattle.txn_grammar.specs.Parsed.{parsed};
 ghost use Rattle.txn_lang.specs.Typing as spec;
 ghost use Rattle.txn_lang.specs.Typing.{judge as judge_of, IsTyped};
 ghost use Rattle.txn_lang.specs.Writes.{first_write as first_write_of};
-ghost use Rattle.txn_lang.specs.code.Checking.{Answers, Leaves, WritesAt};
+ghost use Rattle.txn_lang.specs.code.Checking.{caused, told, refuse_write, Leaves, WritesAt};
 
 use crate::checked::Checked;
 use crate::environment::Environment;
@@ -30,9 +30,9 @@ pub enum CheckError {
 /// What the code answers where something is judged: a column, or want of memory.
 type Fault = OrNoMemory<u32>;
 
-/// What was judged without memory.
+/// What was judged without memory, with a column as the cause.
 fn judged<T>(found: Result<T, u32>) -> Result<T, Fault>
-    ensures { Answers result found }
+    ensures { result ≡ caused found }
 {
     match found {
         Ok(value) => Ok(value),
@@ -119,6 +119,29 @@ fn judge(alloc: Global, body: &Body) -> Result<(), Fault>
     in_order(&mut names, body.stmts.as_slice())
 }
 
+/// Why a body isn't well typed.
+fn told(fault: Fault) -> CheckError
+    ensures { result ≡ told fault }
+{
+    match fault {
+        OrNoMemory::Cause(column) => CheckError::BadType(column),
+        OrNoMemory::NoMemory => CheckError::NoMemory,
+    }
+}
+
+/// Refuses a body that may only read, at its first write.
+fn refuse_write(body: &Body, read_only: bool) -> Result<(), CheckError>
+    ensures { result ≡ refuse_write read_only (first_write_of body.now) }
+{
+    if !read_only {
+        return Ok(());
+    }
+    match first_write(body.stmts.as_slice()) {
+        Some(column) => Err(CheckError::Writes(column)),
+        None => Ok(()),
+    }
+}
+
 /// Takes a body that was read from its source as one that may run, where the rules of typing hold of it and, if it may
 /// only read, it has no write.
 pub fn check(
@@ -144,14 +167,9 @@ pub fn check(
 {
     match judge(alloc, &body) {
         Ok(()) => {}
-        Err(OrNoMemory::Cause(column)) => return Err(CheckError::BadType(column)),
-        Err(OrNoMemory::NoMemory) => return Err(CheckError::NoMemory),
+        Err(fault) => return Err(told(fault)),
     }
-    if read_only {
-        if let Some(column) = first_write(body.stmts.as_slice()) {
-            return Err(CheckError::Writes(column));
-        }
-    }
+    refuse_write(&body, read_only)?;
     Ok(Checked {
         body,
         source,

@@ -123,7 +123,10 @@ impl<V: Drop> Environment<V> {
 
     /// Forgets names, the newest first, until so many are left.
     pub fn truncate(&mut self, count: usize) -> Result<(), AllocError>
-        ensures { OnOk result (self.new ≡ take count self.old) }
+        ensures ok { OnOk result (self.new ≡ take count self.old) }
+
+        // Where memory is refused in the middle, the names below the count stand too.
+        ensures kept { take count self.new ≡ take count self.old }
     {
         while self.len() > count {
             self.forget_last()?;
