@@ -2,7 +2,7 @@
 
 ghost use Rattle.std.specs.Prelude.{◌≡◌, ◌++◌, codes, IfOk, OnOk};
 ghost use Rattle.std.specs.Fmt.{decimal, signed_decimal};
-ghost use Rattle.dtext.specs.Printing.{printed_outcome};
+ghost use Rattle.dtext.specs.Printing.{Grows, printed_outcome, printed_part};
 ghost use Rattle.rdt_types.specs.Printed.{printed_text, printed_address};
 ghost use Rattle.session_text.specs.Printing as spec;
 
@@ -19,7 +19,8 @@ use std::alloc::{AllocError, Global};
 
 /// Adds a word, and a number behind it.
 fn push_counted(out: &mut Text, word: &[u8], number: u64) -> Result<(), AllocError>
-    ensures { OnOk result (out.new ≡ out.old ++ (word.now ++ decimal number)) }
+    ensures ok { OnOk result (out.new ≡ out.old ++ (word.now ++ decimal number)) }
+    ensures grows { Grows out.old out.new }
 {
     out.extend_from_slice(word)?;
     push_natural(out, number)
@@ -27,7 +28,8 @@ fn push_counted(out: &mut Text, word: &[u8], number: u64) -> Result<(), AllocErr
 
 /// Adds a word, and a text in quotes behind it.
 fn push_named(out: &mut Text, word: &[u8], text: &Text) -> Result<(), AllocError>
-    ensures { OnOk result (out.new ≡ out.old ++ (word.now ++ printed_text text.now)) }
+    ensures ok { OnOk result (out.new ≡ out.old ++ (word.now ++ printed_text text.now)) }
+    ensures grows { Grows out.old out.new }
 {
     out.extend_from_slice(word)?;
     push_text(out, text)
@@ -35,14 +37,16 @@ fn push_named(out: &mut Text, word: &[u8], text: &Text) -> Result<(), AllocError
 
 /// Adds a word, and a number of 64 bits with its sign behind it.
 fn push_signed(out: &mut Text, word: &[u8], number: i64) -> Result<(), AllocError>
-    ensures { OnOk result (out.new ≡ out.old ++ (word.now ++ signed_decimal number)) }
+    ensures ok { OnOk result (out.new ≡ out.old ++ (word.now ++ signed_decimal number)) }
+    ensures grows { Grows out.old out.new }
 {
     out.extend_from_slice(word)?;
     push_number(out, number)
 }
 
 fn push_obs(out: &mut Text, obs: &Obs) -> Result<(), AllocError>
-    ensures { OnOk result (out.new ≡ out.old ++ spec.printed_obs obs.now) }
+    ensures ok { OnOk result (out.new ≡ out.old ++ spec.printed_obs obs.now) }
+    ensures grows { Grows out.old out.new }
 {
     match obs {
         Obs::BoolIs | Obs::CounterIs | Obs::TextIs => out.extend_from_slice(b"whole"),
@@ -57,14 +61,17 @@ fn push_obs(out: &mut Text, obs: &Obs) -> Result<(), AllocError>
 
 /// Adds the word for why a line is refused, and a column behind it.
 fn push_placed(out: &mut Text, word: WhyWord, column: u32) -> Result<(), AllocError>
-    ensures { OnOk result (out.new ≡ out.old ++ (spec.why_of word ++ spec.counted (codes " ") column)) }
+    ensures ok { OnOk result (out.new ≡ out.old
+        ++ (spec.why_of word ++ spec.counted (codes " ") column)) }
+    ensures grows { Grows out.old out.new }
 {
     out.extend_from_slice(word.bytes())?;
     push_counted(out, b" ", u64::from(column))
 }
 
 fn push_why(out: &mut Text, why: Why) -> Result<(), AllocError>
-    ensures { OnOk result (out.new ≡ out.old ++ spec.printed_why why) }
+    ensures ok { OnOk result (out.new ≡ out.old ++ spec.printed_why why) }
+    ensures grows { Grows out.old out.new }
 {
     match why {
         Why::Long => out.extend_from_slice(WhyWord::Long.bytes()),
@@ -81,7 +88,8 @@ fn push_why(out: &mut Text, why: Why) -> Result<(), AllocError>
 
 /// Adds what was observed.
 fn push_observed(out: &mut Text, witness: &Witness) -> Result<(), AllocError>
-    ensures { OnOk result (out.new ≡ out.old ++ spec.printed_observed witness.now) }
+    ensures ok { OnOk result (out.new ≡ out.old ++ spec.printed_observed witness.now) }
+    ensures grows { Grows out.old out.new }
 {
     push_address(out, &witness.address)?;
     out.extend_from_slice(b" ")?;
@@ -89,18 +97,30 @@ fn push_observed(out: &mut Text, witness: &Witness) -> Result<(), AllocError>
     push_counted(out, b" base ", witness.base)
 }
 
-fn push_witness(out: &mut Text, witness: &Witness) -> Result<(), AllocError>
-    ensures { OnOk result (out.new ≡ out.old ++ spec.printed_witness witness.now) }
+/// Adds what changed the observation, and by which commit.
+fn push_clash(out: &mut Text, witness: &Witness) -> Result<(), AllocError>
+    ensures ok { OnOk result (out.new ≡ out.old ++ (codes " clash "
+        ++ (printed_part witness.now.part ++ (codes " commit " ++ decimal witness.now.number)))) }
+    ensures grows { Grows out.old out.new }
 {
-    push_observed(out, witness)?;
     out.extend_from_slice(b" clash ")?;
     push_part(out, &witness.part)?;
     push_counted(out, b" commit ", witness.number)
 }
 
+fn push_witness(out: &mut Text, witness: &Witness) -> Result<(), AllocError>
+    ensures ok { OnOk result (out.new ≡ out.old ++ spec.printed_witness witness.now) }
+    ensures grows { Grows out.old out.new }
+{
+    push_observed(out, witness)?;
+    push_clash(out, witness)
+}
+
 /// Adds a number behind a space, and an outcome behind another.
 fn push_ended(out: &mut Text, number: u64, outcome: &Outcome) -> Result<(), AllocError>
-    ensures { OnOk result (out.new ≡ out.old ++ (codes " " ++ (decimal number ++ (codes " " ++ printed_outcome outcome.now)))) }
+    ensures ok { OnOk result (out.new ≡ out.old
+        ++ (codes " " ++ (decimal number ++ (codes " " ++ printed_outcome outcome.now)))) }
+    ensures grows { Grows out.old out.new }
 {
     push_counted(out, b" ", number)?;
     out.extend_from_slice(b" ")?;
@@ -109,7 +129,8 @@ fn push_ended(out: &mut Text, number: u64, outcome: &Outcome) -> Result<(), Allo
 
 /// Adds a first word, and a number behind it.
 fn push_numbered(out: &mut Text, word: ReplyWord, number: u64) -> Result<(), AllocError>
-    ensures { OnOk result (out.new ≡ out.old ++ spec.worded word (decimal number)) }
+    ensures ok { OnOk result (out.new ≡ out.old ++ spec.worded word (decimal number)) }
+    ensures grows { Grows out.old out.new }
 {
     out.extend_from_slice(word.bytes())?;
     push_counted(out, b" ", number)
@@ -123,7 +144,9 @@ fn push_both(
     between: &[u8],
     other: u64,
 ) -> Result<(), AllocError>
-    ensures { OnOk result (out.new ≡ out.old ++ spec.worded word (decimal number ++ (between.now ++ decimal other))) }
+    ensures ok { OnOk result (out.new ≡ out.old
+        ++ spec.worded word (decimal number ++ (between.now ++ decimal other))) }
+    ensures grows { Grows out.old out.new }
 {
     push_numbered(out, word, number)?;
     push_counted(out, between, other)
@@ -136,14 +159,19 @@ fn push_result(
     number: u64,
     outcome: &Outcome,
 ) -> Result<(), AllocError>
-    ensures { OnOk result (out.new ≡ out.old ++ spec.worded word (decimal number ++ (codes " " ++ printed_outcome outcome.now))) }
+    ensures ok { OnOk result (out.new ≡ out.old
+        ++ spec.worded word (decimal number ++ (codes " " ++ printed_outcome outcome.now))) }
+    ensures grows { Grows out.old out.new }
 {
     out.extend_from_slice(word.bytes())?;
     push_ended(out, number, outcome)
 }
 
 fn push_read(out: &mut Text, address: &Address, base: u64) -> Result<(), AllocError>
-    ensures { OnOk result (out.new ≡ out.old ++ spec.worded ReplyWord.Read (printed_address address.now ++ (codes " base " ++ decimal base))) }
+    ensures ok { OnOk result (out.new ≡ out.old
+        ++ spec.worded ReplyWord.Read
+        (printed_address address.now ++ (codes " base " ++ decimal base))) }
+    ensures grows { Grows out.old out.new }
 {
     out.extend_from_slice(ReplyWord::Read.bytes())?;
     out.extend_from_slice(b" ")?;
@@ -152,8 +180,10 @@ fn push_read(out: &mut Text, address: &Address, base: u64) -> Result<(), AllocEr
 }
 
 fn push_ran(out: &mut Text, name: &Text, number: u64, outcome: &Outcome) -> Result<(), AllocError>
-    ensures { OnOk result (out.new ≡ out.old
-        ++ spec.worded ReplyWord.Run (name.now ++ (codes " " ++ (decimal number ++ (codes " " ++ printed_outcome outcome.now))))) }
+    ensures ok { OnOk result (out.new ≡ out.old
+        ++ spec.worded ReplyWord.Run
+        (name.now ++ (codes " " ++ (decimal number ++ (codes " " ++ printed_outcome outcome.now))))) }
+    ensures grows { Grows out.old out.new }
 {
     out.extend_from_slice(ReplyWord::Run.bytes())?;
     out.extend_from_slice(b" ")?;
@@ -162,7 +192,9 @@ fn push_ran(out: &mut Text, name: &Text, number: u64, outcome: &Outcome) -> Resu
 }
 
 fn push_abort(out: &mut Text, witness: &Witness) -> Result<(), AllocError>
-    ensures { OnOk result (out.new ≡ out.old ++ spec.worded ReplyWord.Abort (spec.printed_witness witness.now)) }
+    ensures ok { OnOk result (out.new ≡ out.old
+        ++ spec.worded ReplyWord.Abort (spec.printed_witness witness.now)) }
+    ensures grows { Grows out.old out.new }
 {
     out.extend_from_slice(ReplyWord::Abort.bytes())?;
     out.extend_from_slice(b" ")?;
@@ -170,7 +202,9 @@ fn push_abort(out: &mut Text, witness: &Witness) -> Result<(), AllocError>
 }
 
 fn push_refused(out: &mut Text, why: Why) -> Result<(), AllocError>
-    ensures { OnOk result (out.new ≡ out.old ++ spec.worded ReplyWord.Refused (spec.printed_why why)) }
+    ensures ok { OnOk result (out.new ≡ out.old
+        ++ spec.worded ReplyWord.Refused (spec.printed_why why)) }
+    ensures grows { Grows out.old out.new }
 {
     out.extend_from_slice(ReplyWord::Refused.bytes())?;
     out.extend_from_slice(b" ")?;
@@ -179,7 +213,8 @@ fn push_refused(out: &mut Text, why: Why) -> Result<(), AllocError>
 
 /// Adds a reply.
 pub fn push_reply(out: &mut Text, reply: &Reply) -> Result<(), AllocError>
-    ensures { OnOk result (out.new ≡ out.old ++ spec.printed_reply reply.now) }
+    ensures ok { OnOk result (out.new ≡ out.old ++ spec.printed_reply reply.now) }
+    ensures grows { Grows out.old out.new }
 {
     match reply {
         Reply::Commit(n, outcome) => push_result(out, ReplyWord::Commit, *n, outcome),
