@@ -12,7 +12,11 @@ use Rattle.rdt_types.proofs.Addresses.{address_cmp-equal}
 use Rattle.txn_lang.specs.declared.snaps.Snap.{Snap}
 use Rattle.txn_lang.specs.States.{PartialState}
 use Rattle.txn_lang.specs.Observed.{Extends}
+use Rattle.txn_trees.specs.declared.statement.Body.{Body}
 use Rattle.txn_eval.specs.Running.{values_of}
+use Rattle.client_cache.specs.Cached.{Cached, held}
+use Rattle.rerun_driver.specs.declared.rerun.Begun.{Begun}
+use Rattle.rerun_driver.specs.BegunRuns.{IsBegun}
 
 -- nothing taken is nothing else than what is there
 pub extends-none : (state : PartialState) → Extends (values_of []) state
@@ -29,3 +33,10 @@ extends-more snaps state address snap extends there a v found =
         → option_map (λ (s : Snap). s.value) (cond b (Some snap) (lookup (is_at (address_cmp a)) snaps)) ≡ Some v → state a ≡ Some v
     by true e is = ap state (address_cmp-equal a address (equal (address_cmp a address) e)) ∙ there ∙ is
     by false e is = extends a v is
+
+-- a run that has begun on what a cache holds has begun on more
+pub begun-more : (body : Body) (old new : Cached) (begun : Begun) → Extends (held old) (held new) → IsBegun body old begun → IsBegun body new begun
+begun-more body old new begun extends is = record {
+  taken = λ a v found. extends a v (is.taken a v found);
+  paused = is.paused;
+}

@@ -19,8 +19,8 @@ use Rattle.rerun_driver.specs.declared.watch.Watch.{Watch}
 use Rattle.rerun_driver.specs.declared.places.Places.{Places}
 use Rattle.rerun_driver.specs.Watches.{Watches, touches, told, all_told, is_observed_by, is_observed}
 use Rattle.rerun_driver.specs.code.Numbers.{IsRising, is_among}
-use Rattle.rerun_driver.specs.code.Places.{numbers_at, stands}
-use Rattle.rerun_driver.specs.code.Rolls.{Rolled, IsInOrder, IsPlaced, seen_in, seen_by, told_if}
+use Rattle.rerun_driver.specs.code.Places.{numbers_at, stands, IsStill, IsPutOnly}
+use Rattle.rerun_driver.specs.code.Rolls.{Rolled, IsInOrder, IsExact, IsPlaced, seen_in, seen_by, told_if}
 use Rattle.rerun_driver.specs.code.Rolls.{told_numbered, told_at, told_set, told_along, Covers, CoversBut}
 use Rattle.rerun_driver.proofs.Rolls.{seen-below}
 
@@ -263,21 +263,33 @@ module _ (a : Address) where
 
 -- ---- a call's parts
 
+-- the same numbers everywhere are exact where they were
+pub exact-same : (old new : Places) (roll : Rolled) → IsStill old new → IsExact old roll → IsExact new roll
+exact-same old new roll same exact n a e = exact n a (sym (ap (λ (xs : List ℕ). is_among xs n) (same a)) ∙ e)
+
+-- and a number that is put where its watch observed something is exact beside others that are
+pub exact-put : (old new : Places) (roll : Rolled) (observations : List Seen) (made : ℕ) → observations ≡ seen_by roll made
+    → IsPutOnly old new observations made → IsExact old roll → IsExact new roll
+exact-put old new roll observations made are only exact n a e =
+    ⊎_elim (λ was. exact n a was)
+    (λ put. subst (λ k. is_observed_by a (seen_by roll k) ≡ true) put.0 (sym (ap (is_observed_by a) are) ∙ put.1)) (only a n e)
+
 -- the same numbers everywhere
-pub placed-same : (b : Bool) (old new : Places) (roll : Rolled)
-    → ((a : Address) → numbers_at new a ≡ numbers_at old a) → IsPlaced b old roll → IsPlaced b new roll
+pub placed-same : (b : Bool) (old new : Places) (roll : Rolled) → IsStill old new → IsPlaced b old roll → IsPlaced b new roll
 placed-same b old new roll same placed = record {
   ordered = placed.ordered;
+  exact = exact-same old new roll same placed.exact;
   covers = λ e n a seen. ap (λ (xs : List ℕ). is_among xs n) (same a) ∙ placed.covers e n a seen;
 }
 
 -- a watch that is put where it observed something, beside others that stand
-pub placed-put : (b c : Bool) (old new : Places) (roll : Rolled) (made : ℕ) → IsInOrder roll → (b ≡ true → CoversBut made old roll)
+pub placed-put : (b c : Bool) (old new : Places) (roll : Rolled) (made : ℕ) → IsInOrder roll → IsExact new roll → (b ≡ true → CoversBut made old roll)
     → (c ≡ true → (a : Address) (m : ℕ) → stands old a m ≡ true → stands new a m ≡ true)
     → (c ≡ true → (a : Address) → is_observed_by a (seen_by roll made) ≡ true → stands new a made ≡ true)
     → IsPlaced (b && c) new roll
-placed-put b c old new roll made ordered others stays put = record {
+placed-put b c old new roll made ordered exact others stays put = record {
   ordered = ordered;
+  exact = exact;
   covers = λ e n a seen. by (and_parts b c e) n a seen (nat_eq made n) refl;
 }
   where
@@ -296,23 +308,46 @@ others-stand made places old new observations is covers n a other seen =
 -- a watch that observed again where it observed before stands there, and so do the others
 pub placed-again : (b : Bool) (made : ℕ) (places : Places) (old new : Rolled) (observations before : List Seen) → IsInOrder new
     → ((n : ℕ) → seen_by new n ≡ cond (nat_eq made n) observations (seen_by old n)) → before ≡ seen_by old made
-    → ((a : Address) → is_observed_by a observations ≡ true → is_observed_by a before ≡ true) → IsPlaced b places old → IsPlaced b places new
+    → ((a : Address) → is_observed_by a observations ≡ is_observed_by a before) → IsPlaced b places old → IsPlaced b places new
 placed-again b made places old new observations before ordered is was again placed = record {
   ordered = ordered;
-  covers = λ e n a seen. placed.covers e n a (by n a (nat_eq made n) refl (sym (ap (is_observed_by a) (is n)) ∙ seen));
+  exact = λ n a e. same n a ∙ placed.exact n a e;
+  covers = λ e n a seen. placed.covers e n a (sym (same n a) ∙ seen);
 }
   where
-    by : (n : ℕ) (a : Address) (c : Bool) → nat_eq made n ≡ c → is_observed_by a (cond (nat_eq made n) observations (seen_by old n)) ≡ true
-        → is_observed_by a (seen_by old n) ≡ true
-    by n a true f seen =
-        sym (ap (λ k. is_observed_by a (seen_by old k)) (eqb-true made n f)) ∙ sym (ap (is_observed_by a) was)
-        ∙ again a (sym (ap (λ d. is_observed_by a (cond d observations (seen_by old n))) f) ∙ seen)
-    by n a false f seen = sym (ap (λ d. is_observed_by a (cond d observations (seen_by old n))) f) ∙ seen
+    by : (n : ℕ) (a : Address) (c : Bool) → nat_eq made n ≡ c
+        → is_observed_by a (cond c observations (seen_by old n)) ≡ is_observed_by a (seen_by old n)
+    by n a true f = again a ∙ ap (is_observed_by a) was ∙ ap (λ k. is_observed_by a (seen_by old k)) (eqb-true made n f)
+    by n a false f = refl
+
+    same : (n : ℕ) (a : Address) → is_observed_by a (seen_by new n) ≡ is_observed_by a (seen_by old n)
+    same n a = ap (is_observed_by a) (is n) ∙ by n a (nat_eq made n) refl
 
 -- where a number is taken out, the others stand
 pub others-taken : (made : ℕ) (old new : Places) (roll : Rolled)
     → ((a : Address) (m : ℕ) → nat_eq made m ≡ false → stands new a m ≡ stands old a m) → CoversBut made old roll → CoversBut made new roll
 others-taken made old new roll same covers n a other seen = same a n other ∙ covers n a other seen
+
+-- where it stands nowhere, the others are exact beside what its watch observed then, or beside nothing
+pub exact-taken : (made : ℕ) (places taken : Places) (old new : Rolled) (observations before : List Seen)
+    → ((n : ℕ) → seen_by new n ≡ cond (nat_eq made n) observations (seen_by old n)) → before ≡ seen_by old made
+    → ((a : Address) (m : ℕ) → stands taken a m ≡ true → stands places a m ≡ true)
+    → ((a : Address) → is_observed_by a before ≡ true → stands taken a made ≡ false) → IsExact places old → IsExact taken new
+exact-taken made places taken old new observations before is was fewer gone exact n a e = by (nat_eq made n) refl
+  where
+    by : (b : Bool) → nat_eq made n ≡ b → is_observed_by a (seen_by new n) ≡ true
+    by true f =
+        let here = ap (λ k. stands taken a k) (eqb-true made n f) ∙ e in
+        let seen = ap (is_observed_by a) was ∙ exact made a (fewer a made here) in absurd (true≢false (sym here ∙ gone a seen))
+    by false f =
+        ap (is_observed_by a) (is n ∙ ap (λ b. cond b observations (seen_by old n)) f) ∙ exact n a (fewer a n e)
+
+-- so are they beside a new watch, whose number stands nowhere
+pub exact-added : (made : ℕ) (places : Places) (old new : Rolled) (observations : List Seen)
+    → ((n : ℕ) → seen_by new n ≡ cond (nat_eq made n) observations (seen_by old n)) → seen_by old made ≡ []
+    → IsExact places old → IsExact places new
+exact-added made places old new observations is none exact =
+    exact-taken made places places old new observations [] is (sym none) (λ a m e. e) (λ a seen. absurd (true≢false (sym seen))) exact
 
 -- and where its watch observed nothing, or is gone, all do
 pub all-stand : (made : ℕ) (places : Places) (roll : Rolled) → seen_by roll made ≡ [] → CoversBut made places roll → Covers places roll
@@ -350,5 +385,6 @@ place-next old now roll numbers i k within is stays put n a seen (inr left) =
 pub placed-told : (changes : Deltas) (b : Bool) (places : Places) (roll : Rolled) → IsPlaced b places roll → IsPlaced b places (roll.0, all_told changes roll.1)
 placed-told changes b places roll placed = record {
   ordered = ordered-told changes roll placed.ordered;
+  exact = λ n a e. ap (is_observed_by a) (seen-told changes roll.0 roll.1 n) ∙ placed.exact n a e;
   covers = λ e n a seen. placed.covers e n a (sym (ap (is_observed_by a) (seen-told changes roll.0 roll.1 n)) ∙ seen);
 }

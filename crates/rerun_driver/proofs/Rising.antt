@@ -1,8 +1,8 @@
 -- Numbers in rising order: where a number is found and put, and what is left without it.
 use Rattle.std.proofs.Common.{◌≡◌, ℕ, zero, suc, ◌<◌, ◌≤◌, ⊎_elim, Bool, true, false}
 use Rattle.std.proofs.Common.{cond, nat_eq, nat_lt, ◌||◌, List, [], ◌∷◌, ◌++◌, length, get_or, insert, remove}
-use Rattle.std.proofs.Common.{Option, Some, None, option_map, is_some, Result, Ok, Err, MatchResult, nat_cmp, refl, sym, ap, ◌∙◌, arith, le_refl, true≢false}
-use Rattle.std.proofs.lemmas.Bool.{eq-eqb, ne_eqb, eqb-true, eqb-false, lt-ltb, le-ltb, ltb-true, ltb-false, cases_lt, cases_order}
+use Rattle.std.proofs.Common.{Option, Some, None, option_map, is_some, Result, Ok, Err, MatchResult, nat_cmp, refl, sym, ap, subst, ◌∙◌, arith, le_refl, true≢false}
+use Rattle.std.proofs.lemmas.Bool.{eq-eqb, ne_eqb, eqb-true, eqb-false, lt-ltb, le-ltb, ltb-true, ltb-false, cases_lt, cases_order, or_left, or_right, or_cases}
 use Rattle.std.proofs.lemmas.List.Sorted.{searched}
 use Rattle.std.specs.List.{AllByRecursion}
 use Rattle.std.specs.List.Sorted.{IsBinarySearchResult}
@@ -236,6 +236,33 @@ among-without (x ∷ xs) n m other = by (nat_eq x n) refl (among-without xs n m 
         → is_among (cond b xs (x ∷ without_number xs n)) m ≡ (nat_eq x m || is_among xs m)
     by true e rest = ap (λ c. c || is_among xs m) (sym (ap (λ k. nat_eq k m) (eqb-true x n e) ∙ other))
     by false e rest = ap (λ b. nat_eq x m || b) rest
+
+-- where all are above a number it isn't there
+above-out : (n : ℕ) (xs : List ℕ) → AllByRecursion (λ k. n < k) xs → is_among xs n ≡ false
+above-out n [] all = refl
+above-out n (x ∷ xs) all =
+    ap (λ b. b || is_among xs n) (ne_eqb x n (λ same. let h = all.0 in omega (arith, h, same))) ∙ above-out n xs all.1
+
+-- so what is taken out is there no longer
+pub gone-without : (xs : List ℕ) (n : ℕ) → IsRising xs → is_among (without_number xs n) n ≡ false
+gone-without [] n r = refl
+gone-without (x ∷ xs) n r = by (nat_eq x n) refl (gone-without xs n r.1)
+  where
+    by : (b : Bool) → nat_eq x n ≡ b → is_among (without_number xs n) n ≡ false → is_among (cond b xs (x ∷ without_number xs n)) n ≡ false
+    by true e rest = above-out n xs (subst (λ k. AllByRecursion (λ y. k < y) xs) (eqb-true x n e) r.0)
+    by false e rest = ap (λ b. b || is_among (without_number xs n) n) e ∙ rest
+
+-- who is left was there
+pub among-fewer : (xs : List ℕ) (n m : ℕ) → is_among (without_number xs n) m ≡ true → is_among xs m ≡ true
+among-fewer [] n m e = e
+among-fewer (x ∷ xs) n m e = by (nat_eq x n) e (among-fewer xs n m)
+  where
+    by : (b : Bool) → is_among (cond b xs (x ∷ without_number xs n)) m ≡ true → (is_among (without_number xs n) m ≡ true → is_among xs m ≡ true)
+        → (nat_eq x m || is_among xs m) ≡ true
+    by true f rest = or_right (nat_eq x m) (is_among xs m) f
+    by false f rest =
+        ⊎_elim (λ here. or_left (nat_eq x m) (is_among xs m) here) (λ later. or_right (nat_eq x m) (is_among xs m) (rest later))
+        (or_cases (nat_eq x m) (is_among (without_number xs n) m) f)
 
 -- a number above all goes behind all
 pub with-last : (xs : List ℕ) (n : ℕ) → AllByRecursion (λ k. k < n) xs → with_number xs n ≡ xs ++ n ∷ []

@@ -105,6 +105,13 @@ seen-below n (m ∷ ms) [] all = refl
 seen-below n (m ∷ ms) (e ∷ ws) all =
     ap (λ b. cond b e.1.observations (seen_in ms ws n)) (ne_eqb m n (λ same. let h = all.0 in omega (arith, h, same))) ∙ seen-below n ms ws all.1
 
+-- nor of one above all
+pub seen-above : (n : ℕ) (order : List ℕ) (ws : Watches) → AllByRecursion (λ k. k < n) order → seen_in order ws n ≡ []
+seen-above n [] ws all = refl
+seen-above n (m ∷ ms) [] all = refl
+seen-above n (m ∷ ms) (e ∷ ws) all =
+    ap (λ b. cond b e.1.observations (seen_in ms ws n)) (ne_eqb m n (λ same. let h = all.0 in omega (arith, h, same))) ∙ seen-above n ms ws all.1
+
 -- what the watch at a place observed
 abbrev seen_at : Kept → Option ℕ → List Seen
 seen_at kept place = option_map_or (λ entry. entry.1.observations) (option_and_then (slice_get kept) place) []

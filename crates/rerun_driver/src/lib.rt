@@ -20,5 +20,5 @@ mod watch;
 
 pub use driver::Driver;
 pub use laws::stale_is_touched;
-pub use rerun::{Rerun, run_on};
+pub use rerun::{Begun, Rerun, run_from, run_on};
 pub use watch::{StaleWatch, Watch};

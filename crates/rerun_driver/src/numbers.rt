@@ -1,8 +1,8 @@
 //! Numbers in rising order.
 
-ghost use Rattle.std.specs.Prelude.{◌≡◌, ◌+◌, ◌≤◌, ◌<◌, [], length, slice_get, nat_lt, OnOk};
+ghost use Rattle.std.specs.Prelude.{◌≡◌, ◌+◌, ◌≤◌, ◌<◌, [], false, length, slice_get, nat_lt, OnOk};
 ghost use Rattle.std.specs.Bool.{OnTrue};
-ghost use Rattle.rerun_driver.specs.code.Numbers.{IsRising, place_in, with_number, without_number};
+ghost use Rattle.rerun_driver.specs.code.Numbers.{IsRising, is_among, place_in, with_number, without_number};
 ghost use Rattle.std.specs.Vec.{vec_capacity};
 
 use std::alloc::{AllocError, Global};
@@ -130,7 +130,8 @@ impl Numbers {
 
     /// Takes a number out, where it is there. It is never refused for want of memory.
     pub fn take_out(&mut self, number: u64)
-        ensures { self.new ≡ (without_number self.old.0 number, self.old.1) }
+        ensures taken { self.new ≡ (without_number self.old.0 number, self.old.1) }
+        ensures gone { is_among self.new.0 number ≡ false }
     {
         take_out(&mut self.items, number)
     }

@@ -1,12 +1,12 @@
 //! Which watches stand at an address.
 
 ghost use Rattle.std.specs.Bool.{OnTrue};
-ghost use Rattle.std.specs.Prelude.{◌≡◌, [], if◌then◌else◌};
+ghost use Rattle.std.specs.Prelude.{◌≡◌, [], true, false, if◌then◌else◌};
 ghost use Rattle.std.specs.BTreeMap.{is_at};
 ghost use Rattle.rdt_types.specs.declared.address.Address.{Address};
 ghost use Rattle.rdt_types.specs.Addresses.{address_cmp};
 ghost use Rattle.rerun_driver.specs.code.Numbers.{with_number, without_number};
-ghost use Rattle.rerun_driver.specs.code.Places.{numbers_at};
+ghost use Rattle.rerun_driver.specs.code.Places.{numbers_at, stands, IsStill};
 
 use crate::numbers::Numbers;
 use plain_data::copied;
@@ -23,7 +23,8 @@ pub(crate) struct Places {
 
 /// Puts a number into a set where it is there or there is room, and answers whether that was so.
 fn put_in(set: &mut Numbers, number: u64) -> bool
-    ensures { OnTrue result (set.new.0 ≡ with_number set.old.0 number) }
+    ensures put { OnTrue result (set.new.0 ≡ with_number set.old.0 number) }
+    ensures none { result ≡ false → set.new ≡ set.old }
 {
     if set.has(number) {
         return true;
@@ -71,8 +72,9 @@ impl Places {
 
     /// Puts a number at an address, where there is memory for it, and answers whether there was. It takes none.
     pub fn put(&mut self, address: &Address, number: u64) -> bool
-        ensures { OnTrue result ((a : Address) → numbers_at self.new a
+        ensures put { OnTrue result ((a : Address) → numbers_at self.new a
             ≡ (if is_at (address_cmp address.now) a then with_number (numbers_at self.old a) number else numbers_at self.old a)) }
+        ensures none { result ≡ false → IsStill self.old self.new }
     {
         match self.sets.get_mut(address) {
             Some(set) => put_in(set, number),
@@ -82,8 +84,9 @@ impl Places {
 
     /// Takes a number from an address. It is never refused for want of memory.
     pub fn take_out(&mut self, address: &Address, number: u64)
-        ensures { (a : Address) → numbers_at self.new a
+        ensures taken { (a : Address) → numbers_at self.new a
             ≡ (if is_at (address_cmp address.now) a then without_number (numbers_at self.old a) number else numbers_at self.old a) }
+        ensures gone { (a : Address) → is_at (address_cmp address.now) a ≡ true → stands self.new a number ≡ false }
     {
         if let Some(set) = self.sets.get_mut(address) {
             set.take_out(number);

@@ -4,8 +4,8 @@ ghost use Rattle.std.specs.Bool.{OnTrue};
 ghost use Rattle.std.specs.Prelude.{◌≡◌, ℕ, true, false, nat_eq, IfOk, OnErr};
 ghost use Rattle.rdt_types.specs.declared.address.Address.{Address};
 ghost use Rattle.rerun_driver.specs.Watches.{is_observed_by};
-ghost use Rattle.rerun_driver.specs.code.Places.{numbers_at, stands};
-ghost use Rattle.rerun_driver.specs.code.Rolls.{IsInOrder, IsPlaced, Covers, CoversBut};
+ghost use Rattle.rerun_driver.specs.code.Places.{stands, IsStill, IsPutOnly};
+ghost use Rattle.rerun_driver.specs.code.Rolls.{IsInOrder, IsExact, IsPlaced, Covers, CoversBut};
 
 use crate::places::Places;
 use crate::roll::Roll;
@@ -14,7 +14,7 @@ use txn_lang::Seen;
 
 /// Takes the memory for one number more at each observed address.
 fn reserve_all(places: &mut Places, observations: &[Seen]) -> Result<(), AllocError>
-    ensures { (a : Address) → numbers_at places.new a ≡ numbers_at places.old a }
+    ensures { IsStill places.old places.new }
 {
     for seen in observations {
         places.reserve(&seen.address)?;
@@ -26,6 +26,7 @@ fn reserve_all(places: &mut Places, observations: &[Seen]) -> Result<(), AllocEr
 fn put_all(places: &mut Places, observations: &[Seen], number: u64) -> bool
     ensures stays { OnTrue result ((a : Address) (m : ℕ) → stands places.old a m ≡ true → stands places.new a m ≡ true) }
     ensures put { OnTrue result ((a : Address) → is_observed_by a observations.now ≡ true → stands places.new a number ≡ true) }
+    ensures only { IsPutOnly places.old places.new observations.now number }
 {
     for seen in observations {
         if !places.put(&seen.address, number) {
@@ -37,7 +38,9 @@ fn put_all(places: &mut Places, observations: &[Seen], number: u64) -> bool
 
 /// Takes a number from each observed address. It is never refused for want of memory.
 pub(crate) fn take_all(places: &mut Places, observations: &[Seen], number: u64)
-    ensures { (a : Address) (m : ℕ) → nat_eq number m ≡ false → stands places.new a m ≡ stands places.old a m }
+    ensures others { (a : Address) (m : ℕ) → nat_eq number m ≡ false → stands places.new a m ≡ stands places.old a m }
+    ensures fewer { (a : Address) (m : ℕ) → stands places.new a m ≡ true → stands places.old a m ≡ true }
+    ensures gone { (a : Address) → is_observed_by a observations.now ≡ true → stands places.new a number ≡ false }
 {
     for seen in observations {
         places.take_out(&seen.address, number);
@@ -46,7 +49,7 @@ pub(crate) fn take_all(places: &mut Places, observations: &[Seen], number: u64)
 
 /// Gives the memory for each observed address back where nobody stands there. It takes none.
 pub(crate) fn sweep_all(places: &mut Places, observations: &[Seen])
-    ensures { (a : Address) → numbers_at places.new a ≡ numbers_at places.old a }
+    ensures { IsStill places.old places.new }
 {
     for seen in observations {
         places.sweep(&seen.address);
@@ -55,7 +58,8 @@ pub(crate) fn sweep_all(places: &mut Places, observations: &[Seen])
 
 /// Puts all watches at the addresses that they observed, and answers whether there was memory for all.
 fn place_all(roll: &Roll, places: &mut Places) -> Result<bool, AllocError>
-    ensures { IfOk result (λ all. all ≡ true → Covers places.new roll.now) }
+    ensures covers { IfOk result (λ all. all ≡ true → Covers places.new roll.now) }
+    ensures exact { IsExact places.old roll.now → IsExact places.new roll.now }
 {
     for number in roll.numbers() {
         let observations = roll.observations(*number);
@@ -72,6 +76,9 @@ fn place_rest(roll: &Roll, places: &mut Places, is_placed: bool) -> Result<bool,
     requires { is_placed ≡ true → Covers places.old roll.now }
     ensures ok { IfOk result (λ all. all ≡ true → Covers places.new roll.now) }
     ensures err { OnErr result (is_placed ≡ false) }
+    ensures exact { IsExact places.old roll.now → IsExact places.new roll.now }
+    ensures placed { is_placed ≡ true → IfOk result (λ all. all ≡ true) }
+    ensures still { is_placed ≡ true → IsStill places.old places.new }
 {
     if is_placed {
         Ok(true)
@@ -81,7 +88,7 @@ fn place_rest(roll: &Roll, places: &mut Places, is_placed: bool) -> Result<bool,
 }
 
 /// Takes the memory for one number more at each observed address. All watches are put in their places first, where they
-/// aren't yet.
+/// aren't yet. Where they are, they stay there.
 pub(crate) fn make_room(
     roll: &Roll,
     places: &mut Places,
@@ -89,7 +96,9 @@ pub(crate) fn make_room(
     observations: &[Seen],
 ) -> Result<(), AllocError>
     requires { IsPlaced is_placed.old places.old roll.now }
-    ensures { IsPlaced is_placed.new places.new roll.now }
+    ensures kept { IsPlaced is_placed.new places.new roll.now }
+    ensures placed { is_placed.old ≡ true → is_placed.new ≡ true }
+    ensures still { is_placed.old ≡ true → IsStill places.old places.new }
 {
     *is_placed = place_rest(roll, places, *is_placed)?;
     reserve_all(places, observations)
@@ -98,6 +107,7 @@ pub(crate) fn make_room(
 /// Puts a watch at the addresses that it observed, where there is memory for that. It takes none.
 pub(crate) fn put_watch(roll: &Roll, places: &mut Places, is_placed: &mut bool, made: u64)
     requires order { IsInOrder roll.now }
+    requires exact { IsExact places.old roll.now }
     requires others { is_placed.old ≡ true → CoversBut made places.old roll.now }
     ensures { IsPlaced is_placed.new places.new roll.now }
 {

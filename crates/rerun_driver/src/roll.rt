@@ -129,6 +129,7 @@ impl Roll {
         requires fresh { watch.stale ≡ false }
         ensures ok { OnOk result (self.new.1 ≡ spec.with_watch self.old.1 name watch) }
         ensures seen { IfOk result (λ made. (n : ℕ) → seen_by self.new n ≡ (if nat_eq made n then watch.observations else seen_by self.old n)) }
+        ensures unseen { IfOk result (λ made. seen_by self.old made ≡ []) }
         ensures order { IsInOrder self.new }
         ensures err { OnErr result (self.new ≡ self.old) }
     {
@@ -150,6 +151,7 @@ impl Roll {
         ensures gone { self.new.1 ≡ spec.without_watch self.old.1 name.now }
         ensures none { IfNone result (self.new ≡ self.old) }
         ensures seen { IfSome result (λ r. (n : ℕ) → seen_by self.new n ≡ (if nat_eq r.0 n then [] else seen_by self.old n)) }
+        ensures before { IfSome result (λ r. r.1.observations ≡ seen_by self.old r.0) }
         ensures order { IsInOrder self.new }
     {
         let Some(made) = self.number_of(name) else {

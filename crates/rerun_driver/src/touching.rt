@@ -1,7 +1,7 @@
 //! Whether changes touch what was observed.
 
 ghost use Rattle.std.specs.Bool.{OnTrue};
-ghost use Rattle.std.specs.Prelude.{◌≡◌, true};
+ghost use Rattle.std.specs.Prelude.{◌≡◌};
 ghost use Rattle.rdt_types.specs.declared.address.Address.{Address};
 ghost use Rattle.rerun_driver.specs.Watches as spec;
 
@@ -55,7 +55,7 @@ pub(crate) fn is_observed_by(address: &Address, observations: &[Seen]) -> bool
 
 /// Whether observations are at the addresses of earlier ones, in their order.
 pub(crate) fn are_where(observations: &[Seen], before: &[Seen]) -> bool
-    ensures { OnTrue result ((a : Address) → spec.is_observed_by a observations.now ≡ true → spec.is_observed_by a before.now ≡ true) }
+    ensures { OnTrue result ((a : Address) → spec.is_observed_by a observations.now ≡ spec.is_observed_by a before.now) }
 {
     if observations.len() != before.len() {
         return false;

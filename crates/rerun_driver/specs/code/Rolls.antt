@@ -119,12 +119,18 @@ abbrev pub CoversBut : ℕ → Places → Rolled → Type 0
 CoversBut made places roll =
     (n : ℕ) (address : Address) → nat_eq made n ≡ false → is_observed_by address (seen_by roll n) ≡ true → stands places address n ≡ true
 
+-- each watch stands only where its last run observed something
+abbrev pub IsExact : Places → Rolled → Type 0
+IsExact places roll = (n : ℕ) (address : Address) → stands places address n ≡ true → is_observed_by address (seen_by roll n) ≡ true
+
 -- There are as many numbers as watches, and they rise.
 pub record IsInOrder (roll : Rolled) : Type 0 where
   pub rising : IsRising roll.0
   pub as_many : length roll.0 ≡ length roll.1
 
--- The numbers are in order; and each watch is where it observed something, unless a report found no memory for that.
+-- The numbers are in order; each watch stands only where it observed something; and it stands at all these addresses, unless a
+-- report found no memory for that.
 pub record IsPlaced (is_placed : Bool) (places : Places) (roll : Rolled) : Type 0 where
   pub ordered : IsInOrder roll
+  pub exact : IsExact places roll
   pub covers : is_placed ≡ true → Covers places roll

@@ -1,7 +1,8 @@
-use Rattle.std.proofs.Common.{◌≡◌, ◌<◌, length, sym, ◌∙◌, arith}
+use Rattle.std.proofs.Common.{◌≡◌, ◌<◌, length, sym, ap, ◌∙◌, arith}
 use Rattle.rdt_types.specs.Addresses.{address_cmp}
 use Rattle.rdt_types.proofs.Addresses.{address_cmp-equal}
-use Rattle.rerun_driver.proofs.Links.{not-ordered, observed-from}
+use Rattle.rerun_driver.specs.Watches.{is_observed_by}
+use Rattle.rerun_driver.proofs.Links.{not-ordered, observed-from, drop-past}
 use Rattle.rerun_driver.proofs.touching.are_where.Goals as goal
 
 pub loop-place-preserved : goal.loop-place-preserved
@@ -17,3 +18,9 @@ loop-place-preserved c behind =
     (sym c.index-observations-place.is) (sym c.index-before-place.is)
     (address_cmp-equal seen.address earlier.address (sym compared ∙ not-ordered c.cmp.result (sym c.is_ne.ensures ∙ c.if-is_ne.false)))
     behind)
+
+pub returns : goal.returns
+returns c =
+    c.loop-place.invariant (λ a. ap (is_observed_by a)
+    (drop-past c.args.observations.now c.loop-place.place (let same = c.if-observations-before.false in let past = c.loop-place-test.false in omega arith)
+    ∙ sym (drop-past c.args.before.now c.loop-place.place (let past = c.loop-place-test.false in omega arith))))

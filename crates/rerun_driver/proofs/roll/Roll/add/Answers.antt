@@ -7,7 +7,7 @@ use Rattle.rerun_driver.specs.code.Rolls.{Rolled, IsRoll, seen_in, seen_by}
 use Rattle.rerun_driver.specs.code.Shown.{shown}
 use Rattle.rerun_driver.proofs.Shown.{Kept, is_named, lookup-shown, shown-append}
 use Rattle.rerun_driver.proofs.Rising.{with-last}
-use Rattle.rerun_driver.proofs.Rolls.{seen-added}
+use Rattle.rerun_driver.proofs.Rolls.{seen-added, seen-above}
 use Rattle.rerun_driver.proofs.Keeping.{in-order, keeps-added}
 use Rattle.rerun_driver.proofs.roll.Roll.add.Goals as goal
 
@@ -56,6 +56,12 @@ returns-clause-seen c n =
     ∙ seen-added key.items c.args.watch made n inside.order.0 (shown kept)
     (in-order inside.order inside.stale made kept c.self.invariant).as_many c.self.invariant.below
     ∙ ap (λ (roll : Rolled). cond (nat_eq made n) c.args.watch.observations (seen_by roll n)) c.self.view_is
+
+pub returns-clause-unseen : goal.returns-clause-unseen
+returns-clause-unseen c =
+    let inside = c.self.inside in
+    sym (ap (λ (roll : Rolled). seen_by roll inside.made) c.self.view_is)
+    ∙ seen-above inside.made inside.order.0 (shown inside.watches.entries) c.self.invariant.below
 
 pub returns-clause-order : goal.returns-clause-order
 returns-clause-order c = in-order c.put.new.self c.reserve-2.new.self (c.self.inside.made + 1) c.insert.new.self.entries (invariant_of-self-2 c)

@@ -4,7 +4,7 @@ use Rattle.rerun_driver.specs.code.Numbers.{Roomy, without_number}
 use Rattle.rerun_driver.specs.code.Rolls.{Rolled, IsRoll, IsInOrder, number_of, number_in, seen_in, seen_by}
 use Rattle.rerun_driver.specs.code.Shown.{shown}
 use Rattle.rerun_driver.proofs.Shown.{Kept, lookup-shown, shown-remove_entry}
-use Rattle.rerun_driver.proofs.Rolls.{named-none, without-none, seen-removed}
+use Rattle.rerun_driver.proofs.Rolls.{named-none, without-none, seen-removed, seen-named}
 use Rattle.rerun_driver.proofs.Keeping.{in-order, keeps-removed}
 use Rattle.rerun_driver.proofs.roll.Roll.remove.Goals as goal
 
@@ -44,9 +44,9 @@ invariant_of-self-2 c =
     let made = c.in-Some.made in
     let bytes = c.as_slice.result.now in
     let at : number_in inside.order.0 (shown kept) bytes ≡ Some made = (λ i. number_of (c.self.view_is i) (c.as_slice.ensures i)) ∙ sym c.in-Some.ensures in
-    subst (λ (order : Roomy). IsRoll order c.take_out-2.new.self inside.made c.shift_remove.new.self.entries) (sym c.take_out.ensures)
+    subst (λ (order : Roomy). IsRoll order c.take_out-2.new.self inside.made c.shift_remove.new.self.entries) (sym c.take_out.ensures.taken)
     (subst (λ (stale : Roomy). IsRoll (without_number inside.order.0 made, inside.order.1) stale inside.made c.shift_remove.new.self.entries)
-    (sym c.take_out-2.ensures)
+    (sym c.take_out-2.ensures.taken)
     (subst (λ (es : Kept). IsRoll (without_number inside.order.0 made, inside.order.1) (without_number inside.stale.0 made, inside.stale.1) inside.made es)
     (sym c.shift_remove.ensures.entries)
     (keeps-removed inside.order inside.stale inside.made kept c.self.invariant bytes made at)))
@@ -70,11 +70,22 @@ returns-clause-seen c n =
     let made = c.in-Some.made in
     let bytes = c.as_slice.result.now in
     let at : number_in inside.order.0 (shown kept) bytes ≡ Some made = (λ i. number_of (c.self.view_is i) (c.as_slice.ensures i)) ∙ sym c.in-Some.ensures in
-    let order = ap (λ (o : Roomy). o.0) c.take_out.ensures in
+    let order = ap (λ (o : Roomy). o.0) c.take_out.ensures.taken in
     let ws = ap shown c.shift_remove.ensures.entries ∙ shown-remove_entry bytes kept in
     (λ i. seen_in (order i) (ws i) n)
     ∙ seen-removed bytes made n inside.order.0 (shown kept) c.self.invariant.rising at
     ∙ ap (λ (roll : Rolled). cond (nat_eq made n) [] (seen_by roll n)) c.self.view_is
+
+pub returns-clause-before : goal.returns-clause-before
+returns-clause-before c =
+    let inside = c.self.inside in
+    let kept = inside.watches.entries in
+    let made = c.in-Some.made in
+    let bytes = c.as_slice.result.now in
+    let watch = c.in-Some-shift_remove.watch in
+    let at : number_in inside.order.0 (shown kept) bytes ≡ Some made = (λ i. number_of (c.self.view_is i) (c.as_slice.ensures i)) ∙ sym c.in-Some.ensures in
+    let found : watch_of (shown kept) bytes ≡ Some watch = lookup-shown bytes kept ∙ sym c.in-Some-shift_remove.ensures.value in
+    sym (seen-named bytes watch made inside.order.0 (shown kept) c.self.invariant.rising at found) ∙ (λ i. seen_by (c.self.view_is i) made)
 
 pub returns-clause-order : goal.returns-clause-order
 returns-clause-order c = in-order c.take_out.new.self c.take_out-2.new.self c.self.inside.made c.shift_remove.new.self.entries (invariant_of-self-2 c)

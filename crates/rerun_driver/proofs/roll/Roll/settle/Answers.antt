@@ -48,7 +48,7 @@ invariant_of-self-2 c =
     let bytes = c.as_slice.result.now in
     let watch = c.settle-before.new.self in
     let at : number_in inside.order.0 (shown kept) bytes ≡ Some made = (λ i. number_of (c.self.view_is i) (c.as_slice.ensures i)) ∙ sym c.in-Some.ensures in
-    subst (λ (stale : Roomy). IsRoll inside.order stale inside.made (c.get_mut.follows.lender watch).entries) (sym c.take_out.ensures)
+    subst (λ (stale : Roomy). IsRoll inside.order stale inside.made (c.get_mut.follows.lender watch).entries) (sym c.take_out.ensures.taken)
     (subst (λ (es : Kept). IsRoll inside.order (without_number inside.stale.0 made, inside.stale.1) inside.made es)
     (sym (c.get_mut.follows.holds watch).0)
     (keeps-settled inside.order inside.stale inside.made kept c.self.invariant bytes made watch at (ap (λ (w : Watch). w.stale) c.settle-before.ensures.kept)))
