@@ -13,14 +13,15 @@ use crate::watching::{ReplyList, Watching};
 use docc_prepare::Backend;
 use plain_data::{Text, copied};
 use rdt_types::Outcome;
-use rerun_driver::run_on;
+use rerun_driver::{Begun, run_from};
 use session_text::Reply;
 use std::alloc::{AllocError, Global};
 use std::mem::replace;
 use txn_eval::Step;
 use txn_lang::{Checked, Run, TICK_LIMIT};
 
-/// Runs a body on the values that are held, and on those that it asks for. Where one of them was late, that was said.
+/// Runs a body on the values that are held, and on those that it asks for: with each it goes on from where it needed that. Where
+/// one of them was late, that was said.
 fn run_body<B: Backend>(
     alloc: Global,
     backend: &mut B,
@@ -37,8 +38,9 @@ fn run_body<B: Backend>(
     ensures done { IfOk result (λ run. IfSome run (spec.HasRun body.now watching.new)) }
     ensures home { B.home backend.new ≡ B.home backend.old }
 {
+    let mut begun = Begun::new(alloc);
     for _ in 0..TICK_LIMIT + 1 {
-        match run_on(alloc, body, &watching.cache)? {
+        match run_from(alloc, body, &watching.cache, &mut begun)? {
             Step::Done(run) => return Ok(Some(run)),
             Step::Need(address) => {
                 if let Some(late) = fetch(backend, watching, address)? {
