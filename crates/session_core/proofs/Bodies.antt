@@ -1,14 +1,19 @@
 -- The body of a verb.
 use Rattle.std.proofs.Common.{◌≡◌, ℕ, Bool, true, false, Option, Some, None, Result, Ok, Err, refl, ap, sym, ◌∙◌, subst, ◌≤◌, length}
-use Rattle.std.specs.Prelude.{IsTrue}
+use Rattle.std.specs.Prelude.{IsTrue, IfOk}
 use Rattle.std.specs.Option.{unwrap_or}
 use Rattle.session_text.specs.declared.reply.Why.{Why}
 use Rattle.session_text.specs.declared.reply.Why.TheVariants as why
-use Rattle.plain_data.specs.declared.or_no_memory.OrNoMemory.TheVariants.{Cause}
+use Rattle.plain_data.specs.declared.or_no_memory.OrNoMemory.{OrNoMemory}
+use Rattle.plain_data.specs.declared.or_no_memory.OrNoMemory.TheVariants.{Cause, NoMemory}
 use Rattle.txn_trees.specs.declared.statement.Body.{Body}
 use Rattle.txn_grammar.specs.Characters.{Text}
 use Rattle.txn_grammar.specs.Parsed.{parsed, IsSyntaxColumn}
 use Rattle.txn_grammar.proofs.Parses.{column_is_computed, column_of_none}
+use Rattle.txn_parse.specs.declared.whole.ParseError.{ParseError}
+use Rattle.txn_parse.specs.declared.whole.ParseError.TheVariants as parse
+use Rattle.txn_lang.specs.declared.checking.CheckError.{CheckError}
+use Rattle.txn_lang.specs.declared.checking.CheckError.TheVariants as check
 use Rattle.txn_lang.specs.declared.checked.Checked.{Checked}
 use Rattle.txn_lang.specs.Typing.{judge, IsTyped}
 use Rattle.txn_lang.specs.Tree.{tree}
@@ -21,7 +26,7 @@ use Rattle.session_core.specs.Bodies.{if_pure, if_tree, checked_of, ill_typed, u
 use Rattle.session_core.specs.declared.line.Line.{Line}
 use Rattle.session_core.specs.declared.line.Line.TheVariants as asks
 use Rattle.session_core.specs.Lines.{with_body}
-use Rattle.session_core.specs.code.Reading.{ReadsBody}
+use Rattle.session_core.specs.code.Reading.{ReadsBody, of_parse, of_check, split}
 use Rattle.journal_core.specs.declared.limits.TheConstants.{LONGEST_BODY}
 use Rattle.journal_core.specs.Bodies.{ends_in_blank}
 use Rattle.session_core.specs.Holding.{IsReady}
@@ -133,24 +138,37 @@ refuses_writes text body column read typed writes =
     refused_by true text (why.Writes column) (writes_unread text body column read typed writes)
     (ap (unread text) read ∙ (ap (ill_typed body) ((bodies_are_judged body).1 typed).1 ∙ ap (λ o. why.Writes (unwrap_or o 0)) writes))
 
--- the same, as the reader answers it
-pub syntax-reads : (read_only : Bool) (text : Text) (column told : ℕ) → IsSyntaxColumn text column → told ≡ column
-    → ReadsBody (Err (Cause (why.Syntax told))) (body_of read_only text)
-syntax-reads read_only text column told x is reason e =
-    let k : why.Syntax told ≡ reason = cc in refuses_syntax read_only text column x ∙ ap (λ n. Err (why.Syntax n)) (sym is) ∙ ap (λ r. Err r) k
+-- ---- what the reader answers
 
--- the same of the column where a rule of typing fails
-pub type-reads : (read_only : Bool) (text : Text) (body : Body) (column told : ℕ) → parsed text ≡ Some body → judge body ≡ Err column → told ≡ column
-    → ReadsBody (Err (Cause (why.BadType told))) (body_of read_only text)
-type-reads read_only text body column told read fails is reason e =
-    let k : why.BadType told ≡ reason = cc in refuses_type read_only text body column read fails ∙ ap (λ n. Err (why.BadType n)) (sym is) ∙ ap (λ r. Err r) k
+-- a fault of the parser, by the column that it tells
+pub parse-reads : (read_only : Bool) (text : Text) (error : ParseError) (told : OrNoMemory Why) → told ≡ of_parse error
+    → ((column : ℕ) → error ≡ parse.Syntax column → IsSyntaxColumn text column) → ReadsBody (Err told) (body_of read_only text)
+parse-reads read_only text (parse.Syntax column) told is found reason e =
+    let k : why.Syntax column ≡ reason = cc in refuses_syntax read_only text column (found column refl) ∙ ap (λ r. Err r) k
+parse-reads read_only text parse.NoMemory told is found reason e = absurd (cc)
 
--- the same of the column of the first write, which is told only where the body may only read
-pub writes-reads : (read_only : Bool) (text : Text) (body : Body) (column told : ℕ) → parsed text ≡ Some body → WritesAt body read_only column → told ≡ column
-    → ReadsBody (Err (Cause (why.Writes told))) (body_of read_only text)
-writes-reads read_only text body column told read w is reason e =
-    let k : why.Writes told ≡ reason = cc in
-    ap (λ o. body_of o text) w.only_reads ∙ refuses_writes text body column read w.typed w.first ∙ ap (λ n. Err (why.Writes n)) (sym is) ∙ ap (λ r. Err r) k
+-- a fault of the checker, by the column that it tells: a write is told only where the body may only read
+pub check-reads : (read_only : Bool) (text : Text) (body : Body) (error : CheckError) (told : OrNoMemory Why) → told ≡ of_check error
+    → parsed text ≡ Some body → ((column : ℕ) → error ≡ check.BadType column → judge body ≡ Err column)
+    → ((column : ℕ) → error ≡ check.Writes column → WritesAt body read_only column) → ReadsBody (Err told) (body_of read_only text)
+check-reads read_only text body (check.BadType column) told is read ill writes reason e =
+    let k : why.BadType column ≡ reason = cc in refuses_type read_only text body column read (ill column refl) ∙ ap (λ r. Err r) k
+check-reads read_only text body (check.Writes column) told is read ill writes reason e =
+    let k : why.Writes column ≡ reason = cc in let w = writes column refl in
+    ap (λ o. body_of o text) w.only_reads ∙ refuses_writes text body column read w.typed w.first ∙ ap (λ r. Err r) k
+check-reads read_only text body check.NoMemory told is read ill writes reason e = absurd (cc)
+
+-- apart from want of memory, what was read is the text's body, or why it is refused
+pub split-reads : (r : Result Checked (OrNoMemory Why)) (read : Result Checked Why) → ReadsBody r read → IfOk (split r) (λ x. read ≡ x)
+split-reads (Ok checked) read h = h
+split-reads (Err (Cause reason)) read h = h reason refl
+split-reads (Err NoMemory) read h = tt
+
+-- and may run
+pub split-ready : (r : Result Checked (OrNoMemory Why)) → IfOk r (λ c. IsReady c) → IfOk (split r) (λ x. IfOk x (λ c. IsReady c))
+split-ready (Ok checked) h = h
+split-ready (Err (Cause reason)) h = tt
+split-ready (Err NoMemory) h = tt
 
 -- what was read, by its parts
 module _ (read_only : Bool) (text : Text) (body : Body) (c : Checked) (b : c.body ≡ body) (trimmed : c.source ≡ trimmed_end text)

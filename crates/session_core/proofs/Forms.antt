@@ -1,16 +1,21 @@
 -- The verb of a line.
 use Rattle.std.proofs.Common.{◌≡◌, ℕ, List, Option, Some, None, Result, Ok, Err, refl, ap}
+use Rattle.std.proofs.Common.{subst}
+use Rattle.std.specs.Prelude.{IfOk}
 use Rattle.std.specs.Result.{result_ok}
 use Rattle.predictive_parsing.specs.Reading.{whole}
 use Rattle.predictive_parsing.specs.Bytes.{IsByte}
 use Rattle.predictive_parsing.proofs.Wholes.{whole_sound, whole_complete}
 use Rattle.session_text.specs.declared.verb.Verb.{Verb}
+use Rattle.session_text.specs.declared.verb.VerbError.{VerbError}
+use Rattle.session_text.specs.declared.verb.VerbError.TheVariants as verb
 use Rattle.session_text.specs.Lines.{VerbRule, IsVerb}
 use Rattle.session_text.specs.code.Lines.{line}
 use Rattle.session_text.specs.Follows.{at_end}
 use Rattle.session_text.proofs.LineFits.{line_fits}
 use Rattle.txn_grammar.specs.Characters.{Text}
 use Rattle.session_core.specs.Lines.{asked, VerbsAreForms}
+use Rattle.session_core.specs.code.Reading.{verb_of}
 
 -- a verb comes only of a reading that went well, and is the one that was read
 read_by : (r : Result Verb (List ℕ)) (v : Verb) → result_ok r ≡ Some v → r ≡ Ok v
@@ -38,3 +43,15 @@ none_asked text none = by (asked text) refl
     by : (o : Option Verb) → asked text ≡ o → o ≡ None
     by (Some v) e = absurd (none v (asked_sound text v e))
     by None e = refl
+
+-- a verb that was read is of the text's form
+pub read-verb : (text : Text) (r : Result Verb VerbError) (v : Verb) → IfOk r (λ x. IsVerb text x) → verb_of r ≡ Ok (Some v) → IsVerb text v
+read-verb text (Ok found) v h e = let k : found ≡ v = cc in subst (λ (x : Verb). IsVerb text x) k h
+read-verb text (Err verb.BadVerb) v h e = absurd (cc)
+read-verb text (Err verb.NoMemory) v h e = absurd (cc)
+
+-- none was read only where the text has none
+pub read-none : (r : Result Verb VerbError) → verb_of r ≡ Ok None → r ≡ Err verb.BadVerb
+read-none (Ok found) e = absurd (cc)
+read-none (Err verb.BadVerb) e = refl
+read-none (Err verb.NoMemory) e = absurd (cc)

@@ -2,75 +2,75 @@
 
 ghost use Rattle.std.specs.Prelude.{◌≡◌, ◌≤◌, length, false, true, IfOk};
 ghost use Rattle.session_text.specs.Bodies.{IsWithin};
+ghost use Rattle.session_core.specs.declared.line.Line.TheVariants as asks;
 ghost use Rattle.session_core.specs.Lines as spec;
-ghost use Rattle.session_core.specs.Holding.{BodyIsReady};
+ghost use Rattle.session_core.specs.Holding.{BodyIsReady, IsReady};
+ghost use Rattle.session_core.specs.code.Reading as code;
 ghost use Rattle.session_core.specs.code.Reading.{ReadsLine};
 
-use crate::body::read_body;
+use crate::body::body_or_why;
 use crate::line::Line;
 use crate::words::{is_quiet, trimmed_start};
 use dio_core::LONGEST_LINE;
-use plain_data::{OrNoMemory, Text};
+use plain_data::Text;
 use session_text::{Verb, VerbError, Why, read_verb};
 use std::alloc::{AllocError, Global};
+use txn_lang::Checked;
 
 /// `begin`.
-fn begin(alloc: Global, text: Text) -> Result<Line, AllocError>
-    requires { length text ≤ LONGEST_LINE }
-    ensures { ReadsLine result (spec.of_begin text) }
+fn begin(read: Result<Checked, Why>) -> Line
+    requires { IfOk read (λ checked. IsReady checked) }
+    ensures line { result ≡ spec.with_body asks.Begin read }
+    ensures ready { BodyIsReady result }
 {
-    match read_body(alloc, text, false) {
-        Ok(body) => Ok(Line::Begin(body)),
-        Err(OrNoMemory::Cause(reason)) => Ok(Line::Refused(reason)),
-        Err(OrNoMemory::NoMemory) => Err(AllocError),
+    match read {
+        Ok(body) => Line::Begin(body),
+        Err(reason) => Line::Refused(reason),
     }
 }
 
 /// `do` and `try`.
-fn try_times(alloc: Global, tries: u8, text: Text) -> Result<Line, AllocError>
-    requires { length text ≤ LONGEST_LINE }
-    ensures { ReadsLine result (spec.of_try tries text) }
+fn try_times(tries: u8, read: Result<Checked, Why>) -> Line
+    requires { IfOk read (λ checked. IsReady checked) }
+    ensures line { result ≡ spec.with_body (asks.Try tries) read }
+    ensures ready { BodyIsReady result }
 {
-    match read_body(alloc, text, false) {
-        Ok(body) => Ok(Line::Try(tries, body)),
-        Err(OrNoMemory::Cause(reason)) => Ok(Line::Refused(reason)),
-        Err(OrNoMemory::NoMemory) => Err(AllocError),
+    match read {
+        Ok(body) => Line::Try(tries, body),
+        Err(reason) => Line::Refused(reason),
     }
 }
 
 /// `look`.
-fn look(alloc: Global, text: Text) -> Result<Line, AllocError>
-    requires { length text ≤ LONGEST_LINE }
-    ensures { ReadsLine result (spec.of_look text) }
+fn look(read: Result<Checked, Why>) -> Line
+    ensures line { result ≡ spec.with_body asks.Look read }
+    ensures ready { BodyIsReady result }
 {
-    match read_body(alloc, text, true) {
-        Ok(body) => Ok(Line::Look(body)),
-        Err(OrNoMemory::Cause(reason)) => Ok(Line::Refused(reason)),
-        Err(OrNoMemory::NoMemory) => Err(AllocError),
+    match read {
+        Ok(body) => Line::Look(body),
+        Err(reason) => Line::Refused(reason),
     }
 }
 
 /// `at`.
-fn look_at(alloc: Global, number: u64, text: Text) -> Result<Line, AllocError>
-    requires { length text ≤ LONGEST_LINE }
-    ensures { ReadsLine result (spec.of_at number text) }
+fn look_at(number: u64, read: Result<Checked, Why>) -> Line
+    ensures line { result ≡ spec.with_body (asks.At number) read }
+    ensures ready { BodyIsReady result }
 {
-    match read_body(alloc, text, true) {
-        Ok(body) => Ok(Line::At(number, body)),
-        Err(OrNoMemory::Cause(reason)) => Ok(Line::Refused(reason)),
-        Err(OrNoMemory::NoMemory) => Err(AllocError),
+    match read {
+        Ok(body) => Line::At(number, body),
+        Err(reason) => Line::Refused(reason),
     }
 }
 
 /// `watch`.
-fn watch(alloc: Global, name: Text, text: Text) -> Result<Line, AllocError>
-    requires { length text ≤ LONGEST_LINE }
-    ensures { ReadsLine result (spec.of_watch name text) }
+fn watch(name: Text, read: Result<Checked, Why>) -> Line
+    ensures line { result ≡ spec.with_body (asks.Watch name) read }
+    ensures ready { BodyIsReady result }
 {
-    match read_body(alloc, text, true) {
-        Ok(body) => Ok(Line::Watch(name, body)),
-        Err(OrNoMemory::Cause(reason)) => Ok(Line::Refused(reason)),
-        Err(OrNoMemory::NoMemory) => Err(AllocError),
+    match read {
+        Ok(body) => Line::Watch(name, body),
+        Err(reason) => Line::Refused(reason),
     }
 }
 
@@ -80,12 +80,12 @@ fn of_verb(alloc: Global, verb: Verb) -> Result<Line, AllocError>
     ensures { ReadsLine result (spec.of_verb verb) }
 {
     match verb {
-        Verb::Begin(text) => begin(alloc, text),
-        Verb::Do(text) => try_times(alloc, 1, text),
-        Verb::Try(tries, text) => try_times(alloc, tries, text),
-        Verb::Look(text) => look(alloc, text),
-        Verb::At(number, text) => look_at(alloc, number, text),
-        Verb::Watch(name, text) => watch(alloc, name, text),
+        Verb::Begin(text) => Ok(begin(body_or_why(alloc, text, false)?)),
+        Verb::Do(text) => Ok(try_times(1, body_or_why(alloc, text, false)?)),
+        Verb::Try(tries, text) => Ok(try_times(tries, body_or_why(alloc, text, false)?)),
+        Verb::Look(text) => Ok(look(body_or_why(alloc, text, true)?)),
+        Verb::At(number, text) => Ok(look_at(number, body_or_why(alloc, text, true)?)),
+        Verb::Watch(name, text) => Ok(watch(name, body_or_why(alloc, text, true)?)),
         Verb::Step => Ok(Line::Step),
         Verb::Go => Ok(Line::Go),
         Verb::Drop => Ok(Line::Drop),
@@ -97,6 +97,17 @@ fn of_verb(alloc: Global, verb: Verb) -> Result<Line, AllocError>
     }
 }
 
+/// The verb that was read, or none where the line has no verb's form, apart from want of memory.
+fn verb_of(found: Result<Verb, VerbError>) -> Result<Option<Verb>, AllocError>
+    ensures { result ≡ code.verb_of found }
+{
+    match found {
+        Ok(verb) => Ok(Some(verb)),
+        Err(VerbError::BadVerb) => Ok(None),
+        Err(VerbError::NoMemory) => Err(AllocError),
+    }
+}
+
 /// What a line asks for.
 pub fn read_line(alloc: Global, bytes: &[u8]) -> Result<Line, AllocError>
     requires { length bytes.now ≤ LONGEST_LINE }
@@ -105,9 +116,8 @@ pub fn read_line(alloc: Global, bytes: &[u8]) -> Result<Line, AllocError>
     if is_quiet(trimmed_start(bytes)) {
         return Ok(Line::Quiet);
     }
-    match read_verb(alloc, bytes) {
-        Ok(verb) => of_verb(alloc, verb),
-        Err(VerbError::BadVerb) => Ok(Line::Refused(Why::Verb)),
-        Err(VerbError::NoMemory) => Err(AllocError),
+    match verb_of(read_verb(alloc, bytes))? {
+        Some(verb) => of_verb(alloc, verb),
+        None => Ok(Line::Refused(Why::Verb)),
     }
 }

@@ -1,13 +1,64 @@
 -- What the readers of lines answer, want of memory aside. The clauses of `read_line` and `read_body` tie what they read to the rules:
--- `line_of` of specs/Lines and `body_of` of specs/Bodies.
-use Rattle.std.specs.Prelude.{◌≡◌, Result, Ok, Err}
+-- `line_of` of specs/Lines and `body_of` of specs/Bodies. What comes to want of memory is told in steps of their own, each exact.
+use Rattle.std.specs.Prelude.{◌≡◌, Option, Some, None, Result, Ok, Err, alloc_error, refl}
 use Rattle.std.specs.declared.alloc.AllocError.{AllocError}
 use Rattle.plain_data.specs.declared.or_no_memory.OrNoMemory.{OrNoMemory}
-use Rattle.plain_data.specs.declared.or_no_memory.OrNoMemory.TheVariants.{Cause}
+use Rattle.plain_data.specs.declared.or_no_memory.OrNoMemory.TheVariants.{Cause, NoMemory}
 use Rattle.session_text.specs.declared.reply.Why.{Why}
+use Rattle.session_text.specs.declared.reply.Why.TheVariants as why
+use Rattle.session_text.specs.declared.verb.Verb.{Verb}
+use Rattle.session_text.specs.declared.verb.VerbError.{VerbError}
+use Rattle.session_text.specs.declared.verb.VerbError.TheVariants as verb
+use Rattle.txn_parse.specs.declared.whole.ParseError.{ParseError}
+use Rattle.txn_parse.specs.declared.whole.ParseError.TheVariants as parse
+use Rattle.txn_lang.specs.declared.checking.CheckError.{CheckError}
+use Rattle.txn_lang.specs.declared.checking.CheckError.TheVariants as check
 use Rattle.txn_lang.specs.declared.checked.Checked.{Checked}
 use Rattle.session_core.specs.declared.line.Line.{Line}
 use Rattle.session_core.specs.Holding.{BodyIsReady}
+
+-- ---- want of memory, and other faults
+
+-- a fault of the parser: an error of syntax is why a line is refused
+abbrev pub of_parse : ParseError → OrNoMemory Why
+of_parse (parse.Syntax column) = Cause (why.Syntax column)
+of_parse parse.NoMemory = NoMemory
+
+-- a fault of the checker: an error of typing, and a write where the body may only read, are why a line is refused
+abbrev pub of_check : CheckError → OrNoMemory Why
+of_check (check.BadType column) = Cause (why.BadType column)
+of_check (check.Writes column) = Cause (why.Writes column)
+of_check check.NoMemory = NoMemory
+
+-- what was read, or why it is refused, apart from want of memory
+abbrev pub split : Result Checked (OrNoMemory Why) → Result (Result Checked Why) AllocError
+split (Ok checked) = Ok (Ok checked)
+split (Err (Cause reason)) = Ok (Err reason)
+split (Err NoMemory) = Err alloc_error
+
+-- the verb that was read, or none where the line has no verb's form, apart from want of memory
+abbrev pub verb_of : Result Verb VerbError → Result (Option Verb) AllocError
+verb_of (Ok v) = Ok (Some v)
+verb_of (Err verb.BadVerb) = Ok None
+verb_of (Err verb.NoMemory) = Err alloc_error
+
+-- an error of syntax at column 9 is why the line is refused, and not want of memory
+syntax-is-told : split (Err (of_parse (parse.Syntax 9))) ≡ Ok (Err (why.Syntax 9))
+syntax-is-told = refl
+
+-- so is an error of typing
+type-is-told : split (Err (of_check (check.BadType 9))) ≡ Ok (Err (why.BadType 9))
+type-is-told = refl
+
+-- a write too
+write-is-told : split (Err (of_check (check.Writes 9))) ≡ Ok (Err (why.Writes 9))
+write-is-told = refl
+
+-- a line of no verb's form is known as that
+bad-verb-is-told : verb_of (Err verb.BadVerb) ≡ Ok None
+bad-verb-is-told = refl
+
+-- ---- what is read
 
 -- the body is the one that is read, or it is refused for this reason, unless memory ran out
 abbrev pub ReadsBody : Result Checked (OrNoMemory Why) → Result Checked Why → Type 0

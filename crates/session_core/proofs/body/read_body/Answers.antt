@@ -1,14 +1,13 @@
 use Rattle.std.proofs.Common.{◌≡◌, length, ap, sym, subst, ◌∙◌, arith}
 use Rattle.txn_grammar.specs.Characters.{Text}
 use Rattle.txn_grammar.specs.Parsed.{parsed, IsSyntaxColumn}
-use Rattle.session_core.proofs.Bodies.{kept_reads, syntax-reads, type-reads, writes-reads, reads-checked, is-ready}
+use Rattle.session_core.proofs.Bodies.{kept_reads, parse-reads, check-reads, reads-checked, is-ready}
 use Rattle.session_core.proofs.body.read_body.Goals as goal
 
-pub returns-in-Err-Syntax-clause-reads : goal.returns-in-Err-Syntax-clause-reads
-returns-in-Err-Syntax-clause-reads c =
-    syntax-reads c.args.read_only c.args.text c.in-Err-Syntax.column _
-    (subst (λ (z : Text). IsSyntaxColumn z c.in-Err-Syntax.column) c.as_slice.ensures
-    (c.in-Err-Syntax.ensures.refused c.in-Err-Syntax.column (let is = c.in-Err-Syntax.field-0-is in cc))) c.in-Err-Syntax.column-is
+pub returns-in-Err-clause-reads : goal.returns-in-Err-clause-reads
+returns-in-Err-clause-reads c =
+    parse-reads c.args.read_only c.args.text c.in-Err.error _ c.of_parse.ensures
+    (λ column e. subst (λ (z : Text). IsSyntaxColumn z column) c.as_slice.ensures (c.in-Err.ensures.refused column (let is = e in cc)))
 
 pub check-requires : goal.check-requires
 check-requires c =
@@ -27,12 +26,8 @@ returns-in-Ok-check-clause-ready c =
     (let e : length c.in-Ok-check.checked.source ≡ length c.trim_end.new.text = ap length c.in-Ok-check.ensures.source in
     let h = c.trim_end.ensures.shorter in let r = c.requires in omega arith)
 
-pub returns-in-Err-BadType-clause-reads : goal.returns-in-Err-BadType-clause-reads
-returns-in-Err-BadType-clause-reads c =
-    type-reads c.args.read_only c.args.text c.in-Ok.body c.in-Err-BadType.column _ (ap parsed (sym c.as_slice.ensures) ∙ c.in-Ok.ensures.tree)
-    (c.in-Err-BadType.ensures.bad_type c.in-Err-BadType.column (let is = c.in-Err-BadType.field-0-is in cc)) c.in-Err-BadType.column-is
-
-pub returns-in-Err-Writes-clause-reads : goal.returns-in-Err-Writes-clause-reads
-returns-in-Err-Writes-clause-reads c =
-    writes-reads c.args.read_only c.args.text c.in-Ok.body c.in-Err-Writes.column _ (ap parsed (sym c.as_slice.ensures) ∙ c.in-Ok.ensures.tree)
-    (c.in-Err-Writes.ensures.writes c.in-Err-Writes.column (let is = c.in-Err-Writes.field-0-is in cc)) c.in-Err-Writes.column-is
+pub returns-in-Err-check-clause-reads : goal.returns-in-Err-check-clause-reads
+returns-in-Err-check-clause-reads c =
+    check-reads c.args.read_only c.args.text c.in-Ok.body c.in-Err-check.error _ c.of_check.ensures (ap parsed (sym c.as_slice.ensures) ∙ c.in-Ok.ensures.tree)
+    (λ column e. c.in-Err-check.ensures.bad_type column (let is = e in cc))
+    (λ column e. c.in-Err-check.ensures.writes column (let is = e in cc))
