@@ -1,6 +1,9 @@
 //! One event of an attempt: the call that its next event is, and what the answer makes of it.
 
-ghost use Rattle.std.specs.Prelude.{◌≡◌, Some, None, IfOk, OnOk, Err};
+ghost use Rattle.std.specs.Prelude.{◌≡◌, ℕ, Some, None, IfOk, OnOk, Ok, Err};
+ghost use Rattle.abort_witness.specs.declared.witness.Witness.{Witness};
+ghost use Rattle.session_text.specs.declared.reply.Reply.TheVariants as reply;
+ghost use Rattle.docc_prepare.specs.declared.backend.PrepareError.TheVariants as prepare_error;
 ghost use Rattle.docc_prepare.specs.declared.attempt.Attempt.{Attempt};
 ghost use Rattle.docc_prepare.specs.Attempts.{in_shard, based, next_event, ready_of, with_front, KeepsPauses, Prepares};
 ghost use Rattle.docc_prepare.specs.Calls.{snap_answered, front_answered, commit_answered};
@@ -63,6 +66,11 @@ fn after_prepare(
     requires { Prepares attempt.old shard }
     ensures turned { Turned attempt.old (front_answered answer)
         (moved_on_prepare shard attempt.new result) }
+    // The replies take no memory, so they are answered whatever is wanting.
+    ensures late { (base horizon : ℕ) → answer ≡ Err (prepare_error.Late base horizon)
+        → result ≡ Ok (Err (reply.Late base horizon)) }
+    ensures clash { (w : Witness) → answer ≡ Err (prepare_error.Clash w)
+        → result ≡ Ok (Err (reply.Abort w)) }
     ensures pauses { IfOk result (λ front. OnOk front (KeepsPauses attempt.old attempt.new)) }
     ensures front { IfOk result (λ front. IfOk front (λ f.
         attempt.new ≡ with_front attempt.old shard f)) }
