@@ -4,13 +4,20 @@ use Rattle.std.proofs.Common.{refl, sym, ap, ◌∙◌, subst, arith}
 use Rattle.std.specs.Prelude.{nat_lt}
 use Rattle.std.specs.Option.{is_some}
 use Rattle.std.proofs.lemmas.Bool.Decides.{nat_tests}
+use Rattle.std.specs.BTreeMap.{insert_entry}
 use Rattle.rdt_types.specs.declared.address.Address.{Address}
+use Rattle.rdt_types.specs.Addresses.{address_cmp}
 use Rattle.session_text.specs.declared.reply.Reply.{Reply}
 use Rattle.session_text.specs.declared.reply.Reply.TheVariants as reply
 use Rattle.session_text.specs.declared.reply.Why.TheVariants as why
 use Rattle.txn_lang.specs.declared.checked.Checked.{Checked}
-use Rattle.txn_lang.specs.Execution.{Ran, exec}
+use Rattle.txn_lang.specs.declared.snaps.Snap.{Snap}
+use Rattle.txn_lang.specs.Execution.{Ran, need, exec}
+use Rattle.txn_lang.proofs.Given.{read_next}
+use Rattle.txn_eval.specs.declared.pause.Pause.{Pause}
 use Rattle.txn_eval.specs.Running.{values_of}
+use Rattle.txn_eval.specs.Pausing.{IsPauseOf}
+use Rattle.txn_eval.proofs.MoreKnown.{pauses_stay}
 use Rattle.docc_prepare.specs.declared.attempt.Attempt.{Attempt}
 use Rattle.docc_prepare.specs.declared.attempt.Next.{Next}
 use Rattle.docc_prepare.specs.declared.attempt.Next.TheVariants as next
@@ -180,6 +187,16 @@ pub valued_more : (more : SnapList → Program Reply) (n : ℕ) (snaps : SnapLis
     → Valued snaps address n answer (Ok None) longer → IsValued (valued more n snaps address answer) (more longer) answer
 valued_more more n snaps address (Answer.value v) longer h = record { succeeds = tt; is = ap more (sym h) }
 valued_more more n snaps address answer longer h = absurd h
+
+-- on which its run comes to the pauses that it came to before
+pub valued_pauses : (body : Checked) (n : ℕ) (snaps : SnapList) (address : Address) (answer : Answer) (longer : SnapList) (pause : Pause)
+    → exec body.body (values_of snaps) ≡ need address → Valued snaps address n answer (Ok None) longer
+    → IsPauseOf body.body.stmts snaps pause → IsPauseOf body.body.stmts longer pause
+valued_pauses body n snaps address (Answer.value v) longer pause needed h is =
+    let snap : Snap = record { base = n; value = v } in
+    subst (λ (ss : SnapList). IsPauseOf body.body.stmts ss pause) (sym h)
+    (pauses_stay body.body.stmts snaps (insert_entry address_cmp snaps address snap) pause (read_next snaps address snap body.body needed).others is)
+valued_pauses body n snaps address answer longer pause needed h is = absurd h
 
 -- or a reply
 pub valued_late : (more : SnapList → Program Reply) (n : ℕ) (snaps : SnapList) (address : Address) (answer : Answer) (longer : SnapList) (r : Reply)

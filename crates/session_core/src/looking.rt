@@ -14,7 +14,7 @@ use docc_prepare::{Backend, ReadAtError};
 use rdt_types::{Address, Value};
 use session_text::Reply;
 use std::alloc::{AllocError, Global};
-use txn_eval::{Step, run};
+use txn_eval::{Pause, Step, go_on};
 use txn_lang::{Checked, Snap, Snaps};
 
 /// What an answered read at a number comes to: a value more, or a reply.
@@ -45,7 +45,7 @@ fn valued(
     }
 }
 
-/// Runs a body on the prefix of so many commits.
+/// Runs a body on the prefix of so many commits. With each value that is read it goes on from where it needed that.
 fn look_at<B: Backend>(
     alloc: Global,
     backend: &mut B,
@@ -60,8 +60,9 @@ fn look_at<B: Backend>(
     ensures home { B.home backend.new ≡ B.home backend.old }
 {
     let mut snaps = Snaps::new(alloc);
+    let mut pause = Pause::begun(alloc);
     for _ in 0..MOST_EVENTS {
-        match run(alloc, body, &snaps)? {
+        match go_on(alloc, body, &snaps, &mut pause)? {
             Step::Done(run) => return Ok(Reply::At(number, run.outcome)),
             Step::Need(address) => {
                 let answer = backend.read_at(&address, number);
