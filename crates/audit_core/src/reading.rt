@@ -3,6 +3,7 @@
 ghost use Rattle.std.specs.Prelude.{◌≡◌, IfOk, IfSome, Some};
 ghost use Rattle.txn_grammar.specs.Parsed.{parsed};
 ghost use Rattle.txn_lang.specs.Tree.{tree};
+ghost use Rattle.audit_core.specs.code.Faults as code;
 ghost use Rattle.audit_core.specs.code.Running.{IsReadOrNone, IsBodyOf};
 
 use plain_data::Text;
@@ -14,6 +15,27 @@ use txn_trees::Body;
 /// The longest text whose columns four bytes tell.
 const LONGEST_TEXT: usize = 4_294_967_294;
 
+/// What a text is that isn't parsed. A syntax that is none is never told as want of memory.
+fn not_parsed(error: ParseError) -> Result<Option<Checked>, AllocError>
+    ensures { result ≡ code.not_parsed error }
+{
+    match error {
+        ParseError::Syntax(_column) => Ok(None),
+        ParseError::NoMemory => Err(AllocError),
+    }
+}
+
+/// What a body is that isn't accepted. What is ill typed or writes is never told as want of memory.
+fn not_accepted(error: CheckError) -> Result<Option<Checked>, AllocError>
+    ensures { result ≡ code.not_accepted error }
+{
+    match error {
+        CheckError::BadType(_column) => Ok(None),
+        CheckError::Writes(_column) => Ok(None),
+        CheckError::NoMemory => Err(AllocError),
+    }
+}
+
 /// The body of a text that was parsed, where it is well typed.
 fn checked(alloc: Global, body: Body, source: Text) -> Result<Option<Checked>, AllocError>
     requires { parsed source ≡ Some body }
@@ -21,9 +43,7 @@ fn checked(alloc: Global, body: Body, source: Text) -> Result<Option<Checked>, A
 {
     match check(alloc, body, source, false) {
         Ok(checked) => Ok(Some(checked)),
-        Err(CheckError::BadType(_column)) => Ok(None),
-        Err(CheckError::Writes(_column)) => Ok(None),
-        Err(CheckError::NoMemory) => Err(AllocError),
+        Err(error) => not_accepted(error),
     }
 }
 
@@ -36,8 +56,7 @@ fn read(alloc: Global, text: &Text) -> Result<Option<Checked>, AllocError>
     }
     match parse(alloc, text.as_slice()) {
         Ok(body) => checked(alloc, body, text.clone()?),
-        Err(ParseError::Syntax(_column)) => Ok(None),
-        Err(ParseError::NoMemory) => Err(AllocError),
+        Err(error) => not_parsed(error),
     }
 }
 
