@@ -262,7 +262,7 @@ all_read words i r l e =
     ap (λ ws. after ws reading.Start) (sym (take_all i (texts words) (omega (arith, length-map words (λ (word : Bor Word). word.now), l)))) ∙ e
 
 -- what is missing at the end
-missing-is : (r : Reading) (m : Missing) → Finishes r (Err m) → missing_of r ≡ Some m
+pub missing-is : (r : Reading) (m : Missing) → Finishes r (Err m) → missing_of r ≡ Some m
 missing-is reading.Start m h = h
 missing-is (reading.Ready c given) m h = h
 missing-is (reading.Waiting c given o) m h = h

@@ -1,9 +1,10 @@
 //! What options have given so far.
 
-ghost use Rattle.std.specs.Prelude.{◌≡◌};
+ghost use Rattle.std.specs.Prelude.{◌≡◌, ◌≢◌, Err};
+ghost use Rattle.plain_data.specs.declared.or_no_memory.OrNoMemory.TheVariants as or_no_memory;
 ghost use Rattle.cli_words.specs.Forms.{nothing_given, HasSettings};
 ghost use Rattle.cli_words.specs.code.Reading as spec;
-ghost use Rattle.cli_words.specs.code.Answers.{Makes, Finds};
+ghost use Rattle.cli_words.specs.code.Answers.{Makes, Finds, Admits};
 
 use crate::limits::{LEAST_COUNT, LEAST_SESSIONS, MOST_AT, MOST_COUNT, MOST_SEED, MOST_SESSIONS};
 use crate::name::OptionName;
@@ -120,7 +121,8 @@ impl Options {
     }
 
     fn with_shards(mut self, value: &str) -> Result<Options, OrNoMemory<Why>>
-        ensures { Makes result (spec.with_value OptionName.Shards value.now self) }
+        ensures made { Makes result (spec.with_value OptionName.Shards value.now self) }
+        ensures told { result ≢ Err or_no_memory.NoMemory }
     {
         match number_between(u64::from(LEAST_SHARDS), u64::from(MOST_SHARDS), value) {
             Ok(n) => {
@@ -132,7 +134,8 @@ impl Options {
     }
 
     fn with_window(mut self, value: &str) -> Result<Options, OrNoMemory<Why>>
-        ensures { Makes result (spec.with_value OptionName.Window value.now self) }
+        ensures made { Makes result (spec.with_value OptionName.Window value.now self) }
+        ensures told { result ≢ Err or_no_memory.NoMemory }
     {
         match number_between(u64::from(LEAST_WINDOW), u64::from(MOST_WINDOW), value) {
             Ok(n) => {
@@ -144,7 +147,8 @@ impl Options {
     }
 
     fn with_limit(mut self, value: &str) -> Result<Options, OrNoMemory<Why>>
-        ensures { Makes result (spec.with_value OptionName.Limit value.now self) }
+        ensures made { Makes result (spec.with_value OptionName.Limit value.now self) }
+        ensures told { result ≢ Err or_no_memory.NoMemory }
     {
         match number_between(u64::from(LEAST_COMMITS), u64::from(MOST_COMMITS), value) {
             Ok(n) => {
@@ -156,7 +160,8 @@ impl Options {
     }
 
     fn with_sessions(mut self, value: &str) -> Result<Options, OrNoMemory<Why>>
-        ensures { Makes result (spec.with_value OptionName.Sessions value.now self) }
+        ensures made { Makes result (spec.with_value OptionName.Sessions value.now self) }
+        ensures told { result ≢ Err or_no_memory.NoMemory }
     {
         match number_between(u64::from(LEAST_SESSIONS), u64::from(MOST_SESSIONS), value) {
             Ok(n) => {
@@ -170,9 +175,7 @@ impl Options {
     fn with_address(mut self, alloc: Global, value: &str) -> Result<Options, OrNoMemory<Why>>
         ensures { Makes result (spec.with_value OptionName.Address value.now self) }
     {
-        if !is_place(value) {
-            return Err(OrNoMemory::Cause(Why::NotAnAddress));
-        }
+        placed(value, Why::NotAnAddress)?;
         self.address = Some(Text::from_slice(alloc, value.as_bytes())?);
         Ok(self)
     }
@@ -180,15 +183,14 @@ impl Options {
     fn with_file(mut self, alloc: Global, value: &str) -> Result<Options, OrNoMemory<Why>>
         ensures { Makes result (spec.with_value OptionName.File value.now self) }
     {
-        if !is_place(value) {
-            return Err(OrNoMemory::Cause(Why::NotAPath));
-        }
+        placed(value, Why::NotAPath)?;
         self.file = Some(Text::from_slice(alloc, value.as_bytes())?);
         Ok(self)
     }
 
     fn with_at(mut self, value: &str) -> Result<Options, OrNoMemory<Why>>
-        ensures { Makes result (spec.with_value OptionName.At value.now self) }
+        ensures made { Makes result (spec.with_value OptionName.At value.now self) }
+        ensures told { result ≢ Err or_no_memory.NoMemory }
     {
         match number_between(0, MOST_AT, value) {
             Ok(n) => {
@@ -200,7 +202,8 @@ impl Options {
     }
 
     fn with_form(mut self, value: &str) -> Result<Options, OrNoMemory<Why>>
-        ensures { Makes result (spec.with_value OptionName.Form value.now self) }
+        ensures made { Makes result (spec.with_value OptionName.Form value.now self) }
+        ensures told { result ≢ Err or_no_memory.NoMemory }
     {
         match wire_named(value) {
             Some(wire) => {
@@ -212,7 +215,8 @@ impl Options {
     }
 
     fn with_seed(mut self, value: &str) -> Result<Options, OrNoMemory<Why>>
-        ensures { Makes result (spec.with_value OptionName.Seed value.now self) }
+        ensures made { Makes result (spec.with_value OptionName.Seed value.now self) }
+        ensures told { result ≢ Err or_no_memory.NoMemory }
     {
         match number_between(0, u64::from(MOST_SEED), value) {
             Ok(n) => {
@@ -224,7 +228,8 @@ impl Options {
     }
 
     fn with_count(mut self, value: &str) -> Result<Options, OrNoMemory<Why>>
-        ensures { Makes result (spec.with_value OptionName.Count value.now self) }
+        ensures made { Makes result (spec.with_value OptionName.Count value.now self) }
+        ensures told { result ≢ Err or_no_memory.NoMemory }
     {
         match number_between(u64::from(LEAST_COUNT), u64::from(MOST_COUNT), value) {
             Ok(n) => {
@@ -264,6 +269,17 @@ fn is_place(word: &str) -> bool
     match word.as_bytes() {
         [] => false,
         [first, ..] => *first != b'-',
+    }
+}
+
+/// Refuses a word that can be no address and no path, which is never told as want of memory.
+fn placed(word: &str, why: Why) -> Result<(), OrNoMemory<Why>>
+    ensures { Admits result why (spec.is_place word.now) }
+{
+    if is_place(word) {
+        Ok(())
+    } else {
+        Err(OrNoMemory::Cause(why))
     }
 }
 

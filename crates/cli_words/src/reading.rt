@@ -1,9 +1,11 @@
 //! Words are read one after another: each goes on with what stood before it, or is refused.
 
-ghost use Rattle.std.specs.Prelude.{◌≡◌, IfOk, IfErr};
+ghost use Rattle.std.specs.Prelude.{◌≡◌, ◌≢◌, Err, IfOk, IfErr};
+ghost use Rattle.plain_data.specs.declared.or_no_memory.OrNoMemory.TheVariants as or_no_memory;
 ghost use Rattle.cli_words.specs.Forms.{texts, Spells, OneForm};
 ghost use Rattle.cli_words.specs.Refusals.{Refuses};
 ghost use Rattle.cli_words.specs.code.Reading as spec;
+ghost use Rattle.cli_words.specs.code.Answers as code;
 ghost use Rattle.cli_words.specs.code.Answers.{Makes, Finishes, Explains, error_of};
 
 use crate::limits::STANDARD_SESSIONS;
@@ -27,7 +29,8 @@ enum Reading {
 
 /// What a word makes that is to be a command.
 fn begun(word: &str) -> Result<Reading, OrNoMemory<Why>>
-    ensures { Makes result (spec.begun (spec.command_named word.now)) }
+    ensures made { Makes result (spec.begun (spec.command_named word.now)) }
+    ensures told { result ≢ Err or_no_memory.NoMemory }
 {
     match CommandName::named(word) {
         Some(command) => Ok(Reading::Ready(command, Options::new())),
@@ -67,6 +70,17 @@ fn free_option(command: CommandName, options: &Options, name: &str) -> Result<Op
     }
 }
 
+/// What was found without memory, with what is wrong as the cause: it is never told as want of memory.
+fn caused<T>(found: Result<T, Why>) -> Result<T, OrNoMemory<Why>>
+    ensures made { Makes result found }
+    ensures told { result ≢ Err or_no_memory.NoMemory }
+{
+    match found {
+        Ok(it) => Ok(it),
+        Err(why) => Err(OrNoMemory::Cause(why)),
+    }
+}
+
 /// What a word makes that is to be an option, or its name.
 fn with_option(
     alloc: Global,
@@ -77,14 +91,14 @@ fn with_option(
     ensures { Makes result (spec.with_option command options word.now) }
 {
     match word.split_once('=') {
-        Some((name, value)) => match free_option(command, &options, name) {
-            Ok(option) => with_value(alloc, command, options, option, value),
-            Err(why) => Err(OrNoMemory::Cause(why)),
-        },
-        None => match free_option(command, &options, word) {
-            Ok(option) => Ok(Reading::Waiting(command, options, option)),
-            Err(why) => Err(OrNoMemory::Cause(why)),
-        },
+        Some((name, value)) => {
+            let option = caused(free_option(command, &options, name))?;
+            with_value(alloc, command, options, option, value)
+        }
+        None => {
+            let option = caused(free_option(command, &options, word))?;
+            Ok(Reading::Waiting(command, options, option))
+        }
     }
 }
 
@@ -192,6 +206,13 @@ fn stopped_at<'a>(place: usize, word: &'a str, stop: OrNoMemory<Why>) -> WordsEr
     }
 }
 
+/// What is said where no more words come and something is missing.
+fn cut_short<'a>(missing: Missing) -> WordsError<'a>
+    ensures { result ≡ code.cut_short missing }
+{
+    WordsError::BadWords(BadWords::CutShort(missing))
+}
+
 /// The plan that the words behind the program's name spell, exactly where they are of a form.
 pub fn read_words<'a>(alloc: Global, words: &[&'a str]) -> Result<Plan, WordsError<'a>>
     ensures plan { IfOk result (Spells (texts words.now)) }
@@ -209,7 +230,7 @@ pub fn read_words<'a>(alloc: Global, words: &[&'a str]) -> Result<Plan, WordsErr
     }
     match reading.finish() {
         Ok(plan) => Ok(plan),
-        Err(missing) => Err(WordsError::BadWords(BadWords::CutShort(missing))),
+        Err(missing) => Err(cut_short(missing)),
     }
 }
 

@@ -2,7 +2,7 @@ use Rattle.std.proofs.Common.{arith, refl, sym, subst}
 use Rattle.cli_words.specs.Forms.{texts}
 use Rattle.cli_words.specs.Refusals.{Refuses}
 use Rattle.cli_words.specs.code.Answers.{Explains}
-use Rattle.cli_words.proofs.Refused.{after_next, stops, all_read, spelled, unfinished}
+use Rattle.cli_words.proofs.Refused.{after_next, stops, all_read, spelled, missing-is, unfinished}
 use Rattle.cli_words.proofs.reading.read_words.Goals as goal
 
 pub loop-place-init : goal.loop-place-init
@@ -30,5 +30,14 @@ returns-in-Err-clause-why c =
 
 pub returns-in-Err-finish-clause-refused : goal.returns-in-Err-finish-clause-refused
 returns-in-Err-finish-clause-refused c =
-    unfinished c.args.words.now c.loop-place.place c.loop-place.reading c.in-Err-finish.missing (omega (arith, c.loop-place-test.false))
-    c.loop-place.invariant (c.in-Err-finish.ensures)
+    subst (Refuses (texts c.args.words.now)) (sym c.cut_short.ensures)
+    (unfinished c.args.words.now c.loop-place.place c.loop-place.reading c.in-Err-finish.missing (omega (arith, c.loop-place-test.false))
+    c.loop-place.invariant (c.in-Err-finish.ensures))
+
+pub returns-in-Err-finish-clause-why : goal.returns-in-Err-finish-clause-why
+returns-in-Err-finish-clause-why c =
+    subst (Explains (texts c.args.words.now)) (sym c.cut_short.ensures) (
+      c.loop-place.reading,
+      all_read c.args.words.now c.loop-place.place c.loop-place.reading (omega (arith, c.loop-place-test.false)) c.loop-place.invariant,
+      missing-is c.loop-place.reading c.in-Err-finish.missing c.in-Err-finish.ensures,
+    )
