@@ -45,6 +45,12 @@ pub record IsFirst (base : ℕ) (front : tokens.Known Commit) (settings : Settin
   pub limit : pass.limit ≡ settings.limit
   pub trusted : pass.trusted ≡ base
 
+-- The pass of a new store: its client's number is the newest that it knows to be drawn, and past those that were drawn before.
+-- Clients are numbered from `first`.
+pub record IsNewest (first : ℕ) (front : tokens.Known Commit) (pass : Passed) : Type 0 where
+  pub past : first + front.draws ≤ pass.client
+  pub newest : pass.client + 1 ≡ first + pass.draws
+
 -- A new client that has seen what another has. Nobody has a commit by its number, which is past those that the other knew to be
 -- drawn, and among those that it knows now. Clients are numbered from `first`.
 pub record Joins (first : ℕ) (old new joined : Passed) : Type 0 where

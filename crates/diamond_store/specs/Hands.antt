@@ -1,5 +1,6 @@
 -- Whom the registry looks at next.
 use Rattle.std.specs.Prelude.{◌≡◌, ℕ, ◌+◌, min, max, nat_le, nat_lt, ◌&&◌, if◌then◌else◌, refl}
+use Rattle.std.specs.Coded.{Coded, code_by, coded×, coded_ℕ}
 use Rattle.diamond_store.specs.declared.hand.Hand.{Hand}
 
 -- the next client from the least to the greatest, and the least behind the greatest
@@ -13,6 +14,12 @@ turned hand client = record {
   least = min hand.least client;
   greatest = max hand.greatest client;
 }
+
+-- a hand is stored as the tuple of its fields
+abbrev pub hand_code : Coded Hand
+hand_code =
+    code_by (ℕ × (ℕ × ℕ)) (coded× coded_ℕ (coded× coded_ℕ coded_ℕ)) (λ h. (h.at, (h.least, h.greatest)))
+    (λ t. record { at = t.0; least = t.1.0; greatest = t.1.1 }) (λ _. refl)
 
 -- ---- worked lines
 

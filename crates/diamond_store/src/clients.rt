@@ -1,10 +1,11 @@
 //! The calls of a store by which clients come and learn from one another, and its end.
 
-ghost use Rattle.std.specs.Prelude.{◌≡◌, ◌≤◌, IfOk, IfErr, IfSome};
+ghost use Rattle.std.specs.Prelude.{◌≡◌, ◌≢◌, ◌≤◌, Err, IfOk, IfErr, IfSome};
 ghost use mathlib.Core.List.{IsPrefix};
 ghost use Rattle.txn_lang.specs.Journals.{IsLegal};
 ghost use Rattle.diamond_store.specs.Answers.{Learns, Meets, Joins, AllDrawn};
 ghost use Rattle.diamond_store.specs.Books.{IsAtMostRise};
+ghost use Rattle.diamond_store.specs.declared.join_error.JoinError.TheVariants as join_error;
 ghost use Rattle.diamond_store.specs.Numbers.{faults_in, home_in};
 
 use crate::book::Book;
@@ -27,12 +28,14 @@ pub struct Closed<K: Keep> {
 }
 
 impl<K: Keep, G: Gate + Drop, N: Naming> Store<K, G, N> {
-    /// A new client, which has seen what the pass has, and is subscribed to nothing.
+    /// A new client, which has seen what the pass has, and is subscribed to nothing. That no number is left is never told as
+    /// want of memory.
     pub fn join(&self, pass: &mut Pass<K, N>) -> Result<Pass<K, N>, JoinError>
         ensures learns { Learns pass.old pass.new }
         ensures same { (pass.new.journal ≡ pass.old.journal) × (pass.new.seen ≡ pass.old.seen) }
         ensures joins { IfOk result (Joins N.lock.first pass.old pass.new) }
         ensures clients { IfErr result (AllDrawn pass.new) }
+        ensures told { result ≢ Err join_error.NoMemory }
     {
         let token = self.history.journal.split(&mut pass.front);
         match self.history.journal.draw_author(token) {

@@ -44,16 +44,19 @@ pub(crate) struct Feeder<K: Keep, N: Naming> {
 }
 
 impl<K: Keep, N: Naming> Model for Feeder<K, N> {
+    ghost use Rattle.std.specs.Coded.{coded×};
     ghost use Rattle.rdt_types.specs.contracts.address.Address as address;
     ghost use Rattle.change_feed.specs.contracts.change.Change as change;
     ghost use Rattle.reactive_registry.specs.Registered.{Registered, kept_code, registered_code};
+    ghost use Rattle.diamond_store.specs.declared.hand.Hand.{Hand};
+    ghost use Rattle.diamond_store.specs.Hands.{hand_code};
     ghost use Rattle.diamond_store.specs.Feeders.{Tells};
 
-    ghost Value = { Registered };
+    ghost Value = { Registered × Hand };
 
-    ghost coded = { registered_code (kept_code address.the_row.coded change.the_row.coded) };
+    ghost coded = { coded× (registered_code (kept_code address.the_row.coded change.the_row.coded)) hand_code };
 
-    ghost view = { λ f. f.registry };
+    ghost view = { λ f. (f.registry, f.hand) };
 
     ghost invariant = { λ f. Tells f.token.seen f.registry };
 }
@@ -335,7 +338,8 @@ impl<K: Keep, N: Naming> Feeder<K, N> {
         }
     }
 
-    /// What changed at a client's addresses since it took last, up to the journal's end, which its token then knows.
+    /// What changed at a client's addresses since it took last, up to the journal's end, which its token then knows. The hand
+    /// moves on, and whom it comes to is let go where it lags.
     pub(crate) fn take<G: Gate + Drop, R: Wait>(
         &mut self,
         rt: &R,
@@ -350,7 +354,8 @@ impl<K: Keep, N: Naming> Feeder<K, N> {
         ensures looks { token.old.looks < token.new.looks }
         ensures lawful { IsLawful Follows N.lock.base token.new.seen }
         ensures feed { IfOk result (λ feed. feed ≡ feed_between token.new.seen addresses.now.keys taken (length token.new.seen)) }
-        ensures took { OnOk result (taken_of self.new client ≡ Some (length token.new.seen)) }
+        ensures took { OnOk result (taken_of self.new.0 client ≡ Some (length token.new.seen)) }
+        ensures moves { OnOk result (self.new.1 ≡ turned self.old.1 client) }
     {
         let (history, registry, own) = (&store.history, &mut self.registry, &mut self.token);
         let (alloc, window) = (store.alloc, store.settings.window);
@@ -362,9 +367,17 @@ impl<K: Keep, N: Naming> Feeder<K, N> {
         Ok(feed)
     }
 
+    /// Whether changes at an address are told to a client.
+    pub(crate) fn has(&self, client: u32, address: &Address) -> bool
+        ensures { result ≡ is_subscribed self.now.0 client address.now }
+    {
+        self.registry.has(client, address)
+    }
+
     /// Keeps nothing of a client any longer. It is never refused for want of memory.
     pub(crate) fn leave(&mut self, client: u32)
-        ensures { taken_of self.new client ≡ None }
+        ensures gone { taken_of self.new.0 client ≡ None }
+        ensures hand { self.new.1 ≡ self.old.1 }
     {
         self.registry.leave(client);
     }

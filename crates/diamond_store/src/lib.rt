@@ -6,6 +6,7 @@
 
 mod answer;
 mod appending;
+mod bell;
 mod book;
 mod clients;
 mod decision;

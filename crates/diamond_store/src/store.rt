@@ -5,13 +5,14 @@ ghost use Rattle.history_lock.specs.Tokens.{newborn};
 ghost use Rattle.txn_lang.specs.Short.{IsShortAddress};
 ghost use Rattle.docc_prepare.specs.Calls.{Call, Answer, number_answered, snap_answered, front_answered, value_answered, done_answered, feed_answered};
 ghost use Rattle.docc_prepare.specs.Backends.{CanPrepare, CanAppend, IsAnswered};
-ghost use Rattle.diamond_store.specs.Answers.{Learns, Meets, Joins, IsFirst, AllDrawn};
+ghost use Rattle.diamond_store.specs.Answers.{IsFirst, IsNewest, Learns, Meets, Joins, AllDrawn};
 ghost use Rattle.diamond_store.specs.Decided.{append_answered, IfDisk};
 ghost use Rattle.diamond_store.specs.Numbers.{from_in, HasSettings};
 ghost use Rattle.diamond_store.specs.Passes.{known_of};
 
 use crate::answer::{StoreAppendError, answer};
 use crate::appending::add;
+use crate::bell::Bell;
 use crate::book::Book;
 use crate::decision::counted;
 use crate::feeder::Feeder;
@@ -20,7 +21,6 @@ use crate::history::History;
 use crate::pass::Pass;
 use crate::replica::Replica;
 use crate::telling::{hush, tell};
-use crate::waiting::Bell;
 use abort_witness::BasedList;
 use change_feed::Feed;
 use docc_prepare::{PrepareError, ReadAtError, StoreError};
@@ -97,6 +97,7 @@ impl<K: Keep, G: Gate + Drop, N: Naming> Store<K, G, N> {
         requires from { from_in opened.lock.origin ≡ opened.lock.base }
         requires author { opened.front.author ≡ None }
         ensures pass { IfOk result (λ both. IsFirst opened.lock.base opened.front settings.now both.1) }
+        ensures client { IfOk result (λ both. IsNewest opened.lock.first opened.front both.1) }
     {
         let (journal, mut front) = opened.named::<N>();
         let shards = replicas(alloc, settings, &journal, &mut front)?;
@@ -211,7 +212,7 @@ impl<K: Keep, G: Gate + Drop, N: Naming> Store<K, G, N> {
         };
         pass.seen = pass.front.entries();
         pass.denied = counted(&decision, pass.denied);
-        self.bell.ring(rt, &decision);
+        self.wake(rt, &decision);
         answer(decision, known, pass.front.count())
     }
 
@@ -256,6 +257,12 @@ impl<K: Keep, G: Gate + Drop, N: Naming> Store<K, G, N> {
     {
         let _known = pass.front.count();
         hush(&mut pass.subscribed, address);
+    }
+
+    /// Whether the registry has changes at an address told to a client, as it has from the client's second take behind
+    /// `subscribe` on. No answer of the store depends on it.
+    pub fn is_told<R: Wait>(&self, rt: &R, client: u32, address: &Address) -> bool {
+        self.feeder.lock(rt).has(client, address)
     }
 
     /// Takes what changed at the subscribed addresses since the last take, up to the journal's end.

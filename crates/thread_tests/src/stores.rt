@@ -54,9 +54,33 @@ fn listens<N: Naming, R: Wait>(
 {
     served.subscribe(address).is_ok()
         && takes_nothing(served)
+        && !is_told(served, address)
         && takes_nothing(served)
+        && is_told(served, address)
         && served.unsubscribe(address).is_ok()
         && takes_nothing(served)
+}
+
+/// Whether the registry has changes at an address told to a client.
+fn is_told<N: Naming, R: Wait>(
+    served: &Served<'_, MemKeep, Open, N, R>,
+    address: &Address,
+) -> bool {
+    served
+        .store
+        .is_told(served.rt, served.pass.client(), address)
+}
+
+/// Whether the registry has nothing of a client behind the end of its pass.
+fn leaves<N: Naming, R: Wait>(
+    served: Served<'_, MemKeep, Open, N, R>,
+    address: &Address,
+) -> bool {
+    let Served { store, pass, rt } = served;
+    let client = pass.client();
+    let was_told = store.is_told(rt, client, address);
+    store.leave(rt, pass);
+    was_told && !store.is_told(rt, client, address)
 }
 
 fn new_store<N: Naming, R: Wait>(
@@ -80,10 +104,7 @@ fn new_store<N: Naming, R: Wait>(
         pass,
         rt,
     };
-    let answers = is_new(&mut served, address) && listens(&mut served, address);
-    let Served { pass, .. } = served;
-    store.leave(rt, pass);
-    answers
+    is_new(&mut served, address) && listens(&mut served, address) && leaves(served, address)
 }
 
 #[test]
