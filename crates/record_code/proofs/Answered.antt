@@ -1,5 +1,5 @@
 -- What the code answers for the fields of a payload and for the whole.
-use Rattle.std.proofs.Common.{◌≡◌, ◌≤◌, inl, inr, ℕ, List, Option, Result, Ok, Err, sym, ap, subst, ◌∙◌}
+use Rattle.std.proofs.Common.{◌≡◌, ◌≢◌, ◌≤◌, ◌⊎◌, inl, inr, ℕ, List, Option, Result, Ok, Err, sym, ap, subst, ◌∙◌}
 use Rattle.std.specs.Prelude.{IfOk, IsErr}
 use Rattle.std.specs.declared.alloc.AllocError.{AllocError}
 use Rattle.txn_lang.specs.declared.commit.Commit.{Commit}
@@ -36,6 +36,17 @@ placed_keeps {A} P place (Ok x) answer holds placed = subst (λ (a : Result A De
 placed_keeps {A} P place (Err errors.Malformed) answer holds (inl e) = subst (λ (a : Result A DecodeError). IfOk a P) (sym e) tt
 placed_keeps {A} P place (Err errors.Malformed) answer holds (inr e) = subst (λ (a : Result A DecodeError). IfOk a P) (sym e) tt
 placed_keeps {A} P place (Err errors.NoMemory) answer holds placed = subst (λ (a : Result A DecodeError). IfOk a P) (sym placed) tt
+
+by_left : {A B : Type 0} → (A → ⊥) → A ⊎ B → B
+by_left never (inl x) = absurd (never x)
+by_left never (inr y) = y
+
+-- what never tells want of memory is placed unless four bytes don't tell its place
+pub placed_fits : {A F : Type 0} (read : Result A FieldError) (answer : Result A DecodeError)
+    → read ≢ Err errors.NoMemory
+    → (answer ≡ Err decode_errors.NoMemory → (read ≡ Err errors.NoMemory) ⊎ F)
+    → answer ≡ Err decode_errors.NoMemory → F
+placed_fits read answer never fits is = by_left never (fits is)
 
 module _ {A : Type 0} (seen : A → Commit) where
   -- what is decoded is what is read

@@ -5,6 +5,7 @@ ghost use Rattle.txn_lang.specs.Tree.{tree};
 ghost use Rattle.journal_core.specs.Bodies as spec;
 ghost use Rattle.record_code.specs.Reading.{is_body, body_at};
 ghost use Rattle.record_code.specs.code.Reads.{Reads, Tells};
+ghost use Rattle.record_code.specs.code.Faults as code;
 
 use crate::field_error::FieldError;
 use crate::kinds::has_kinds;
@@ -27,6 +28,27 @@ fn ends_in_blank(text: &[u8]) -> bool
     }
 }
 
+/// Why a text that isn't parsed is no body. A syntax that is none is never told as want of memory.
+fn of_parse(error: ParseError) -> FieldError
+    ensures { result ≡ code.of_parse error }
+{
+    match error {
+        ParseError::Syntax(_column) => FieldError::Malformed,
+        ParseError::NoMemory => FieldError::NoMemory,
+    }
+}
+
+/// Why a body that isn't accepted is none. What is ill typed or writes is never told as want of memory.
+fn of_check(error: CheckError) -> FieldError
+    ensures { result ≡ code.of_check error }
+{
+    match error {
+        CheckError::BadType(_column) => FieldError::Malformed,
+        CheckError::Writes(_column) => FieldError::Malformed,
+        CheckError::NoMemory => FieldError::NoMemory,
+    }
+}
+
 /// The text back with its body, where it is that of one that may run.
 fn with_tree(alloc: Global, text: Text) -> Result<Checked, FieldError>
     requires { length text ≤ LONGEST_BODY }
@@ -35,14 +57,11 @@ fn with_tree(alloc: Global, text: Text) -> Result<Checked, FieldError>
 {
     let body = match parse(alloc, text.as_slice()) {
         Ok(body) => body,
-        Err(ParseError::Syntax(_column)) => return Err(FieldError::Malformed),
-        Err(ParseError::NoMemory) => return Err(FieldError::NoMemory),
+        Err(error) => return Err(of_parse(error)),
     };
     match check(alloc, body, text, false) {
         Ok(checked) => Ok(checked),
-        Err(CheckError::BadType(_column)) => Err(FieldError::Malformed),
-        Err(CheckError::Writes(_column)) => Err(FieldError::Malformed),
-        Err(CheckError::NoMemory) => Err(FieldError::NoMemory),
+        Err(error) => Err(of_check(error)),
     }
 }
 

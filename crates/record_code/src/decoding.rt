@@ -1,11 +1,13 @@
 //! Bytes read as a commit, with the body that its text is.
 
-ghost use Rattle.std.specs.Prelude.{◌≡◌, ◌-◌, ◌<◌, ℕ, length, [], IfOk, Some, Ok, Err};
+ghost use Rattle.std.specs.Prelude.{◌≡◌, ◌≢◌, ◌⊎◌, ◌-◌, ◌<◌, ◌≤◌, ◌^◌, ℕ, length, [], IfOk, Some, Ok, Err};
 ghost use Rattle.std.specs.List.{list_all};
 ghost use Rattle.std.specs.FinMap.Entries.{is_sorted};
 ghost use Rattle.rdt_types.specs.Addresses.{address_cmp};
 ghost use Rattle.commit_file.specs.declared.version.Version.TheVariants.{One, Two};
 ghost use Rattle.txn_lang.specs.Tree.{tree};
+ghost use Rattle.record_code.specs.declared.field_error.FieldError.TheVariants as errors;
+ghost use Rattle.record_code.specs.declared.decode_error.DecodeError.TheVariants as decode_errors;
 ghost use Rattle.record_code.specs.declared.decode_error.DecodeError.TheVariants.{BadRecord};
 ghost use Rattle.record_code.specs.Reading as spec;
 ghost use Rattle.record_code.specs.Reading.{positive_at, client_at, body_at, outcome_at, deltas_at};
@@ -26,7 +28,8 @@ use txn_trees::Body;
 
 /// Reads a number from 1.
 fn read_positive(bytes: &[u8]) -> Result<(u64, &[u8]), FieldError>
-    ensures { Reads (λ read. (read.0, read.1.now)) result (positive_at bytes.now) }
+    ensures read { Reads (λ read. (read.0, read.1.now)) result (positive_at bytes.now) }
+    ensures told { result ≢ Err errors.NoMemory }
 {
     let (number, rest) = read_u64(bytes)?;
     if 0 < number {
@@ -38,7 +41,8 @@ fn read_positive(bytes: &[u8]) -> Result<(u64, &[u8]), FieldError>
 
 /// Reads a client that is told of.
 fn read_client(bytes: &[u8]) -> Result<(u32, &[u8]), FieldError>
-    ensures { Reads (λ read. (read.0, read.1.now)) result (client_at bytes.now) }
+    ensures read { Reads (λ read. (read.0, read.1.now)) result (client_at bytes.now) }
+    ensures told { result ≢ Err errors.NoMemory }
 {
     let (client, rest) = read_u32(bytes)?;
     if client < FIRST_UNTOLD_CLIENT {
@@ -79,7 +83,8 @@ fn may_write(outcome: &Outcome, pairs: &[(Address, Delta)]) -> bool
 
 /// The deltas of a commit with this outcome, where they may be these.
 fn as_deltas(outcome: &Outcome, pairs: Vec<(Address, Delta)>) -> Result<DeltaMap, FieldError>
-    ensures { Tells (λ deltas. deltas) result pairs.items (spec.are_deltas outcome.now pairs.items) }
+    ensures tells { Tells (λ deltas. deltas) result pairs.items (spec.are_deltas outcome.now pairs.items) }
+    ensures told { result ≢ Err errors.NoMemory }
 {
     if rise(&pairs) && suit(&pairs) && may_write(outcome, &pairs) {
         Ok(DeltaMap::from_vec(pairs))
@@ -103,7 +108,8 @@ pub fn read_deltas<'a>(
 
 /// Where nothing was read, the place is named. One that four bytes don't tell is answered as want of memory.
 fn placed<T>(whole: &[u8], rest: &[u8], read: Result<T, FieldError>) -> Result<T, DecodeError>
-    ensures { Placed (length whole.now - length rest.now) read result }
+    ensures place { Placed (length whole.now - length rest.now) read result }
+    ensures fits { result ≡ Err decode_errors.NoMemory → (read ≡ Err errors.NoMemory) ⊎ (2 ^ 32 ≤ length whole.now) }
 {
     match read {
         Ok(value) => Ok(value),
@@ -117,14 +123,16 @@ fn placed<T>(whole: &[u8], rest: &[u8], read: Result<T, FieldError>) -> Result<T
 
 /// The field of a number.
 fn number_field<'a>(whole: &[u8], rest: &'a [u8]) -> Result<(u64, &'a [u8]), DecodeError>
-    ensures { Decodes (λ read. (read.0, read.1.now)) result (field whole.now positive_at rest.now) }
+    ensures read { Decodes (λ read. (read.0, read.1.now)) result (field whole.now positive_at rest.now) }
+    ensures told { result ≡ Err decode_errors.NoMemory → 2 ^ 32 ≤ length whole.now }
 {
     placed(whole, rest, read_positive(rest))
 }
 
 /// The field of a client.
 fn client_field<'a>(whole: &[u8], rest: &'a [u8]) -> Result<(u32, &'a [u8]), DecodeError>
-    ensures { Decodes (λ read. (read.0, read.1.now)) result (field whole.now client_at rest.now) }
+    ensures read { Decodes (λ read. (read.0, read.1.now)) result (field whole.now client_at rest.now) }
+    ensures told { result ≡ Err decode_errors.NoMemory → 2 ^ 32 ≤ length whole.now }
 {
     placed(whole, rest, read_client(rest))
 }
@@ -169,7 +177,8 @@ fn deltas_field<'a>(
 
 /// The end of the bytes.
 fn end(whole: &[u8], rest: &[u8]) -> Result<(), DecodeError>
-    ensures { Decodes (λ nothing. (nothing, [])) result (field whole.now end_at rest.now) }
+    ensures read { Decodes (λ nothing. (nothing, [])) result (field whole.now end_at rest.now) }
+    ensures told { result ≡ Err decode_errors.NoMemory → 2 ^ 32 ≤ length whole.now }
 {
     if rest.is_empty() {
         Ok(())

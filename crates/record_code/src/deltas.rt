@@ -1,6 +1,7 @@
 //! Fields of deltas and of the addresses at which they are.
 
-ghost use Rattle.std.specs.Prelude.{◌≡◌, ◌++◌, Option, OnOk};
+ghost use Rattle.std.specs.Prelude.{◌≡◌, ◌≢◌, ◌++◌, Option, OnOk, Err};
+ghost use Rattle.record_code.specs.declared.field_error.FieldError.TheVariants as errors;
 ghost use Rattle.record_code.specs.Spelling.{delta_byte, delta_parts};
 ghost use Rattle.record_code.specs.Reading.{map_of, map_at, keyed_of, listed_of, mark_of, delta_of};
 ghost use Rattle.record_code.specs.Room.{DeltaHasRoom};
@@ -89,7 +90,8 @@ impl Field for Mark {
 
 /// The map of texts with their marks, where the texts rise strictly.
 fn in_order<M: Drop>(pairs: Vec<(Text, M)>) -> Result<TextMap<M>, FieldError>
-    ensures { Reads (λ marks. marks) result (map_of pairs.items) }
+    ensures read { Reads (λ marks. marks) result (map_of pairs.items) }
+    ensures told { result ≢ Err errors.NoMemory }
 {
     match TextMap::try_from_vec(pairs) {
         Some(marks) => Ok(marks),
@@ -112,7 +114,8 @@ pub fn read_map<M: Field>(
 
 /// The change of a set or a hash of these parts.
 fn keyed<M: Leaves>(cleared: bool, marks: TextMap<M>) -> Result<KeyedDelta<M>, FieldError>
-    ensures { Reads (λ d. d) result (keyed_of M.left cleared marks) }
+    ensures read { Reads (λ d. d) result (keyed_of M.left cleared marks) }
+    ensures told { result ≢ Err errors.NoMemory }
 {
     match KeyedDelta::from_parts(cleared, marks) {
         Some(d) => Ok(d),
@@ -150,7 +153,8 @@ impl<M: Field + Leaves> Field for KeyedDelta<M> {
 
 /// The change of a list of these parts.
 fn listed(cleared: bool, removed: TextSet, pushed: TextList) -> Result<ListDelta, FieldError>
-    ensures { Reads (λ d. d) result (listed_of cleared removed pushed) }
+    ensures read { Reads (λ d. d) result (listed_of cleared removed pushed) }
+    ensures told { result ≢ Err errors.NoMemory }
 {
     match ListDelta::from_parts(cleared, removed, pushed) {
         Some(d) => Ok(d),

@@ -1,7 +1,8 @@
 //! The kinds that a version has, in addresses and in bodies.
 
-ghost use Rattle.std.specs.Prelude.{◌≡◌, ◌≤◌, length, nat_lt, IfOk};
+ghost use Rattle.std.specs.Prelude.{◌≡◌, ◌≢◌, ◌≤◌, length, nat_lt, IfOk, Err};
 ghost use Rattle.std.specs.List.{list_all};
+ghost use Rattle.record_code.specs.declared.field_error.FieldError.TheVariants as errors;
 ghost use Rattle.record_code.specs.Spelling.{kind_byte};
 ghost use Rattle.record_code.specs.Fields.{tag_at};
 ghost use Rattle.record_code.specs.Reading as spec;
@@ -34,7 +35,8 @@ pub fn byte_of_kind(kind: Kind) -> u8
 
 /// Reads a kind of a version.
 pub fn read_kind(version: Version, bytes: &[u8]) -> Result<(Kind, &[u8]), FieldError>
-    ensures { Reads (λ read. (read.0, read.1.now)) result (tag_at (kinds_of version) bytes.now) }
+    ensures read { Reads (λ read. (read.0, read.1.now)) result (tag_at (kinds_of version) bytes.now) }
+    ensures told { result ≢ Err errors.NoMemory }
 {
     match version {
         Version::One => read_tag(&KINDS_ONE, bytes),

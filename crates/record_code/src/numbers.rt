@@ -1,7 +1,8 @@
-//! Numbers and single bytes.
+//! Numbers and single bytes. A reader that takes no memory never tells want of it.
 
-ghost use Rattle.std.specs.Prelude.{◌≡◌, ◌++◌, [], ◌∷◌, OnOk};
+ghost use Rattle.std.specs.Prelude.{◌≡◌, ◌≢◌, ◌++◌, [], ◌∷◌, OnOk, Err};
 ghost use Rattle.std.specs.Int.{w32, w64, to_be_bytes};
+ghost use Rattle.record_code.specs.declared.field_error.FieldError.TheVariants as errors;
 ghost use Rattle.record_code.specs.Spelling.{int_bytes};
 ghost use Rattle.record_code.specs.Fields.{number_at, int_at, tag_at};
 ghost use Rattle.record_code.specs.Room.{IsInt};
@@ -42,7 +43,8 @@ pub fn write_byte(out: &mut Text, byte: u8) -> Result<(), AllocError>
 
 /// Reads a number of four bytes.
 pub fn read_u32(bytes: &[u8]) -> Result<(u32, &[u8]), FieldError>
-    ensures { Reads (λ read. (read.0, read.1.now)) result (number_at w32 bytes.now) }
+    ensures read { Reads (λ read. (read.0, read.1.now)) result (number_at w32 bytes.now) }
+    ensures told { result ≢ Err errors.NoMemory }
 {
     if bytes.len() < 4 {
         return Err(FieldError::Malformed);
@@ -54,7 +56,8 @@ pub fn read_u32(bytes: &[u8]) -> Result<(u32, &[u8]), FieldError>
 
 /// Reads a number of eight bytes.
 pub fn read_u64(bytes: &[u8]) -> Result<(u64, &[u8]), FieldError>
-    ensures { Reads (λ read. (read.0, read.1.now)) result (number_at w64 bytes.now) }
+    ensures read { Reads (λ read. (read.0, read.1.now)) result (number_at w64 bytes.now) }
+    ensures told { result ≢ Err errors.NoMemory }
 {
     if bytes.len() < 8 {
         return Err(FieldError::Malformed);
@@ -69,7 +72,8 @@ pub fn read_u64(bytes: &[u8]) -> Result<(u64, &[u8]), FieldError>
 /// Reads a number with a sign.
 #[tactic(auto, unfolding(crate::specs::Fields::int_at))]
 pub fn read_i64(bytes: &[u8]) -> Result<(i64, &[u8]), FieldError>
-    ensures { Reads (λ read. (read.0, read.1.now)) result (int_at bytes.now) }
+    ensures read { Reads (λ read. (read.0, read.1.now)) result (int_at bytes.now) }
+    ensures told { result ≢ Err errors.NoMemory }
 {
     let (number, rest) = read_u64(bytes)?;
     Ok((number.cast_signed(), rest))
@@ -78,7 +82,8 @@ pub fn read_i64(bytes: &[u8]) -> Result<(i64, &[u8]), FieldError>
 /// Reads a byte as what has its place in a row.
 #[tactic(auto, unfolding(crate::specs::Fields::tag_at))]
 pub fn read_tag<'a, A: Copy>(tags: &[A], bytes: &'a [u8]) -> Result<(A, &'a [u8]), FieldError>
-    ensures { Reads (λ read. (read.0, read.1.now)) result (tag_at tags.now bytes.now) }
+    ensures read { Reads (λ read. (read.0, read.1.now)) result (tag_at tags.now bytes.now) }
+    ensures told { result ≢ Err errors.NoMemory }
 {
     let [byte, rest @ ..] = bytes else {
         return Err(FieldError::Malformed);

@@ -1,5 +1,9 @@
-use Rattle.record_code.proofs.Answered.{placed_reads}
+use Rattle.record_code.proofs.Answered.{placed_reads, placed_fits}
 use Rattle.record_code.proofs.decoding.number_field.Goals as goal
 
-pub returns : goal.returns
-returns c = placed_reads (λ read. (read.0, read.1.now)) _ _ _ _ c.read_positive.ensures c.placed.ensures
+pub returns-clause-read : goal.returns-clause-read
+returns-clause-read c =
+    placed_reads (λ read. (read.0, read.1.now)) _ _ _ _ c.read_positive.ensures.read c.placed.ensures.place
+
+pub returns-clause-told : goal.returns-clause-told
+returns-clause-told c = placed_fits _ _ c.read_positive.ensures.told c.placed.ensures.fits
