@@ -15,7 +15,7 @@ use std::thread::{Threads, join};
 use watch_reruns::{Rerunner, Reruns};
 
 /// How few watches are worth a thread.
-const LEAST_PART: usize = 128;
+const LEAST_PART: usize = 512;
 
 /// Runs them in parts, as many as there are processors, each in a thread of its own.
 #[derive(Drop)]
