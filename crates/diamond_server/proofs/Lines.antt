@@ -27,6 +27,7 @@ use Rattle.diamond_server.specs.Talking.{Told, Answers, Talks, AreInOrder, turn_
 use Rattle.diamond_server.specs.Talking.{MayBegin}
 use Rattle.diamond_server.specs.Promises.{HasRead, ReadsToTheEnd, ReadsUpToAFault, ReadsOneMore, ReadsNext, TakesPart, TakesWhole, IsServed, IsCutShort}
 use Rattle.diamond_server.specs.code.Serving.{Stop, HoldsBack, CutsOff, Settles, Finds, BreaksOffIn, FindsLine, Replies, StopsBy, text_of, kept, DoesLine}
+use Rattle.diamond_server.specs.code.Serving.{at_most}
 use Rattle.diamond_server.specs.code.Serving.{FindsNone, StopsIn, DoesUnheard, Turns, HasServed, Ends}
 use Rattle.diamond_server.proofs.CutShort.{cut-accounted, met-none}
 use Rattle.diamond_server.proofs.Held.{holds-same, holds-then, holds-more, holds-none, cuts-then, cuts-held, next-none, reads-none, reads-line}
@@ -146,7 +147,7 @@ module _ {B : Type 0} (known : B → Known) (goes : B → Call → Answer → B 
   turn-then old s x held new t y z mid after (Ok false) (inl found) same none on = inl (none-then old x held new y z mid after found same on)
   turn-then old s x held new t y z mid after (Ok false) (inr turn) same none on = inr (does-then old s x held new None y z mid after turn same on)
   turn-then old s x held new t y z mid after (Err stop.NoMemory) turn same none on =
-      (stops-then old s x new y z turn.0 same, holds-then x.outwards y.outwards z.outwards held mid after turn.1 on)
+      (stops-then old s x new y z turn.0 same, holds-then x.outwards y.outwards z.outwards held mid after turn.1 on, turn.2)
   turn-then old s x held new t y z mid after (Err (stop.Cause cause.ReadFault)) turn same none on = (
     record {
       breaks = subst (λ (i : Incoming). BreaksOff x.inwards.left i.left) (sym same) turn.0.breaks;
@@ -230,7 +231,7 @@ module _ {B : Type 0} (known : B → Known) (goes : B → Call → Answer → B 
   pub turn-unfound : (old : B) (s : Session) (e : Stop) (x y : Both) (held after : Text) → FindsLine (error e) x held y after
       → Turns known goes (Err e) old s x held old s y after
   turn-unfound old s stop.NoMemory x y held after found =
-      (record { begun = None; begins = refl; read = found.read; reads = found.reads }, found.holds)
+      (record { begun = None; begins = refl; read = found.read; reads = found.reads }, found.holds, refl)
   turn-unfound old s (stop.Cause cause.ReadFault) x y held after found = (found, refl)
   turn-unfound old s (stop.Cause cause.WriteFault) x y held after found = (
     found.emptied,
@@ -287,7 +288,8 @@ module _ {B : Type 0} (known : B → Known) (goes : B → Call → Answer → B 
 
       by : (e : Stop) → StopsBy e (MayBegin known goes old (Some s) (text_of l) new) (known old).faults (known new).faults m.outwards mid y.outwards after
           → Turns known goes (Err e) old s x held new t y after
-      by stop.NoMemory stops = (stopped stops.0, holds-then x.outwards m.outwards y.outwards held mid after found.holds stops.1)
+      by stop.NoMemory stops =
+          (stopped stops.0, holds-then x.outwards m.outwards y.outwards held mid after found.holds stops.1, stops.2)
       by (stop.Cause cause.ReadFault) stops = absurd stops
       by (stop.Cause cause.WriteFault) stops =
           (stops.2, inl (stopped stops.0, cuts-then x.outwards m.outwards y.outwards held mid found.holds stops.1))
@@ -401,6 +403,10 @@ module _ {B : Type 0} {known : B → Known} {goes : B → Call → Answer → B 
       -- the lines so far are in order, and none has ended the session
       past-order : AreInOrder past.tolds × (is_over past.tolds ≡ false)
       past-order = order-on past.tolds (talk-ordered known goes old (first_session (known old)) past.tolds now (Some s) past.talks)
+
+      -- and the store has not failed in them
+      past-unfaulted : (known now).faults ≡ (known old).faults
+      past-unfaulted = (talk-accounted known goes old now past.tolds (Some s) is past.talks).faults
 
       -- nothing more was done, and what was held back was passed on
       served-so-far : (new : B) (z : Both) (after : Text) (Reads : List Told → Text → Text → Type 0) → n ≤ MOST_LINES → new ≡ now
@@ -532,6 +538,7 @@ module _ {B : Type 0} {known : B → Known} {goes : B → Call → Answer → B 
       ends-stopped new t z after stop.NoMemory few none turn = (
         cut-whole new z after (omega arith) none turn.0 turn.1,
         (turn.0.reads ∙ past.reads, turn.1.writes ∙ past.holds.writes),
+        turn.2 ∙ past-unfaulted,
       )
       ends-stopped new t z after (stop.Cause cause.ReadFault) few none turn = (
         served-broken new z after (omega arith) turn.1 turn.0,
@@ -542,7 +549,7 @@ module _ {B : Type 0} {known : B → Known} {goes : B → Call → Answer → B 
       ends-stopped new t z after (stop.Cause cause.StoreFault) few none turn = (
         cut-whole new z after (omega arith) none turn.0 turn.1,
         (turn.0.reads ∙ past.reads, turn.1.writes ∙ past.holds.writes),
-        subst (λ (m : ℕ). Rose m (known new).faults) (talk-accounted known goes old now past.tolds (Some s) is past.talks).faults turn.2,
+        subst (λ (m : ℕ). Rose m (known new).faults) past-unfaulted turn.2,
       )
       ends-stopped new t z after (stop.Cause cause.TooManyLines) few none turn = absurd turn
 
@@ -562,7 +569,7 @@ module _ {B : Type 0} {known : B → Known} {goes : B → Call → Answer → B 
           (subst (λ (b : Bool). Turns known goes (Ok b) now s y held new t z after) last turn)
 
       -- the input ended behind the last line that may be read
-      pub ends-at_most : {l : Line} {z : Both} {after : Text} → n ≡ MOST_LINES → after ≡ [] → l ≡ line.End → Finds l y held z after
+      ends-at_most : {l : Line} {z : Both} {after : Text} → n ≡ MOST_LINES → after ≡ [] → l ≡ line.End → Finds l y held z after
           → Ends known goes (Ok tt) old x now z
       ends-at_most {z = z} {after = after} most none end found = (
         served-ended now z after (omega arith) none (record {
@@ -575,12 +582,23 @@ module _ {B : Type 0} {known : B → Known} {goes : B → Call → Answer → B 
       )
 
       -- there is one line more
-      pub ends-over : {l : Line} {z : Both} {after : Text} → n ≡ MOST_LINES → after ≡ [] → (l ≡ line.End → ⊥) → Finds l y held z after
+      ends-over : {l : Line} {z : Both} {after : Text} → n ≡ MOST_LINES → after ≡ [] → (l ≡ line.End → ⊥) → Finds l y held z after
           → Ends known goes (Err (stop.Cause cause.TooManyLines)) old x now z
       ends-over {l = l} {z = z} {after = after} most none some found = (
         served-so-far now z after ReadsOneMore (omega arith) refl none found.holds (reads-over z.inwards.left l most some found.read),
         (found.reads ∙ past.reads, found.holds.writes ∙ past.holds.writes),
       )
+
+      -- one or the other
+      pub ends-behind : {r : Result (Unit {0}) Stop} (l : Line) {z : Both} {after : Text} → r ≡ at_most l → n ≡ MOST_LINES → after ≡ []
+          → Finds l y held z after → Ends known goes r old x now z
+      ends-behind {r = r} l {z = z} {after = after} is most none found =
+          subst (λ (r : Result (Unit {0}) Stop). Ends known goes r old x now z) (sym is) (by l found)
+        where
+          by : (l : Line) → Finds l y held z after → Ends known goes (at_most l) old x now z
+          by line.End found = ends-at_most most none refl found
+          by (line.Bytes text) found = ends-over most none (λ same. let no : ⊥ = cc in no) found
+          by line.TooLong found = ends-over most none (λ same. let no : ⊥ = cc in no) found
 
       -- it broke off
       pub ends-unread : (z : Both) (after : Text) (e : Stop) → n ≡ MOST_LINES → after ≡ [] → FindsLine (error e) y held z after
@@ -588,6 +606,7 @@ module _ {B : Type 0} {known : B → Known} {goes : B → Call → Answer → B 
       ends-unread z after stop.NoMemory most none found = (
         cut-whole now z after (omega arith) none (record { begun = None; begins = refl; read = found.read; reads = found.reads }) found.holds,
         (found.reads ∙ past.reads, found.holds.writes ∙ past.holds.writes),
+        past-unfaulted,
       )
       ends-unread z after (stop.Cause cause.ReadFault) most none found = (
         served-broken now z after (omega arith) refl found,

@@ -1,7 +1,7 @@
 -- Lists of links: accepted one after another, joined, and given back.
 use Rattle.std.proofs.Common.{◌≡◌, ℕ, ◌+◌, ◌==◌, ◌≤◌, List, [], ◌∷◌, ◌++◌, length, map, Bool, true, false, Option, Result, Ok}
 use Rattle.std.proofs.Common.{Err, refl, ap, sym, ◌∙◌, arith, subst, append_assoc, append-nil, length-append}
-use Rattle.std.specs.Prelude.{All, IfSome, if◌then◌else◌, slice_index_or}
+use Rattle.std.specs.Prelude.{All, IfSome, IsTrue, if◌then◌else◌, slice_index_or}
 use mathlib.Core.List.{IsPrefix, map-append}
 use Rattle.std.proofs.lemmas.List.Elements.{All-nil, All-cons, All-append, All-rest}
 use Rattle.std.proofs.lemmas.List.{length-map, nil_from_length}
@@ -20,7 +20,7 @@ use Rattle.diamond_store.specs.declared.join_error.JoinError.TheVariants as join
 use Rattle.session_core.specs.Explained.{setting_of}
 use Rattle.script_runner.specs.declared.status.TheConstants.{WHOLE}
 use Rattle.diamond_server.specs.Accounts.{Account, Seat, seat_of, given_of, status_in, joined_in, link_in, IsServed, Rises, faults_of}
-use Rattle.diamond_server.specs.Accounts.{Gatherings, gatherings, Accepting, AllServed}
+use Rattle.diamond_server.specs.Accounts.{Gatherings, gatherings, Accepting, AllServed, AreEnded}
 use Rattle.diamond_server.specs.Ways.{Promising}
 use Rattle.diamond_server.specs.code.Settling.{IsNear, IsNearTalk, JoinsNext, Turns, Settling}
 
@@ -240,6 +240,24 @@ module _ {L : Type 0} where
       → Settling Promised told pass all rest old new n → Settling Promised told pass all [] old new n
   settling-end Promised told pass all rest old new n k none len p =
       let nil : rest ≡ [] = nil_from_length rest (omega arith) in subst (λ w. Settling Promised told pass all w old new n) nil p
+
+  -- before the first nothing was given back that isn't ended
+  pub ended-start : (ended : L → Option Bool) (old : Option (List (L × ℕ))) → AreEnded ended old old
+  ended-start ended old = record { back = []; given_back = sym (with_more-nil old); each = All-nil _ }
+
+  -- a link that is ended is given back behind those before it
+  pub ended-next : (ended : L → Option Bool) (old new more : Option (List (L × ℕ))) (b : L × ℕ) → AreEnded ended old new
+      → more ≡ with_more new (b ∷ []) → IfSome (ended b.0) IsTrue → AreEnded ended old more
+  ended-next ended old new more b are back is =
+      let IsEnded : L × ℕ → Type 0 = λ b. IfSome (ended b.0) IsTrue in record {
+        back = are.back ++ b ∷ [];
+        given_back = back ∙ (ap (λ o. with_more o (b ∷ [])) are.given_back ∙ with_more-with_more old are.back (b ∷ []));
+        each = All-append IsEnded are.back (b ∷ []) are.each (All-cons IsEnded b [] is (All-nil _));
+      }
+
+  -- so it is from what was given back before the first was accepted
+  pub ended-from : (ended : L → Option Bool) (old mid new : Option (List (L × ℕ))) → mid ≡ old → AreEnded ended mid new → AreEnded ended old new
+  ended-from ended old mid new same are = subst (λ (o : Option (List (L × ℕ))). AreEnded ended o new) same are
 
   -- ---- all of it
 

@@ -17,6 +17,7 @@ use Rattle.diamond_server.specs.declared.status.TheConstants.{STORE_FAULT}
 use Rattle.diamond_server.specs.declared.status.Cause.TheVariants as cause
 use Rattle.diamond_server.specs.Talking.{Told, line_told}
 use Rattle.diamond_server.specs.Promises.{ReadsToTheEnd, ReadsUpToAFault, ReadsOneMore, TakesPart, TakesWhole, IsServed, IsCutShort, KeepsPromises}
+use Rattle.diamond_server.specs.Promises.{TellsStoreFault}
 use Rattle.diamond_server.specs.code.Serving.{Stop, status_of, Ends}
 
 -- one of two facts, by a test
@@ -99,3 +100,12 @@ module _ {B : Type 0} (known : B → Known) (goes : B → Call → Answer → B 
   keeps_promises (Err (stop.Cause cause.TooManyLines)) ends =
       promises TOO_MANY_LINES refl ends.0 ends.1.0 ends.1.1 (λ all is few well written kept.
       absurd (told-over-most ends.0.tolds x.inwards.left y.inwards.left ends.0.heard.reads all is few))
+
+  -- It tells a fault of the store exactly where that was counted, unless a write has failed.
+  pub tells_fault : (ended : Result (Unit {0}) Stop) → Ends known goes ended old x new y → TellsStoreFault (known old) (known new) (status_of ended)
+  tells_fault (Ok done) ends written = ends.0.accounted.faults
+  tells_fault (Err stop.NoMemory) ends written = ends.2
+  tells_fault (Err (stop.Cause cause.ReadFault)) ends written = ends.0.accounted.faults
+  tells_fault (Err (stop.Cause cause.WriteFault)) ends written = absurd (written refl)
+  tells_fault (Err (stop.Cause cause.StoreFault)) ends written = ends.2
+  tells_fault (Err (stop.Cause cause.TooManyLines)) ends written = ends.0.accounted.faults

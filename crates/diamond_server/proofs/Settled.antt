@@ -144,7 +144,7 @@ longer-prefix xs ys p = by (ltb (length xs) (length ys)) refl
 -- What is promised of a session of lines stays so.
 pub lines-stay : StaysPromised LinesPromised
 lines-stay first last other status x y =
-    λ told more. promises-map _ _ _ _ (known_of first) (known_of last) status x y (later more) (nearly more) told
+    λ told more. (promises-map _ _ _ _ (known_of first) (known_of last) status x y (later more) (nearly more) told.0, told.1)
   where
     -- who has met the other
     met : KnowsMore last other → HasMet (known_of last) (known_of (having_met other last))

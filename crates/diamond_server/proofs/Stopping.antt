@@ -2,7 +2,6 @@
 use Rattle.std.proofs.Common.{◌≡◌, ℕ, Bool, true, false, Some, Result, Ok, Err, refl, sym, subst, []}
 use Rattle.std.specs.Prelude.{IfErr, OnErr, ◌≤◌, length}
 use Rattle.plain_data.specs.declared.or_no_memory.OrNoMemory.TheVariants as stop
-use Rattle.dio_core.specs.Counts.{Rose}
 use Rattle.dio_core.specs.Links.{Outgoing}
 use Rattle.dio_core.specs.declared.line.Line.{Line}
 use Rattle.dio_core.specs.declared.line.Line.TheVariants as line
@@ -27,14 +26,14 @@ use Rattle.diamond_server.specs.Talking.{Answers, Begins, MayBegin}
 use Rattle.diamond_server.specs.code.Serving.{Stop, stop_of, HoldsBack, PassesOn, StopsBy, text_of, MayWake}
 use Rattle.diamond_server.proofs.FirstCalls.{begun-led, begun-stopped}
 use Rattle.diamond_server.proofs.Held.{holds-same, passes-cut}
-use Rattle.diamond_server.proofs.Talked.{came-unfaulted}
+use Rattle.diamond_server.proofs.Talked.{answers-unfaulted, came-unfaulted}
 
 -- ---- an error
 
 -- what has begun in the place of something else
 stops-map : (e : Stop) (Began More : Type 0) (store store_then : ℕ) (x y : Outgoing) (held after : Text) → (Began → More)
     → StopsBy e Began store store_then x held y after → StopsBy e More store store_then x held y after
-stops-map stop.NoMemory Began More store store_then x y held after more stops = (more stops.0, stops.1)
+stops-map stop.NoMemory Began More store store_then x y held after more stops = (more stops.0, stops.1, stops.2)
 stops-map (stop.Cause cause.StoreFault) Began More store store_then x y held after more stops = (more stops.0, stops.1, stops.2)
 stops-map (stop.Cause cause.WriteFault) Began More store store_then x y held after more stops = (more stops.0, stops.1, stops.2)
 stops-map (stop.Cause cause.ReadFault) Began More store store_then x y held after more stops = absurd stops
@@ -42,13 +41,13 @@ stops-map (stop.Cause cause.TooManyLines) Began More store store_then x y held a
 
 -- by an error of the session's line
 pub stops-of : (e : SessionError) (r : Stop) (Began : Type 0) (store store_then : ℕ) (x y : Outgoing) (held after : Text) → r ≡ stop_of e
-    → (e ≡ error.StoreFault → Rose store store_then) → Began → HoldsBack x held y after → StopsBy r Began store store_then x held y after
-stops-of e r Began store store_then x y held after is rose began holds =
-    subst (λ (r : Stop). StopsBy r Began store store_then x held y after) (sym is) (by e rose)
+    → RisesWhere (e ≡ error.StoreFault) store store_then → Began → HoldsBack x held y after → StopsBy r Began store store_then x held y after
+stops-of e r Began store store_then x y held after is told began holds =
+    subst (λ (r : Stop). StopsBy r Began store store_then x held y after) (sym is) (by e told)
   where
-    by : (e : SessionError) → (e ≡ error.StoreFault → Rose store store_then) → StopsBy (stop_of e) Began store store_then x held y after
-    by error.StoreFault rose = (began, holds, rose refl)
-    by error.NoMemory rose = (began, holds)
+    by : (e : SessionError) → RisesWhere (e ≡ error.StoreFault) store store_then → StopsBy (stop_of e) Began store store_then x held y after
+    by error.StoreFault told = (began, holds, told.rises refl)
+    by error.NoMemory told = (began, holds, told.stays (λ is. let no : ⊥ = cc in no))
 
 -- what was held back could not be written
 pub stops-unpassed : (b : Bool) (Began : Type 0) (store store_then : ℕ) (x y : Outgoing) (held after : Text) → b ≡ false → PassesOn b x held y
@@ -66,10 +65,11 @@ module _ {B : Type 0} (known : B → Known) (goes : B → Call → Answer → B 
 
   -- there was no memory for its refusal
   pub stops-unrefused : (b : B) (s : Session) (l : Line) (x : Outgoing) (held after : Text) → line.TooLong ≡ l → after ≡ held
-      → StopsBy stop.NoMemory (MayBegin known goes b (Some s) (text_of l) b) 0 0 x held x after
+      → StopsBy stop.NoMemory (MayBegin known goes b (Some s) (text_of l) b) (known b).faults (known b).faults x held x after
   stops-unrefused b s l x held after is kept = (
     subst (λ (l : Line). MayBegin known goes b (Some s) (text_of l) b) is refl,
     subst (λ (bytes : Text). HoldsBack x held x bytes) (sym kept) (holds-same x held),
+    refl,
   )
 
   -- its program has stopped
@@ -78,7 +78,7 @@ module _ {B : Type 0} (known : B → Known) (goes : B → Call → Answer → B 
       → RisesWhere (e ≡ error.StoreFault) (known b).faults (known c).faults
       → StopsBy r (Begins known goes b s text c) (known b).faults (known c).faults x held x held
   stops-line b s text c e r x held is stops told =
-      stops-of e r (Begins known goes b s text c) (known b).faults (known c).faults x x held held is told.rises
+      stops-of e r (Begins known goes b s text c) (known b).faults (known c).faults x x held held is told
       (Begins.at_once (begun-stopped stops)) (holds-same x held)
 
   -- of a line that is short enough
@@ -132,9 +132,10 @@ module _ {B : Type 0} (known : B → Known) (goes : B → Call → Answer → B 
 
   -- and there was no memory for its text
   pub stops-unsaid : (b : B) (s : Session) (text bytes : Text) (said : Turn) (c : B) (t : Session) (x y : Outgoing) (held mid after : Text)
-      (store store_then : ℕ) → length text ≤ LONGEST_LINE → bytes ≡ text → Answers known goes b s bytes said c t → HoldsBack x held y mid
-      → after ≡ mid → StopsBy stop.NoMemory (MayBegin known goes b (Some s) (Some text) c) store store_then x held y after
-  stops-unsaid b s text bytes said c t x y held mid after store store_then short same answers holds kept = (
+      → length text ≤ LONGEST_LINE → bytes ≡ text → Answers known goes b s bytes said c t → HoldsBack x held y mid → after ≡ mid
+      → StopsBy stop.NoMemory (MayBegin known goes b (Some s) (Some text) c) (known b).faults (known c).faults x held y after
+  stops-unsaid b s text bytes said c t x y held mid after short same answers holds kept = (
     (short, subst (λ (z : Text). Begins known goes b s z c) same (answers-begin b s bytes said c t answers)),
     subst (λ (z : Text). HoldsBack x held y z) (sym kept) holds,
+    answers-unfaulted known goes b s bytes said c t answers,
   )

@@ -6,13 +6,14 @@ use Rattle.std.specs.List.{AllByRecursion}
 use Rattle.std.proofs.lemmas.List.{append-nil}
 use Rattle.dio_core.specs.declared.line.TheConstants.{LONGEST_LINE}
 use Rattle.rdt_types.specs.declared.limits.TheConstants.{LEAST_SHARDS, MOST_SHARDS}
-use Rattle.dio_core.specs.Counts.{Rose}
 use Rattle.txn_grammar.specs.Characters.{Text}
 use Rattle.txn_lang.specs.Journals.{own}
 use Rattle.txn_lang.specs.States.{Journal}
-use Rattle.docc_prepare.specs.Calls.{Known, Call, Answer}
+use Rattle.docc_prepare.specs.declared.backend.StoreError.{StoreError}
+use Rattle.docc_prepare.specs.declared.backend.StoreError.TheVariants as store_error
+use Rattle.docc_prepare.specs.Calls.{Known, Call, Answer, store_failed}
 use Rattle.docc_prepare.specs.Readable.{IsReadOn, StaysReadable, IsNew}
-use Rattle.docc_prepare.specs.Backends.{Goes}
+use Rattle.docc_prepare.specs.Backends.{Goes, IsAnswered}
 use Rattle.call_programs.specs.Programs.{Program, Leads}
 use Rattle.call_programs.proofs.Counted.{counts_over}
 use Rattle.call_programs.proofs.Programs.{along, known_leads}
@@ -23,6 +24,7 @@ use Rattle.client_watches.specs.Watching.{none_yet}
 use Rattle.session_core.specs.declared.line.Line.TheVariants as asked
 use Rattle.session_core.specs.declared.error.SessionError.{SessionError}
 use Rattle.session_core.specs.declared.error.SessionError.TheVariants as error
+use Rattle.session_core.specs.Errors.{error_of}
 use Rattle.session_core.specs.declared.session.Session.{Session}
 use Rattle.session_core.specs.declared.turn.Turn.{Turn}
 use Rattle.session_core.specs.declared.turn.Turn.TheVariants as turn
@@ -174,7 +176,7 @@ module _ {B : Type 0} (known : B → Known) (goes : B → Call → Answer → B 
   led-unfaulted b p c end led = counts_over {E = SessionError} known goes b c error.StoreFault p (Ok end) (λ x. x) led
 
   -- nor has it where a line is answered
-  answers-unfaulted : (b : B) (s : Session) (text : Text) (said : Turn) (c : B) (t : Session) → Answers known goes b s text said c t
+  pub answers-unfaulted : (b : B) (s : Session) (text : Text) (said : Turn) (c : B) (t : Session) → Answers known goes b s text said c t
       → (known c).faults ≡ (known b).faults
   answers-unfaulted b s text said c t (Answers.at_once quick led) = led-unfaulted b (line_over (known b) s (line_of text)) c (t, said) led
   answers-unfaulted b s text said c t (Answers.woken there woke u first waits last) =
@@ -299,10 +301,16 @@ module _ {B : Type 0} (known : B → Known) (goes : B → Call → Answer → B 
 pub follows-on : (k : Known) (s : Session) → Attends k s → Follows k s
 follows-on k s is = subst (λ (o : Option SessionError). UnlessOver o (Attends k s)) (sym is.on) is
 
--- where a fault of the store is told, its count has risen
-pub told-rises : (r : Result Turn SessionError) (old new : ℕ) → CountsFault error.StoreFault r old new → r ≡ Err error.StoreFault → Rose old new
-told-rises (Ok said) old new told is = absurd (let no : ⊥ = cc in no)
-told-rises (Err e) old new told is = told.rises (let same : e ≡ error.StoreFault = cc in same)
+-- what is counted behind the wait is counted since before it
+pub told-behind : (r : Result Turn SessionError) (old mid new : ℕ) → mid ≡ old → CountsFault error.StoreFault r mid new
+    → CountsFault error.StoreFault r old new
+told-behind r old mid new same told = subst (λ (n : ℕ). CountsFault error.StoreFault r n new) same told
+
+-- a wait that has failed is counted exactly where it has failed by a fault
+pub told-unwoken : (e : StoreError) (k l : Known) → IsAnswered k Call.wait (store_failed e) l
+    → CountsFault {T = Turn} error.StoreFault (Err (error_of e)) k.faults l.faults
+told-unwoken store_error.Fault k l step = record { rises = λ is. step.goes_on.faults; stays = λ no. absurd (no refl) }
+told-unwoken store_error.NoMemory k l step = record { rises = λ is. absurd (let no : ⊥ = cc in no); stays = λ no. step.goes_on.faults }
 
 -- ---- the beginning
 

@@ -1,7 +1,8 @@
 -- What is told of the links of a listener: each as it was accepted and as it is given back, and of its session what is promised of
 -- one, by one prefix of the journal, the same for all links.
 use Rattle.std.specs.Prelude.{◌≡◌, ℕ, ◌+◌, ◌<◌, ◌≤◌, ◌==◌, List, [], ◌∷◌, length, map, All, Bool, false, Option, IfSome}
-use Rattle.std.specs.Prelude.{Result, Ok, Err, if◌then◌else◌, refl}
+use Rattle.std.specs.Prelude.{Result, Ok, Err, Some, IsTrue, T, true, if◌then◌else◌, refl}
+use Rattle.std.proofs.Common.{sym, subst, lit<}
 use Rattle.history_lock.specs.declared.limits.TheConstants.{MOST_DRAWS}
 use Rattle.dio_core.specs.declared.listener.Listener.{Ghosts as ListenerTells}
 use Rattle.dio_core.specs.Counts.{IsCounted}
@@ -22,7 +23,7 @@ use Rattle.script_runner.specs.declared.status.TheConstants.{WHOLE, NO_MEMORY}
 use Rattle.diamond_server.specs.declared.status.TheConstants.{NO_CLIENT}
 use Rattle.diamond_server.specs.declared.serving_all.Tally.{Tally}
 use Rattle.diamond_server.specs.Talking.{Told, first_session, texts_of, turns_of}
-use Rattle.diamond_server.specs.Promises.{IsAccounted, IsCutShort, IsHeard, Promises}
+use Rattle.diamond_server.specs.Promises.{IsAccounted, IsCutShort, IsHeard, Promises, TellsStoreFault}
 use Rattle.diamond_server.specs.Ways.{AnyStep, Promising, having_met}
 
 -- ---- one link
@@ -68,9 +69,10 @@ pub record IsExplained (k l m : Known) (x y : Both) (Reads : List Told → Text 
 abbrev pub IsNearlyExplained : Known → Known → Known → Both → Both → (List Told → Outgoing → Outgoing → Type 0) → Type 0
 IsNearlyExplained k l m x y Takes = Attends k (first_session k) × IsCutShort (λ n. n) AnyStep m k l x y Takes
 
--- What is promised of a link over which a session's lines are done.
+-- What is promised of a link over which a session's lines are done, a fault of the store included.
 abbrev pub LinesPromised : Promising
-LinesPromised k l m status x y = Promises (IsExplained k l m x y) (IsNearlyExplained k l m x y) k l status x y
+LinesPromised k l m status x y =
+    Promises (IsExplained k l m x y) (IsNearlyExplained k l m x y) k l status x y × TellsStoreFault k l status
 
 -- ---- one link, in whole
 
@@ -178,6 +180,12 @@ pub record AllServed {L : Type 0} (Promised : Promising) (told : L → Both) (pa
   pub given_back : g.given_then ≡ with_more g.given (map given_of accounts)
   pub faulted : tally.faulted ≡ faults_of (map status_in accounts)
 
+-- EACH LINK IS ENDED that is given back, where it tells that (`End` of dio_core).
+pub record AreEnded {L : Type 0} (ended : L → Option Bool) (given given_then : Option (List (L × ℕ))) : Type 0 where
+  pub back : List (L × ℕ)
+  pub given_back : given_then ≡ with_more given back
+  pub each : All (λ (b : L × ℕ). IfSome (ended b.0) IsTrue) back
+
 -- A serving that begins with one pass and ends with another, which has drawn the numbers of clients since, from the store's first on.
 abbrev pub AllServedSince : {L : Type 0} → Promising → (L → Both) → ℕ → Passed → Passed → ℕ → Gatherings L → Tally → Type 0
 AllServedSince Promised told first old new most g tally = AllServed Promised told new (first + old.draws) (first + new.draws) most g tally
@@ -189,3 +197,12 @@ ServedAll told pass low high most g tally = AllServed LinesPromised told pass lo
 -- the same of a serving
 abbrev pub ServedSince : {L : Type 0} → (L → Both) → ℕ → Passed → Passed → ℕ → Gatherings L → Tally → Type 0
 ServedSince told first old new most g tally = AllServedSince LinesPromised told first old new most g tally
+
+-- ---- worked lines
+
+-- a link that tells that it goes on isn't given back
+not-ended : AreEnded {L = Bool} (λ told. Some told) (Some []) (Some ((false, 0) ∷ [])) → ⊥
+not-ended are =
+    let ended : false ≡ true = subst (λ (given : Option (List (Bool × ℕ))). IfSome given (All (λ (b : Bool × ℕ). IsTrue b.0))) (sym are.given_back) are.each
+    0 (false, 0) (lit< tt) in
+    subst T (sym ended) tt

@@ -204,7 +204,19 @@ abbrev pub KeepsPromises : {B : Type 0} → (B → Known) → (B → Call → An
 KeepsPromises known goes status old new x y =
     Promises (IsServed known goes old new x y) (IsCutShort known goes (known new) old new x y) (known old) (known new) status x y
 
+-- A FAULT OF THE STORE IS TOLD: the store's count of faults rose at 6, and stood at every other status but 4. (A write that fails behind
+-- a fault of the store is told in its place.)
+abbrev pub TellsStoreFault : Known → Known → ℕ → Type 0
+TellsStoreFault k l status = (status ≡ WRITE_FAULT → ⊥) → IsCounted (status == STORE_FAULT) k.faults l.faults
+
 -- ---- worked lines
+
+-- where memory is wanting the store's count stands, and at 6 it doesn't
+store-fault-told : (k l : Known) → TellsStoreFault k l NO_MEMORY → l.faults ≡ k.faults
+store-fault-told k l told = told (λ same. subst (λ (n : ℕ). T (n == 5)) same tt)
+
+store-fault-counted : (k l : Known) → TellsStoreFault k l STORE_FAULT → Rose k.faults l.faults
+store-fault-counted k l told = told (λ same. subst (λ (n : ℕ). T (n == 6)) same tt)
 
 -- bytes are left only behind a `quit`
 ended-by-quit : HasEnded (Told.long ∷ quit ∷ []) (7 ∷ [])

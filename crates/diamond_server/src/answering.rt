@@ -1,10 +1,10 @@
 //! What a line of the link is answered. The answer is held back, behind those that are.
 
-ghost use Rattle.std.specs.Prelude.{◌≡◌, ◌≤◌, ◌++◌, length, Some, Err, IfOk, IfErr, OnOk, OnErr};
-ghost use Rattle.dio_core.specs.Counts.{Rose};
+ghost use Rattle.std.specs.Prelude.{◌≡◌, ◌≤◌, ◌++◌, length, Some, IfOk, IfErr, OnOk, OnErr};
 ghost use Rattle.dio_core.specs.Lines.{IsShort};
 ghost use Rattle.dio_core.specs.declared.line.Line.TheVariants as cut;
 ghost use Rattle.session_core.specs.Holding.{Attends};
+ghost use Rattle.session_core.specs.Sessions.{TellsFault};
 ghost use Rattle.script_runner.specs.Play.{left};
 ghost use Rattle.diamond_server.specs.Promises.{sides};
 ghost use Rattle.diamond_server.specs.Talking as spec;
@@ -33,7 +33,7 @@ fn woken<B: Waiter, R: Rerunner>(
     ensures woken { IfOk result (λ turn. Wakes B.known B.goes backend.old session.old turn backend.new session.new) }
     ensures begun { OnErr result (MayWake B.known B.goes backend.old session.old backend.new) }
     ensures attends { OnOk result (Attends (B.known backend.new) session.new) }
-    ensures fault { result ≡ Err SessionError.StoreFault → Rose (B.known backend.old).faults (B.known backend.new).faults }
+    ensures told { TellsFault (B.known backend.old) (B.known backend.new) result }
     ensures home { B.home backend.new ≡ B.home backend.old }
 {
     backend.wait()?;
@@ -65,7 +65,7 @@ fn passed_on_and_woken<B: Waiter, K: End, R: Rerunner>(
     }
     match woken(alloc, backend, reruns, session) {
         Ok(turn) => Ok(turn),
-        Err(error) => Err(stop_of(error)),
+        Err(why) => Err(stop_of(why)),
     }
 }
 

@@ -6,7 +6,7 @@ ghost use Rattle.diamond_server.specs.Accounts.{seat, seat_of, IsNewcomer};
 use crate::ended::{Ended, serve};
 use crate::ways::Serves;
 use diamond_store::{Gate, JoinError, Pass, Store};
-use dio_core::{End, Sink, Source};
+use dio_core::End;
 use history_lock::Naming;
 use journal_core::Keep;
 use std::alloc::Global;
@@ -15,7 +15,7 @@ use std::snapshot::Snapshot;
 use std::sync::Wait;
 use std::thread::{Promise, PromisedHandle, Scope, Threads};
 
-/// What a thread promises: to serve the session of this pass over this link, in this way.
+/// What a thread promises: to serve the session of this pass over this link, in this way, and to end the link.
 #[derive(Drop)]
 struct Serving<L, K: Keep, N: Naming, S> {
     link: Snapshot<L>,
@@ -23,19 +23,18 @@ struct Serving<L, K: Keep, N: Naming, S> {
     way: PhantomData<S>,
 }
 
-impl<L: Source + Sink, K: Keep, N: Naming, S: Serves> Promise<(L, Pass<K, N>, u8)>
-    for Serving<L, K, N, S> {
-    ghost use Rattle.std.specs.Prelude.{Ok};
+impl<L: End, K: Keep, N: Naming, S: Serves> Promise<(L, Pass<K, N>, u8)> for Serving<L, K, N, S> {
+    ghost use Rattle.std.specs.Prelude.{Ok, IfSome, IsTrue};
     ghost use Rattle.diamond_server.specs.Accounts.{IsTold};
     ghost use Rattle.diamond_server.specs.Promises.{sides};
 
     ghost kept_by = { λ p r. IsTold S.promised (λ q. q) (sides L.Source L.Sink p.link.value)
-        (sides L.Source L.Sink r.0) r.2 (Ok (p.pass.value, r.1)) };
+        (sides L.Source L.Sink r.0) r.2 (Ok (p.pass.value, r.1)) × IfSome (L.ended r.0) IsTrue };
 }
 
 /// A session in a thread.
 #[derive(Drop)]
-struct Running<L: Source + Sink, K: Keep, N: Naming, S: Serves> {
+struct Running<L: End, K: Keep, N: Naming, S: Serves> {
     was: Snapshot<L>,
     had: Snapshot<Pass<K, N>>,
     handle: PromisedHandle<(L, Pass<K, N>, u8), Serving<L, K, N, S>>,
@@ -66,13 +65,13 @@ impl<K: Keep, N: Naming> Model for Joined<K, N> {
 
 /// A session that was begun. Contracts see the link as it was accepted, and the pass of its client, or why none joined.
 #[derive(Drop)]
-pub(crate) struct Begun<L: Source + Sink, K: Keep, N: Naming, S: Serves> {
+pub(crate) struct Begun<L: End, K: Keep, N: Naming, S: Serves> {
     was: Snapshot<L>,
     joined: Result<Joined<K, N>, JoinError>,
     run: Result<Running<L, K, N, S>, Ended<L, K, N, S>>,
 }
 
-impl<L: Source + Sink, K: Keep, N: Naming, S: Serves> Model for Begun<L, K, N, S> {
+impl<L: End, K: Keep, N: Naming, S: Serves> Model for Begun<L, K, N, S> {
     ghost use Rattle.std.specs.Prelude.{◌≡◌, Ok, MatchResult};
     ghost use Rattle.std.specs.Coded.{codes};
     ghost use Rattle.txn_lang.specs.contracts.commit.Commit as commit;

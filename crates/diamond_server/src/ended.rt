@@ -1,6 +1,6 @@
 //! A link that is done with, and what is known of its session.
 
-ghost use Rattle.std.specs.Prelude.{◌≡◌, ℕ, Ok, Err};
+ghost use Rattle.std.specs.Prelude.{◌≡◌, ℕ, Ok, Err, IfSome, IsTrue};
 ghost use Rattle.diamond_store.specs.Answers.{Learns};
 ghost use Rattle.diamond_server.specs.Accounts.{seat, seat_of, given_of, unread, IsNewcomer, IsTold, IsServed};
 ghost use Rattle.diamond_server.specs.Ways.{having_met};
@@ -11,7 +11,7 @@ ghost use Rattle.dio_core.specs.Links.{Both};
 use crate::status::unread_status;
 use crate::ways::Serves;
 use diamond_store::{Gate, JoinError, Pass, Served, Store};
-use dio_core::{End, Sink, Source};
+use dio_core::End;
 use history_lock::Naming;
 use journal_core::Keep;
 use std::alloc::Global;
@@ -42,9 +42,9 @@ impl<K: Keep, N: Naming> Model for Talk<K, N> {
 }
 
 /// A link that is done with, its status, and the pass of its client, or why none joined. Contracts see it as an `Account`, and its
-/// invariant is what is told of the link.
+/// invariant is what is told of the link, and that it is ended.
 #[derive(Drop)]
-pub(crate) struct Ended<L: Source + Sink, K: Keep, N: Naming, S: Serves> {
+pub(crate) struct Ended<L: End, K: Keep, N: Naming, S: Serves> {
     was: Snapshot<L>,
     link: L,
     status: u8,
@@ -52,7 +52,8 @@ pub(crate) struct Ended<L: Source + Sink, K: Keep, N: Naming, S: Serves> {
     way: PhantomData<S>,
 }
 
-impl<L: Source + Sink, K: Keep, N: Naming, S: Serves> Model for Ended<L, K, N, S> {
+impl<L: End, K: Keep, N: Naming, S: Serves> Model for Ended<L, K, N, S> {
+    ghost use Rattle.std.specs.Prelude.{IfSome, IsTrue};
     ghost use Rattle.std.specs.Coded.{codes};
     ghost use Rattle.txn_lang.specs.contracts.commit.Commit as commit;
     ghost use Rattle.rdt_types.specs.contracts.address.Address as address;
@@ -67,7 +68,8 @@ impl<L: Source + Sink, K: Keep, N: Naming, S: Serves> Model for Ended<L, K, N, S
     ghost view = { λ e. record { was = e.was.value; link = e.link; status = e.status; talk = e.talk } };
 
     ghost invariant = { λ e. IsEnded S.promised (sides L.Source L.Sink)
-        (record { was = e.was.value; link = e.link; status = e.status; talk = e.talk }) };
+        (record { was = e.was.value; link = e.link; status = e.status; talk = e.talk })
+        × IfSome (L.ended e.link) IsTrue };
 }
 
 /// Serves the link of a new client in this way, and ends the link.
@@ -81,12 +83,21 @@ pub(crate) fn serve<L: End, K: Keep, G: Gate + Drop, N: Naming, S: Serves, R: Wa
 ) -> (L, Pass<K, N>, u8)
     requires newcomer { IsNewcomer pass }
     ensures told { IsTold S.promised (λ p. p) (sides L.Source L.Sink link) (sides L.Source L.Sink result.0) result.2 (Ok (pass, result.1)) }
+    ensures ended { IfSome (L.ended result.0) IsTrue }
 {
     let mut served = Served { store, pass, rt };
     let status = way.serve(alloc, &mut served, &mut link);
     let Served { pass, .. } = served;
+    (closed(link), pass, status)
+}
+
+/// The link, ended. It tells what it told.
+fn closed<L: End>(mut link: L) -> L
+    ensures ended { IfSome (L.ended result) IsTrue }
+    ensures same { sides L.Source L.Sink result ≡ sides L.Source L.Sink link }
+{
     link.end();
-    (link, pass, status)
+    link
 }
 
 impl<L: End, K: Keep, N: Naming, S: Serves> Ended<L, K, N, S> {
@@ -98,6 +109,7 @@ impl<L: End, K: Keep, N: Naming, S: Serves> Ended<L, K, N, S> {
     ) -> Ended<L, K, N, S>
         requires told { IsTold S.promised (λ p. p) (sides L.Source L.Sink was.value)
             (sides L.Source L.Sink done.0) done.2 (Ok (had.value, done.1)) }
+        requires ended { IfSome (L.ended done.0) IsTrue }
         ensures seat { seat_of result ≡ seat was.value (Ok had.value) }
     {
         let (link, pass, status) = done;
@@ -111,14 +123,13 @@ impl<L: End, K: Keep, N: Naming, S: Serves> Ended<L, K, N, S> {
     }
 
     /// A link that isn't read, since no client joined for it. It is ended.
-    pub(crate) fn unread(mut link: L, error: JoinError) -> Ended<L, K, N, S>
+    pub(crate) fn unread(link: L, error: JoinError) -> Ended<L, K, N, S>
         ensures seat { seat_of result ≡ seat link (Err error) }
     {
         let was = Snapshot::of(&link);
-        link.end();
         Ended {
             was,
-            link,
+            link: closed(link),
             status: unread_status(error),
             talk: Err(error),
             way: PhantomData,
@@ -149,6 +160,7 @@ impl<L: End, K: Keep, N: Naming, S: Serves> Ended<L, K, N, S> {
         ensures same { pass.new ≡ pass.old }
         ensures given { result ≡ given_of self }
         ensures served { IsServed S.promised (sides L.Source L.Sink) pass.old self }
+        ensures ended { IfSome (L.ended result.0) IsTrue }
     {
         let Ended {
             was: _,

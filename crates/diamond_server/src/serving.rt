@@ -3,7 +3,8 @@
 ghost use Rattle.std.specs.Prelude.{◌≡◌, [], true, Ok, OnOk};
 ghost use Rattle.session_core.specs.Holding.{Attends};
 ghost use Rattle.docc_prepare.specs.Readable.{IsNew};
-ghost use Rattle.diamond_server.specs.Promises.{sides, KeepsPromises};
+ghost use Rattle.diamond_server.specs.Promises.{sides, KeepsPromises, TellsStoreFault};
+ghost use Rattle.diamond_server.specs.code.Serving as spec;
 ghost use Rattle.diamond_server.specs.code.Serving.{Turns, Ends};
 
 use crate::answering::answer;
@@ -82,9 +83,16 @@ fn serve_lines<B: Waiter, K: End, R: Rerunner>(
             return Ok(());
         }
     }
-    match await_line(alloc, link, &mut held)? {
+    at_most(&await_line(alloc, link, &mut held)?)
+}
+
+/// How the lines end behind the last one that may be read: with the input, or there is one more.
+fn at_most(line: &Line) -> Result<(), Stop>
+    ensures { result ≡ spec.at_most line.now }
+{
+    match line {
         Line::End => Ok(()),
-        _ => Err(OrNoMemory::Cause(Cause::TooManyLines)),
+        Line::Bytes(_) | Line::TooLong => Err(OrNoMemory::Cause(Cause::TooManyLines)),
     }
 }
 
@@ -98,6 +106,7 @@ pub fn serve_session<B: Waiter, K: End>(alloc: Global, backend: &mut B, link: &m
     requires new { IsNew (B.known backend.old) }
     ensures promises { KeepsPromises B.known B.goes result backend.old backend.new
         (sides K.Source K.Sink link.old) (sides K.Source K.Sink link.new) }
+    ensures told { TellsStoreFault (B.known backend.old) (B.known backend.new) result }
     ensures home { B.home backend.new ≡ B.home backend.old }
 {
     serve_by(alloc, backend, link, &One)
@@ -113,6 +122,7 @@ pub fn serve_by<B: Waiter, K: End, R: Rerunner>(
     requires new { IsNew (B.known backend.old) }
     ensures promises { KeepsPromises B.known B.goes result backend.old backend.new
         (sides K.Source K.Sink link.old) (sides K.Source K.Sink link.new) }
+    ensures told { TellsStoreFault (B.known backend.old) (B.known backend.new) result }
     ensures home { B.home backend.new ≡ B.home backend.old }
 {
     let ended = serve_lines(alloc, backend, reruns, link);

@@ -1,9 +1,9 @@
 //! The sessions of all links of a listener, each in a thread of its own.
 
-ghost use Rattle.std.specs.Prelude.{◌≡◌, ◌<◌, ◌+◌, ◌-◌, ◌^◌, ◌==◌, [], length, map, All, IfOk, if◌then◌else◌};
+ghost use Rattle.std.specs.Prelude.{◌≡◌, ◌<◌, ◌+◌, ◌-◌, ◌^◌, ◌==◌, [], length, map, All, IfOk, OnOk, if◌then◌else◌};
 ghost use Rattle.diamond_store.specs.Answers.{Learns};
 ghost use Rattle.script_runner.specs.declared.status.TheConstants.{WHOLE};
-ghost use Rattle.diamond_server.specs.Accounts.{seat_of, joined_in, link_in, gatherings, Accepting, AllServedSince, ServedSince};
+ghost use Rattle.diamond_server.specs.Accounts.{seat_of, joined_in, link_in, gatherings, Accepting, AllServedSince, ServedSince, AreEnded};
 ghost use Rattle.diamond_server.specs.Promises.{sides};
 ghost use Rattle.diamond_server.specs.code.Settling.{IsNear, JoinsNext, Settling};
 
@@ -57,6 +57,7 @@ pub fn serve_links<
     ensures learns { Learns pass.old pass.new }
     ensures served { IfOk result (AllServedSince S.promised (sides Li.Link.Source Li.Link.Sink) N.lock.first pass.old pass.new sessions
         (gatherings Li.Listener listener.old listener.new)) }
+    ensures ended { OnOk result (AreEnded Li.Link.ended (Li.given_back listener.old) (Li.given_back listener.new)) }
 {
     let ran: Result<(Vec<Ended<Li::Link, K, N, S>>, bool), AllocError> = run_scoped(
         rt, alloc, listener, store, pass, sessions, way,
@@ -89,6 +90,7 @@ pub fn serve_all<
     ensures learns { Learns pass.old pass.new }
     ensures served { IfOk result (ServedSince (sides Li.Link.Source Li.Link.Sink) N.lock.first pass.old pass.new sessions
         (gatherings Li.Listener listener.old listener.new)) }
+    ensures ended { OnOk result (AreEnded Li.Link.ended (Li.given_back listener.old) (Li.given_back listener.new)) }
 {
     serve_all_by(rt, alloc, listener, store, pass, sessions, &One)
 }
@@ -113,6 +115,7 @@ pub fn serve_all_by<
     ensures learns { Learns pass.old pass.new }
     ensures served { IfOk result (ServedSince (sides Li.Link.Source Li.Link.Sink) N.lock.first pass.old pass.new sessions
         (gatherings Li.Listener listener.old listener.new)) }
+    ensures ended { OnOk result (AreEnded Li.Link.ended (Li.given_back listener.old) (Li.given_back listener.new)) }
 {
     let lines = SessionLines { reruns };
     serve_links(rt, alloc, listener, store, pass, sessions, &lines)
@@ -296,6 +299,7 @@ fn give_all<Li: Listener, K: Keep, G: Gate + Drop, N: Naming, S: Serves, R: Wait
     ensures count { Li.accept_faults listener.new ≡ Li.accept_faults listener.old }
     ensures settled { IfOk result (λ faulted. Settling S.promised (sides Li.Link.Source Li.Link.Sink) pass.old all.items []
         (Li.given_back listener.old) (Li.given_back listener.new) faulted) }
+    ensures ended { OnOk result (AreEnded Li.Link.ended (Li.given_back listener.old) (Li.given_back listener.new)) }
 {
     let mut faulted = 0;
     for ended in all {

@@ -1,6 +1,6 @@
 -- What the loop of a session over a link knows of what is held back, of one line, of those so far, and of the end. The laws of
 -- proofs/Lines tie a line and those so far to `Talks` of specs/Talking and the end to `IsServed` and `IsCutShort` of specs/Promises; `keeps_promises` of
--- proofs/Promises ties the end and its status to `KeepsPromises`.
+-- proofs/Promises ties the end and its status to `KeepsPromises`, and `tells_fault` to `TellsStoreFault`.
 use Rattle.std.specs.Prelude.{◌≡◌, ℕ, ◌⊎◌, Bool, true, false, List, [], ◌++◌, length, drop, Option, Some, None, Result, Ok, Err}
 use Rattle.plain_data.specs.declared.or_no_memory.OrNoMemory.{OrNoMemory}
 use Rattle.plain_data.specs.declared.or_no_memory.OrNoMemory.TheVariants as stop
@@ -183,7 +183,7 @@ text_of line.End = None
 
 -- What an error says of what is held back and of the store's count, where nothing was read and so much has begun.
 abbrev pub StopsBy : Stop → Type 0 → ℕ → ℕ → Outgoing → Text → Outgoing → Text → Type 0
-StopsBy stop.NoMemory Began store store_then x held y after = Began × HoldsBack x held y after
+StopsBy stop.NoMemory Began store store_then x held y after = Began × HoldsBack x held y after × (store_then ≡ store)
 StopsBy (stop.Cause cause.StoreFault) Began store store_then x held y after = Began × HoldsBack x held y after × Rose store store_then
 StopsBy (stop.Cause cause.WriteFault) Began store store_then x held y after = Began × CutsOff x held y × (after ≡ [])
 StopsBy (stop.Cause cause.ReadFault) Began store store_then x held y after = ⊥
@@ -231,7 +231,7 @@ abbrev pub Turns : {B : Type 0} → (B → Known) → (B → Call → Answer →
 Turns known goes (Ok true) old s x held new t y after = DoesLine known goes old s x held new (Some t) y after
 Turns known goes (Ok false) old s x held new t y after = FindsNone old x held new y after ⊎ DoesLine known goes old s x held new None y after
 Turns known goes (Err stop.NoMemory) old s x held new t y after =
-    StopsIn known goes old s x new y × HoldsBack x.outwards held y.outwards after
+    StopsIn known goes old s x new y × HoldsBack x.outwards held y.outwards after × ((known new).faults ≡ (known old).faults)
 Turns known goes (Err (stop.Cause cause.ReadFault)) old s x held new t y after = BreaksOffIn x held y after × (new ≡ old)
 Turns known goes (Err (stop.Cause cause.WriteFault)) old s x held new t y after =
     (after ≡ []) × ((StopsIn known goes old s x new y × CutsOff x.outwards held y.outwards) ⊎ DoesUnheard known goes old s x held new y)
@@ -251,6 +251,12 @@ pub record HasServed {B : Type 0} (known : B → Known) (goes : B → Call → A
   pub reads : y.inwards.faults ≡ x.inwards.faults
   pub holds : HoldsBack x.outwards (output tolds) y.outwards held
 
+-- Behind the last line that may be read the input has ended, or there is one more.
+abbrev pub at_most : Line → Result (Unit {0}) Stop
+at_most line.End = Ok tt
+at_most (line.Bytes text) = Err (stop.Cause cause.TooManyLines)
+at_most line.TooLong = Err (stop.Cause cause.TooManyLines)
+
 -- How the lines ended.
 abbrev pub Ends : {B : Type 0} → (B → Known) → (B → Call → Answer → B → Type 0) → Result (Unit {0}) Stop → B → Both → B → Both → Type 0
 Ends known goes (Ok done) old x new y = IsServed known goes old new x y ReadsToTheEnd × SameCounts x y
@@ -262,4 +268,5 @@ Ends known goes (Err (stop.Cause cause.WriteFault)) old x new y =
     IsCutShort known goes (known new) old new x y TakesPart × (y.inwards.faults ≡ x.inwards.faults) × Rose x.outwards.faults y.outwards.faults
 Ends known goes (Err (stop.Cause cause.StoreFault)) old x new y =
     IsCutShort known goes (known new) old new x y TakesWhole × SameCounts x y × Rose (known old).faults (known new).faults
-Ends known goes (Err stop.NoMemory) old x new y = IsCutShort known goes (known new) old new x y TakesWhole × SameCounts x y
+Ends known goes (Err stop.NoMemory) old x new y =
+    IsCutShort known goes (known new) old new x y TakesWhole × SameCounts x y × ((known new).faults ≡ (known old).faults)

@@ -1,6 +1,4 @@
-use Rattle.std.proofs.Common.{Result, Err, refl, ap}
-use Rattle.session_core.specs.declared.error.SessionError.{SessionError}
-use Rattle.session_core.specs.declared.turn.Turn.{Turn}
+use Rattle.std.proofs.Common.{refl}
 use Rattle.diamond_server.specs.code.Serving.{MayWake}
 use Rattle.diamond_server.proofs.Held.{passes-held}
 use Rattle.diamond_server.proofs.Stopping.{stops-of, stops-unpassed}
@@ -14,6 +12,5 @@ returns-then-not-pass_on-clause-stops g c =
 -- the session stopped behind the wait
 pub returns-in-Err-clause-stops : goal.returns-in-Err-clause-stops
 returns-in-Err-clause-stops g c =
-    let failed : SessionError → Result Turn SessionError = λ e. Err e in
-    stops-of c.in-Err.error c.stop_of.result _ _ _ _ _ _ _ c.stop_of.ensures (λ is. c.in-Err.ensures.fault (ap failed is)) c.in-Err.ensures.begun
+    stops-of c.in-Err.why c.stop_of.result _ _ _ _ _ _ _ c.stop_of.ensures c.in-Err.ensures.told c.in-Err.ensures.begun
     (passes-held c.pass_on.result _ _ _ _ c.if-not-pass_on.false c.pass_on.ensures.none c.pass_on.ensures.passes)

@@ -13,7 +13,7 @@ returns-in_ok-hold_turn-in-Ok-clause-replies g c =
 pub returns-in_err-hold_turn-in-Ok-clause-stops : goal.returns-in_err-hold_turn-in-Ok-clause-stops
 returns-in_err-hold_turn-in-Ok-clause-stops g c =
     let p = err_from_is_err_and c.from_residual.result c.from_residual.ensures.1 in
-    rw (p.1, p.2) (stops-unsaid g.B.Backend.known g.B.Backend.goes _ _ _ _ c.in-Ok.turn _ _ _ _ _ _ _ 0 0 c.requires.short c.as_slice.ensures
+    rw (p.1, p.2) (stops-unsaid g.B.Backend.known g.B.Backend.goes _ _ _ _ c.in-Ok.turn _ _ _ _ _ _ _ c.requires.short c.as_slice.ensures
     c.in-Ok.ensures.answers c.in-Ok.ensures.holds c.in_err-hold_turn-in-Ok.ensures.same)
 
 -- the line stopped

@@ -3,7 +3,7 @@ use Rattle.rdt_types.specs.declared.limits.TheConstants.{LEAST_SHARDS, MOST_SHAR
 use Rattle.session_core.specs.declared.session.Session.{Session}
 use Rattle.session_core.specs.Holding.{Attends}
 use Rattle.std.proofs.lemmas.Result.{err_from_is_err_and}
-use Rattle.diamond_server.proofs.Lines.{serves-none, serves-more, ends-stopped, ends-whole, ends-at_most, ends-over, ends-unread}
+use Rattle.diamond_server.proofs.Lines.{serves-none, serves-more, ends-stopped, ends-whole, ends-behind, ends-unread}
 use Rattle.diamond_server.proofs.Talked.{new-attends, first-is}
 use Rattle.diamond_server.proofs.serving.serve_lines.Goals as goal
 
@@ -48,15 +48,10 @@ returns-in_err-await_line-clause-ends g c =
     let p = err_from_is_err_and c.from_residual-in_err-await_line.result c.from_residual-in_err-await_line.ensures.1 in
     rw (p.1, p.2) (ends-unread c.loop.invariant.served c.loop.invariant.first _ _ _ (omega arith) c.await_line.ensures.emptied c.in_err-await_line.ensures.finds)
 
--- the input ended there
-pub returns-in-End-clause-ends : goal.returns-in-End-clause-ends
-returns-in-End-clause-ends g c =
-    ends-at_most c.loop.invariant.served c.loop.invariant.first (omega arith) c.await_line.ensures.emptied c.in-End.is c.in_ok-await_line.ensures.finds
-
--- there is one line more
+-- the input ended there, or there is one line more
 pub returns : goal.returns
 returns g c = record {
-  ends = ends-over c.loop.invariant.served c.loop.invariant.first (omega arith) c.await_line.ensures.emptied c.in_default.not-End
+  ends = ends-behind c.loop.invariant.served c.loop.invariant.first _ c.at_most.ensures (omega arith) c.await_line.ensures.emptied
       c.in_ok-await_line.ensures.finds;
   home = c.loop.invariant.home;
 }

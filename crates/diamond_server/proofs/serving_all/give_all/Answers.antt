@@ -6,7 +6,7 @@ use Rattle.diamond_store.specs.Passes.{Passed}
 use Rattle.script_runner.specs.declared.status.TheConstants.{WHOLE}
 use Rattle.diamond_server.specs.Promises.{sides}
 use Rattle.diamond_server.specs.code.Settling.{IsNear}
-use Rattle.diamond_server.proofs.Listing.{settling-start, settling-next, settling-near, settling-few, settling-end, served-at}
+use Rattle.diamond_server.proofs.Listing.{settling-start, settling-next, settling-near, settling-few, settling-end, served-at, ended-start, ended-next}
 use Rattle.diamond_server.proofs.serving_all.give_all.Goals as goal
 
 pub loop-ended-init : goal.loop-ended-init
@@ -17,6 +17,7 @@ loop-ended-init g c =
       count = refl;
       len = search rules;
       settling = settling-start _ _ _ _ _ _ gives.0 c.requires.near;
+      ended = ended-start _ _;
     }
 
 pub settled-link-requires : goal.settled-link-requires
@@ -45,6 +46,8 @@ loop-ended-preserved g c =
           (back.ok ∙ ap (λ given. with_more (g.Li.Listener.given_back c.loop-ended.listener) (given ∷ [])) c.settled-link.ensures.given)
           (served-at g.S.Serves.promised told c.loop-ended.pass c.args.pass.now c.in-Some.ended was.same c.settled-link.ensures.served)
           (c.with_status-faulted.ensures ∙ ap (λ (k : ℕ). c.loop-ended.faulted + (if k == WHOLE then 0 else 1)) (ap (λ p. p.1) c.settled-link.ensures.given));
+      ended = ended-next g.Li.Link.End.ended (g.Li.Listener.given_back c.args.listener.now) (g.Li.Listener.given_back c.loop-ended.listener)
+          (g.Li.Listener.given_back c.give_back.new.self) c.settled-link.result was.ended back.ok c.settled-link.ensures.ended;
     }
 
 pub returns-clause-settled : goal.returns-clause-settled
