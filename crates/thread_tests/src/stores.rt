@@ -72,10 +72,7 @@ fn is_told<N: Naming, R: Wait>(
 }
 
 /// Whether the registry has nothing of a client behind the end of its pass.
-fn leaves<N: Naming, R: Wait>(
-    served: Served<'_, MemKeep, Open, N, R>,
-    address: &Address,
-) -> bool {
+fn leaves<N: Naming, R: Wait>(served: Served<'_, MemKeep, Open, N, R>, address: &Address) -> bool {
     let Served { store, pass, rt } = served;
     let client = pass.client();
     let was_told = store.is_told(rt, client, address);
