@@ -58,6 +58,12 @@ def served(sessions, *words, faulted=0):
     assert (int(said[1]), int(said[2])) == (sessions, faulted), output
 
 
+def processor_seconds(server):
+    """What all threads of a server have taken so far."""
+    said = pathlib.Path(f"/proc/{server.pid}/stat").read_text(encoding="utf-8").rpartition(")")[2].split()
+    return (int(said[11]) + int(said[12])) / os.sysconf("SC_CLK_TCK")
+
+
 def connect(port, timeout=30):
     return diamond.connect("127.0.0.1", port, timeout)
 
@@ -404,6 +410,28 @@ class Sessions(unittest.TestCase):
             self.assertEqual(screen.look("emit 1;").items, [1])
         self.assertEqual(ends, [1])
         self.assertEqual([report.items for report in seen], [[0], [1]])
+
+    @unittest.skipUnless(os.path.exists("/proc/self/stat"), "how much of the processors a server takes is read in /proc")
+    def test_who_waits_takes_no_processor_time(self):
+        """A server whose waiting sessions looked again and again would take all processors."""
+        server, port = start(9)
+        self.addCleanup(stop, server)
+        ends = []
+        with contextlib.ExitStack() as clients:
+            writer, *screens = [clients.enter_context(connect(port)) for _ in range(9)]
+            waiting = [threading.Thread(target=lambda screen=screen: ends.append(screen.wait())) for screen in screens]
+            for thread in waiting:
+                thread.start()
+            time.sleep(0.5)
+            before = processor_seconds(server)
+            time.sleep(2)
+            self.assertLess(processor_seconds(server) - before, 0.2)
+            self.assertEqual(ends, [])
+            writer.do(NEXT)
+            for thread in waiting:
+                thread.join(30)
+        self.assertEqual(ends, [1] * 8)
+        self.assertEqual(server.wait(30), 0)
 
     def test_closing_ends_a_wait(self):
         ends = []

@@ -54,7 +54,7 @@ impl HoldBook {
     }
 
     /// The live hold that bars a client's deltas: the least of another client that they disturb, unless the client has an
-    /// earlier one. It takes no memory, and tests no observation but those at addresses that are written.
+    /// earlier one. It is never refused for want of memory, and tests no observation but those at addresses that are written.
     pub fn bars<L: Ledger>(
         &self,
         client: u32,

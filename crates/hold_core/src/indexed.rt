@@ -48,7 +48,7 @@ impl IndexedSeen {
         })
     }
 
-    /// No observations. It takes no memory.
+    /// No observations. It is never refused for want of memory.
     pub fn none(alloc: Global) -> IndexedSeen
         ensures { result ≡ [] }
     {

@@ -44,7 +44,7 @@ fn first_places(alloc: Global, count: usize) -> Result<Vec<usize>, AllocError>
     Ok(places)
 }
 
-/// Sorts places by the addresses of what was observed there. It takes no memory.
+/// Sorts places by the addresses of what was observed there. It is never refused for want of memory.
 fn sort_places(places: &mut Vec<usize>, observations: &[Seen])
     ensures same { IsPermutation places.old.items places.new.items }
     ensures sorted { IsSortedByKey (spec.address_at observations.now) (option_cmp address_cmp) places.new.items }

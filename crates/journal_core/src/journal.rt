@@ -119,7 +119,7 @@ impl<K: Keep> Journal<K> {
         tail_of_shard(self.alloc, &self.log, shard, from, to)
     }
 
-    /// The same changes, lent: it takes no memory.
+    /// The same changes, lent: it is never refused for want of memory.
     pub fn lend_tail(&self, shard: u8, from: u64, to: u64) -> LentTail<'_>
         requires order { from ≤ to }
         requires within { to ≤ length self.now.commits }
@@ -181,7 +181,7 @@ impl<K: Keep> Journal<K> {
         self.append_clear(slot)
     }
 
-    /// The clash past the prepared fronts that refuses an append, the least of them, if there is one. It takes no memory.
+    /// The clash past the prepared fronts that refuses an append, the least of them, if there is one. It is never refused for want of memory.
     pub fn clashes<L: Ledger>(&self, ready: &Ready, steps: &mut Steps<L>) -> Option<Found>
         requires places { HavePlaces ready.now.based }
         ensures least { result ≡ journals.found_past ready.now self.now }
@@ -192,7 +192,7 @@ impl<K: Keep> Journal<K> {
     }
 
     /// What is left of an append where nothing clashes: adds the slot's commit, or says why not, at the limit or by a fault
-    /// of the keeper. It takes no memory.
+    /// of the keeper. It is never refused for want of memory.
     pub fn append_clear(&mut self, slot: Slot) -> Appended
         requires can_add { journals.CanAdd K.stands_for slot self.old }
         ensures adds { journals.AddsBelow slot.commit self.old result self.new }

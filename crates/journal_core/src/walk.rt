@@ -88,8 +88,8 @@ pub(crate) fn up_to(changes: Changes<'_>, to: u64) -> Changes<'_>
     }
 }
 
-/// The changes of commits past one number and up to another, of changes whose numbers don't fall. It takes no memory, and
-/// a few steps: the places are found by halving.
+/// The changes of commits past one number and up to another, of changes whose numbers don't fall. It is never refused for
+/// want of memory, and takes a few steps: the places are found by halving.
 pub fn between(changes: Changes<'_>, from: u64, to: u64) -> Changes<'_>
     requires whole { IsWhole changes }
     requires order { Rises 0 (listed changes) }

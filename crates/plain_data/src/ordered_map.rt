@@ -127,7 +127,7 @@ fn put<K: Ord + Drop, V: Drop>(
 }
 
 impl<K: Ord, V> OrderedMap<K, V> {
-    /// A map without keys, which takes no memory yet.
+    /// A map without keys. It is never refused for want of memory.
     pub fn new(alloc: Global) -> OrderedMap<K, V>
         ensures { result ≡ [] }
     {

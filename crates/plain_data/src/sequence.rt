@@ -114,7 +114,7 @@ fn ordered<T: Ord>(mut a: &[T], mut b: &[T]) -> Ordering
 }
 
 impl<T> Sequence<T> {
-    /// An empty list, which takes no memory yet.
+    /// An empty list. It is never refused for want of memory.
     pub fn new(alloc: Global) -> Sequence<T>
         ensures { result ≡ [] }
     {

@@ -39,7 +39,7 @@ impl<V> Model for TextMap<V> {
 }
 
 impl<V> TextMap<V> {
-    /// A map without keys, which takes no memory yet.
+    /// A map without keys. It is never refused for want of memory.
     pub fn new(alloc: Global) -> TextMap<V>
         ensures { result ≡ map.empty }
     {

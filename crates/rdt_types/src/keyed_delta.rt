@@ -93,7 +93,7 @@ fn have_form<M: Leaves>(cleared: bool, marks: &TextMap<M>) -> bool
 }
 
 impl<M: Leaves> KeyedDelta<M> {
-    /// The delta of these parts, or `None` where they don't have the form of one. It takes no memory.
+    /// The delta of these parts, or `None` where they don't have the form of one. It is never refused for want of memory.
     pub fn from_parts(cleared: bool, marks: TextMap<M>) -> Option<KeyedDelta<M>>
         ensures form { is_some result ≡ has_form M.left (spec.of_parts cleared marks) }
         ensures parts { IfSome result (λ d. d ≡ spec.of_parts cleared marks) }
@@ -117,7 +117,7 @@ impl<M: Leaves> KeyedDelta<M> {
         })
     }
 
-    /// All is cleared. It takes no memory.
+    /// All is cleared. It is never refused for want of memory.
     pub fn clearing(alloc: Global) -> KeyedDelta<M>
         ensures { result ≡ spec.clearing }
     {

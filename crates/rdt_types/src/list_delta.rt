@@ -113,7 +113,7 @@ impl ListDelta {
         })
     }
 
-    /// All is cleared. It takes no memory.
+    /// All is cleared. It is never refused for want of memory.
     pub fn clearing(alloc: Global) -> ListDelta
         ensures { result ≡ spec.clearing }
     {
@@ -124,7 +124,7 @@ impl ListDelta {
         }
     }
 
-    /// The delta of these parts, or `None` where they don't have the form of one. It takes no memory.
+    /// The delta of these parts, or `None` where they don't have the form of one. It is never refused for want of memory.
     pub fn from_parts(cleared: bool, removed: TextSet, pushed: TextList) -> Option<ListDelta>
         ensures form { is_some result ≡ has_form (spec.of_parts cleared removed pushed) }
         ensures parts { IfSome result (λ d. d ≡ spec.of_parts cleared removed pushed) }

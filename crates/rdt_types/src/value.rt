@@ -46,7 +46,7 @@ impl Value {
     }
 }
 
-/// The value of an address that was never written. It takes no memory.
+/// The value of an address that was never written. It is never refused for want of memory.
 pub fn default_value(alloc: Global, kind: Kind) -> Value
     ensures { result ≡ spec.default_of kind }
 {

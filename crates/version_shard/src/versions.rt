@@ -18,7 +18,7 @@ use std::marker::Model;
 use std::sync::ledger::Ledger;
 
 /// The versions that commits made of a value, as a chain of deltas, and beside it the newest value, so that a read at the
-/// front applies none. It may be missing: behind a cut, which takes no memory, the next change makes it again.
+/// front applies none. It may be missing: a cut, which is never refused for want of memory, leaves it to the next change.
 #[derive(Drop)]
 pub(crate) struct Versions {
     chain: Chain,

@@ -68,34 +68,35 @@ fn is_in_one_shard(alloc: Global, journal: &Journal<MemKeep>, tail: &Tail) -> bo
     }
 }
 
-/// Whether the relay's tail between two numbers is right, and its parts.
-fn is_right(
-    alloc: Global,
-    relay: &Relay,
-    journal: &Journal<MemKeep>,
-    from: u64,
-    to: u64,
-    address: &Address,
-) -> bool {
+/// The relay's tail between two numbers.
+fn tail_between(relay: &Relay, from: u64, to: u64) -> Option<Tail> {
     if from > to || to > relay.to() {
-        return false;
+        return None;
     }
-    match relay.tail_all(from, to) {
-        Ok(tail) => {
-            are_of(tail.changes.lend(), journal, from, to)
-                && is_in_one_shard(alloc, journal, &tail)
-                && has_one_each(alloc, &tail, address)
-        }
-        Err(_) => false,
-    }
+    relay.tail_all(from, to).ok()
+}
+
+/// Whether a tail is right, and its parts.
+fn is_right(alloc: Global, journal: &Journal<MemKeep>, tail: &Tail, address: &Address) -> bool {
+    are_of(tail.changes.lend(), journal, tail.from, tail.to)
+        && is_in_one_shard(alloc, journal, tail)
+        && has_one_each(alloc, tail, address)
 }
 
 /// Whether all tails between the numbers are right.
 fn are_right(alloc: Global, relay: &Relay, journal: &Journal<MemKeep>, address: &Address) -> bool {
     for from in numbers() {
         for to in numbers() {
-            if *from <= *to && !is_right(alloc, relay, journal, *from, *to, address) {
-                return false;
+            if from > to {
+                continue;
+            }
+            match tail_between(relay, *from, *to) {
+                Some(tail) if (tail.from, tail.to) == (*from, *to) => {
+                    if !is_right(alloc, journal, &tail, address) {
+                        return false;
+                    }
+                }
+                _ => return false,
             }
         }
     }
