@@ -1,5 +1,6 @@
 -- What a witness names.
-use Rattle.std.specs.Prelude.{◌≡◌, pos, false, Some, refl}
+use Rattle.std.specs.Prelude.{◌≡◌, ℕ, pos, false, Some, refl}
+use Rattle.rdt_types.specs.declared.delta.Delta.{Delta}
 use Rattle.conflict_table.specs.declared.observation.Obs.{Obs}
 use Rattle.conflict_table.specs.declared.observation.Obs.TheVariants as obs
 use Rattle.conflict_table.specs.Parts.{named}
@@ -14,6 +15,10 @@ pub record Names (based : Based) (change : Change) (witness : Witness) : Type 0 
   pub base : witness.base ≡ based.base
   pub part : named based.obs change.delta ≡ Some witness.part
   pub number : witness.number ≡ change.number
+
+-- of a change at the observation's address, by its commit's number and its delta
+abbrev pub NamesDelta : Based → ℕ → Delta → Witness → Type 0
+NamesDelta based number delta witness = Names based (record { number = number; address = based.address; delta = delta }) witness
 
 -- The answer of an observation isn't printed, and an `over` is read back as one that was false. So it was, of each that a
 -- witness can name: a peak that was above a number stays above it, and nothing clashes.

@@ -1,5 +1,5 @@
 -- Pairs of an observation and a commit that clashes with it, and the least of them.
-use Rattle.std.specs.Prelude.{◌≡◌, ℕ, ◌+◌, ◌<◌, ◌≤◌, ◌^◌, ◌⊎◌, length, Bool, true, false, ◌&&◌, if◌then◌else◌, nat_lt, List, [], ◌∷◌, slice_get}
+use Rattle.std.specs.Prelude.{◌≡◌, ℕ, ◌+◌, ◌<◌, ◌≤◌, ◌^◌, ◌⊎◌, length, Bool, true, false, ◌&&◌, if◌then◌else◌, nat_lt, List, [], ◌∷◌, filter, slice_get}
 use Rattle.std.specs.Prelude.{Option, Some, None, option_map, MatchOption, codes, pos, refl}
 use Rattle.std.specs.BTreeMap.{is_at}
 use Rattle.rdt_types.specs.declared.address.Kind.TheVariants as kind
@@ -16,6 +16,10 @@ use Rattle.abort_witness.specs.declared.witness.Found.{Found}
 -- whether a change is of a commit past the base of an observation, and at its address
 abbrev pub meets : Based → Change → Bool
 meets based change = nat_lt based.base change.number && is_at (address_cmp based.address) change.address
+
+-- how many of some changes it meets
+abbrev pub count_met : Based → List Change → ℕ
+count_met based changes = length (filter (meets based) changes)
 
 -- A change clashes with an observation where it is of a commit past its base, is at its address, and clashes by the table.
 abbrev pub clashes : Based → Change → Bool

@@ -1,6 +1,6 @@
 //! Where the least clash of observations and changes is.
 
-ghost use Rattle.std.specs.Prelude.{◌≡◌, ◌+◌, ◌*◌, ◌≤◌, filter, length};
+ghost use Rattle.std.specs.Prelude.{◌≡◌, ◌+◌, ◌*◌, ◌≤◌, length};
 ghost use Rattle.change_feed.specs.Lists.{listed};
 ghost use Rattle.abort_witness.specs.Pairs as pairs;
 
@@ -24,7 +24,7 @@ pub fn first_clash<L: Ledger>(
     steps: &mut Steps<L>,
 ) -> Option<u64>
     ensures first { result ≡ pairs.first_clash based.now changes.now }
-    ensures steps { steps.new ≤ steps.old + length (filter (pairs.meets based.now) changes.now) }
+    ensures steps { steps.new ≤ steps.old + pairs.count_met based.now changes.now }
     ensures few { steps.new ≤ steps.old + length changes.now }
 {
     for change in changes {
@@ -42,7 +42,7 @@ pub fn first_clash_in<L: Ledger>(
     steps: &mut Steps<L>,
 ) -> Option<u64>
     ensures first { result ≡ pairs.first_clash based.now (listed changes.entry) }
-    ensures steps { steps.new ≤ steps.old + length (filter (pairs.meets based.now) (listed changes.entry)) }
+    ensures steps { steps.new ≤ steps.old + pairs.count_met based.now (listed changes.entry) }
     ensures few { steps.new ≤ steps.old + length (listed changes.entry) }
 {
     while let Some(piece) = changes.next_piece() {

@@ -4,7 +4,7 @@ ghost use Rattle.std.specs.Prelude.{◌≡◌, true, IfOk};
 ghost use Rattle.conflict_table.specs.Observing.{kind_observed};
 ghost use Rattle.rdt_types.specs.Deltas.{kind_changed};
 ghost use Rattle.conflict_table.specs.Clashes.{clash};
-ghost use Rattle.abort_witness.specs.Naming.{Names};
+ghost use Rattle.abort_witness.specs.Naming.{Names, NamesDelta};
 
 use crate::witness::{Based, Witness};
 use change_feed::Change;
@@ -27,7 +27,7 @@ pub fn name(based: &Based, change: &Change) -> Result<Witness, AllocError>
 pub fn name_delta(based: &Based, delta: &Delta, number: u64) -> Result<Witness, AllocError>
     requires kind { kind_observed based.now.obs ≡ kind_changed delta.now }
     requires clash { clash based.now.obs delta.now ≡ true }
-    ensures { IfOk result (Names based.now (record { number = number; address = based.now.address; delta = delta.now })) }
+    ensures { IfOk result (NamesDelta based.now number delta.now) }
 {
     let named = part(&based.obs, delta);
     Ok(Witness {

@@ -39,7 +39,7 @@ fn changed_values(
     values: &BTreeMap<Address, Value>,
     changes: &[(Address, Delta)],
 ) -> Result<Vec<(Address, Value)>, AllocError>
-    ensures changed { IfOk result (λ changed. changed.items ≡ changed_from values.now.entries changes.now) }
+    ensures changed { IfOk result (λ list. list.items ≡ changed_from values.now.entries changes.now) }
     ensures ordered { IsOrdered address_cmp values.now }
 {
     let most = values.len().min(changes.len());

@@ -1,5 +1,6 @@
 -- The own operations at an address as the one delta that they compose to.
 use Rattle.std.specs.Prelude.{◌≡◌, Bool, true, false, ◌||◌, pos, List, [], ◌∷◌, fold, Option, Some, None, refl}
+use Rattle.plain_data.specs.Texts.{Bytes}
 use Rattle.rdt_types.specs.declared.value.Value.{Value}
 use Rattle.rdt_types.specs.declared.operation.WriteOp.{WriteOp}
 use Rattle.rdt_types.specs.declared.operation.WriteOp.TheVariants as op
@@ -38,14 +39,18 @@ puts (delta.PutCounter n) = true
 puts (delta.PutText t) = true
 puts _ = false
 
+-- whether a delta says all of an element or field: it clears all, or marks it
+abbrev pub settles : Bytes → Delta → Bool
+settles key d = clears d || names key d
+
 -- Whether an own delta decides a read: a put decides a `get`; a clear every other read of a collection; a mark at an element
 -- or field the reads of it; there is nothing at a negative place; and a raise above a number decides that a peak is above it.
 abbrev pub is_decided_by : ReadOp → Option Delta → Bool
 is_decided_by read.Get own = if_any puts own
-is_decided_by (read.SetHas x) own = if_any (λ d. clears d || names x d) own
+is_decided_by (read.SetHas x) own = if_any (settles x) own
 is_decided_by read.SetAll own = if_any clears own
-is_decided_by (read.HashHas f) own = if_any (λ d. clears d || names f d) own
-is_decided_by (read.HashGet f) own = if_any (λ d. clears d || names f d) own
+is_decided_by (read.HashHas f) own = if_any (settles f) own
+is_decided_by (read.HashGet f) own = if_any (settles f) own
 is_decided_by read.HashFields own = if_any clears own
 is_decided_by (read.ListAt i) own = is_negative i || if_any clears own
 is_decided_by read.ListAll own = if_any clears own

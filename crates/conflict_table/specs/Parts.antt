@@ -1,7 +1,8 @@
 -- The part of a delta that is named where it clashes with an observation.
 use Rattle.std.specs.Prelude.{◌≡◌, ℤ, pos, Bool, true, false, if◌then◌else◌, [], slice_get, Option, Some, None, option_map, codes, refl}
 use Rattle.std.proofs.Common.{ap}
-use Rattle.std.specs.Option.{option_or}
+use Rattle.std.specs.Option.{option_copied, option_or}
+use denote.Bor.{Bor}
 use Rattle.std.specs.Bool.{then_some}
 use Rattle.std.specs.FinMap as map
 use Rattle.std.specs.Cmp.Lexicographic.{nat_list_cmp_total}
@@ -193,3 +194,7 @@ raised-above = refl
 -- of two raises the greater one is named
 greater-raise : named (obs.PeakIs (pos 7)) (compose (delta_of (op.Raise (pos 9))) (delta_of (op.Raise (pos 8)))) ≡ Some (op.Raise (pos 9))
 greater-raise = refl
+
+-- the part that a mark is at its key, if there is one, which is lent
+abbrev pub part_by : {K M A : Type 0} → (K → M → A) → Option (Bor (K × M)) → Option A
+part_by part mark = option_map (λ e. part e.0 e.1) (option_copied mark)

@@ -1,6 +1,6 @@
 //! The part of a delta that is named where it clashes with an observation.
 
-ghost use Rattle.std.specs.Prelude.{◌≡◌, true, Some, option_map, option_copied};
+ghost use Rattle.std.specs.Prelude.{◌≡◌, true, Some, option_map};
 ghost use Rattle.rdt_types.specs.Deltas.{kind_changed};
 ghost use Rattle.conflict_table.specs.Observing.{kind_observed};
 ghost use Rattle.conflict_table.specs.Clashes.{clash};
@@ -14,7 +14,7 @@ use rdt_types::{Delta, Mark};
 
 /// A mark at an element of a set, if there is one.
 fn set_part<'a>(mark: Option<&'a (Text, bool)>) -> Option<Part<'a>>
-    ensures { option_map shown result ≡ option_map (λ e. parts.set_part e.0 e.1) (option_copied mark.entry) }
+    ensures { option_map shown result ≡ parts.part_by parts.set_part mark.entry }
 {
     let (element, is_added) = mark?;
     Some(if *is_added {
@@ -26,7 +26,7 @@ fn set_part<'a>(mark: Option<&'a (Text, bool)>) -> Option<Part<'a>>
 
 /// A mark at a field of a hash, if there is one.
 fn hash_part<'a>(mark: Option<&'a (Text, Mark)>) -> Option<Part<'a>>
-    ensures { option_map shown result ≡ option_map (λ e. parts.hash_part e.0 e.1) (option_copied mark.entry) }
+    ensures { option_map shown result ≡ parts.part_by parts.hash_part mark.entry }
 {
     let (field, mark) = mark?;
     Some(match mark {

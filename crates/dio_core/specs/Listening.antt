@@ -1,5 +1,5 @@
 -- A listener in memory, in whole.
-use Rattle.std.specs.Prelude.{◌≡◌, ℕ, true, false, List, [], ◌∷◌, refl}
+use Rattle.std.specs.Prelude.{◌≡◌, ℕ, true, false, List, [], ◌∷◌, ◌++◌, refl}
 use Rattle.dio_core.specs.Memory.{Plan, plan_of, fails_next, succeeded, failed}
 use Rattle.dio_core.specs.declared.listener.Accepted.{Accepted}
 use Rattle.dio_core.specs.declared.listener.Accepted.TheVariants as accepted
@@ -9,6 +9,10 @@ pub record Hall (K : Type 0) : Type 0 where
   pub left : List K
   pub back : List (K × ℕ)
   pub plan : Plan
+
+-- one link more was given back, with its status
+abbrev pub with_back : {K : Type 0} → K → ℕ → Hall K → Hall K
+with_back link status hall = record hall { back = hall.back ++ (link, status) ∷ [] }
 
 -- One accept, from the listener before it to the listener after it: it fails where it is planned alone, and else hands out
 -- the first link that is left.

@@ -1,11 +1,10 @@
 //! Where links come in, and are given back when they are done.
 
-ghost use Rattle.std.specs.Prelude.{◌≡◌, ℕ, List, [], ◌∷◌, Bool, Option, None, IfSome, IsTrue, OnOk, OnErr};
-ghost use Rattle.dio_core.specs.Counts.{one_more, IsCounted};
+ghost use Rattle.std.specs.Prelude.{◌≡◌, ℕ, List, Bool, Option, None, IfSome, IsTrue, OnOk, OnErr};
+ghost use Rattle.dio_core.specs.Counts.{one_more, IsCountedBy};
 ghost use Rattle.dio_core.specs.Lines.{IsLineAhead};
 ghost use Rattle.dio_core.specs.Links.{incoming, outgoing};
-ghost use Rattle.dio_core.specs.Listeners.{Accepts, accept_failed};
-ghost use Rattle.dio_core.specs.Sinks.{with_more};
+ghost use Rattle.dio_core.specs.Listeners.{Accepts, GivesBack, accept_failed};
 
 use crate::count::Count;
 use crate::memory::MemLink;
@@ -76,11 +75,11 @@ pub trait Listener {
     fn accept(&mut self) -> Accepted<Self::Link>
         ensures accepts { Accepts result (links self.old) (links self.new) }
         ensures same { given_back self.new ≡ given_back self.old }
-        ensures counted { IsCounted (accept_failed result) (accept_faults self.old) (accept_faults self.new) };
+        ensures counted { IsCountedBy accept_faults (accept_failed result) self.old self.new };
 
     /// Gives a link back that is done with. For want of memory the link is gone.
     fn give_back(&mut self, link: Self::Link, status: u8) -> Result<(), AllocError>
-        ensures ok { OnOk result (given_back self.new ≡ with_more (given_back self.old) ((link, status) ∷ [])) }
+        ensures ok { OnOk result (GivesBack given_back link status self.old self.new) }
         ensures err { OnErr result (given_back self.new ≡ given_back self.old) }
         ensures same { links self.new ≡ links self.old }
         ensures count { accept_faults self.new ≡ accept_faults self.old };

@@ -1,10 +1,9 @@
 //! A listener in memory, which tells the links that are left and those that were given back.
 
-ghost use Rattle.std.specs.Prelude.{◌≡◌, [], ◌∷◌, ◌++◌, OnOk, OnErr, Some};
-ghost use Rattle.dio_core.specs.Counts.{IsCounted};
+ghost use Rattle.std.specs.Prelude.{◌≡◌, [], OnOk, OnErr, Some};
 ghost use Rattle.dio_core.specs.Listeners.{Accepts, accept_failed};
-ghost use Rattle.dio_core.specs.Listening.{Hands};
-ghost use Rattle.dio_core.specs.Memory.{plan_of};
+ghost use Rattle.dio_core.specs.Listening.{Hands, with_back};
+ghost use Rattle.dio_core.specs.Memory.{plan_of, CountsIn};
 
 use crate::listener::{Accepted, Listener};
 use crate::memory::{FaultPlan, MemLink};
@@ -78,7 +77,7 @@ impl Listener for MemListener {
     fn accept(&mut self) -> Accepted<MemLink>
         ensures accepts { Accepts result (Some self.old.left) (Some self.new.left) }
         ensures same { Some self.new.back ≡ Some self.old.back }
-        ensures counted { IsCounted (accept_failed result) self.old.plan.faults self.new.plan.faults }
+        ensures counted { CountsIn (accept_failed result) self.old.plan self.new.plan }
         ensures exact { Hands result self.old self.new }
     {
         if self.plan.begin_call() {
@@ -91,7 +90,7 @@ impl Listener for MemListener {
     }
 
     fn give_back(&mut self, link: MemLink, status: u8) -> Result<(), AllocError>
-        ensures ok { OnOk result (self.new ≡ record self.old { back = self.old.back ++ (link, status) ∷ [] }) }
+        ensures ok { OnOk result (self.new ≡ with_back link status self.old) }
         ensures err { OnErr result (self.new ≡ self.old) }
     {
         self.back.push((link, status))

@@ -3,11 +3,11 @@
 
 ghost use Rattle.std.specs.Prelude.{◌≡◌, [], ◌<◌, ◌≤◌, drop, length, vec_len, IfOk, Some, not};
 ghost use Rattle.std.specs.Bool.{OnTrue};
-ghost use Rattle.dio_core.specs.Counts.{one_more, IsCounted};
+ghost use Rattle.dio_core.specs.Counts.{one_more};
 ghost use Rattle.dio_core.specs.Sources.{Gives, read_failed};
-ghost use Rattle.dio_core.specs.Sinks.{Takes, write_failed, PassesOn, IsPassedOn};
+ghost use Rattle.dio_core.specs.Sinks.{Takes, write_failed};
 ghost use Rattle.dio_core.specs.Links.{no_sink, no_source, outgoing, incoming};
-ghost use Rattle.dio_core.specs.Memory.{plan_of, fails_next, faulted, after_next, Supplies, Stores, Flushes};
+ghost use Rattle.dio_core.specs.Memory.{plan_of, fails_next, faulted, after_next, CountsIn, PassesOnFrom, HasPassedAll, Supplies, Stores, Flushes};
 
 use crate::count::Count;
 use crate::listener::End;
@@ -136,7 +136,7 @@ impl Source for MemSource {
     fn read(&mut self, buf: &mut [u8]) -> Got
         requires { 0 < length buf.old }
         ensures gives { Gives result buf.new (Some self.old.left) (Some self.new.left) }
-        ensures counted { IsCounted (read_failed result) self.old.plan.faults self.new.plan.faults }
+        ensures counted { CountsIn (read_failed result) self.old.plan self.new.plan }
         ensures exact { Supplies result buf.old buf.new self.old self.new }
     {
         if self.plan.begin_call() {
@@ -223,8 +223,8 @@ impl Sink for MemSink {
     fn write(&mut self, bytes: &[u8]) -> Took
         requires { 0 < length bytes.now }
         ensures takes { Takes result bytes.now (Some self.old.taken) (Some self.new.taken) }
-        ensures passes { PassesOn (Some self.new.taken) (Some self.old.passed) (Some self.new.passed) }
-        ensures counted { IsCounted (write_failed result) self.old.plan.faults self.new.plan.faults }
+        ensures passes { PassesOnFrom self.old self.new }
+        ensures counted { CountsIn (write_failed result) self.old.plan self.new.plan }
         ensures exact { Stores result bytes.now self.old self.new }
     {
         if self.plan.begin_call() {
@@ -239,10 +239,10 @@ impl Sink for MemSink {
     }
 
     fn flush(&mut self) -> bool
-        ensures flushed { OnTrue result (IsPassedOn (Some self.new.taken) (Some self.new.passed)) }
+        ensures flushed { OnTrue result (HasPassedAll self.new) }
         ensures same { Some self.new.taken ≡ Some self.old.taken }
-        ensures passes { PassesOn (Some self.new.taken) (Some self.old.passed) (Some self.new.passed) }
-        ensures counted { IsCounted (not result) self.old.plan.faults self.new.plan.faults }
+        ensures passes { PassesOnFrom self.old self.new }
+        ensures counted { CountsIn (not result) self.old.plan self.new.plan }
         ensures exact { Flushes result self.old self.new }
     {
         if self.plan.begin_call() {
@@ -302,7 +302,7 @@ impl Source for MemLink {
     fn read(&mut self, buf: &mut [u8]) -> Got
         requires { 0 < length buf.old }
         ensures gives { Gives result buf.new (Some self.old.source.left) (Some self.new.source.left) }
-        ensures counted { IsCounted (read_failed result) self.old.source.plan.faults self.new.source.plan.faults }
+        ensures counted { CountsIn (read_failed result) self.old.source.plan self.new.source.plan }
         ensures exact { Supplies result buf.old buf.new self.old.source self.new.source }
         ensures sink { self.new.sink ≡ self.old.sink }
     {
@@ -326,8 +326,8 @@ impl Sink for MemLink {
     fn write(&mut self, bytes: &[u8]) -> Took
         requires { 0 < length bytes.now }
         ensures takes { Takes result bytes.now (Some self.old.sink.taken) (Some self.new.sink.taken) }
-        ensures passes { PassesOn (Some self.new.sink.taken) (Some self.old.sink.passed) (Some self.new.sink.passed) }
-        ensures counted { IsCounted (write_failed result) self.old.sink.plan.faults self.new.sink.plan.faults }
+        ensures passes { PassesOnFrom self.old.sink self.new.sink }
+        ensures counted { CountsIn (write_failed result) self.old.sink.plan self.new.sink.plan }
         ensures exact { Stores result bytes.now self.old.sink self.new.sink }
         ensures source { self.new.source ≡ self.old.source }
     {
@@ -335,10 +335,10 @@ impl Sink for MemLink {
     }
 
     fn flush(&mut self) -> bool
-        ensures flushed { OnTrue result (IsPassedOn (Some self.new.sink.taken) (Some self.new.sink.passed)) }
+        ensures flushed { OnTrue result (HasPassedAll self.new.sink) }
         ensures same { Some self.new.sink.taken ≡ Some self.old.sink.taken }
-        ensures passes { PassesOn (Some self.new.sink.taken) (Some self.old.sink.passed) (Some self.new.sink.passed) }
-        ensures counted { IsCounted (not result) self.old.sink.plan.faults self.new.sink.plan.faults }
+        ensures passes { PassesOnFrom self.old.sink self.new.sink }
+        ensures counted { CountsIn (not result) self.old.sink.plan self.new.sink.plan }
         ensures exact { Flushes result self.old.sink self.new.sink }
         ensures source { self.new.source ≡ self.old.source }
     {

@@ -10,7 +10,7 @@ use Rattle.predictive_parsing.proofs.Columns.{column_by}
 use Rattle.plain_data.specs.Texts.{Bytes}
 use Rattle.dtext.specs.declared.error.TextError.{TextError}
 use Rattle.dtext.specs.declared.error.TextError.TheVariants.{At, NoMemory}
-use Rattle.dtext.specs.Answers.{answer}
+use Rattle.dtext.specs.Answers.{answer, AnswersEach, RefusesBy}
 
 module _ {A : Type 0} (p : Reader ℕ A) (P : Rule ℕ A) (follows : Option ℕ → Bool) (fp : Fits IsByte p P follows) (ends : follows None ≡ true) where
   -- ---- what a reader answers of the whole
@@ -52,8 +52,8 @@ module _ {A : Type 0} (p : Reader ℕ A) (P : Rule ℕ A) (follows : Option ℕ 
   -- The three promises of a call that reads the whole of some bytes.
   pub record Promised (bytes : Bytes) (result : Result A TextError) : Type 0 where
     pub read : IfOk result (λ a. Whole P bytes a)
-    pub spellings : (a : A) → Whole P bytes a → result ≢ Err NoMemory → result ≡ Ok a
-    pub refused : (column : ℕ) → result ≡ Err (At column) → IsColumn IsByte P bytes column
+    pub spellings : AnswersEach (Whole P bytes) result
+    pub refused : RefusesBy P bytes result
 
   -- They hold of what the reader makes of a cursor at the first of these bytes.
   pub promised : (bytes cursor : Bytes) (result : Result A TextError) → cursor ≡ bytes

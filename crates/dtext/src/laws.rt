@@ -1,12 +1,11 @@
 //! What spellings, columns and printed forms have to do with each other.
 
-ghost use Rattle.std.specs.Prelude.{◌≤◌, ◌<◌, ◌^◌, ℕ};
 ghost use Rattle.predictive_parsing.specs.Bytes.{IsByte};
 ghost use Rattle.predictive_parsing.specs.Columns.{OneValue, NoSpelling, OneColumn};
 ghost use Rattle.predictive_parsing.specs.Fits.{Fits, any};
 ghost use Rattle.rdt_types.specs.declared.address.Kind.{Kind};
 ghost use Rattle.dtext.specs.code.Reading as read;
-ghost use Rattle.dtext.specs.Follows.{no_digit, no_more};
+ghost use Rattle.dtext.specs.Follows.{no_digit, no_more, FitsUpToEach};
 ghost use Rattle.dtext.specs.ReadBack.{TextsReadBack, AddressesReadBack, ItemsReadBack, OutcomesReadBack, PartsReadBack, PartsOfKindsReadBack};
 ghost use Rattle.dtext.specs.Spellings.{TextRule, NumberRule, NaturalRule, PositiveRule, AddressRule, ItemRule, OutcomeRule, PartRule, PartOf};
 
@@ -51,8 +50,8 @@ pub fn columns_are_unique()
 pub fn readers_are_rules()
     ensures texts { Fits IsByte read.text TextRule any }
     ensures numbers { Fits IsByte read.number NumberRule no_digit }
-    ensures naturals { (limit : ℕ) → 9 ≤ limit → limit < 2 ^ 64 → Fits IsByte (read.natural limit) (NaturalRule limit) no_digit }
-    ensures positives { (limit : ℕ) → 9 ≤ limit → limit < 2 ^ 64 → Fits IsByte (read.positive limit) (PositiveRule limit) no_digit }
+    ensures naturals { FitsUpToEach read.natural NaturalRule }
+    ensures positives { FitsUpToEach read.positive PositiveRule }
     ensures addresses { Fits IsByte read.address AddressRule any }
     ensures items { Fits IsByte read.item ItemRule no_digit }
     ensures outcomes { Fits IsByte read.outcome OutcomeRule no_more }

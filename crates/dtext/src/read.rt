@@ -4,20 +4,10 @@
 //! aside (`spellings`); and else the column is that of the first byte with which no spelling goes on, whatever comes
 //! then, or the one behind the last byte where the bytes end too early (`refused`).
 
-ghost use Rattle.std.specs.Prelude.{◌≡◌, ◌≢◌, ◌<◌, ◌+◌, ◌-◌, ◌^◌, ℕ, length, IfOk, Ok, Err};
-ghost use Rattle.predictive_parsing.specs.Reading as reading;
-ghost use Rattle.predictive_parsing.specs.Reading.{whole_of};
-ghost use Rattle.plain_data.specs.Texts.{Bytes};
+ghost use Rattle.std.specs.Prelude.{◌≡◌, ◌<◌, ◌+◌, ◌-◌, ◌^◌, length, IfOk, Err};
 ghost use Rattle.plain_data.specs.declared.or_no_memory.OrNoMemory.TheVariants as stop;
-ghost use Rattle.rdt_types.specs.declared.address.Address.{Address};
-ghost use Rattle.rdt_types.specs.declared.outcome.Item.{Item};
-ghost use Rattle.rdt_types.specs.declared.outcome.Outcome.{Outcome};
-ghost use Rattle.rdt_types.specs.declared.operation.WriteOp.{WriteOp};
-ghost use Rattle.dtext.specs.declared.error.TextError.TheVariants.{At, NoMemory};
-ghost use Rattle.predictive_parsing.specs.Bytes.{IsByte};
-ghost use Rattle.predictive_parsing.specs.Columns.{IsColumn};
-ghost use Rattle.predictive_parsing.specs.Reads.{Reads};
-ghost use Rattle.dtext.specs.Answers.{answer};
+ghost use Rattle.dtext.specs.declared.error.TextError.TheVariants.{NoMemory};
+ghost use Rattle.dtext.specs.Answers.{IsEnd, AnswersEach, RefusesBy};
 ghost use Rattle.dtext.specs.Spellings.{TextRule, IsText, AddressRule, IsAddress, ItemRule, IsItem, OutcomeRule, IsOutcome, PartRule, IsPart};
 
 use crate::error::TextError;
@@ -46,7 +36,7 @@ pub fn finish<A: Drop>(
     length: usize,
 ) -> Result<A, TextError>
     requires { length < 2 ^ 32 - 1 }
-    ensures answer { (outcome : reading.Outcome ℕ A) → Reads outcome found cursor.now → found ≢ Err stop.NoMemory → result ≡ answer (whole_of outcome) length }
+    ensures answer { IsEnd found cursor.now length result }
     ensures memory { found ≡ Err stop.NoMemory → result ≡ Err NoMemory }
 {
     match found {
@@ -66,8 +56,8 @@ pub fn finish<A: Drop>(
 pub fn read_text(alloc: Global, bytes: &[u8]) -> Result<Text, TextError>
     requires { length bytes.now < 2 ^ 32 - 1 }
     ensures read { IfOk result (λ text. IsText bytes.now text) }
-    ensures spellings { (text : Bytes) → IsText bytes.now text → result ≢ Err NoMemory → result ≡ Ok text }
-    ensures refused { (column : ℕ) → result ≡ Err (At column) → IsColumn IsByte TextRule bytes.now column }
+    ensures spellings { AnswersEach (IsText bytes.now) result }
+    ensures refused { RefusesBy TextRule bytes.now result }
 {
     let mut cursor = Cursor::new(bytes);
     let found = next_text(alloc, &mut cursor);
@@ -78,8 +68,8 @@ pub fn read_text(alloc: Global, bytes: &[u8]) -> Result<Text, TextError>
 pub fn read_address(alloc: Global, bytes: &[u8]) -> Result<Address, TextError>
     requires { length bytes.now < 2 ^ 32 - 1 }
     ensures read { IfOk result (λ address. IsAddress bytes.now address) }
-    ensures spellings { (address : Address) → IsAddress bytes.now address → result ≢ Err NoMemory → result ≡ Ok address }
-    ensures refused { (column : ℕ) → result ≡ Err (At column) → IsColumn IsByte AddressRule bytes.now column }
+    ensures spellings { AnswersEach (IsAddress bytes.now) result }
+    ensures refused { RefusesBy AddressRule bytes.now result }
 {
     let mut cursor = Cursor::new(bytes);
     let found = next_address(alloc, &mut cursor);
@@ -90,8 +80,8 @@ pub fn read_address(alloc: Global, bytes: &[u8]) -> Result<Address, TextError>
 pub fn read_item(alloc: Global, bytes: &[u8]) -> Result<Item, TextError>
     requires { length bytes.now < 2 ^ 32 - 1 }
     ensures read { IfOk result (λ item. IsItem bytes.now item) }
-    ensures spellings { (item : Item) → IsItem bytes.now item → result ≢ Err NoMemory → result ≡ Ok item }
-    ensures refused { (column : ℕ) → result ≡ Err (At column) → IsColumn IsByte ItemRule bytes.now column }
+    ensures spellings { AnswersEach (IsItem bytes.now) result }
+    ensures refused { RefusesBy ItemRule bytes.now result }
 {
     let mut cursor = Cursor::new(bytes);
     let found = next_item(alloc, &mut cursor);
@@ -102,8 +92,8 @@ pub fn read_item(alloc: Global, bytes: &[u8]) -> Result<Item, TextError>
 pub fn read_outcome(alloc: Global, bytes: &[u8]) -> Result<Outcome, TextError>
     requires { length bytes.now < 2 ^ 32 - 1 }
     ensures read { IfOk result (λ outcome. IsOutcome bytes.now outcome) }
-    ensures spellings { (outcome : Outcome) → IsOutcome bytes.now outcome → result ≢ Err NoMemory → result ≡ Ok outcome }
-    ensures refused { (column : ℕ) → result ≡ Err (At column) → IsColumn IsByte OutcomeRule bytes.now column }
+    ensures spellings { AnswersEach (IsOutcome bytes.now) result }
+    ensures refused { RefusesBy OutcomeRule bytes.now result }
 {
     let mut cursor = Cursor::new(bytes);
     let found = next_outcome(alloc, &mut cursor);
@@ -114,8 +104,8 @@ pub fn read_outcome(alloc: Global, bytes: &[u8]) -> Result<Outcome, TextError>
 pub fn read_part(alloc: Global, bytes: &[u8]) -> Result<WriteOp, TextError>
     requires { length bytes.now < 2 ^ 32 - 1 }
     ensures read { IfOk result (λ part. IsPart bytes.now part) }
-    ensures spellings { (part : WriteOp) → IsPart bytes.now part → result ≢ Err NoMemory → result ≡ Ok part }
-    ensures refused { (column : ℕ) → result ≡ Err (At column) → IsColumn IsByte PartRule bytes.now column }
+    ensures spellings { AnswersEach (IsPart bytes.now) result }
+    ensures refused { RefusesBy PartRule bytes.now result }
 {
     let mut cursor = Cursor::new(bytes);
     let found = part(alloc, &mut cursor);

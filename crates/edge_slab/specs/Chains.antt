@@ -1,12 +1,14 @@
 -- Doubly linked lists of keys by index: each spot knows the one behind it and the one before it.
-use Rattle.std.specs.Prelude.{◌≡◌, ℕ, zero, suc, Bool, true, false, List, [], ◌∷◌, ◌++◌, if◌then◌else◌, nat_eq}
+use Rattle.std.specs.Prelude.{◌≡◌, ℕ, zero, suc, Bool, true, false, ◌&&◌, List, [], ◌∷◌, ◌++◌, if◌then◌else◌, nat_eq}
 use Rattle.std.specs.Prelude.{is_some, slice_get, refl}
+use Rattle.std.specs.List.{list_any}
 use Rattle.std.specs.HashMap.{HashMap, get}
 use Rattle.std.specs.Option.{unwrap_or}
 use Rattle.edge_slab.specs.declared.chains.Spot.{Spot}
 use Rattle.edge_slab.specs.declared.chains.Spot.TheVariants.{End, Key, Nowhere}
 use Rattle.edge_slab.specs.declared.chains.Ties.{Ties}
 use Rattle.edge_slab.specs.declared.chains.Chains.{Chains}
+use Rattle.edge_slab.specs.Edges.{without}
 
 -- ties to two spots
 abbrev pub ties_to : Spot → Spot → Ties
@@ -81,6 +83,24 @@ pub record IsReadyFor (chains : Chains) (list key : ℕ) : Type 0 where
 -- the same lists, with a key at the end of one
 abbrev pub with_key : ℕ → ℕ → (ℕ → List ℕ) → ℕ → List ℕ
 with_key list key lists other = if nat_eq other list then lists other ++ key ∷ [] else lists other
+
+-- whatever lists they were, they are still
+abbrev pub KeepsChains : Chains → Chains → Type 0
+KeepsChains old new = (lists : ℕ → List ℕ) → AreChains old lists → AreChains new lists
+
+-- a key that was in none of the lists is at the end of one
+abbrev pub PushesKey : ℕ → ℕ → Chains → Chains → Type 0
+PushesKey list key old new =
+    (lists : ℕ → List ℕ) → AreChains old lists → ((n : ℕ) → list_any (nat_eq key) (lists n) ≡ false) → AreChains new (with_key list key lists)
+
+-- a key that was in one of the lists is in none
+abbrev pub TakesKey : ℕ → Chains → Chains → Type 0
+TakesKey key old new =
+    (lists : ℕ → List ℕ) (list : ℕ) → AreChains old lists → list_any (nat_eq key) (lists list) ≡ true → AreChains new (λ n. without key (lists n))
+
+-- the ties of a spot are these now, where there are any, and all others are as before
+abbrev pub SetsTies : Spot → Ties → Chains → Chains → Type 0
+SetsTies spot ties old new = (q : Spot) → ties_of new q ≡ (if is_same spot q && is_there old spot then ties else ties_of old q)
 
 -- two spots were tied to one another; their other neighbours, and all other spots, have the ties that they had
 pub record IsTied (old : Chains) (before behind : Spot) (new : Chains) : Type 0 where

@@ -106,3 +106,11 @@ pub record AreEdges {S : Type 0} (links : Links) (keys : hash.HashMap (ℕ × �
       → list_any (λ l. is_under key l && is_of subscriber place l) all ≡ true
   pub once_at : (place : ℕ) → IsDistinct nat_eq (across (λ l. l.place) (λ l. l.subscriber) place all)
   pub once_of : (subscriber : ℕ) → IsDistinct nat_eq (across (λ l. l.subscriber) (λ l. l.place) subscriber all)
+
+-- whatever pairs were linked, this makes of them those that are
+abbrev pub TurnsLinks : (List Linked → List Linked) → Links → Links → Type 0
+TurnsLinks does old new = (all : List Linked) → AreLinks old all → AreLinks new (does all)
+
+-- the pair under a key, if there was one, is linked no more
+abbrev pub DropsLink : ℕ → Links → Links → Type 0
+DropsLink key old new = (all : List Linked) → AreLinks old all → list_any (is_under key) all ≡ true → AreLinks new (but key all)

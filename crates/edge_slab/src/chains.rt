@@ -1,11 +1,10 @@
 //! Doubly linked lists of keys by index. A key's ties stand at its index; those of a list's end are found by the list's number.
 
 ghost use Rattle.std.specs.Prelude.{◌≡◌, ℕ, List, [], ◌&&◌, ◌<◌, true, false, Some, option_map, if◌then◌else◌, OnOk, OnErr, slice_get, nat_eq, is_some};
-ghost use Rattle.std.specs.List.{list_any};
 ghost use Rattle.std.specs.HashMap.{get};
 ghost use Rattle.edge_slab.specs.declared.chains.Spot.{Spot};
 ghost use Rattle.edge_slab.specs.Chains as spec;
-ghost use Rattle.edge_slab.specs.Chains.{key_ties, end_ties, ties_of, next_of, last_of, is_there, is_same, AreChains, IsReadyFor, IsTied, with_key};
+ghost use Rattle.edge_slab.specs.Chains.{key_ties, end_ties, ties_of, next_of, last_of, is_there, AreChains, IsReadyFor, IsTied, KeepsChains, PushesKey, SetsTies, TakesKey};
 ghost use Rattle.edge_slab.specs.Edges.{without};
 
 use std::alloc::{AllocError, Global};
@@ -167,7 +166,7 @@ impl Chains {
 
     /// Sets the ties of a spot, where there are any.
     fn set(&mut self, spot: Spot, ties: Ties)
-        ensures set { (q : Spot) → ties_of self.new q ≡ (if is_same spot q && is_there self.old spot then ties else ties_of self.old q) }
+        ensures set { SetsTies spot ties self.old self.new }
         ensures there { (q : Spot) → is_there self.new q ≡ is_there self.old q }
     {
         match spot {
@@ -190,7 +189,7 @@ impl Chains {
     /// Takes the memory for a key at the end of a list. The lists stay as they are.
     pub fn make_room(&mut self, list: u32, key: usize) -> Result<(), AllocError>
         ensures ready { OnOk result (IsReadyFor self.new list key) }
-        ensures same { (lists : ℕ → List ℕ) → AreChains self.old lists → AreChains self.new lists }
+        ensures same { KeepsChains self.old self.new }
     {
         reach_key(&mut self.ties, key)?;
         reach_end(&mut self.ends, list)
@@ -199,8 +198,7 @@ impl Chains {
     /// Puts a key that is in no list at the end of one. It is never refused for want of memory.
     pub fn push(&mut self, list: u32, key: usize)
         requires { IsReadyFor self.old list key }
-        ensures { (lists : ℕ → List ℕ) → AreChains self.old lists → ((n : ℕ) → list_any (nat_eq key) (lists n) ≡ false)
-            → AreChains self.new (with_key list key lists) }
+        ensures { PushesKey list key self.old self.new }
     {
         let end = Spot::End(list);
         let last = self.ties_of(end).last;
@@ -210,8 +208,7 @@ impl Chains {
 
     /// Takes a key out of its list. It is never refused for want of memory.
     pub fn remove(&mut self, key: usize)
-        ensures { (lists : ℕ → List ℕ) (list : ℕ) → AreChains self.old lists → list_any (nat_eq key) (lists list) ≡ true
-            → AreChains self.new (λ n. without key (lists n)) }
+        ensures { TakesKey key self.old self.new }
     {
         let ties = self.ties_of(Spot::Key(key));
         self.tie(ties.last, ties.next);

@@ -1,9 +1,8 @@
 //! Edges in their two lists: that of their place and that of their subscriber.
 
-ghost use Rattle.std.specs.Prelude.{◌≡◌, ℕ, List, [], ◌∷◌, ◌++◌, true, OnOk, IfOk};
-ghost use Rattle.std.specs.List.{list_any};
+ghost use Rattle.std.specs.Prelude.{[], ◌∷◌, ◌++◌, IfOk};
 ghost use Rattle.edge_slab.specs.Links as spec;
-ghost use Rattle.edge_slab.specs.Links.{Linked, AreLinks, IsReady, linked_as, is_under, but};
+ghost use Rattle.edge_slab.specs.Links.{AreLinks, IsReady, TurnsLinks, DropsLink, linked_as};
 
 use crate::chains::Chains;
 use slab::Slab;
@@ -39,7 +38,7 @@ impl Links {
     /// Takes the memory for one more edge, and answers its key. The links stay as they are.
     pub fn make_room(&mut self, edge: Edge) -> Result<usize, AllocError>
         ensures ready { IfOk result (λ key. IsReady self.new edge key) }
-        ensures same { (all : List Linked) → AreLinks self.old all → AreLinks self.new all }
+        ensures same { TurnsLinks (λ all. all) self.old self.new }
     {
         self.edges.reserve(1)?;
         let key = self.edges.vacant_key();
@@ -51,7 +50,7 @@ impl Links {
     /// Links an edge under a key for which there is room, last in both lists. It is never refused for want of memory.
     pub fn push(&mut self, edge: Edge, key: usize)
         requires { IsReady self.old edge key }
-        ensures { (all : List Linked) → AreLinks self.old all → AreLinks self.new (all ++ linked_as edge key ∷ []) }
+        ensures { TurnsLinks (λ all. all ++ linked_as edge key ∷ []) self.old self.new }
     {
         self.edges.insert_reserved(edge);
         self.at_place.push(edge.place, key);
@@ -60,7 +59,7 @@ impl Links {
 
     /// Takes the edge under a key out of both lists. It is never refused for want of memory.
     pub fn remove(&mut self, key: usize)
-        ensures { (all : List Linked) → AreLinks self.old all → list_any (is_under key) all ≡ true → AreLinks self.new (but key all) }
+        ensures { DropsLink key self.old self.new }
     {
         self.edges.try_remove(key);
         self.at_place.remove(key);

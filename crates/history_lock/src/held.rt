@@ -4,7 +4,7 @@
 ghost use Rattle.std.specs.Prelude.{◌≡◌, ◌≤◌, IfSome};
 ghost use mathlib.Core.List.{IsPrefix};
 ghost use Rattle.plain_data.specs.Histories.{IsLawful};
-ghost use Rattle.history_lock.specs.Tokens.{HoldsOwn, IsCurrent};
+ghost use Rattle.history_lock.specs.Tokens.{HoldsOwn, IsCurrent, KnowsAll};
 
 use crate::front::Front;
 use crate::lock::HistoryLock;
@@ -67,7 +67,7 @@ pub struct HistoryGuard<'a, T: Stands, N: Naming> {
 impl<'a, T: Stands, N: Naming> HistoryGuard<'a, T, N> {
     // Takes out what lies at the place, and lends it.
     pub(crate) fn take(mut place: MutexGuard<'a, Place<T, N>>) -> Option<HistoryGuard<'a, T, N>>
-        ensures value { IfSome result (λ guard. IsCurrent guard.entered (T.list guard.value.value) (T.count guard.value.value)) }
+        ensures value { IfSome result (λ guard. KnowsAll T.list T.count guard.entered guard.value.value) }
         ensures origin { IfSome result (λ guard. T.origin guard.value.value ≡ N.lock.origin) }
     {
         let Held { value, entered } = place.held.take()?;

@@ -1,8 +1,8 @@
 //! The lock, and the calls that wait for nobody.
-ghost use Rattle.std.specs.Prelude.{◌≡◌, ◌<◌, ◌≤◌, length, None, MatchOption};
+ghost use Rattle.std.specs.Prelude.{◌≡◌, ◌<◌, ◌≤◌, length, None};
 ghost use mathlib.Core.List.{IsPrefix};
 ghost use Rattle.plain_data.specs.Histories.{IsLawful};
-ghost use Rattle.history_lock.specs.Tokens.{HaveDifferentNumbers, HoldsOwn, IsDrawn, IsLater, LearnsOfDraws, OneBeginsOther, copy_of, looked, met};
+ghost use Rattle.history_lock.specs.Tokens.{HaveDifferentNumbers, HoldsOwn, IsDrawn, IsLater, OneBeginsOther, TriesDraw, copy_of, looked, met};
 ghost use Rattle.history_lock.specs.Authors.{IfAuthor, IfSpent};
 
 use crate::author::{Author, Drawn};
@@ -108,7 +108,7 @@ impl<T: Stands + Drop, N: Naming> HistoryLock<T, N> {
     // One try to draw the number that follows the draws known. Where others were quicker, the token learns how many they drew.
     fn try_draw(&self, front: &mut Front<T, N>) -> Option<u32>
         requires { front.old.draws < MOST_DRAWS }
-        ensures drawn { MatchOption result (LearnsOfDraws T.names front.old front.new) (λ n. IsDrawn T.names N.lock.first front.old n front.new) }
+        ensures drawn { TriesDraw T.names N.lock.first result front.old front.new }
         ensures limit { front.new.draws ≤ MOST_DRAWS }
     {
         let known = front.draws;
@@ -130,7 +130,7 @@ impl<T: Stands + Drop, N: Naming> HistoryLock<T, N> {
     /// `Spent` comes exactly where so many numbers were drawn before that none is left. It takes at most `MOST_DRAWS` tries.
     pub fn draw_author(&self, mut front: Front<T, N>) -> Drawn<T, N>
         requires author { front.author ≡ None }
-        ensures author { IfAuthor result (λ number author. IsDrawn T.names N.lock.first front number author) }
+        ensures author { IfAuthor result (IsDrawn T.names N.lock.first front) }
         ensures spent { IfSpent result (λ drawn token. drawn ≡ MOST_DRAWS) }
         ensures given_back { IfSpent result (λ drawn token. token ≡ record front { draws = drawn }) }
     {

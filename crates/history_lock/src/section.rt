@@ -1,9 +1,9 @@
 //! The calls under the lock, which may wait: `enter`, `leave` and `close`.
-ghost use Rattle.std.specs.Prelude.{◌≡◌, ◌+◌, ◌<◌, ◌≤◌, ◌^◌, length, take, true, IfSome, MatchBool};
+ghost use Rattle.std.specs.Prelude.{◌≡◌, ◌+◌, ◌<◌, ◌≤◌, ◌^◌, length, true, IfSome};
 ghost use mathlib.Core.List.{IsPrefix};
 ghost use Rattle.plain_data.specs.Histories.{IsLawful};
 ghost use Rattle.history_lock.specs.Entries.{AddsOwn};
-ghost use Rattle.history_lock.specs.Tokens.{HoldsOwn, IsCurrent, IsLater};
+ghost use Rattle.history_lock.specs.Tokens.{HoldsOwn, KnowsAll, KnowsAs, IsLater, SeesAdded, current_by};
 
 use crate::front::Front;
 use crate::held::HistoryGuard;
@@ -16,9 +16,9 @@ use std::sync::Wait;
 impl<T: Stands + Drop, N: Naming> HistoryLock<T, N> {
     /// Waits for the lock, and until the length and the count that the token finds are those of the value. The token becomes the value's list and count.
     pub fn enter<'a, R: Wait>(&'a self, rt: &R, front: &mut Front<T, N>) -> HistoryGuard<'a, T, N>
-        ensures value { IsCurrent front.new (T.list result.value.value) (T.count result.value.value) }
+        ensures value { KnowsAll T.list T.count front.new result.value.value }
         ensures origin { T.origin result.value.value ≡ N.lock.origin }
-        ensures entered { IsCurrent front.new result.entered.seen result.entered.count }
+        ensures entered { KnowsAs front.new result.entered }
         ensures later { IsLater T.names front.old front.new }
         ensures looks { front.old.looks < front.new.looks }
         ensures lawful { IsLawful T.may_follow N.lock.base front.new.seen }
@@ -34,7 +34,7 @@ impl<T: Stands + Drop, N: Naming> HistoryLock<T, N> {
     /// Gives the value back, and waits in that it tries to add each entry until it succeeds. The token becomes the value's list and count.
     pub fn leave<R: Wait>(&self, rt: &R, front: &mut Front<T, N>, guard: HistoryGuard<'_, T, N>)
         // The token is as it was at that `enter`.
-        requires entered { IsCurrent front.old guard.entered.seen guard.entered.count }
+        requires entered { KnowsAs front.old guard.entered }
 
         // Only entries that name the token's author were added, and the count isn't below what it was.
         requires adds_own { AddsOwn T.names front.old.author guard.entered.seen (T.list guard.value.value) }
@@ -42,7 +42,7 @@ impl<T: Stands + Drop, N: Naming> HistoryLock<T, N> {
         requires count { guard.entered.count ≤ T.count guard.value.value }
         requires origin { T.origin guard.value.value ≡ N.lock.origin }
 
-        ensures left { front.new ≡ record front.old { seen = T.list guard.entry.value.value; count = T.count guard.entry.value.value } }
+        ensures left { front.new ≡ current_by T.list T.count guard.entry.value.value front.old }
     {
         let mut guard = guard;
         let from = front.entries();
@@ -59,9 +59,9 @@ impl<T: Stands + Drop, N: Naming> HistoryLock<T, N> {
         rt: &R,
         front: &mut Front<T, N>,
     ) -> Option<HistoryGuard<'a, T, N>>
-        ensures value { IfSome result (λ guard. IsCurrent front.new (T.list guard.value.value) (T.count guard.value.value)) }
+        ensures value { IfSome result (λ guard. KnowsAll T.list T.count front.new guard.value.value) }
         ensures origin { IfSome result (λ guard. T.origin guard.value.value ≡ N.lock.origin) }
-        ensures entered { IfSome result (λ guard. IsCurrent front.new guard.entered.seen guard.entered.count) }
+        ensures entered { IfSome result (λ guard. KnowsAs front.new guard.entered) }
         ensures later { IsLater T.names front.old front.new }
         ensures looks { IfSome result (λ guard. front.old.looks < front.new.looks) }
         ensures lawful { IfSome result (λ guard. IsLawful T.may_follow N.lock.base front.new.seen) }
@@ -76,10 +76,10 @@ impl<T: Stands + Drop, N: Naming> HistoryLock<T, N> {
 
     // The token learns what the lock's own token knows, and loads both words. Says whether they are the value's length and count.
     fn catch_up(&self, front: &mut Front<T, N>, guard: &mut HistoryGuard<'_, T, N>) -> bool
-        requires current { IsCurrent guard.old.entered (T.list guard.old.value.value) (T.count guard.old.value.value) }
+        requires current { KnowsAll T.list T.count guard.old.entered guard.old.value.value }
         ensures value { guard.new.value.value ≡ guard.old.value.value }
         ensures entered { guard.new.entered ≡ guard.old.entered }
-        ensures fits { result ≡ true → IsCurrent front.new (T.list guard.new.value.value) (T.count guard.new.value.value) }
+        ensures fits { result ≡ true → KnowsAll T.list T.count front.new guard.new.value.value }
         ensures later { IsLater T.names front.old front.new }
         ensures looks { front.old.looks < front.new.looks }
         ensures lawful { IsLawful T.may_follow N.lock.base front.new.seen }
@@ -137,7 +137,7 @@ impl<T: Stands + Drop, N: Naming> HistoryLock<T, N> {
         requires next { (at < length (T.list value.now)) × (length (T.list value.now) < 2 ^ 64) }
         requires adds_own { AddsOwn T.names front.old.author front.old.seen (T.list value.now) }
         requires lawful { IsLawful T.may_follow N.lock.base (T.list value.now) }
-        ensures { MatchBool result (front.new ≡ record front.old { seen = take (at + 1) (T.list value.now) }) (front.new ≡ front.old) }
+        ensures { SeesAdded result (T.list value.now) at front.old front.new }
     {
         let found = self
             .table

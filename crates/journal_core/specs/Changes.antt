@@ -36,6 +36,14 @@ between from to all = past from (up_to to all)
 abbrev pub of_shard : ℕ → ℕ → List Change → List Change
 of_shard shards shard all = filter (λ change. shard_of change.address shards == shard) all
 
+-- the changes of a journal in a shard, of commits past one number and up to another
+abbrev pub between_in : ℕ → ℕ → ℕ → ℕ → Journal → List Change
+between_in shards shard from to journal = of_shard shards shard (between from to (changes journal))
+
+-- and those at an address
+abbrev pub between_at : Address → ℕ → ℕ → Journal → List Change
+between_at address from to journal = of_address address (between from to (changes journal))
+
 -- ---- worked lines
 
 abbrev counter : List ℕ → Address

@@ -16,8 +16,8 @@ use Rattle.journal_core.specs.declared.slot.Slot.{Slot}
 use Rattle.journal_core.specs.declared.appended.Appended.{Appended}
 use Rattle.journal_core.specs.declared.appended.Appended.TheVariants as appended
 use Rattle.journal_core.specs.Bodies.{IsBodyText}
-use Rattle.journal_core.specs.Changes.{adding}
-use Rattle.journal_core.specs.Pairs.{least_pair, past_fronts}
+use Rattle.journal_core.specs.Changes.{adding, changes}
+use Rattle.journal_core.specs.Pairs.{least_pair, most_steps, past_fronts}
 use Rattle.journal_core.specs.Readies.{IsRunOf, made_of}
 use Rattle.journal_core.specs.Keeping.{IsOfRun, IsNext}
 
@@ -46,6 +46,10 @@ standing_code commit =
 -- The least pair past the prepared fronts, if there is one.
 abbrev pub found_past : Ready → Standing → Option Found
 found_past ready standing = least_pair (past_fronts standing.shards ready.fronts ready.based) standing.commits
+
+-- To look for it takes no more steps than this.
+abbrev pub steps_past : Ready → Standing → ℕ
+steps_past ready standing = most_steps (past_fronts standing.shards ready.fronts ready.based) (changes standing.commits)
 
 -- no commit past the fronts clashes with an observation, and the journal takes one more
 pub record MayAdd (ready : Ready) (standing : Standing) : Type 0 where

@@ -1,11 +1,11 @@
 //! The least clash past what was prepared.
 
-ghost use Rattle.std.specs.Prelude.{◌≡◌, ◌+◌, ◌≤◌, filter, length, max};
+ghost use Rattle.std.specs.Prelude.{◌≡◌, ◌+◌, ◌≤◌, max};
 ghost use Rattle.change_feed.specs.Lists.{listed};
 ghost use Rattle.abort_witness.specs.Pairs as pairs;
+ghost use Rattle.abort_witness.specs.Pairs.{first_clash};
 ghost use Rattle.journal_core.specs.Pairs as spec;
-ghost use Rattle.journal_core.specs.Changes.{changes};
-ghost use Rattle.journal_core.specs.code.Parts.{MeetsAlike};
+ghost use Rattle.journal_core.specs.code.Logs.{MeetsAhead, all_past, changes_in, met_past, most_past, past_in};
 
 use crate::log::Log;
 use crate::ready::PreparedFront;
@@ -39,7 +39,7 @@ fn counts_from(based: &Based, shard: u8, fronts: &[PreparedFront]) -> u64
 /// The changes that an observation may meet past what was prepared. It looks only into its shard, and nowhere where no commit is
 /// past the base.
 fn ahead<'a>(based: &Based, log: &'a Log, fronts: &[PreparedFront]) -> Changes<'a>
-    ensures { MeetsAlike based.now (listed result) (spec.past_front log.now.shards fronts.now based.now) (changes log.now.commits) }
+    ensures { MeetsAhead log.now fronts.now based.now (listed result) }
 {
     if log.commits().len() as u64 <= based.base {
         return Changes::none();
@@ -56,8 +56,8 @@ fn clash_past<L: Ledger>(
     fronts: &[PreparedFront],
     steps: &mut Steps<L>,
 ) -> Option<u64>
-    ensures first { result ≡ pairs.first_clash (spec.past_front log.now.shards fronts.now based.now) (changes log.now.commits) }
-    ensures steps { steps.new ≤ steps.old + length (filter (pairs.meets (spec.past_front log.now.shards fronts.now based.now)) (changes log.now.commits)) }
+    ensures first { result ≡ first_clash (past_in log.now fronts.now based.now) (changes_in log.now) }
+    ensures steps { steps.new ≤ steps.old + met_past log.now fronts.now based.now }
 {
     first_clash_in(based, ahead(based, log, fronts), steps)
 }
@@ -70,8 +70,8 @@ pub(crate) fn least_past<L: Ledger>(
     steps: &mut Steps<L>,
 ) -> Option<Found>
     requires places { pairs.HavePlaces based.now }
-    ensures least { result ≡ pairs.least (spec.past_fronts log.now.shards fronts.now based.now) (changes log.now.commits) }
-    ensures steps { steps.new ≤ steps.old + spec.most_steps (spec.past_fronts log.now.shards fronts.now based.now) (changes log.now.commits) }
+    ensures least { result ≡ pairs.least (all_past log.now fronts.now based.now) (changes_in log.now) }
+    ensures steps { steps.new ≤ steps.old + most_past log.now fronts.now based.now }
 {
     let mut found = None;
     for (place, based) in based.iter().enumerate() {

@@ -4,8 +4,8 @@ ghost use Rattle.std.specs.Prelude.{◌≡◌, ◌+◌, ◌≤◌, true, length,
 ghost use Rattle.std.specs.Option.{option_copied};
 ghost use Rattle.rdt_types.specs.declared.settings.Settings.{Settings};
 ghost use Rattle.journal_core.specs.Changes as spec;
-ghost use Rattle.journal_core.specs.Pairs.{AreNumbered, past_fronts, most_steps};
-ghost use Rattle.journal_core.specs.Tails.{HasAll, tail_of};
+ghost use Rattle.journal_core.specs.Pairs.{AreNumbered};
+ghost use Rattle.journal_core.specs.Tails.{HasAll, HasAllIn, HasAllAt, tail_of};
 ghost use Rattle.journal_core.specs.Kinds.{HasKinds};
 ghost use Rattle.journal_core.specs.Witnesses.{AreBasedOfOneKind, IsWitnessOf};
 ghost use Rattle.abort_witness.specs.Kinds.{IsOfOneKind};
@@ -114,7 +114,7 @@ impl<K: Keep> Journal<K> {
     pub fn tail(&self, shard: u8, from: u64, to: u64) -> Result<Tail, AllocError>
         requires order { from ≤ to }
         requires within { to ≤ length self.now.commits }
-        ensures { IfOk result (HasAll from to (spec.of_shard self.now.shards shard (spec.between from to (spec.changes self.now.commits)))) }
+        ensures { IfOk result (HasAllIn self.now.shards shard from to self.now.commits) }
     {
         tail_of_shard(self.alloc, &self.log, shard, from, to)
     }
@@ -123,7 +123,7 @@ impl<K: Keep> Journal<K> {
     pub fn lend_tail(&self, shard: u8, from: u64, to: u64) -> LentTail<'_>
         requires order { from ≤ to }
         requires within { to ≤ length self.now.commits }
-        ensures { HasAll from to (spec.of_shard self.now.shards shard (spec.between from to (spec.changes self.now.commits))) (tail_of result) }
+        ensures { HasAllIn self.now.shards shard from to self.now.commits (tail_of result) }
     {
         lent_in_shard(&self.log, shard, from, to)
     }
@@ -132,7 +132,7 @@ impl<K: Keep> Journal<K> {
     pub fn tail_of(&self, address: &Address, from: u64, to: u64) -> Result<Tail, AllocError>
         requires order { from ≤ to }
         requires within { to ≤ length self.now.commits }
-        ensures { IfOk result (HasAll from to (spec.of_address address.now (spec.between from to (spec.changes self.now.commits)))) }
+        ensures { IfOk result (HasAllAt address.now from to self.now.commits) }
     {
         tail_of_address(self.alloc, &self.log, address, from, to)
     }
@@ -173,7 +173,7 @@ impl<K: Keep> Journal<K> {
         requires places { HavePlaces ready.now.based }
         ensures decides { Decides ready.now self.old result self.new }
         ensures may_fail { IfDiskFault result (K.may_fail ≡ true) }
-        ensures steps { steps.new ≤ steps.old + most_steps (past_fronts self.old.shards ready.now.fronts ready.now.based) (spec.changes self.old.commits) }
+        ensures steps { steps.new ≤ steps.old + journals.steps_past ready.now self.old }
     {
         if let Some(found) = self.clashes(ready, steps) {
             return Appended::Clash(found);
@@ -185,7 +185,7 @@ impl<K: Keep> Journal<K> {
     pub fn clashes<L: Ledger>(&self, ready: &Ready, steps: &mut Steps<L>) -> Option<Found>
         requires places { HavePlaces ready.now.based }
         ensures least { result ≡ journals.found_past ready.now self.now }
-        ensures steps { steps.new ≤ steps.old + most_steps (past_fronts self.now.shards ready.now.fronts ready.now.based) (spec.changes self.now.commits) }
+        ensures steps { steps.new ≤ steps.old + journals.steps_past ready.now self.now }
     {
         let (based, fronts) = (ready.based.as_slice(), ready.fronts.as_slice());
         self.log.least_past(based, fronts, steps)

@@ -6,7 +6,7 @@ ghost use Rattle.rdt_types.specs.declared.limits.TheConstants.{LEAST_SHARDS, MOS
 ghost use Rattle.change_feed.specs.Lists.{listed};
 ghost use Rattle.abort_witness.specs.Pairs as pairs;
 ghost use Rattle.journal_core.specs.Changes as spec;
-ghost use Rattle.journal_core.specs.Pairs.{past_fronts, most_steps, least_pair, AreNumbered};
+ghost use Rattle.journal_core.specs.Pairs.{least_pair, AreNumbered};
 ghost use Rattle.journal_core.specs.code.Rising.{Rises};
 ghost use Rattle.journal_core.specs.Kinds.{AreOfTheirKinds, HasKinds};
 ghost use Rattle.journal_core.specs.code.Logs as logs;
@@ -75,8 +75,8 @@ impl Log {
         steps: &mut Steps<L>,
     ) -> Option<Found>
         requires places { pairs.HavePlaces based.now }
-        ensures least { result ≡ least_pair (past_fronts self.now.shards fronts.now based.now) self.now.commits }
-        ensures steps { steps.new ≤ steps.old + most_steps (past_fronts self.now.shards fronts.now based.now) (spec.changes self.now.commits) }
+        ensures least { result ≡ least_pair (logs.all_past self.now fronts.now based.now) self.now.commits }
+        ensures steps { steps.new ≤ steps.old + logs.most_past self.now fronts.now based.now }
     {
         if self.commits().is_empty() {
             return None;
@@ -103,7 +103,7 @@ impl Log {
 
     /// The changes in a shard, in order.
     pub(crate) fn in_shard(&self, shard: u8) -> Changes<'_>
-        ensures changes { listed result ≡ spec.of_shard self.now.shards shard (spec.changes self.now.commits) }
+        ensures changes { listed result ≡ spec.of_shard self.now.shards shard (logs.changes_in self.now) }
         ensures rises { Rises 0 (listed result) }
         ensures whole { IsWhole result }
         ensures numbered { AreNumbered self.now.commits }

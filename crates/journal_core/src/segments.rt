@@ -2,8 +2,7 @@
 
 ghost use Rattle.std.specs.Prelude.{◌≡◌, ◌+◌, ◌<◌, ◌≤◌, [], ◌∷◌, ◌++◌, length, OnOk};
 ghost use Rattle.change_feed.specs.Lists.{listed};
-ghost use Rattle.change_feed.specs.Segments.{changes_in};
-ghost use Rattle.journal_core.specs.code.Segments.{HaveChanges, IsWhole, room};
+ghost use Rattle.journal_core.specs.code.Segments.{HaveChanges, IsWhole, room, all_in};
 
 use change_feed::{Change, Changes, Segment};
 use std::alloc::{AllocError, Global};
@@ -24,7 +23,7 @@ fn seal(
 ) -> Result<(), AllocError>
     requires some { 0 < length last.old.items }
     requires have_changes { HaveChanges sealed.old.items }
-    ensures items { changes_in sealed.new.items ++ last.new.items ≡ changes_in sealed.old.items ++ last.old.items }
+    ensures items { all_in sealed.new.items last.new.items ≡ all_in sealed.old.items last.old.items }
     ensures have_changes { HaveChanges sealed.new.items }
     ensures kept { room last.old ≤ room last.new }
     ensures ok { OnOk result (more ≤ room last.new) }

@@ -5,7 +5,7 @@ ghost use Rattle.change_feed.specs.Lists.{listed};
 ghost use Rattle.change_feed.specs.Tails.{IsTail};
 ghost use Rattle.journal_core.specs.Changes as spec;
 ghost use Rattle.journal_core.specs.Pairs.{AreNumbered};
-ghost use Rattle.journal_core.specs.Tails.{HasAll, tail_of};
+ghost use Rattle.journal_core.specs.Tails.{HasAll, HasAllIn, HasAllAt, tail_of};
 
 use crate::copying::{all_changes, copies_of_address};
 use crate::lent::{LentChanges, LentTail};
@@ -50,7 +50,7 @@ fn changes_between(alloc: Global, log: &Log, from: u64, to: u64) -> Result<Chang
 #[inline(always)]
 fn between_in_shard(log: &Log, shard: u8, from: u64, to: u64) -> Changes<'_>
     ensures numbered { AreNumbered log.now.commits }
-    ensures changes { listed result ≡ spec.of_shard log.now.shards shard (spec.between from to (spec.changes log.now.commits)) }
+    ensures changes { listed result ≡ spec.between_in log.now.shards shard from to log.now.commits }
 {
     between(log.in_shard(shard), from, to)
 }
@@ -64,7 +64,7 @@ fn between_at(
     to: u64,
 ) -> Result<ChangeList, AllocError>
     ensures numbered { AreNumbered log.now.commits }
-    ensures changes { IfOk result (λ list. list ≡ spec.of_address address.now (spec.between from to (spec.changes log.now.commits))) }
+    ensures changes { IfOk result (λ list. list ≡ spec.between_at address.now from to log.now.commits) }
 {
     let shard = shard_of(address, log.shards());
     copies_of_address(alloc, between_in_shard(log, shard, from, to), address)
@@ -83,7 +83,7 @@ pub(crate) fn tail_of_all(alloc: Global, log: &Log, from: u64, to: u64) -> Resul
 /// The tail of the changes in a shard, lent.
 pub(crate) fn lent_in_shard(log: &Log, shard: u8, from: u64, to: u64) -> LentTail<'_>
     requires { from ≤ to }
-    ensures { HasAll from to (spec.of_shard log.now.shards shard (spec.between from to (spec.changes log.now.commits))) (tail_of result) }
+    ensures { HasAllIn log.now.shards shard from to log.now.commits (tail_of result) }
 {
     let changes = LentChanges::of(between_in_shard(log, shard, from, to));
     LentTail { from, to, changes }
@@ -98,7 +98,7 @@ pub(crate) fn tail_of_shard(
     to: u64,
 ) -> Result<Tail, AllocError>
     requires { from ≤ to }
-    ensures { IfOk result (HasAll from to (spec.of_shard log.now.shards shard (spec.between from to (spec.changes log.now.commits)))) }
+    ensures { IfOk result (HasAllIn log.now.shards shard from to log.now.commits) }
 {
     let lent = lent_in_shard(log, shard, from, to);
     let pieces = lent.changes.pieces();
@@ -115,7 +115,7 @@ pub(crate) fn tail_of_address(
     to: u64,
 ) -> Result<Tail, AllocError>
     requires { from ≤ to }
-    ensures { IfOk result (HasAll from to (spec.of_address address.now (spec.between from to (spec.changes log.now.commits)))) }
+    ensures { IfOk result (HasAllAt address.now from to log.now.commits) }
 {
     let changes = between_at(alloc, log, address, from, to)?;
     Ok(as_tail(from, to, changes))

@@ -1,11 +1,13 @@
 -- A link that reads ahead, and the listener that hands such links out.
-use Rattle.std.specs.Prelude.{◌≡◌, ◌<◌, ℕ, List, [], ◌∷◌, ◌++◌, length, take, drop, min, Option, Some, refl}
+use Rattle.std.specs.Prelude.{◌≡◌, ◌<◌, ◌+◌, ℕ, List, [], ◌∷◌, ◌++◌, length, take, drop, min, Option, Some, refl}
 use Rattle.std.proofs.Common.{lit<}
 use Rattle.dio_core.specs.declared.source.Got.{Got}
 use Rattle.dio_core.specs.declared.source.Got.TheVariants as got
+use Rattle.dio_core.specs.declared.line.TheConstants.{NEWLINE}
 use Rattle.dio_core.specs.declared.listener.Accepted.{Accepted}
 use Rattle.dio_core.specs.declared.listener.Accepted.TheVariants as accepted
 use Rattle.dio_core.specs.Sources.{with_prefix, Gives}
+use Rattle.dio_core.specs.Sinks.{PassesOn}
 use Rattle.dio_core.specs.Listeners.{Accepts}
 use Rattle.link_buffer.specs.declared.link.TheConstants.{READ_AHEAD}
 
@@ -35,6 +37,10 @@ Fills got.Failed held old new = (held ≡ []) × (new ≡ old)
 Fills-example : Fills (got.Bytes 2) (7 ∷ 8 ∷ []) (Some (7 ∷ 8 ∷ 9 ∷ [])) (Some (9 ∷ []))
 Fills-example = (lit< tt, refl)
 
+-- bytes that end in a newline, so many before it
+abbrev pub EndsInNewline : List ℕ → ℕ → Type 0
+EndsInNewline bytes n = (length bytes ≡ n + 1) × (bytes ≡ take n bytes ++ NEWLINE ∷ [])
+
 -- One read of a link that holds some bytes: it gives as many of them as fit, from the first on, and doesn't ask the link below.
 pub record GivesHeld {K : Type 0} (result : Got) (buffer filled : List ℕ) (old new : Ahead K) : Type 0 where
   pub n : ℕ
@@ -46,6 +52,10 @@ pub record GivesHeld {K : Type 0} (result : Got) (buffer filled : List ℕ) (old
 -- of two bytes held the first is given
 GivesHeld-example : GivesHeld {K = ℕ} (got.Bytes 1) (0 ∷ []) (7 ∷ []) (record { held = 7 ∷ 8 ∷ []; link = 9 }) (record { held = 8 ∷ []; link = 9 })
 GivesHeld-example = record { n = 1; many = refl; answers = refl; fills = refl; rest = refl }
+
+-- the link below passes on as much as before of what it has taken, or more, where it tells that
+abbrev pub PassesOnBelow : {K : Type 0} → (K → Option (List ℕ)) → (K → Option (List ℕ)) → K → K → Type 0
+PassesOnBelow taken passed old new = PassesOn (taken new) (passed old) (passed new)
 
 -- One accept, from the links that the listener below has left before it to those after it: a link that is handed out holds
 -- nothing, and is over the first of them.

@@ -1,14 +1,14 @@
 //! A link that reads ahead.
 
-ghost use Rattle.std.specs.Prelude.{◌≡◌, ◌+◌, ◌<◌, ◌≤◌, [], ◌∷◌, ◌++◌, length, take, drop, not, IfSome, IsTrue};
+ghost use Rattle.std.specs.Prelude.{◌≡◌, ◌<◌, ◌≤◌, [], length, take, drop, not, IfSome, IsTrue};
 ghost use Rattle.std.specs.Bool.{OnTrue};
-ghost use Rattle.dio_core.specs.Counts.{IsCounted};
+ghost use Rattle.dio_core.specs.Counts.{IsCountedBy};
 ghost use Rattle.dio_core.specs.Sources.{Gives, read_failed};
-ghost use Rattle.dio_core.specs.Sinks.{Takes, write_failed, PassesOn, IsPassedOn};
+ghost use Rattle.dio_core.specs.Sinks.{Takes, write_failed, IsPassedOn};
 ghost use Rattle.dio_core.specs.Lines.{IsLineAhead};
 ghost use Rattle.dio_core.specs.Links.{incoming};
 ghost use Rattle.dio_core.specs.declared.source.Got.TheVariants.{Bytes};
-ghost use Rattle.link_buffer.specs.Ahead.{left_of, Fills, GivesHeld};
+ghost use Rattle.link_buffer.specs.Ahead.{left_of, Fills, GivesHeld, PassesOnBelow, EndsInNewline};
 
 use dio_core::{End, Got, NEWLINE, Sink, Source, Took, copy_through};
 use std::marker::Model;
@@ -70,7 +70,7 @@ impl<K: End> BufferedLink<K> {
         requires { self.old.held ≡ [] }
         ensures fills { Fills result self.new.held (K.left self.old.link) (K.left self.new.link) }
         ensures written { K.written self.new.link ≡ K.written self.old.link }
-        ensures counted { IsCounted (read_failed result) (K.read_faults self.old.link) (K.read_faults self.new.link) }
+        ensures counted { IsCountedBy K.read_faults (read_failed result) self.old.link self.new.link }
     {
         let got = self.link.read(&mut self.ahead);
         self.given = 0;
@@ -114,7 +114,7 @@ impl<K: End> Source for BufferedLink<K> {
         requires { 0 < length buf.old }
         ensures gives { Gives result buf.new (left_of K.left self.old) (left_of K.left self.new) }
         ensures written { K.written self.new.link ≡ K.written self.old.link }
-        ensures counted { IsCounted (read_failed result) (K.read_faults self.old.link) (K.read_faults self.new.link) }
+        ensures counted { IsCountedBy K.read_faults (read_failed result) self.old.link self.new.link }
 
         // What is held is given, also where the link below doesn't tell.
         ensures held { 0 < length self.old.held → GivesHeld result buf.old buf.new self.old self.new }
@@ -155,10 +155,10 @@ impl<K: End> Sink for BufferedLink<K> {
     fn write(&mut self, bytes: &[u8]) -> Took
         requires { 0 < length bytes.now }
         ensures takes { Takes result bytes.now (K.taken self.old.link) (K.taken self.new.link) }
-        ensures passes { PassesOn (K.taken self.new.link) (K.passed self.old.link) (K.passed self.new.link) }
+        ensures passes { PassesOnBelow K.taken K.passed self.old.link self.new.link }
         ensures unread { K.unread self.new.link ≡ K.unread self.old.link }
         ensures held { self.new.held ≡ self.old.held }
-        ensures counted { IsCounted (write_failed result) (K.write_faults self.old.link) (K.write_faults self.new.link) }
+        ensures counted { IsCountedBy K.write_faults (write_failed result) self.old.link self.new.link }
     {
         self.link.write(bytes)
     }
@@ -166,10 +166,10 @@ impl<K: End> Sink for BufferedLink<K> {
     fn flush(&mut self) -> bool
         ensures flushed { OnTrue result (IsPassedOn (K.taken self.new.link) (K.passed self.new.link)) }
         ensures same { K.taken self.new.link ≡ K.taken self.old.link }
-        ensures passes { PassesOn (K.taken self.new.link) (K.passed self.old.link) (K.passed self.new.link) }
+        ensures passes { PassesOnBelow K.taken K.passed self.old.link self.new.link }
         ensures unread { K.unread self.new.link ≡ K.unread self.old.link }
         ensures held { self.new.held ≡ self.old.held }
-        ensures counted { IsCounted (not result) (K.write_faults self.old.link) (K.write_faults self.new.link) }
+        ensures counted { IsCountedBy K.write_faults (not result) self.old.link self.new.link }
     {
         self.link.flush()
     }
@@ -220,7 +220,7 @@ impl<K: End> End for BufferedLink<K> {
 
 /// How many bytes these are before the newline that they end in. None where they don't end in one.
 fn length_before_newline(bytes: &[u8]) -> Option<usize>
-    ensures { IfSome result (λ n. (length bytes.now ≡ n + 1) × (bytes.now ≡ take n bytes.now ++ NEWLINE ∷ [])) }
+    ensures { IfSome result (EndsInNewline bytes.now) }
 {
     match bytes.split_last() {
         Some((&NEWLINE, line)) => Some(line.len()),

@@ -1,9 +1,8 @@
 //! A listener whose links read ahead.
 
-ghost use Rattle.std.specs.Prelude.{◌≡◌, [], ◌∷◌, None, OnOk, OnErr};
-ghost use Rattle.dio_core.specs.Counts.{IsCounted};
-ghost use Rattle.dio_core.specs.Listeners.{accept_failed};
-ghost use Rattle.dio_core.specs.Sinks.{with_more};
+ghost use Rattle.std.specs.Prelude.{◌≡◌, None, OnOk, OnErr};
+ghost use Rattle.dio_core.specs.Counts.{IsCountedBy};
+ghost use Rattle.dio_core.specs.Listeners.{GivesBack, accept_failed};
 ghost use Rattle.link_buffer.specs.Ahead.{AcceptsAhead};
 
 use crate::link::BufferedLink;
@@ -39,7 +38,7 @@ impl<N: Listener> Listener for BufferedListening<N> {
     fn accept(&mut self) -> Accepted<BufferedLink<N::Link>>
         ensures accepts { AcceptsAhead result (N.links self.old.below) (N.links self.new.below) }
         ensures same { N.given_back self.new.below ≡ N.given_back self.old.below }
-        ensures counted { IsCounted (accept_failed result) (N.accept_faults self.old.below) (N.accept_faults self.new.below) }
+        ensures counted { IsCountedBy N.accept_faults (accept_failed result) self.old.below self.new.below }
     {
         match self.below.accept() {
             Accepted::Link(link) => Accepted::Link(BufferedLink::new(link)),
@@ -50,7 +49,7 @@ impl<N: Listener> Listener for BufferedListening<N> {
 
     /// Gives the link below back. What was read ahead of it and not given is gone.
     fn give_back(&mut self, link: BufferedLink<N::Link>, status: u8) -> Result<(), AllocError>
-        ensures ok { OnOk result (N.given_back self.new.below ≡ with_more (N.given_back self.old.below) ((link.link, status) ∷ [])) }
+        ensures ok { OnOk result (GivesBack N.given_back link.link status self.old.below self.new.below) }
         ensures err { OnErr result (N.given_back self.new.below ≡ N.given_back self.old.below) }
         ensures same { N.links self.new.below ≡ N.links self.old.below }
         ensures count { N.accept_faults self.new.below ≡ N.accept_faults self.old.below }

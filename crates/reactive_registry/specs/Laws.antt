@@ -1,5 +1,5 @@
 -- The laws of registries: what each call does to what is kept of one subscriber keeps that standing for changes.
-use Rattle.std.specs.Prelude.{◌≡◌, ℕ, ◌≤◌, ◌<◌, true, List, ◌++◌, Option, Some, option_map}
+use Rattle.std.specs.Prelude.{◌≡◌, ℕ, ◌≤◌, ◌<◌, true, List, ◌++◌, Option, Some}
 use Rattle.std.specs.List.{AllByRecursion}
 use Rattle.rdt_types.specs.declared.address.Address.{Address}
 use Rattle.change_feed.specs.declared.change.Change.{Change}
@@ -10,7 +10,7 @@ use Rattle.change_feed.specs.Feeds.{Fed, AreOfTheirKinds}
 use Rattle.change_feed.specs.Tails.{IsTail}
 use Rattle.client_cache.specs.Cached.{Cached, Advances}
 use Rattle.client_cache.specs.Laws.{HoldsState}
-use Rattle.reactive_registry.specs.Registered.{Kept, Registered, kept_of, with_kept, entered, subscribed, unsubscribed, emptied, told, is_address}
+use Rattle.reactive_registry.specs.Registered.{Kept, Registered, kept_of, Keeps, DoesToAll, entered, subscribed, unsubscribed, emptied, told, is_address}
 use Rattle.reactive_registry.specs.Registered.{pending_for, pending_of}
 use Rattle.reactive_registry.specs.Standing.{KeptFor, StandsFor}
 
@@ -49,14 +49,14 @@ FollowsStand = (changes later : List Change) (front to : ℕ) (kept : Kept) → 
 abbrev pub OneStands : Type 0
 OneStands =
     (changes : List Change) (old new : Registered) (subscriber : ℕ) (kept : Option Kept) → StandsFor changes old → new.front ≡ old.front
-    → ((s : ℕ) → kept_of new s ≡ with_kept old subscriber kept s)
+    → Keeps subscriber kept old new
     → ((k : Kept) → kept ≡ Some k → KeptFor changes old.front k) → StandsFor changes new
 
 -- A registry that has followed all later changes up to its new front stands for all.
 abbrev pub AllStand : Type 0
 AllStand =
     (changes later : List Change) (old new : Registered) → StandsFor changes old → IsTail old.front new.front later
-    → ((s : ℕ) → kept_of new s ≡ option_map (told later) (kept_of old s)) → StandsFor (changes ++ later) new
+    → DoesToAll (told later) old new → StandsFor (changes ++ later) new
 
 -- A client holds the state at an address after the changes up to the number that its subscriber took last. Once it has
 -- advanced by a feed of what is pending there, it holds the state after all changes that the registry stands for.

@@ -1,4 +1,5 @@
 pub mod Registered
+pub mod Maps
 pub mod Placed
 pub mod Numbers
 pub mod Places

@@ -25,8 +25,20 @@ with_link places address subscriber stands a s =
 abbrev pub without_links : Places → ℕ → Address → ℕ → Bool
 without_links places subscriber a s = if is_at (nat_cmp subscriber) s then false else links places a s
 
+-- that is settled, and everybody else stands where it stood
+abbrev pub SettlesLink : Address → ℕ → Bool → Places → Places → Type 0
+SettlesLink address subscriber stands old new = (a : Address) (s : ℕ) → links new a s ≡ with_link old address subscriber stands a s
+
+-- everybody stands where it stood
+abbrev pub KeepsLinks : Places → Places → Type 0
+KeepsLinks old new = (a : Address) (s : ℕ) → links new a s ≡ links old a s
+
+-- no change that is kept is past a front
+abbrev pub HaveFollowed : ℕ → List (ℕ × Kept) → Type 0
+HaveFollowed front subscribers =
+    (subscriber : ℕ) (kept : Kept) → kept_in subscribers subscriber ≡ Some kept → AllByRecursion (λ change. change.number ≤ front) kept.changes
+
 -- The two directions have the same pairs, and no kept change is past the front.
 pub record AreLinked (front : ℕ) (subscribers : List (ℕ × Kept)) (places : Places) : Type 0 where
   pub both_ways : (subscriber : ℕ) (address : Address) → links places address subscriber ≡ is_in subscribers subscriber address
-  pub followed : (subscriber : ℕ) (kept : Kept) → kept_in subscribers subscriber ≡ Some kept
-      → AllByRecursion (λ change. change.number ≤ front) kept.changes
+  pub followed : HaveFollowed front subscribers

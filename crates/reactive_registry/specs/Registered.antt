@@ -13,9 +13,11 @@ use Rattle.rdt_types.specs.declared.address.Address.{Address}
 use Rattle.rdt_types.specs.declared.delta.Delta.{Delta}
 use Rattle.rdt_types.specs.declared.delta.Delta.TheVariants as delta
 use Rattle.rdt_types.specs.Addresses.{address_cmp}
+use Rattle.rdt_types.specs.DeltaMaps.{delta_at}
 use Rattle.change_feed.specs.declared.change.Change.{Change}
 use Rattle.change_feed.specs.Changes.{of_address}
 use Rattle.change_feed.specs.Pending.{pending}
+use Rattle.change_feed.specs.Feeds.{Fed}
 
 -- of a subscriber: the number up to which it has taken, its addresses, and the changes there that it hasn't taken yet
 pub record Kept : Type 0 where
@@ -77,6 +79,34 @@ abbrev pub with_subscription : Registered → ℕ → Address → Bool → ℕ �
 with_subscription registry subscriber address stands s a =
     if is_at (nat_cmp subscriber) s && is_at (address_cmp address) a then stands else is_subscribed registry s a
 
+-- ---- what a call leaves of a registry: of each subscriber, and of each pair
+
+-- what is kept of one subscriber is this now, and the others are as before
+abbrev pub Keeps : ℕ → Option Kept → Registered → Registered → Type 0
+Keeps subscriber kept old new = (s : ℕ) → kept_of new s ≡ with_kept old subscriber kept s
+
+-- something was done to what is kept of one subscriber, and the others are as before
+abbrev pub DoesTo : ℕ → (Kept → Kept) → Registered → Registered → Type 0
+DoesTo subscriber does old new = (s : ℕ) → kept_of new s ≡ kept_after old subscriber does s
+
+-- something was done to what is kept of each subscriber
+abbrev pub DoesToAll : (Kept → Kept) → Registered → Registered → Type 0
+DoesToAll does old new = (s : ℕ) → kept_of new s ≡ option_map does (kept_of old s)
+
+-- whether one subscriber is subscribed to one address is settled, and the other pairs are as before
+abbrev pub SettlesPair : ℕ → Address → Bool → Registered → Registered → Type 0
+SettlesPair subscriber address stands old new =
+    (s : ℕ) (a : Address) → is_subscribed new s a ≡ with_subscription old subscriber address stands s a
+
+-- and so of one subscriber's addresses
+abbrev pub SettlesAddress : Address → Bool → Kept → Kept → Type 0
+SettlesAddress address stands old new =
+    (a : Address) → is_address new a ≡ (if is_at (address_cmp address) a then stands else is_address old a)
+
+-- a feed brings at each address what is pending there
+abbrev pub Brings : Fed → (Address → Option Delta) → Type 0
+Brings feed pending_at = (a : Address) → delta_at feed.changes a ≡ pending_at a
+
 -- ---- what calls do to what is kept of one subscriber
 
 -- it enters at a front: no address, and all up to the front counts as taken
@@ -87,10 +117,22 @@ entered front = record { taken = front; addresses = []; changes = [] }
 abbrev pub changes_elsewhere : Address → List Change → List Change
 changes_elsewhere address changes = filter (λ change. not (is_at (address_cmp address) change.address)) changes
 
+-- the addresses with one more
+abbrev pub addresses_with : Address → List Address → List Address
+addresses_with address addresses = insert_key address_cmp addresses address
+
+-- the changes with those of some that are at an address, behind them
+abbrev pub with_missed : Address → List Change → List Change → List Change
+with_missed address missed changes = changes ++ of_address address missed
+
+-- a list of changes has gained those
+abbrev pub Gains : Address → List Change → List Change → List Change → Type 0
+Gains address missed old new = new ≡ with_missed address missed old
+
 -- it has one address more, of which it missed changes: they are to be taken with the others
 abbrev pub with_address : Address → List Change → Kept → Kept
 with_address address missed kept =
-    record kept { addresses = insert_key address_cmp kept.addresses address; changes = kept.changes ++ of_address address missed }
+    record kept { addresses = addresses_with address kept.addresses; changes = with_missed address missed kept.changes }
 
 -- it subscribes to an address, of which it missed changes. Where it is subscribed, nothing changes
 abbrev pub subscribed : Address → List Change → Kept → Kept

@@ -1,7 +1,7 @@
 //! A map's calls, with what they leave at each key.
 
-ghost use Rattle.std.specs.Prelude.{◌≡◌, Some, None, if◌then◌else◌, OnOk, OnErr};
-ghost use Rattle.std.specs.BTreeMap.{get, is_at};
+ghost use Rattle.std.specs.Prelude.{◌≡◌, OnOk, OnErr};
+ghost use Rattle.reactive_registry.specs.Maps.{IsPut};
 
 use std::alloc::AllocError;
 use std::collections::BTreeMap;
@@ -12,7 +12,7 @@ pub(crate) fn put<K: Ord + Drop, V: Drop>(
     key: K,
     value: V,
 ) -> Result<(), AllocError>
-    ensures ok { OnOk result ((q : K) → get K.cmp map.new q ≡ (if is_at (K.cmp key) q then Some value else get K.cmp map.old q)) }
+    ensures ok { OnOk result (IsPut K.cmp key value map.old map.new) }
     ensures err { OnErr result (map.new.entries ≡ map.old.entries) }
 {
     map.insert(key, value)?;

@@ -1,14 +1,15 @@
 //! The subscribers of each address.
 
-ghost use Rattle.std.specs.Prelude.{◌≡◌, ℕ, true, false, Some, None, IfOk, OnOk, OnErr, if◌then◌else◌, is_some, nat_eq, length, ◌==◌};
+ghost use Rattle.std.specs.Prelude.{◌≡◌, ℕ, true, false, Some, IfOk, OnOk, OnErr, is_some, length, ◌==◌};
 ghost use Rattle.edge_slab.specs.Edges.{subscribers_at};
 ghost use Rattle.std.specs.Option.{option_copied};
-ghost use Rattle.std.specs.BTreeMap.{is_at};
 ghost use Rattle.slab.specs.Slab.{get};
 ghost use Rattle.rdt_types.specs.declared.address.Address.{Address};
 ghost use Rattle.rdt_types.specs.Addresses.{address_cmp};
 ghost use Rattle.reactive_registry.specs.Placed.{number_in};
-ghost use Rattle.reactive_registry.specs.Places.{links, with_link, without_links};
+ghost use Rattle.reactive_registry.specs.Maps.{IsPut};
+ghost use Rattle.reactive_registry.specs.Numbers.{SettlesNumber};
+ghost use Rattle.reactive_registry.specs.Places.{links, without_links, SettlesLink, KeepsLinks};
 
 use edge_slab::EdgeSlab;
 use plain_data::copied;
@@ -45,7 +46,7 @@ impl Model for Places {
 /// Gives a number out that isn't given.
 fn give(given: &mut Slab<()>) -> Result<u32, AllocError>
     ensures fresh { IfOk result (λ n. is_some (get given.old n) ≡ false) }
-    ensures ok { IfOk result (λ n. (k : ℕ) → is_some (get given.new k) ≡ (if nat_eq n k then true else is_some (get given.old k))) }
+    ensures ok { IfOk result (λ n. SettlesNumber n true given.old given.new) }
     ensures err { OnErr result ((k : ℕ) → is_some (get given.new k) ≡ is_some (get given.old k)) }
 {
     let key = given.insert(())?;
@@ -60,7 +61,7 @@ fn give(given: &mut Slab<()>) -> Result<u32, AllocError>
 
 /// Takes a number back.
 fn take_back(given: &mut Slab<()>, number: u32)
-    ensures { (k : ℕ) → is_some (get given.new k) ≡ (if nat_eq number k then false else is_some (get given.old k)) }
+    ensures { SettlesNumber number false given.old given.new }
 {
     given.try_remove(number as usize);
 }
@@ -71,8 +72,7 @@ fn put(
     address: &Address,
     number: u32,
 ) -> Result<(), AllocError>
-    ensures ok { OnOk result ((a : Address) → number_in numbers.new.entries a
-        ≡ (if is_at (address_cmp address.now) a then Some number else number_in numbers.old.entries a)) }
+    ensures ok { OnOk result (IsPut address_cmp address.now number numbers.old numbers.new) }
     ensures err { OnErr result (numbers.new.entries ≡ numbers.old.entries) }
 {
     let key = copied(address)?;
@@ -87,9 +87,8 @@ fn new_number(
     address: &Address,
 ) -> Result<u32, AllocError>
     ensures fresh { IfOk result (λ n. is_some (get given.old n) ≡ false) }
-    ensures numbers { IfOk result (λ n. (a : Address) → number_in numbers.new.entries a
-        ≡ (if is_at (address_cmp address.now) a then Some n else number_in numbers.old.entries a)) }
-    ensures given { IfOk result (λ n. (k : ℕ) → is_some (get given.new k) ≡ (if nat_eq n k then true else is_some (get given.old k))) }
+    ensures numbers { IfOk result (λ n. IsPut address_cmp address.now n numbers.old numbers.new) }
+    ensures given { IfOk result (λ n. SettlesNumber n true given.old given.new) }
     ensures as_numbered { OnErr result (numbers.new.entries ≡ numbers.old.entries) }
     ensures as_given { OnErr result ((k : ℕ) → is_some (get given.new k) ≡ is_some (get given.old k)) }
 {
@@ -141,7 +140,7 @@ impl Places {
     /// The number of an address, which gets one if it has none. Nobody stands elsewhere than before.
     fn number_for(&mut self, address: &Address) -> Result<u32, AllocError>
         ensures number { IfOk result (λ n. number_in self.new.numbers address.now ≡ Some n) }
-        ensures same { (a : Address) (s : ℕ) → links self.new a s ≡ links self.old a s }
+        ensures same { KeepsLinks self.old self.new }
     {
         match self.number(address) {
             Some(number) => Ok(number),
@@ -151,8 +150,8 @@ impl Places {
 
     /// Puts a subscriber at an address.
     pub fn link(&mut self, address: &Address, subscriber: u32) -> Result<(), AllocError>
-        ensures ok { OnOk result ((a : Address) (s : ℕ) → links self.new a s ≡ with_link self.old address.now subscriber true a s) }
-        ensures err { OnErr result ((a : Address) (s : ℕ) → links self.new a s ≡ links self.old a s) }
+        ensures ok { OnOk result (SettlesLink address.now subscriber true self.old self.new) }
+        ensures err { OnErr result (KeepsLinks self.old self.new) }
     {
         let number = self.number_for(address)?;
         match self.edges.link(subscriber, number) {
@@ -166,7 +165,7 @@ impl Places {
 
     /// Takes a subscriber from an address. It is never refused for want of memory.
     pub fn unlink(&mut self, address: &Address, subscriber: u32)
-        ensures { (a : Address) (s : ℕ) → links self.new a s ≡ with_link self.old address.now subscriber false a s }
+        ensures { SettlesLink address.now subscriber false self.old self.new }
     {
         if let Some(number) = self.number(address) {
             self.edges.unlink(subscriber, number);
@@ -187,7 +186,7 @@ impl Places {
 
     /// Gives an address's number back, if nobody is linked to it.
     fn give_back(&mut self, address: &Address)
-        ensures { (a : Address) (s : ℕ) → links self.new a s ≡ links self.old a s }
+        ensures { KeepsLinks self.old self.new }
     {
         let Some(number) = self.number(address) else {
             return;

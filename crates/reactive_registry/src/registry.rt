@@ -1,14 +1,9 @@
 //! Who is subscribed to what, and what is pending for whom.
 
-ghost use Rattle.std.specs.Prelude.{◌≡◌, ℕ, ◌&&◌, true, false, Some, None, IsSome, if◌then◌else◌, option_map, IfOk, OnOk, OnErr};
-ghost use Rattle.std.specs.Ordering.{nat_cmp};
-ghost use Rattle.std.specs.BTreeMap.{is_at};
-ghost use Rattle.rdt_types.specs.declared.address.Address.{Address};
-ghost use Rattle.rdt_types.specs.Addresses.{address_cmp};
-ghost use Rattle.rdt_types.specs.DeltaMaps.{delta_at};
+ghost use Rattle.std.specs.Prelude.{◌≡◌, ℕ, true, false, Some, None, IsSome, option_map, IfOk, OnOk, OnErr};
 ghost use Rattle.reactive_registry.specs.Registered as spec;
-ghost use Rattle.reactive_registry.specs.Registered.{is_address, kept_of, kept_after, with_kept, is_subscribed, with_subscription, pending_of};
-ghost use Rattle.reactive_registry.specs.Places.{links, with_link};
+ghost use Rattle.reactive_registry.specs.Registered.{is_address, kept_of, is_subscribed, pending_of, subscribed, Brings, Keeps, DoesTo, DoesToAll, SettlesPair};
+ghost use Rattle.reactive_registry.specs.Places.{links, SettlesLink, KeepsLinks};
 
 use crate::maps::put;
 use crate::places::Places;
@@ -53,10 +48,10 @@ fn subscribe_pair(
 ) -> Result<(), AllocError>
     requires { links places.old address.now subscriber ≡ is_address kept.old address.now }
     ensures kept { OnOk result (kept.new ≡ spec.subscribed address.now missed.now kept.old) }
-    ensures has { OnOk result ((a : Address) → is_address kept.new a ≡ (if is_at (address_cmp address.now) a then true else is_address kept.old a)) }
-    ensures places { OnOk result ((a : Address) (s : ℕ) → links places.new a s ≡ with_link places.old address.now subscriber true a s) }
+    ensures has { OnOk result (spec.SettlesAddress address.now true kept.old kept.new) }
+    ensures places { OnOk result (SettlesLink address.now subscriber true places.old places.new) }
     ensures as_kept { OnErr result (kept.new ≡ kept.old) }
-    ensures as_placed { OnErr result ((a : Address) (s : ℕ) → links places.new a s ≡ links places.old a s) }
+    ensures as_placed { OnErr result (KeepsLinks places.old places.new) }
 {
     if kept.has(address) {
         return Ok(());
@@ -114,7 +109,7 @@ impl Registry {
         requires { kept_of self.old subscriber ≡ None }
         ensures answer { IfOk result (λ n. n ≡ self.old.front) }
         ensures front { self.new.front ≡ self.old.front }
-        ensures ok { OnOk result ((s : ℕ) → kept_of self.new s ≡ with_kept self.old subscriber (Some (spec.entered self.old.front)) s) }
+        ensures ok { OnOk result (Keeps subscriber (Some (spec.entered self.old.front)) self.old self.new) }
         ensures err { OnErr result (self.new ≡ self.old) }
     {
         let kept = Subscriber::new(self.alloc, self.front);
@@ -125,7 +120,7 @@ impl Registry {
     /// Lets a subscriber go, with all that was kept of it. It is never refused for want of memory.
     pub fn leave(&mut self, subscriber: u32)
         ensures front { self.new.front ≡ self.old.front }
-        ensures gone { (s : ℕ) → kept_of self.new s ≡ with_kept self.old subscriber None s }
+        ensures gone { Keeps subscriber None self.old self.new }
     {
         if let Some(gone) = self.subscribers.remove(&subscriber) {
             self.places.drop_subscriber(gone.addresses(), subscriber);
@@ -143,10 +138,9 @@ impl Registry {
         requires entered { IsSome (kept_of self.old subscriber) }
         requires missed { missed.now.to ≡ self.old.front }
         ensures front { self.new.front ≡ self.old.front }
-        ensures ok { OnOk result ((s : ℕ) → kept_of self.new s
-            ≡ kept_after self.old subscriber (spec.subscribed address.now missed.now.changes) s) }
-        ensures told { OnOk result ((s : ℕ) (a : Address) → is_subscribed self.new s a
-            ≡ with_subscription self.old subscriber address.now true s a) }
+        ensures ok { OnOk result (DoesTo subscriber
+            (subscribed address.now missed.now.changes) self.old self.new) }
+        ensures told { OnOk result (SettlesPair subscriber address.now true self.old self.new) }
         ensures err { OnErr result ((s : ℕ) → kept_of self.new s ≡ kept_of self.old s) }
     {
         match self.subscribers.get_mut(&subscriber) {
@@ -165,9 +159,9 @@ impl Registry {
     /// memory.
     pub fn unsubscribe(&mut self, subscriber: u32, address: &Address) -> bool
         ensures answer { result ≡ is_subscribed self.old subscriber address.now }
-        ensures told { (s : ℕ) (a : Address) → is_subscribed self.new s a ≡ with_subscription self.old subscriber address.now false s a }
+        ensures told { SettlesPair subscriber address.now false self.old self.new }
         ensures front { self.new.front ≡ self.old.front }
-        ensures gone { (s : ℕ) → kept_of self.new s ≡ kept_after self.old subscriber (spec.unsubscribed address.now) s }
+        ensures gone { DoesTo subscriber (spec.unsubscribed address.now) self.old self.new }
     {
         match self.subscribers.get_mut(&subscriber) {
             None => false,
@@ -185,7 +179,7 @@ impl Registry {
     pub fn follow(&mut self, tail: &Tail) -> Result<(), AllocError>
         requires { tail.now.from ≡ self.old.front }
         ensures front { OnOk result (self.new.front ≡ tail.now.to) }
-        ensures ok { OnOk result ((s : ℕ) → kept_of self.new s ≡ option_map (spec.told tail.now.changes) (kept_of self.old s)) }
+        ensures ok { OnOk result (DoesToAll (spec.told tail.now.changes) self.old self.new) }
         ensures as_before { OnErr result (self.new.front ≡ self.old.front) }
         ensures err { OnErr result ((s : ℕ) → kept_of self.new s ≡ kept_of self.old s) }
     {
@@ -203,9 +197,9 @@ impl Registry {
     pub fn take(&mut self, subscriber: u32) -> Result<Feed, AllocError>
         requires { IsSome (kept_of self.old subscriber) }
         ensures to { IfOk result (λ feed. feed.to ≡ self.old.front) }
-        ensures pending { IfOk result (λ feed. (a : Address) → delta_at feed.changes a ≡ pending_of self.old subscriber a) }
+        ensures pending { IfOk result (λ feed. Brings feed (pending_of self.old subscriber)) }
         ensures front { self.new.front ≡ self.old.front }
-        ensures ok { OnOk result ((s : ℕ) → kept_of self.new s ≡ kept_after self.old subscriber (spec.emptied self.old.front) s) }
+        ensures ok { OnOk result (DoesTo subscriber (spec.emptied self.old.front) self.old self.new) }
         ensures err { OnErr result ((s : ℕ) → kept_of self.new s ≡ kept_of self.old s) }
     {
         let Some(kept) = self.subscribers.get_mut(&subscriber) else {

@@ -1,14 +1,14 @@
 //! What is kept of one subscriber.
 
-ghost use Rattle.std.specs.Prelude.{◌≡◌, ◌++◌, ◌∷◌, [], not, nat_le, filter, take, length, true, false, if◌then◌else◌, IfOk, OnOk, OnErr};
+ghost use Rattle.std.specs.Prelude.{◌≡◌, nat_le, filter, take, length, true, false, if◌then◌else◌, IfOk, OnOk, OnErr};
 ghost use Rattle.std.specs.BTreeMap.{is_at};
-ghost use Rattle.std.specs.BTreeSet.{insert_key, contains};
+ghost use Rattle.std.specs.BTreeSet.{contains};
 ghost use Rattle.rdt_types.specs.declared.address.Address.{Address};
 ghost use Rattle.rdt_types.specs.Addresses.{address_cmp};
-ghost use Rattle.rdt_types.specs.DeltaMaps.{delta_at};
-ghost use Rattle.change_feed.specs.Changes.{of_address};
 ghost use Rattle.change_feed.specs.Pending.{pending};
-ghost use Rattle.reactive_registry.specs.Registered.{is_address, pending_for, entered, emptied, with_address, unsubscribed, changes_elsewhere};
+ghost use Rattle.reactive_registry.specs.Registered.{is_address, pending_for, entered, emptied, with_address, unsubscribed, changes_elsewhere, addresses_with};
+ghost use Rattle.reactive_registry.specs.Registered.{Brings, Gains, SettlesAddress};
+ghost use Rattle.reactive_registry.specs.code.Telling.{pushed, cut};
 
 use change_feed::{Change, ChangeList, Feed};
 use plain_data::copied;
@@ -43,7 +43,7 @@ fn push_at(
     address: &Address,
     missed: &[Change],
 ) -> Result<(), AllocError>
-    ensures ok { OnOk result (changes.new.items ≡ changes.old.items ++ of_address address.now missed.now) }
+    ensures ok { OnOk result (Gains address.now missed.now changes.old.items changes.new.items) }
     ensures begun { take (length changes.old.items) changes.new.items ≡ changes.old.items }
 {
     for change in missed {
@@ -60,7 +60,7 @@ fn push_missed(
     address: &Address,
     missed: &ChangeList,
 ) -> Result<(), AllocError>
-    ensures ok { OnOk result (changes.new.items ≡ changes.old.items ++ of_address address.now missed.now) }
+    ensures ok { OnOk result (Gains address.now missed.now changes.old.items changes.new.items) }
     ensures begun { take (length changes.old.items) changes.new.items ≡ changes.old.items }
 {
     let mut rest = missed.lend();
@@ -87,7 +87,7 @@ fn drop_past(changes: &mut Vec<Change>, front: u64)
 /// A feed up to a number of changes.
 fn feed_of(alloc: Global, to: u64, changes: &[Change]) -> Result<Feed, AllocError>
     ensures to { IfOk result (λ feed. feed.to ≡ to) }
-    ensures pending { IfOk result (λ feed. (a : Address) → delta_at feed.changes a ≡ pending a changes.now) }
+    ensures pending { IfOk result (λ feed. Brings feed (λ a. pending a changes.now)) }
 {
     let mut feed = Feed::new(alloc, to);
     for change in changes {
@@ -131,7 +131,7 @@ impl Subscriber {
 
     /// Keeps a change.
     pub fn push(&mut self, change: &Change) -> Result<(), AllocError>
-        ensures ok { OnOk result (self.new ≡ record self.old { changes = self.old.changes ++ change.now ∷ [] }) }
+        ensures ok { OnOk result (self.new ≡ pushed change.now self.old) }
         ensures err { OnErr result (self.new ≡ self.old) }
     {
         self.changes.push(copied(change)?)?;
@@ -140,14 +140,14 @@ impl Subscriber {
 
     /// Forgets the changes past a number. It is never refused for want of memory.
     pub fn cut(&mut self, front: u64)
-        ensures { self.new ≡ record self.old { changes = filter (λ change. nat_le change.number front) self.old.changes } }
+        ensures { self.new ≡ cut front self.old }
     {
         drop_past(&mut self.changes, front);
     }
 
     /// Adds an address, and the changes there that were missed.
     pub fn subscribe(&mut self, address: &Address, missed: &ChangeList) -> Result<(), AllocError>
-        ensures has { OnOk result ((a : Address) → is_address self.new a ≡ (if is_at (address_cmp address.now) a then true else is_address self.old a)) }
+        ensures has { OnOk result (SettlesAddress address.now true self.old self.new) }
         ensures ok { OnOk result (self.new ≡ with_address address.now missed.now self.old) }
         ensures err { OnErr result (self.new ≡ self.old) }
     {
@@ -161,7 +161,7 @@ impl Subscriber {
 
     /// Takes an address out, and what was kept of it. It is never refused for want of memory.
     pub fn unsubscribe(&mut self, address: &Address)
-        ensures has { (a : Address) → is_address self.new a ≡ (if is_at (address_cmp address.now) a then false else is_address self.old a) }
+        ensures has { SettlesAddress address.now false self.old self.new }
         ensures kept { self.new ≡ unsubscribed address.now self.old }
     {
         self.addresses.remove(address);
@@ -171,7 +171,7 @@ impl Subscriber {
     /// A feed up to a number of what it hasn't taken.
     pub fn feed(&self, alloc: Global, to: u64) -> Result<Feed, AllocError>
         ensures to { IfOk result (λ feed. feed.to ≡ to) }
-        ensures pending { IfOk result (λ feed. (a : Address) → delta_at feed.changes a ≡ pending_for self.now a) }
+        ensures pending { IfOk result (λ feed. Brings feed (pending_for self.now)) }
     {
         feed_of(alloc, to, self.changes.as_slice())
     }
@@ -194,8 +194,8 @@ fn add_address(
 ) -> Result<(), AllocError>
     ensures has { OnOk result ((a : Address) → contains address_cmp addresses.new a
         ≡ (if is_at (address_cmp address.now) a then true else contains address_cmp addresses.old a)) }
-    ensures added { OnOk result (addresses.new.keys ≡ insert_key address_cmp addresses.old.keys address.now) }
-    ensures grown { OnOk result (changes.new.items ≡ changes.old.items ++ of_address address.now missed.now) }
+    ensures added { OnOk result (addresses.new.keys ≡ addresses_with address.now addresses.old.keys) }
+    ensures grown { OnOk result (Gains address.now missed.now changes.old.items changes.new.items) }
     ensures err { OnErr result (addresses.new.keys ≡ addresses.old.keys) }
     ensures begun { take (length changes.old.items) changes.new.items ≡ changes.old.items }
 {

@@ -1,12 +1,12 @@
 //! The walk over changes and the subscribers of their addresses.
 
-ghost use Rattle.std.specs.Prelude.{◌≡◌, ℕ, ◌<◌, false, Some, OnOk, OnErr};
+ghost use Rattle.std.specs.Prelude.{◌≡◌, ℕ, OnOk, OnErr};
 ghost use Rattle.std.specs.Ordering.{nat_cmp};
 ghost use Rattle.std.specs.BTreeMap.{is_at};
 ghost use Rattle.edge_slab.specs.Edges.{is_linked as has_edge};
-ghost use Rattle.reactive_registry.specs.Registered.{Kept, kept_in};
-ghost use Rattle.reactive_registry.specs.Places.{links};
-ghost use Rattle.reactive_registry.specs.code.Telling.{cut, done_where, told_where, told_along, cut_along, is_linked, SameUpTo, ArePast, IsUpTo};
+ghost use Rattle.reactive_registry.specs.Registered.{kept_in};
+ghost use Rattle.reactive_registry.specs.Places.{links, HaveFollowed};
+ghost use Rattle.reactive_registry.specs.code.Telling.{told_where, ArePast, AllSame, SameBut, SameElsewhere, SameBefore, SameBeforeAll, CutWhere, AreTold, AreCut};
 
 use crate::places::Places;
 use crate::subscriber::Subscriber;
@@ -23,7 +23,7 @@ fn tell_one(
 ) -> Result<(), AllocError>
     ensures ok { OnOk result ((q : ℕ) → kept_in subscribers.new.entries q
         ≡ told_where (is_at (nat_cmp subscriber) q) change.now (kept_in subscribers.old.entries q)) }
-    ensures err { OnErr result ((q : ℕ) → kept_in subscribers.new.entries q ≡ kept_in subscribers.old.entries q) }
+    ensures err { OnErr result (AllSame subscribers.old subscribers.new) }
 {
     match subscribers.get_mut(&subscriber) {
         Some(kept) => kept.push(change),
@@ -33,7 +33,7 @@ fn tell_one(
 
 /// Forgets the changes past a front that one subscriber was told.
 fn cut_one(subscribers: &mut BTreeMap<u32, Subscriber>, subscriber: u32, front: u64)
-    ensures { (q : ℕ) → kept_in subscribers.new.entries q ≡ done_where (is_at (nat_cmp subscriber) q) (cut front) (kept_in subscribers.old.entries q) }
+    ensures { CutWhere (is_at (nat_cmp subscriber)) front subscribers.old subscribers.new }
 {
     if let Some(kept) = subscribers.get_mut(&subscriber) {
         kept.cut(front);
@@ -49,8 +49,8 @@ fn tell_number(
 ) -> Result<(), AllocError>
     ensures ok { OnOk result ((q : ℕ) → kept_in subscribers.new.entries q
         ≡ told_where (has_edge edges.now q number) change.now (kept_in subscribers.old.entries q)) }
-    ensures behind { (front : ℕ) → front < change.now.number → SameUpTo front subscribers.old.entries subscribers.new.entries }
-    ensures elsewhere { (q : ℕ) → has_edge edges.now q number ≡ false → kept_in subscribers.new.entries q ≡ kept_in subscribers.old.entries q }
+    ensures behind { SameBefore change.now subscribers.old subscribers.new }
+    ensures elsewhere { SameBut (λ q. has_edge edges.now q number) subscribers.old subscribers.new }
 {
     for subscriber in edges.walk_address(number) {
         tell_one(subscribers, subscriber, change)?;
@@ -65,7 +65,7 @@ fn cut_number(
     number: u32,
     front: u64,
 )
-    ensures { (q : ℕ) → kept_in subscribers.new.entries q ≡ done_where (has_edge edges.now q number) (cut front) (kept_in subscribers.old.entries q) }
+    ensures { CutWhere (λ q. has_edge edges.now q number) front subscribers.old subscribers.new }
 {
     for subscriber in edges.walk_address(number) {
         cut_one(subscribers, subscriber, front);
@@ -80,8 +80,8 @@ fn tell_linked(
 ) -> Result<(), AllocError>
     ensures ok { OnOk result ((q : ℕ) → kept_in subscribers.new.entries q
         ≡ told_where (links places.now change.now.address q) change.now (kept_in subscribers.old.entries q)) }
-    ensures behind { (front : ℕ) → front < change.now.number → SameUpTo front subscribers.old.entries subscribers.new.entries }
-    ensures elsewhere { (q : ℕ) → links places.now change.now.address q ≡ false → kept_in subscribers.new.entries q ≡ kept_in subscribers.old.entries q }
+    ensures behind { SameBefore change.now subscribers.old subscribers.new }
+    ensures elsewhere { SameBut (links places.now change.now.address) subscribers.old subscribers.new }
 {
     match places.number(&change.address) {
         Some(number) => tell_number(subscribers, places.edges(), number, change),
@@ -96,7 +96,7 @@ fn cut_linked(
     change: &Change,
     front: u64,
 )
-    ensures { (q : ℕ) → kept_in subscribers.new.entries q ≡ done_where (links places.now change.now.address q) (cut front) (kept_in subscribers.old.entries q) }
+    ensures { CutWhere (links places.now change.now.address) front subscribers.old subscribers.new }
 {
     if let Some(number) = places.number(&change.address) {
         cut_number(subscribers, places.edges(), number, front);
@@ -109,9 +109,9 @@ fn tell_piece(
     places: &Places,
     piece: &[Change],
 ) -> Result<(), AllocError>
-    ensures ok { OnOk result ((q : ℕ) → kept_in subscribers.new.entries q ≡ told_along places.now q piece.now (kept_in subscribers.old.entries q)) }
-    ensures behind { (front : ℕ) → ArePast front piece.now → SameUpTo front subscribers.old.entries subscribers.new.entries }
-    ensures elsewhere { (q : ℕ) → is_linked places.now q piece.now ≡ false → kept_in subscribers.new.entries q ≡ kept_in subscribers.old.entries q }
+    ensures ok { OnOk result (AreTold places.now piece.now subscribers.old subscribers.new) }
+    ensures behind { SameBeforeAll piece.now subscribers.old subscribers.new }
+    ensures elsewhere { SameElsewhere places.now piece.now subscribers.old subscribers.new }
 {
     for change in piece {
         tell_linked(subscribers, places, change)?;
@@ -126,7 +126,7 @@ fn cut_piece(
     piece: &[Change],
     front: u64,
 )
-    ensures { (q : ℕ) → kept_in subscribers.new.entries q ≡ cut_along places.now q front piece.now (kept_in subscribers.old.entries q) }
+    ensures { AreCut places.now front piece.now subscribers.old subscribers.new }
 {
     for change in piece {
         cut_linked(subscribers, places, change, front);
@@ -139,9 +139,9 @@ fn tell_all(
     places: &Places,
     changes: &ChangeList,
 ) -> Result<(), AllocError>
-    ensures ok { OnOk result ((q : ℕ) → kept_in subscribers.new.entries q ≡ told_along places.now q changes.now (kept_in subscribers.old.entries q)) }
-    ensures behind { (front : ℕ) → ArePast front changes.now → SameUpTo front subscribers.old.entries subscribers.new.entries }
-    ensures elsewhere { (q : ℕ) → is_linked places.now q changes.now ≡ false → kept_in subscribers.new.entries q ≡ kept_in subscribers.old.entries q }
+    ensures ok { OnOk result (AreTold places.now changes.now subscribers.old subscribers.new) }
+    ensures behind { SameBeforeAll changes.now subscribers.old subscribers.new }
+    ensures elsewhere { SameElsewhere places.now changes.now subscribers.old subscribers.new }
 {
     let mut rest = changes.lend();
     while let Some(piece) = rest.next_piece() {
@@ -157,7 +157,7 @@ fn cut_all(
     changes: &ChangeList,
     front: u64,
 )
-    ensures { (q : ℕ) → kept_in subscribers.new.entries q ≡ cut_along places.now q front changes.now (kept_in subscribers.old.entries q) }
+    ensures { AreCut places.now front changes.now subscribers.old subscribers.new }
 {
     let mut rest = changes.lend();
     while let Some(piece) = rest.next_piece() {
@@ -173,9 +173,9 @@ pub(crate) fn tell_or_undo(
     front: u64,
 ) -> Result<(), AllocError>
     requires past { ArePast front changes.now }
-    requires followed { (q : ℕ) (kept : Kept) → kept_in subscribers.old.entries q ≡ Some kept → IsUpTo front kept.changes }
-    ensures ok { OnOk result ((q : ℕ) → kept_in subscribers.new.entries q ≡ told_along places.now q changes.now (kept_in subscribers.old.entries q)) }
-    ensures err { OnErr result ((q : ℕ) → kept_in subscribers.new.entries q ≡ kept_in subscribers.old.entries q) }
+    requires followed { HaveFollowed front subscribers.old.entries }
+    ensures ok { OnOk result (AreTold places.now changes.now subscribers.old subscribers.new) }
+    ensures err { OnErr result (AllSame subscribers.old subscribers.new) }
 {
     let told = tell_all(subscribers, places, changes);
     if told.is_err() {

@@ -1,17 +1,18 @@
 //! What a read answers of a value over which a delta may lie. It looks at the marks first, and copies what it answers.
 
-ghost use Rattle.std.specs.Prelude.{◌≡◌, ◌++◌, [], slice_get, Some, None, Ok, Err, IfOk, MatchResult};
+ghost use Rattle.std.specs.Prelude.{◌≡◌, ◌++◌, [], slice_get, Some, None, Ok, Err, IfOk, IfErr};
 ghost use Rattle.std.specs.Option as option;
 ghost use Rattle.std.specs.Option.{option_copied};
 ghost use Rattle.std.specs.FinMap as fin;
 ghost use Rattle.plain_data.specs.Texts.{has_text};
 ghost use Rattle.rdt_types.specs.Values as values;
+ghost use Rattle.rdt_types.specs.Values.{set_in, hash_in, list_in};
 ghost use Rattle.rdt_types.specs.Listed as listed;
-ghost use Rattle.rdt_types.specs.Keyed as keyed;
-ghost use Rattle.rdt_types.specs.Marks as marks;
-ghost use Rattle.conflict_table.specs.Composed as composed;
+ghost use Rattle.rdt_types.specs.Keyed.{applied};
+ghost use Rattle.rdt_types.specs.Marks.{added, put_by};
 ghost use Rattle.conflict_table.specs.Reads as reads;
 ghost use Rattle.write_buffer.specs.code.Kept.{kept_from};
+ghost use Rattle.write_buffer.specs.code.Left.{left_over};
 
 use crate::keys::{key_set, keys_of, keys_over};
 use conflict_table::{ReadOp, counter_in, has_element, peak_in};
@@ -34,7 +35,7 @@ fn whole(alloc: Global, value: &Value) -> Result<Item, AllocError>
 
 /// What a `get` answers.
 fn get(alloc: Global, own: Option<&Delta>, value: &Value) -> Result<Item, AllocError>
-    ensures { IfOk result (λ i. i ≡ reads.whole (composed.left_by (option_copied own.entry) value.now)) }
+    ensures { IfOk result (λ i. i ≡ reads.whole (left_over own.entry value.now)) }
 {
     Ok(match own {
         None => whole(alloc, value)?,
@@ -49,7 +50,7 @@ fn get(alloc: Global, own: Option<&Delta>, value: &Value) -> Result<Item, AllocE
 
 /// Whether an element is in a set over which a delta lies.
 fn has_over(d: &SetDelta, element: &Text, value: &Value) -> bool
-    ensures { result ≡ has_text (keyed.applied marks.added d.now (values.set_in value.now)) element.now }
+    ensures { result ≡ has_text (applied added d.now (set_in value.now)) element.now }
 {
     match d.marks().get(element) {
         Some(added) => *added,
@@ -65,7 +66,7 @@ fn has_over(d: &SetDelta, element: &Text, value: &Value) -> bool
 
 /// Whether an element is there.
 fn set_has(own: Option<&Delta>, element: &Text, value: &Value) -> bool
-    ensures { result ≡ has_text (values.set_in (composed.left_by (option_copied own.entry) value.now)) element.now }
+    ensures { result ≡ has_text (set_in (left_over own.entry value.now)) element.now }
 {
     match own {
         None => has_element(value, element),
@@ -78,7 +79,7 @@ fn set_has(own: Option<&Delta>, element: &Text, value: &Value) -> bool
 
 /// The text at a field of a hash, lent.
 fn field_in<'a>(value: &'a Value, field: &Text) -> Option<&'a Text>
-    ensures { option_copied result ≡ fin.get (values.hash_in value.now) field.now }
+    ensures { option_copied result ≡ fin.get (hash_in value.now) field.now }
 {
     match value {
         Value::Hash(hash) => hash.get(field),
@@ -88,7 +89,7 @@ fn field_in<'a>(value: &'a Value, field: &Text) -> Option<&'a Text>
 
 /// The text at a field of a hash over which a delta lies, lent.
 fn field_over<'a>(d: &'a HashDelta, field: &Text, value: &'a Value) -> Option<&'a Text>
-    ensures { option_copied result ≡ fin.get (keyed.applied marks.put_by d.now (values.hash_in value.now)) field.now }
+    ensures { option_copied result ≡ fin.get (applied put_by d.now (hash_in value.now)) field.now }
 {
     match d.marks().get(field) {
         Some(Mark::Put(text)) => Some(text),
@@ -105,7 +106,7 @@ fn field_over<'a>(d: &'a HashDelta, field: &Text, value: &'a Value) -> Option<&'
 
 /// The text at a field, lent.
 fn hash_at<'a>(own: Option<&'a Delta>, field: &Text, value: &'a Value) -> Option<&'a Text>
-    ensures { option_copied result ≡ fin.get (values.hash_in (composed.left_by (option_copied own.entry) value.now)) field.now }
+    ensures { option_copied result ≡ fin.get (hash_in (left_over own.entry value.now)) field.now }
 {
     match own {
         None => field_in(value, field),
@@ -128,7 +129,7 @@ fn text_or_empty(alloc: Global, text: Option<&Text>) -> Result<Text, AllocError>
 
 /// The elements of a set.
 fn elements(alloc: Global, value: &Value) -> Result<TextList, AllocError>
-    ensures { IfOk result (λ xs. xs ≡ fin.keys (values.set_in value.now)) }
+    ensures { IfOk result (λ xs. xs ≡ fin.keys (set_in value.now)) }
 {
     match value {
         Value::Set(set) => keys_of(alloc, set),
@@ -138,7 +139,7 @@ fn elements(alloc: Global, value: &Value) -> Result<TextList, AllocError>
 
 /// The elements of a set after a delta.
 fn set_over(alloc: Global, d: &SetDelta, value: &Value) -> Result<TextList, AllocError>
-    ensures { IfOk result (λ xs. xs ≡ fin.keys (keyed.applied marks.added d.now (values.set_in value.now))) }
+    ensures { IfOk result (λ xs. xs ≡ fin.keys (applied added d.now (set_in value.now))) }
 {
     match value {
         Value::Set(set) => keys_over(alloc, d, set),
@@ -148,7 +149,7 @@ fn set_over(alloc: Global, d: &SetDelta, value: &Value) -> Result<TextList, Allo
 
 /// The elements of a set over which the own delta lies.
 fn set_all(alloc: Global, own: Option<&Delta>, value: &Value) -> Result<TextList, AllocError>
-    ensures { IfOk result (λ xs. xs ≡ fin.keys (values.set_in (composed.left_by (option_copied own.entry) value.now))) }
+    ensures { IfOk result (λ xs. xs ≡ fin.keys (set_in (left_over own.entry value.now))) }
 {
     match own {
         None => elements(alloc, value),
@@ -161,7 +162,7 @@ fn set_all(alloc: Global, own: Option<&Delta>, value: &Value) -> Result<TextList
 
 /// The fields of a hash.
 fn fields(alloc: Global, value: &Value) -> Result<TextList, AllocError>
-    ensures { IfOk result (λ xs. xs ≡ fin.keys (values.hash_in value.now)) }
+    ensures { IfOk result (λ xs. xs ≡ fin.keys (hash_in value.now)) }
 {
     match value {
         Value::Hash(hash) => keys_of(alloc, hash),
@@ -171,7 +172,7 @@ fn fields(alloc: Global, value: &Value) -> Result<TextList, AllocError>
 
 /// The fields of a hash after a delta.
 fn hash_over(alloc: Global, d: &HashDelta, value: &Value) -> Result<TextList, AllocError>
-    ensures { IfOk result (λ xs. xs ≡ fin.keys (keyed.applied marks.put_by d.now (values.hash_in value.now))) }
+    ensures { IfOk result (λ xs. xs ≡ fin.keys (applied put_by d.now (hash_in value.now))) }
 {
     match value {
         Value::Hash(hash) => keys_over(alloc, d, &key_set(alloc, hash)?),
@@ -181,7 +182,7 @@ fn hash_over(alloc: Global, d: &HashDelta, value: &Value) -> Result<TextList, Al
 
 /// The fields of a hash over which the own delta lies.
 fn hash_fields(alloc: Global, own: Option<&Delta>, value: &Value) -> Result<TextList, AllocError>
-    ensures { IfOk result (λ xs. xs ≡ fin.keys (values.hash_in (composed.left_by (option_copied own.entry) value.now))) }
+    ensures { IfOk result (λ xs. xs ≡ fin.keys (hash_in (left_over own.entry value.now))) }
 {
     match own {
         None => fields(alloc, value),
@@ -194,7 +195,7 @@ fn hash_fields(alloc: Global, own: Option<&Delta>, value: &Value) -> Result<Text
 
 /// The items of a list.
 fn items(alloc: Global, value: &Value) -> Result<TextList, AllocError>
-    ensures { IfOk result (λ xs. xs ≡ values.list_in value.now) }
+    ensures { IfOk result (λ xs. xs ≡ list_in value.now) }
 {
     match value {
         Value::List(items) => items.clone(),
@@ -204,7 +205,7 @@ fn items(alloc: Global, value: &Value) -> Result<TextList, AllocError>
 
 /// The list after a delta.
 fn list_over(alloc: Global, d: &ListDelta, value: &Value) -> Result<TextList, AllocError>
-    ensures { IfOk result (λ xs. xs ≡ listed.applied d.now (values.list_in value.now)) }
+    ensures { IfOk result (λ xs. xs ≡ listed.applied d.now (list_in value.now)) }
 {
     match value {
         Value::List(items) => d.applied(alloc, items),
@@ -214,7 +215,7 @@ fn list_over(alloc: Global, d: &ListDelta, value: &Value) -> Result<TextList, Al
 
 /// The items of a list over which the own delta lies.
 fn list_all(alloc: Global, own: Option<&Delta>, value: &Value) -> Result<TextList, AllocError>
-    ensures { IfOk result (λ xs. xs ≡ values.list_in (composed.left_by (option_copied own.entry) value.now)) }
+    ensures { IfOk result (λ xs. xs ≡ list_in (left_over own.entry value.now)) }
 {
     match own {
         None => items(alloc, value),
@@ -227,7 +228,7 @@ fn list_all(alloc: Global, own: Option<&Delta>, value: &Value) -> Result<TextLis
 
 /// The items of a list, lent.
 fn items_in(value: &Value) -> &[Text]
-    ensures { result.now ≡ values.list_in value.now }
+    ensures { result.now ≡ list_in value.now }
 {
     match value {
         Value::List(items) => items.as_slice(),
@@ -237,7 +238,8 @@ fn items_in(value: &Value) -> &[Text]
 
 /// The item at a place among those that aren't taken out, lent; or how many places are left behind them.
 fn kept_at<'a>(removed: &TextSet, items: &'a [Text], place: usize) -> Result<&'a Text, usize>
-    ensures { MatchResult result (λ item. kept_from removed.now items.now place ≡ Ok item.now) (λ left. kept_from removed.now items.now place ≡ Err left) }
+    ensures found { IfOk result (λ item. kept_from removed.now items.now place ≡ Ok item.now) }
+    ensures behind { IfErr result (λ left. kept_from removed.now items.now place ≡ Err left) }
 {
     let mut left = place;
     for item in items {
@@ -280,7 +282,7 @@ fn item_over<'a>(d: &'a ListDelta, items: &'a [Text], place: usize) -> Option<&'
 
 /// The item at a place, lent.
 fn list_at<'a>(own: Option<&'a Delta>, place: usize, value: &'a Value) -> Option<&'a Text>
-    ensures { option_copied result ≡ slice_get (values.list_in (composed.left_by (option_copied own.entry) value.now)) place }
+    ensures { option_copied result ≡ slice_get (list_in (left_over own.entry value.now)) place }
 {
     match own {
         None => items_in(value).get(place),
@@ -293,7 +295,7 @@ fn list_at<'a>(own: Option<&'a Delta>, place: usize, value: &'a Value) -> Option
 
 /// The height of a peak over which the own delta lies.
 fn height(own: Option<&Delta>, value: &Value) -> i64
-    ensures { result ≡ values.peak_in (composed.left_by (option_copied own.entry) value.now) }
+    ensures { result ≡ values.peak_in (left_over own.entry value.now) }
 {
     match own {
         None => peak_in(value),
@@ -311,7 +313,7 @@ pub(crate) fn answer(
     own: Option<&Delta>,
     value: &Value,
 ) -> Result<Item, AllocError>
-    ensures { IfOk result (λ i. i ≡ reads.answer read.now (composed.left_by (option_copied own.entry) value.now)) }
+    ensures { IfOk result (λ i. i ≡ reads.answer read.now (left_over own.entry value.now)) }
 {
     match read {
         ReadOp::Get => get(alloc, own, value),

@@ -4,7 +4,7 @@ ghost use Rattle.std.specs.Prelude.{◌≡◌, [], IfOk, OnOk, OnErr};
 ghost use Rattle.std.specs.Option.{option_copied};
 ghost use Rattle.rdt_types.specs.Deltas as deltas;
 ghost use Rattle.rdt_types.specs.DeltaMaps.{with_delta};
-ghost use Rattle.write_buffer.specs.Asking as spec;
+ghost use Rattle.write_buffer.specs.Asking.{asked};
 
 use crate::answering::answer;
 use crate::asked::Asked;
@@ -76,7 +76,7 @@ impl Buffer {
         read: &ReadOp,
         base: Option<&Value>,
     ) -> Result<Asked, AllocError>
-        ensures { IfOk result (λ asked. asked ≡ spec.asked self.now address.now read.now (option_copied base.entry)) }
+        ensures { IfOk result (λ a. a ≡ asked self.now address.now read.now (option_copied base.entry)) }
     {
         let own = self.deltas.get(address);
         if is_decided(read, own) {

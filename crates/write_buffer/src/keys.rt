@@ -60,7 +60,7 @@ pub(crate) fn keys_over<M: Leaves>(
     d: &KeyedDelta<M>,
     keys: &TextSet,
 ) -> Result<TextList, AllocError>
-    ensures { IfOk result (λ after. after ≡ fin.keys (keyed.applied (code.keeping M.left) d.now keys.now)) }
+    ensures { IfOk result (λ xs. xs ≡ fin.keys (keyed.applied (code.keeping M.left) d.now keys.now)) }
 {
     if d.cleared() {
         let none = TextSet::new(alloc);

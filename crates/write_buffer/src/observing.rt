@@ -1,6 +1,6 @@
 //! Which reads the own delta decides, and what the others observe.
 
-ghost use Rattle.std.specs.Prelude.{◌≡◌, ◌||◌, length, IfOk};
+ghost use Rattle.std.specs.Prelude.{◌≡◌, length, IfOk};
 ghost use Rattle.std.specs.Option.{option_copied};
 ghost use Rattle.rdt_types.specs.Values as values;
 ghost use Rattle.conflict_table.specs.Clashes as clashes;
@@ -36,7 +36,7 @@ fn clears(own: Option<&Delta>) -> bool
 
 /// Whether all is cleared, or an element or field is marked.
 fn settles(own: Option<&Delta>, key: &Text) -> bool
-    ensures { result ≡ composed.if_any (λ d. clashes.clears d || clashes.names key.now d) (option_copied own.entry) }
+    ensures { result ≡ composed.if_any (composed.settles key.now) (option_copied own.entry) }
 {
     match own {
         Some(Delta::Set(d)) => d.cleared() || d.marks().contains(key),

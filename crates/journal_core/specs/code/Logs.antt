@@ -5,12 +5,16 @@ use Rattle.std.specs.Prelude.{ℕ, ◌≤◌, List, refl}
 use Rattle.std.specs.Coded.{Coded, code_by, coded×, coded_list, coded_ℕ}
 use Rattle.rdt_types.specs.declared.limits.TheConstants.{LEAST_SHARDS, MOST_SHARDS}
 use Rattle.change_feed.specs.declared.change.Change.{Change}
+use Rattle.abort_witness.specs.declared.witness.Based.{Based}
+use Rattle.abort_witness.specs.Pairs.{count_met}
 use Rattle.txn_lang.specs.declared.commit.Commit.{Commit}
 use Rattle.txn_lang.specs.States.{Journal}
+use Rattle.journal_core.specs.declared.ready.PreparedFront.{PreparedFront}
 use Rattle.journal_core.specs.Changes.{changes}
 use Rattle.journal_core.specs.Kinds.{HasKinds}
-use Rattle.journal_core.specs.Pairs.{AreNumbered}
+use Rattle.journal_core.specs.Pairs.{AreNumbered, most_steps, past_front, past_fronts}
 use Rattle.journal_core.specs.code.ByShard.{AreByShard, HasRoom}
+use Rattle.journal_core.specs.code.Parts.{MeetsAlike}
 
 -- the commits, by how many shards their changes are kept, and for how many changes of a commit there is memory
 pub record Log : Type 0 where
@@ -33,3 +37,29 @@ pub record Keeps (commits : Journal) (shards : ℕ) (lists : List (List Change �
   pub theirs : AreByShard shards (changes commits) lists
   pub one_more : room ≤ room_for_commits
   pub some_more : HasRoom room lists
+
+-- ---- past what was prepared
+
+-- all changes
+abbrev pub changes_in : Log → List Change
+changes_in log = changes log.commits
+
+-- an observation, as good as one made at the front at which its shard was prepared
+abbrev pub past_in : Log → List PreparedFront → Based → Based
+past_in log fronts based = past_front log.shards fronts based
+
+-- the same of each
+abbrev pub all_past : Log → List PreparedFront → List Based → List Based
+all_past log fronts based = past_fronts log.shards fronts based
+
+-- it meets the same of some changes as past its front of all
+abbrev pub MeetsAhead : Log → List PreparedFront → Based → List Change → Type 0
+MeetsAhead log fronts based some = MeetsAlike based some (past_in log fronts based) (changes_in log)
+
+-- how many changes it meets past its front
+abbrev pub met_past : Log → List PreparedFront → Based → ℕ
+met_past log fronts based = count_met (past_in log fronts based) (changes_in log)
+
+-- and how many all of them meet: more steps no decision makes
+abbrev pub most_past : Log → List PreparedFront → List Based → ℕ
+most_past log fronts based = most_steps (all_past log fronts based) (changes_in log)

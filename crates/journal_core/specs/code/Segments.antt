@@ -15,6 +15,10 @@ use Rattle.journal_core.specs.Changes as spec
 abbrev pub room : Vec Change → ℕ
 room changes = vec_capacity changes - length changes.items
 
+-- the changes in segments, and those behind them
+abbrev pub all_in : List (List Change) → List Change → List Change
+all_in sealed last = changes_in sealed ++ last
+
 -- no segment is empty
 abbrev pub HaveChanges : List (List Change) → Type 0
 HaveChanges segments = AllByRecursion (λ segment. 0 < length segment) segments

@@ -1,7 +1,8 @@
 -- How the code follows: it walks over changes and the subscribers of their addresses. `told_each` and `undone` of
 -- proofs/Undone tie this to `told` of specs/Registered.
-use Rattle.std.specs.Prelude.{◌≡◌, ℕ, ◌<◌, ◌≤◌, nat_le, Bool, List, [], ◌∷◌, ◌++◌, fold, filter, if◌then◌else◌, Option, option_map}
+use Rattle.std.specs.Prelude.{◌≡◌, ℕ, ◌<◌, ◌≤◌, nat_le, Bool, false, List, [], ◌∷◌, ◌++◌, fold, filter, if◌then◌else◌, Option, option_map}
 use Rattle.std.specs.List.{AllByRecursion, list_any}
+use Rattle.std.specs.BTreeMap.{BTreeMap}
 use Rattle.change_feed.specs.declared.change.Change.{Change}
 use Rattle.reactive_registry.specs.declared.places.Places.{Places}
 use Rattle.reactive_registry.specs.Registered.{Kept, kept_in}
@@ -46,3 +47,39 @@ ArePast front changes = AllByRecursion (λ change. front < change.number) change
 -- none is
 abbrev pub IsUpTo : ℕ → List Change → Type 0
 IsUpTo front changes = AllByRecursion (λ change. change.number ≤ front) changes
+
+-- what is kept of each subscriber, as the code holds it
+abbrev pub Subscribers : Type 0
+Subscribers = BTreeMap ℕ Kept
+
+-- what is kept of each subscriber is as before
+abbrev pub AllSame : Subscribers → Subscribers → Type 0
+AllSame old new = (q : ℕ) → kept_in new.entries q ≡ kept_in old.entries q
+
+-- and where a test fails
+abbrev pub SameBut : (ℕ → Bool) → Subscribers → Subscribers → Type 0
+SameBut whose old new = (q : ℕ) → whose q ≡ false → kept_in new.entries q ≡ kept_in old.entries q
+
+-- and where a subscriber stands at the address of none of some changes
+abbrev pub SameElsewhere : Places → List Change → Subscribers → Subscribers → Type 0
+SameElsewhere places changes old new = SameBut (λ q. is_linked places q changes) old new
+
+-- and up to any front below a change
+abbrev pub SameBefore : Change → Subscribers → Subscribers → Type 0
+SameBefore change old new = (front : ℕ) → front < change.number → SameUpTo front old.entries new.entries
+
+-- and up to any front that all changes are past
+abbrev pub SameBeforeAll : List Change → Subscribers → Subscribers → Type 0
+SameBeforeAll changes old new = (front : ℕ) → ArePast front changes → SameUpTo front old.entries new.entries
+
+-- where a test holds, the changes past a front are gone, and elsewhere all is as before
+abbrev pub CutWhere : (ℕ → Bool) → ℕ → Subscribers → Subscribers → Type 0
+CutWhere whose front old new = (q : ℕ) → kept_in new.entries q ≡ done_where (whose q) (cut front) (kept_in old.entries q)
+
+-- each subscriber was told of the changes at its addresses
+abbrev pub AreTold : Places → List Change → Subscribers → Subscribers → Type 0
+AreTold places changes old new = (q : ℕ) → kept_in new.entries q ≡ told_along places q changes (kept_in old.entries q)
+
+-- each subscriber of the addresses of some changes has forgotten what is past a front
+abbrev pub AreCut : Places → ℕ → List Change → Subscribers → Subscribers → Type 0
+AreCut places front changes old new = (q : ℕ) → kept_in new.entries q ≡ cut_along places q front changes (kept_in old.entries q)

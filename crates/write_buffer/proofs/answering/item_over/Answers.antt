@@ -18,13 +18,13 @@ pub returns-in-Ok : goal.returns-in-Ok
 returns-in-Ok c =
     let d = c.args.d.now in
     let found : kept_from d.removed c.args.items.now c.args.place ≡ Ok c.in-Ok.item.now =
-    ap (λ r. kept_from r c.args.items.now c.args.place) (sym c.removed-2.ensures.removed) ∙ c.in-Ok.ensures in
+    ap (λ r. kept_from r c.args.items.now c.args.place) (sym c.removed-2.ensures.removed) ∙ c.in-Ok.ensures.found in
     sym (kept_place d c.args.items.now c.args.place (sym c.if-cleared.ensures) ∙ ap (λ r. kept_or r d.pushed) found)
 
 pub returns-in-Err : goal.returns-in-Err
 returns-in-Err c =
     let d = c.args.d.now in
     let found : kept_from d.removed c.args.items.now c.args.place ≡ Err c.in-Err.left =
-    ap (λ r. kept_from r c.args.items.now c.args.place) (sym c.removed-2.ensures.removed) ∙ c.in-Err.ensures in
+    ap (λ r. kept_from r c.args.items.now c.args.place) (sym c.removed-2.ensures.removed) ∙ c.in-Err.ensures.behind in
     c.get-in-Err.ensures ∙ ap (λ ys. slice_get ys c.in-Err.left) c.pushed-in-Err.ensures.pushed
     ∙ sym (kept_place d c.args.items.now c.args.place (sym c.if-cleared.ensures) ∙ ap (λ r. kept_or r d.pushed) found)
