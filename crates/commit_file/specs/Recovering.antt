@@ -1,9 +1,10 @@
 -- What recovery finds and leaves, and what a crash may meet on its way.
-use Rattle.std.specs.Prelude.{◌≡◌, ℕ, ◌+◌, ◌<◌, ◌≤◌, Bool, true, false, List, [], ◌∷◌, ◌++◌, length, take, drop}
+use Rattle.std.specs.Prelude.{◌≡◌, ℕ, ◌+◌, ◌<◌, ◌≤◌, Bool, true, false, List, [], ◌∷◌, ◌++◌, length, take, drop, nat_eq}
+use Rattle.std.specs.Cmp.Lexicographic.{pointwise}
 use Rattle.std.specs.Prelude.{Result, Ok, Err}
 use Rattle.dio_core.specs.Disks.{Durable, DiskState}
 use Rattle.commit_file.specs.declared.version.Version.{Version}
-use Rattle.commit_file.specs.declared.version.Version.TheVariants.{One}
+use Rattle.commit_file.specs.declared.version.Version.TheVariants.{One, Two}
 use Rattle.commit_file.specs.declared.recover_error.RecoverError.{RecoverError}
 use Rattle.commit_file.specs.declared.recover_error.RecoverError.TheVariants as error
 use Rattle.commit_file.specs.Files.{Contents, header, frames, opened, file, end_of, all_of, AreShort}
@@ -25,6 +26,12 @@ abbrev pub IsRefused : Reading → RecoverError → Type 0
 IsRefused reading (error.NotJournal at) = reading ≡ NotJournal at
 IsRefused reading error.DiskFault = Unit {0}
 IsRefused reading error.NoMemory = Unit {0}
+
+-- the bytes begin with no header, and are more than a stopped creation may leave
+abbrev pub IsForeign : List ℕ → Type 0
+IsForeign bytes =
+    (13 < length bytes) × (pointwise nat_eq (take 12 bytes) (header Two) ≡ false)
+    × (pointwise nat_eq (take 12 bytes) (header One) ≡ false)
 
 -- the answer says nothing of the file
 abbrev pub IsPlain : RecoverError → Type 0

@@ -1,6 +1,6 @@
 //! Recovery of a file that a crash may have left.
 
-ghost use Rattle.std.specs.Prelude.{◌≡◌, ◌≢◌, ◌+◌, ◌<◌, ◌≤◌, ◌^◌, ◌++◌, [], false, length, IfOk, IfErr, IfSome};
+ghost use Rattle.std.specs.Prelude.{◌≡◌, ◌≢◌, ◌+◌, ◌<◌, ◌≤◌, ◌^◌, ◌++◌, [], false, length, Err, IfOk, IfErr, IfSome};
 ghost use Rattle.dio_core.specs.Counts.{IsCounted};
 ghost use Rattle.dio_core.specs.Disks.{NothingPending};
 ghost use Rattle.dio_core.specs.Moments.{AtAnyMoment};
@@ -9,7 +9,7 @@ ghost use Rattle.commit_file.specs.declared.version.Version.TheVariants.{One, Tw
 ghost use Rattle.commit_file.specs.Files.{header};
 ghost use Rattle.commit_file.specs.Keepers.{Stands};
 ghost use Rattle.commit_file.specs.Kept.{kept, KeptAs, KeptAlike};
-ghost use Rattle.commit_file.specs.Recovering.{IsFound, IsAtRest, IsRefused, disk_failed};
+ghost use Rattle.commit_file.specs.Recovering.{IsFound, IsAtRest, IsRefused, IsForeign, disk_failed};
 
 use crate::chain::Chain;
 use crate::reading::read_file;
@@ -81,6 +81,9 @@ fn read_bytes<C: Chain>(chain: &mut C, bytes: &[u8]) -> Result<Found, RecoverErr
     requires { C.payloads chain.old ≡ [] }
     ensures found { IfOk result (λ f. IsFound C.follows bytes.now (C.payloads chain.new) f.end f.unmarked) }
     ensures refused { IfErr result (IsRefused (kept C.follows bytes.now)) }
+
+    // The file of another program is refused as that, and never as want of memory.
+    ensures foreign { IsForeign bytes.now → result ≡ Err (error.NotJournal 0) }
     ensures no_fault { disk_failed result ≡ false }
 {
     if bytes.len() <= SHORTEST {

@@ -1,6 +1,7 @@
 //! The frames of a file.
 
-ghost use Rattle.std.specs.Prelude.{◌≡◌, ◌<◌, ◌≤◌, ◌-◌, ◌+◌, ◌^◌, ◌++◌, ◌∷◌, [], false, length, IfOk, IfErr, MatchOption};
+ghost use Rattle.std.specs.Prelude.{◌≡◌, ◌<◌, ◌≤◌, ◌-◌, ◌+◌, ◌^◌, ◌++◌, ◌∷◌, [], true, false, length, IfOk, IfErr, OnOk, OnErr, MatchOption};
+ghost use Rattle.commit_file.specs.declared.recover_error.RecoverError.TheVariants as error;
 ghost use Rattle.commit_file.specs.Files.{frame};
 ghost use Rattle.commit_file.specs.Kept.{payloads, payloads_marked, checked};
 ghost use Rattle.commit_file.specs.Recovering.{IsScanned, IsRefused, disk_failed};
@@ -51,6 +52,19 @@ pub(crate) fn place(at: u64, bytes: &[u8], rest: &[u8]) -> u64
     at + (bytes.len() - rest.len()) as u64
 }
 
+/// Goes on behind a payload that was taken. One that doesn't follow is told by its place, and never as want of memory.
+fn goes_on(took: bool, at: u64) -> Result<(), RecoverError>
+    ensures goes { OnOk result (took ≡ true) }
+    ensures stops { OnErr result (took ≡ false) }
+    ensures told { IfErr result (λ e. e ≡ error.NotJournal at) }
+{
+    if took {
+        Ok(())
+    } else {
+        Err(RecoverError::NotJournal(at))
+    }
+}
+
 /// Takes the payloads of the open frames that begin here, which is at a place in the file, and gives what stands behind
 /// them. `NotJournal` names the frame of the first payload that doesn't follow.
 pub(crate) fn scan<'a, C: Chain>(
@@ -68,9 +82,8 @@ pub(crate) fn scan<'a, C: Chain>(
 {
     let mut rest = bytes;
     while let Some((payload, behind)) = next_frame(rest) {
-        if !chain.take(version, payload)? {
-            return Err(RecoverError::NotJournal(place(at, bytes, rest)));
-        }
+        let took = chain.take(version, payload)?;
+        goes_on(took, place(at, bytes, rest))?;
         rest = behind;
     }
     Ok(rest)

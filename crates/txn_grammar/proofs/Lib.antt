@@ -6,5 +6,6 @@ pub mod StatementFits
 pub mod Parses
 pub mod Values
 pub mod Cuts
+pub mod Unquoted
 pub mod Blanks
 pub mod Marks

@@ -2,6 +2,7 @@
 
 ghost use Rattle.std.specs.Prelude.{◌≡◌, ◌<◌, ◌-◌, ◌^◌, length, IfOk};
 ghost use Rattle.txn_grammar.specs.Lexer as spec;
+ghost use Rattle.txn_grammar.specs.code.Unquoted as code;
 
 use crate::limit::LONGEST_NAME;
 use crate::number::number_value;
@@ -10,7 +11,7 @@ use crate::symbol::Symbol;
 use crate::token::{Lexeme, Spot, Token};
 use dtext::{is_blank, is_digit, is_letter, is_word, next_text};
 use plain_data::{OrNoMemory, Text};
-use predictive_parsing::{Cursor, prefix_len};
+use predictive_parsing::{Cursor, Refused, prefix_len};
 use std::alloc::{AllocError, Global};
 
 /// A reserved word, or else a name.
@@ -51,6 +52,19 @@ fn number_at(text: &[u8]) -> Lexeme
     Lexeme { token, len }
 }
 
+/// What stands at a quote that begins no text in quotes: a malformed byte, which is never told as want of memory.
+fn unquoted(stop: OrNoMemory<Refused>) -> Result<Lexeme, AllocError>
+    ensures { result ≡ code.unquoted stop }
+{
+    match stop {
+        OrNoMemory::Cause(_) => Ok(Lexeme {
+            token: Token::Malformed,
+            len: 1,
+        }),
+        OrNoMemory::NoMemory => Err(AllocError),
+    }
+}
+
 /// The text in quotes at the front, where a quote is.
 #[tactic(auto, unfolding(crate::specs::Lexer::text_at), using(crate::proofs::Cuts::text_shrinks))]
 fn text_at(alloc: Global, text: &[u8]) -> Result<Lexeme, AllocError>
@@ -62,11 +76,7 @@ fn text_at(alloc: Global, text: &[u8]) -> Result<Lexeme, AllocError>
             token: Token::Text(bytes),
             len: text.len() - cursor.len(),
         }),
-        Err(OrNoMemory::Cause(_)) => Ok(Lexeme {
-            token: Token::Malformed,
-            len: 1,
-        }),
-        Err(OrNoMemory::NoMemory) => Err(AllocError),
+        Err(stop) => unquoted(stop),
     }
 }
 

@@ -1,6 +1,6 @@
 //! One token: what is ahead, and each reader of one token. A reader takes the token ahead, or refuses and leaves it there.
 
-ghost use Rattle.std.specs.Prelude.{◌≡◌, ℕ, List, Option};
+ghost use Rattle.std.specs.Prelude.{◌≡◌, ℕ, List, Option, None};
 ghost use Rattle.std.specs.Option.{option_map};
 ghost use Rattle.std.specs.Fn.{FnOnceReturnsAt};
 ghost use Rattle.predictive_parsing.specs.Reading as read;
@@ -199,12 +199,13 @@ fn text_ahead<'a>(cursor: &Cursor<'a, Spot>) -> Option<(u32, &'a Text)>
     }
 }
 
-/// Takes the token ahead with a copy of what was found in it, and refuses it where nothing was.
+/// Takes the token ahead with a copy of what was found in it, and refuses it where nothing was. Only what was found wants memory.
 fn take_copy(
     cursor: &mut Cursor<Spot>,
     found: Option<(u32, &Text)>,
 ) -> Result<(u32, Text), OrNoMemory<Refused>>
-    ensures { (f : Spot → Option (ℕ × List ℕ)) → lent found.entry ≡ made_of f cursor.old → Reads (read.one f cursor.old) result cursor.new }
+    ensures reads { (f : Spot → Option (ℕ × List ℕ)) → lent found.entry ≡ made_of f cursor.old → Reads (read.one f cursor.old) result cursor.new }
+    ensures refusal { found.entry ≡ None → OnlyRefuses result }
 {
     let Some((column, text)) = found else {
         return Err(OrNoMemory::Cause(Refused));

@@ -3,7 +3,7 @@ use Rattle.std.proofs.Common.{◌≡◌, ℕ, ◌+◌, ◌-◌, ◌<◌, ◌≤�
 use Rattle.std.proofs.Common.{length-append, length-drop, take-take}
 use Rattle.std.proofs.lemmas.Slice.{take-put_mid}
 use borrow.Rule.Slice.PartMut.{put_mid, mid_of, same_len_mid}
-use Rattle.std.specs.Prelude.{Err}
+use Rattle.std.specs.Prelude.{Result, Err}
 use Rattle.std.specs.Int.{w32, to_be_bytes, from_be_bytes}
 use Rattle.std.proofs.lemmas.List.{take_all, take_at, length-take-le}
 use Rattle.std.proofs.Math.Seq.{take-append-add}
@@ -11,7 +11,7 @@ use Rattle.dio_core.specs.Sources.{with_prefix}
 use Rattle.dio_core.proofs.Sources.{with_prefix-append}
 use Rattle.wire_frames.specs.declared.reading.FrameFault.{FrameFault}
 use Rattle.wire_frames.specs.declared.reading.FrameFault.TheVariants as fault
-use Rattle.wire_frames.specs.Frames.{is_sized, length_field, IsBegun, TakesFrame}
+use Rattle.wire_frames.specs.Frames.{is_sized, length_field, HasLength, LacksMemory, TakesFrame}
 use Rattle.wire_frames.specs.code.Pieces.{Fronts, IsShortOf, Lacks}
 use Rattle.wire_frames.proofs.Cut.{is_sized-text}
 
@@ -81,9 +81,9 @@ field-behind : (most size : ℕ) (head begun : List ℕ) → IsHead most size he
 field-behind most size head begun is = ap (from_be_bytes w32) (take_at head begun 4 is.four) ∙ sym is.number
 
 -- a length, and fewer bytes than it tells, begin a frame
-begun-behind : (most size : ℕ) (head begun : List ℕ) → IsHead most size head → length begun < size → IsBegun most (head ++ begun)
+begun-behind : (most size : ℕ) (head begun : List ℕ) → IsHead most size head → length begun < size → HasLength most (head ++ begun)
 begun-behind most size head begun is few =
-    let field = field-behind most size head begun is in inr (
+    let field = field-behind most size head begun is in (
       omega (arith, length-append head begun, is.four),
       omega (arith, length-append head begun, is.four, few, field),
       ap (is_sized most) field ∙ is_sized-text most size is.some is.within,
@@ -95,15 +95,31 @@ pub takes-lacks : (most size : ℕ) (head : List ℕ) (why : FrameFault) (old mi
 takes-lacks most size head fault.Broken old mid new is first lacks = record {
   bytes = head ++ lacks.0.begun;
   some = omega (arith, length-append head lacks.0.begun, is.four);
-  broken = inr (begun-behind most size head lacks.0.begun is lacks.0.few, lacks.1);
+  broken = inr (inr (begun-behind most size head lacks.0.begun is lacks.0.few), lacks.1);
   taken = taken-more head lacks.0.begun (head ++ lacks.0.begun) old mid new first refl lacks.0.taken;
 }
 takes-lacks most size head fault.ReadFault old mid new is first lacks = record {
   begun = head ++ lacks.begun;
-  within = begun-behind most size head lacks.begun is lacks.few;
+  within = inr (begun-behind most size head lacks.begun is lacks.few);
   taken = taken-more head lacks.begun (head ++ lacks.begun) old mid new first refl lacks.taken;
 }
 takes-lacks most size head fault.NoMemory old mid new is first lacks = record {
+  begun = head ++ lacks.begun;
+  within = inr (begun-behind most size head lacks.begun is lacks.few);
+  taken = taken-more head lacks.begun (head ++ lacks.begun) old mid new first refl lacks.taken;
+}
+
+-- an error that goes on as want of memory was that
+pub memory-told : {A : Type 0} (result : Result A FrameFault) (told why : FrameFault) → result ≡ Err told → told ≡ why
+    → result ≡ Err fault.NoMemory → why ≡ fault.NoMemory
+memory-told result told why goes_on is e = cc
+
+-- where memory is wanting, a length was taken
+pub memory-lacks : (most size : ℕ) (head : List ℕ) (why : FrameFault) (old mid new : Option (List ℕ)) → IsHead most size head
+    → old ≡ with_prefix head mid → Lacks why size mid new → why ≡ fault.NoMemory → LacksMemory most old new
+memory-lacks most size head fault.Broken old mid new is first lacks e = absurd cc
+memory-lacks most size head fault.ReadFault old mid new is first lacks e = absurd cc
+memory-lacks most size head fault.NoMemory old mid new is first lacks e = record {
   begun = head ++ lacks.begun;
   within = begun-behind most size head lacks.begun is lacks.few;
   taken = taken-more head lacks.begun (head ++ lacks.begun) old mid new first refl lacks.taken;

@@ -82,10 +82,14 @@ IsText most text = (0 < length text) × (length text ≤ most)
 abbrev pub IsNoLength : ℕ → List ℕ → Type 0
 IsNoLength most bytes = (length bytes ≡ 4) × (is_sized most (length_field bytes) ≡ false)
 
+-- these bytes are the whole length of a frame, and not all bytes that it tells
+abbrev pub HasLength : ℕ → List ℕ → Type 0
+HasLength most bytes =
+    (4 ≤ length bytes) × (length bytes < 4 + length_field bytes) × (is_sized most (length_field bytes) ≡ true)
+
 -- These bytes begin a frame and don't end it: they end within its length, or behind that within its bytes.
 abbrev pub IsBegun : ℕ → List ℕ → Type 0
-IsBegun most bytes =
-    (length bytes < 4) ⊎ ((4 ≤ length bytes) × (length bytes < 4 + length_field bytes) × (is_sized most (length_field bytes) ≡ true))
+IsBegun most bytes = (length bytes < 4) ⊎ HasLength most bytes
 
 -- of a frame of two bytes one is there
 IsBegun-example : length_field (0 ∷ 0 ∷ 0 ∷ 2 ∷ 7 ∷ []) ≡ 2
@@ -99,6 +103,13 @@ IsAtEnd left = IfSome left (λ bytes. bytes ≡ [])
 pub record BreaksOff (most : ℕ) (old new : Option (List ℕ)) : Type 0 where
   pub begun : List ℕ
   pub within : IsBegun most begun
+  pub taken : old ≡ with_prefix begun new
+
+-- What was taken breaks off behind the length of a frame, since there is no memory for its bytes. So an end within a length, or
+-- a length that no frame has, is no want of memory.
+pub record LacksMemory (most : ℕ) (old new : Option (List ℕ)) : Type 0 where
+  pub begun : List ℕ
+  pub within : HasLength most begun
   pub taken : old ≡ with_prefix begun new
 
 -- What was taken is no frame: a length that none has, or what begins one, and then the stream is at its end.

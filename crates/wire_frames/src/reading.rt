@@ -1,10 +1,11 @@
 //! Frames are read.
 
-ghost use Rattle.std.specs.Prelude.{◌≡◌, ◌+◌, ◌<◌, ◌^◌, length, is_err};
+ghost use Rattle.std.specs.Prelude.{◌≡◌, ◌+◌, ◌<◌, ◌^◌, length, is_err, Err};
 ghost use Rattle.std.specs.Int.{w32, from_be_bytes, to_be_bytes};
 ghost use Rattle.dio_core.specs.Counts.{IsCounted};
 ghost use Rattle.dio_core.specs.Sources.{with_prefix};
-ghost use Rattle.wire_frames.specs.Frames.{TakesFrame, frame_failed};
+ghost use Rattle.wire_frames.specs.declared.reading.FrameFault.TheVariants as fault;
+ghost use Rattle.wire_frames.specs.Frames.{TakesFrame, LacksMemory, frame_failed};
 ghost use Rattle.wire_frames.specs.code.Pieces.{Fills, TakesRest, TakesPiece, rest_failed};
 
 use dio_core::{Got, Source};
@@ -64,6 +65,9 @@ impl From<ReadFailed> for FrameFault {
 /// taken as the bytes come, so that a length alone costs little.
 pub fn read_frame<R: Source>(alloc: Global, source: &mut R, most: u32) -> Result<Frame, FrameFault>
     ensures frame { TakesFrame most result (R.left source.old) (R.left source.new) }
+
+    // Memory is wanting only for the bytes of a frame, behind its length.
+    ensures memory { result ≡ Err fault.NoMemory → LacksMemory most (R.left source.old) (R.left source.new) }
     ensures written { R.written source.new ≡ R.written source.old }
     ensures counted { IsCounted (frame_failed result) (R.read_faults source.old) (R.read_faults source.new) }
 {
@@ -101,6 +105,10 @@ fn read_piece<R: Source>(source: &mut R, kept: &mut Vec<u8>, more: usize) -> Res
     requires some { 0 < more }
     requires fits { length kept.old.items + more < 2 ^ 32 }
     ensures piece { TakesPiece more kept.old.items result kept.new.items (R.left source.old) (R.left source.new) }
+
+    // Memory is taken first, so where it is wanting nothing was read.
+    ensures unread { result ≡ Err fault.NoMemory → R.left source.new ≡ R.left source.old }
+
     ensures written { R.written source.new ≡ R.written source.old }
     ensures counted { IsCounted (rest_failed result) (R.read_faults source.old) (R.read_faults source.new) }
 {
