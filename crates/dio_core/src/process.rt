@@ -8,7 +8,7 @@
 ghost use Rattle.std.specs.Prelude.{◌≡◌, [], Some, IfOk};
 ghost use Rattle.dio_core.specs.Links.{no_sink, no_source, incoming, outgoing};
 
-use crate::connection::Connection;
+use crate::connection::{Connection, flush_counted, send_counted};
 use crate::count::Count;
 use crate::sink::{Sink, Took};
 use crate::source::{Got, Source, copy_through};
@@ -135,21 +135,11 @@ impl<C: Connection + Drop> Sink for StreamSink<C> {
     ghost unread = { λ _. no_source };
 
     fn write(&mut self, bytes: &[u8]) -> Took {
-        match self.stream.send(bytes) {
-            Ok(count) if count > 0 => Took::Bytes(count),
-            _ => {
-                self.faults.add_one();
-                Took::Failed
-            }
-        }
+        send_counted(&mut self.stream, bytes, &mut self.faults)
     }
 
     fn flush(&mut self) -> bool {
-        if self.stream.flush().is_err() {
-            self.faults.add_one();
-            return false;
-        }
-        true
+        flush_counted(&mut self.stream, &mut self.faults)
     }
 
     fn write_faults(&self) -> u64 {

@@ -8,7 +8,7 @@ ghost use Rattle.dio_core.specs.Listeners.{Accepts, accept_failed};
 ghost use Rattle.dio_core.specs.Sources.{Gives, read_failed};
 ghost use Rattle.dio_core.specs.Sinks.{Takes, write_failed, PassesOn, IsPassedOn};
 
-use crate::connection::Connection;
+use crate::connection::{Connection, flush_counted, send_counted};
 use crate::count::Count;
 use crate::listener::{Accepted, End, Listener};
 use crate::sink::{Sink, Took};
@@ -120,13 +120,9 @@ impl<C: Connection> Sink for TcpLink<C> {
         ensures counted { IsCounted (write_failed result) self.old.outwards.faults self.new.outwards.faults }
         ensures ended { OnTrue self.old.ended (result ≡ Took.Failed) }
     {
-        let sent = match &mut self.connection {
-            Ok(connection) => connection.send(bytes).ok(),
-            Err(_) => None,
-        };
-        match sent {
-            Some(count) if count > 0 => Took::Bytes(count),
-            _ => {
+        match &mut self.connection {
+            Ok(connection) => send_counted(connection, bytes, &mut self.write_faults),
+            Err(_) => {
                 self.write_faults.add_one();
                 Took::Failed
             }
@@ -145,14 +141,13 @@ impl<C: Connection> Sink for TcpLink<C> {
         ensures ended { OnTrue self.old.ended (result ≡ false) }
         ensures counted { IsCounted (not result) self.old.outwards.faults self.new.outwards.faults }
     {
-        let is_flushed = match &mut self.connection {
-            Ok(connection) => connection.flush().is_ok(),
-            Err(_) => false,
-        };
-        if !is_flushed {
-            self.write_faults.add_one();
+        match &mut self.connection {
+            Ok(connection) => flush_counted(connection, &mut self.write_faults),
+            Err(_) => {
+                self.write_faults.add_one();
+                false
+            }
         }
-        is_flushed
     }
 
     fn write_faults(&self) -> u64 {
