@@ -1,6 +1,6 @@
 //! A map with its keys in order, in one block of memory.
 
-ghost use Rattle.std.specs.Prelude.{◌≡◌, ◌↔◌, ◌<◌, ◌≤◌, ℕ, [], length, slice_get, false, Some, option_map, IsTrue, IfSome, IfOk, OnOk, OnErr};
+ghost use Rattle.std.specs.Prelude.{◌≡◌, ◌↔◌, ◌<◌, ◌≤◌, ℕ, [], length, slice_get, false, Some, is_some, option_map, IsTrue, IfSome, IfOk, OnOk, OnErr};
 ghost use Rattle.std.specs.Option.{option_copied};
 ghost use Rattle.std.specs.Bool.{OnTrue, OnFalse};
 ghost use Rattle.std.specs.BTreeMap.{insert_entry, is_at};
@@ -126,6 +126,22 @@ fn put<K: Ord + Drop, V: Drop>(
     Ok(())
 }
 
+/// Puts a value in the place of the one at a key, if there is one. It answers whether there is.
+fn put_over<K: Ord + Drop, V: Drop>(entries: &mut Vec<(K, V)>, key: &K, value: V) -> bool
+    requires { IsStrictlySortedBy K.cmp (keys_of entries.old.items) }
+    ensures found { result ≡ is_some (lookup (is_at (K.cmp key.now)) entries.old.items) }
+    ensures there { OnTrue result (entries.new.items ≡ insert_entry K.cmp entries.old.items key.now value) }
+    ensures absent { OnFalse result (entries.new.items ≡ entries.old.items) }
+    ensures rising { IsStrictlySortedBy K.cmp (keys_of entries.new.items) }
+{
+    let place = place_of(entries.as_slice(), key);
+    if holds_at(entries.as_slice(), place, key) {
+        entries[place].1 = value;
+        return true;
+    }
+    false
+}
+
 impl<K: Ord, V> OrderedMap<K, V> {
     /// A map without keys. It is never refused for want of memory.
     pub fn new(alloc: Global) -> OrderedMap<K, V>
@@ -199,6 +215,16 @@ impl<K: Ord + Drop, V: Drop> OrderedMap<K, V> {
         ensures rising { IsStrictlySortedBy K.cmp (keys_of self.new) }
     {
         put(&mut self.entries, key, value)
+    }
+
+    /// Puts a value in the place of the one at a key, if there is one. It answers whether there is.
+    pub fn replace(&mut self, key: &K, value: V) -> bool
+        ensures found { result ≡ is_some (lookup (is_at (K.cmp key.now)) self.old) }
+        ensures there { OnTrue result (self.new ≡ insert_entry K.cmp self.old key.now value) }
+        ensures absent { OnFalse result (self.new ≡ self.old) }
+        ensures rising { IsStrictlySortedBy K.cmp (keys_of self.new) }
+    {
+        put_over(&mut self.entries, key, value)
     }
 }
 

@@ -2,7 +2,7 @@
 
 ghost use Rattle.std.specs.Prelude.{◌≡◌, ◌==◌, option_map, IfSome, IfNone, OnOk, OnErr};
 ghost use Rattle.std.specs.Option.{option_copied};
-ghost use Rattle.std.specs.Bool.{MatchBool};
+ghost use Rattle.std.specs.Bool.{MatchBool, OnTrue, OnFalse};
 ghost use Rattle.std.specs.FinMap as map;
 ghost use Rattle.std.specs.Map.{keys_of};
 ghost use Rattle.std.specs.List.Sorted.{IsStrictlySortedBy};
@@ -137,6 +137,15 @@ impl<V: Drop> TextMap<V> {
         ensures err { OnErr result (self.new ≡ self.old) }
     {
         self.entries.insert(key, value)
+    }
+
+    /// Puts a value in the place of the one at a key, if there is one. It answers whether there is.
+    pub fn replace(&mut self, key: &Text, value: V) -> bool
+        ensures found { result ≡ map.contains_key self.old key.now }
+        ensures there { OnTrue result (self.new ≡ map.insert self.old key.now value) }
+        ensures absent { OnFalse result (self.new ≡ self.old) }
+    {
+        self.entries.replace(key, value)
     }
 }
 

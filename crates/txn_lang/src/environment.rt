@@ -1,7 +1,9 @@
 //! Names that are bound: each to a type where a body is checked, and to an item where it runs.
 
-ghost use Rattle.std.specs.Prelude.{◌≡◌, ◌<◌, ◌++◌, ◌∷◌, ◌-◌, [], length, take, OnOk, OnErr};
+ghost use Rattle.std.specs.Prelude.{◌≡◌, ◌<◌, ◌++◌, ◌∷◌, ◌-◌, [], length, take, IsOk, OnOk, OnErr};
 ghost use Rattle.std.specs.Option.{option_copied};
+ghost use Rattle.std.specs.Bool.{OnTrue};
+ghost use Rattle.std.specs.FinMap as fin;
 ghost use Rattle.txn_lang.specs.Bindings.{bound};
 ghost use Rattle.txn_lang.specs.code.Places.{place_bound};
 
@@ -39,6 +41,22 @@ impl<V> Model for Environment<V> {
     ghost view = { λ e. names_of e.bindings };
 
     ghost invariant = { λ e. Keeps e.places e.bindings };
+}
+
+/// Keeps the place of a name's newest binding, or that it isn't bound any more. A name that was ever bound takes no memory.
+fn keep(
+    places: &mut TextMap<Option<usize>>,
+    name: &Text,
+    place: Option<usize>,
+) -> Result<(), AllocError>
+    ensures ok { OnOk result (places.new ≡ fin.insert places.old name.now place) }
+    ensures err { OnErr result (places.new ≡ places.old) }
+    ensures there { OnTrue (fin.contains_key places.old name.now) (IsOk result) }
+{
+    if places.replace(name, place) {
+        return Ok(());
+    }
+    places.insert(name.clone()?, place)
 }
 
 impl<V: Drop> Environment<V> {
@@ -89,14 +107,13 @@ impl<V: Drop> Environment<V> {
     {
         let hidden = self.place_of(name);
         let place = self.bindings.len();
-        let key = name.clone()?;
-        let name = name.clone()?;
+        let own = name.clone()?;
         self.bindings.push(Binding {
-            name,
+            name: own,
             value,
             hidden,
         })?;
-        match self.places.insert(key, Some(place)) {
+        match keep(&mut self.places, name, Some(place)) {
             Ok(()) => Ok(()),
             Err(error) => {
                 self.bindings.pop();
@@ -115,8 +132,7 @@ impl<V: Drop> Environment<V> {
         let Some(binding) = self.bindings.get(last) else {
             return Ok(());
         };
-        let name = binding.name.clone()?;
-        self.places.insert(name, binding.hidden)?;
+        keep(&mut self.places, &binding.name, binding.hidden)?;
         self.bindings.truncate(last);
         Ok(())
     }

@@ -9,7 +9,7 @@ invariant_of-self-2 g c =
     let some : 0 < length c.args.self.now = c.requires in
     let count : length c.args.self.now ≡ length bs = ap length (sym c.self.view_is) ∙ length-names_of bs in
     let last : c.len-last.result - 1 + 1 ≡ length bs = omega (arith, c.len-last.ensures, count, some) in
-    rw (c.in_ok-insert.ensures.ok, c.in_ok-name.ensures.cases, c.truncate.ensures)
+    rw (c.in_ok-keep.ensures.ok, c.truncate.ensures)
     (keeps-forgotten c.self.inside.places bs (c.len-last.result - 1) c.in-Some.binding.now c.self.invariant last (sym c.in-Some.ensures))
 
 pub returns-clause-ok : goal.returns-clause-ok
