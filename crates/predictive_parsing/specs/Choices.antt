@@ -61,6 +61,10 @@ abbrev pub alike : Bool → Bytes
 alike true = codes "see"
 alike false = codes "set"
 
+pub alike_bytes : (word : Bool) → are_bytes (alike word) ≡ true
+alike_bytes true = refl
+alike_bytes false = refl
+
 reads_one : one_of alike true (false ∷ []) (codes "set!") ≡ Ok (false, codes "!")
 unfolding one_of closest word byte one
 reads_one = refl

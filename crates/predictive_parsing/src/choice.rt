@@ -11,14 +11,18 @@ use plain_data::OrNoMemory;
 
 /// What is spelled by a word.
 pub trait Spelled: Copy {
+    ghost use Rattle.std.specs.Prelude.{true};
     ghost use Rattle.plain_data.specs.Texts.{Bytes};
 
-    /// The bytes of the word, each below 256, since `bytes` answers them.
+    /// The bytes of the word.
     ghost spelled: { Self → Bytes };
 
     /// The bytes of the word.
     fn bytes(self) -> &'static [u8]
         ensures { result.now ≡ spelled self };
+
+    /// Each number of a word is a byte.
+    ghost all_bytes: { (word : Self) → spec.are_bytes (spelled word) ≡ true };
 }
 
 /// How many bytes at the front a word has in common with others.

@@ -8,13 +8,14 @@ use Rattle.predictive_parsing.specs.Reading.{Reader, and_then, next, pure, ahead
 use Rattle.predictive_parsing.specs.Rules.{Rule, One, Then, Pure, Run}
 use Rattle.predictive_parsing.specs.Fits.{Fits, any, unless}
 use Rattle.predictive_parsing.specs.Bytes.{IsByte}
-use Rattle.predictive_parsing.specs.Choices.{In, AreWords, are_bytes}
+use Rattle.predictive_parsing.specs.Choices.{In, AreWords}
 use Rattle.predictive_parsing.proofs.Combined.{pure_fits, one_fits, seen, onwards, followed, narrowed, either_fits, run_fits, run_up_to_fits, passing_ahead}
 use Rattle.predictive_parsing.proofs.Choices.{one_of_fits}
 use Rattle.dtext.specs.Characters.{is_blank, is_letter, is_digit, is_word}
 use Rattle.dtext.specs.Follows.{no_digit}
 use Rattle.dtext.specs.Spellings.{NaturalRule}
 use Rattle.dtext.proofs.NumberFits.{natural_fits, positive_fits, digit_first}
+use Rattle.session_text.specs.code.Words.{verbs_are_bytes}
 use Rattle.session_text.specs.declared.limits.TheConstants.{MOST_ATTEMPTS, LARGEST, NAME_REST}
 use Rattle.session_text.specs.declared.verb.Verb.{Verb}
 use Rattle.session_text.specs.declared.verb.Verb.TheVariants as verb
@@ -265,26 +266,9 @@ all_words word.At = inr (inr (inr (inr (inr (inr (inr (inr (inr (inr (inr (inl r
 all_words word.Watch = inr (inr (inr (inr (inr (inr (inr (inr (inr (inr (inr (inr (inl refl))))))))))))
 all_words word.Unwatch = inr (inr (inr (inr (inr (inr (inr (inr (inr (inr (inr (inr (inr (inl refl)))))))))))))
 
--- each is made of bytes
-word_bytes : (w : VerbWord) → are_bytes (word_of w) ≡ true
-word_bytes word.Do = refl
-word_bytes word.Try = refl
-word_bytes word.Begin = refl
-word_bytes word.Step = refl
-word_bytes word.Go = refl
-word_bytes word.Drop = refl
-word_bytes word.Sync = refl
-word_bytes word.Wait = refl
-word_bytes word.Seen = refl
-word_bytes word.Quit = refl
-word_bytes word.Look = refl
-word_bytes word.At = refl
-word_bytes word.Watch = refl
-word_bytes word.Unwatch = refl
-
 -- these are all the verbs' words, made of bytes, and none begins another
 words : AreWords word_of word.Do OTHERS
-words = record { all = all_words; bytes = word_bytes; apart = refl }
+words = record { all = all_words; bytes = verbs_are_bytes; apart = refl }
 
 -- lines
 pub line_fits : Fits IsByte line VerbRule at_end

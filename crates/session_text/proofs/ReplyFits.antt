@@ -21,6 +21,7 @@ use Rattle.dtext.proofs.TextFits.{text_fits}
 use Rattle.dtext.proofs.NumberFits.{number_fits, natural_fits}
 use Rattle.dtext.proofs.FormFits.{address_fits, outcome_fits}
 use Rattle.dtext.proofs.PartFits.{part_of_fits}
+use Rattle.session_text.specs.code.Words.{replies_are_bytes, reasons_are_bytes}
 use Rattle.session_text.specs.declared.limits.TheConstants.{LARGEST, LARGEST_SHARD, LARGEST_COLUMN, LARGEST_CLIENT}
 use Rattle.session_text.specs.declared.reply.Reply.TheVariants as reply
 use Rattle.session_text.specs.declared.reply.Why.TheVariants as why
@@ -257,21 +258,9 @@ all_whys reason.Name = inr (inr (inr (inr (inr (inr (inl refl))))))
 all_whys reason.Busy = inr (inr (inr (inr (inr (inr (inr (inl refl)))))))
 all_whys reason.NoAttempt = inr (inr (inr (inr (inr (inr (inr (inr (inl refl))))))))
 
--- the word of each is made of bytes
-why_bytes : (w : WhyWord) → are_bytes (why_of w) ≡ true
-why_bytes reason.Long = refl
-why_bytes reason.Client = refl
-why_bytes reason.Verb = refl
-why_bytes reason.Syntax = refl
-why_bytes reason.BadType = refl
-why_bytes reason.Writes = refl
-why_bytes reason.Name = refl
-why_bytes reason.Busy = refl
-why_bytes reason.NoAttempt = refl
-
 -- these are all the words for reasons, made of bytes, and none begins another
 why_words : AreWords why_of reason.Long whys.OTHERS
-why_words = record { all = all_whys; bytes = why_bytes; apart = refl }
+why_words = record { all = all_whys; bytes = reasons_are_bytes; apart = refl }
 
 -- reason by reason: nothing more, or a column
 why_form_fits : (w : WhyWord) → Fits IsByte (why_form w) (WhyForm w) no_digit
@@ -406,29 +395,9 @@ all_words first.Disk = inr (inr (inr (inr (inr (inr (inr (inr (inr (inr (inr (in
 all_words first.Dropped = inr (inr (inr (inr (inr (inr (inr (inr (inr (inr (inr (inr (inr (inr (inr (inl refl)))))))))))))))
 all_words first.Refused = inr (inr (inr (inr (inr (inr (inr (inr (inr (inr (inr (inr (inr (inr (inr (inr (inl refl))))))))))))))))
 
--- each is made of bytes
-word_bytes : (w : ReplyWord) → are_bytes (word_of w) ≡ true
-word_bytes first.Commit = refl
-word_bytes first.Abort = refl
-word_bytes first.Read = refl
-word_bytes first.Prepare = refl
-word_bytes first.Follow = refl
-word_bytes first.At = refl
-word_bytes first.Run = refl
-word_bytes first.Current = refl
-word_bytes first.Idle = refl
-word_bytes first.Seen = refl
-word_bytes first.Late = refl
-word_bytes first.Ahead = refl
-word_bytes first.Held = refl
-word_bytes first.Full = refl
-word_bytes first.Disk = refl
-word_bytes first.Dropped = refl
-word_bytes first.Refused = refl
-
 -- these are all the first words, made of bytes, and none begins another
 words : AreWords word_of first.Commit replies.OTHERS
-words = record { all = all_words; bytes = word_bytes; apart = refl }
+words = record { all = all_words; bytes = replies_are_bytes; apart = refl }
 
 -- a first word fits whatever follows, and tells what is read behind it
 pub reply_fits : Fits IsByte reply_read ReplyRule no_more

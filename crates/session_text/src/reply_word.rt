@@ -46,6 +46,7 @@ pub(crate) const OTHERS: [ReplyWord; 16] = [
 
 impl Spelled for ReplyWord {
     ghost use Rattle.session_text.specs.Printing.{word_of};
+    ghost use Rattle.session_text.specs.code.Words.{replies_are_bytes};
 
     ghost spelled = { word_of };
 
@@ -70,4 +71,6 @@ impl Spelled for ReplyWord {
             ReplyWord::Refused => b"refused".as_slice(),
         }
     }
+
+    ghost all_bytes = { replies_are_bytes };
 }

@@ -40,6 +40,7 @@ pub(crate) const OTHERS: [VerbWord; 13] = [
 
 impl Spelled for VerbWord {
     ghost use Rattle.session_text.specs.Lines.{word_of};
+    ghost use Rattle.session_text.specs.code.Words.{verbs_are_bytes};
 
     ghost spelled = { word_of };
 
@@ -61,4 +62,6 @@ impl Spelled for VerbWord {
             VerbWord::Unwatch => b"unwatch".as_slice(),
         }
     }
+
+    ghost all_bytes = { verbs_are_bytes };
 }

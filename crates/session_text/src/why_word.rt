@@ -30,6 +30,7 @@ pub(crate) const OTHERS: [WhyWord; 8] = [
 
 impl Spelled for WhyWord {
     ghost use Rattle.session_text.specs.Printing.{why_of};
+    ghost use Rattle.session_text.specs.code.Words.{reasons_are_bytes};
 
     ghost spelled = { why_of };
 
@@ -46,4 +47,6 @@ impl Spelled for WhyWord {
             WhyWord::NoAttempt => b"none".as_slice(),
         }
     }
+
+    ghost all_bytes = { reasons_are_bytes };
 }

@@ -78,7 +78,7 @@ fn prefixes(rt: HostRuntime) {
 struct Alike(bool);
 
 impl Spelled for Alike {
-    ghost use Rattle.predictive_parsing.specs.Choices.{alike};
+    ghost use Rattle.predictive_parsing.specs.Choices.{alike, alike_bytes};
 
     ghost spelled = { λ word. alike word.0 };
 
@@ -89,6 +89,8 @@ impl Spelled for Alike {
             b"set".as_slice()
         }
     }
+
+    ghost all_bytes = { λ word. alike_bytes word.0 };
 }
 
 #[test]
