@@ -22,3 +22,4 @@ pub mod Reported
 pub mod Sound
 pub mod Pauses
 pub mod Asked
+pub mod AskedOn
