@@ -1,6 +1,8 @@
 //! Cuts a text into tokens.
 
-ghost use Rattle.std.specs.Prelude.{◌≡◌, ◌<◌, ◌-◌, ◌^◌, length, IfOk};
+ghost use Rattle.std.specs.Prelude.{◌≡◌, ◌<◌, ◌-◌, ◌^◌, length, IfOk, Ok};
+ghost use Rattle.txn_grammar.specs.declared.limit.TheConstants.{LONGEST_NAME};
+ghost use Rattle.txn_grammar.specs.declared.token.Token.TheVariants as t;
 ghost use Rattle.txn_grammar.specs.Lexer as spec;
 ghost use Rattle.txn_grammar.specs.code.Unquoted as code;
 
@@ -17,7 +19,10 @@ use std::alloc::{AllocError, Global};
 /// A reserved word, or else a name.
 #[tactic(auto, unfolding(crate::specs::Lexer::word_token))]
 fn word_token(alloc: Global, word: &[u8]) -> Result<Token, AllocError>
-    ensures { IfOk result (λ token. token ≡ spec.word_token word.now) }
+    ensures token { IfOk result (λ token. token ≡ spec.word_token word.now) }
+
+    // A word that is too long is malformed before memory is taken.
+    ensures long { LONGEST_NAME < length word.now → result ≡ Ok t.Malformed }
 {
     if word.len() > LONGEST_NAME {
         return Ok(Token::Malformed);

@@ -204,7 +204,8 @@ fn take_copy(
     cursor: &mut Cursor<Spot>,
     found: Option<(u32, &Text)>,
 ) -> Result<(u32, Text), OrNoMemory<Refused>>
-    ensures reads { (f : Spot → Option (ℕ × List ℕ)) → lent found.entry ≡ made_of f cursor.old → Reads (read.one f cursor.old) result cursor.new }
+    ensures reads { (f : Spot → Option (ℕ × List ℕ)) → lent found.entry ≡ made_of f cursor.old
+        → Reads (read.one f cursor.old) result cursor.new }
     ensures refusal { found.entry ≡ None → OnlyRefuses result }
 {
     let Some((column, text)) = found else {
