@@ -5,3 +5,4 @@ pub mod FoundKept
 pub mod Steady
 pub mod Pauses
 pub mod MoreKnown
+pub mod TooMuch

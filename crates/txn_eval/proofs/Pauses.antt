@@ -44,7 +44,7 @@ use Rattle.txn_eval.specs.code.Answers.{EndsAs}
 use Rattle.txn_eval.specs.code.Buffering.{kept, nothing_kept, kept_ended}
 use Rattle.txn_eval.specs.code.Forms.{charged}
 use Rattle.txn_eval.specs.code.Pauses.{first_pause, node_holds_block, holds_block, Stays, Steps, Goes, GoesOn, GoesIn, Gives, GivesOver, Enters, OnGoing, inside, taken_back}
-use Rattle.txn_eval.specs.code.Pauses.{stmts_left, stmt_left, block_left, node_left}
+use Rattle.txn_eval.specs.code.Pauses.{stmts_left, stmt_left, block_left, node_left, left_behind}
 use Rattle.txn_eval.proofs.Bound.{Same, turn_same, stmts_bound}
 use Rattle.txn_eval.proofs.Steady.{Alike, alike_from, charge_steady, expr_steady, values_left}
 
@@ -638,16 +638,18 @@ module _ (s : PartialState) (x : Bytes) (ss : List Stmt) where
           (stop_then s e after after q rest (λ t. turn x (does t) text names p) (λ t after. from t (place + 1) after) stops)
 
       -- a turn that needs a value
-      pub turn_needs : (e stop' : Stop) (a : Address) (outside here next : ℕ) (k new : Pause) (expr : Expr) → stop' ≡ stop.Need a
-          → Enters e a new (inside (around.Turn over next) outside here k) → next ≡ place + 1
+      pub turn_needs : (taken : Over) → ((ns : Names) → left_behind place over ns ≡ left_behind place taken ns)
+          → (e stop' : Stop) (a : Address) (outside here next : ℕ) (k new : Pause) (expr : Expr) → stop' ≡ stop.Need a
+          → Enters e a new (inside (around.Turn taken next) outside here k) → next ≡ place + 1
           → Goes s (Err stop') k.names k.run (λ t. block_left ss outside t k) (λ t. turn x (does t) text names p)
           → GoesIn s (Err e) (node_left (StmtNode-F.For x expr ss)) whole new
-      turn_needs e stop' a outside here next k new expr needs enters count stops =
-          block_needs s e stop' a (around.Turn over next) ss outside here k new (node_left (StmtNode-F.For x expr ss))
+      turn_needs taken behind e stop' a outside here next k new expr needs enters count stops =
+          block_needs s e stop' a (around.Turn taken next) ss outside here k new (node_left (StmtNode-F.For x expr ss))
           (λ t. and_then (block_left ss outside t k) (λ after. from t (place + 1) after)) whole needs enters
           (λ t more.
-          ap (λ n. and_then (block_left ss outside t k) (λ after. from t n after)) (sym count)
-          ∙ sym (round_is t x expr ss over next outside k))
+          (λ i. and_then (block_left ss outside t k) (λ after. turns x (does t) (behind after i) after))
+          ∙ (ap (λ n. and_then (block_left ss outside t k) (λ after. turns x (does t) (drop n (texts_over taken after)) after)) (sym count)
+          ∙ sym (round_is t x expr ss taken next outside k)))
           (turn_stops stop' k.names k.run (λ t. block_left ss outside t k) stops)
 
     -- what is left of a turn, behind which the turns go on

@@ -1,6 +1,6 @@
 pub mod Buffering
 pub mod Answers
-pub mod Lengths
+pub mod Lending
 pub mod Forms
 pub mod Loops
 pub mod Found

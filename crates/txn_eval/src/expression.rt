@@ -1,49 +1,44 @@
 //! What expressions do.
 
-ghost use Rattle.std.specs.Prelude.{◌≡◌, map, []};
+ghost use Rattle.std.specs.Prelude.{◌≡◌};
 ghost use Rattle.txn_lang.specs.Items as spec;
 ghost use Rattle.txn_lang.specs.Steps as steps;
 ghost use Rattle.txn_lang.specs.Rules as rules;
-ghost use Rattle.txn_eval.specs.code.Answers.{Answers};
-ghost use Rattle.txn_eval.specs.code.Buffering.{kept};
-ghost use Rattle.txn_eval.specs.code.Forms.{charged, expr_on, exprs_on, form_on, compare_run, read_run};
-ghost use Rattle.txn_eval.specs.code.Lengths.{length_run};
-ghost use Rattle.txn_eval.specs.Running.{values_of};
-ghost use Rattle.txn_trees.specs.declared.expression.ExprNode.TheOpen.{ExprNode-F};
+ghost use Rattle.txn_eval.specs.code.Answers.{Answers, Leaves};
+ghost use Rattle.txn_eval.specs.code.Forms.{charged, expr_here, exprs_here, link_here, chain_here, read_here, answered_here};
+ghost use Rattle.txn_eval.specs.code.Forms.{texts_here, length_here, str_here, negative_here, not_here, beside_here};
 
 use crate::charging::charge;
-use crate::environment::Environment;
+use crate::here::Here;
 use crate::items::{
-    bool_in, compares, decides, elements_in, int_in, into_text, joined, length_item, negated,
-    shown_int, texts_of,
+    address_of, bool_in, compares, decides, elements_in, int_in, into_text, joined, length_item,
+    negated, shown_int, texts_of,
 };
 use crate::kept::Kept;
+use crate::lent::{Lent, lend, lend_named};
 use crate::memory::read_at;
 use crate::naming::named;
-use crate::sizes::sized;
+use crate::sizes::{fits, sized};
 use crate::words::read_of;
 use plain_data::Text;
-use rdt_types::{Address, Item, ItemList, Kind};
-use std::alloc::Global;
-use txn_lang::{Progress, Snaps, Stop};
+use rdt_types::{Address, Item, ItemList};
+use txn_lang::{Progress, Stop};
 use txn_trees::{Expr, ExprNode, Operand, ReadWord, Relation};
 
 /// Does one further operand of a chain, unless the item so far decides.
 #[cycle(value)]
 fn link(
-    alloc: Global,
-    snaps: &Snaps,
-    names: &Environment,
+    here: &Here<'_>,
     run: &mut Progress<Kept>,
     item: Item,
     operand: &Operand,
 ) -> Result<Item, Stop>
-    ensures { let o = rules.operand_run (kept (values_of snaps.now)) operand.now in Answers result run.new (rules.link o.0 item o.1 names.now run.old) }
+    ensures { Answers result run.new (link_here here.now operand.now item run.old) }
 {
     if decides(operand.operator, &item) {
         return Ok(item);
     }
-    let next = value_of(alloc, snaps, names, run, &operand.value)?;
+    let next = value_of(here, run, &operand.value)?;
     let made = joined(operand.operator, item, next)?;
     sized(run, made)
 }
@@ -51,18 +46,16 @@ fn link(
 /// Does a chain's further operands.
 #[cycle(value)]
 fn chain(
-    alloc: Global,
-    snaps: &Snaps,
-    names: &Environment,
+    here: &Here<'_>,
     run: &mut Progress<Kept>,
     first: Item,
     operands: &[Operand],
 ) -> Result<Item, Stop>
-    ensures { Answers result run.new (rules.chain first (map (rules.operand_run (kept (values_of snaps.now))) operands.now) names.now run.old) }
+    ensures { Answers result run.new (chain_here here.now operands.now first run.old) }
 {
     let mut item = first;
     for operand in operands {
-        item = link(alloc, snaps, names, run, item, operand)?;
+        item = link(here, run, item, operand)?;
     }
     Ok(item)
 }
@@ -71,39 +64,31 @@ fn chain(
 #[cycle(value)]
 #[inline(always)]
 pub(crate) fn values_of(
-    alloc: Global,
-    snaps: &Snaps,
-    names: &Environment,
+    here: &Here<'_>,
     run: &mut Progress<Kept>,
     exprs: &[Expr],
 ) -> Result<ItemList, Stop>
-    ensures { Answers result run.new (rules.all_values [] (map (rules.expr_run (kept (values_of snaps.now))) exprs.now) names.now run.old) }
+    ensures { Answers result run.new (exprs_here here.now exprs.now run.old) }
 {
-    let mut items = ItemList::new(alloc);
+    let mut items = ItemList::new(here.alloc);
     for expr in exprs {
-        items.push(value_of(alloc, snaps, names, run, expr)?)?;
+        items.push(value_of(here, run, expr)?)?;
     }
     Ok(items)
 }
 
 /// What a read answers, charged and sized.
 fn read(
-    alloc: Global,
-    snaps: &Snaps,
+    here: &Here<'_>,
     run: &mut Progress<Kept>,
-    kind: Kind,
-    key: Item,
+    address: Address,
     word: ReadWord,
     arguments: &[Item],
 ) -> Result<Item, Stop>
-    ensures { Answers result run.new (rules.read_with (kept (values_of snaps.now)) kind key word arguments.now run.old) }
+    ensures { Answers result run.new (answered_here here.now address word arguments.now run.old) }
 {
-    let read = read_of(alloc, kind, word, arguments)?;
-    let address = Address {
-        kind,
-        key: into_text(alloc, key),
-    };
-    let item = read_at(alloc, snaps, run, &read, address)?;
+    let read = read_of(here.alloc, address.kind, word, arguments)?;
+    let item = read_at(here.alloc, here.snaps, run, &read, address)?;
     charge(run, elements_in(&item))?;
     sized(run, item)
 }
@@ -111,25 +96,22 @@ fn read(
 /// What a read with arguments answers. A single one takes no list.
 #[cycle(value)]
 fn read_with(
-    alloc: Global,
-    snaps: &Snaps,
-    names: &Environment,
+    here: &Here<'_>,
     run: &mut Progress<Kept>,
-    kind: Kind,
-    key: Item,
+    address: Address,
     word: ReadWord,
     arguments: &[Expr],
 ) -> Result<Item, Stop>
-    ensures { Answers result run.new (read_run (kept (values_of snaps.now)) kind key word arguments.now names.now run.old) }
+    ensures { Answers result run.new (read_here here.now address word arguments.now run.old) }
 {
     match arguments {
         [only] => {
-            let items = [value_of(alloc, snaps, names, run, only)?];
-            read(alloc, snaps, run, kind, key, word, &items)
+            let items = [value_of(here, run, only)?];
+            read(here, run, address, word, &items)
         }
         _ => {
-            let items = values_of(alloc, snaps, names, run, arguments)?;
-            read(alloc, snaps, run, kind, key, word, items.as_slice())
+            let items = values_of(here, run, arguments)?;
+            read(here, run, address, word, items.as_slice())
         }
     }
 }
@@ -138,20 +120,17 @@ fn read_with(
 #[cycle(value)]
 #[inline(always)]
 fn read_given(
-    alloc: Global,
-    snaps: &Snaps,
-    names: &Environment,
+    here: &Here<'_>,
     run: &mut Progress<Kept>,
-    kind: Kind,
-    key: Item,
+    address: Address,
     word: ReadWord,
     arguments: &[Expr],
 ) -> Result<Item, Stop>
-    ensures { Answers result run.new (read_run (kept (values_of snaps.now)) kind key word arguments.now names.now run.old) }
+    ensures { Answers result run.new (read_here here.now address word arguments.now run.old) }
 {
     match arguments {
-        [] => read(alloc, snaps, run, kind, key, word, &[]),
-        _ => read_with(alloc, snaps, names, run, kind, key, word, arguments),
+        [] => read(here, run, address, word, &[]),
+        _ => read_with(here, run, address, word, arguments),
     }
 }
 
@@ -163,79 +142,68 @@ fn constant(run: &mut Progress<Kept>, item: Item) -> Result<Item, Stop>
     Ok(item)
 }
 
+/// What a literal text does, which stays in its place.
+fn literal(run: &mut Progress<Kept>, text: &Text) -> Result<(), Stop>
+    ensures { Leaves result (Item.Text text.now) run.new (charged (rules.sized (Item.Text text.now)) run.old) }
+{
+    charge(run, 1)?;
+    fits(run, text)
+}
+
 /// What a literal text gives.
 fn text(run: &mut Progress<Kept>, text: &Text) -> Result<Item, Stop>
     ensures { Answers result run.new (charged (rules.sized (Item.Text text.now)) run.old) }
 {
-    charge(run, 1)?;
-    let text = text.clone()?;
-    sized(run, Item::Text(text))
+    literal(run, text)?;
+    Ok(Item::Text(text.clone()?))
 }
 
 /// What a key gives. Most keys are literal texts.
 #[cycle(value)]
 #[inline(always)]
-pub(crate) fn key_of(
-    alloc: Global,
-    snaps: &Snaps,
-    names: &Environment,
-    run: &mut Progress<Kept>,
-    expr: &Expr,
-) -> Result<Item, Stop>
-    ensures { Answers result run.new (rules.expr_run (kept (values_of snaps.now)) expr.now names.now run.old) }
+pub(crate) fn key_of(here: &Here<'_>, run: &mut Progress<Kept>, expr: &Expr) -> Result<Item, Stop>
+    ensures { Answers result run.new (expr_here here.now expr.now run.old) }
 {
     match &expr.node {
         ExprNode::Text(literal) => text(run, literal),
-        _ => value_of(alloc, snaps, names, run, expr),
+        _ => value_of(here, run, expr),
     }
 }
 
 /// What a name gives.
-fn name(names: &Environment, run: &mut Progress<Kept>, name: &Text) -> Result<Item, Stop>
-    ensures { Answers result run.new (charged (steps.pure (spec.named names.now name.now)) run.old) }
+fn name(here: &Here<'_>, run: &mut Progress<Kept>, name: &Text) -> Result<Item, Stop>
+    ensures { Answers result run.new (charged (steps.pure (spec.named here.now.names.now name.now)) run.old) }
 {
     charge(run, 1)?;
-    Ok(named(names, name)?)
+    Ok(named(here.names, name)?)
 }
 
 /// What texts between brackets give.
 #[cycle(value)]
-fn texts(
-    alloc: Global,
-    snaps: &Snaps,
-    names: &Environment,
-    run: &mut Progress<Kept>,
-    elements: &[Expr],
-) -> Result<Item, Stop>
-    ensures { Answers result run.new (form_on snaps.now (ExprNode-F.Texts (exprs_on snaps.now elements.now)) names.now run.old) }
+fn texts(here: &Here<'_>, run: &mut Progress<Kept>, elements: &[Expr]) -> Result<Item, Stop>
+    ensures { Answers result run.new (texts_here here.now elements.now run.old) }
 {
     charge(run, 1)?;
-    let items = values_of(alloc, snaps, names, run, elements)?;
-    let texts = texts_of(alloc, items)?;
+    let items = values_of(here, run, elements)?;
+    let texts = texts_of(here.alloc, items)?;
     sized(run, Item::Texts(texts))
 }
 
 /// The length of what an expression gives. What a name stands for isn't copied for it.
 #[cycle(value)]
-fn length(
-    alloc: Global,
-    snaps: &Snaps,
-    names: &Environment,
-    run: &mut Progress<Kept>,
-    expr: &Expr,
-) -> Result<Item, Stop>
-    ensures { Answers result run.new (length_run (kept (values_of snaps.now)) expr.now names.now run.old) }
+fn length(here: &Here<'_>, run: &mut Progress<Kept>, expr: &Expr) -> Result<Item, Stop>
+    ensures { Answers result run.new (length_here here.now expr.now run.old) }
 {
     match &expr.node {
         ExprNode::Name(name) => {
             charge(run, 1)?;
-            match names.get(name) {
+            match here.names.get(name) {
                 Some(item) => Ok(length_item(item)?),
                 None => Ok(Item::Int(0)),
             }
         }
         _ => {
-            let item = value_of(alloc, snaps, names, run, expr)?;
+            let item = value_of(here, run, expr)?;
             Ok(length_item(&item)?)
         }
     }
@@ -243,116 +211,108 @@ fn length(
 
 /// The decimal form of what an expression gives.
 #[cycle(value)]
-fn decimal(
-    alloc: Global,
-    snaps: &Snaps,
-    names: &Environment,
-    run: &mut Progress<Kept>,
-    expr: &Expr,
-) -> Result<Item, Stop>
-    ensures { Answers result run.new (form_on snaps.now (ExprNode-F.Str (expr_on snaps.now expr.now)) names.now run.old) }
+fn decimal(here: &Here<'_>, run: &mut Progress<Kept>, expr: &Expr) -> Result<Item, Stop>
+    ensures { Answers result run.new (str_here here.now expr.now run.old) }
 {
     charge(run, 1)?;
-    let item = value_of(alloc, snaps, names, run, expr)?;
-    Ok(Item::Text(shown_int(alloc, int_in(&item))?))
+    let item = value_of(here, run, expr)?;
+    Ok(Item::Text(shown_int(here.alloc, int_in(&item))?))
 }
 
 /// What an expression gives, negated.
 #[cycle(value)]
-fn negative(
-    alloc: Global,
-    snaps: &Snaps,
-    names: &Environment,
-    run: &mut Progress<Kept>,
-    expr: &Expr,
-) -> Result<Item, Stop>
-    ensures { Answers result run.new (form_on snaps.now (ExprNode-F.Negative (expr_on snaps.now expr.now)) names.now run.old) }
+fn negative(here: &Here<'_>, run: &mut Progress<Kept>, expr: &Expr) -> Result<Item, Stop>
+    ensures { Answers result run.new (negative_here here.now expr.now run.old) }
 {
     charge(run, 1)?;
-    let item = value_of(alloc, snaps, names, run, expr)?;
+    let item = value_of(here, run, expr)?;
     Ok(negated(&item))
 }
 
 /// Whether what an expression gives is false.
 #[cycle(value)]
-fn opposite(
-    alloc: Global,
-    snaps: &Snaps,
-    names: &Environment,
-    run: &mut Progress<Kept>,
-    expr: &Expr,
-) -> Result<Item, Stop>
-    ensures { Answers result run.new (form_on snaps.now (ExprNode-F.Not (expr_on snaps.now expr.now)) names.now run.old) }
+fn opposite(here: &Here<'_>, run: &mut Progress<Kept>, expr: &Expr) -> Result<Item, Stop>
+    ensures { Answers result run.new (not_here here.now expr.now run.old) }
 {
     charge(run, 1)?;
-    let item = value_of(alloc, snaps, names, run, expr)?;
+    let item = value_of(here, run, expr)?;
     Ok(Item::Bool(!bool_in(&item)))
 }
 
-/// How what was given on the left compares with what an expression gives.
+/// How an item on the left compares with what an expression gives. What a name stands for, and a literal text, isn't copied
+/// for it.
 #[cycle(value)]
-fn compared(
-    alloc: Global,
-    snaps: &Snaps,
-    names: &Environment,
+fn beside(
+    here: &Here<'_>,
     run: &mut Progress<Kept>,
-    left: Item,
+    left: Lent<'_>,
     relation: Relation,
     expr: &Expr,
 ) -> Result<Item, Stop>
-    ensures { Answers result run.new (compare_run (kept (values_of snaps.now)) left relation expr.now names.now run.old) }
+    ensures { Answers result run.new (beside_here here.now left.entry relation expr.now run.old) }
 {
-    let right = value_of(alloc, snaps, names, run, expr)?;
-    Ok(Item::Bool(compares(relation, &left, &right)))
+    match &expr.node {
+        ExprNode::Name(name) => {
+            charge(run, 1)?;
+            let right = lend_named(here.names, name);
+            Ok(Item::Bool(compares(relation, left, right)))
+        }
+        ExprNode::Text(text) => {
+            literal(run, text)?;
+            Ok(Item::Bool(compares(relation, left, Lent::Text(text))))
+        }
+        _ => {
+            let right = value_of(here, run, expr)?;
+            Ok(Item::Bool(compares(relation, left, lend(&right))))
+        }
+    }
 }
 
 /// What an expression does. Each form that makes items of its own is a function of its own, so that none of them has room here.
 #[cycle(value)]
-pub fn value_of(
-    alloc: Global,
-    snaps: &Snaps,
-    names: &Environment,
-    run: &mut Progress<Kept>,
-    expr: &Expr,
-) -> Result<Item, Stop>
-    ensures { Answers result run.new (rules.expr_run (kept (values_of snaps.now)) expr.now names.now run.old) }
+pub(crate) fn value_of(here: &Here<'_>, run: &mut Progress<Kept>, expr: &Expr) -> Result<Item, Stop>
+    ensures { Answers result run.new (expr_here here.now expr.now run.old) }
 {
     match &expr.node {
         ExprNode::Number(n) => constant(run, Item::Int(*n)),
         ExprNode::Bool(b) => constant(run, Item::Bool(*b)),
         ExprNode::Text(literal) => text(run, literal),
-        ExprNode::Name(bound) => name(names, run, bound),
-        ExprNode::Texts(elements) => texts(alloc, snaps, names, run, elements.as_slice()),
-        ExprNode::Not(a) => opposite(alloc, snaps, names, run, a.get()),
-        ExprNode::Negative(a) => negative(alloc, snaps, names, run, a.get()),
-        ExprNode::Str(a) => decimal(alloc, snaps, names, run, a.get()),
+        ExprNode::Name(bound) => name(here, run, bound),
+        ExprNode::Texts(elements) => texts(here, run, elements.as_slice()),
+        ExprNode::Not(a) => opposite(here, run, a.get()),
+        ExprNode::Negative(a) => negative(here, run, a.get()),
+        ExprNode::Str(a) => decimal(here, run, a.get()),
         ExprNode::Len(a) => {
             charge(run, 1)?;
-            length(alloc, snaps, names, run, a.get())
+            length(here, run, a.get())
         }
         ExprNode::Compare(a, relation, b) => {
             charge(run, 1)?;
-            let left = value_of(alloc, snaps, names, run, a.get())?;
-            compared(alloc, snaps, names, run, left, *relation, b.get())
+            match &a.get().node {
+                ExprNode::Name(name) => {
+                    charge(run, 1)?;
+                    beside(here, run, lend_named(here.names, name), *relation, b.get())
+                }
+                ExprNode::Text(text) => {
+                    literal(run, text)?;
+                    beside(here, run, Lent::Text(text), *relation, b.get())
+                }
+                _ => {
+                    let left = value_of(here, run, a.get())?;
+                    beside(here, run, lend(&left), *relation, b.get())
+                }
+            }
         }
         ExprNode::Chain(first, operands) => {
             charge(run, operands.len() as u64)?;
-            let item = value_of(alloc, snaps, names, run, first.get())?;
-            chain(alloc, snaps, names, run, item, operands.as_slice())
+            let item = value_of(here, run, first.get())?;
+            chain(here, run, item, operands.as_slice())
         }
         ExprNode::Read(kind, key, word, arguments) => {
             charge(run, 1)?;
-            let key = key_of(alloc, snaps, names, run, key.get())?;
-            read_given(
-                alloc,
-                snaps,
-                names,
-                run,
-                *kind,
-                key,
-                *word,
-                arguments.as_slice(),
-            )
+            let key = key_of(here, run, key.get())?;
+            let address = address_of(here.alloc, *kind, key);
+            read_given(here, run, address, *word, arguments.as_slice())
         }
     }
 }

@@ -12,14 +12,15 @@ ghost use Rattle.txn_eval.specs.Pausing.{texts_over};
 ghost use Rattle.txn_eval.specs.Running.{values_of};
 ghost use Rattle.txn_eval.specs.code.Answers.{Answers};
 ghost use Rattle.txn_eval.specs.code.Buffering.{kept};
-ghost use Rattle.txn_eval.specs.code.Forms.{charged};
-ghost use Rattle.txn_eval.specs.code.Loops.{stmts_on};
-ghost use Rattle.txn_eval.specs.code.Pauses.{holds_block, taken_back, Goes, GoesOn, GoesIn, Gives, GivesOver, Enters, OnGoing, inside};
+ghost use Rattle.txn_eval.specs.code.Forms.{charged, expr_here};
+ghost use Rattle.txn_eval.specs.code.Pauses.{holds_block, taken_back, Goes, GoesIn, GoesKnown, GoesPlainly, GivesHere, GivesOverHere};
+ghost use Rattle.txn_eval.specs.code.Pauses.{Enters, OnGoing, inside};
 ghost use Rattle.txn_eval.specs.code.Pauses.{stmts_left, stmt_left, block_left, node_left};
 
 use crate::charging::charge;
 use crate::environment::Environment;
 use crate::expression::value_of;
+use crate::here::{Here, Known};
 use crate::items::{bool_in, into_texts};
 use crate::kept::Kept;
 use crate::naming::text_over;
@@ -28,8 +29,7 @@ use crate::statement::simple;
 use crate::trail::{Around, Frame, Over};
 use plain_data::Text;
 use rdt_types::{Address, Item};
-use std::alloc::Global;
-use txn_lang::{Progress, Snaps, Stop};
+use txn_lang::{Progress, Stop};
 use txn_trees::{Expr, ExprNode, Stmt, StmtNode};
 
 /// Takes back what a step has charged and observed.
@@ -41,32 +41,20 @@ fn take_back(run: &mut Progress<Kept>, ticks: u64, count: usize)
 }
 
 /// What an expression gives, behind the tick of its statement.
-fn charged_value(
-    alloc: Global,
-    snaps: &Snaps,
-    names: &Environment,
-    run: &mut Progress<Kept>,
-    expr: &Expr,
-) -> Result<Item, Stop>
-    ensures { Answers result run.new (charged (rules.expr_run (kept (values_of snaps.now)) expr.now names.now) run.old) }
+fn charged_value(here: &Here<'_>, run: &mut Progress<Kept>, expr: &Expr) -> Result<Item, Stop>
+    ensures { Answers result run.new (charged (expr_here here.now expr.now) run.old) }
 {
     charge(run, 1)?;
-    value_of(alloc, snaps, names, run, expr)
+    value_of(here, run, expr)
 }
 
 /// The same. Where it needs a value, what it has charged and observed is taken back.
-fn head(
-    alloc: Global,
-    snaps: &Snaps,
-    names: &Environment,
-    run: &mut Progress<Kept>,
-    expr: &Expr,
-) -> Result<Item, Stop>
-    ensures { Gives (values_of snaps.now) result run.new run.old (λ t. charged (rules.expr_run (kept t) expr.now names.now) run.old) }
+fn head(here: &Here<'_>, run: &mut Progress<Kept>, expr: &Expr) -> Result<Item, Stop>
+    ensures { GivesHere here.now result run.new run.old expr.now }
 {
     let ticks = run.ticks;
     let count = run.memory.observations.len();
-    match charged_value(alloc, snaps, names, run, expr) {
+    match charged_value(here, run, expr) {
         Ok(item) => Ok(item),
         Err(stop) => match stop {
             Stop::Need(address) => {
@@ -79,14 +67,8 @@ fn head(
 }
 
 /// What a loop over an expression goes over, behind the tick of its statement. The list that a name stands for stays in its place.
-fn over_of(
-    alloc: Global,
-    snaps: &Snaps,
-    names: &Environment,
-    run: &mut Progress<Kept>,
-    expr: &Expr,
-) -> Result<Over, Stop>
-    ensures { GivesOver (values_of snaps.now) result names.now run.new run.old (λ t. charged (rules.expr_run (kept t) expr.now names.now) run.old) }
+fn over_of(here: &Here<'_>, run: &mut Progress<Kept>, expr: &Expr) -> Result<Over, Stop>
+    ensures { GivesOverHere here.now result run.new run.old expr.now }
 {
     match &expr.node {
         ExprNode::Name(listed) => {
@@ -95,27 +77,25 @@ fn over_of(
             Ok(Over::Name(listed.clone()?))
         }
         _ => {
-            let item = head(alloc, snaps, names, run, expr)?;
-            Ok(Over::Texts(into_texts(alloc, item)))
+            let item = head(here, run, expr)?;
+            Ok(Over::Texts(into_texts(here.alloc, item)))
         }
     }
 }
 
 /// A statement that holds no block. Where it needs a value, it has only charged ticks and observed, and that is taken back.
 fn plain(
-    alloc: Global,
-    snaps: &Snaps,
+    known: &Known<'_>,
     names: &mut Environment,
     run: &mut Progress<Kept>,
     stmt: &Stmt,
 ) -> Result<(), Stop>
     requires { holds_block stmt.now ≡ false }
-    ensures { Goes (values_of snaps.now) result names.new run.new
-        (λ t. rules.stmt_run (kept t) stmt.now names.new run.new) (λ t. rules.stmt_run (kept t) stmt.now names.old run.old) }
+    ensures { GoesPlainly known.now result stmt.now (names.old, run.old) (names.new, run.new) }
 {
     let ticks = run.ticks;
     let count = run.memory.observations.len();
-    match simple(alloc, snaps, names, run, stmt) {
+    match simple(known, names, run, stmt) {
         Ok(()) => Ok(()),
         Err(stop) => match stop {
             Stop::Need(address) => {
@@ -146,17 +126,11 @@ fn enter(pause: &mut Pause, around: Around, outside: usize, here: usize, address
 
 /// What is left of a block, from its statement at which the run stands. It forgets the names that it bound.
 #[cycle(step)]
-fn block(
-    alloc: Global,
-    snaps: &Snaps,
-    pause: &mut Pause,
-    outside: usize,
-    stmts: &[Stmt],
-) -> Result<(), Stop>
-    ensures goes { GoesOn (values_of snaps.now) result (block_left stmts.now outside) pause.old pause.new }
+fn block(known: &Known<'_>, pause: &mut Pause, outside: usize, stmts: &[Stmt]) -> Result<(), Stop>
+    ensures goes { GoesKnown known.now result (block_left stmts.now outside) pause.old pause.new }
     ensures trail { OnOk result (pause.new.trail ≡ []) }
 {
-    go_through(alloc, snaps, pause, stmts)?;
+    go_through(known, pause, stmts)?;
     pause.names.truncate(outside)?;
     Ok(())
 }
@@ -164,8 +138,7 @@ fn block(
 /// A branch of an `if`, from a statement of it on.
 #[cycle(step)]
 fn branch(
-    alloc: Global,
-    snaps: &Snaps,
+    known: &Known<'_>,
     pause: &mut Pause,
     around: Around,
     outside: usize,
@@ -173,13 +146,13 @@ fn branch(
     stmts: &[Stmt],
 ) -> Result<(), Stop>
     ensures goes { (node : StmtNode-F StmtNode Stmt) → ((t : PartialState) (k : Pause) → block_left stmts.now outside t k ≡ node_left node around outside t k)
-        → GoesIn (values_of snaps.now) result (node_left node) (λ t. block_left stmts.now outside t (record pause.old { at = at })) pause.new }
+        → GoesIn (values_of known.now.snaps.now) result (node_left node) (λ t. block_left stmts.now outside t (record pause.old { at = at })) pause.new }
     ensures trail { OnOk result (pause.new.trail ≡ []) }
     ensures at { OnGoing result (pause.new.at ≡ pause.old.at) }
 {
     let here = pause.at;
     pause.at = at;
-    match block(alloc, snaps, pause, outside, stmts) {
+    match block(known, pause, outside, stmts) {
         Ok(()) => {
             pause.at = here;
             Ok(())
@@ -194,15 +167,14 @@ fn branch(
 /// A turn of a loop, with its text. It forgets the names that it bound.
 #[cycle(step)]
 fn turn(
-    alloc: Global,
-    snaps: &Snaps,
+    known: &Known<'_>,
     pause: &mut Pause,
     name: &Text,
     text: Text,
     stmts: &[Stmt],
 ) -> Result<(), Stop>
     requires { pause.old.trail ≡ [] }
-    ensures goes { Goes (values_of snaps.now) result pause.new.names pause.new.run (λ t. block_left stmts.now (length pause.old.names) t pause.new)
+    ensures goes { Goes (values_of known.now.snaps.now) result pause.new.names pause.new.run (λ t. block_left stmts.now (length pause.old.names) t pause.new)
         (λ t. rules.turn name.now (map (rules.stmt_run (kept t)) stmts.now) text pause.old.names pause.old.run) }
     ensures trail { OnOk result (pause.new.trail ≡ []) }
 {
@@ -210,14 +182,13 @@ fn turn(
     let outside = pause.names.len();
     pause.names.bind(name, Item::Text(text))?;
     pause.at = 0;
-    block(alloc, snaps, pause, outside, stmts)
+    block(known, pause, outside, stmts)
 }
 
 /// The turns of a loop from a place on.
 #[cycle(step)]
 fn turns(
-    alloc: Global,
-    snaps: &Snaps,
+    known: &Known<'_>,
     pause: &mut Pause,
     name: &Text,
     over: Over,
@@ -225,7 +196,7 @@ fn turns(
     stmts: &[Stmt],
 ) -> Result<(), Stop>
     requires { pause.old.trail ≡ [] }
-    ensures goes { (e : Expr) → GoesIn (values_of snaps.now) result (node_left (StmtNode-F.For name.now e stmts.now))
+    ensures goes { (e : Expr) → GoesIn (values_of known.now.snaps.now) result (node_left (StmtNode-F.For name.now e stmts.now))
         (λ t. rules.turns name.now (map (rules.stmt_run (kept t)) stmts.now) (drop place (texts_over over pause.old.names)) pause.old.names pause.old.run)
         pause.new }
     ensures trail { OnOk result (pause.new.trail ≡ []) }
@@ -233,10 +204,11 @@ fn turns(
 {
     let here = pause.at;
     let outside = pause.names.len();
+    let mut over = over;
     let mut next = place;
-    while let Some(text) = text_over(&over, &pause.names, next)? {
+    while let Some(text) = text_over(&mut over, &pause.names, next, known.alloc)? {
         next += 1;
-        match turn(alloc, snaps, pause, name, text, stmts) {
+        match turn(known, pause, name, text, stmts) {
             Ok(()) => pause.at = here,
             Err(stop) => match stop {
                 Stop::Need(address) => {
@@ -253,8 +225,7 @@ fn turns(
 /// A loop from a statement of a turn on, behind which the turns go on from a place.
 #[cycle(step)]
 fn round(
-    alloc: Global,
-    snaps: &Snaps,
+    known: &Known<'_>,
     pause: &mut Pause,
     name: &Text,
     over: Over,
@@ -263,17 +234,17 @@ fn round(
     at: usize,
     stmts: &[Stmt],
 ) -> Result<(), Stop>
-    ensures goes { (e : Expr) → GoesIn (values_of snaps.now) result (node_left (StmtNode-F.For name.now e stmts.now))
+    ensures goes { (e : Expr) → GoesIn (values_of known.now.snaps.now) result (node_left (StmtNode-F.For name.now e stmts.now))
         (λ t. node_left (StmtNode-F.For name.now e stmts.now) (Around.Turn over place) outside t (record pause.old { at = at })) pause.new }
     ensures trail { OnOk result (pause.new.trail ≡ []) }
     ensures at { OnGoing result (pause.new.at ≡ pause.old.at) }
 {
     let here = pause.at;
     pause.at = at;
-    match block(alloc, snaps, pause, outside, stmts) {
+    match block(known, pause, outside, stmts) {
         Ok(()) => {
             pause.at = here;
-            turns(alloc, snaps, pause, name, over, place, stmts)
+            turns(known, pause, name, over, place, stmts)
         }
         Err(stop) => match stop {
             Stop::Need(address) => {
@@ -287,14 +258,8 @@ fn round(
 
 /// What is left of a statement in whose block the run stands. A frame that no such statement has is of no run of this body.
 #[cycle(step)]
-fn within(
-    alloc: Global,
-    snaps: &Snaps,
-    pause: &mut Pause,
-    stmt: &Stmt,
-    frame: Frame,
-) -> Result<(), Stop>
-    ensures goes { GoesOn (values_of snaps.now) result (stmt_left stmt.now) (record pause.old { trail = frame ∷ pause.old.trail }) pause.new }
+fn within(known: &Known<'_>, pause: &mut Pause, stmt: &Stmt, frame: Frame) -> Result<(), Stop>
+    ensures goes { GoesKnown known.now result (stmt_left stmt.now) (record pause.old { trail = frame ∷ pause.old.trail }) pause.new }
     ensures trail { OnOk result (pause.new.trail ≡ []) }
     ensures at { OnGoing result (pause.new.at ≡ pause.old.at) }
 {
@@ -306,31 +271,13 @@ fn within(
     match around {
         Around::Then => match &stmt.node {
             StmtNode::If(_, yes, _) => {
-                branch(
-                    alloc,
-                    snaps,
-                    pause,
-                    Around::Then,
-                    outside,
-                    at,
-                    yes.as_slice(),
-                )
+                branch(known, pause, Around::Then, outside, at, yes.as_slice())
             }
             _ => Err(Stop::NoMemory),
         },
         Around::Else => match &stmt.node {
             StmtNode::If(_, _, no) => match no {
-                Some(no) => {
-                    branch(
-                        alloc,
-                        snaps,
-                        pause,
-                        Around::Else,
-                        outside,
-                        at,
-                        no.as_slice(),
-                    )
-                }
+                Some(no) => { branch(known, pause, Around::Else, outside, at, no.as_slice()) }
                 None => Err(Stop::NoMemory),
             },
             _ => Err(Stop::NoMemory),
@@ -338,8 +285,7 @@ fn within(
         Around::Turn(over, place) => match &stmt.node {
             StmtNode::For(name, _, stmts) => {
                 round(
-                    alloc,
-                    snaps,
+                    known,
                     pause,
                     name,
                     over,
@@ -356,69 +302,64 @@ fn within(
 
 /// A statement from its start.
 #[cycle(step)]
-fn fresh(alloc: Global, snaps: &Snaps, pause: &mut Pause, stmt: &Stmt) -> Result<(), Stop>
+fn fresh(known: &Known<'_>, pause: &mut Pause, stmt: &Stmt) -> Result<(), Stop>
     requires { pause.old.trail ≡ [] }
-    ensures goes { GoesOn (values_of snaps.now) result (stmt_left stmt.now) pause.old pause.new }
+    ensures goes { GoesKnown known.now result (stmt_left stmt.now) pause.old pause.new }
     ensures trail { OnOk result (pause.new.trail ≡ []) }
     ensures at { OnGoing result (pause.new.at ≡ pause.old.at) }
 {
     match &stmt.node {
         StmtNode::If(expr, yes, no) => {
             let outside = pause.names.len();
-            let item = head(alloc, snaps, &pause.names, &mut pause.run, expr)?;
+            let here = Here {
+                alloc: known.alloc,
+                snaps: known.snaps,
+                names: &pause.names,
+            };
+            let item = head(&here, &mut pause.run, expr)?;
             if bool_in(&item) {
-                branch(
-                    alloc,
-                    snaps,
-                    pause,
-                    Around::Then,
-                    outside,
-                    0,
-                    yes.as_slice(),
-                )
+                branch(known, pause, Around::Then, outside, 0, yes.as_slice())
             } else {
                 match no {
-                    Some(no) => {
-                        branch(alloc, snaps, pause, Around::Else, outside, 0, no.as_slice())
-                    }
+                    Some(no) => { branch(known, pause, Around::Else, outside, 0, no.as_slice()) }
                     None => Ok(()),
                 }
             }
         }
         StmtNode::For(name, expr, stmts) => {
-            let over = over_of(alloc, snaps, &pause.names, &mut pause.run, expr)?;
-            turns(alloc, snaps, pause, name, over, 0, stmts.as_slice())
+            let here = Here {
+                alloc: known.alloc,
+                snaps: known.snaps,
+                names: &pause.names,
+            };
+            let over = over_of(&here, &mut pause.run, expr)?;
+            turns(known, pause, name, over, 0, stmts.as_slice())
         }
-        _ => plain(alloc, snaps, &mut pause.names, &mut pause.run, stmt),
+        _ => plain(known, &mut pause.names, &mut pause.run, stmt),
     }
 }
 
 /// What is left of a statement at which the run stands.
 #[cycle(step)]
-fn step(alloc: Global, snaps: &Snaps, pause: &mut Pause, stmt: &Stmt) -> Result<(), Stop>
-    ensures goes { GoesOn (values_of snaps.now) result (stmt_left stmt.now) pause.old pause.new }
+fn step(known: &Known<'_>, pause: &mut Pause, stmt: &Stmt) -> Result<(), Stop>
+    ensures goes { GoesKnown known.now result (stmt_left stmt.now) pause.old pause.new }
     ensures trail { OnOk result (pause.new.trail ≡ []) }
     ensures at { OnGoing result (pause.new.at ≡ pause.old.at) }
 {
     match pause.trail.take() {
-        None => fresh(alloc, snaps, pause, stmt),
-        Some(frame) => within(alloc, snaps, pause, stmt, frame),
+        None => fresh(known, pause, stmt),
+        Some(frame) => within(known, pause, stmt, frame),
     }
 }
 
 /// Goes on with statements from the one at which the run stands, to their end or to where they stop.
 #[cycle(step)]
-pub(crate) fn go_through(
-    alloc: Global,
-    snaps: &Snaps,
-    pause: &mut Pause,
-    stmts: &[Stmt],
-) -> Result<(), Stop>
-    ensures goes { GoesOn (values_of snaps.now) result (stmts_left stmts.now) pause.old pause.new }
+pub(crate) fn go_through(known: &Known<'_>, pause: &mut Pause, stmts: &[Stmt]) -> Result<(), Stop>
+    ensures goes { GoesKnown known.now result (stmts_left stmts.now) pause.old pause.new }
     ensures trail { OnOk result (pause.new.trail ≡ []) }
 {
     while let Some(stmt) = stmts.get(pause.at) {
-        step(alloc, snaps, pause, stmt)?;
+        step(known, pause, stmt)?;
         pause.at += 1;
     }
     pause.trail.clear();

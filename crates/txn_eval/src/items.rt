@@ -1,11 +1,14 @@
 //! What operators mean on items.
 
-ghost use Rattle.std.specs.Prelude.{◌≡◌, IfOk, map, pos};
+ghost use Rattle.std.specs.Prelude.{◌≡◌, ◌≤◌, ◌^◌, IfOk, OnErr, map, pos};
 ghost use Rattle.std.specs.Fmt.{signed_decimal};
 ghost use Rattle.txn_lang.specs.Items as spec;
+ghost use Rattle.txn_lang.specs.Rules as rules;
+ghost use Rattle.txn_eval.specs.code.Lending.{shown};
 
+use crate::lent::Lent;
 use plain_data::Text;
-use rdt_types::{Item, ItemList, TextList};
+use rdt_types::{Address, Item, ItemList, Kind, TextList};
 use std::alloc::{AllocError, Global};
 use txn_trees::{Operator, Relation};
 
@@ -37,6 +40,16 @@ pub(crate) fn into_text(alloc: Global, item: Item) -> Text
     }
 }
 
+/// The address of a kind and a key, which is moved into it.
+pub(crate) fn address_of(alloc: Global, kind: Kind, key: Item) -> Address
+    ensures { result ≡ rules.address_of kind key }
+{
+    Address {
+        kind,
+        key: into_text(alloc, key),
+    }
+}
+
 /// The texts, moved out.
 pub(crate) fn into_texts(alloc: Global, item: Item) -> TextList
     ensures { result ≡ spec.texts_in item }
@@ -47,9 +60,10 @@ pub(crate) fn into_texts(alloc: Global, item: Item) -> TextList
     }
 }
 
-/// A length, as an item. No list in memory has one that doesn't fit.
+/// A length, as an item. No list in memory has one that doesn't fit, which alone would be told as want of memory.
 fn counted(length: usize) -> Result<Item, AllocError>
-    ensures { IfOk result (λ i. i ≡ Item.Int (pos length)) }
+    ensures item { IfOk result (λ i. i ≡ Item.Int (pos length)) }
+    ensures told { OnErr result (2 ^ 63 ≤ length) }
 {
     match i64::try_from(length) {
         Ok(n) => Ok(Item::Int(n)),
@@ -59,7 +73,8 @@ fn counted(length: usize) -> Result<Item, AllocError>
 
 /// The length of a text or of texts, as an item.
 pub(crate) fn length_item(item: &Item) -> Result<Item, AllocError>
-    ensures { IfOk result (λ i. i ≡ Item.Int (pos (spec.length_of item.now))) }
+    ensures item { IfOk result (λ i. i ≡ Item.Int (pos (spec.length_of item.now))) }
+    ensures told { OnErr result (2 ^ 63 ≤ spec.length_of item.now) }
 {
     match item {
         Item::Text(text) => counted(text.len()),
@@ -119,27 +134,37 @@ pub(crate) fn negated(item: &Item) -> Item
     Item::Int(int_in(item).wrapping_neg())
 }
 
-pub(crate) fn equals(left: &Item, right: &Item) -> bool
-    ensures { result ≡ spec.equals left.now right.now }
+/// The int that is lent.
+fn int_lent(item: Lent<'_>) -> i64
+    ensures { result ≡ spec.int_in (shown item.entry) }
+{
+    match item {
+        Lent::Int(n) => n,
+        _ => 0,
+    }
+}
+
+fn equals(left: Lent<'_>, right: Lent<'_>) -> bool
+    ensures { result ≡ spec.equals (shown left.entry) (shown right.entry) }
 {
     match (left, right) {
-        (Item::Text(a), Item::Text(b)) => a.cmp(b).is_eq(),
-        (Item::Bool(a), Item::Bool(b)) => *a == *b,
-        (Item::Int(a), Item::Int(b)) => *a == *b,
+        (Lent::Text(a), Lent::Text(b)) => a.cmp(b).is_eq(),
+        (Lent::Bool(a), Lent::Bool(b)) => a == b,
+        (Lent::Int(a), Lent::Int(b)) => a == b,
         _ => false,
     }
 }
 
-pub(crate) fn compares(relation: Relation, left: &Item, right: &Item) -> bool
-    ensures { result ≡ spec.compares relation left.now right.now }
+pub(crate) fn compares(relation: Relation, left: Lent<'_>, right: Lent<'_>) -> bool
+    ensures { result ≡ spec.compares relation (shown left.entry) (shown right.entry) }
 {
     match relation {
         Relation::Equal => equals(left, right),
         Relation::Unequal => !equals(left, right),
-        Relation::Less => int_in(left).cmp(&int_in(right)).is_lt(),
-        Relation::AtMost => !int_in(left).cmp(&int_in(right)).is_gt(),
-        Relation::Greater => int_in(left).cmp(&int_in(right)).is_gt(),
-        Relation::AtLeast => !int_in(left).cmp(&int_in(right)).is_lt(),
+        Relation::Less => int_lent(left).cmp(&int_lent(right)).is_lt(),
+        Relation::AtMost => !int_lent(left).cmp(&int_lent(right)).is_gt(),
+        Relation::Greater => int_lent(left).cmp(&int_lent(right)).is_gt(),
+        Relation::AtLeast => !int_lent(left).cmp(&int_lent(right)).is_lt(),
     }
 }
 

@@ -12,6 +12,7 @@ ghost use Rattle.txn_eval.specs.code.Loops.{stmts_on};
 ghost use Rattle.txn_eval.specs.code.Pauses.{first_pause};
 
 use crate::going::go_through;
+use crate::here::Known;
 use crate::kept::Kept;
 use crate::pause::Pause;
 use rdt_types::{Address, DeltaMap, Outcome};
@@ -107,7 +108,7 @@ fn run_from(
     ensures ran { IfOk result (λ step. ran_of step ≡ kept_ended (all_steps (stmts_on snaps.now stmts.now) [] (begun nothing_kept))) }
     ensures paused { IsPauseOf stmts.now snaps.now pause.new }
 {
-    match go_through(alloc, snaps, pause, stmts) {
+    match go_through(&Known { alloc, snaps }, pause, stmts) {
         Ok(()) => settled(alloc, pause, Ok(())),
         Err(stop) => match stop {
             Stop::Need(address) => Ok(Step::Need(address)),

@@ -4,7 +4,7 @@ ghost use Rattle.std.specs.Prelude.{◌≡◌, ◌≢◌, Err};
 ghost use Rattle.txn_lang.specs.declared.progress.Stop.TheVariants.{NoMemory};
 ghost use Rattle.txn_lang.specs.Items as spec;
 ghost use Rattle.txn_lang.specs.Rules as rules;
-ghost use Rattle.txn_eval.specs.code.Answers.{Answers};
+ghost use Rattle.txn_eval.specs.code.Answers.{Answers, Leaves};
 
 use crate::kept::Kept;
 use plain_data::Text;
@@ -32,6 +32,18 @@ fn is_big(item: &Item) -> bool
         Item::Text(text) => text.len() > TEXT_LIMIT,
         Item::Texts(texts) => are_big(texts.as_slice()),
         _ => false,
+    }
+}
+
+/// A literal text, within the limits. What is too big is never told as want of memory.
+pub(crate) fn fits(run: &Progress<Kept>, text: &Text) -> Result<(), Stop>
+    ensures rule { Leaves result (Item.Text text.now) run.now (rules.sized (Item.Text text.now) run.now) }
+    ensures told { result ≢ Err NoMemory }
+{
+    if text.len() > TEXT_LIMIT {
+        Err(Stop::Big)
+    } else {
+        Ok(())
     }
 }
 

@@ -2,28 +2,25 @@
 
 ghost use Rattle.std.specs.Prelude.{◌≡◌, false, OnErr};
 ghost use Rattle.txn_lang.specs.Rules as rules;
-ghost use Rattle.txn_eval.specs.code.Answers.{Answers, Leaves};
-ghost use Rattle.txn_eval.specs.code.Buffering.{kept};
-ghost use Rattle.txn_eval.specs.code.Forms.{step_on, write_run};
+ghost use Rattle.txn_eval.specs.code.Answers.{Answers, Keeps, Leaves};
+ghost use Rattle.txn_eval.specs.code.Forms.{stmt_on, emit_here, fail_here, write_here, written_here};
 ghost use Rattle.txn_eval.specs.code.Pauses.{holds_block};
-ghost use Rattle.txn_eval.specs.Running.{values_of};
-ghost use Rattle.txn_trees.specs.declared.statement.StmtNode.TheOpen.{StmtNode-F};
 
 use crate::charging::{carry, charge};
 use crate::environment::Environment;
 use crate::expression::{key_of, value_of, values_of};
-use crate::items::into_text;
+use crate::here::{Here, Known};
+use crate::items::{address_of, into_text};
 use crate::kept::Kept;
 use crate::loads::{emit_size, write_size};
 use crate::memory::write_at;
 use crate::words::write_of;
-use plain_data::Text;
-use rdt_types::{Address, Item, Kind};
-use std::alloc::Global;
-use txn_lang::{Progress, Snaps, Stop};
+use rdt_types::{Address, Item};
+use txn_lang::{Progress, Stop};
 use txn_trees::{Expr, Stmt, StmtNode, WriteWord};
 
 /// Emits an item.
+#[tactic(auto, using(crate::proofs::TooMuch::too_much))]
 fn emit(run: &mut Progress<Kept>, item: Item) -> Result<(), Stop>
     ensures { Answers result run.new (rules.emit_item item run.old) }
 {
@@ -33,148 +30,94 @@ fn emit(run: &mut Progress<Kept>, item: Item) -> Result<(), Stop>
             run.emitted.push(item)?;
             Ok(())
         }
-        None => Err(Stop::NoMemory),
+        None => Err(Stop::Big),
     }
 }
 
 /// Writes what a word says.
+#[tactic(auto, using(crate::proofs::TooMuch::too_much))]
 fn write(
-    alloc: Global,
-    snaps: &Snaps,
+    here: &Here<'_>,
     run: &mut Progress<Kept>,
-    kind: Kind,
-    key: Item,
+    address: Address,
     word: WriteWord,
     arguments: &[Item],
 ) -> Result<(), Stop>
-    ensures { Answers result run.new (rules.writes_with (kept (values_of snaps.now)) kind key word arguments.now run.old) }
+    ensures { Answers result run.new (written_here here.now address word arguments.now run.old) }
 {
-    let key = into_text(alloc, key);
-    let Some(size) = write_size(&key, arguments) else {
-        return Err(Stop::NoMemory);
+    let Some(size) = write_size(&address.key, arguments) else {
+        return Err(Stop::Big);
     };
     carry(run, size)?;
-    match write_of(alloc, kind, word, arguments)? {
-        Some(op) => write_at(alloc, snaps, run, Address { kind, key }, &op),
+    match write_of(here.alloc, address.kind, word, arguments)? {
+        Some(op) => write_at(here.alloc, here.snaps, run, address, &op),
         None => Ok(()),
     }
 }
 
 /// Writes what a word says with what its arguments give. A single one takes no list.
 fn write_given(
-    alloc: Global,
-    snaps: &Snaps,
-    names: &Environment,
+    here: &Here<'_>,
     run: &mut Progress<Kept>,
-    kind: Kind,
-    key: Item,
+    address: Address,
     word: WriteWord,
-    arguments: &[Expr],
+    exprs: &[Expr],
 ) -> Result<(), Stop>
-    ensures { Leaves result names.now run.new (write_run (kept (values_of snaps.now)) kind key word arguments.now names.now run.old) }
+    ensures { Keeps result here.now run.new (write_here here.now address word exprs.now run.old) }
 {
-    match arguments {
+    match exprs {
         [only] => {
-            let items = [value_of(alloc, snaps, names, run, only)?];
-            write(alloc, snaps, run, kind, key, word, &items)
+            let items = [value_of(here, run, only)?];
+            write(here, run, address, word, &items)
         }
         _ => {
-            let items = values_of(alloc, snaps, names, run, arguments)?;
-            write(alloc, snaps, run, kind, key, word, items.as_slice())
+            let items = values_of(here, run, exprs)?;
+            write(here, run, address, word, items.as_slice())
         }
     }
 }
 
-/// Binds what an expression gives.
-fn bind_value(
-    alloc: Global,
-    snaps: &Snaps,
-    names: &mut Environment,
-    run: &mut Progress<Kept>,
-    name: &Text,
-    expr: &Expr,
-) -> Result<(), Stop>
-    ensures leaves { Leaves result names.new run.new (step_on snaps.now (StmtNode-F.Let name.now expr.now) names.old run.old) }
-    ensures err { OnErr result (names.new ≡ names.old) }
-{
-    let item = value_of(alloc, snaps, names, run, expr)?;
-    names.bind(name, item)?;
-    Ok(())
-}
-
 /// Emits what an expression gives.
-fn emit_value(
-    alloc: Global,
-    snaps: &Snaps,
-    names: &Environment,
-    run: &mut Progress<Kept>,
-    expr: &Expr,
-) -> Result<(), Stop>
-    ensures { Leaves result names.now run.new (step_on snaps.now (StmtNode-F.Emit expr.now) names.now run.old) }
+fn emit_value(here: &Here<'_>, run: &mut Progress<Kept>, expr: &Expr) -> Result<(), Stop>
+    ensures { Keeps result here.now run.new (emit_here here.now expr.now run.old) }
 {
-    let item = value_of(alloc, snaps, names, run, expr)?;
+    let item = value_of(here, run, expr)?;
     emit(run, item)
 }
 
 /// Fails with what an expression gives.
-fn fail_value(
-    alloc: Global,
-    snaps: &Snaps,
-    names: &Environment,
-    run: &mut Progress<Kept>,
-    expr: &Expr,
-) -> Result<(), Stop>
-    ensures { Leaves result names.now run.new (step_on snaps.now (StmtNode-F.Fail expr.now) names.now run.old) }
+fn fail_value(here: &Here<'_>, run: &mut Progress<Kept>, expr: &Expr) -> Result<(), Stop>
+    ensures { Keeps result here.now run.new (fail_here here.now expr.now run.old) }
 {
-    let item = value_of(alloc, snaps, names, run, expr)?;
-    Err(Stop::Fail(into_text(alloc, item)))
-}
-
-/// Writes at the key that an expression gives.
-fn write_value(
-    alloc: Global,
-    snaps: &Snaps,
-    names: &Environment,
-    run: &mut Progress<Kept>,
-    kind: Kind,
-    key: &Expr,
-    word: WriteWord,
-    arguments: &[Expr],
-) -> Result<(), Stop>
-    ensures { Leaves result names.now run.new (step_on snaps.now (StmtNode-F.Write kind key.now word arguments.now) names.now run.old) }
-{
-    let key = key_of(alloc, snaps, names, run, key)?;
-    write_given(alloc, snaps, names, run, kind, key, word, arguments)
+    let item = value_of(here, run, expr)?;
+    Err(Stop::Fail(into_text(here.alloc, item)))
 }
 
 /// A statement that holds no block. Where it stops it binds no name.
 pub(crate) fn simple(
-    alloc: Global,
-    snaps: &Snaps,
+    known: &Known<'_>,
     names: &mut Environment,
     run: &mut Progress<Kept>,
     stmt: &Stmt,
 ) -> Result<(), Stop>
     requires { holds_block stmt.now ≡ false }
-    ensures leaves { Leaves result names.new run.new (rules.stmt_run (kept (values_of snaps.now)) stmt.now names.old run.old) }
+    ensures rule { Leaves result names.new run.new (stmt_on known.now stmt.now names.old run.old) }
     ensures err { OnErr result (names.new ≡ names.old) }
 {
     charge(run, 1)?;
     match &stmt.node {
-        StmtNode::Let(name, expr) => bind_value(alloc, snaps, names, run, name, expr),
-        StmtNode::Emit(expr) => emit_value(alloc, snaps, names, run, expr),
-        StmtNode::Fail(expr) => fail_value(alloc, snaps, names, run, expr),
+        StmtNode::Let(name, expr) => {
+            let item = value_of(&known.with(names), run, expr)?;
+            names.bind(name, item)?;
+            Ok(())
+        }
+        StmtNode::Emit(expr) => emit_value(&known.with(names), run, expr),
+        StmtNode::Fail(expr) => fail_value(&known.with(names), run, expr),
         StmtNode::Write(kind, key, word, arguments) => {
-            write_value(
-                alloc,
-                snaps,
-                names,
-                run,
-                *kind,
-                key,
-                *word,
-                arguments.as_slice(),
-            )
+            let here = known.with(names);
+            let key = key_of(&here, run, key)?;
+            let address = address_of(known.alloc, *kind, key);
+            write_given(&here, run, address, *word, arguments.as_slice())
         }
         StmtNode::If(..) | StmtNode::For(..) => unreachable!(),
     }

@@ -4,7 +4,9 @@ use Rattle.txn_lang.specs.declared.progress.Stop.{Stop}
 use Rattle.txn_lang.specs.declared.progress.Stop.TheVariants as stop
 use Rattle.txn_lang.specs.declared.progress.Progress.{Progress}
 use Rattle.txn_lang.specs.Steps.{Step, stopped, gives}
+use Rattle.txn_lang.specs.Items.{Names}
 use Rattle.txn_lang.specs.Execution.{Ran}
+use Rattle.txn_eval.specs.declared.here.Here.{Here}
 use Rattle.txn_eval.specs.declared.kept.Kept.{Kept}
 use Rattle.txn_eval.specs.code.Buffering.{kept_ended}
 
@@ -17,6 +19,10 @@ Answers (Err s) p step = s ≢ stop.NoMemory → step ≡ stopped s p
 abbrev pub Leaves : {M N : Type 0} → Result (Unit {0}) Stop → N → Progress M → Step M N → Type 0
 Leaves (Ok _) names p step = step ≡ gives names p
 Leaves (Err s) names p step = s ≢ stop.NoMemory → step ≡ stopped s p
+
+-- and of what leaves the names as they are
+abbrev pub Keeps : Result (Unit {0}) Stop → Here → Progress Kept → Step Kept Names → Type 0
+Keeps result here p step = Leaves result here.names.now p step
 
 -- what a result and the progress come to
 abbrev pub EndsAs : Result (Unit {0}) Stop → Progress Kept → Ran → Type 0

@@ -1,8 +1,10 @@
 -- How the code comes from pause to pause. The lemmas of proofs/Pauses tie it to `IsPauseOf` of specs/Pausing, of which alone the
 -- clauses of `go_on` speak.
-use Rattle.std.specs.Prelude.{◌≡◌, ◌≢◌, ℕ, Bool, true, false, List, [], ◌∷◌, take, drop, length, Result, Ok, Err}
+use Rattle.std.specs.Prelude.{◌≡◌, ◌≢◌, ℕ, ◌+◌, Bool, true, false, List, [], ◌∷◌, take, drop, length, Result, Ok, Err}
+use Rattle.plain_data.specs.Texts.{Bytes}
 use Rattle.rdt_types.specs.declared.address.Address.{Address}
 use Rattle.rdt_types.specs.declared.outcome.Item.{Item}
+use Rattle.txn_trees.specs.declared.expression.Expr.{Expr}
 use Rattle.txn_trees.specs.declared.statement.Stmt.{Stmt, out-Stmt}
 use Rattle.txn_trees.specs.declared.statement.StmtNode.{StmtNode, out-StmtNode}
 use Rattle.txn_trees.specs.declared.statement.StmtNode.TheOpen.{StmtNode-F}
@@ -13,12 +15,17 @@ use Rattle.txn_lang.specs.States.{PartialState}
 use Rattle.txn_lang.specs.Observed.{Extends}
 use Rattle.txn_lang.specs.Items.{Names, texts_in}
 use Rattle.txn_lang.specs.Steps.{Step, stopped, gives, and_then, pure}
+use Rattle.txn_lang.specs.Rules.{expr_run, stmt_run}
 use Rattle.txn_lang.specs.Execution.{begun}
 use Rattle.txn_eval.specs.declared.kept.Kept.{Kept}
+use Rattle.txn_eval.specs.declared.here.Known.{Known}
+use Rattle.txn_eval.specs.declared.here.Here.{Here}
 use Rattle.txn_eval.specs.declared.trail.Over.{Over}
 use Rattle.txn_eval.specs.declared.trail.Around.{Around}
 use Rattle.txn_eval.specs.declared.pause.Pause.{Pause}
 use Rattle.txn_eval.specs.code.Buffering.{kept, nothing_kept}
+use Rattle.txn_eval.specs.code.Forms.{charged}
+use Rattle.txn_eval.specs.Running.{values_of}
 use Rattle.txn_eval.specs.Pausing.{texts_over, around_rest, first_rest, stmt_rest, stmts_rest}
 
 -- before the first statement nothing was done
@@ -49,6 +56,25 @@ Goes s (Err e) names p rest whole = e ≢ stop.NoMemory → whole s ≡ stopped 
 -- the same of a run that stands at a pause before and behind the step, where this is left of it from a pause
 abbrev pub GoesOn : PartialState → Result (Unit {0}) Stop → (PartialState → Pause → Step Kept Names) → Pause → Pause → Type 0
 GoesOn s result left old new = Goes s result new.names new.run (λ t. left t new) (λ t. left t old)
+
+-- the texts that are left behind a turn of a loop
+abbrev pub left_behind : ℕ → Over → Names → List Bytes
+left_behind place over names = drop (place + 1) (texts_over over names)
+
+-- what a step does behind one tick more where it is an expression, on each state
+abbrev pub charged_expr : Expr → Names → Progress Kept → PartialState → Step Kept Item
+charged_expr e names p t = charged (expr_run (kept t) e names) p
+
+-- what a statement does, on each state
+abbrev pub whole : Stmt → Names × Progress Kept → Steps
+whole stmt from t = stmt_run (kept t) stmt from.0 from.1
+
+-- the same on what is known: of a statement without blocks, and of a run that stands at a pause
+abbrev pub GoesPlainly : Known → Result (Unit {0}) Stop → Stmt → Names × Progress Kept → Names × Progress Kept → Type 0
+GoesPlainly known result stmt old new = Goes (values_of known.snaps.now) result new.0 new.1 (whole stmt new) (whole stmt old)
+
+abbrev pub GoesKnown : Known → Result (Unit {0}) Stop → (PartialState → Pause → Step Kept Names) → Pause → Pause → Type 0
+GoesKnown known result left old new = GoesOn (values_of known.snaps.now) result left old new
 
 -- what is left of statements, and of a statement, from a pause
 abbrev pub stmts_left : List Stmt → PartialState → Pause → Step Kept Names
@@ -113,3 +139,10 @@ GivesOver s (Ok over) names new old whole =
     (i : Item) × (texts_in i ≡ texts_over over names) × ((t : PartialState) → Extends s t → whole t ≡ gives i new)
 GivesOver s (Err (stop.Need a)) names new old whole = ((q : Progress Kept) × (whole s ≡ stopped (stop.Need a) q)) × (new ≡ old)
 GivesOver s (Err e) names new old whole = e ≢ stop.NoMemory → whole s ≡ stopped e new
+
+-- these two here
+abbrev pub GivesHere : Here → Result Item Stop → Progress Kept → Progress Kept → Expr → Type 0
+GivesHere here result new old e = Gives (values_of here.snaps.now) result new old (charged_expr e here.names.now old)
+
+abbrev pub GivesOverHere : Here → Result Over Stop → Progress Kept → Progress Kept → Expr → Type 0
+GivesOverHere here result new old e = GivesOver (values_of here.snaps.now) result here.names.now new old (charged_expr e here.names.now old)

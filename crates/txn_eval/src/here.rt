@@ -1,0 +1,36 @@
+//! What a run goes on.
+
+ghost use Rattle.std.specs.Prelude.{◌≡◌};
+
+use crate::environment::Environment;
+use std::alloc::Global;
+use txn_lang::Snaps;
+
+/// What is known of the values that a run reads.
+#[derive(Clone, Copy)]
+pub(crate) struct Known<'a> {
+    pub alloc: Global,
+    pub snaps: &'a Snaps,
+}
+
+/// Where an expression runs: on which values, and where which names are bound.
+#[derive(Clone, Copy)]
+pub(crate) struct Here<'a> {
+    pub alloc: Global,
+    pub snaps: &'a Snaps,
+    pub names: &'a Environment,
+}
+
+impl<'k> Known<'k> {
+    /// The same where names are bound.
+    pub fn with<'b>(&'b self, names: &'b Environment) -> Here<'b>
+        ensures snaps { result.snaps.now ≡ self.now.snaps.now }
+        ensures names { result.names.now ≡ names.now }
+    {
+        Here {
+            alloc: self.alloc,
+            snaps: self.snaps,
+            names,
+        }
+    }
+}
