@@ -1,7 +1,5 @@
 //! What a run goes on.
 
-ghost use Rattle.std.specs.Prelude.{◌≡◌};
-
 use crate::environment::Environment;
 use std::alloc::Global;
 use txn_lang::Snaps;
@@ -19,18 +17,4 @@ pub(crate) struct Here<'a> {
     pub alloc: Global,
     pub snaps: &'a Snaps,
     pub names: &'a Environment,
-}
-
-impl<'k> Known<'k> {
-    /// The same where names are bound.
-    pub fn with<'b>(&'b self, names: &'b Environment) -> Here<'b>
-        ensures snaps { result.snaps.now ≡ self.now.snaps.now }
-        ensures names { result.names.now ≡ names.now }
-    {
-        Here {
-            alloc: self.alloc,
-            snaps: self.snaps,
-            names,
-        }
-    }
 }

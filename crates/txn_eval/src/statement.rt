@@ -105,16 +105,20 @@ pub(crate) fn simple(
     ensures err { OnErr result (names.new ≡ names.old) }
 {
     charge(run, 1)?;
+    let here = Here {
+        alloc: known.alloc,
+        snaps: known.snaps,
+        names,
+    };
     match &stmt.node {
         StmtNode::Let(name, expr) => {
-            let item = value_of(&known.with(names), run, expr)?;
+            let item = value_of(&here, run, expr)?;
             names.bind(name, item)?;
             Ok(())
         }
-        StmtNode::Emit(expr) => emit_value(&known.with(names), run, expr),
-        StmtNode::Fail(expr) => fail_value(&known.with(names), run, expr),
+        StmtNode::Emit(expr) => emit_value(&here, run, expr),
+        StmtNode::Fail(expr) => fail_value(&here, run, expr),
         StmtNode::Write(kind, key, word, arguments) => {
-            let here = known.with(names);
             let key = key_of(&here, run, key)?;
             let address = address_of(known.alloc, *kind, key);
             write_given(&here, run, address, *word, arguments.as_slice())
