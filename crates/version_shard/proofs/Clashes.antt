@@ -5,7 +5,6 @@ use Rattle.std.proofs.lemmas.List.{length-map}
 use Rattle.std.specs.List.{AllByRecursion}
 use Rattle.std.specs.BTreeMap.{is_at}
 use Rattle.std.specs.Cmp.{eq_by_cmp_equiv}
-use Rattle.rdt_types.specs.declared.address.Address.{Address}
 use Rattle.rdt_types.specs.contracts.address.AddressOrd.TheImpl.Laws as order
 use Rattle.rdt_types.specs.Addresses.{address_cmp}
 use Rattle.rdt_types.specs.Deltas.{kind_changed}
@@ -22,7 +21,7 @@ use Rattle.journal_core.specs.Changes.{changes, of_address}
 use Rattle.journal_core.specs.Pairs as counted
 use Rattle.journal_core.proofs.Each.{each-more, each-filter}
 use Rattle.version_shard.specs.declared.version.Version.{Version}
-use Rattle.version_shard.specs.Versions.{past, as_changes}
+use Rattle.version_shard.specs.Versions.{past, as_change, as_changes}
 use Rattle.version_shard.specs.Shards.{Kept, Sharded, horizon, IsIn, versions_of, AreKept}
 use Rattle.version_shard.specs.Standing.{Holds}
 use Rattle.version_shard.specs.code.Clashing.{first_clashing, clashing_in, Hit, hit_by, IsClash, lesser, least_hit, steps_at, most_steps}
@@ -90,10 +89,6 @@ meets-own based (c ∷ rest) = by (nat_lt based.base c.number) (is_at (address_c
     by false q f again = again
 
 -- ---- versions as changes
-
--- a version of an address, as the change of its commit
-abbrev pub as_change : Address → Version → Change
-as_change address version = record { number = version.number; address = address; delta = version.delta }
 
 -- past the base every version of the address meets the observation, so only whether it clashes decides
 first-versions : (based : Based) (later : List Version)

@@ -12,12 +12,13 @@ use Rattle.journal_core.specs.Pairs as counted
 use Rattle.journal_core.specs.Pairs.{least_pair}
 use Rattle.journal_core.proofs.Ordering.{least-is-first}
 use Rattle.version_shard.specs.Bases.{least_base, late_base}
+use Rattle.version_shard.specs.Versions.{as_change}
 use Rattle.version_shard.specs.Shards.{Kept, Sharded, horizon, IsIn}
 use Rattle.version_shard.specs.Standing.{Holds}
 use Rattle.version_shard.specs.Validating.{late, NamesLeast}
 use Rattle.version_shard.specs.code.Clashing.{Hit, least_hit, most_steps}
 use Rattle.version_shard.proofs.Bases.{in_time}
-use Rattle.version_shard.proofs.Clashes.{Finds, steps-same, all-found, Agree, agree, IfHit, IsFirst, hits-first, first-stands, as_change}
+use Rattle.version_shard.proofs.Clashes.{Finds, steps-same, all-found, Agree, agree, IfHit, IsFirst, hits-first, first-stands}
 
 -- what the code finds by the horizon that it computed is what the shard answers
 pub timely-by : (shard : Sharded) (based : List Based) (h : ℕ) → h ≡ horizon shard → None ≡ late_base h (least_base based) → late shard based ≡ None

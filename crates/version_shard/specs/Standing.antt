@@ -40,6 +40,22 @@ pub record IsNext (journal : Journal) (shard : Sharded) (tail : Tail) : Type 0 w
 abbrev pub HoldsSoFar : Journal → Sharded → Type 0
 HoldsSoFar journal shard = Holds (take shard.front journal) shard
 
+-- a fact of each journal that a shard stands for
+abbrev pub InEach : Sharded → (Journal → Type 0) → Type 0
+InEach shard Fact = (journal : Journal) → Holds journal shard → Fact journal
+
+-- a shard that has followed up to a front: it is the one that it was, but for the front and what it keeps
+abbrev pub HasReached : ℕ → Sharded → Sharded → Type 0
+HasReached front old new = new ≡ record old { front = front; kept = new.kept }
+
+-- it went on standing for the first commits of each journal in which a tail comes next for it
+abbrev pub GoesOn : Tail → Sharded → Sharded → Type 0
+GoesOn tail old new = (journal : Journal) → IsNext journal old tail → HoldsSoFar journal old → HoldsSoFar journal new
+
+-- it stands for the first commits of each journal in which a tail comes first, up to where the tail goes
+abbrev pub StandsBehind : Tail → Sharded → Sharded → Type 0
+StandsBehind tail begun shard = (journal : Journal) → IsNext journal begun tail → Holds (take tail.to journal) shard
+
 -- a shard that has followed nothing
 abbrev pub empty : ℕ → ℕ → ℕ → Sharded
 empty number shards window = record { number = number; shards = shards; window = window; front = 0; kept = [] }

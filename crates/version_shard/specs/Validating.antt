@@ -1,5 +1,6 @@
 -- What a shard answers of a number, and of what a transaction observed in it.
-use Rattle.std.specs.Prelude.{◌≡◌, ℕ, ◌≤◌, ◌<◌, List, [], ◌∷◌, Option, Some, None, IsSome, Result, Ok, Err, codes, pos, refl}
+use Rattle.std.specs.Prelude.{◌≡◌, ℕ, ◌+◌, ◌≤◌, ◌<◌, IfOk, List, [], ◌∷◌, Option, Some, None, IsSome, Result, Ok, Err, codes, pos, refl}
+use Rattle.std.specs.declared.alloc.AllocError.{AllocError}
 use Rattle.std.proofs.Common.{lit<, lit≤}
 use Rattle.rdt_types.specs.declared.address.Kind.TheVariants as kind
 use Rattle.rdt_types.specs.declared.address.Address.{Address}
@@ -12,9 +13,10 @@ use Rattle.abort_witness.specs.declared.witness.Found.{Found}
 use Rattle.abort_witness.specs.declared.witness.Witness.{Witness}
 use Rattle.abort_witness.specs.Pairs.{IsPair}
 use Rattle.abort_witness.specs.Naming.{Names}
+use Rattle.txn_lang.specs.declared.snaps.Snap.{Snap}
 use Rattle.txn_lang.specs.States.{Journal, state}
 use Rattle.journal_core.specs.Changes.{changes, adding}
-use Rattle.journal_core.specs.Pairs.{least_pair}
+use Rattle.journal_core.specs.Pairs.{least_pair, most_steps}
 use Rattle.version_shard.specs.declared.at_error.AtError.{AtError}
 use Rattle.version_shard.specs.declared.at_error.AtError.TheVariants as at_error
 use Rattle.version_shard.specs.declared.prepared.Prepared.{Prepared}
@@ -28,6 +30,10 @@ abbrev pub ReadsAt : Journal → Sharded → Address → ℕ → Result Value At
 ReadsAt journal shard address number (Ok value) = (horizon shard ≤ number) × (value ≡ state journal number address)
 ReadsAt journal shard address number (Err (at_error.Late asked least)) = (number < horizon shard) × (asked ≡ number) × (least ≡ horizon shard)
 ReadsAt journal shard address number (Err at_error.NoMemory) = horizon shard ≤ number
+
+-- The value at the front is what the whole journal leaves.
+abbrev pub ReadsFront : Journal → Sharded → Address → Result Snap AllocError → Type 0
+ReadsFront journal shard address result = IfOk result (λ snap. snap.value ≡ state journal shard.front address)
 
 -- ---- validating
 
@@ -51,6 +57,10 @@ Validates journal shard based (Err (refusal.Clash witness)) = (late shard based 
 Validates journal shard based (Err refusal.NoMemory) = (late shard based ≡ None) × IsSome (least_pair based journal)
 Validates journal shard based (Ok prepared) =
     (late shard based ≡ None) × (least_pair based journal ≡ None) × (prepared ≡ record { shard = shard.number; front = shard.front })
+
+-- it goes through the changes past the bases at their addresses at most
+abbrev pub IsWithinSteps : List Based → ℕ → ℕ → Journal → Type 0
+IsWithinSteps based old new journal = new ≤ old + most_steps based (changes journal)
 
 -- ---- worked lines
 

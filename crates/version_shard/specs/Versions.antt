@@ -1,6 +1,7 @@
 -- The versions of the value at one address.
-use Rattle.std.specs.Prelude.{◌≡◌, ℕ, nat_le, nat_lt, List, [], ◌∷◌, ◌++◌, map, filter, fold, if◌then◌else◌, pos, refl}
+use Rattle.std.specs.Prelude.{◌≡◌, ℕ, ◌≤◌, nat_le, nat_lt, List, [], ◌∷◌, ◌++◌, map, filter, fold, take, if◌then◌else◌, pos, refl}
 use Rattle.std.specs.Coded.{Coded, code_by, coded×, coded_list}
+use Rattle.std.specs.List.{AllByRecursion}
 use Rattle.std.specs.List.Sorted.{IsNonDecreasingBy}
 use Rattle.rdt_types.specs.declared.address.Address.{Address}
 use Rattle.rdt_types.specs.declared.value.Value.{Value}
@@ -33,6 +34,14 @@ unversioned base = record { base = base; later = [] }
 abbrev pub value_after : Value → List Version → Value
 value_after base later = fold (λ value version. apply version.delta value) base later
 
+-- the value after the first versions, so many
+abbrev pub value_by : ℕ → Versioned → Value
+value_by count versions = value_after versions.base (take count versions.later)
+
+-- no version is past a number
+abbrev pub AreUpTo : ℕ → List Version → Type 0
+AreUpTo number later = AllByRecursion (λ version. version.number ≤ number) later
+
 -- the value behind all versions
 abbrev pub latest : Versioned → Value
 latest versions = value_after versions.base versions.later
@@ -49,9 +58,13 @@ value_at versions number = latest (up_to number versions)
 abbrev pub past : ℕ → List Version → List Version
 past number later = filter (λ version. nat_lt number version.number) later
 
--- what the commits of versions changed at an address
+-- what the commit of a version changed at an address
+abbrev pub as_change : Address → Version → Change
+as_change address version = record { number = version.number; address = address; delta = version.delta }
+
+-- what the commits of versions changed there
 abbrev pub as_changes : Address → List Version → List Change
-as_changes address later = map (λ version. record { number = version.number; address = address; delta = version.delta }) later
+as_changes address later = map (as_change address) later
 
 -- one version more: what the commit of a number changed
 abbrev pub changed : ℕ → Delta → Versioned → Versioned

@@ -1,12 +1,12 @@
 //! A chain of versions: the deltas of all, and the values of some.
 
 ghost use Rattle.std.specs.Prelude.{◌≡◌, ◌+◌, ◌-◌, ◌<◌, ◌≤◌, ◌++◌, true, length, take, drop, OnOk, OnErr, IfOk};
-ghost use Rattle.std.specs.List.{AllByRecursion};
 ghost use Rattle.std.specs.Option.{option_copied};
 ghost use Rattle.rdt_types.specs.Deltas as deltas;
 ghost use Rattle.version_shard.specs.Versions as spec;
+ghost use Rattle.version_shard.specs.Versions.{value_after, changed, trimmed};
 ghost use Rattle.version_shard.specs.code.Chains.{Parts, whole_at};
-ghost use Rattle.version_shard.specs.code.Clashing.{first_clashing};
+ghost use Rattle.version_shard.specs.code.Clashing.{clashing_past};
 
 use crate::version::Version;
 use abort_witness::Based;
@@ -96,7 +96,7 @@ impl Chain {
     /// copied where there are none.
     fn after(&self, alloc: Global, count: usize) -> Result<Value, AllocError>
         requires { count ≤ length self.now.later }
-        ensures { IfOk result (λ value. value ≡ spec.value_after self.now.base (take count self.now.later)) }
+        ensures { IfOk result (λ value. value ≡ spec.value_by count self.now) }
     {
         let (from, whole) = self.whole_by(count);
         if from == count {
@@ -116,7 +116,7 @@ impl Chain {
     ) -> Result<Value, AllocError>
         requires order { from ≤ to }
         requires within { to ≤ length self.now.later }
-        ensures { IfOk result (λ left. left ≡ spec.value_after value (take (to - from) (drop from self.now.later))) }
+        ensures { IfOk result (λ v. v ≡ value_after value (take (to - from) (drop from self.now.later))) }
     {
         let mut value = value;
         for version in self.later.range(from..to) {
@@ -131,7 +131,7 @@ impl Chain {
         requires { count ≤ length self.now.later }
         ensures before { result.0 ≤ count }
         ensures near { count < result.0 + 32 }
-        ensures value { result.1.now ≡ spec.value_after self.now.base (take result.0 self.now.later) }
+        ensures value { result.1.now ≡ spec.value_by result.0 self.now }
     {
         let passed = usize::from(self.behind) + count;
         if passed < SPACING {
@@ -144,20 +144,19 @@ impl Chain {
     /// horizon. For want of memory all is as before.
     pub fn change(
         &mut self,
-        alloc: Global,
         number: u64,
         delta: &Delta,
         newest: &Value,
         horizon: u64,
     ) -> Result<(), AllocError>
-        requires order { AllByRecursion (λ version. version.number ≤ number) self.old.later }
+        requires order { spec.AreUpTo number self.old.later }
         requires newest { newest.now ≡ deltas.apply delta.now (spec.latest self.old) }
-        ensures ok { OnOk result (self.new ≡ spec.trimmed horizon (spec.changed number delta.now self.old)) }
+        ensures ok { OnOk result (self.new ≡ trimmed horizon (changed number delta.now self.old)) }
         ensures err { OnErr result (self.new ≡ self.old) }
     {
         let count = self.later.len();
         self.push(number, delta, newest)?;
-        if self.join(alloc, horizon).is_err() {
+        if self.join(horizon).is_err() {
             self.keep(count);
             return Err(AllocError);
         }
@@ -166,9 +165,9 @@ impl Chain {
 
     /// Adds a version, after which the value is this one. For want of memory all is as before.
     fn push(&mut self, number: u64, delta: &Delta, newest: &Value) -> Result<(), AllocError>
-        requires order { AllByRecursion (λ version. version.number ≤ number) self.old.later }
+        requires order { spec.AreUpTo number self.old.later }
         requires newest { newest.now ≡ deltas.apply delta.now (spec.latest self.old) }
-        ensures ok { OnOk result (self.new ≡ spec.changed number delta.now self.old) }
+        ensures ok { OnOk result (self.new ≡ changed number delta.now self.old) }
         ensures err { OnErr result (self.new ≡ self.old) }
     {
         let delta = copied(delta)?;
@@ -180,14 +179,15 @@ impl Chain {
     }
 
     /// Lets go of the versions up to a horizon, which are joined into the base. For want of memory all is as before.
-    fn join(&mut self, alloc: Global, horizon: u64) -> Result<(), AllocError>
-        ensures ok { OnOk result (self.new ≡ spec.trimmed horizon self.old) }
+    fn join(&mut self, horizon: u64) -> Result<(), AllocError>
+        ensures ok { OnOk result (self.new ≡ trimmed horizon self.old) }
         ensures err { OnErr result (self.new ≡ self.old) }
     {
         let count = self.count_to(horizon);
         if count == 0 {
             return Ok(());
         }
+        let alloc = *self.later.allocator();
         let base = self.after(alloc, count)?;
         self.begin_behind(count, base);
         Ok(())
@@ -196,7 +196,7 @@ impl Chain {
     /// Lets go of the first versions, so many, after which the value is this one.
     fn begin_behind(&mut self, count: usize, base: Value)
         requires within { count ≤ length self.old.later }
-        requires value { base ≡ spec.value_after self.old.base (take count self.old.later) }
+        requires value { base ≡ spec.value_by count self.old }
         ensures { self.new ≡ record { base = base; later = drop count self.old.later } }
     {
         let passed = usize::from(self.behind) + count;
@@ -226,7 +226,7 @@ impl Chain {
     /// The first version past the base of an observation that clashes with it. It makes a step at most for each version
     /// past the base, and is never refused for want of memory.
     pub fn first_clash<L: Ledger>(&self, based: &Based, steps: &mut Steps<L>) -> Option<&Version>
-        ensures first { option_copied result ≡ first_clashing based.now.obs (spec.past based.now.base self.now.later) }
+        ensures first { option_copied result ≡ clashing_past based.now self.now.later }
         ensures steps { steps.new ≤ steps.old + length (spec.past based.now.base self.now.later) }
     {
         let from = self.count_to(based.base);

@@ -1,12 +1,11 @@
 //! How the versions of a shard's addresses follow a tail.
 
 ghost use Rattle.std.specs.Prelude.{◌≡◌, ◌≤◌, ◌-◌, OnOk, OnErr, IfErr};
-ghost use Rattle.std.specs.List.{AllByRecursion};
-ghost use Rattle.rdt_types.specs.declared.address.Address.{Address};
 ghost use Rattle.change_feed.specs.Lists.{listed};
 ghost use Rattle.journal_core.specs.Tails.{tail_of};
+ghost use Rattle.version_shard.specs.Versions.{AreUpTo};
 ghost use Rattle.version_shard.specs.Shards.{versions_of, AreKept, horizon_at};
-ghost use Rattle.version_shard.specs.code.Following.{followed_at, followed_along, cut_along, StopsAt, Reaches};
+ghost use Rattle.version_shard.specs.code.Following.{followed_at, cut_along, DoesToAll, Follows, StopsAt, Reaches};
 
 use crate::kept::Kept;
 use change_feed::{Change, Changes};
@@ -27,8 +26,8 @@ fn follow_one(
     change: &Change,
     window: u16,
 ) -> Result<(), AllocError>
-    requires { AllByRecursion (λ version. version.number ≤ change.now.number) (versions_of kept.old change.now.address).later }
-    ensures ok { OnOk result ((a : Address) → versions_of kept.new a ≡ followed_at window a change.now (versions_of kept.old a)) }
+    requires { AreUpTo change.now.number (versions_of kept.old change.now.address).later }
+    ensures ok { OnOk result (DoesToAll (λ a. followed_at window a change.now) kept.old kept.new) }
     ensures err { OnErr result (kept.new ≡ kept.old) }
 {
     let horizon = horizon_of(window, change.number.saturating_sub(1));
@@ -38,7 +37,7 @@ fn follow_one(
 /// Follows changes one by one. Where there is no memory for one of them it answers the number of its commit.
 fn follow_each(kept: &mut Kept, alloc: Global, tail: &LentTail<'_>, window: u16) -> Result<(), u64>
     requires { AreKept tail.now.from kept.old }
-    ensures ok { OnOk result ((a : Address) → versions_of kept.new a ≡ followed_along window a tail.now.changes.now (versions_of kept.old a)) }
+    ensures ok { OnOk result (Follows window tail.now.changes.now kept.old kept.new) }
     ensures err { IfErr result (λ number. StopsAt window (tail_of tail.now) number kept.old kept.new) }
 {
     let mut rest = tail.changes.pieces();
@@ -54,7 +53,7 @@ fn follow_each(kept: &mut Kept, alloc: Global, tail: &LentTail<'_>, window: u16)
 
 /// Lets go of the versions past a number at the addresses of the changes of a piece.
 fn cut_piece(kept: &mut Kept, piece: &[Change], number: u64)
-    ensures { (a : Address) → versions_of kept.new a ≡ cut_along number a piece.now (versions_of kept.old a) }
+    ensures { DoesToAll (λ a. cut_along number a piece.now) kept.old kept.new }
 {
     for change in piece {
         kept.cut(&change.address, number);
@@ -63,7 +62,7 @@ fn cut_piece(kept: &mut Kept, piece: &[Change], number: u64)
 
 /// Lets go of the versions past a number at the addresses of some changes.
 fn cut_each(kept: &mut Kept, changes: &Changes<'_>, number: u64)
-    ensures { (a : Address) → versions_of kept.new a ≡ cut_along number a (listed changes.now) (versions_of kept.old a) }
+    ensures { DoesToAll (λ a. cut_along number a (listed changes.now)) kept.old kept.new }
 {
     let mut rest = *changes;
     while let Some(piece) = rest.next_piece() {

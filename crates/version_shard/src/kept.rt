@@ -1,14 +1,13 @@
 //! The versions of some addresses, found by marks.
 
-ghost use Rattle.std.specs.Prelude.{◌≡◌, ◌≤◌, true, [], None, if◌then◌else◌, IfOk, OnOk, OnErr};
-ghost use Rattle.std.specs.List.{AllByRecursion};
+ghost use Rattle.std.specs.Prelude.{◌≡◌, true, [], None, if◌then◌else◌, IfOk, OnOk, OnErr};
 ghost use Rattle.std.specs.Map.{lookup};
 ghost use Rattle.std.specs.Option.{option_copied};
 ghost use Rattle.std.specs.BTreeMap.{is_at};
 ghost use Rattle.rdt_types.specs.Addresses.{address_cmp};
-ghost use Rattle.version_shard.specs.Shards.{versions_of, unchanged};
+ghost use Rattle.version_shard.specs.Shards.{versions_of};
 ghost use Rattle.version_shard.specs.Versions as spec;
-ghost use Rattle.version_shard.specs.code.Marks.{IsPut, HasFollowed, changed_by};
+ghost use Rattle.version_shard.specs.code.Marks.{IsPut, HasFollowed, first_own};
 
 use crate::mark::mark_of;
 use crate::versions::Versions;
@@ -81,7 +80,7 @@ impl Kept {
 
     /// Follows a change, and lets go of the versions up to a horizon. For want of memory all is as before.
     pub fn follow(&mut self, alloc: Global, change: &Change, horizon: u64) -> Result<(), AllocError>
-        requires { AllByRecursion (λ version. version.number ≤ change.now.number) (versions_of self.old change.now.address).later }
+        requires { spec.AreUpTo change.now.number (versions_of self.old change.now.address).later }
         ensures ok { OnOk result (HasFollowed self.old self.new change.now horizon true) }
         ensures err { OnErr result (self.new ≡ self.old) }
     {
@@ -117,7 +116,7 @@ impl Kept {
         change: &Change,
         horizon: u64,
     ) -> Result<bool, AllocError>
-        requires { AllByRecursion (λ version. version.number ≤ change.now.number) (versions_of self.old change.now.address).later }
+        requires { spec.AreUpTo change.now.number (versions_of self.old change.now.address).later }
         ensures ok { IfOk result (HasFollowed self.old self.new change.now horizon) }
         ensures err { OnErr result (self.new ≡ self.old) }
     {
@@ -155,7 +154,7 @@ impl Kept {
 
 /// An address with the version that its first change makes.
 fn first_of(alloc: Global, change: &Change, horizon: u64) -> Result<Own, AllocError>
-    ensures { IfOk result (λ own. own ≡ record { address = change.now.address; versions = changed_by change.now horizon (unchanged change.now.address) }) }
+    ensures { IfOk result (λ own. own ≡ first_own change.now horizon) }
 {
     let base = default_value(alloc, change.address.kind);
     let mut versions = Versions::new(alloc, base);

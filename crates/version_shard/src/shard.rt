@@ -1,17 +1,14 @@
 //! A shard: the values of its addresses within a window of the journal.
 
-ghost use Rattle.std.specs.Prelude.{◌≡◌, ◌+◌, ◌<◌, ◌≤◌, take, OnOk, IfOk};
+ghost use Rattle.std.specs.Prelude.{◌≡◌, ◌<◌, ◌≤◌, OnOk, IfOk};
 ghost use Rattle.std.specs.List.{AllByRecursion};
 ghost use Rattle.change_feed.specs.Feeds.{AreOfTheirKinds};
 ghost use Rattle.abort_witness.specs.Kinds.{IsBasedOfOneKind};
-ghost use Rattle.txn_lang.specs.States.{Journal, state};
 ghost use Rattle.version_shard.specs.Shards as spec;
 ghost use Rattle.version_shard.specs.Shards.{IsIn};
-ghost use Rattle.version_shard.specs.Standing.{Holds, HoldsSoFar, IsNext, empty_by};
-ghost use Rattle.version_shard.specs.Validating.{ReadsAt, Validates};
-ghost use Rattle.journal_core.specs.Changes.{changes};
+ghost use Rattle.version_shard.specs.Standing.{InEach, HasReached, GoesOn, StandsBehind, empty_by};
+ghost use Rattle.version_shard.specs.Validating.{ReadsAt, ReadsFront, Validates, IsWithinSteps};
 ghost use Rattle.journal_core.specs.Tails.{tail_of};
-ghost use Rattle.journal_core.specs.Pairs.{most_steps};
 
 use crate::at_error::AtError;
 use crate::following::{horizon_of, reach};
@@ -64,9 +61,8 @@ impl Shard {
         requires number { number < settings.now.shards }
         requires from { kept.now.from ≡ 0 }
         requires kinds { AreOfTheirKinds kept.now.changes }
-        ensures same { IfOk result (λ shard. shard ≡ record (empty_by number settings.now) { front = kept.now.to; kept = shard.kept }) }
-        ensures holds { IfOk result (λ shard. (journal : Journal) → IsNext journal (empty_by number settings.now) kept.now
-            → Holds (take kept.now.to journal) shard) }
+        ensures same { IfOk result (HasReached kept.now.to (empty_by number settings.now)) }
+        ensures holds { IfOk result (StandsBehind kept.now (empty_by number settings.now)) }
     {
         let mut shard = Shard {
             alloc,
@@ -100,11 +96,11 @@ impl Shard {
     pub fn follow(&mut self, tail: &Tail) -> Result<(), AllocError>
         requires from { tail.now.from ≡ self.old.front }
         requires kinds { AreOfTheirKinds tail.now.changes }
-        ensures same { self.new ≡ record self.old { front = self.new.front; kept = self.new.kept } }
+        ensures same { HasReached self.new.front self.old self.new }
         ensures reached { OnOk result (self.new.front ≡ tail.now.to) }
         ensures never_back { self.old.front ≤ self.new.front }
         ensures within { self.new.front ≤ tail.now.to }
-        ensures holds { (journal : Journal) → IsNext journal self.old tail.now → HoldsSoFar journal self.old → HoldsSoFar journal self.new }
+        ensures holds { GoesOn tail.now self.old self.new }
     {
         let changes = LentChanges::of(tail.changes.lend());
         self.follow_lent(&LentTail {
@@ -118,12 +114,11 @@ impl Shard {
     pub fn follow_lent(&mut self, tail: &LentTail<'_>) -> Result<(), AllocError>
         requires from { tail.now.from ≡ self.old.front }
         requires kinds { AreOfTheirKinds tail.now.changes.now }
-        ensures same { self.new ≡ record self.old { front = self.new.front; kept = self.new.kept } }
+        ensures same { HasReached self.new.front self.old self.new }
         ensures reached { OnOk result (self.new.front ≡ tail.now.to) }
         ensures never_back { self.old.front ≤ self.new.front }
         ensures within { self.new.front ≤ tail.now.to }
-        ensures holds { (journal : Journal) → IsNext journal self.old (tail_of tail.now) → HoldsSoFar journal self.old
-            → HoldsSoFar journal self.new }
+        ensures holds { GoesOn (tail_of tail.now) self.old self.new }
     {
         match reach(&mut self.kept, self.alloc, tail, self.window) {
             Ok(()) => {
@@ -152,7 +147,7 @@ impl Shard {
     pub fn read(&self, address: &Address) -> Result<Snap, AllocError>
         requires { IsIn self.now address.now }
         ensures base { IfOk result (λ snap. snap.base ≡ self.now.front) }
-        ensures value { (journal : Journal) → Holds journal self.now → IfOk result (λ snap. snap.value ≡ state journal self.now.front address.now) }
+        ensures value { InEach self.now (λ journal. ReadsFront journal self.now address.now result) }
     {
         let value = self.value_at(address, self.front)?;
         Ok(Snap {
@@ -165,7 +160,7 @@ impl Shard {
     pub fn read_at(&self, address: &Address, number: u64) -> Result<Value, AtError>
         requires here { IsIn self.now address.now }
         requires within { number ≤ self.now.front }
-        ensures { (journal : Journal) → Holds journal self.now → ReadsAt journal self.now address.now number result }
+        ensures { InEach self.now (λ journal. ReadsAt journal self.now address.now number result) }
     {
         let horizon = self.horizon();
         if number < horizon {
@@ -184,8 +179,8 @@ impl Shard {
     ) -> Result<Prepared, Refusal>
         requires here { AllByRecursion (λ observation. IsIn self.now observation.address) based.now }
         requires kinds { AllByRecursion IsBasedOfOneKind based.now }
-        ensures answers { (journal : Journal) → Holds journal self.now → Validates journal self.now based.now result }
-        ensures steps { (journal : Journal) → Holds journal self.now → steps.new ≤ steps.old + most_steps based.now (changes journal) }
+        ensures answers { InEach self.now (λ journal. Validates journal self.now based.now result) }
+        ensures steps { InEach self.now (IsWithinSteps based.now steps.old steps.new) }
     {
         let horizon = self.horizon();
         if let Some(base) = late_base(horizon, based) {

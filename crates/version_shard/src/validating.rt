@@ -5,6 +5,7 @@ ghost use Rattle.std.specs.Option.{option_copied};
 ghost use Rattle.abort_witness.specs.Naming.{Names};
 ghost use Rattle.version_shard.specs.Bases as spec;
 ghost use Rattle.version_shard.specs.Shards.{AreKept};
+ghost use Rattle.version_shard.specs.Versions.{as_change};
 ghost use Rattle.version_shard.specs.code.Clashing as clashing;
 ghost use Rattle.version_shard.specs.code.Clashing.{IsClash};
 
@@ -63,7 +64,7 @@ pub(crate) struct Hit<'a> {
 /// The witness of a hit.
 pub(crate) fn witness_of(based: &Based, version: &Version) -> Result<Witness, AllocError>
     requires { IsClash (based.now, version.now) }
-    ensures { IfOk result (Names based.now (record { number = version.now.number; address = based.now.address; delta = version.now.delta })) }
+    ensures { IfOk result (Names based.now (as_change based.now.address version.now)) }
 {
     name_delta(based, &version.delta, version.number)
 }

@@ -1,11 +1,11 @@
 //! The versions of the value at one address.
 
 ghost use Rattle.std.specs.Prelude.{◌≡◌, ◌+◌, ◌≤◌, length, OnOk, OnErr, IfOk};
-ghost use Rattle.std.specs.List.{AllByRecursion};
 ghost use Rattle.std.specs.Option.{option_copied};
 ghost use Rattle.rdt_types.specs.Deltas as deltas;
 ghost use Rattle.version_shard.specs.Versions as spec;
-ghost use Rattle.version_shard.specs.code.Clashing.{first_clashing};
+ghost use Rattle.version_shard.specs.Versions.{changed, trimmed};
+ghost use Rattle.version_shard.specs.code.Clashing.{clashing_past};
 
 use crate::chain::Chain;
 use crate::version::Version;
@@ -82,12 +82,12 @@ impl Versions {
         delta: &Delta,
         horizon: u64,
     ) -> Result<(), AllocError>
-        requires { AllByRecursion (λ version. version.number ≤ number) self.old.later }
-        ensures ok { OnOk result (self.new ≡ spec.trimmed horizon (spec.changed number delta.now self.old)) }
+        requires { spec.AreUpTo number self.old.later }
+        ensures ok { OnOk result (self.new ≡ trimmed horizon (changed number delta.now self.old)) }
         ensures err { OnErr result (self.new ≡ self.old) }
     {
         let newest = self.after(alloc, delta)?;
-        self.chain.change(alloc, number, delta, &newest, horizon)?;
+        self.chain.change(number, delta, &newest, horizon)?;
         self.newest = Some(newest);
         Ok(())
     }
@@ -103,7 +103,7 @@ impl Versions {
     /// The first version past the base of an observation that clashes with it. It makes a step at most for each version
     /// past the base, and is never refused for want of memory.
     pub fn first_clash<L: Ledger>(&self, based: &Based, steps: &mut Steps<L>) -> Option<&Version>
-        ensures first { option_copied result ≡ first_clashing based.now.obs (spec.past based.now.base self.now.later) }
+        ensures first { option_copied result ≡ clashing_past based.now self.now.later }
         ensures steps { steps.new ≤ steps.old + length (spec.past based.now.base self.now.later) }
     {
         self.chain.first_clash(based, steps)

@@ -7,7 +7,7 @@ use Rattle.rdt_types.specs.declared.value.Value.TheVariants as value
 use Rattle.rdt_types.specs.declared.delta.Delta.TheVariants as delta
 use Rattle.rdt_types.specs.Deltas.{apply}
 use Rattle.version_shard.specs.declared.version.Version.{Version}
-use Rattle.version_shard.specs.Versions.{AreInOrder}
+use Rattle.version_shard.specs.Versions.{AreInOrder, AreUpTo}
 
 -- a value, where it is the one after a 32nd version
 abbrev pub whole_at : ℕ → Value → List Value
@@ -30,7 +30,7 @@ pub record IsChain (behind : ℕ) (base : Value) (later : List Version) (whole :
 -- the versions up to a number are the first ones, so many
 pub record Parts (number count : ℕ) (later : List Version) : Type 0 where
   pub within : count ≤ length later
-  pub up_to : AllByRecursion (λ version. version.number ≤ number) (take count later)
+  pub up_to : AreUpTo number (take count later)
   pub past : AllByRecursion (λ version. number < version.number) (drop count later)
 
 -- ---- worked lines

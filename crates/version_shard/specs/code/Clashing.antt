@@ -16,9 +16,13 @@ abbrev pub first_clashing : Obs → List Version → Option Version
 first_clashing obs [] = None
 first_clashing obs (version ∷ rest) = if clash obs version.delta then Some version else first_clashing obs rest
 
--- the first version past the base of an observation, at its address, that clashes with it
+-- the first of some versions past the base of an observation that clashes with it
+abbrev pub clashing_past : Based → List Version → Option Version
+clashing_past based later = first_clashing based.obs (past based.base later)
+
+-- and of those at its address
 abbrev pub clashing_in : Kept → Based → Option Version
-clashing_in kept based = first_clashing based.obs (past based.base (versions_of kept based.address).later)
+clashing_in kept based = clashing_past based (versions_of kept based.address).later
 
 -- an observation and a version that clashes with it
 abbrev pub Hit : Type 0

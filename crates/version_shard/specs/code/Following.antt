@@ -27,6 +27,14 @@ followed_along window address changes versions = fold (λ v change. followed_at 
 abbrev pub cut_along : ℕ → Address → List Change → Versioned → Versioned
 cut_along number address changes versions = fold (λ v change. if is_at (address_cmp change.address) address then up_to number v else v) versions changes
 
+-- something was done to the versions of each address
+abbrev pub DoesToAll : (Address → Versioned → Versioned) → Kept → Kept → Type 0
+DoesToAll does old new = (address : Address) → versions_of new address ≡ does address (versions_of old address)
+
+-- changes were followed
+abbrev pub Follows : ℕ → List Change → Kept → Kept → Type 0
+Follows window changes old new = DoesToAll (λ address. followed_along window address changes) old new
+
 -- There was no memory for the change at a place, of the commit with this number. Those before it, of that commit or earlier
 -- ones, were followed; the others are of that commit or later ones.
 pub record StopsAt (window : ℕ) (tail : Tail) (number : ℕ) (old new : Kept) : Type 0 where
@@ -35,7 +43,7 @@ pub record StopsAt (window : ℕ) (tail : Tail) (number : ℕ) (old new : Kept) 
   pub within : number ≤ tail.to
   pub before : AllByRecursion (λ change. change.number ≤ number) (take count tail.changes)
   pub behind : AllByRecursion (λ change. number ≤ change.number) (drop count tail.changes)
-  pub versions : (address : Address) → versions_of new address ≡ followed_along window address (take count tail.changes) (versions_of old address)
+  pub versions : Follows window (take count tail.changes) old new
 
 -- A front was reached: so many changes were followed, all of commits up to the front or the next, the versions past the front
 -- were taken back, and the other changes are past it.

@@ -9,7 +9,7 @@ use Rattle.rdt_types.specs.Addresses.{address_cmp}
 use Rattle.version_shard.specs.declared.kept.Own.{Own}
 use Rattle.change_feed.specs.declared.change.Change.{Change}
 use Rattle.version_shard.specs.Versions.{Versioned, changed, trimmed}
-use Rattle.version_shard.specs.Shards.{Kept, versions_of}
+use Rattle.version_shard.specs.Shards.{Kept, versions_of, unchanged}
 
 -- one byte more, in 64 bits
 abbrev pub with_byte : ℕ → ℕ → ℕ
@@ -43,6 +43,10 @@ IsPut old new k put = (q : Address) → lookup (is_at (address_cmp q)) new ≡ (
 -- the versions after a change, without those that a horizon lets go
 abbrev pub changed_by : Change → ℕ → Versioned → Versioned
 changed_by change horizon versions = trimmed horizon (changed change.number change.delta versions)
+
+-- an address with the version that its first change makes
+abbrev pub first_own : Change → ℕ → Own
+first_own change horizon = record { address = change.address; versions = changed_by change horizon (unchanged change.address) }
 
 -- A change was followed where its address had versions, and else nothing was done.
 abbrev pub HasFollowed : Kept → Kept → Change → ℕ → Bool → Type 0
