@@ -4,6 +4,7 @@ use Rattle.std.specs.Option.{is_some}
 use Rattle.std.specs.Coded.{Coded, code_by, coded×, coded_list, coded_ℕ}
 use Rattle.rdt_types.specs.declared.address.Kind.TheVariants as kind
 use Rattle.rdt_types.specs.declared.address.Address.{Address}
+use Rattle.rdt_types.specs.declared.delta.Delta.{Delta}
 use Rattle.rdt_types.specs.declared.delta.Delta.TheVariants as delta
 use Rattle.rdt_types.specs.declared.outcome.Item.TheVariants as item
 use Rattle.rdt_types.specs.declared.outcome.Outcome.TheVariants as outcome
@@ -13,7 +14,7 @@ use Rattle.txn_lang.specs.declared.commit.Commit.{Commit}
 use Rattle.txn_lang.specs.declared.run.Seen.{Seen}
 use Rattle.txn_lang.specs.States.{Journal}
 use Rattle.journal_core.specs.declared.hold.Hold.{Hold}
-use Rattle.journal_core.specs.Holds.{is_hold, observed_alone, with_hold, live}
+use Rattle.journal_core.specs.Holds.{disturbs_some, is_hold, observed_alone, with_hold, live}
 
 -- the live holds of a journal, by rising numbers; how many first commits of it nobody ran again; and how long it is
 pub record Holding : Type 0 where
@@ -66,6 +67,14 @@ is_written deltas seen = is_some (delta_at deltas seen.address)
 -- how many observations are at addresses that deltas write
 abbrev pub met_in : Deltas → List Seen → ℕ
 met_in deltas observations = length (filter (is_written deltas) observations)
+
+-- whether one delta at an address disturbs what was observed
+abbrev pub disturbs_alone : Address → Delta → List Seen → Bool
+disturbs_alone address delta observations = disturbs_some ((address, delta) ∷ []) observations
+
+-- and how many observations are at its address
+abbrev pub met_alone : Address → Delta → List Seen → ℕ
+met_alone address delta observations = met_in ((address, delta) ∷ []) observations
 
 -- How many observations of holds are at addresses that deltas write: no others have to be tested.
 abbrev pub most_hits : List Hold → Deltas → ℕ

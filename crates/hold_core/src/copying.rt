@@ -18,7 +18,7 @@ pub fn copy_seen(list: &SeenList) -> Result<SeenList, AllocError>
 
 /// What a run observed, with its index, where its commit may be a hold. What is no hold isn't copied.
 pub fn seen_to_hold(alloc: Global, run: &Run) -> Result<IndexedSeen, AllocError>
-    ensures { IfOk result (λ seen. holds.says_hold run.now.outcome ≡ true → seen ≡ run.now.observations) }
+    ensures { IfOk result (λ s. holds.says_hold run.now.outcome ≡ true → s ≡ run.now.observations) }
 {
     if says_hold(&run.outcome) {
         IndexedSeen::new(alloc, copy_seen(&run.observations)?)

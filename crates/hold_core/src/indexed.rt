@@ -1,8 +1,8 @@
 //! What a run observed, with an index by address.
 
-ghost use Rattle.std.specs.Prelude.{◌≡◌, ◌+◌, ◌≤◌, ◌∷◌, [], IfOk};
+ghost use Rattle.std.specs.Prelude.{◌≡◌, ◌+◌, ◌≤◌, [], IfOk};
 ghost use Rattle.journal_core.specs.Holds as holds;
-ghost use Rattle.hold_core.specs.Books.{met_in};
+ghost use Rattle.hold_core.specs.Books.{disturbs_alone, met_alone};
 
 use crate::meeting::is_hit;
 use crate::placing::places_of;
@@ -72,8 +72,8 @@ impl IndexedSeen {
         delta: &Delta,
         steps: &mut Steps<L>,
     ) -> bool
-        ensures disturbs { result ≡ holds.disturbs_some ((address.now, delta.now) ∷ []) self.now }
-        ensures steps { steps.new ≤ steps.old + met_in ((address.now, delta.now) ∷ []) self.now }
+        ensures disturbs { result ≡ disturbs_alone address.now delta.now self.now }
+        ensures steps { steps.new ≤ steps.old + met_alone address.now delta.now self.now }
     {
         is_hit(
             self.observations.as_slice(),

@@ -1,12 +1,12 @@
 //! Whether a delta disturbs what was observed.
 
-ghost use Rattle.std.specs.Prelude.{◌≡◌, ◌+◌, ◌≤◌, ◌∷◌, [], count_by};
+ghost use Rattle.std.specs.Prelude.{◌≡◌, ◌+◌, ◌≤◌};
 ghost use Rattle.std.specs.List.{list_any};
 ghost use Rattle.std.specs.Option.{option_copied};
 ghost use Rattle.journal_core.specs.Holds as holds;
-ghost use Rattle.hold_core.specs.Books.{met_in};
+ghost use Rattle.hold_core.specs.Books.{disturbs_alone, met_alone};
 ghost use Rattle.hold_core.specs.code.Index as spec;
-ghost use Rattle.hold_core.specs.code.Index.{IsIndex, Rises, IsReached};
+ghost use Rattle.hold_core.specs.code.Index.{IsIndex, Rises, IsReached, is_hit_at, met_among};
 
 use crate::placing::order_at;
 use conflict_table::{Steps, clash};
@@ -36,8 +36,8 @@ fn is_hit_from<L: Ledger>(
 ) -> bool
     requires rises { Rises observations.now address.now places.now }
     requires reached { IsReached observations.now address.now places.now }
-    ensures hit { result ≡ list_any (spec.is_hit_at observations.now (address.now, delta.now)) places.now }
-    ensures steps { steps.new ≤ steps.old + count_by (spec.is_met_at observations.now address.now) places.now }
+    ensures hit { result ≡ list_any (is_hit_at observations.now (address.now, delta.now)) places.now }
+    ensures steps { steps.new ≤ steps.old + met_among observations.now address.now places.now }
 {
     for place in places {
         let Some(seen) = seen_at(observations, address, *place) else {
@@ -67,8 +67,8 @@ pub(crate) fn is_hit<L: Ledger>(
     steps: &mut Steps<L>,
 ) -> bool
     requires { IsIndex observations.now places.now }
-    ensures disturbs { result ≡ holds.disturbs_some ((address.now, delta.now) ∷ []) observations.now }
-    ensures steps { steps.new ≤ steps.old + met_in ((address.now, delta.now) ∷ []) observations.now }
+    ensures disturbs { result ≡ disturbs_alone address.now delta.now observations.now }
+    ensures steps { steps.new ≤ steps.old + met_alone address.now delta.now observations.now }
 {
     let from = first_at(observations, places, address);
     is_hit_from(observations, &places[from..], address, delta, steps)

@@ -1,8 +1,6 @@
 //! The places of observations, in the order of their addresses.
 
-ghost use Rattle.std.specs.Prelude.{◌≡◌, IfOk, IsPermutation, IsSortedByKey};
-ghost use Rattle.std.specs.Option.{option_cmp};
-ghost use Rattle.rdt_types.specs.Addresses.{address_cmp};
+ghost use Rattle.std.specs.Prelude.{◌≡◌, IfOk, IsPermutation};
 ghost use Rattle.hold_core.specs.code.Index as spec;
 ghost use Rattle.hold_core.specs.code.Index.{IsIndex};
 
@@ -23,7 +21,7 @@ pub(crate) fn order_at(observations: &[Seen], address: &Address, place: usize) -
 
 /// How two places stand to each other.
 fn order_of(observations: &[Seen], a: usize, b: usize) -> Ordering
-    ensures { result ≡ option_cmp address_cmp (spec.address_at observations.now a) (spec.address_at observations.now b) }
+    ensures { result ≡ spec.place_order observations.now a b }
 {
     match (observations.get(a), observations.get(b)) {
         (Some(first), Some(second)) => first.address.cmp(&second.address),
@@ -47,7 +45,7 @@ fn first_places(alloc: Global, count: usize) -> Result<Vec<usize>, AllocError>
 /// Sorts places by the addresses of what was observed there. It takes no memory.
 fn sort_places(places: &mut Vec<usize>, observations: &[Seen])
     ensures same { IsPermutation places.old.items places.new.items }
-    ensures sorted { IsSortedByKey (spec.address_at observations.now) (option_cmp address_cmp) places.new.items }
+    ensures sorted { spec.AreSorted observations.now places.new.items }
 {
     places.sort_unstable_by(|a, b| order_of(observations, *a, *b));
 }

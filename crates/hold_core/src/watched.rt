@@ -1,11 +1,11 @@
 //! A live hold with the marks of what it observed.
 
-ghost use Rattle.std.specs.Prelude.{◌≡◌, ◌+◌, ◌≤◌, ◌∷◌, []};
+ghost use Rattle.std.specs.Prelude.{◌≡◌, ◌+◌, ◌≤◌};
 ghost use Rattle.std.specs.Map.{keys_of};
 ghost use Rattle.std.specs.List.Sorted.{IsStrictlySortedBy};
 ghost use Rattle.rdt_types.specs.Addresses.{address_cmp};
 ghost use Rattle.journal_core.specs.Holds as spec;
-ghost use Rattle.hold_core.specs.Books.{met_in};
+ghost use Rattle.hold_core.specs.Books.{disturbs_alone, met_alone, met_in};
 
 use crate::indexed::IndexedSeen;
 use crate::marks::{MARKS, is_marked, marks_of};
@@ -67,8 +67,8 @@ impl Watched {
 
     /// Whether a delta disturbs it. Where its address isn't marked, nothing that it observed is looked at.
     fn is_hit<L: Ledger>(&self, address: &Address, delta: &Delta, steps: &mut Steps<L>) -> bool
-        ensures disturbs { result ≡ spec.disturbs_some ((address.now, delta.now) ∷ []) self.now.observations }
-        ensures steps { steps.new ≤ steps.old + met_in ((address.now, delta.now) ∷ []) self.now.observations }
+        ensures disturbs { result ≡ disturbs_alone address.now delta.now self.now.observations }
+        ensures steps { steps.new ≤ steps.old + met_alone address.now delta.now self.now.observations }
     {
         is_marked(&self.marks, address) && self.seen.is_hit(address, delta, steps)
     }

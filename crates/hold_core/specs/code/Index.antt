@@ -1,6 +1,6 @@
 -- An index of observations: their places, in the order of their addresses.
 use Rattle.std.specs.Prelude.{◌≡◌, ℕ, ◌≤◌, Bool, true, false, List, [], ◌∷◌, length, Option, Some, None, option_map, slice_get, if◌then◌else◌, codes, refl}
-use Rattle.std.specs.Prelude.{All, IsPermutation, IsSortedByKey}
+use Rattle.std.specs.Prelude.{All, IsPermutation, IsSortedByKey, count_by}
 use Rattle.std.specs.List.{range_with_len}
 use Rattle.std.specs.List.Sorted.{IsNonDecreasingBy, IsPartitionPoint}
 use Rattle.std.specs.Option.{option_cmp}
@@ -22,10 +22,18 @@ first_places count = range_with_len 0 count
 abbrev pub address_at : List Seen → ℕ → Option Address
 address_at observations place = option_map (λ seen. seen.address) (slice_get observations place)
 
+-- how two places stand to one another: by the addresses of what was observed there
+abbrev pub place_order : List Seen → ℕ → ℕ → Ordering
+place_order observations a b = option_cmp address_cmp (address_at observations a) (address_at observations b)
+
+-- places are in that order
+abbrev pub AreSorted : List Seen → List ℕ → Type 0
+AreSorted observations places = IsSortedByKey (address_at observations) (option_cmp address_cmp) places
+
 -- THE INDEX: each place of an observation stands in it once, and the addresses there don't fall.
 pub record IsIndex (observations : List Seen) (places : List ℕ) : Type 0 where
   pub whole : IsPermutation (first_places (length observations)) places
-  pub sorted : IsSortedByKey (address_at observations) (option_cmp address_cmp) places
+  pub sorted : AreSorted observations places
 
 -- ---- how places stand to an address
 
@@ -36,6 +44,10 @@ order_at observations address place = option_cmp address_cmp (address_at observa
 -- what was observed at a place is at the address
 abbrev pub is_met_at : List Seen → Address → ℕ → Bool
 is_met_at observations address place = is_eq (order_at observations address place)
+
+-- at how many of some places it is
+abbrev pub met_among : List Seen → Address → List ℕ → ℕ
+met_among observations address places = count_by (is_met_at observations address) places
 
 -- that observation
 abbrev pub seen_at : List Seen → Address → ℕ → Option Seen
