@@ -105,9 +105,17 @@ next_rerun state watches = option_map_or (λ entry. rerun_of entry.0 (exec entry
 abbrev pub is_observed_by : Address → List Seen → Bool
 is_observed_by address observations = list_any (λ seen. is_at (address_cmp address) seen.address) observations
 
+-- that of a watch did
+abbrev pub has_observed : Address → Watch → Bool
+has_observed address watch = is_observed_by address watch.observations
+
 -- one of the last runs did
 abbrev pub is_observed : Watches → Address → Bool
-is_observed watches address = list_any (λ entry. is_observed_by address entry.1.observations) watches
+is_observed watches address = list_any (λ entry. has_observed address entry.1) watches
+
+-- observations are at the addresses where others are
+abbrev pub AreWhere : List Seen → List Seen → Type 0
+AreWhere observations others = (address : Address) → is_observed_by address observations ≡ is_observed_by address others
 
 -- ---- worked
 

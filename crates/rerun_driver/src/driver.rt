@@ -5,8 +5,8 @@ ghost use Rattle.std.specs.List.{list_any};
 ghost use Rattle.std.specs.Option.{option_copied};
 ghost use Rattle.client_cache.specs.Cached.{held};
 ghost use Rattle.rerun_driver.specs.Watches as spec;
-ghost use Rattle.rerun_driver.specs.Watches.{watch_of, is_observed, next_rerun, bodies_of, stale_of};
-ghost use Rattle.rerun_driver.specs.code.Rolls.{seen_by};
+ghost use Rattle.rerun_driver.specs.Watches.{with_watch, reported, watch_of, is_observed, next_rerun, bodies_of, stale_of};
+ghost use Rattle.rerun_driver.specs.code.Rolls.{has_seen};
 
 use crate::places::Places;
 use crate::placing::{make_room, put_watch, sweep_all, take_all};
@@ -51,7 +51,7 @@ impl Model for Driver {
 
 /// Whether one of the watches of some numbers observed something at an address.
 fn any_observes(roll: &Roll, numbers: &[u64], address: &Address) -> bool
-    ensures { result ≡ list_any (λ n. spec.is_observed_by address.now (seen_by roll.now n)) numbers.now }
+    ensures { result ≡ list_any (has_seen roll.now address.now) numbers.now }
 {
     numbers.iter().any(|number| is_observed_by(address, roll.observations(*number)))
 }
@@ -105,7 +105,7 @@ impl Driver {
         run: Run,
     ) -> Result<(), AllocError>
         requires free { watch_of self.old name ≡ None }
-        ensures ok { OnOk result (self.new ≡ spec.with_watch self.old name (spec.reported body number run)) }
+        ensures ok { OnOk result (self.new ≡ with_watch self.old name (reported body number run)) }
         ensures err { OnErr result (self.new ≡ self.old) }
     {
         let observations = run.observations.as_slice();

@@ -6,7 +6,7 @@ ghost use Rattle.std.specs.BTreeMap.{is_at};
 ghost use Rattle.rdt_types.specs.declared.address.Address.{Address};
 ghost use Rattle.rdt_types.specs.Addresses.{address_cmp};
 ghost use Rattle.rerun_driver.specs.code.Numbers.{with_number, without_number};
-ghost use Rattle.rerun_driver.specs.code.Places.{numbers_at, stands, IsStill};
+ghost use Rattle.rerun_driver.specs.code.Places.{numbers_at, IsStill, IsGoneWhere};
 
 use crate::numbers::Numbers;
 use plain_data::copied;
@@ -86,7 +86,7 @@ impl Places {
     pub fn take_out(&mut self, address: &Address, number: u64)
         ensures taken { (a : Address) → numbers_at self.new a
             ≡ (if is_at (address_cmp address.now) a then without_number (numbers_at self.old a) number else numbers_at self.old a) }
-        ensures gone { (a : Address) → is_at (address_cmp address.now) a ≡ true → stands self.new a number ≡ false }
+        ensures gone { IsGoneWhere (is_at (address_cmp address.now)) number self.new }
     {
         if let Some(set) = self.sets.get_mut(address) {
             set.take_out(number);

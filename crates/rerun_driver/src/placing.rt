@@ -1,10 +1,9 @@
 //! Watches come to stand at the addresses that their runs observed, and leave them.
 
 ghost use Rattle.std.specs.Bool.{OnTrue};
-ghost use Rattle.std.specs.Prelude.{◌≡◌, ℕ, true, false, nat_eq, IfOk, OnErr};
-ghost use Rattle.rdt_types.specs.declared.address.Address.{Address};
+ghost use Rattle.std.specs.Prelude.{◌≡◌, true, false, IfOk, OnErr};
 ghost use Rattle.rerun_driver.specs.Watches.{is_observed_by};
-ghost use Rattle.rerun_driver.specs.code.Places.{stands, IsStill, IsPutOnly};
+ghost use Rattle.rerun_driver.specs.code.Places.{IsStill, IsPutOnly, IsWithin, KeepsOthers, StandsAtAll, IsGoneWhere};
 ghost use Rattle.rerun_driver.specs.code.Rolls.{IsInOrder, IsExact, IsPlaced, Covers, CoversBut};
 
 use crate::places::Places;
@@ -24,8 +23,8 @@ fn reserve_all(places: &mut Places, observations: &[Seen]) -> Result<(), AllocEr
 
 /// Puts a number at each observed address, and answers whether there was memory for all. It takes none.
 fn put_all(places: &mut Places, observations: &[Seen], number: u64) -> bool
-    ensures stays { OnTrue result ((a : Address) (m : ℕ) → stands places.old a m ≡ true → stands places.new a m ≡ true) }
-    ensures put { OnTrue result ((a : Address) → is_observed_by a observations.now ≡ true → stands places.new a number ≡ true) }
+    ensures stays { OnTrue result (IsWithin places.old places.new) }
+    ensures put { OnTrue result (StandsAtAll observations.now number places.new) }
     ensures only { IsPutOnly places.old places.new observations.now number }
 {
     for seen in observations {
@@ -38,9 +37,9 @@ fn put_all(places: &mut Places, observations: &[Seen], number: u64) -> bool
 
 /// Takes a number from each observed address. It is never refused for want of memory.
 pub(crate) fn take_all(places: &mut Places, observations: &[Seen], number: u64)
-    ensures others { (a : Address) (m : ℕ) → nat_eq number m ≡ false → stands places.new a m ≡ stands places.old a m }
-    ensures fewer { (a : Address) (m : ℕ) → stands places.new a m ≡ true → stands places.old a m ≡ true }
-    ensures gone { (a : Address) → is_observed_by a observations.now ≡ true → stands places.new a number ≡ false }
+    ensures others { KeepsOthers number places.old places.new }
+    ensures fewer { IsWithin places.new places.old }
+    ensures gone { IsGoneWhere (λ a. is_observed_by a observations.now) number places.new }
 {
     for seen in observations {
         places.take_out(&seen.address, number);

@@ -1,13 +1,11 @@
 //! Runs on the values of a cache.
 
 ghost use Rattle.std.specs.Prelude.{◌≡◌, OnOk, IfOk};
-ghost use Rattle.std.specs.BTreeMap.{insert_entry};
-ghost use Rattle.rdt_types.specs.Addresses.{address_cmp};
 ghost use Rattle.client_cache.specs.Cached.{Cached, held};
 ghost use Rattle.txn_trees.specs.declared.statement.Body.{Body};
 ghost use Rattle.txn_lang.specs.Execution.{exec};
 ghost use Rattle.txn_eval.specs.Running.{ran_of};
-ghost use Rattle.rerun_driver.specs.BegunRuns.{IsBegun};
+ghost use Rattle.rerun_driver.specs.BegunRuns.{IsBegun, begun_at, with_taken};
 ghost use Rattle.rerun_driver.specs.Watches.{rerun_of};
 
 use client_cache::Cache;
@@ -54,7 +52,7 @@ fn take_value(
     base: u64,
     value: &Value,
 ) -> Result<(), AllocError>
-    ensures { OnOk result (snaps.new ≡ insert_entry address_cmp snaps.old address (record { base = base; value = value.now })) }
+    ensures { OnOk result (snaps.new ≡ with_taken snaps.old address base value.now) }
 {
     let value = copied(value)?;
     snaps.insert(address, Snap { base, value })?;
@@ -70,9 +68,9 @@ fn run_taking(
     snaps: &mut Snaps,
     pause: &mut Pause,
 ) -> Result<Step, AllocError>
-    requires { IsBegun body.now.body cache.now (record { snaps = snaps.old; pause = pause.old }) }
+    requires { IsBegun body.now.body cache.now (begun_at snaps.old pause.old) }
     ensures ran { IfOk result (λ step. ran_of step ≡ exec body.now.body (held cache.now)) }
-    ensures begun { IfOk result (λ step. IsBegun body.now.body cache.now (record { snaps = snaps.new; pause = pause.new })) }
+    ensures begun { IfOk result (λ _. IsBegun body.now.body cache.now (begun_at snaps.new pause.new)) }
 {
     for _ in 0..TICK_LIMIT + 1 {
         match go_on(alloc, body, snaps, pause)? {

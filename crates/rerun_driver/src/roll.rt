@@ -1,13 +1,13 @@
 //! The watches of a client by their names and by their numbers.
 
-ghost use Rattle.std.specs.Prelude.{◌≡◌, ◌++◌, ◌∷◌, [], ℕ, false, None, is_some, length, option_map, nat_eq, position, if◌then◌else◌, OnOk, OnErr, IfOk, IfSome, IfNone};
+ghost use Rattle.std.specs.Prelude.{◌≡◌, [], false, None, is_some, length, option_map, position, OnOk, OnErr, IfOk, IfSome, IfNone};
 ghost use Rattle.std.specs.List.{list_any};
 ghost use Rattle.std.specs.Map.{values_of};
 ghost use Rattle.std.specs.Option.{option_copied};
 ghost use Rattle.rerun_driver.specs.Watches as spec;
 ghost use Rattle.rerun_driver.specs.Watches.{watch_of, first_stale, bodies_of, stale_of};
 ghost use Rattle.rerun_driver.specs.code.Numbers.{IsRising};
-ghost use Rattle.rerun_driver.specs.code.Rolls.{IsInOrder, body_by, number_of, seen_by, stale_numbers, told_at, told_place};
+ghost use Rattle.rerun_driver.specs.code.Rolls.{IsInOrder, body_by, number_of, seen_by, SettlesSeen, stale_numbers, told_at, told_place};
 ghost use Rattle.rerun_driver.specs.code.Shown.{shown};
 
 use crate::numbers::Numbers;
@@ -61,7 +61,7 @@ fn first_stale_place(order: &Numbers, stale: &Numbers, watches: &[Watch]) -> Opt
 
 /// Whether the last run of a watch observed something at an address.
 fn any_observes(watches: &[Watch], address: &Address) -> bool
-    ensures { result ≡ list_any (λ watch. spec.is_observed_by address.now watch.observations) watches.now }
+    ensures { result ≡ list_any (spec.has_observed address.now) watches.now }
 {
     watches.iter().any(|watch| is_observed_by(address, watch.observations.as_slice()))
 }
@@ -128,7 +128,7 @@ impl Roll {
         requires free { watch_of self.old.1 name ≡ None }
         requires fresh { watch.stale ≡ false }
         ensures ok { OnOk result (self.new.1 ≡ spec.with_watch self.old.1 name watch) }
-        ensures seen { IfOk result (λ made. (n : ℕ) → seen_by self.new n ≡ (if nat_eq made n then watch.observations else seen_by self.old n)) }
+        ensures seen { IfOk result (λ made. SettlesSeen made watch.observations self.old self.new) }
         ensures unseen { IfOk result (λ made. seen_by self.old made ≡ []) }
         ensures order { IsInOrder self.new }
         ensures err { OnErr result (self.new ≡ self.old) }
@@ -150,7 +150,7 @@ impl Roll {
         ensures answer { is_some result ≡ is_some (watch_of self.old.1 name.now) }
         ensures gone { self.new.1 ≡ spec.without_watch self.old.1 name.now }
         ensures none { IfNone result (self.new ≡ self.old) }
-        ensures seen { IfSome result (λ r. (n : ℕ) → seen_by self.new n ≡ (if nat_eq r.0 n then [] else seen_by self.old n)) }
+        ensures seen { IfSome result (λ r. SettlesSeen r.0 [] self.old self.new) }
         ensures before { IfSome result (λ r. r.1.observations ≡ seen_by self.old r.0) }
         ensures order { IsInOrder self.new }
     {
@@ -201,7 +201,7 @@ impl Roll {
     pub fn settle(&mut self, name: &Text, number: u64, run: Run) -> Option<(u64, SeenList)>
         ensures kept { self.new ≡ (self.old.0, spec.with_report self.old.1 name.now number run) }
         ensures answer { is_some result ≡ is_some (watch_of self.old.1 name.now) }
-        ensures seen { IfSome result (λ r. (n : ℕ) → seen_by self.new n ≡ (if nat_eq r.0 n then run.observations else seen_by self.old n)) }
+        ensures seen { IfSome result (λ r. SettlesSeen r.0 run.observations self.old self.new) }
         ensures before { IfSome result (λ r. r.1 ≡ seen_by self.old r.0) }
         ensures order { IsInOrder self.new }
     {

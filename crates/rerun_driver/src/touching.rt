@@ -2,7 +2,6 @@
 
 ghost use Rattle.std.specs.Bool.{OnTrue};
 ghost use Rattle.std.specs.Prelude.{◌≡◌};
-ghost use Rattle.rdt_types.specs.declared.address.Address.{Address};
 ghost use Rattle.rerun_driver.specs.Watches as spec;
 
 use conflict_table::{Steps, clash};
@@ -55,7 +54,7 @@ pub(crate) fn is_observed_by(address: &Address, observations: &[Seen]) -> bool
 
 /// Whether observations are at the addresses of earlier ones, in their order.
 pub(crate) fn are_where(observations: &[Seen], before: &[Seen]) -> bool
-    ensures { OnTrue result ((a : Address) → spec.is_observed_by a observations.now ≡ spec.is_observed_by a before.now) }
+    ensures { OnTrue result (spec.AreWhere observations.now before.now) }
 {
     if observations.len() != before.len() {
         return false;

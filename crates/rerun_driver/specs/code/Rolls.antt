@@ -108,20 +108,28 @@ told_set changes numbers roll = fold (told_at changes) roll numbers
 abbrev pub told_along : Places → Deltas → Deltas → Rolled → Rolled
 told_along places changes deltas roll = fold (λ r delta. told_set changes (numbers_at places delta.0) r) roll deltas
 
+-- the watch of a number observed something at an address
+abbrev pub has_seen : Rolled → Address → ℕ → Bool
+has_seen roll address n = is_observed_by address (seen_by roll n)
+
+-- what the watch of a number observed is this now, and what the others did as before
+abbrev pub SettlesSeen : ℕ → List Seen → Rolled → Rolled → Type 0
+SettlesSeen number observations old new = (n : ℕ) → seen_by new n ≡ (if nat_eq number n then observations else seen_by old n)
+
 -- ---- places
 
 -- each watch stands at all addresses that its last run observed
 abbrev pub Covers : Places → Rolled → Type 0
-Covers places roll = (n : ℕ) (address : Address) → is_observed_by address (seen_by roll n) ≡ true → stands places address n ≡ true
+Covers places roll = (n : ℕ) (address : Address) → has_seen roll address n ≡ true → stands places address n ≡ true
 
 -- and each but one does
 abbrev pub CoversBut : ℕ → Places → Rolled → Type 0
 CoversBut made places roll =
-    (n : ℕ) (address : Address) → nat_eq made n ≡ false → is_observed_by address (seen_by roll n) ≡ true → stands places address n ≡ true
+    (n : ℕ) (address : Address) → nat_eq made n ≡ false → has_seen roll address n ≡ true → stands places address n ≡ true
 
 -- each watch stands only where its last run observed something
 abbrev pub IsExact : Places → Rolled → Type 0
-IsExact places roll = (n : ℕ) (address : Address) → stands places address n ≡ true → is_observed_by address (seen_by roll n) ≡ true
+IsExact places roll = (n : ℕ) (address : Address) → stands places address n ≡ true → has_seen roll address n ≡ true
 
 -- There are as many numbers as watches, and they rise.
 pub record IsInOrder (roll : Rolled) : Type 0 where
