@@ -1,6 +1,6 @@
 -- Payloads: a commit as bytes, and which commit bytes are.
 use Rattle.std.specs.Prelude.{◌≡◌, ℕ, ◌-◌, ◌<◌, ◌≤◌, pos, List, [], ◌∷◌, ◌++◌, length, slice_get, codes, Option, Some}
-use Rattle.std.specs.Prelude.{None, IsSome, Result, Ok, Err, true, refl}
+use Rattle.std.specs.Prelude.{None, IsSome, IsErr, Result, Ok, Err, true, refl}
 use Rattle.std.specs.Int.{w32, w64, to_be_bytes}
 use Rattle.std.specs.List.{AllByRecursion}
 use Rattle.rdt_types.specs.declared.address.Kind.{Kind}
@@ -12,6 +12,7 @@ use Rattle.journal_core.specs.declared.limits.TheConstants.{FIRST_UNTOLD_CLIENT}
 use Rattle.journal_core.specs.Bodies.{IsBodyText}
 use Rattle.journal_core.specs.Keeping.{IsOfRun}
 use Rattle.commit_file.specs.declared.version.Version.{Version}
+use Rattle.commit_file.specs.declared.version.Version.TheVariants.{Two}
 use Rattle.record_code.specs.Spelling.{text_bytes, outcome_bytes, deltas_bytes, kind_byte}
 use Rattle.record_code.specs.Fields.{Reader}
 use Rattle.record_code.specs.Reading.{positive_at, client_at, body_at, outcome_at, deltas_at, kinds_of, has_kinds}
@@ -125,3 +126,7 @@ first_payload = refl
 
 first_payload-length : length (payload first_commit) ≡ 49
 first_payload-length = refl
+
+-- bytes are no payload of version 2 where they are of a commit whose client isn't told of
+abbrev pub IsUntold : Commit → List ℕ → Type 0
+IsUntold commit bytes = FIRST_UNTOLD_CLIENT ≤ commit.client → IsErr (decoded Two bytes)

@@ -1,18 +1,17 @@
 //! Bytes read as a commit, with the body that its text is.
 
-ghost use Rattle.std.specs.Prelude.{◌≡◌, ◌≢◌, ◌⊎◌, ◌-◌, ◌<◌, ◌≤◌, ◌^◌, ℕ, length, [], IfOk, Some, Ok, Err};
+ghost use Rattle.std.specs.Prelude.{◌≡◌, ◌≢◌, ◌⊎◌, ◌-◌, ◌<◌, ◌≤◌, ◌^◌, length, [], IfOk, Some, Ok, Err};
 ghost use Rattle.std.specs.List.{list_all};
 ghost use Rattle.std.specs.FinMap.Entries.{is_sorted};
 ghost use Rattle.rdt_types.specs.Addresses.{address_cmp};
 ghost use Rattle.commit_file.specs.declared.version.Version.TheVariants.{One, Two};
 ghost use Rattle.txn_lang.specs.Tree.{tree};
 ghost use Rattle.record_code.specs.declared.field_error.FieldError.TheVariants as errors;
-ghost use Rattle.record_code.specs.declared.decode_error.DecodeError.TheVariants as decode_errors;
-ghost use Rattle.record_code.specs.declared.decode_error.DecodeError.TheVariants.{BadRecord};
+ghost use Rattle.record_code.specs.declared.decode_error.DecodeError.TheVariants.{NoMemory};
 ghost use Rattle.record_code.specs.Reading as spec;
 ghost use Rattle.record_code.specs.Reading.{positive_at, client_at, body_at, outcome_at, deltas_at};
 ghost use Rattle.record_code.specs.Payloads.{field, end_at, decoded};
-ghost use Rattle.record_code.specs.code.Reads.{Reads, Tells, Placed, Decodes};
+ghost use Rattle.record_code.specs.code.Reads.{Reads, Tells, Placed, Decodes, DecodesAs, NamesPlace};
 
 use crate::body::read_body;
 use crate::decode_error::DecodeError;
@@ -83,7 +82,7 @@ fn may_write(outcome: &Outcome, pairs: &[(Address, Delta)]) -> bool
 
 /// The deltas of a commit with this outcome, where they may be these.
 fn as_deltas(outcome: &Outcome, pairs: Vec<(Address, Delta)>) -> Result<DeltaMap, FieldError>
-    ensures tells { Tells (λ deltas. deltas) result pairs.items (spec.are_deltas outcome.now pairs.items) }
+    ensures tells { Tells (λ d. d) result pairs.items (spec.are_deltas outcome.now pairs.items) }
     ensures told { result ≢ Err errors.NoMemory }
 {
     if rise(&pairs) && suit(&pairs) && may_write(outcome, &pairs) {
@@ -109,7 +108,7 @@ pub fn read_deltas<'a>(
 /// Where nothing was read, the place is named. One that four bytes don't tell is answered as want of memory.
 fn placed<T>(whole: &[u8], rest: &[u8], read: Result<T, FieldError>) -> Result<T, DecodeError>
     ensures place { Placed (length whole.now - length rest.now) read result }
-    ensures fits { result ≡ Err decode_errors.NoMemory → (read ≡ Err errors.NoMemory) ⊎ (2 ^ 32 ≤ length whole.now) }
+    ensures fits { result ≡ Err NoMemory → (read ≡ Err errors.NoMemory) ⊎ (2 ^ 32 ≤ length whole.now) }
 {
     match read {
         Ok(value) => Ok(value),
@@ -123,16 +122,16 @@ fn placed<T>(whole: &[u8], rest: &[u8], read: Result<T, FieldError>) -> Result<T
 
 /// The field of a number.
 fn number_field<'a>(whole: &[u8], rest: &'a [u8]) -> Result<(u64, &'a [u8]), DecodeError>
-    ensures read { Decodes (λ read. (read.0, read.1.now)) result (field whole.now positive_at rest.now) }
-    ensures told { result ≡ Err decode_errors.NoMemory → 2 ^ 32 ≤ length whole.now }
+    ensures read { DecodesAs (λ x. x) result (field whole.now positive_at rest.now) }
+    ensures told { result ≡ Err NoMemory → 2 ^ 32 ≤ length whole.now }
 {
     placed(whole, rest, read_positive(rest))
 }
 
 /// The field of a client.
 fn client_field<'a>(whole: &[u8], rest: &'a [u8]) -> Result<(u32, &'a [u8]), DecodeError>
-    ensures read { Decodes (λ read. (read.0, read.1.now)) result (field whole.now client_at rest.now) }
-    ensures told { result ≡ Err decode_errors.NoMemory → 2 ^ 32 ≤ length whole.now }
+    ensures read { DecodesAs (λ x. x) result (field whole.now client_at rest.now) }
+    ensures told { result ≡ Err NoMemory → 2 ^ 32 ≤ length whole.now }
 {
     placed(whole, rest, read_client(rest))
 }
@@ -144,7 +143,7 @@ fn body_field<'a>(
     whole: &[u8],
     rest: &'a [u8],
 ) -> Result<(Checked, &'a [u8]), DecodeError>
-    ensures text { Decodes (λ read. (read.0.source, read.1.now)) result (field whole.now (body_at version) rest.now) }
+    ensures text { DecodesAs (λ body. body.source) result (field whole.now (body_at version) rest.now) }
     ensures tree { IfOk result (λ read. tree read.0.source ≡ Some read.0.body) }
 {
     placed(whole, rest, read_body(alloc, version, rest))
@@ -157,7 +156,7 @@ fn outcome_field<'a>(
     whole: &[u8],
     rest: &'a [u8],
 ) -> Result<(Outcome, &'a [u8]), DecodeError>
-    ensures { Decodes (λ read. (read.0, read.1.now)) result (field whole.now outcome_at rest.now) }
+    ensures { DecodesAs (λ x. x) result (field whole.now outcome_at rest.now) }
 {
     placed(whole, rest, Outcome::read(alloc, version, rest))
 }
@@ -170,7 +169,7 @@ fn deltas_field<'a>(
     whole: &[u8],
     rest: &'a [u8],
 ) -> Result<(DeltaMap, &'a [u8]), DecodeError>
-    ensures { Decodes (λ read. (read.0, read.1.now)) result (field whole.now (deltas_at version outcome.now) rest.now) }
+    ensures { DecodesAs (λ x. x) result (field whole.now (deltas_at version outcome.now) rest.now) }
 {
     placed(whole, rest, read_deltas(alloc, version, outcome, rest))
 }
@@ -178,7 +177,7 @@ fn deltas_field<'a>(
 /// The end of the bytes.
 fn end(whole: &[u8], rest: &[u8]) -> Result<(), DecodeError>
     ensures read { Decodes (λ nothing. (nothing, [])) result (field whole.now end_at rest.now) }
-    ensures told { result ≡ Err decode_errors.NoMemory → 2 ^ 32 ≤ length whole.now }
+    ensures told { result ≡ Err NoMemory → 2 ^ 32 ≤ length whole.now }
 {
     if rest.is_empty() {
         Ok(())
@@ -222,7 +221,7 @@ pub fn decode_with_body(
     ensures tree { IfOk result (λ read. tree read.0.body ≡ Some read.1) }
 
     // Else they are none, and this is the place.
-    ensures refused { (place : ℕ) → result ≡ Err (BadRecord place) → decoded version bytes.now ≡ Err place }
+    ensures refused { NamesPlace version bytes.now result }
 {
     decode_by(alloc, version, bytes)
 }
@@ -232,7 +231,7 @@ pub fn decode(alloc: Global, bytes: &[u8]) -> Result<Commit, DecodeError>
     ensures read { IfOk result (λ commit. decoded Two bytes.now ≡ Ok commit) }
 
     // Else they are none, and this is the place.
-    ensures refused { (place : ℕ) → result ≡ Err (BadRecord place) → decoded Two bytes.now ≡ Err place }
+    ensures refused { NamesPlace Two bytes.now result }
 {
     let (commit, _body) = decode_with_body(alloc, Version::Two, bytes)?;
     Ok(commit)
@@ -243,7 +242,7 @@ pub fn decode_old(alloc: Global, bytes: &[u8]) -> Result<Commit, DecodeError>
     ensures read { IfOk result (λ commit. decoded One bytes.now ≡ Ok commit) }
 
     // Else they are none, and this is the place.
-    ensures refused { (place : ℕ) → result ≡ Err (BadRecord place) → decoded One bytes.now ≡ Err place }
+    ensures refused { NamesPlace One bytes.now result }
 {
     let (commit, _body) = decode_with_body(alloc, Version::One, bytes)?;
     Ok(commit)

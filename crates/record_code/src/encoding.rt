@@ -1,10 +1,9 @@
 //! Commits written as bytes.
 
-ghost use Rattle.std.specs.Prelude.{◌≡◌, ◌≤◌, Ok, IfOk, OnOk, IsErr};
-ghost use Rattle.journal_core.specs.declared.limits.TheConstants.{FIRST_UNTOLD_CLIENT};
+ghost use Rattle.std.specs.Prelude.{◌≡◌, Ok, IfOk, OnOk};
 ghost use Rattle.commit_file.specs.declared.version.Version.TheVariants.{Two};
 ghost use Rattle.record_code.specs.Room.{HasRoom};
-ghost use Rattle.record_code.specs.Payloads.{payload, decoded, IsKeepable};
+ghost use Rattle.record_code.specs.Payloads.{payload, decoded, IsKeepable, IsUntold};
 ghost use Rattle.record_code.specs.code.Heads.{with_head, HeadHasRoom};
 
 use crate::field::{Field, write_list};
@@ -45,7 +44,7 @@ pub fn encode(alloc: Global, commit: &Commit) -> Result<Text, AllocError>
     ensures again { IfOk result (λ bytes. IsKeepable commit.now → decoded Two bytes ≡ Ok commit.now) }
 
     // What is of a client that isn't told of is read as none.
-    ensures untold { IfOk result (λ bytes. FIRST_UNTOLD_CLIENT ≤ commit.now.client → IsErr (decoded Two bytes)) }
+    ensures untold { IfOk result (IsUntold commit.now) }
 {
     spell(alloc, commit)
 }

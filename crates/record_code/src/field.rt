@@ -6,7 +6,7 @@ ghost use Rattle.std.specs.List.{flat_map, AllByRecursion};
 ghost use Rattle.record_code.specs.Spelling.{list_bytes};
 ghost use Rattle.record_code.specs.Fields.{each_at, list_at};
 ghost use Rattle.record_code.specs.Room.{HaveRoom};
-ghost use Rattle.record_code.specs.code.Reads.{Reads};
+ghost use Rattle.record_code.specs.code.Reads.{Reads, ReadsFields};
 
 use crate::field_error::FieldError;
 use crate::numbers::read_u32;
@@ -65,7 +65,7 @@ fn read_each<F: Field>(
     count: u32,
     bytes: &[u8],
 ) -> Result<(Vec<F>, &[u8]), FieldError>
-    ensures { Reads (λ read. (read.0.items, read.1.now)) result (each_at (F.read_at version) count bytes.now) }
+    ensures { ReadsFields result (each_at (F.read_at version) count bytes.now) }
 {
     let mut fields = Vec::new(alloc);
     let mut rest = bytes;
@@ -84,7 +84,7 @@ pub fn read_list<F: Field>(
     version: Version,
     bytes: &[u8],
 ) -> Result<(Vec<F>, &[u8]), FieldError>
-    ensures { Reads (λ read. (read.0.items, read.1.now)) result (list_at (F.read_at version) bytes.now) }
+    ensures { ReadsFields result (list_at (F.read_at version) bytes.now) }
 {
     let (count, rest) = read_u32(bytes)?;
     read_each(alloc, version, count, rest)
