@@ -31,6 +31,10 @@ changed values address delta = apply delta (state_of values address)
 abbrev pub with_change : Values → Address × Delta → Values
 with_change values change = insert_entry address_cmp values change.0 (changed values change.0 change.1)
 
+-- values, with what the first delta at an address leaves there
+abbrev pub with_first : Values → Address → Delta → Values
+with_first values address delta = insert_entry address_cmp values address (apply delta (default_of address.kind))
+
 -- values after the deltas of a commit
 abbrev pub with_deltas : Values → Deltas → Values
 with_deltas values deltas = fold with_change values deltas

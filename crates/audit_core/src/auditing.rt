@@ -4,9 +4,9 @@ ghost use Rattle.std.specs.Prelude.{◌≡◌, ◌+◌, ◌++◌, ◌∷◌, [],
 ghost use Rattle.txn_lang.specs.Journals.{MayFollow};
 ghost use Rattle.txn_lang.specs.States.{Journal};
 ghost use Rattle.audit_core.specs.declared.verdict.Verdict.TheVariants.{Legal};
-ghost use Rattle.audit_core.specs.Verdicts.{IsInOrder, IsFound};
+ghost use Rattle.audit_core.specs.Verdicts.{IsInOrder};
 ghost use Rattle.audit_core.specs.code.Growing.{HasFound};
-ghost use Rattle.audit_core.specs.code.Running.{counted, HasTaken, IsBodyOf};
+ghost use Rattle.audit_core.specs.code.Running.{counted, FindsNext, HasTaken, IsBodyOf, KeepsTaken};
 
 use crate::comparing::difference;
 use crate::running::run_of;
@@ -61,8 +61,8 @@ impl Auditor {
         body: Option<Body>,
     ) -> Result<Option<Flaw>, AllocError>
         requires { IfSome body (IsBodyOf commit.now.body) }
-        ensures found { (before : Journal) → HasTaken before self.old → IsInOrder before commit.now → IfOk result (IsFound before commit.now) }
-        ensures kept { (before : Journal) → HasTaken before self.old → OnOk result (HasTaken before self.new) }
+        ensures found { FindsNext (λ before. IsInOrder before commit.now) commit.now self.old result }
+        ensures kept { KeepsTaken result self.old self.new }
     {
         match run_of(self.alloc, &commit.body, body, &mut self.state)? {
             None => Ok(Some(Flaw::Body)),
@@ -78,8 +78,8 @@ impl Auditor {
         body: Option<Body>,
     ) -> Result<Option<Flaw>, AllocError>
         requires { IfSome body (IsBodyOf commit.now.body) }
-        ensures found { (before : Journal) → HasTaken before self.old → count ≡ length before → IfOk result (IsFound before commit.now) }
-        ensures kept { (before : Journal) → HasTaken before self.old → OnOk result (HasTaken before self.new) }
+        ensures found { FindsNext (λ before. count ≡ length before) commit.now self.old result }
+        ensures kept { KeepsTaken result self.old self.new }
     {
         if !is_behind(commit.number, count) {
             return Ok(Some(Flaw::Number));

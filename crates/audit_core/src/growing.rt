@@ -1,9 +1,8 @@
 //! An audit to which one commit is handed after another.
 
-ghost use Rattle.std.specs.Prelude.{◌≡◌, [], ◌∷◌, ◌++◌, if◌then◌else◌, Some, IfOk, IfSome, OnOk, OnErr};
+ghost use Rattle.std.specs.Prelude.{◌≡◌, [], ◌∷◌, ◌++◌, Some, IfOk, IfSome, OnOk, OnErr};
 ghost use Rattle.txn_lang.specs.States.{Journal};
 ghost use Rattle.txn_lang.specs.Tree.{tree};
-ghost use Rattle.audit_core.specs.Dumps.{with_deltas};
 ghost use Rattle.audit_core.specs.Growing.{with_commit};
 ghost use Rattle.audit_core.specs.Reports.{report_of};
 ghost use Rattle.audit_core.specs.Verdicts.{IsVerdict};
@@ -80,7 +79,7 @@ fn ask(
     so_far: Verdict,
     commit: &Commit,
 ) -> Result<(), AllocError>
-    ensures { OnOk result (asked.new ≡ (if spec.is_asked at so_far then with_deltas asked.old commit.now.deltas else asked.old)) }
+    ensures { OnOk result (asked.new ≡ spec.asked_after at so_far asked.old commit.now.deltas) }
 {
     if is_asked(at, so_far) {
         asked.change_all(&commit.deltas)?;

@@ -1,13 +1,10 @@
 //! Bodies, run anew on the state.
 
 ghost use Rattle.std.specs.Prelude.{◌≡◌, IfOk, IfSome, OnOk};
-ghost use Rattle.std.specs.BTreeMap.{insert_entry};
-ghost use Rattle.rdt_types.specs.Addresses.{address_cmp};
-ghost use Rattle.txn_lang.specs.States as states;
 ghost use Rattle.txn_lang.specs.States.{known};
 ghost use Rattle.txn_lang.specs.Execution.{exec, done};
 ghost use Rattle.audit_core.specs.Dumps.{state_of};
-ghost use Rattle.audit_core.specs.code.Running.{IsBodyOf, IsLent, IsRunOrNone, without_value};
+ghost use Rattle.audit_core.specs.code.Running.{IsBodyOf, IsRunOrNone, KeepsLent, RunsOnLent, with_lent, without_value};
 
 use crate::reading::body_of;
 use crate::state::State;
@@ -20,7 +17,7 @@ use txn_trees::Body;
 
 /// Lends a value of the state to a run.
 fn lend(state: &mut State, snaps: &mut Snaps, address: Address) -> Result<(), AllocError>
-    ensures lent { OnOk result (snaps.new ≡ insert_entry address_cmp snaps.old address (record { base = 0; value = state_of state.old address })) }
+    ensures lent { OnOk result (snaps.new ≡ with_lent snaps.old state.old address) }
     ensures without { state.new ≡ without_value state.old address }
 {
     let value = state.lend(&address);
@@ -34,8 +31,8 @@ fn run_lent(
     state: &mut State,
     snaps: &mut Snaps,
 ) -> Result<Run, AllocError>
-    ensures ran { IfOk result (λ run. (m : states.State) → IsLent m state.old snaps.old → exec body.now.body (known m) ≡ done run) }
-    ensures lent { OnOk result ((m : states.State) → IsLent m state.old snaps.old → IsLent m state.new snaps.new) }
+    ensures ran { IfOk result (RunsOnLent body.now.body state.old snaps.old) }
+    ensures lent { OnOk result (KeepsLent state.old snaps.old state.new snaps.new) }
 {
     let mut pause = Pause::begun(alloc);
     for _ in 0..TICK_LIMIT + 1 {

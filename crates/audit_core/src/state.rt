@@ -1,12 +1,10 @@
 //! The values that commits leave, kept by address and changed in place.
 
 ghost use Rattle.std.specs.Prelude.{◌≡◌, [], IfOk, OnOk, OnErr};
-ghost use Rattle.std.specs.BTreeMap.{insert_entry};
 ghost use Rattle.std.specs.List.Sorted.{IsStrictlySortedBy};
 ghost use Rattle.std.specs.Map.{keys_of};
 ghost use Rattle.rdt_types.specs.Addresses.{address_cmp};
 ghost use Rattle.rdt_types.specs.Deltas as deltas;
-ghost use Rattle.rdt_types.specs.Values.{default_of};
 ghost use Rattle.audit_core.specs.Dumps as spec;
 ghost use Rattle.audit_core.specs.code.Running as code;
 
@@ -121,7 +119,7 @@ impl State {
 
     /// Applies the first delta at an address.
     fn change_first(&mut self, address: &Address, delta: &Delta) -> Result<(), AllocError>
-        ensures { OnOk result (self.new ≡ insert_entry address_cmp self.old address.now (deltas.apply delta.now (default_of address.now.kind))) }
+        ensures { OnOk result (self.new ≡ spec.with_first self.old address.now delta.now) }
     {
         let value = apply(self.alloc, delta, &default_value(self.alloc, address.kind))?;
         self.values.insert(address.clone()?, value)?;

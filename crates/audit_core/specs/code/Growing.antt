@@ -2,11 +2,12 @@
 use Rattle.std.specs.Prelude.{◌≡◌, ℕ, Bool, false, nat_lt, if◌then◌else◌, [], ◌++◌, take, Option, Some, None}
 use Rattle.std.specs.List.{flat_map}
 use Rattle.plain_data.specs.Texts.{Bytes}
+use Rattle.rdt_types.specs.DeltaMaps.{Deltas}
 use Rattle.txn_lang.specs.States.{Journal}
 use Rattle.audit_core.specs.declared.auditing.Auditor.{Auditor}
 use Rattle.audit_core.specs.declared.verdict.Verdict.{Verdict}
 use Rattle.audit_core.specs.declared.verdict.Verdict.TheVariants as verdict
-use Rattle.audit_core.specs.Dumps.{Values, dump_of}
+use Rattle.audit_core.specs.Dumps.{Values, dump_of, with_deltas}
 use Rattle.audit_core.specs.Reports.{verdict_line, ahead_line, value_line}
 use Rattle.audit_core.specs.Verdicts.{IsVerdict}
 use Rattle.audit_core.specs.code.Running.{HasTaken}
@@ -40,6 +41,10 @@ asked_of (Some n) journal = dump_of (take n journal)
 abbrev pub KeepsAsked : Option ℕ → Journal → Verdict → Values → Type 0
 KeepsAsked at journal (verdict.Legal n) values = values ≡ asked_of at journal
 KeepsAsked at journal (verdict.Broken place f) values = Unit {0}
+
+-- that state, once a commit stands behind those of which this was found
+abbrev pub asked_after : Option ℕ → Verdict → Values → Deltas → Values
+asked_after at v values deltas = if is_asked at v then with_deltas values deltas else values
 
 -- This was found of the commits, what is kept of them, and the state that is asked for.
 pub record HasGrown (at : Option ℕ) (journal : Journal) (v : Verdict) (auditor : Auditor) (values : Values) : Type 0 where

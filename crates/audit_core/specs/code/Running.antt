@@ -1,7 +1,7 @@
 -- How the code keeps what it knows between two commits, and what it lends to a run.
-use Rattle.std.specs.Prelude.{◌≡◌, ◌≢◌, ℕ, Bool, true, false, if◌then◌else◌, List, length, fold, Option, Some, None, unwrap_or}
+use Rattle.std.specs.Prelude.{◌≡◌, ◌≢◌, ℕ, Bool, true, false, if◌then◌else◌, List, length, fold, Option, Some, None, unwrap_or, Result, IfOk, OnOk}
 use Rattle.std.specs.Map.{lookup, set_value}
-use Rattle.std.specs.BTreeMap.{is_at}
+use Rattle.std.specs.BTreeMap.{insert_entry, is_at}
 use Rattle.std.specs.Ordering.{nat_cmp}
 use Rattle.rdt_types.specs.declared.address.Address.{Address}
 use Rattle.rdt_types.specs.Addresses.{address_cmp}
@@ -13,7 +13,8 @@ use Rattle.txn_lang.specs.declared.checked.Checked.{Checked}
 use Rattle.txn_lang.specs.declared.commit.Commit.{Commit}
 use Rattle.txn_lang.specs.declared.snaps.Snap.{Snap}
 use Rattle.txn_lang.specs.declared.run.Run.{Run}
-use Rattle.txn_lang.specs.States.{Journal, State, PartialState, left_by}
+use Rattle.txn_lang.specs.States.{Journal, State, PartialState, known, left_by}
+use Rattle.txn_lang.specs.Execution.{exec, done}
 use Rattle.txn_lang.specs.Journals.{own}
 use Rattle.txn_lang.specs.Tree.{tree}
 use Rattle.txn_eval.specs.Running.{values_of}
@@ -21,7 +22,7 @@ use Rattle.audit_core.specs.declared.auditing.Auditor.{Auditor}
 use Rattle.audit_core.specs.declared.verdict.Flaw.{Flaw}
 use Rattle.audit_core.specs.declared.verdict.Flaw.TheVariants as flaw
 use Rattle.audit_core.specs.Dumps.{Values, state_of}
-use Rattle.audit_core.specs.Verdicts.{IsRunOf}
+use Rattle.audit_core.specs.Verdicts.{IsFound, IsRunOf}
 
 -- a value is one number or truth value: a run is lent a copy of it
 abbrev pub is_small : Value → Bool
@@ -61,6 +62,26 @@ counted seqs client = unwrap_or (lookup (is_at (nat_cmp client)) seqs) 0
 pub record HasTaken (journal : Journal) (auditor : Auditor) : Type 0 where
   pub state : state_of auditor.state ≡ left_by journal
   pub counts : (client : ℕ) → counted auditor.seqs.entries client ≡ length (own client journal)
+
+-- whatever commits it is that this is kept of, it is so still where nothing failed
+abbrev pub KeepsTaken : {A E : Type 0} → Result A E → Auditor → Auditor → Type 0
+KeepsTaken result old new = (before : Journal) → HasTaken before old → OnOk result (HasTaken before new)
+
+-- of whatever commits it is that this is kept, a commit that may be next behind them is found to be what it is
+abbrev pub FindsNext : {E : Type 0} → (Journal → Type 0) → Commit → Auditor → Result (Option Flaw) E → Type 0
+FindsNext MayBeNext commit auditor result = (before : Journal) → HasTaken before auditor → MayBeNext before → IfOk result (IsFound before commit)
+
+-- snaps, with a value of a state more
+abbrev pub with_lent : List (Address × Snap) → Values → Address → List (Address × Snap)
+with_lent snaps values address = insert_entry address_cmp snaps address (record { base = 0; value = state_of values address })
+
+-- whatever state these are of, it is lent to a run still
+abbrev pub KeepsLent : Values → List (Address × Snap) → Values → List (Address × Snap) → Type 0
+KeepsLent old_values old_snaps values snaps = (m : State) → IsLent m old_values old_snaps → IsLent m values snaps
+
+-- on that state a body comes to a run
+abbrev pub RunsOnLent : Body → Values → List (Address × Snap) → Run → Type 0
+RunsOnLent body values snaps run = (m : State) → IsLent m values snaps → exec body (known m) ≡ done run
 
 -- a body is that of a text
 abbrev pub IsBodyOf : List ℕ → Body → Type 0
