@@ -2,8 +2,9 @@
 
 ghost use Rattle.std.specs.Prelude.{◌≡◌, false, OnErr};
 ghost use Rattle.txn_lang.specs.Rules as rules;
+ghost use Rattle.txn_trees.specs.declared.statement.StmtNode.TheOpen.{StmtNode-F};
 ghost use Rattle.txn_eval.specs.code.Answers.{Answers, Keeps, Leaves};
-ghost use Rattle.txn_eval.specs.code.Forms.{stmt_on, emit_here, fail_here, write_here, written_here};
+ghost use Rattle.txn_eval.specs.code.Forms.{on, stmt_on, emit_here, fail_here, write_here, written_here};
 ghost use Rattle.txn_eval.specs.code.Pauses.{holds_block};
 
 use crate::charging::{carry, charge};
@@ -15,7 +16,7 @@ use crate::kept::Kept;
 use crate::loads::{emit_size, write_size};
 use crate::memory::write_at;
 use crate::words::write_of;
-use rdt_types::{Address, Item};
+use rdt_types::{Address, Item, Kind};
 use txn_lang::{Progress, Stop};
 use txn_trees::{Expr, Stmt, StmtNode, WriteWord};
 
@@ -77,6 +78,22 @@ fn write_given(
     }
 }
 
+/// Writes at the key that an expression gives.
+fn write_value(
+    here: &Here<'_>,
+    run: &mut Progress<Kept>,
+    kind: Kind,
+    key: &Expr,
+    word: WriteWord,
+    exprs: &[Expr],
+) -> Result<(), Stop>
+    ensures { Keeps result here.now run.new (rules.of_step (on here.now.snaps.now) (StmtNode-F.Write kind key.now word exprs.now) here.now.names.now run.old) }
+{
+    let key = key_of(here, run, key)?;
+    let address = address_of(here.alloc, kind, key);
+    write_given(here, run, address, word, exprs)
+}
+
 /// Emits what an expression gives.
 fn emit_value(here: &Here<'_>, run: &mut Progress<Kept>, expr: &Expr) -> Result<(), Stop>
     ensures { Keeps result here.now run.new (emit_here here.now expr.now run.old) }
@@ -119,9 +136,7 @@ pub(crate) fn simple(
         StmtNode::Emit(expr) => emit_value(&here, run, expr),
         StmtNode::Fail(expr) => fail_value(&here, run, expr),
         StmtNode::Write(kind, key, word, arguments) => {
-            let key = key_of(&here, run, key)?;
-            let address = address_of(known.alloc, *kind, key);
-            write_given(&here, run, address, *word, arguments.as_slice())
+            write_value(&here, run, *kind, key, *word, arguments.as_slice())
         }
         StmtNode::If(..) | StmtNode::For(..) => unreachable!(),
     }
