@@ -22,4 +22,3 @@ pub mod Reported
 pub mod Sound
 pub mod Pauses
 pub mod Asked
-pub mod AskedOn

@@ -109,10 +109,6 @@ Prepares attempt shard = (run : Run) × (next_event attempt ≡ next.Prepare sha
 abbrev pub with_snap : Attempt → Address → Snap → Attempt
 with_snap attempt address snap = record attempt { snaps = insert_entry address_cmp attempt.snaps address snap }
 
--- the attempt with other values that were read
-abbrev pub with_snaps : Attempt → SnapList → Attempt
-with_snaps attempt snaps = record attempt { snaps = snaps }
-
 -- the attempt with a shard more that is prepared
 abbrev pub with_front : Attempt → ℕ → ℕ → Attempt
 with_front attempt shard front = record attempt { fronts = attempt.fronts ++ record { shard = shard; front = front } ∷ [] }
@@ -149,13 +145,6 @@ pub data AreAsked (body : Body) : SnapList → Type 0 where
   one_more : {snaps : SnapList} (address : Address) (snap : Snap) → AreAsked body snaps → exec body (values_of snaps) ≡ need address
       → AreAsked body (insert_entry address_cmp snaps address snap)
 
--- What was read since is what was asked for, too: behind these values come others, one by one, each at the address that the run
--- needs on the values before it.
-pub data AskedOn (body : Body) (before : SnapList) : SnapList → Type 0 where
-  no_more : AskedOn body before before
-  one_more : {snaps : SnapList} (address : Address) (snap : Snap) → AskedOn body before snaps → exec body (values_of snaps) ≡ need address
-      → AskedOn body before (insert_entry address_cmp snaps address snap)
-
 -- fronts stand only where the run is done
 abbrev pub FrontsFit : Journal → ℕ → SnapList → List PreparedFront → Ran → Type 0
 FrontsFit journal shards snaps fronts (need address) = fronts ≡ []
@@ -182,11 +171,6 @@ asked-in-turn : (body : Body) (x y : Snap) → exec body (values_of []) ≡ need
     → AreAsked body ((counter_at (codes "x"), x) ∷ (counter_at (codes "y"), y) ∷ [])
 asked-in-turn body x y first next =
     AreAsked.one_more (counter_at (codes "x")) x (AreAsked.one_more (counter_at (codes "y")) y AreAsked.none_yet first) next
-
--- the counter y had been read, and the counter x was asked for behind it
-asked-behind : (body : Body) (x y : Snap) → exec body (values_of ((counter_at (codes "y"), y) ∷ [])) ≡ need (counter_at (codes "x"))
-    → AskedOn body ((counter_at (codes "y"), y) ∷ []) ((counter_at (codes "x"), x) ∷ (counter_at (codes "y"), y) ∷ [])
-asked-behind body x y next = AskedOn.one_more (counter_at (codes "x")) x AskedOn.no_more next
 
 -- whether a run is done
 abbrev IsDone : Ran → Type 0

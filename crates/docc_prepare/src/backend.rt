@@ -104,8 +104,7 @@ pub trait Backend {
     /// Validates what was observed in a shard up to the shard's front.
     fn prepare(&mut self, shard: u8, based: &BasedList) -> Result<Prepared, PrepareError>
         requires { CanPrepare (known self.old) shard based.now }
-        ensures goes { Goes known goes self.old (Call.prepare shard based.now)
-            (front_answered result) self.new }
+        ensures goes { Goes known goes self.old (Call.prepare shard based.now) (front_answered result) self.new }
         ensures home { home self.new ≡ home self.old };
 
     /// Validates the rest, and commits.
@@ -118,22 +117,19 @@ pub trait Backend {
     fn read_at(&mut self, address: &Address, number: u64) -> Result<Value, ReadAtError>
         requires short { IsShortAddress address.now }
         requires seen { number ≤ (known self.old).seen }
-        ensures goes { Goes known goes self.old (Call.read_at address.now number)
-            (value_answered result) self.new }
+        ensures goes { Goes known goes self.old (Call.read_at address.now number) (value_answered result) self.new }
         ensures home { home self.new ≡ home self.old };
 
     /// Has the changes at an address told from now on, and those since the last take.
     fn subscribe(&mut self, address: &Address) -> Result<(), StoreError>
         requires { IsShortAddress address.now }
-        ensures goes { Goes known goes self.old (Call.subscribe address.now)
-            (done_answered result) self.new }
+        ensures goes { Goes known goes self.old (Call.subscribe address.now) (done_answered result) self.new }
         ensures home { home self.new ≡ home self.old };
 
     /// Has the changes at an address told no longer.
     fn unsubscribe(&mut self, address: &Address) -> Result<(), StoreError>
         requires { IsShortAddress address.now }
-        ensures goes { Goes known goes self.old (Call.unsubscribe address.now)
-            (done_answered result) self.new }
+        ensures goes { Goes known goes self.old (Call.unsubscribe address.now) (done_answered result) self.new }
         ensures home { home self.new ≡ home self.old };
 
     /// Takes what changed at the subscribed addresses since the last take.

@@ -56,8 +56,7 @@ pub(crate) fn based_in(
     shard: u8,
 ) -> Result<BasedList, AllocError>
     requires { (LEAST_SHARDS ≤ shards) × (shards ≤ MOST_SHARDS) }
-    ensures { IfOk result (λ all.
-        all ≡ spec.in_shard shards shard (spec.based snaps.now observations.now)) }
+    ensures { IfOk result (λ all. all ≡ spec.in_shard shards shard (spec.based snaps.now observations.now)) }
 {
     let mut inside = BasedList::new(alloc);
     for seen in observations {

@@ -32,8 +32,7 @@ fn lesser(shard: u8, found: Option<u8>) -> u8
 
 /// A shard is counted with what was found, unless it was prepared.
 fn counted(fronts: &[PreparedFront], shard: u8, found: Option<u8>) -> Option<u8>
-    ensures { result
-        ≡ (if spec.has_front fronts.now shard then found else Some (spec.lesser shard found)) }
+    ensures { result ≡ (if spec.has_front fronts.now shard then found else Some (spec.lesser shard found)) }
 {
     if has_front(fronts, shard) {
         found

@@ -2,10 +2,9 @@
 
 ghost use Rattle.std.specs.Prelude.{◌≡◌, ◌≤◌, [], IfOk, OnOk, OnErr};
 ghost use Rattle.rdt_types.specs.declared.limits.TheConstants.{LEAST_SHARDS, MOST_SHARDS};
-ghost use Rattle.txn_lang.specs.Execution.{exec, done};
-ghost use Rattle.txn_eval.specs.Running.{values_of};
+ghost use Rattle.txn_lang.specs.Execution.{done};
 ghost use Rattle.docc_prepare.specs.Attempts as spec;
-ghost use Rattle.docc_prepare.specs.Attempts.{PausesAt, KeepsPauses, Prepares, AreAsked, AskedOn};
+ghost use Rattle.docc_prepare.specs.Attempts.{PausesAt, KeepsPauses, Prepares};
 
 use crate::attempt::{Attempt, Next};
 use crate::observed;
@@ -16,7 +15,7 @@ use plain_data::OrderedMap;
 use rdt_types::Address;
 use std::alloc::{AllocError, Global};
 use txn_eval::{Pause, Step, go_on};
-use txn_lang::{Checked, Run, Snap, Snaps};
+use txn_lang::{Checked, Run, Snap};
 use version_shard::Prepared;
 
 impl Attempt {
@@ -34,20 +33,6 @@ impl Attempt {
             snaps: OrderedMap::new(alloc),
             fronts: FrontList::new(alloc),
         }
-    }
-
-    /// The body at which it is.
-    pub fn body(&self) -> &Checked
-        ensures { result.now ≡ self.now.body }
-    {
-        &self.body
-    }
-
-    /// What was read for it.
-    pub fn snaps(&self) -> &Snaps
-        ensures { result.now ≡ self.now.snaps }
-    {
-        &self.snaps
     }
 
     /// What comes next where the run is done.
@@ -101,20 +86,6 @@ impl Attempt {
         self.snaps.insert(address, snap)
     }
 
-    /// Takes all that its body's run asked for elsewhere, behind what was read before, with that run, and answers what comes
-    /// next. From then on the body isn't run again: each event that follows has the run, and [`Attempt::next_on`] takes that back.
-    pub fn take_run(&mut self, snaps: Snaps, run: Run) -> Next
-        requires asked { AskedOn self.old.body.body self.old.snaps snaps }
-        requires runs { exec self.old.body.body (values_of snaps) ≡ done run }
-        ensures taken { self.new ≡ spec.with_snaps self.old snaps }
-        ensures next { result ≡ spec.next_event self.new }
-        ensures asked { AreAsked self.old.body.body self.old.snaps
-            → AreAsked self.old.body.body self.new.snaps }
-    {
-        self.snaps = snaps;
-        self.next_on(run)
-    }
-
     /// Takes the front at which a shard was prepared.
     pub fn take_prepared(&mut self, prepared: Prepared) -> Result<(), AllocError>
         requires next { Prepares self.old prepared.shard }
@@ -130,8 +101,7 @@ impl Attempt {
 
     /// What a run observed in a shard, with the bases at which it was read.
     pub fn based(&self, alloc: Global, run: &Run, shard: u8) -> Result<BasedList, AllocError>
-        ensures { IfOk result (λ all.
-            all ≡ spec.in_shard self.now.shards shard (spec.based self.now.snaps run.now.observations)) }
+        ensures { IfOk result (λ all. all ≡ spec.in_shard self.now.shards shard (spec.based self.now.snaps run.now.observations)) }
     {
         let observations = run.observations.as_slice();
         observed::based_in(alloc, &self.snaps, observations, self.shards, shard)

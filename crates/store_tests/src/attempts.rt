@@ -1,7 +1,7 @@
 //! An attempt stepped through by hand, and what it hands to the journal. Shard numbers were worked out apart from the code, by
 //! the rule of the printed address.
 
-ghost use Rattle.std.specs.Prelude.{◌≡◌, []};
+ghost use Rattle.std.specs.Prelude.{◌≡◌};
 ghost use Rattle.docc_prepare.specs.Attempts.{Prepares, next_event};
 
 mod appending;
@@ -15,8 +15,7 @@ use docc_prepare::{Attempt, Next};
 use journal_core::Ready;
 use rdt_types::{Address, Value};
 use std::alloc::{AllocError, Global};
-use txn_eval::{Step, run};
-use txn_lang::{Run, Snap, Snaps};
+use txn_lang::{Run, Snap};
 use version_shard::Prepared;
 
 /// The counter at an address is read as 0, at 3.
@@ -96,31 +95,6 @@ fn observations_are_handed_on_in_order(rt: HostRuntime) {
         Ok(body) => {
             let attempt = Attempt::begin(rt.alloc(), body, 4);
             assert!(rt; hands_on(rt.alloc(), attempt, source));
-        }
-        Err(_) => assert!(rt; false),
-    }
-}
-
-/// Whether an attempt at a body that reads nothing takes the run of that, and comes to its append at once.
-fn takes_run(alloc: Global, mut attempt: Attempt) -> bool
-    requires { attempt.snaps ≡ [] }
-{
-    let snaps = Snaps::new(alloc);
-    match run(alloc, attempt.body(), &snaps) {
-        Ok(Step::Done(run)) => {
-            let is_append = matches!(attempt.take_run(snaps, run), Next::Append(_));
-            is_append && attempt.snaps().is_empty()
-        }
-        _ => false,
-    }
-}
-
-#[test]
-fn a_run_that_was_made_elsewhere_is_taken(rt: HostRuntime) {
-    match checked(rt.alloc(), b"emit 7;", false) {
-        Ok(body) => {
-            let attempt = Attempt::begin(rt.alloc(), body, 4);
-            assert!(rt; takes_run(rt.alloc(), attempt));
         }
         Err(_) => assert!(rt; false),
     }
