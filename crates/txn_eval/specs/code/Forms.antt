@@ -17,7 +17,7 @@ use Rattle.txn_trees.specs.declared.statement.StmtNode.TheOpen.{StmtNode-F}
 use Rattle.txn_lang.specs.declared.snaps.Snap.{Snap}
 use Rattle.txn_lang.specs.Items.{Names, compares, length_of, read_of, text_size, write_of}
 use Rattle.txn_lang.specs.Steps.{Memory, Stepping, ◌>>=◌, pure, charge, carry, read_at}
-use Rattle.txn_lang.specs.Rules.{Expression, Statement, expr_run, operand_run, stmt_run, of_node, of_step, all_values, link, chain, answer_with, write_maybe}
+use Rattle.txn_lang.specs.Rules.{Statement, expr_run, operand_run, stmt_run, of_node, of_step, all_values, link, chain, answer_with, write_maybe}
 use Rattle.txn_eval.specs.declared.kept.Kept.{Kept}
 use Rattle.txn_eval.specs.declared.here.Known.{Known}
 use Rattle.txn_eval.specs.declared.here.Here.{Here}
