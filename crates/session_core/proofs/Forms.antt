@@ -1,7 +1,7 @@
 -- The verb of a line.
 use Rattle.std.proofs.Common.{◌≡◌, ℕ, ◌≤◌, List, length, Option, Some, None, Result, Ok, Err, refl, ap}
 use Rattle.std.proofs.Common.{subst}
-use Rattle.std.specs.Prelude.{IfOk, IfSome}
+use Rattle.std.specs.Prelude.{IfOk, IfSome, OnErr}
 use Rattle.std.specs.Result.{result_ok}
 use Rattle.predictive_parsing.specs.Reading.{whole}
 use Rattle.predictive_parsing.specs.Bytes.{IsByte}
@@ -69,3 +69,8 @@ pub found-asked : (text : Text) (r : Result Verb VerbError) (o : Option Verb) �
     → (r ≡ Err verb.BadVerb → (v : Verb) → IsVerb text v → ⊥) → verb_of r ≡ Ok o → asked text ≡ o
 found-asked text r None h bad e = none_asked text (bad (read-none r e))
 found-asked text r (Some v) h bad e = asked_complete text v (read-verb text r v h e)
+
+-- what holds anyway holds behind an error
+pub on-error : {T E P : Type 0} (r : Result T E) → P → OnErr r P
+on-error (Ok x) h = tt
+on-error (Err e) h = h

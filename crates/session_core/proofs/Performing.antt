@@ -1,7 +1,7 @@
 -- What functions of a session perform, put together: events, attempts, looks, and the verbs that are made of them.
 use Rattle.std.proofs.Common.{◌≡◌, ◌↔◌, ℕ, suc, ◌+◌, ◌-◌, ◌<◌, ◌≤◌, Bool, true, false, cond, Option, Some, None, Result, Ok, Err}
 use Rattle.std.proofs.Common.{refl, sym, ap, ◌∙◌, subst, arith}
-use Rattle.std.specs.Prelude.{nat_lt}
+use Rattle.std.specs.Prelude.{nat_lt, OnErr}
 use Rattle.std.specs.Option.{is_some}
 use Rattle.std.proofs.lemmas.Bool.Decides.{nat_tests}
 use Rattle.std.specs.BTreeMap.{insert_entry}
@@ -124,9 +124,10 @@ module _ {B : Type 0} {known : B → Known} {goes : B → Call → Answer → B 
   prepare_does shard left (Err e) turned = event_stops e turned
 
   -- where there is an error, it wasn't refused
-  pub prepare_told : (r : Result (Result ℕ Reply) SessionError) → ((e : SessionError) → r ≡ Err e → IsNoRefusal answer)
-      → (e : SessionError) → r ≡ Err e → IsUnrefused known goes b (call_of s a) c
-  prepare_told r unrefused = λ e is. record { answer = answer; step = called; unrefused = unrefused e is }
+  pub prepare_told : (r : Result (Result ℕ Reply) SessionError) → OnErr r (IsNoRefusal answer)
+      → OnErr r (IsUnrefused known goes b (call_of s a) c)
+  prepare_told (Ok x) unrefused = tt
+  prepare_told (Err e) unrefused = record { answer = answer; step = called; unrefused = unrefused }
 
   -- an answered append
   pub append_does : (r : Result Reply SessionError) → Turned a answer (moved_on_append a r) → Does known goes b (event s a) r (moved.End a) c

@@ -1,6 +1,6 @@
 //! One event of an attempt: the call that its next event is, and what the answer makes of it.
 
-ghost use Rattle.std.specs.Prelude.{◌≡◌, ℕ, Some, None, IfOk, OnOk, Ok, Err};
+ghost use Rattle.std.specs.Prelude.{◌≡◌, ℕ, Some, None, IfOk, OnOk, OnErr, Ok, Err};
 ghost use Rattle.abort_witness.specs.declared.witness.Witness.{Witness};
 ghost use Rattle.session_text.specs.declared.reply.Reply.TheVariants as reply;
 ghost use Rattle.docc_prepare.specs.declared.backend.PrepareError.TheVariants as prepare_error;
@@ -71,7 +71,7 @@ fn after_prepare(
         → result ≡ Ok (Err (reply.Late base horizon)) }
     ensures clash { (w : Witness) → answer ≡ Err (prepare_error.Clash w)
         → result ≡ Ok (Err (reply.Abort w)) }
-    ensures told { (e : SessionError) → result ≡ Err e → IsNoRefusal (front_answered answer) }
+    ensures told { OnErr result (IsNoRefusal (front_answered answer)) }
     ensures pauses { IfOk result (λ front. OnOk front (KeepsPauses attempt.old attempt.new)) }
     ensures front { IfOk result (λ front. IfOk front (λ f.
         attempt.new ≡ with_front attempt.old shard f)) }
@@ -185,8 +185,8 @@ fn prepare_event<B: Backend>(
     ensures plays { Does B.known B.goes backend.old (verbs.event session.now attempt.old) result
         (was_prepared inside.shard attempt.new) backend.new }
     // A refusal isn't told as want of memory.
-    ensures told { (e : SessionError) → result ≡ Err e →
-        IsUnrefused B.known B.goes backend.old (call_of session.now attempt.old) backend.new }
+    ensures told { OnErr result (IsUnrefused B.known B.goes backend.old
+        (call_of session.now attempt.old) backend.new) }
     ensures pauses { IfOk result (λ front. OnOk front (KeepsPauses attempt.old attempt.new)) }
     ensures front { IfOk result (λ front. IfOk front (λ f.
         attempt.new ≡ with_front attempt.old inside.shard f)) }

@@ -1,6 +1,6 @@
 //! Reading a line: what it asks for.
 
-ghost use Rattle.std.specs.Prelude.{◌≡◌, ◌≤◌, length, false, true, IfOk, IfSome, Err};
+ghost use Rattle.std.specs.Prelude.{◌≡◌, ◌≤◌, length, false, true, IfOk, IfSome, OnErr};
 ghost use Rattle.session_text.specs.Bodies.{IsWithin};
 ghost use Rattle.session_core.specs.Lines as spec;
 ghost use Rattle.session_core.specs.Words as words;
@@ -58,7 +58,7 @@ fn or_refused(read: Result<Checked, Why>, form: Form) -> Line
 fn of_verb(alloc: Global, verb: Verb) -> Result<Line, AllocError>
     requires { IsWithin LONGEST_LINE verb }
     ensures line { ReadsLine result (spec.of_verb verb) }
-    ensures told { (e : AllocError) → result ≡ Err e → code.has_body verb ≡ true }
+    ensures told { OnErr result (code.has_body verb ≡ true) }
 {
     match verb {
         Verb::Begin(text) => Ok(or_refused(body_or_why(alloc, text, false)?, Form::Begin)),
@@ -88,7 +88,7 @@ fn of_verb(alloc: Global, verb: Verb) -> Result<Line, AllocError>
 fn of_form(alloc: Global, found: Option<Verb>) -> Result<Line, AllocError>
     requires { IfSome found (λ verb. IsWithin LONGEST_LINE verb) }
     ensures line { ReadsLine result (spec.of_form found) }
-    ensures told { (e : AllocError) → result ≡ Err e → code.may_want found ≡ true }
+    ensures told { OnErr result (code.may_want found ≡ true) }
 {
     match found {
         Some(verb) => of_verb(alloc, verb),
@@ -112,8 +112,7 @@ pub fn read_line(alloc: Global, bytes: &[u8]) -> Result<Line, AllocError>
     requires { length bytes.now ≤ LONGEST_LINE }
     ensures line { ReadsLine result (spec.line_of bytes.now) }
     // What asks for nothing takes no memory.
-    ensures told { (e : AllocError) → result ≡ Err e →
-        words.is_quiet (words.trimmed_start bytes.now) ≡ false }
+    ensures told { OnErr result (words.is_quiet (words.trimmed_start bytes.now) ≡ false) }
 {
     if is_quiet(trimmed_start(bytes)) {
         return Ok(Line::Quiet);

@@ -1,9 +1,9 @@
-use Rattle.std.proofs.Common.{◌≡◌, Ok, sym, ap, subst, ◌∙◌}
+use Rattle.std.proofs.Common.{◌≡◌, Result, Ok, sym, ap, subst, ◌∙◌}
 use Rattle.dio_core.specs.declared.line.TheConstants.{LONGEST_LINE}
 use Rattle.session_core.specs.declared.line.Line.{Line}
 use Rattle.session_core.specs.Words.{is_quiet}
 use Rattle.session_core.specs.code.Reading.{ReadsLine, verb_of}
-use Rattle.session_core.proofs.Forms.{found-within, found-asked}
+use Rattle.session_core.proofs.Forms.{found-within, found-asked, on-error}
 use Rattle.session_core.proofs.Asked.{line-quiet, line-asks}
 use Rattle.session_core.proofs.reading.read_line.Goals as goal
 
@@ -15,21 +15,19 @@ returns-then-is_quiet-clause-line c = record {
 
 pub of_form-requires : goal.of_form-requires
 of_form-requires c =
-    let e : verb_of c.read_verb.result ≡ Ok c.in_ok-found.found = (let a = c.in_ok-found.ensures in cc) in
-    found-within c.args.bytes.now c.read_verb.result c.in_ok-found.found LONGEST_LINE c.read_verb.ensures.read e c.requires
+    found-within c.args.bytes.now c.read_verb.result c.in_ok-found.found LONGEST_LINE c.read_verb.ensures.read (sym c.in_ok-found.ensures) c.requires
 
 pub returns-clause-line : goal.returns-clause-line
 returns-clause-line c =
-    let e : verb_of c.read_verb.result ≡ Ok c.in_ok-found.found = (let a = c.in_ok-found.ensures in cc) in
     subst (λ (x : Line). ReadsLine c.of_form.result x)
     (sym (line-asks c.args.bytes.now c.in_ok-found.found (ap is_quiet (sym c.trimmed_start.ensures.value) ∙ (sym c.is_quiet.ensures ∙ c.if-is_quiet.false))
-    (found-asked c.args.bytes.now c.read_verb.result c.in_ok-found.found c.read_verb.ensures.read c.read_verb.ensures.bad e)))
+    (found-asked c.args.bytes.now c.read_verb.result c.in_ok-found.found c.read_verb.ensures.read c.read_verb.ensures.bad (sym c.in_ok-found.ensures))))
     c.of_form.ensures.line
 
 pub returns-in_err-found-clause-told : goal.returns-in_err-found-clause-told
 returns-in_err-found-clause-told c =
-    λ e is. ap is_quiet (sym c.trimmed_start.ensures.value) ∙ (sym c.is_quiet.ensures ∙ c.if-is_quiet.false)
+    on-error c.from_residual.result (ap is_quiet (sym c.trimmed_start.ensures.value) ∙ (sym c.is_quiet.ensures ∙ c.if-is_quiet.false))
 
 pub returns-clause-told : goal.returns-clause-told
 returns-clause-told c =
-    λ e is. ap is_quiet (sym c.trimmed_start.ensures.value) ∙ (sym c.is_quiet.ensures ∙ c.if-is_quiet.false)
+    on-error c.of_form.result (ap is_quiet (sym c.trimmed_start.ensures.value) ∙ (sym c.is_quiet.ensures ∙ c.if-is_quiet.false))
