@@ -152,8 +152,7 @@ fn rerun_some<B: Backend>(
 ) -> Result<Option<bool>, WatchError>
     requires keeps { Keeps (B.known backend.old) watching.old }
     requires some { 0 < count }
-    ensures goes { GoesOn B.known B.goes backend.old (watching.old, said.old) result
-        backend.new (watching.new, said.new) }
+    ensures goes { GoesOn B.known B.goes backend.old (watching.old, said.old) result backend.new (watching.new, said.new) }
     ensures keeps { IfOk result (λ all. Keeps (B.known backend.new) watching.new) }
     ensures free { IfOk result (λ all. spec.KeepsFree watching.old watching.new) }
     ensures fewer { IfOk result (λ all. IfNone all (spec.AreFewer watching.old watching.new)) }

@@ -13,7 +13,6 @@ mod error;
 mod fetching;
 mod laws;
 mod lines;
-mod means;
 mod replies;
 mod running;
 mod watching;
@@ -24,5 +23,4 @@ pub use laws::{
     lines_say_what_is_seen, others_leave_standing, passing_stays, sync_is_explained,
     unwatch_is_explained, watch_is_explained,
 };
-pub use means::Means;
-pub use watching::{AddressList, NewWatch, ReplyList, Watching};
+pub use watching::{AddressList, ReplyList, Watching};

@@ -11,10 +11,9 @@ use crate::catching::{catch_up, loosen};
 use crate::dropping::drop_idle;
 use crate::error::WatchError;
 use crate::fetching::take;
-use crate::means::Means;
 use crate::replies::none_said;
 use crate::running::first_run;
-use crate::watching::{AddressList, NewWatch, ReplyList, Watching};
+use crate::watching::{AddressList, ReplyList, Watching};
 use client_cache::Cache;
 use docc_prepare::Backend;
 use plain_data::Text;
@@ -66,26 +65,27 @@ fn say_current<B: Backend, R: Rerunner>(
 
 /// Brings all watches up to date, and makes a new one, unless a value was late.
 fn make<B: Backend, R: Rerunner>(
-    means: &Means<'_, R>,
+    reruns: &R,
+    alloc: Global,
     backend: &mut B,
     watching: &mut Watching,
     said: &mut ReplyList,
-    wanted: NewWatch,
+    name: Text,
+    body: Checked,
 ) -> Result<(), WatchError>
     requires keeps { Keeps (B.known backend.old) watching.old }
-    requires free { watch_of watching.old.watches wanted.name ≡ None }
-    ensures plays { Plays B.known B.goes backend.old
-        (lines.make wanted.name wanted.body said.old watching.old)
+    requires free { watch_of watching.old.watches name ≡ None }
+    ensures plays { Plays B.known B.goes backend.old (lines.make name body said.old watching.old)
         result (λ u. (watching.new, said.new)) backend.new }
     ensures keeps { IfOk result (λ u. Keeps (B.known backend.new) watching.new) }
     ensures home { B.home backend.new ≡ B.home backend.old }
 {
-    let all = catch_up(means.reruns, means.alloc, backend, watching, said)?;
+    let all = catch_up(reruns, alloc, backend, watching, said)?;
     if !all {
         return Ok(());
     }
-    drop_idle(means.alloc, backend, watching)?;
-    first_run(means.alloc, backend, watching, said, wanted)?;
+    drop_idle(alloc, backend, watching)?;
+    first_run(alloc, backend, watching, said, name, body)?;
     Ok(())
 }
 
@@ -150,7 +150,7 @@ impl Watching {
         ensures keeps { IfOk result (λ said. Keeps (B.known backend.new) self.new) }
         ensures home { B.home backend.new ≡ B.home backend.old }
     {
-        self.watch_by(alloc, backend, &One, NewWatch { name, body })
+        self.watch_by(alloc, backend, &One, name, body)
     }
 
     /// The same, where the reruns are made by others.
@@ -159,22 +159,22 @@ impl Watching {
         alloc: Global,
         backend: &mut B,
         reruns: &R,
-        wanted: NewWatch,
+        name: Text,
+        body: Checked,
     ) -> Result<ReplyList, WatchError>
         requires { Keeps (B.known backend.old) self.old }
-        ensures plays { Plays B.known B.goes backend.old
-            (lines.watch self.old wanted.name wanted.body) result
+        ensures plays { Plays B.known B.goes backend.old (lines.watch self.old name body) result
             (λ said. (self.new, said)) backend.new }
         ensures keeps { IfOk result (λ said. Keeps (B.known backend.new) self.new) }
         ensures home { B.home backend.new ≡ B.home backend.old }
     {
         let refusal = one_reply(alloc, Reply::Refused(Why::Name))?;
-        if self.watches.has(&wanted.name) {
+        if self.watches.has(&name) {
             return Ok(refusal);
         }
         let mut said = none_said(alloc)?;
         take(backend, self)?;
-        make(&Means { alloc, reruns }, backend, self, &mut said, wanted)?;
+        make(reruns, alloc, backend, self, &mut said, name, body)?;
         drop_idle(alloc, backend, self)?;
         Ok(said)
     }

@@ -9,7 +9,7 @@ ghost use Rattle.client_watches.specs.Lines as lines;
 
 use crate::error::WatchError;
 use crate::fetching::fetch;
-use crate::watching::{NewWatch, ReplyList, Watching};
+use crate::watching::{ReplyList, Watching};
 use docc_prepare::Backend;
 use plain_data::{Text, copied};
 use rdt_types::Outcome;
@@ -82,18 +82,18 @@ pub(crate) fn first_run<B: Backend>(
     backend: &mut B,
     watching: &mut Watching,
     said: &mut ReplyList,
-    wanted: NewWatch,
+    name: Text,
+    body: Checked,
 ) -> Result<(), WatchError>
     requires keeps { Keeps (B.known backend.old) watching.old }
-    requires free { watch_of watching.old.watches wanted.name ≡ None }
-    ensures plays { Plays B.known B.goes backend.old
-        (lines.first_run wanted.name wanted.body said.old watching.old)
+    requires free { watch_of watching.old.watches name ≡ None }
+    ensures plays { Plays B.known B.goes backend.old (lines.first_run name body said.old watching.old)
         result (λ u. (watching.new, said.new)) backend.new }
     ensures keeps { IfOk result (λ u. Keeps (B.known backend.new) watching.new) }
     ensures home { B.home backend.new ≡ B.home backend.old }
 {
-    if let Some(run) = run_body(alloc, backend, watching, said, &wanted.body)? {
-        keep(watching, said, wanted.name, wanted.body, run)?;
+    if let Some(run) = run_body(alloc, backend, watching, said, &body)? {
+        keep(watching, said, name, body, run)?;
     }
     Ok(())
 }

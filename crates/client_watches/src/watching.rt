@@ -1,11 +1,10 @@
 //! What is kept of a client's watches.
 
 use client_cache::Cache;
-use plain_data::{Sequence, Text};
+use plain_data::Sequence;
 use rdt_types::Address;
 use rerun_driver::Driver;
 use session_text::Reply;
-use txn_lang::Checked;
 
 /// Replies, one after another.
 pub type ReplyList = Sequence<Reply>;
@@ -22,11 +21,4 @@ pub struct Watching {
     pub cache: Cache,
     /// Addresses that some watch observed, or that some run asked for, of which a watch may observe none any longer.
     pub loose: AddressList,
-}
-
-/// A watch that is to be made: its name, and the body that it runs.
-#[derive(Drop)]
-pub struct NewWatch {
-    pub name: Text,
-    pub body: Checked,
 }

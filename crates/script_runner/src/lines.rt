@@ -14,25 +14,18 @@ ghost use Rattle.script_runner.specs.Worlds.{world_of, Stands};
 use crate::replies::{push_line, push_refused, push_turn};
 use crate::words::{after_word, client_named, first_word, is_follow, shard_named};
 use crate::world::Script;
-use client_watches::Means;
 use dio_core::{LONGEST_LINE, Line};
 use local_world::{View, World};
 use plain_data::Text;
 use session_core::{Session, Turn, is_quiet, trimmed_start};
 use session_text::{Reply, Why};
-use std::alloc::AllocError;
+use std::alloc::{AllocError, Global};
 use watch_reruns::Rerunner;
-
-/// What a client has written behind its number.
-#[derive(Clone, Copy)]
-struct Spoken<'a> {
-    client: u32,
-    text: &'a [u8],
-}
 
 /// Does a line of a session over its client's view. The store of one thread never fails, so an error is want of memory.
 fn over_view<R: Rerunner>(
-    means: &Means<'_, R>,
+    alloc: Global,
+    reruns: &R,
     view: &mut View<'_>,
     session: &mut Session,
     text: &[u8],
@@ -43,7 +36,7 @@ fn over_view<R: Rerunner>(
         (spec.play_line view.old.client (store_of view.old.world.now) session.old (line_of text.now)) }
     ensures home { view.new.world.ghost_name ≡ view.old.world.ghost_name }
 {
-    match session.line_by(means.alloc, view, means.reruns, text) {
+    match session.line_by(alloc, view, reruns, text) {
         Ok(turn) => Ok(turn),
         Err(_) => Err(AllocError),
     }
@@ -51,28 +44,26 @@ fn over_view<R: Rerunner>(
 
 /// Does a line of a client's session.
 fn in_world<R: Rerunner>(
-    means: &Means<'_, R>,
+    alloc: Global,
+    reruns: &R,
     world: &mut World,
+    client: u32,
     session: &mut Session,
-    spoken: Spoken<'_>,
+    text: &[u8],
 ) -> Result<Turn, AllocError>
-    requires client { spoken.client < CLIENTS }
-    requires attends { Attends (known_by (store_of world.old) spoken.client) session.old }
-    requires short { length spoken.text.now ≤ LONGEST_LINE }
-    ensures over { IsOver result (store_of world.new) session.new (spec.play_line spoken.client
-        (store_of world.old) session.old (line_of spoken.text.now)) }
+    requires client { client < CLIENTS }
+    requires attends { Attends (known_by (store_of world.old) client) session.old }
+    requires short { length text.now ≤ LONGEST_LINE }
+    ensures over { IsOver result (store_of world.new) session.new
+        (spec.play_line client (store_of world.old) session.old (line_of text.now)) }
 {
-    let mut view = View {
-        world,
-        client: spoken.client,
-    };
-    over_view(means, &mut view, session, spoken.text)
+    let mut view = View { world, client };
+    over_view(alloc, reruns, &mut view, session, text)
 }
 
 /// Whether a turn ends its session.
 fn is_end(turn: &Turn) -> bool
-    ensures { (session : Session) →
-        spec.left session turn.now ≡ (if result then None else Some session) }
+    ensures { (session : Session) → spec.left session turn.now ≡ (if result then None else Some session) }
 {
     matches!(turn, Turn::Ended(_))
 }
@@ -86,8 +77,7 @@ fn follow_line(
 ) -> Result<(), AllocError>
     requires client { client < CLIENTS }
     requires below { IfSome shard (λ k. k < world.old.shards) }
-    ensures { (session : Session) →
-        Does result output.old output.new (store_of world.new) (Some session)
+    ensures { (session : Session) → Does result output.old output.new (store_of world.new) (Some session)
         (spec.follow_line client (store_of world.old) session shard) }
 {
     match shard {
@@ -101,35 +91,38 @@ fn follow_line(
 
 /// What follows a client, whose session stands at the place.
 fn client_line<R: Rerunner>(
-    means: &Means<'_, R>,
+    alloc: Global,
+    reruns: &R,
     world: &mut World,
+    client: u32,
     place: &mut Option<Session>,
-    spoken: Spoken<'_>,
+    text: &[u8],
     output: &mut Text,
 ) -> Result<(), AllocError>
-    requires client { spoken.client < CLIENTS }
-    requires attends { IfSome place.old (Attends (known_by (store_of world.old) spoken.client)) }
-    requires short { length spoken.text.now ≤ LONGEST_LINE }
+    requires client { client < CLIENTS }
+    requires attends { IfSome place.old (Attends (known_by (store_of world.old) client)) }
+    requires short { length text.now ≤ LONGEST_LINE }
     ensures { Does result output.old output.new (store_of world.new) place.new
-        (spec.client_line spoken.client (store_of world.old) place.old spoken.text.now) }
+        (spec.client_line client (store_of world.old) place.old text.now) }
 {
     let Some(session) = place else {
         return push_refused(output, None, Why::Client);
     };
-    if is_follow(spoken.text) {
-        let shard = shard_named(world.shards(), after_word(spoken.text));
-        return follow_line(world, spoken.client, shard, output);
+    if is_follow(text) {
+        let shard = shard_named(world.shards(), after_word(text));
+        return follow_line(world, client, shard, output);
     }
-    let turn = in_world(means, world, session, spoken)?;
+    let turn = in_world(alloc, reruns, world, client, session, text)?;
     if is_end(&turn) {
         *place = None;
     }
-    push_turn(output, spoken.client, &turn)
+    push_turn(output, client, &turn)
 }
 
 /// What follows the first word of a line, which names a client or none.
 fn named_line<R: Rerunner>(
-    means: &Means<'_, R>,
+    alloc: Global,
+    reruns: &R,
     script: &mut Script,
     client: Option<u32>,
     text: &[u8],
@@ -138,14 +131,20 @@ fn named_line<R: Rerunner>(
     requires client { IfSome client (λ n. n < CLIENTS) }
     requires stands { Stands (world_of script.old) }
     requires short { length text.now ≤ LONGEST_LINE }
-    ensures { Answers result output.old output.new (world_of script.new)
-        (spec.named_line (world_of script.old) client text.now) }
+    ensures { Answers result output.old output.new (world_of script.new) (spec.named_line (world_of script.old) client text.now) }
 {
     match client {
         Some(client) => {
             let place = &mut script.sessions[client as usize];
-            let spoken = Spoken { client, text };
-            client_line(means, &mut script.world, place, spoken, output)
+            client_line(
+                alloc,
+                reruns,
+                &mut script.world,
+                client,
+                place,
+                text,
+                output,
+            )
         }
         None => push_refused(output, None, Why::Client),
     }
@@ -153,38 +152,44 @@ fn named_line<R: Rerunner>(
 
 /// A line without the blanks at its beginning.
 fn text_line<R: Rerunner>(
-    means: &Means<'_, R>,
+    alloc: Global,
+    reruns: &R,
     script: &mut Script,
     text: &[u8],
     output: &mut Text,
 ) -> Result<(), AllocError>
     requires stands { Stands (world_of script.old) }
     requires short { length text.now ≤ LONGEST_LINE }
-    ensures { Answers result output.old output.new (world_of script.new)
-        (spec.text_line (world_of script.old) text.now) }
+    ensures { Answers result output.old output.new (world_of script.new) (spec.text_line (world_of script.old) text.now) }
 {
     if is_quiet(text) {
         return Ok(());
     }
     let client = client_named(first_word(text));
-    named_line(means, script, client, after_word(text), output)
+    named_line(alloc, reruns, script, client, after_word(text), output)
 }
 
-/// Does a line, and adds the bytes of its reply to the output. After want of memory the script is of no use.
+/// Does a line, and adds the bytes of its reply to the output. Who makes reruns of watches is given. After want of memory the script is of no use.
 pub fn answer<R: Rerunner>(
-    means: &Means<'_, R>,
+    alloc: Global,
+    reruns: &R,
     script: &mut Script,
     line: &Line,
     output: &mut Text,
 ) -> Result<(), AllocError>
     requires stands { Stands (world_of script.old) }
     requires short { IsShort line.now }
-    ensures answers { Answers result output.old output.new (world_of script.new)
-        (spec.answer (world_of script.old) line.now) }
+    ensures answers { Answers result output.old output.new (world_of script.new) (spec.answer (world_of script.old) line.now) }
     ensures stands { OnOk result (Stands (world_of script.new)) }
 {
     match line {
-        Line::Bytes(bytes) => text_line(means, script, trimmed_start(bytes.as_slice()), output),
+        Line::Bytes(bytes) => text_line(
+            alloc,
+            reruns,
+            script,
+            trimmed_start(bytes.as_slice()),
+            output,
+        ),
         Line::TooLong => push_refused(output, None, Why::Long),
         Line::End => Ok(()),
     }

@@ -1,19 +1,20 @@
 //! A script: its lines are read, done and answered, one after another.
 
-ghost use Rattle.std.specs.Prelude.{◌≡◌, not, true, false, length, Ok, Err, IfOk, IfErr, IfSome, OnOk};
+ghost use Rattle.std.specs.Prelude.{◌≡◌, ◌⊎◌, not, true, false, length, Ok, Err, IfOk, IfErr, IfSome, OnOk};
 ghost use Rattle.std.specs.Bool.{OnTrue};
 ghost use Rattle.dio_core.specs.Counts.{IsCounted};
 ghost use Rattle.dio_core.specs.Lines.{TakesLine, IsShort};
+ghost use Rattle.dio_core.specs.Sinks.{IsPassedOn};
+ghost use Rattle.dio_core.specs.Sources.{IsAhead};
 ghost use Rattle.plain_data.specs.declared.or_no_memory.OrNoMemory.TheVariants as stop;
 ghost use Rattle.script_runner.specs.Worlds.{world_of, Stands};
 ghost use Rattle.script_runner.specs.Script.{reading, writing, TriesFlush, KeepsPromises, HasCommits};
-ghost use Rattle.script_runner.specs.code.Turns.{moment, read_stopped, write_stopped, StopsReading, NobodyWaits, Turns, Ran, StopsBetween, Closes};
+ghost use Rattle.script_runner.specs.code.Turns.{moment, read_stopped, write_stopped, StopsReading, Turns, Ran, StopsBetween, Closes};
 
 use crate::lines::answer;
 use crate::status::{NO_MEMORY, READ_FAULT, TOO_MANY_LINES, WHOLE, WRITE_FAULT};
 use crate::stop::{Cause, MOST_LINES, Stop};
 use crate::world::{Script, commits_in};
-use client_watches::Means;
 use dio_core::{Line, LineFault, NEWLINE, Sink, Source, next_line, write_all};
 use plain_data::{OrNoMemory, Text};
 use rdt_types::Settings;
@@ -26,8 +27,7 @@ fn read_line<S: Source>(alloc: Global, source: &mut S) -> Result<Line, Stop>
     ensures line { IfOk result (λ line. TakesLine line (S.left source.old) (S.left source.new)) }
     ensures short { IfOk result IsShort }
     ensures stops { IfErr result (λ stop. StopsReading stop (S.left source.old) (S.left source.new)) }
-    ensures reads { IsCounted (read_stopped result)
-        (S.read_faults source.old) (S.read_faults source.new) }
+    ensures reads { IsCounted (read_stopped result) (S.read_faults source.old) (S.read_faults source.new) }
 {
     match next_line(alloc, source) {
         Ok(line) => Ok(line),
@@ -39,8 +39,7 @@ fn read_line<S: Source>(alloc: Global, source: &mut S) -> Result<Line, Stop>
 /// Passes on what was written, unless the next line is ahead already: until that is answered nobody waits. `false` is a
 /// fault of the sink.
 fn pass_on<S: Source, W: Sink>(source: &S, sink: &mut W) -> bool
-    ensures passed { OnTrue result
-        (NobodyWaits (S.left source.now) (W.taken sink.new) (W.passed sink.new)) }
+    ensures passed { OnTrue result (IsAhead NEWLINE (S.left source.now) ⊎ IsPassedOn (W.taken sink.new) (W.passed sink.new)) }
     ensures taken { W.taken sink.new ≡ W.taken sink.old }
     ensures writes { IsCounted (not result) (W.write_faults sink.old) (W.write_faults sink.new) }
 {
@@ -49,7 +48,8 @@ fn pass_on<S: Source, W: Sink>(source: &S, sink: &mut W) -> bool
 
 /// Reads, does and answers one line. `false` says that there was none. The reply is made in memory that all lines share.
 fn turn<S: Source, W: Sink, R: Rerunner>(
-    means: &Means<'_, R>,
+    alloc: Global,
+    reruns: &R,
     script: &mut Script,
     reply: &mut Text,
     source: &mut S,
@@ -59,21 +59,18 @@ fn turn<S: Source, W: Sink, R: Rerunner>(
     ensures turns { Turns result (moment (world_of script.old) (S.left source.old) (W.taken sink.old))
         (moment (world_of script.new) (S.left source.new) (W.taken sink.new)) }
     ensures stands { OnOk result (Stands (world_of script.new)) }
-    ensures passed { result ≡ Ok true
-        → NobodyWaits (S.left source.new) (W.taken sink.new) (W.passed sink.new) }
+    ensures passed { result ≡ Ok true → IsAhead NEWLINE (S.left source.new) ⊎ IsPassedOn (W.taken sink.new) (W.passed sink.new) }
     ensures idle { result ≡ Ok false → world_of script.new ≡ world_of script.old }
     ensures wanting { result ≡ Err stop.NoMemory → sink.new ≡ sink.old }
-    ensures reads { IsCounted (read_stopped result)
-        (S.read_faults source.old) (S.read_faults source.new) }
-    ensures writes { IsCounted (write_stopped result)
-        (W.write_faults sink.old) (W.write_faults sink.new) }
+    ensures reads { IsCounted (read_stopped result) (S.read_faults source.old) (S.read_faults source.new) }
+    ensures writes { IsCounted (write_stopped result) (W.write_faults sink.old) (W.write_faults sink.new) }
 {
-    let line = match read_line(means.alloc, source)? {
+    let line = match read_line(alloc, source)? {
         Line::End => return Ok(false),
         line => line,
     };
     reply.truncate(0);
-    answer(means, script, &line, reply)?;
+    answer(alloc, reruns, script, &line, reply)?;
     if write_all(sink, reply.as_slice()) && pass_on(source, sink) {
         Ok(true)
     } else {
@@ -89,27 +86,16 @@ fn run_lines<S: Source, W: Sink, R: Rerunner>(
     source: &mut S,
     sink: &mut W,
 ) -> Result<Option<u64>, Stop>
-    ensures ran { Ran settings.now result (S.left source.old) (W.taken sink.old)
-        (S.left source.new) (W.taken sink.new) }
-    ensures between { StopsBetween settings.now result (S.left source.old)
-        (writing W.Sink sink.old sink.new) }
-    ensures commits { IfOk result (λ number.
-        IfSome (S.left source.old) (HasCommits settings.now number)) }
-    ensures reads { IsCounted (read_stopped result)
-        (S.read_faults source.old) (S.read_faults source.new) }
-    ensures writes { IsCounted (write_stopped result)
-        (W.write_faults sink.old) (W.write_faults sink.new) }
+    ensures ran { Ran settings.now result (S.left source.old) (W.taken sink.old) (S.left source.new) (W.taken sink.new) }
+    ensures between { StopsBetween settings.now result (S.left source.old) (writing W.Sink sink.old sink.new) }
+    ensures commits { IfOk result (λ number. IfSome (S.left source.old) (HasCommits settings.now number)) }
+    ensures reads { IsCounted (read_stopped result) (S.read_faults source.old) (S.read_faults source.new) }
+    ensures writes { IsCounted (write_stopped result) (W.write_faults sink.old) (W.write_faults sink.new) }
 {
     let mut script = Script::new(alloc, settings)?;
     let mut reply = Text::new(alloc);
     for _ in 0..MOST_LINES {
-        if !turn(
-            &Means { alloc, reruns },
-            &mut script,
-            &mut reply,
-            source,
-            sink,
-        )? {
+        if !turn(alloc, reruns, &mut script, &mut reply, source, sink)? {
             return Ok(commits_of(script));
         }
     }

@@ -1,7 +1,7 @@
 -- The verb of a line.
-use Rattle.std.proofs.Common.{◌≡◌, ℕ, ◌≤◌, List, length, Option, Some, None, Result, Ok, Err, refl, ap}
+use Rattle.std.proofs.Common.{◌≡◌, ℕ, List, Option, Some, None, Result, Ok, Err, refl, ap}
 use Rattle.std.proofs.Common.{subst}
-use Rattle.std.specs.Prelude.{IfOk, IfSome}
+use Rattle.std.specs.Prelude.{IfOk}
 use Rattle.std.specs.Result.{result_ok}
 use Rattle.predictive_parsing.specs.Reading.{whole}
 use Rattle.predictive_parsing.specs.Bytes.{IsByte}
@@ -13,8 +13,6 @@ use Rattle.session_text.specs.Lines.{VerbRule, IsVerb}
 use Rattle.session_text.specs.code.Lines.{line}
 use Rattle.session_text.specs.Follows.{at_end}
 use Rattle.session_text.proofs.LineFits.{line_fits}
-use Rattle.session_text.proofs.Within.{verb_within}
-use Rattle.session_text.specs.Bodies.{IsWithin}
 use Rattle.txn_grammar.specs.Characters.{Text}
 use Rattle.session_core.specs.Lines.{asked, VerbsAreForms}
 use Rattle.session_core.specs.code.Reading.{verb_of}
@@ -57,15 +55,3 @@ pub read-none : (r : Result Verb VerbError) → verb_of r ≡ Ok None → r ≡ 
 read-none (Ok found) e = absurd (cc)
 read-none (Err verb.BadVerb) e = refl
 read-none (Err verb.NoMemory) e = absurd (cc)
-
--- what was found is within the line's length
-pub found-within : (text : Text) (r : Result Verb VerbError) (o : Option Verb) (most : ℕ) → IfOk r (λ x. IsVerb text x) → verb_of r ≡ Ok o
-    → length text ≤ most → IfSome o (λ v. IsWithin most v)
-found-within text r None most h e short = tt
-found-within text r (Some v) most h e short = verb_within text v most (read-verb text r v h e) short
-
--- and is what is asked for
-pub found-asked : (text : Text) (r : Result Verb VerbError) (o : Option Verb) → IfOk r (λ x. IsVerb text x)
-    → (r ≡ Err verb.BadVerb → (v : Verb) → IsVerb text v → ⊥) → verb_of r ≡ Ok o → asked text ≡ o
-found-asked text r None h bad e = none_asked text (bad (read-none r e))
-found-asked text r (Some v) h bad e = asked_complete text v (read-verb text r v h e)

@@ -36,7 +36,7 @@ use Rattle.session_core.specs.declared.moved.Moved.TheVariants as moved
 use Rattle.session_core.specs.declared.session.Session.{Session}
 use Rattle.session_core.specs.Errors.{error_of, error_by, LeavesError}
 use Rattle.session_core.specs.Events.{closed, seq_after, ended, appends, event_call, call_of, moved_at, moved_by}
-use Rattle.session_core.specs.code.Turning.{Turned, IsNoRefusal, IsUnrefused, moved_on_read, moved_on_prepare, moved_on_append, is_abort, Valued}
+use Rattle.session_core.specs.code.Turning.{Turned, moved_on_read, moved_on_prepare, moved_on_append, is_abort, Valued}
 use Rattle.session_core.specs.Verbs.{LineEnd, AttemptEnd, says, moved_to, event, was_read, was_prepared, event_on, or_on, drive_in, events, attempt_once}
 use Rattle.session_core.specs.Verbs.{unless_abort, then_again, try_times, by_attempt, unless_open, if_open, valued, look_by, look_in, look_at, look_from}
 use Rattle.session_core.specs.Stopping.{adds, StopsShort, Does}
@@ -122,11 +122,6 @@ module _ {B : Type 0} {known : B → Known} {goes : B → Call → Answer → B 
   prepare_does shard left (Ok (Ok front)) turned = event_led (moved.More left (reply.Prepared shard front)) turned
   prepare_does shard left (Ok (Err r)) turned = event_led (moved.End left r) turned
   prepare_does shard left (Err e) turned = event_stops e turned
-
-  -- where there is an error, it wasn't refused
-  pub prepare_told : (r : Result (Result ℕ Reply) SessionError) → ((e : SessionError) → r ≡ Err e → IsNoRefusal answer)
-      → (e : SessionError) → r ≡ Err e → IsUnrefused known goes b (call_of s a) c
-  prepare_told r unrefused = λ e is. record { answer = answer; step = called; unrefused = unrefused e is }
 
   -- an answered append
   pub append_does : (r : Result Reply SessionError) → Turned a answer (moved_on_append a r) → Does known goes b (event s a) r (moved.End a) c

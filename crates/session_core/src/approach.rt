@@ -12,10 +12,3 @@ pub(crate) enum Approach {
     /// The append of this run is next. All that it observed stands beside it with bases, where it is at hand.
     Append(Run, Option<BasedList>),
 }
-
-/// A run whose append is next, and all that it observed, with bases, where that is at hand.
-#[derive(Drop)]
-pub(crate) struct LastRun {
-    pub run: Run,
-    pub based: Option<BasedList>,
-}

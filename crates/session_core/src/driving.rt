@@ -9,7 +9,7 @@ ghost use Rattle.session_core.specs.Holding.{Attends, Holds};
 ghost use Rattle.session_core.specs.Stopping.{Does};
 ghost use Rattle.session_core.specs.Verbs as verbs;
 
-use crate::approach::{Approach, LastRun};
+use crate::approach::Approach;
 use crate::error::SessionError;
 use crate::event::{append_event, append_last, event_on};
 use crate::limits::MOST_EVENTS;
@@ -61,9 +61,7 @@ pub fn drive<B: Backend>(
     let end = until_append(alloc, backend, session, &mut attempt)?;
     match end {
         Approach::End(reply) => Ok(reply),
-        Approach::Append(run, based) => {
-            append_last(alloc, backend, session, attempt, LastRun { run, based })
-        }
+        Approach::Append(run, based) => append_last(alloc, backend, session, attempt, run, based),
     }
 }
 
@@ -85,9 +83,7 @@ fn attempt_once<B: Backend>(
     let end = until_append(alloc, backend, session, attempt)?;
     match end {
         Approach::End(reply) => Ok(reply),
-        Approach::Append(run, based) => {
-            append_event(alloc, backend, session, attempt, LastRun { run, based })
-        }
+        Approach::Append(run, based) => append_event(alloc, backend, session, attempt, run, based),
     }
 }
 

@@ -8,16 +8,16 @@ ghost use Rattle.docc_prepare.specs.declared.attempt.Attempt.{Attempt};
 ghost use Rattle.docc_prepare.specs.Attempts.{in_shard, based, next_event, ready_of, with_front, KeepsPauses, Prepares};
 ghost use Rattle.docc_prepare.specs.Calls.{snap_answered, front_answered, commit_answered};
 ghost use Rattle.docc_prepare.specs.Backends.{CanAppend};
-ghost use Rattle.session_core.specs.Events.{closed, call_of};
+ghost use Rattle.session_core.specs.Events.{closed};
 ghost use Rattle.session_core.specs.Holding.{Attends, Holds};
-ghost use Rattle.session_core.specs.code.Turning.{Turned, Appends, IsNoRefusal, IsUnrefused, moved_on_read, moved_on_prepare, moved_on_append};
+ghost use Rattle.session_core.specs.code.Turning.{Turned, Appends, moved_on_read, moved_on_prepare, moved_on_append};
 ghost use Rattle.session_core.specs.Remembering.{AreAllOf, IsKnownOf, Remembers};
 ghost use Rattle.session_core.specs.code.Approaching.{IsReadyOf, Nears};
 ghost use Rattle.session_core.specs.Verbs as verbs;
 ghost use Rattle.session_core.specs.Verbs.{was_read, was_prepared};
 ghost use Rattle.session_core.specs.Stopping.{Does};
 
-use crate::approach::{Approach, LastRun};
+use crate::approach::Approach;
 use crate::error::SessionError;
 use crate::moved::Moved;
 use crate::remembered::Remembered;
@@ -71,7 +71,6 @@ fn after_prepare(
         → result ≡ Ok (Err (reply.Late base horizon)) }
     ensures clash { (w : Witness) → answer ≡ Err (prepare_error.Clash w)
         → result ≡ Ok (Err (reply.Abort w)) }
-    ensures told { (e : SessionError) → result ≡ Err e → IsNoRefusal (front_answered answer) }
     ensures pauses { IfOk result (λ front. OnOk front (KeepsPauses attempt.old attempt.new)) }
     ensures front { IfOk result (λ front. IfOk front (λ f.
         attempt.new ≡ with_front attempt.old shard f)) }
@@ -161,39 +160,30 @@ fn based_here(
     }
 }
 
-/// A shard that is to be prepared, and what the run observed there, with bases.
-#[derive(Clone, Copy)]
-struct Inside<'a> {
-    shard: u8,
-    all: &'a BasedList,
-}
-
 /// Prepares a shard for an attempt: it has a front more, or has ended with a reply.
 #[inline(always)]
 fn prepare_event<B: Backend>(
     backend: &mut B,
     session: &Session,
     attempt: &mut Attempt,
+    shard: u8,
     run: &Run,
-    inside: Inside<'_>,
+    all: &BasedList,
 ) -> Result<Result<u64, Reply>, SessionError>
     requires attends { Attends (B.known backend.old) (closed session.now) }
     requires holds { Holds (B.known backend.old) attempt.old }
-    requires next { next_event attempt.old ≡ Next.Prepare inside.shard run.now }
-    requires all { inside.all.now ≡ in_shard attempt.old.shards inside.shard
-        (based attempt.old.snaps run.now.observations) }
+    requires next { next_event attempt.old ≡ Next.Prepare shard run.now }
+    requires all { all.now
+        ≡ in_shard attempt.old.shards shard (based attempt.old.snaps run.now.observations) }
     ensures plays { Does B.known B.goes backend.old (verbs.event session.now attempt.old) result
-        (was_prepared inside.shard attempt.new) backend.new }
-    // A refusal isn't told as want of memory.
-    ensures told { (e : SessionError) → result ≡ Err e →
-        IsUnrefused B.known B.goes backend.old (call_of session.now attempt.old) backend.new }
+        (was_prepared shard attempt.new) backend.new }
     ensures pauses { IfOk result (λ front. OnOk front (KeepsPauses attempt.old attempt.new)) }
     ensures front { IfOk result (λ front. IfOk front (λ f.
-        attempt.new ≡ with_front attempt.old inside.shard f)) }
+        attempt.new ≡ with_front attempt.old shard f)) }
     ensures home { B.home backend.new ≡ B.home backend.old }
 {
-    let answer = backend.prepare(inside.shard, inside.all);
-    after_prepare(attempt, inside.shard, answer)
+    let answer = backend.prepare(shard, all);
+    after_prepare(attempt, shard, answer)
 }
 
 /// What is handed to the journal, where the observations with bases are at hand.
@@ -263,17 +253,18 @@ pub fn append_event<B: Backend>(
     backend: &mut B,
     session: &Session,
     attempt: &Attempt,
-    last: LastRun,
+    run: Run,
+    based: Option<BasedList>,
 ) -> Result<Reply, SessionError>
     requires attends { Attends (B.known backend.old) (closed session.now) }
     requires holds { Holds (B.known backend.old) attempt.now }
-    requires next { next_event attempt.now ≡ Next.Append last.run }
-    requires based { AreAllOf attempt.now last.run last.based }
+    requires next { next_event attempt.now ≡ Next.Append run }
+    requires based { AreAllOf attempt.now run based }
     ensures plays { Does B.known B.goes backend.old (verbs.event session.now attempt.now) result
         (Moved.End attempt.now) backend.new }
     ensures home { B.home backend.new ≡ B.home backend.old }
 {
-    let ready = readied(alloc, session, attempt, last.run, last.based)?;
+    let ready = readied(alloc, session, attempt, run, based)?;
     handed(backend, ready)
 }
 
@@ -323,17 +314,18 @@ pub fn append_last<B: Backend>(
     backend: &mut B,
     session: &Session,
     attempt: Attempt,
-    last: LastRun,
+    run: Run,
+    based: Option<BasedList>,
 ) -> Result<Reply, SessionError>
     requires attends { Attends (B.known backend.old) (closed session.now) }
     requires holds { Holds (B.known backend.old) attempt }
-    requires next { next_event attempt ≡ Next.Append last.run }
-    requires based { AreAllOf attempt last.run last.based }
+    requires next { next_event attempt ≡ Next.Append run }
+    requires based { AreAllOf attempt run based }
     ensures plays { Does B.known B.goes backend.old (verbs.event session.now attempt) result
         (Moved.End attempt) backend.new }
     ensures home { B.home backend.new ≡ B.home backend.old }
 {
-    let ready = last_readied(alloc, session, attempt, last.run, last.based)?;
+    let ready = last_readied(alloc, session, attempt, run, based)?;
     handed(backend, ready)
 }
 
@@ -392,7 +384,7 @@ pub fn event_on<B: Backend>(
         }
         Next::Prepare(shard, run) => {
             let all = based_here(alloc, attempt, &run, shard)?;
-            match prepare_event(backend, session, attempt, &run, Inside { shard, all: &all })? {
+            match prepare_event(backend, session, attempt, shard, &run, &all)? {
                 Ok(_) => {
                     // One shard has all that was observed, so the append is next.
                     if all.len() == run.observations.len() {
@@ -430,20 +422,13 @@ pub fn event<B: Backend>(
         }
         Next::Prepare(shard, run) => {
             let all = based_here(alloc, &attempt, &run, shard)?;
-            match prepare_event(
-                backend,
-                session,
-                &mut attempt,
-                &run,
-                Inside { shard, all: &all },
-            )? {
+            match prepare_event(backend, session, &mut attempt, shard, &run, &all)? {
                 Ok(front) => Ok(Moved::More(attempt, Reply::Prepared(shard, front))),
                 Err(reply) => Ok(Moved::End(attempt, reply)),
             }
         }
         Next::Append(run) => {
-            let last = LastRun { run, based: None };
-            let reply = append_event(alloc, backend, session, &attempt, last)?;
+            let reply = append_event(alloc, backend, session, &attempt, run, None)?;
             Ok(Moved::End(attempt, reply))
         }
     }

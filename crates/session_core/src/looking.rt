@@ -1,8 +1,6 @@
 //! Looks: runs on a prefix of the journal, by reads at its number.
 
-ghost use Rattle.std.specs.Prelude.{◌≡◌, ℕ, ◌≤◌, Some, Ok, Err};
-ghost use Rattle.session_text.specs.declared.reply.Reply.TheVariants as reply;
-ghost use Rattle.docc_prepare.specs.declared.backend.ReadAtError.TheVariants as read_error;
+ghost use Rattle.std.specs.Prelude.{◌≡◌, ◌≤◌};
 ghost use Rattle.docc_prepare.specs.Calls.{value_answered};
 ghost use Rattle.session_core.specs.Holding.{Attends};
 ghost use Rattle.session_core.specs.code.Turning.{Valued};
@@ -26,10 +24,7 @@ fn valued(
     number: u64,
     answer: Result<Value, ReadAtError>,
 ) -> Result<Option<Reply>, SessionError>
-    ensures valued { Valued snaps.old address number (value_answered answer) result snaps.new }
-    // The reply takes no memory, so it is answered whatever is wanting.
-    ensures late { (base horizon : ℕ) → answer ≡ Err (read_error.Late base horizon)
-        → result ≡ Ok (Some (reply.Late base horizon)) }
+    ensures { Valued snaps.old address number (value_answered answer) result snaps.new }
 {
     match answer {
         Ok(value) => match snaps.insert(

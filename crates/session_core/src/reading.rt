@@ -1,9 +1,9 @@
 //! Reading a line: what it asks for.
 
-ghost use Rattle.std.specs.Prelude.{◌≡◌, ◌≤◌, length, false, true, IfOk, IfSome, Err};
+ghost use Rattle.std.specs.Prelude.{◌≡◌, ◌≤◌, length, false, true, IfOk};
 ghost use Rattle.session_text.specs.Bodies.{IsWithin};
+ghost use Rattle.session_core.specs.declared.line.Line.TheVariants as asks;
 ghost use Rattle.session_core.specs.Lines as spec;
-ghost use Rattle.session_core.specs.Words as words;
 ghost use Rattle.session_core.specs.Holding.{BodyIsReady, IsReady};
 ghost use Rattle.session_core.specs.code.Reading as code;
 ghost use Rattle.session_core.specs.code.Reading.{ReadsLine};
@@ -17,62 +17,75 @@ use session_text::{Verb, VerbError, Why, read_verb};
 use std::alloc::{AllocError, Global};
 use txn_lang::Checked;
 
-/// The verb of a line with a body, apart from that.
-#[derive(Drop)]
-pub(crate) enum Form {
-    Begin,
-    Try(u8),
-    Look,
-    At(u64),
-    Watch(Text),
-}
-
-/// What a form asks for with a body.
-fn with_body(form: Form, body: Checked) -> Line
-    requires { IsReady body }
-    ensures line { result ≡ code.with_body form body }
-    ensures ready { BodyIsReady result }
-{
-    match form {
-        Form::Begin => Line::Begin(body),
-        Form::Try(tries) => Line::Try(tries, body),
-        Form::Look => Line::Look(body),
-        Form::At(number) => Line::At(number, body),
-        Form::Watch(name) => Line::Watch(name, body),
-    }
-}
-
-/// The same with what was read of a body: its refusal is the line's.
-fn or_refused(read: Result<Checked, Why>, form: Form) -> Line
+/// `begin`.
+fn begin(read: Result<Checked, Why>) -> Line
     requires { IfOk read (λ checked. IsReady checked) }
-    ensures line { result ≡ spec.with_body (code.with_body form) read }
+    ensures line { result ≡ spec.with_body asks.Begin read }
     ensures ready { BodyIsReady result }
 {
     match read {
-        Ok(body) => with_body(form, body),
+        Ok(body) => Line::Begin(body),
         Err(reason) => Line::Refused(reason),
     }
 }
 
-/// What a verb asks for. Memory is taken only for a body.
+/// `do` and `try`.
+fn try_times(tries: u8, read: Result<Checked, Why>) -> Line
+    requires { IfOk read (λ checked. IsReady checked) }
+    ensures line { result ≡ spec.with_body (asks.Try tries) read }
+    ensures ready { BodyIsReady result }
+{
+    match read {
+        Ok(body) => Line::Try(tries, body),
+        Err(reason) => Line::Refused(reason),
+    }
+}
+
+/// `look`.
+fn look(read: Result<Checked, Why>) -> Line
+    ensures line { result ≡ spec.with_body asks.Look read }
+    ensures ready { BodyIsReady result }
+{
+    match read {
+        Ok(body) => Line::Look(body),
+        Err(reason) => Line::Refused(reason),
+    }
+}
+
+/// `at`.
+fn look_at(number: u64, read: Result<Checked, Why>) -> Line
+    ensures line { result ≡ spec.with_body (asks.At number) read }
+    ensures ready { BodyIsReady result }
+{
+    match read {
+        Ok(body) => Line::At(number, body),
+        Err(reason) => Line::Refused(reason),
+    }
+}
+
+/// `watch`.
+fn watch(name: Text, read: Result<Checked, Why>) -> Line
+    ensures line { result ≡ spec.with_body (asks.Watch name) read }
+    ensures ready { BodyIsReady result }
+{
+    match read {
+        Ok(body) => Line::Watch(name, body),
+        Err(reason) => Line::Refused(reason),
+    }
+}
+
+/// What a verb asks for.
 fn of_verb(alloc: Global, verb: Verb) -> Result<Line, AllocError>
     requires { IsWithin LONGEST_LINE verb }
-    ensures line { ReadsLine result (spec.of_verb verb) }
-    ensures told { (e : AllocError) → result ≡ Err e → code.has_body verb ≡ true }
+    ensures { ReadsLine result (spec.of_verb verb) }
 {
     match verb {
-        Verb::Begin(text) => Ok(or_refused(body_or_why(alloc, text, false)?, Form::Begin)),
-        Verb::Do(text) => Ok(or_refused(body_or_why(alloc, text, false)?, Form::Try(1))),
-        Verb::Try(tries, text) => Ok(or_refused(
-            body_or_why(alloc, text, false)?,
-            Form::Try(tries),
-        )),
-        Verb::Look(text) => Ok(or_refused(body_or_why(alloc, text, true)?, Form::Look)),
-        Verb::At(number, text) => Ok(or_refused(body_or_why(alloc, text, true)?, Form::At(number))),
-        Verb::Watch(name, text) => Ok(or_refused(
-            body_or_why(alloc, text, true)?,
-            Form::Watch(name),
-        )),
+        Verb::Begin(text) => Ok(begin(body_or_why(alloc, text, false)?)),
+        Verb::Do(text) => Ok(try_times(1, body_or_why(alloc, text, false)?)),
+        Verb::Try(tries, text) => Ok(try_times(tries, body_or_why(alloc, text, false)?)),
+        Verb::Look(text) => Ok(look(body_or_why(alloc, text, true)?)),
+        Verb::At(number, text) => Ok(look_at(number, body_or_why(alloc, text, true)?)),
+        Verb::Watch(name, text) => Ok(watch(name, body_or_why(alloc, text, true)?)),
         Verb::Step => Ok(Line::Step),
         Verb::Go => Ok(Line::Go),
         Verb::Drop => Ok(Line::Drop),
@@ -81,18 +94,6 @@ fn of_verb(alloc: Global, verb: Verb) -> Result<Line, AllocError>
         Verb::Unwatch(name) => Ok(Line::Unwatch(name)),
         Verb::Sync => Ok(Line::Sync),
         Verb::Wait => Ok(Line::Wait),
-    }
-}
-
-/// What a line asks for by its verb, if it has one. Where it has none no memory is taken.
-fn of_form(alloc: Global, found: Option<Verb>) -> Result<Line, AllocError>
-    requires { IfSome found (λ verb. IsWithin LONGEST_LINE verb) }
-    ensures line { ReadsLine result (spec.of_form found) }
-    ensures told { (e : AllocError) → result ≡ Err e → code.may_want found ≡ true }
-{
-    match found {
-        Some(verb) => of_verb(alloc, verb),
-        None => Ok(Line::Refused(Why::Verb)),
     }
 }
 
@@ -110,14 +111,13 @@ fn verb_of(found: Result<Verb, VerbError>) -> Result<Option<Verb>, AllocError>
 /// What a line asks for.
 pub fn read_line(alloc: Global, bytes: &[u8]) -> Result<Line, AllocError>
     requires { length bytes.now ≤ LONGEST_LINE }
-    ensures line { ReadsLine result (spec.line_of bytes.now) }
-    // What asks for nothing takes no memory.
-    ensures told { (e : AllocError) → result ≡ Err e →
-        words.is_quiet (words.trimmed_start bytes.now) ≡ false }
+    ensures { ReadsLine result (spec.line_of bytes.now) }
 {
     if is_quiet(trimmed_start(bytes)) {
         return Ok(Line::Quiet);
     }
-    let found = verb_of(read_verb(alloc, bytes))?;
-    of_form(alloc, found)
+    match verb_of(read_verb(alloc, bytes))? {
+        Some(verb) => of_verb(alloc, verb),
+        None => Ok(Line::Refused(Why::Verb)),
+    }
 }

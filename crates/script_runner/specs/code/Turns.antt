@@ -7,8 +7,6 @@ use Rattle.dio_core.specs.Told.{WhereTold}
 use Rattle.dio_core.specs.Counts.{Rose}
 use Rattle.dio_core.specs.Lines.{lines, BreaksOff}
 use Rattle.dio_core.specs.Sinks.{with_more, TakesPrefix, IsPassedOn}
-use Rattle.dio_core.specs.Sources.{IsAhead}
-use Rattle.dio_core.specs.declared.line.TheConstants.{NEWLINE}
 use Rattle.rdt_types.specs.declared.settings.Settings.{Settings}
 use Rattle.txn_grammar.specs.Characters.{Text}
 use Rattle.script_runner.specs.declared.status.TheConstants.{WHOLE, READ_FAULT, WRITE_FAULT, NO_MEMORY, TOO_MANY_LINES}
@@ -48,10 +46,6 @@ StopsReading stop.NoMemory left left_then = BreaksOff left left_then
 StopsReading (stop.Cause cause.ReadFault) left left_then = BreaksOff left left_then
 StopsReading (stop.Cause cause.WriteFault) left left_then = ⊥
 StopsReading (stop.Cause cause.TooManyLines) left left_then = ⊥
-
--- nobody waits for what was taken: a whole line is ahead, which is answered first, or it was passed on
-abbrev pub NobodyWaits : Option Text → Option Text → Option Text → Type 0
-NobodyWaits left taken passed = IsAhead NEWLINE left ⊎ IsPassedOn taken passed
 
 -- ---- one line
 

@@ -1,25 +1,20 @@
 -- What the readers of lines answer, want of memory aside. The clauses of `read_line` and `read_body` tie what they read to the rules:
 -- `line_of` of specs/Lines and `body_of` of specs/Bodies. What comes to want of memory is told in steps of their own, each exact.
-use Rattle.std.specs.Prelude.{◌≡◌, Bool, true, false, Option, Some, None, Result, Ok, Err, alloc_error, refl}
+use Rattle.std.specs.Prelude.{◌≡◌, Option, Some, None, Result, Ok, Err, alloc_error, refl}
 use Rattle.std.specs.declared.alloc.AllocError.{AllocError}
 use Rattle.plain_data.specs.declared.or_no_memory.OrNoMemory.{OrNoMemory}
 use Rattle.plain_data.specs.declared.or_no_memory.OrNoMemory.TheVariants.{Cause, NoMemory}
 use Rattle.session_text.specs.declared.reply.Why.{Why}
 use Rattle.session_text.specs.declared.reply.Why.TheVariants as why
 use Rattle.session_text.specs.declared.verb.Verb.{Verb}
-use Rattle.session_text.specs.declared.verb.Verb.TheVariants as of_line
 use Rattle.session_text.specs.declared.verb.VerbError.{VerbError}
 use Rattle.session_text.specs.declared.verb.VerbError.TheVariants as verb
-use Rattle.txn_grammar.specs.Characters.{Text}
 use Rattle.txn_parse.specs.declared.whole.ParseError.{ParseError}
 use Rattle.txn_parse.specs.declared.whole.ParseError.TheVariants as parse
 use Rattle.txn_lang.specs.declared.checking.CheckError.{CheckError}
 use Rattle.txn_lang.specs.declared.checking.CheckError.TheVariants as check
 use Rattle.txn_lang.specs.declared.checked.Checked.{Checked}
 use Rattle.session_core.specs.declared.line.Line.{Line}
-use Rattle.session_core.specs.declared.line.Line.TheVariants as asks
-use Rattle.session_core.specs.declared.reading.Form.{Form}
-use Rattle.session_core.specs.declared.reading.Form.TheVariants as form
 use Rattle.session_core.specs.Holding.{BodyIsReady}
 
 -- ---- want of memory, and other faults
@@ -64,36 +59,6 @@ bad-verb-is-told : verb_of (Err verb.BadVerb) ≡ Ok None
 bad-verb-is-told = refl
 
 -- ---- what is read
-
--- what a form asks for with a body
-abbrev pub with_body : Form → Checked → Line
-with_body form.Begin = asks.Begin
-with_body (form.Try tries) = asks.Try tries
-with_body form.Look = asks.Look
-with_body (form.At number) = asks.At number
-with_body (form.Watch name) = asks.Watch name
-
--- whether a verb has a body, for which memory is taken
-abbrev pub has_body : Verb → Bool
-has_body (of_line.Begin text) = true
-has_body (of_line.Do text) = true
-has_body (of_line.Try tries text) = true
-has_body (of_line.Look text) = true
-has_body (of_line.At number text) = true
-has_body (of_line.Watch name text) = true
-has_body v = false
-
--- whether memory is taken for what a verb asks for, if there is one
-abbrev pub may_want : Option Verb → Bool
-may_want None = false
-may_want (Some v) = has_body v
-
--- `sync` has no body, and `do` has one
-sync-has-none : has_body of_line.Sync ≡ false
-sync-has-none = refl
-
-do-has-one : (text : Text) → has_body (of_line.Do text) ≡ true
-do-has-one text = refl
 
 -- the body is the one that is read, or it is refused for this reason, unless memory ran out
 abbrev pub ReadsBody : Result Checked (OrNoMemory Why) → Result Checked Why → Type 0

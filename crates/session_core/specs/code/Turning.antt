@@ -10,8 +10,7 @@ use Rattle.txn_lang.specs.declared.run.Run.{Run}
 use Rattle.docc_prepare.specs.declared.attempt.Attempt.{Attempt}
 use Rattle.docc_prepare.specs.declared.attempt.Next.TheVariants as next
 use Rattle.docc_prepare.specs.Attempts.{SnapList, next_event}
-use Rattle.docc_prepare.specs.Calls.{Known, Call, Answer}
-use Rattle.docc_prepare.specs.Backends.{Goes}
+use Rattle.docc_prepare.specs.Calls.{Answer}
 use Rattle.session_core.specs.declared.moved.Moved.{Moved}
 use Rattle.session_core.specs.declared.moved.Moved.TheVariants as moved
 use Rattle.session_core.specs.declared.error.SessionError.{SessionError}
@@ -43,22 +42,6 @@ moved_on_prepare shard a (Err e) = Err e
 abbrev pub moved_on_append : Attempt → Result Reply SessionError → Result Moved SessionError
 moved_on_append a (Ok r) = Ok (moved.End a r)
 moved_on_append a (Err e) = Err e
-
--- ---- refusals that aren't told as want of memory
-
--- the answer is no refusal
-abbrev pub IsNoRefusal : Answer → Type 0
-IsNoRefusal (Answer.late base horizon) = ⊥
-IsNoRefusal (Answer.clash w) = ⊥
-IsNoRefusal answer = Unit {0}
-
--- the call was answered, and not by a refusal
-pub record IsUnrefused {B : Type 0} (known : B → Known) (goes : B → Call → Answer → B → Type 0) (old : B) (call : Call) (new : B) : Type 0 where
-  pub answer : Answer
-  pub step : Goes known goes old call answer new
-  pub unrefused : IsNoRefusal answer
-
--- ---- the end of an attempt
 
 -- the next event is an append of a run with this outcome
 pub record Appends (a : Attempt) (outcome : Outcome) : Type 0 where

@@ -43,14 +43,14 @@ returns-in_err-line-clause-accounted g c =
 pub returns-clause-plays : goal.returns-clause-plays
 returns-clause-plays g c =
     plays_of _ _ _ _ _ _ c.act.result
-    (does_of _ _ _ _ _ c.act.result (ap (line_over (g.B.Backend.known c.args.backend.now) c.args.session.now) c.in_ok-line.ensures.line.line_is) c.act.ensures.plays)
+    (does_of _ _ _ _ _ c.act.result (ap (line_over (g.B.Backend.known c.args.backend.now) c.args.session.now) c.in_ok-line.ensures.line_is) c.act.ensures.plays)
 
 pub returns-clause-attends : goal.returns-clause-attends
 returns-clause-attends g c =
-    line_attends _ _ _ _ c.args.session.now c.act.new.session c.in_ok-line.line c.requires.attends c.in_ok-line.ensures.line.ready c.act.result c.act.ensures.plays
+    line_attends _ _ _ _ c.args.session.now c.act.new.session c.in_ok-line.line c.requires.attends c.in_ok-line.ensures.ready c.act.result c.act.ensures.plays
 
 pub returns-clause-accounted : goal.returns-clause-accounted
 returns-clause-accounted g c =
     line_accounted _ _ _ _ c.args.session.now c.act.new.session (line_of c.args.bytes.now) c.requires.attends (line-ready c.args.bytes.now c.requires.short)
     c.act.result
-    (does_of _ _ _ _ _ c.act.result (ap (line_over (g.B.Backend.known c.args.backend.now) c.args.session.now) c.in_ok-line.ensures.line.line_is) c.act.ensures.plays)
+    (does_of _ _ _ _ _ c.act.result (ap (line_over (g.B.Backend.known c.args.backend.now) c.args.session.now) c.in_ok-line.ensures.line_is) c.act.ensures.plays)

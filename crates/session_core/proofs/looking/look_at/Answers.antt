@@ -41,7 +41,7 @@ returns-in_err-reply-in-Need-clause-plays g c =
     fails _ c.from_residual-in_err-reply-in-Need.result c.from_residual-in_err-reply-in-Need.ensures.1
     (stops_behind (to_same round c.loop.invariant.plays)
     (valued_short c.args.number c.loop.snaps c.valued.new.snaps c.in-Need.address (value_answered c.read_at-answer.result) _
-    c.read_at-answer.ensures.goes c.in_err-reply-in-Need.ensures.valued))
+    c.read_at-answer.ensures.goes c.in_err-reply-in-Need.ensures))
 
 pub returns-in-Some-clause-plays : goal.returns-in-Some-clause-plays
 returns-in-Some-clause-plays g c =
@@ -50,7 +50,7 @@ returns-in-Some-clause-plays g c =
     let late = valued_late (look_in (events - (c.loop.counter + 1)) c.args.number c.args.body.now) c.args.number c.loop.snaps c.in-Need.address
     (value_answered c.read_at-answer.result) c.valued.new.snaps c.in-Some.reply
     (subst (λ (o : Option Reply). Valued c.loop.snaps c.in-Need.address c.args.number (value_answered c.read_at-answer.result)
-    (Ok o) c.valued.new.snaps) c.in-Some.is c.in_ok-reply-in-Need.ensures.valued) in
+    (Ok o) c.valued.new.snaps) c.in-Some.is c.in_ok-reply-in-Need.ensures) in
     and_then (to_same round c.loop.invariant.plays)
     (one_call (value_answered c.read_at-answer.result) c.read_at-answer.ensures.goes late.succeeds late.is)
 
@@ -61,14 +61,14 @@ loop-preserved g c =
     let more = valued_more (look_in (events - (c.loop.counter + 1)) c.args.number c.args.body.now) c.args.number c.loop.snaps c.in-Need.address
     (value_answered c.read_at-answer.result) c.valued.new.snaps
     (subst (λ (o : Option Reply). Valued c.loop.snaps c.in-Need.address c.args.number (value_answered c.read_at-answer.result)
-    (Ok o) c.valued.new.snaps) (none_else _ c.in_default.not-Some) c.in_ok-reply-in-Need.ensures.valued) in record {
+    (Ok o) c.valued.new.snaps) (none_else _ c.in_default.not-Some) c.in_ok-reply-in-Need.ensures) in record {
       plays = and_then (to_same round c.loop.invariant.plays)
           (one_call (value_answered c.read_at-answer.result) c.read_at-answer.ensures.goes more.succeeds more.is);
       seen = let up = c.read_at-answer.ensures.goes.answered.goes_on.seen in let s = c.loop.invariant.seen in omega arith;
       paused = valued_pauses c.args.body.now c.args.number c.loop.snaps c.in-Need.address (value_answered c.read_at-answer.result) c.valued.new.snaps
           c.go_on.new.pause (sym c.in_ok-run.ensures.ran ∙ ap ran_of c.in-Need.is)
           (subst (λ (o : Option Reply). Valued c.loop.snaps c.in-Need.address c.args.number (value_answered c.read_at-answer.result)
-          (Ok o) c.valued.new.snaps) (none_else _ c.in_default.not-Some) c.in_ok-reply-in-Need.ensures.valued) c.in_ok-run.ensures.paused;
+          (Ok o) c.valued.new.snaps) (none_else _ c.in_default.not-Some) c.in_ok-reply-in-Need.ensures) c.in_ok-run.ensures.paused;
       home = c.read_at-answer.ensures.home ∙ c.loop.invariant.home;
     }
 
