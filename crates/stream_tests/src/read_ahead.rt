@@ -74,6 +74,27 @@ fn the_lines_of_a_session_are_the_same_in_pieces_of_any_size(rt: HostRuntime) {
     }
 }
 
+/// Whether moves go as they should, with this held in the middle, and that at the end.
+fn hold(
+    alloc: Global,
+    link: Result<BufferedLink<MemLink>, AllocError>,
+    first: &[Move],
+    middle: &[u8],
+    second: &[Move],
+    end: &[u8],
+) -> bool {
+    match link {
+        Ok(mut link) => {
+            link.held().is_empty()
+                && all_go(alloc, &mut link, first)
+                && link.held() == middle
+                && all_go(alloc, &mut link, second)
+                && link.held() == end
+        }
+        Err(_) => false,
+    }
+}
+
 /// A link, the moves that are made with it, and what it holds between two lists of them and at the end.
 struct Row {
     bytes: &'static [u8],
@@ -157,21 +178,10 @@ fn rows() -> &'static [Row] {
     &ROWS
 }
 
-/// Whether a row's moves go as they should with its link.
-fn go_so(alloc: Global, link: &mut BufferedLink<MemLink>, row: &Row) -> bool {
-    link.held().is_empty()
-        && all_go(alloc, link, row.first)
-        && link.held() == row.middle
-        && all_go(alloc, link, row.second)
-        && link.held() == row.end
-}
-
 /// Whether a row goes as it should.
 fn holds(alloc: Global, row: &Row) -> bool {
-    match ahead(alloc, row.bytes, row.piece.max(1), row.reads, &[]) {
-        Ok(mut link) => go_so(alloc, &mut link, row),
-        Err(_) => false,
-    }
+    let link = ahead(alloc, row.bytes, row.piece.max(1), row.reads, &[]);
+    hold(alloc, link, row.first, row.middle, row.second, row.end)
 }
 
 #[test]
