@@ -159,5 +159,6 @@ pub(crate) fn validate_in<L: Ledger>(
         → OnErr result (WantsWitness journal shard.now based.now) }
 {
     let mut steps = Steps::<L>::new(blank);
-    front_told(shard.validate(based, &mut steps))
+    let found = shard.validate(based, &mut steps);
+    front_told(found)
 }

@@ -15,10 +15,10 @@ returns-clause-answer g c = λ journal legal holds.
       numbered = holds.readable.numbered;
       kinds = each-take (λ (commit : Commit). AreOfTheirKinds commit.deltas) c.args.shard.now.front journal (legal_is_orderly journal legal).kinds;
     })
-    c.requires.kinds c.validate.result (c.validate.ensures.answers (take c.args.shard.now.front journal) holds))
+    c.requires.kinds c.validate-found.result (c.validate-found.ensures.answers (take c.args.shard.now.front journal) holds))
 
 pub returns-clause-err : goal.returns-clause-err
 returns-clause-err g c = λ journal holds.
     subst (λ t. OnErr t (WantsWitness journal c.args.shard.now c.args.based.now)) (sym c.front_told.ensures)
-    (as-wanted (take c.args.shard.now.front journal) c.args.shard.now c.args.based.now c.validate.result
-    (c.validate.ensures.answers (take c.args.shard.now.front journal) holds))
+    (as-wanted (take c.args.shard.now.front journal) c.args.shard.now c.args.based.now c.validate-found.result
+    (c.validate-found.ensures.answers (take c.args.shard.now.front journal) holds))
