@@ -14,29 +14,39 @@ ghost use Rattle.script_runner.specs.Worlds.{world_of, Stands};
 use crate::replies::{push_line, push_refused, push_turn};
 use crate::words::{after_word, client_named, first_word, is_follow, shard_named};
 use crate::world::Script;
+use client_watches::Means;
 use dio_core::{LONGEST_LINE, Line};
 use local_world::{View, World};
 use plain_data::Text;
 use session_core::{Session, Turn, is_quiet, trimmed_start};
 use session_text::{Reply, Why};
-use std::alloc::{AllocError, Global};
+use std::alloc::AllocError;
 use watch_reruns::Rerunner;
+
+/// What a client says in a line.
+#[derive(Clone, Copy)]
+struct Spoken<'t> {
+    client: u32,
+    /// What follows the client's number.
+    text: &'t [u8],
+}
 
 /// Does a line of a session over its client's view. The store of one thread never fails, so an error is want of memory.
 fn over_view<R: Rerunner>(
-    alloc: Global,
-    reruns: &R,
+    means: &Means<'_, R>,
     view: &mut View<'_>,
     session: &mut Session,
     text: &[u8],
 ) -> Result<Turn, AllocError>
-    requires attends { Attends (known_by (store_of view.old.world.now) view.old.client) session.old }
+    requires attends { Attends (known_by (store_of view.old.world.now) view.old.client)
+        session.old }
     requires short { length text.now ≤ LONGEST_LINE }
     ensures over { IsOver result (store_of view.new.world.now) session.new
-        (spec.play_line view.old.client (store_of view.old.world.now) session.old (line_of text.now)) }
+        (spec.play_line view.old.client (store_of view.old.world.now) session.old
+        (line_of text.now)) }
     ensures home { view.new.world.ghost_name ≡ view.old.world.ghost_name }
 {
-    match session.line_by(alloc, view, reruns, text) {
+    match session.line_by(means.alloc, view, means.reruns, text) {
         Ok(turn) => Ok(turn),
         Err(_) => Err(AllocError),
     }
@@ -44,26 +54,27 @@ fn over_view<R: Rerunner>(
 
 /// Does a line of a client's session.
 fn in_world<R: Rerunner>(
-    alloc: Global,
-    reruns: &R,
+    means: &Means<'_, R>,
     world: &mut World,
-    client: u32,
     session: &mut Session,
-    text: &[u8],
+    spoken: Spoken<'_>,
 ) -> Result<Turn, AllocError>
-    requires client { client < CLIENTS }
-    requires attends { Attends (known_by (store_of world.old) client) session.old }
-    requires short { length text.now ≤ LONGEST_LINE }
+    requires client { spoken.client < CLIENTS }
+    requires attends { Attends (known_by (store_of world.old) spoken.client) session.old }
+    requires short { length spoken.text.now ≤ LONGEST_LINE }
     ensures over { IsOver result (store_of world.new) session.new
-        (spec.play_line client (store_of world.old) session.old (line_of text.now)) }
+        (spec.play_line spoken.entry.client (store_of world.old) session.old
+        (line_of spoken.entry.text.now)) }
 {
+    let Spoken { client, text } = spoken;
     let mut view = View { world, client };
-    over_view(alloc, reruns, &mut view, session, text)
+    over_view(means, &mut view, session, text)
 }
 
 /// Whether a turn ends its session.
 fn is_end(turn: &Turn) -> bool
-    ensures { (session : Session) → spec.left session turn.now ≡ (if result then None else Some session) }
+    ensures { (session : Session) →
+        spec.left session turn.now ≡ (if result then None else Some session) }
 {
     matches!(turn, Turn::Ended(_))
 }
@@ -77,7 +88,8 @@ fn follow_line(
 ) -> Result<(), AllocError>
     requires client { client < CLIENTS }
     requires below { IfSome shard (λ k. k < world.old.shards) }
-    ensures { (session : Session) → Does result output.old output.new (store_of world.new) (Some session)
+    ensures { (session : Session) →
+        Does result output.old output.new (store_of world.new) (Some session)
         (spec.follow_line client (store_of world.old) session shard) }
 {
     match shard {
@@ -91,20 +103,20 @@ fn follow_line(
 
 /// What follows a client, whose session stands at the place.
 fn client_line<R: Rerunner>(
-    alloc: Global,
-    reruns: &R,
+    means: &Means<'_, R>,
     world: &mut World,
-    client: u32,
     place: &mut Option<Session>,
-    text: &[u8],
+    spoken: Spoken<'_>,
     output: &mut Text,
 ) -> Result<(), AllocError>
-    requires client { client < CLIENTS }
-    requires attends { IfSome place.old (Attends (known_by (store_of world.old) client)) }
-    requires short { length text.now ≤ LONGEST_LINE }
+    requires client { spoken.client < CLIENTS }
+    requires attends { IfSome place.old (Attends (known_by (store_of world.old) spoken.client)) }
+    requires short { length spoken.text.now ≤ LONGEST_LINE }
     ensures { Does result output.old output.new (store_of world.new) place.new
-        (spec.client_line client (store_of world.old) place.old text.now) }
+        (spec.client_line spoken.entry.client (store_of world.old) place.old
+        spoken.entry.text.now) }
 {
+    let Spoken { client, text } = spoken;
     let Some(session) = place else {
         return push_refused(output, None, Why::Client);
     };
@@ -112,7 +124,7 @@ fn client_line<R: Rerunner>(
         let shard = shard_named(world.shards(), after_word(text));
         return follow_line(world, client, shard, output);
     }
-    let turn = in_world(alloc, reruns, world, client, session, text)?;
+    let turn = in_world(means, world, session, spoken)?;
     if is_end(&turn) {
         *place = None;
     }
@@ -121,8 +133,7 @@ fn client_line<R: Rerunner>(
 
 /// What follows the first word of a line, which names a client or none.
 fn named_line<R: Rerunner>(
-    alloc: Global,
-    reruns: &R,
+    means: &Means<'_, R>,
     script: &mut Script,
     client: Option<u32>,
     text: &[u8],
@@ -131,20 +142,14 @@ fn named_line<R: Rerunner>(
     requires client { IfSome client (λ n. n < CLIENTS) }
     requires stands { Stands (world_of script.old) }
     requires short { length text.now ≤ LONGEST_LINE }
-    ensures { Answers result output.old output.new (world_of script.new) (spec.named_line (world_of script.old) client text.now) }
+    ensures { Answers result output.old output.new (world_of script.new)
+        (spec.named_line (world_of script.old) client text.now) }
 {
     match client {
         Some(client) => {
             let place = &mut script.sessions[client as usize];
-            client_line(
-                alloc,
-                reruns,
-                &mut script.world,
-                client,
-                place,
-                text,
-                output,
-            )
+            let spoken = Spoken { client, text };
+            client_line(means, &mut script.world, place, spoken, output)
         }
         None => push_refused(output, None, Why::Client),
     }
@@ -152,44 +157,38 @@ fn named_line<R: Rerunner>(
 
 /// A line without the blanks at its beginning.
 fn text_line<R: Rerunner>(
-    alloc: Global,
-    reruns: &R,
+    means: &Means<'_, R>,
     script: &mut Script,
     text: &[u8],
     output: &mut Text,
 ) -> Result<(), AllocError>
     requires stands { Stands (world_of script.old) }
     requires short { length text.now ≤ LONGEST_LINE }
-    ensures { Answers result output.old output.new (world_of script.new) (spec.text_line (world_of script.old) text.now) }
+    ensures { Answers result output.old output.new (world_of script.new)
+        (spec.text_line (world_of script.old) text.now) }
 {
     if is_quiet(text) {
         return Ok(());
     }
     let client = client_named(first_word(text));
-    named_line(alloc, reruns, script, client, after_word(text), output)
+    named_line(means, script, client, after_word(text), output)
 }
 
-/// Does a line, and adds the bytes of its reply to the output. Who makes reruns of watches is given. After want of memory the script is of no use.
+/// Does a line, and adds the bytes of its reply to the output. After want of memory the script is of no use.
 pub fn answer<R: Rerunner>(
-    alloc: Global,
-    reruns: &R,
+    means: &Means<'_, R>,
     script: &mut Script,
     line: &Line,
     output: &mut Text,
 ) -> Result<(), AllocError>
     requires stands { Stands (world_of script.old) }
     requires short { IsShort line.now }
-    ensures answers { Answers result output.old output.new (world_of script.new) (spec.answer (world_of script.old) line.now) }
+    ensures answers { Answers result output.old output.new (world_of script.new)
+        (spec.answer (world_of script.old) line.now) }
     ensures stands { OnOk result (Stands (world_of script.new)) }
 {
     match line {
-        Line::Bytes(bytes) => text_line(
-            alloc,
-            reruns,
-            script,
-            trimmed_start(bytes.as_slice()),
-            output,
-        ),
+        Line::Bytes(bytes) => text_line(means, script, trimmed_start(bytes.as_slice()), output),
         Line::TooLong => push_refused(output, None, Why::Long),
         Line::End => Ok(()),
     }

@@ -22,7 +22,8 @@ fn push_named(text: &mut Text, client: Option<u32>) -> Result<(), AllocError>
 
 /// Adds the line of one reply.
 pub fn push_line(lines: &mut Text, client: Option<u32>, reply: &Reply) -> Result<(), AllocError>
-    ensures { OnOk result (lines.new ≡ lines.old ++ spec.reply_line client (printed_reply reply.now)) }
+    ensures { OnOk result
+        (lines.new ≡ lines.old ++ spec.reply_line client (printed_reply reply.now)) }
 {
     push_named(lines, client)?;
     lines.push(b' ')?;

@@ -9,12 +9,13 @@ ghost use Rattle.dio_core.specs.Sources.{IsAhead};
 ghost use Rattle.plain_data.specs.declared.or_no_memory.OrNoMemory.TheVariants as stop;
 ghost use Rattle.script_runner.specs.Worlds.{world_of, Stands};
 ghost use Rattle.script_runner.specs.Script.{reading, writing, TriesFlush, KeepsPromises, HasCommits};
-ghost use Rattle.script_runner.specs.code.Turns.{moment, read_stopped, write_stopped, StopsReading, Turns, Ran, StopsBetween, Closes};
+ghost use Rattle.script_runner.specs.code.Turns.{moment, CountsReads, CountsWrites, StopsReading, Turns, Ran, StopsBetween, Closes};
 
 use crate::lines::answer;
 use crate::status::{NO_MEMORY, READ_FAULT, TOO_MANY_LINES, WHOLE, WRITE_FAULT};
 use crate::stop::{Cause, MOST_LINES, Stop};
 use crate::world::{Script, commits_in};
+use client_watches::Means;
 use dio_core::{Line, LineFault, NEWLINE, Sink, Source, next_line, write_all};
 use plain_data::{OrNoMemory, Text};
 use rdt_types::Settings;
@@ -26,8 +27,9 @@ use watch_reruns::{One, Rerunner};
 fn read_line<S: Source>(alloc: Global, source: &mut S) -> Result<Line, Stop>
     ensures line { IfOk result (λ line. TakesLine line (S.left source.old) (S.left source.new)) }
     ensures short { IfOk result IsShort }
-    ensures stops { IfErr result (λ stop. StopsReading stop (S.left source.old) (S.left source.new)) }
-    ensures reads { IsCounted (read_stopped result) (S.read_faults source.old) (S.read_faults source.new) }
+    ensures stops { IfErr result
+        (λ stop. StopsReading stop (S.left source.old) (S.left source.new)) }
+    ensures reads { CountsReads result (S.read_faults source.old) (S.read_faults source.new) }
 {
     match next_line(alloc, source) {
         Ok(line) => Ok(line),
@@ -39,7 +41,8 @@ fn read_line<S: Source>(alloc: Global, source: &mut S) -> Result<Line, Stop>
 /// Passes on what was written, unless the next line is ahead already: until that is answered nobody waits. `false` is a
 /// fault of the sink.
 fn pass_on<S: Source, W: Sink>(source: &S, sink: &mut W) -> bool
-    ensures passed { OnTrue result (IsAhead NEWLINE (S.left source.now) ⊎ IsPassedOn (W.taken sink.new) (W.passed sink.new)) }
+    ensures passed { OnTrue result
+        (IsAhead NEWLINE (S.left source.now) ⊎ IsPassedOn (W.taken sink.new) (W.passed sink.new)) }
     ensures taken { W.taken sink.new ≡ W.taken sink.old }
     ensures writes { IsCounted (not result) (W.write_faults sink.old) (W.write_faults sink.new) }
 {
@@ -48,29 +51,30 @@ fn pass_on<S: Source, W: Sink>(source: &S, sink: &mut W) -> bool
 
 /// Reads, does and answers one line. `false` says that there was none. The reply is made in memory that all lines share.
 fn turn<S: Source, W: Sink, R: Rerunner>(
-    alloc: Global,
-    reruns: &R,
+    means: &Means<'_, R>,
     script: &mut Script,
     reply: &mut Text,
     source: &mut S,
     sink: &mut W,
 ) -> Result<bool, Stop>
     requires { Stands (world_of script.old) }
-    ensures turns { Turns result (moment (world_of script.old) (S.left source.old) (W.taken sink.old))
+    ensures turns { Turns result
+        (moment (world_of script.old) (S.left source.old) (W.taken sink.old))
         (moment (world_of script.new) (S.left source.new) (W.taken sink.new)) }
     ensures stands { OnOk result (Stands (world_of script.new)) }
-    ensures passed { result ≡ Ok true → IsAhead NEWLINE (S.left source.new) ⊎ IsPassedOn (W.taken sink.new) (W.passed sink.new) }
+    ensures passed { result ≡ Ok true →
+        IsAhead NEWLINE (S.left source.new) ⊎ IsPassedOn (W.taken sink.new) (W.passed sink.new) }
     ensures idle { result ≡ Ok false → world_of script.new ≡ world_of script.old }
     ensures wanting { result ≡ Err stop.NoMemory → sink.new ≡ sink.old }
-    ensures reads { IsCounted (read_stopped result) (S.read_faults source.old) (S.read_faults source.new) }
-    ensures writes { IsCounted (write_stopped result) (W.write_faults sink.old) (W.write_faults sink.new) }
+    ensures reads { CountsReads result (S.read_faults source.old) (S.read_faults source.new) }
+    ensures writes { CountsWrites result (W.write_faults sink.old) (W.write_faults sink.new) }
 {
-    let line = match read_line(alloc, source)? {
+    let line = match read_line(means.alloc, source)? {
         Line::End => return Ok(false),
         line => line,
     };
     reply.truncate(0);
-    answer(alloc, reruns, script, &line, reply)?;
+    answer(means, script, &line, reply)?;
     if write_all(sink, reply.as_slice()) && pass_on(source, sink) {
         Ok(true)
     } else {
@@ -80,26 +84,28 @@ fn turn<S: Source, W: Sink, R: Rerunner>(
 
 /// Reads, does and answers the lines of the source to its end. It answers how many commits there are then.
 fn run_lines<S: Source, W: Sink, R: Rerunner>(
-    alloc: Global,
-    reruns: &R,
+    means: &Means<'_, R>,
     settings: &Settings,
     source: &mut S,
     sink: &mut W,
 ) -> Result<Option<u64>, Stop>
-    ensures ran { Ran settings.now result (S.left source.old) (W.taken sink.old) (S.left source.new) (W.taken sink.new) }
-    ensures between { StopsBetween settings.now result (S.left source.old) (writing W.Sink sink.old sink.new) }
-    ensures commits { IfOk result (λ number. IfSome (S.left source.old) (HasCommits settings.now number)) }
-    ensures reads { IsCounted (read_stopped result) (S.read_faults source.old) (S.read_faults source.new) }
-    ensures writes { IsCounted (write_stopped result) (W.write_faults sink.old) (W.write_faults sink.new) }
+    ensures ran { Ran settings.now result (S.left source.old) (W.taken sink.old)
+        (S.left source.new) (W.taken sink.new) }
+    ensures between { StopsBetween settings.now result (S.left source.old)
+        (writing W.Sink sink.old sink.new) }
+    ensures commits { IfOk result
+        (λ number. IfSome (S.left source.old) (HasCommits settings.now number)) }
+    ensures reads { CountsReads result (S.read_faults source.old) (S.read_faults source.new) }
+    ensures writes { CountsWrites result (W.write_faults sink.old) (W.write_faults sink.new) }
 {
-    let mut script = Script::new(alloc, settings)?;
-    let mut reply = Text::new(alloc);
+    let mut script = Script::new(means.alloc, settings)?;
+    let mut reply = Text::new(means.alloc);
     for _ in 0..MOST_LINES {
-        if !turn(alloc, reruns, &mut script, &mut reply, source, sink)? {
+        if !turn(means, &mut script, &mut reply, source, sink)? {
             return Ok(commits_of(script));
         }
     }
-    match read_line(alloc, source)? {
+    match read_line(means.alloc, source)? {
         Line::End => Ok(commits_of(script)),
         _ => Err(OrNoMemory::Cause(Cause::TooManyLines)),
     }
@@ -159,7 +165,7 @@ pub fn run_counted<S: Source, W: Sink, R: Rerunner>(
         (writing W.Sink sink.old sink.new) }
     ensures commits { IfSome (S.left source.old) (HasCommits settings.now result.1) }
 {
-    let ended = run_lines(alloc, reruns, settings, source, sink);
+    let ended = run_lines(&Means { alloc, reruns }, settings, source, sink);
     let commits = ended.unwrap_or(None);
     (close(sink, ended), commits)
 }

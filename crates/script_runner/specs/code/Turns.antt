@@ -4,7 +4,7 @@ use Rattle.std.specs.Prelude.{◌≡◌, ℕ, ◌⊎◌, Bool, true, false, List
 use Rattle.plain_data.specs.declared.or_no_memory.OrNoMemory.{OrNoMemory}
 use Rattle.plain_data.specs.declared.or_no_memory.OrNoMemory.TheVariants as stop
 use Rattle.dio_core.specs.Told.{WhereTold}
-use Rattle.dio_core.specs.Counts.{Rose}
+use Rattle.dio_core.specs.Counts.{Rose, IsCounted}
 use Rattle.dio_core.specs.Lines.{lines, BreaksOff}
 use Rattle.dio_core.specs.Sinks.{with_more, TakesPrefix, IsPassedOn}
 use Rattle.rdt_types.specs.declared.settings.Settings.{Settings}
@@ -39,6 +39,14 @@ write_stopped (Err stop.NoMemory) = false
 write_stopped (Err (stop.Cause cause.ReadFault)) = false
 write_stopped (Err (stop.Cause cause.WriteFault)) = true
 write_stopped (Err (stop.Cause cause.TooManyLines)) = false
+
+-- the source's count of faults rises exactly where the run stops for one
+abbrev pub CountsReads : {A : Type 0} → Result A (OrNoMemory Cause) → ℕ → ℕ → Type 0
+CountsReads result faults faults_then = IsCounted (read_stopped result) faults faults_then
+
+-- and so does the sink's
+abbrev pub CountsWrites : {A : Type 0} → Result A (OrNoMemory Cause) → ℕ → ℕ → Type 0
+CountsWrites result faults faults_then = IsCounted (write_stopped result) faults faults_then
 
 -- a line broke off for want of memory, or for a fault of the source alone
 abbrev pub StopsReading : OrNoMemory Cause → Option Text → Option Text → Type 0
