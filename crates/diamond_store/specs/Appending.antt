@@ -8,11 +8,15 @@ use Rattle.diamond_store.specs.declared.decision.Decision.{Decision}
 use Rattle.diamond_store.specs.Following.{IsSound}
 use Rattle.diamond_store.specs.Numbers.{shards_in, limit_in, from_in}
 use Rattle.diamond_store.specs.Settling.{Settles}
-use Rattle.diamond_store.specs.Books.{denials_after}
+use Rattle.diamond_store.specs.Books.{Booked, denials_after}
 
 -- a commit names its client
 abbrev pub client_of : Commit → ℕ
 client_of commit = commit.client
+
+-- a token that knows all that a book has, and is else as it was
+abbrev pub knowing : Known Commit → Booked → Known Commit
+knowing token book = record token { seen = book.journal.commits; count = book.denials }
 
 -- The token first became a later one that knew the whole journal, and then the journal decided.
 pub record Adds (m : ℕ) (numbers : List ℕ) (old : Known Commit) (ready : Ready) (decision : Decision) (new : Known Commit) : Type 0 where

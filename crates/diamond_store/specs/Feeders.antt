@@ -8,6 +8,8 @@ use Rattle.rdt_types.specs.declared.address.Address.{Address}
 use Rattle.rdt_types.specs.declared.address.Kind.TheVariants as kind
 use Rattle.rdt_types.specs.declared.delta.Delta.TheVariants as delta
 use Rattle.rdt_types.specs.Addresses.{address_cmp}
+use Rattle.rdt_types.specs.DeltaMaps.{Deltas}
+use Rattle.change_feed.specs.declared.change.Change.{Change}
 use Rattle.change_feed.specs.Feeds.{Fed, with_changes}
 use Rattle.txn_lang.specs.States.{Journal}
 use Rattle.journal_core.specs.Changes.{changes, up_to, between, adding}
@@ -87,11 +89,15 @@ LetsGoBehind numbers to old new = old.front + window_in numbers < to → HasNobo
 
 -- ---- what a client is told
 
+-- what some changes come to at some addresses
+abbrev pub told_of : List Address → List Change → Deltas
+told_of addresses changes = with_changes [] (filter (λ change. is_in addresses change.address) changes)
+
 -- What changed at some addresses by a journal's commits past one number and up to another.
 abbrev pub feed_between : Journal → List Address → ℕ → ℕ → Fed
 feed_between journal addresses from to = record {
   to = to;
-  changes = with_changes [] (filter (λ change. is_in addresses change.address) (between from to (changes journal)));
+  changes = told_of addresses (between from to (changes journal));
 }
 
 -- a feed has what changed at some addresses in a span

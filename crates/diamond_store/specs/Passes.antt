@@ -1,5 +1,5 @@
 -- A client's pass, as contracts see it, and what it stands for.
-use Rattle.std.specs.Prelude.{◌≡◌, ◌≤◌, ℕ, Bool, true, List, length, Some, refl}
+use Rattle.std.specs.Prelude.{◌≡◌, ◌≤◌, ℕ, Bool, true, if◌then◌else◌, List, length, Some, refl}
 use Rattle.std.specs.Coded.{Coded, code_by, coded×, coded_list, coded_ℕ}
 use Rattle.std.specs.List.{list_any}
 use Rattle.std.specs.BTreeMap.{is_at}
@@ -15,6 +15,10 @@ use Rattle.diamond_store.specs.Numbers.{HasSettings}
 -- whether an address is among some
 abbrev pub is_in : List Address → Address → Bool
 is_in addresses address = list_any (is_at (address_cmp address)) addresses
+
+-- whether one address is among some is settled, and the others are as before
+abbrev pub SettlesAt : Address → Bool → List Address → List Address → Type 0
+SettlesAt address there old new = (a : Address) → is_in new a ≡ (if is_at (address_cmp address) a then there else is_in old a)
 
 -- a client, the prefix of the one journal that it knows, how much of that it has seen, to what it is subscribed and up to
 -- where it has taken that, and the counts that it knows of

@@ -3,6 +3,7 @@ use Rattle.std.specs.Prelude.{◌≡◌, ℕ, ◌+◌, ◌<◌, ◌≤◌, List,
 use Rattle.std.specs.declared.alloc.AllocError.{AllocError}
 use Rattle.std.specs.List.{AllByRecursion}
 use Rattle.rdt_types.specs.declared.address.Address.{Address}
+use Rattle.rdt_types.specs.Shards.{shard_of}
 use Rattle.rdt_types.specs.declared.value.Value.{Value}
 use Rattle.abort_witness.specs.declared.witness.Based.{Based}
 use Rattle.abort_witness.specs.Kinds.{IsOfOneKind}
@@ -21,8 +22,11 @@ use Rattle.docc_prepare.specs.declared.backend.ReadAtError.TheVariants as read_a
 use Rattle.docc_prepare.specs.Backends.{IsLeastBase}
 use Rattle.docc_prepare.specs.Witnesses.{least_witness}
 use Rattle.local_world.specs.Answering.{WantsWitness}
+use Rattle.diamond_store.specs.declared.replica.Observed.{Observed}
+use Rattle.diamond_store.specs.declared.replica.Spot.{Spot}
 use Rattle.diamond_store.specs.declared.replica.Validation.{Validation}
 use Rattle.diamond_store.specs.Following.{IsSound}
+use Rattle.diamond_store.specs.Numbers.{shards_in, window_in}
 
 -- the value that so many commits of the journal leave, no fewer than were seen
 pub record ReadsFrom (seen : ℕ) (journal : Journal) (address : Address) (snap : Snap) : Type 0 where
@@ -36,6 +40,10 @@ ReadsBack journal window address number (Ok value) = value ≡ state journal num
 ReadsBack journal window address number (Err (read_at_error.Late n horizon)) = (n ≡ number) × (number < horizon) × (horizon + window ≤ length journal)
 ReadsBack journal window address number (Err read_at_error.Fault) = ⊥
 ReadsBack journal window address number (Err read_at_error.NoMemory) = Unit {0}
+
+-- the same at a spot, in the store of these numbers
+abbrev pub ReadsBackAt : List ℕ → Journal → Spot → Result Value ReadAtError → Type 0
+ReadsBackAt numbers journal spot = ReadsBack journal (window_in numbers) spot.address.now spot.number
 
 -- the greatest base, or 0
 abbrev pub greatest_base : List Based → ℕ
@@ -89,3 +97,11 @@ WantsAlong shard based answer =
 pub record IsValidation (journal : Journal) (window shard : ℕ) (based : List Based) (validation : Validation) : Type 0 where
   pub within : validation.front ≤ length journal
   pub finds : Finds journal window shard based validation.front validation.answer
+
+-- what was observed is of the shard's own addresses, in the store of these numbers
+abbrev pub AreThere : List ℕ → Observed → Type 0
+AreThere numbers observed = AllByRecursion (λ b. shard_of b.address (shards_in numbers) ≡ observed.place) observed.based.now
+
+-- the shard of the place found this of what was observed, in the store of these numbers
+abbrev pub IsValidationOf : List ℕ → Journal → Observed → Validation → Type 0
+IsValidationOf numbers journal observed = IsValidation journal (window_in numbers) observed.place observed.based.now

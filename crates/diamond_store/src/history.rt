@@ -6,7 +6,7 @@ ghost use Rattle.plain_data.specs.Histories.{IsLawful};
 ghost use Rattle.history_lock.specs.Entries.{AddsOwn};
 ghost use Rattle.history_lock.specs.Tokens.{IsCurrent, IsLater};
 ghost use Rattle.journal_relay.specs.Relays.{Relays, IsNextOf};
-ghost use Rattle.diamond_store.specs.Appending.{client_of};
+ghost use Rattle.diamond_store.specs.Appending.{client_of, knowing};
 ghost use Rattle.diamond_store.specs.Books.{numbers};
 ghost use Rattle.diamond_store.specs.Following.{Follows};
 ghost use Rattle.diamond_store.specs.Numbers.{window_in, HasSettings};
@@ -253,7 +253,7 @@ fn leave_telling<K: Keep, N: Naming, R: Wait>(
     requires lawful { IsLawful Follows N.lock.base guard.value.value.journal.commits }
     requires count { guard.entered.count ≤ guard.value.value.denials }
     requires origin { numbers guard.value.value ≡ N.lock.origin }
-    ensures left { token.new ≡ record token.old { seen = guard.entry.value.value.journal.commits; count = guard.entry.value.value.denials } }
+    ensures left { token.new ≡ knowing token.old guard.entry.value.value }
 {
     let mut post = relay.lock(rt);
     let more = untold(&guard.value, post.to());
@@ -306,7 +306,7 @@ impl<K: Keep, N: Naming> History<K, N> {
         requires lawful { IsLawful Follows N.lock.base guard.value.value.journal.commits }
         requires count { guard.entered.count ≤ guard.value.value.denials }
         requires origin { numbers guard.value.value ≡ N.lock.origin }
-        ensures left { token.new ≡ record token.old { seen = guard.entry.value.value.journal.commits; count = guard.entry.value.value.denials } }
+        ensures left { token.new ≡ knowing token.old guard.entry.value.value }
     {
         match &self.relay {
             Some(relay) => leave_telling(rt, &self.journal, relay, token, guard),

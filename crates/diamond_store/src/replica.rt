@@ -5,13 +5,12 @@ ghost use Rattle.std.specs.List.{AllByRecursion};
 ghost use Rattle.abort_witness.specs.Kinds.{IsBasedOfOneKind};
 ghost use Rattle.plain_data.specs.Histories.{IsLawful};
 ghost use Rattle.history_lock.specs.Tokens.{IsLater};
-ghost use Rattle.rdt_types.specs.Shards.{shard_of};
 ghost use Rattle.diamond_store.specs.Appending.{client_of};
 ghost use Rattle.diamond_store.specs.Following.{Follows};
-ghost use Rattle.diamond_store.specs.Numbers.{shards_in, window_in, HasSettings};
+ghost use Rattle.diamond_store.specs.Numbers.{shards_in, HasSettings};
 ghost use Rattle.diamond_store.specs.Replicas.{Replicates};
 ghost use Rattle.diamond_store.specs.Reading as reading;
-ghost use Rattle.diamond_store.specs.Reading.{ReadsFrom, ReadsBack, ReadsAlong, FindsAlong, WantsAlong, IsValidation};
+ghost use Rattle.diamond_store.specs.Reading.{ReadsFrom, ReadsBackAt, ReadsAlong, FindsAlong, WantsAlong, AreThere, IsValidationOf};
 ghost use Rattle.txn_lang.specs.States.{Journal};
 ghost use Rattle.local_world.specs.Answering as answering;
 ghost use Rattle.version_shard.specs.Shards.{IsIn, horizon};
@@ -62,6 +61,20 @@ impl<K: Keep, N: Naming> Model for Replica<K, N> {
     ghost view = { λ r. r.post.place };
 
     ghost invariant = { λ r. Replicates N.lock.origin r.post.token.seen r.post.place r.post.shard };
+}
+
+/// An address, and a number of commits.
+#[derive(Clone, Copy)]
+pub(crate) struct Spot<'a> {
+    pub address: &'a Address,
+    pub number: u64,
+}
+
+/// What was observed in the shard of a place.
+#[derive(Clone, Copy)]
+pub(crate) struct Observed<'a> {
+    pub place: u8,
+    pub based: &'a [Based],
 }
 
 /// A shard that has followed nothing.
@@ -205,26 +218,26 @@ impl<K: Keep, N: Naming> Replica<K, N> {
         Ok(())
     }
 
-    /// The value at an address, at the front, which is moved first to what was seen.
+    /// The value at an address, at the front, which is moved first to a number.
     pub(crate) fn read<G: Gate + Drop, R: Wait>(
         &mut self,
         rt: &R,
         store: &Store<K, G, N>,
         token: &mut Front<Book<K>, N>,
-        address: &Address,
-        seen: u64,
+        spot: &Spot<'_>,
     ) -> Result<Snap, AllocError>
-        requires { seen ≤ length token.old.seen }
+        requires { spot.now.number ≤ length token.old.seen }
         ensures later { IsLater client_of token.old token.new }
         ensures lawful { IsLawful Follows N.lock.base token.new.seen }
-        ensures reads { IfOk result (ReadsFrom seen token.new.seen address.now) }
+        ensures reads { IfOk result (ReadsFrom spot.now.number token.new.seen spot.now.address.now) }
     {
         let _known = token.count();
-        let place = shard_of(address, store.settings.shards);
+        let seen = spot.number;
+        let place = shard_of(spot.address, store.settings.shards);
         self.settle(store.alloc, place, &store.settings)?;
         reach(rt, &store.history, &mut self.post, token, seen)?;
         store.gate.at(place);
-        self.post.shard.read(address)
+        self.post.shard.read(spot.address)
     }
 }
 
@@ -261,20 +274,19 @@ impl<K: Keep, N: Naming> Replica<K, N> {
         rt: &R,
         store: &Store<K, G, N>,
         token: &mut Front<Book<K>, N>,
-        address: &Address,
-        number: u64,
+        spot: &Spot<'_>,
     ) -> Result<Result<Value, ReadAtError>, AllocError>
-        requires { number ≤ length token.old.seen }
+        requires { spot.now.number ≤ length token.old.seen }
         ensures later { IsLater client_of token.old token.new }
         ensures lawful { IsLawful Follows N.lock.base token.new.seen }
-        ensures reads { IfOk result (ReadsBack token.new.seen (window_in N.lock.origin) address.now number) }
+        ensures reads { IfOk result (ReadsBackAt N.lock.origin token.new.seen spot.now) }
     {
         let _known = token.count();
-        let place = shard_of(address, store.settings.shards);
+        let place = shard_of(spot.address, store.settings.shards);
         self.settle(store.alloc, place, &store.settings)?;
-        reach(rt, &store.history, &mut self.post, token, number)?;
+        reach(rt, &store.history, &mut self.post, token, spot.number)?;
         store.gate.at(place);
-        value_at(&self.post.shard, address, number)
+        value_at(&self.post.shard, spot.address, spot.number)
     }
 
     /// What the shard of a place finds of observations in it, at a front that isn't below their bases.
@@ -283,18 +295,18 @@ impl<K: Keep, N: Naming> Replica<K, N> {
         rt: &R,
         store: &Store<K, G, N>,
         token: &mut Front<Book<K>, N>,
-        place: u8,
-        based: &[Based],
+        observed: &Observed<'_>,
     ) -> Result<Validation, AllocError>
-        requires place { place < shards_in N.lock.origin }
-        requires within { reading.greatest_base based.now ≤ length token.old.seen }
-        requires here { AllByRecursion (λ b. shard_of b.address (shards_in N.lock.origin) ≡ place) based.now }
-        requires kinds { AllByRecursion IsBasedOfOneKind based.now }
+        requires place { observed.now.place < shards_in N.lock.origin }
+        requires within { reading.greatest_base observed.now.based.now ≤ length token.old.seen }
+        requires here { AreThere N.lock.origin observed.now }
+        requires kinds { AllByRecursion IsBasedOfOneKind observed.now.based.now }
         ensures later { IsLater client_of token.old token.new }
         ensures lawful { IsLawful Follows N.lock.base token.new.seen }
-        ensures validation { IfOk result (IsValidation token.new.seen (window_in N.lock.origin) place based.now) }
+        ensures validation { IfOk result (IsValidationOf N.lock.origin token.new.seen observed.now) }
     {
         let _known = token.count();
+        let (place, based) = (observed.place, observed.based);
         self.settle(store.alloc, place, &store.settings)?;
         let greatest = greatest_base(based);
         reach(rt, &store.history, &mut self.post, token, greatest)?;

@@ -19,7 +19,7 @@ use crate::feeder::{Feeder, Taker};
 use crate::gate::Gate;
 use crate::history::History;
 use crate::pass::Pass;
-use crate::replica::Replica;
+use crate::replica::{Observed, Replica, Spot};
 use crate::telling::{hush, tell};
 use abort_witness::BasedList;
 use change_feed::Feed;
@@ -162,9 +162,15 @@ impl<K: Keep, G: Gate + Drop, N: Naming> Store<K, G, N> {
     {
         let place = shard_of(address, self.settings.shards);
         let seen = pass.seen;
-        let read = self.shards[place as usize]
-            .lock(rt)
-            .read(rt, self, &mut pass.front, address, seen);
+        let read = self.shards[place as usize].lock(rt).read(
+            rt,
+            self,
+            &mut pass.front,
+            &Spot {
+                address,
+                number: seen,
+            },
+        );
         let Ok(snap) = read else {
             return Err(StoreError::NoMemory);
         };
@@ -184,9 +190,15 @@ impl<K: Keep, G: Gate + Drop, N: Naming> Store<K, G, N> {
         ensures { IsAnswered (known_of pass.old) (Call.prepare shard based.now) (front_answered result) (known_of pass.new) }
     {
         let seen = pass.seen;
-        let found = self.shards[shard as usize]
-            .lock(rt)
-            .prepare(rt, self, &mut pass.front, shard, based.as_slice());
+        let found = self.shards[shard as usize].lock(rt).prepare(
+            rt,
+            self,
+            &mut pass.front,
+            &Observed {
+                place: shard,
+                based: based.as_slice(),
+            },
+        );
         let Ok(validation) = found else {
             return Err(PrepareError::NoMemory);
         };
@@ -231,7 +243,7 @@ impl<K: Keep, G: Gate + Drop, N: Naming> Store<K, G, N> {
         let place = shard_of(address, self.settings.shards);
         let read = self.shards[place as usize]
             .lock(rt)
-            .read_at(rt, self, &mut pass.front, address, number);
+            .read_at(rt, self, &mut pass.front, &Spot { address, number });
         let Ok(answer) = read else {
             return Err(ReadAtError::NoMemory);
         };

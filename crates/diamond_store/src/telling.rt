@@ -1,12 +1,10 @@
 //! What a client is told of: the changes at its addresses since it took last.
 
-ghost use Rattle.std.specs.Prelude.{◌≡◌, [], filter, true, false, if◌then◌else◌, IfOk, OnOk, OnErr};
-ghost use Rattle.std.specs.BTreeMap.{is_at};
-ghost use Rattle.rdt_types.specs.declared.address.Address.{Address};
-ghost use Rattle.rdt_types.specs.Addresses.{address_cmp};
+ghost use Rattle.std.specs.Prelude.{◌≡◌, filter, true, false, IfOk, OnOk, OnErr};
 ghost use Rattle.change_feed.specs.Feeds.{with_changes};
 ghost use Rattle.diamond_store.specs.Feeders as feeders;
-ghost use Rattle.diamond_store.specs.Passes.{is_in};
+ghost use Rattle.diamond_store.specs.Feeders.{told_of};
+ghost use Rattle.diamond_store.specs.Passes.{is_in, SettlesAt};
 
 use change_feed::{Change, Feed, Tail};
 use plain_data::copied;
@@ -39,7 +37,7 @@ pub(crate) fn feed_of(
     subscribed: &BTreeSet<Address>,
 ) -> Result<Feed, AllocError>
     ensures to { IfOk result (λ feed. feed.to ≡ tail.now.to) }
-    ensures changes { IfOk result (λ feed. feed.changes ≡ with_changes [] (filter (λ change. is_in subscribed.now.keys change.address) tail.now.changes)) }
+    ensures changes { IfOk result (λ feed. feed.changes ≡ told_of subscribed.now.keys tail.now.changes) }
 {
     let mut feed = Feed::new(alloc, tail.to);
     let mut changes = tail.changes.lend();
@@ -63,7 +61,7 @@ pub(crate) fn is_within(feed: &Feed, addresses: &BTreeSet<Address>) -> bool
 
 /// An address is told.
 pub(crate) fn tell(addresses: &mut BTreeSet<Address>, address: &Address) -> Result<(), AllocError>
-    ensures ok { OnOk result ((a : Address) → is_in addresses.new.keys a ≡ (if is_at (address_cmp address.now) a then true else is_in addresses.old.keys a)) }
+    ensures ok { OnOk result (SettlesAt address.now true addresses.old.keys addresses.new.keys) }
     ensures err { OnErr result (addresses.new.keys ≡ addresses.old.keys) }
 {
     addresses.insert(copied(address)?)?;
@@ -72,7 +70,7 @@ pub(crate) fn tell(addresses: &mut BTreeSet<Address>, address: &Address) -> Resu
 
 /// An address is told no longer.
 pub(crate) fn hush(addresses: &mut BTreeSet<Address>, address: &Address)
-    ensures { (a : Address) → is_in addresses.new.keys a ≡ (if is_at (address_cmp address.now) a then false else is_in addresses.old.keys a) }
+    ensures { SettlesAt address.now false addresses.old.keys addresses.new.keys }
 {
     addresses.remove(address);
 }

@@ -10,7 +10,7 @@ returns-clause-validation g c =
     let journal = c.reach.new.other.seen in
     let shard = c.reach.new.post.shard in
     let told = c.in_ok-reach.ensures.told in
-    let bs = c.args.based.now in
+    let bs = c.args.observed.now.based.now in
     let greatest = c.greatest_base-greatest.ensures in
     let reached = c.in_ok-reach.ensures.reached in
     let found = c.validate-answer.ensures.finds g.N.Naming.lock.base journal
@@ -20,5 +20,5 @@ returns-clause-validation g c =
     (told.number ∙ c.self.view_is ∙ c.in_ok-settle.ensures) windowed in
     record {
       within = subst (λ (n : ℕ). n ≤ length journal) (sym c.front-front.ensures) told.reached;
-      finds = subst (λ (n : ℕ). Finds journal (window_in g.N.Naming.lock.origin) c.args.place bs n c.validate-answer.result) (sym c.front-front.ensures) placed;
+      finds = subst (λ (n : ℕ). Finds journal (window_in g.N.Naming.lock.origin) c.args.observed.now.place bs n c.validate-answer.result) (sym c.front-front.ensures) placed;
     }
