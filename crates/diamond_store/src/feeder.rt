@@ -1,7 +1,7 @@
 //! What stands behind the registry's lock: the registry of subscriptions, and a token that has seen at least the commits that
 //! it has followed.
 
-ghost use Rattle.std.specs.Prelude.{◌≡◌, ◌+◌, ◌≤◌, ◌<◌, length, Some, None, IfOk, OnOk, OnErr};
+ghost use Rattle.std.specs.Prelude.{◌≡◌, ◌≤◌, ◌<◌, length, Some, None, IfOk, OnOk, OnErr};
 ghost use Rattle.std.specs.Bool.{MatchBool};
 ghost use mathlib.Core.List.{IsPrefix};
 ghost use Rattle.plain_data.specs.Histories.{IsLawful};
