@@ -20,7 +20,7 @@ use Rattle.diamond_store.specs.declared.join_error.JoinError.TheVariants as join
 use Rattle.session_core.specs.Explained.{setting_of}
 use Rattle.script_runner.specs.declared.status.TheConstants.{WHOLE}
 use Rattle.diamond_server.specs.Accounts.{Account, Seat, seat_of, given_of, status_in, joined_in, link_in, IsServed, Rises, faults_of}
-use Rattle.diamond_server.specs.Accounts.{Gatherings, gatherings, Accepting, AllServed, AreEnded, IsTold, TellsFault}
+use Rattle.diamond_server.specs.Accounts.{Gatherings, gatherings, Accepting, AllServed, AreEnded, IsTold, FaultIsTold}
 use Rattle.diamond_server.specs.Promises.{TellsStoreFault}
 use Rattle.diamond_server.specs.Ways.{Promising, TellsFaults, having_met}
 use Rattle.diamond_server.specs.code.Settling.{IsNear, IsNearTalk, JoinsNext, Turns, Settling}
@@ -268,7 +268,7 @@ module _ {L : Type 0} where
   few-ended pass low high most g all failed p = let few = p.few in omega (arith, few, length-map all seat_of)
 
   -- what is promised of a link tells a fault of the store
-  fault-told : (Promised : Promising) (told : L → Both) (pass : Passed) → TellsFaults Promised → (a : Account L) → IsServed Promised told pass a → TellsFault a
+  fault-told : (Promised : Promising) (told : L → Both) (pass : Passed) → TellsFaults Promised → (a : Account L) → IsServed Promised told pass a → FaultIsTold a
   fault-told Promised told pass tells a is = by a.talk is
     where
       by : (talk : Result (Passed × Passed) JoinError) → IsTold Promised (having_met pass) (told a.was) (told a.link) a.status talk

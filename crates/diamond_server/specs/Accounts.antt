@@ -91,8 +91,8 @@ abbrev pub IsServed : {L : Type 0} → Promising → (L → Both) → Passed →
 IsServed Promised told other a = IsTold Promised (having_met other) (told a.was) (told a.link) a.status a.talk
 
 -- of a link whose client joined, that a fault of the store is told
-abbrev pub TellsFault : {L : Type 0} → Account L → Type 0
-TellsFault a = IfOk a.talk (λ (t : Passed × Passed). TellsStoreFault (known_of t.0) (known_of t.1) a.status)
+abbrev pub FaultIsTold : {L : Type 0} → Account L → Type 0
+FaultIsTold a = IfOk a.talk (λ (t : Passed × Passed). TellsStoreFault (known_of t.0) (known_of t.1) a.status)
 
 -- ---- parts of accounts
 
@@ -182,7 +182,7 @@ pub record AllServed {L : Type 0} (Promised : Promising) (told : L → Both) (pa
   pub accepted : Accepting pass low high most g (map seat_of accounts) tally.failed
   pub number : tally.accepted ≡ length accounts
   pub served : All (IsServed Promised told pass) accounts
-  pub faults_told : All TellsFault accounts
+  pub faults_told : All FaultIsTold accounts
   pub given_back : g.given_then ≡ with_more g.given (map given_of accounts)
   pub faulted : tally.faulted ≡ faults_of (map status_in accounts)
 
