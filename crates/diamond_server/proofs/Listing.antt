@@ -1,7 +1,7 @@
 -- Lists of links: accepted one after another, joined, and given back.
 use Rattle.std.proofs.Common.{◌≡◌, ℕ, ◌+◌, ◌==◌, ◌≤◌, List, [], ◌∷◌, ◌++◌, length, map, Bool, true, false, Option, Result, Ok}
 use Rattle.std.proofs.Common.{Err, refl, ap, sym, ◌∙◌, arith, subst, append_assoc, append-nil, length-append}
-use Rattle.std.specs.Prelude.{All, IfSome, IsTrue, if◌then◌else◌, slice_index_or}
+use Rattle.std.specs.Prelude.{All, IfOk, IfSome, IsTrue, if◌then◌else◌, slice_index_or}
 use mathlib.Core.List.{IsPrefix, map-append}
 use Rattle.std.proofs.lemmas.List.Elements.{All-nil, All-cons, All-append, All-rest}
 use Rattle.std.proofs.lemmas.List.{length-map, nil_from_length}
@@ -20,8 +20,9 @@ use Rattle.diamond_store.specs.declared.join_error.JoinError.TheVariants as join
 use Rattle.session_core.specs.Explained.{setting_of}
 use Rattle.script_runner.specs.declared.status.TheConstants.{WHOLE}
 use Rattle.diamond_server.specs.Accounts.{Account, Seat, seat_of, given_of, status_in, joined_in, link_in, IsServed, Rises, faults_of}
-use Rattle.diamond_server.specs.Accounts.{Gatherings, gatherings, Accepting, AllServed, AreEnded}
-use Rattle.diamond_server.specs.Ways.{Promising}
+use Rattle.diamond_server.specs.Accounts.{Gatherings, gatherings, Accepting, AllServed, AreEnded, IsTold, FaultIsTold}
+use Rattle.diamond_server.specs.Promises.{TellsStoreFault}
+use Rattle.diamond_server.specs.Ways.{Promising, TellsFaults, having_met}
 use Rattle.diamond_server.specs.code.Settling.{IsNear, IsNearTalk, JoinsNext, Turns, Settling}
 
 -- ---- statuses
@@ -266,16 +267,27 @@ module _ {L : Type 0} where
       → Accepting pass low high most g (map seat_of all) failed → length all ≤ most
   few-ended pass low high most g all failed p = let few = p.few in omega (arith, few, length-map all seat_of)
 
+  -- what is promised of a link tells a fault of the store
+  fault-told : (Promised : Promising) (told : L → Both) (pass : Passed) → TellsFaults Promised → (a : Account L) → IsServed Promised told pass a → FaultIsTold a
+  fault-told Promised told pass tells a is = by a.talk is
+    where
+      by : (talk : Result (Passed × Passed) JoinError) → IsTold Promised (having_met pass) (told a.was) (told a.link) a.status talk
+          → IfOk talk (λ (t : Passed × Passed). TellsStoreFault (known_of t.0) (known_of t.1) a.status)
+      by (Ok t) is = tells (known_of t.0) (known_of t.1) (known_of (having_met pass t.1)) a.status (told a.was) (told a.link) is.1
+      by (Err e) is = tt
+
   -- what was accepted was all given back, so there is an account of each
   pub served-all : (Promised : Promising) (told : L → Both) (pass : Passed) (low high most : ℕ) (g : Gatherings L) (mid : Option (List (L × ℕ))) (all : List (Account L)) (n k : ℕ)
-      (failed : Bool) → Accepting pass low high most g (map seat_of all) failed → mid ≡ g.given → Settling Promised told pass all [] mid g.given_then n
+      (failed : Bool) → TellsFaults Promised → Accepting pass low high most g (map seat_of all) failed → mid ≡ g.given → Settling Promised told pass all [] mid g.given_then n
       → k ≡ length all → AllServed Promised told pass low high most g (record { accepted = k; faulted = n; failed = failed })
-  served-all Promised told pass low high most g mid all n k failed p same q number =
-      let whole : q.done ≡ all = sym (append-nil q.done) ∙ q.parts in record {
+  served-all Promised told pass low high most g mid all n k failed tells p same q number =
+      let whole : q.done ≡ all = sym (append-nil q.done) ∙ q.parts in
+      let served : All (IsServed Promised told pass) all = subst (All (IsServed Promised told pass)) whole q.served in record {
         accounts = all;
         accepted = p;
         number = number;
-        served = subst (All (IsServed Promised told pass)) whole q.served;
+        served = served;
+        faults_told = λ k d within. fault-told Promised told pass tells _ (served k d within);
         given_back = q.given ∙ (ap (λ o. with_more o (map given_of q.done)) same ∙ ap (λ w. with_more g.given (map given_of w)) whole);
         faulted = q.faulted_is ∙ ap (λ w. faults_of (map status_in w)) whole;
       }

@@ -1,7 +1,7 @@
 -- What is told of the links of a listener: each as it was accepted and as it is given back, and of its session what is promised of
 -- one, by one prefix of the journal, the same for all links.
 use Rattle.std.specs.Prelude.{◌≡◌, ℕ, ◌+◌, ◌<◌, ◌≤◌, ◌==◌, List, [], ◌∷◌, length, map, All, Bool, false, Option, IfSome}
-use Rattle.std.specs.Prelude.{Result, Ok, Err, Some, IsTrue, T, true, if◌then◌else◌, refl}
+use Rattle.std.specs.Prelude.{Result, Ok, Err, IfOk, Some, IsTrue, T, true, if◌then◌else◌, refl}
 use Rattle.std.proofs.Common.{sym, subst, lit<}
 use Rattle.history_lock.specs.declared.limits.TheConstants.{MOST_DRAWS}
 use Rattle.dio_core.specs.declared.listener.Listener.{Ghosts as ListenerTells}
@@ -90,6 +90,10 @@ IsEnded Promised told a = IsTold Promised (λ p. p) (told a.was) (told a.link) a
 abbrev pub IsServed : {L : Type 0} → Promising → (L → Both) → Passed → Account L → Type 0
 IsServed Promised told other a = IsTold Promised (having_met other) (told a.was) (told a.link) a.status a.talk
 
+-- of a link whose client joined, that a fault of the store is told
+abbrev pub FaultIsTold : {L : Type 0} → Account L → Type 0
+FaultIsTold a = IfOk a.talk (λ (t : Passed × Passed). TellsStoreFault (known_of t.0) (known_of t.1) a.status)
+
 -- ---- parts of accounts
 
 -- how a client joined, without what its session left
@@ -170,13 +174,15 @@ pub record Accepting {L : Type 0} (pass : Passed) (low high most : ℕ) (g : Gat
   pub less : failed ≡ false → length seats < most → IfSome g.links_then (λ left. left ≡ [])
 
 -- WHAT CAME OF THE LINKS OF A LISTENER, served in one way: there is an account of each, in the order of accepting; of all of them what
--- is promised is so by the one prefix that `pass` knows; and each was given back, in that order, with its status.
+-- is promised is so by the one prefix that `pass` knows, and a fault of the store is told; and each was given back, in that order, with
+-- its status.
 pub record AllServed {L : Type 0} (Promised : Promising) (told : L → Both) (pass : Passed) (low high most : ℕ) (g : Gatherings L) (tally : Tally)
     : Type 0 where
   pub accounts : List (Account L)
   pub accepted : Accepting pass low high most g (map seat_of accounts) tally.failed
   pub number : tally.accepted ≡ length accounts
   pub served : All (IsServed Promised told pass) accounts
+  pub faults_told : All FaultIsTold accounts
   pub given_back : g.given_then ≡ with_more g.given (map given_of accounts)
   pub faulted : tally.faulted ≡ faults_of (map status_in accounts)
 

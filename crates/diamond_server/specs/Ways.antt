@@ -1,10 +1,12 @@
--- Ways to serve the link of a new client: what is promised of the link, and that this stays so where the client learns more.
+-- Ways to serve the link of a new client: what is promised of the link, that this stays so where the client learns more, and that it
+-- tells a fault of the store.
 use Rattle.std.specs.Prelude.{◌≡◌, ℕ, ◌≤◌}
 use mathlib.Core.List.{IsPrefix}
 use Rattle.dio_core.specs.Links.{Both}
 use Rattle.txn_lang.specs.Journals.{IsLegal, own}
 use Rattle.docc_prepare.specs.Calls.{Known, Call, Answer}
 use Rattle.diamond_store.specs.Passes.{Passed, known_of}
+use Rattle.diamond_server.specs.Promises.{TellsStoreFault}
 
 -- WHAT IS PROMISED OF A LINK THAT IS SERVED, in whatever way: by what its client knew as it joined, at its session's end, and later;
 -- by the status; and from both sides of the link as they were to both as they are.
@@ -33,3 +35,7 @@ abbrev pub StaysPromised : Promising → Type 0
 StaysPromised Promised = (first last other : Passed) (status : ℕ) (x y : Both)
     → Promised (known_of first) (known_of last) (known_of last) status x y → KnowsMore last other
     → Promised (known_of first) (known_of last) (known_of (having_met other last)) status x y
+
+-- Another law: whatever is promised, a fault of the store is told.
+abbrev pub TellsFaults : Promising → Type 0
+TellsFaults Promised = (k l m : Known) (status : ℕ) (x y : Both) → Promised k l m status x y → TellsStoreFault k l status

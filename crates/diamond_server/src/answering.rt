@@ -8,10 +8,12 @@ ghost use Rattle.session_core.specs.Sessions.{TellsFault};
 ghost use Rattle.script_runner.specs.Play.{left};
 ghost use Rattle.diamond_server.specs.Promises.{sides};
 ghost use Rattle.diamond_server.specs.Talking as spec;
-ghost use Rattle.diamond_server.specs.Talking.{Told, Answers, Begins, MayBegin};
-ghost use Rattle.diamond_server.specs.code.Serving.{Wakes, MayWake, HoldsBack, StopsBy, Replies, kept, text_of};
+ghost use Rattle.diamond_server.specs.Talking.{Told, Answers, Begins};
+ghost use Rattle.diamond_server.specs.code.Serving.{Wakes, MayWake, MayBeginIn, kept, text_of};
+ghost use Rattle.diamond_server.specs.code.Serving.{HoldsOver, StopsOver, RepliesOver};
 
 use crate::link::pass_on;
+use crate::ongoing::{LineMeans, Ongoing};
 use crate::replies::{reply_line, turn_text};
 use crate::status::{Cause, Stop, stop_of};
 use dio_core::{End, LONGEST_LINE, Line};
@@ -24,46 +26,47 @@ use watch_reruns::Rerunner;
 
 /// Waits for a commit to tell of, and then does what `sync` does.
 fn woken<B: Waiter, R: Rerunner>(
-    alloc: Global,
+    means: &LineMeans<'_, R>,
     backend: &mut B,
-    reruns: &R,
     session: &mut Session,
 ) -> Result<Turn, SessionError>
     requires attends { Attends (B.known backend.old) session.old }
-    ensures woken { IfOk result (λ turn. Wakes B.known B.goes backend.old session.old turn backend.new session.new) }
+    ensures woken { IfOk result (λ turn. Wakes B.known B.goes
+        backend.old session.old turn backend.new session.new) }
     ensures begun { OnErr result (MayWake B.known B.goes backend.old session.old backend.new) }
     ensures attends { OnOk result (Attends (B.known backend.new) session.new) }
     ensures told { TellsFault (B.known backend.old) (B.known backend.new) result }
     ensures home { B.home backend.new ≡ B.home backend.old }
 {
     backend.wait()?;
-    session.waited_by(alloc, backend, reruns)
+    session.waited_by(means.alloc, backend, means.reruns)
 }
 
 /// Passes on what is held back, and then waits and does what `sync` does.
 fn passed_on_and_woken<B: Waiter, K: End, R: Rerunner>(
-    alloc: Global,
+    means: &LineMeans<'_, R>,
     backend: &mut B,
-    reruns: &R,
     link: &mut K,
-    session: &mut Session,
-    held: &mut Text,
+    ongoing: &mut Ongoing,
 ) -> Result<Turn, Stop>
-    requires attends { Attends (B.known backend.old) session.old }
-    ensures woken { IfOk result (λ turn. Wakes B.known B.goes backend.old session.old turn backend.new session.new) }
-    ensures holds { OnOk result (HoldsBack (sides K.Source K.Sink link.old).outwards held.old
-        (sides K.Source K.Sink link.new).outwards held.new) }
-    ensures stops { IfErr result (λ stop. StopsBy stop (MayWake B.known B.goes backend.old session.old backend.new)
-        (B.known backend.old).faults (B.known backend.new).faults
-        (sides K.Source K.Sink link.old).outwards held.old (sides K.Source K.Sink link.new).outwards held.new) }
-    ensures incoming { (sides K.Source K.Sink link.new).inwards ≡ (sides K.Source K.Sink link.old).inwards }
-    ensures attends { OnOk result (Attends (B.known backend.new) session.new) }
+    requires attends { Attends (B.known backend.old) ongoing.old.session }
+    ensures woken { IfOk result (λ turn. Wakes B.known B.goes
+        backend.old ongoing.old.session turn backend.new ongoing.new.session) }
+    ensures holds { OnOk result (HoldsOver
+        (sides K.Source K.Sink link.old) ongoing.old (sides K.Source K.Sink link.new) ongoing.new) }
+    ensures stops { IfErr result (λ stop. StopsOver stop
+        (MayWake B.known B.goes backend.old ongoing.old.session backend.new)
+        (B.known backend.old) (sides K.Source K.Sink link.old) ongoing.old
+        (B.known backend.new) (sides K.Source K.Sink link.new) ongoing.new) }
+    ensures incoming { (sides K.Source K.Sink link.new).inwards
+        ≡ (sides K.Source K.Sink link.old).inwards }
+    ensures attends { OnOk result (Attends (B.known backend.new) ongoing.new.session) }
     ensures home { B.home backend.new ≡ B.home backend.old }
 {
-    if !pass_on(link, held) {
+    if !pass_on(link, &mut ongoing.held) {
         return Err(OrNoMemory::Cause(Cause::WriteFault));
     }
-    match woken(alloc, backend, reruns, session) {
+    match woken(means, backend, &mut ongoing.session) {
         Ok(turn) => Ok(turn),
         Err(why) => Err(stop_of(why)),
     }
@@ -71,29 +74,33 @@ fn passed_on_and_woken<B: Waiter, K: End, R: Rerunner>(
 
 /// Does a line of the session. One that is to wait waits.
 fn said<B: Waiter, K: End, R: Rerunner>(
-    alloc: Global,
+    means: &LineMeans<'_, R>,
     backend: &mut B,
-    reruns: &R,
     link: &mut K,
-    session: &mut Session,
-    held: &mut Text,
+    ongoing: &mut Ongoing,
     text: &[u8],
 ) -> Result<Turn, Stop>
-    requires attends { Attends (B.known backend.old) session.old }
+    requires attends { Attends (B.known backend.old) ongoing.old.session }
     requires short { length text.now ≤ LONGEST_LINE }
-    ensures answers { IfOk result (λ turn. Answers B.known B.goes backend.old session.old text.now turn backend.new session.new) }
-    ensures holds { OnOk result (HoldsBack (sides K.Source K.Sink link.old).outwards held.old
-        (sides K.Source K.Sink link.new).outwards held.new) }
-    ensures stops { IfErr result (λ stop. StopsBy stop (Begins B.known B.goes backend.old session.old text.now backend.new)
-        (B.known backend.old).faults (B.known backend.new).faults
-        (sides K.Source K.Sink link.old).outwards held.old (sides K.Source K.Sink link.new).outwards held.new) }
-    ensures incoming { (sides K.Source K.Sink link.new).inwards ≡ (sides K.Source K.Sink link.old).inwards }
-    ensures attends { OnOk result (Attends (B.known backend.new) session.new) }
+    ensures answers { IfOk result (λ turn. Answers B.known B.goes
+        backend.old ongoing.old.session text.now turn backend.new ongoing.new.session) }
+    ensures holds { OnOk result (HoldsOver
+        (sides K.Source K.Sink link.old) ongoing.old (sides K.Source K.Sink link.new) ongoing.new) }
+    ensures stops { IfErr result (λ stop. StopsOver stop
+        (Begins B.known B.goes backend.old ongoing.old.session text.now backend.new)
+        (B.known backend.old) (sides K.Source K.Sink link.old) ongoing.old
+        (B.known backend.new) (sides K.Source K.Sink link.new) ongoing.new) }
+    ensures incoming { (sides K.Source K.Sink link.new).inwards
+        ≡ (sides K.Source K.Sink link.old).inwards }
+    ensures attends { OnOk result (Attends (B.known backend.new) ongoing.new.session) }
     ensures home { B.home backend.new ≡ B.home backend.old }
 {
-    match session.line_by(alloc, backend, reruns, text) {
+    match ongoing
+        .session
+        .line_by(means.alloc, backend, means.reruns, text)
+    {
         Ok(turn) => match turn {
-            Turn::WaitWanted => passed_on_and_woken(alloc, backend, reruns, link, session, held),
+            Turn::WaitWanted => passed_on_and_woken(means, backend, link, ongoing),
             turn => Ok(turn),
         },
         Err(error) => Err(stop_of(error)),
@@ -132,59 +139,59 @@ fn hold_refusal(alloc: Global, held: &mut Text) -> Result<(), AllocError>
 
 /// Does a line of the session, whose text was short enough to be read, and holds back its answer.
 fn text_answer<B: Waiter, K: End, R: Rerunner>(
-    alloc: Global,
+    means: &LineMeans<'_, R>,
     backend: &mut B,
-    reruns: &R,
     link: &mut K,
-    session: &mut Session,
-    held: &mut Text,
+    ongoing: &mut Ongoing,
     text: &Text,
 ) -> Result<bool, Stop>
-    requires attends { Attends (B.known backend.old) session.old }
+    requires attends { Attends (B.known backend.old) ongoing.old.session }
     requires short { length text.now ≤ LONGEST_LINE }
-    ensures replies { IfOk result (λ goes_on. Replies B.known B.goes backend.old session.old (cut.Bytes text.now)
-        (sides K.Source K.Sink link.old).outwards held.old goes_on backend.new session.new
-        (sides K.Source K.Sink link.new).outwards held.new) }
-    ensures stops { IfErr result (λ stop. StopsBy stop (MayBegin B.known B.goes backend.old (Some session.old) (Some text.now) backend.new)
-        (B.known backend.old).faults (B.known backend.new).faults
-        (sides K.Source K.Sink link.old).outwards held.old (sides K.Source K.Sink link.new).outwards held.new) }
-    ensures incoming { (sides K.Source K.Sink link.new).inwards ≡ (sides K.Source K.Sink link.old).inwards }
-    ensures attends { OnOk result (Attends (B.known backend.new) session.new) }
+    ensures replies { IfOk result (λ goes_on. RepliesOver B.known B.goes (cut.Bytes text.now) goes_on
+        backend.old (sides K.Source K.Sink link.old) ongoing.old
+        backend.new (sides K.Source K.Sink link.new) ongoing.new) }
+    ensures stops { IfErr result (λ stop. StopsOver stop
+        (MayBeginIn B.known B.goes backend.old ongoing.old.session (Some text.now) backend.new)
+        (B.known backend.old) (sides K.Source K.Sink link.old) ongoing.old
+        (B.known backend.new) (sides K.Source K.Sink link.new) ongoing.new) }
+    ensures incoming { (sides K.Source K.Sink link.new).inwards
+        ≡ (sides K.Source K.Sink link.old).inwards }
+    ensures attends { OnOk result (Attends (B.known backend.new) ongoing.new.session) }
     ensures home { B.home backend.new ≡ B.home backend.old }
 {
-    match said(alloc, backend, reruns, link, session, held, text.as_slice()) {
-        Ok(turn) => Ok(hold_turn(alloc, held, &turn)?),
+    match said(means, backend, link, ongoing, text.as_slice()) {
+        Ok(turn) => Ok(hold_turn(means.alloc, &mut ongoing.held, &turn)?),
         Err(stop) => Err(stop),
     }
 }
 
 /// Does a line that was found, and holds back its answer. It says whether the session goes on.
-pub fn answer<B: Waiter, K: End, R: Rerunner>(
-    alloc: Global,
+pub(crate) fn answer<B: Waiter, K: End, R: Rerunner>(
+    means: &LineMeans<'_, R>,
     backend: &mut B,
-    reruns: &R,
     link: &mut K,
-    session: &mut Session,
-    held: &mut Text,
+    ongoing: &mut Ongoing,
     line: &Line,
 ) -> Result<bool, Stop>
-    requires attends { Attends (B.known backend.old) session.old }
+    requires attends { Attends (B.known backend.old) ongoing.old.session }
     requires short { IsShort line.now }
     requires some { line.now ≡ cut.End → ⊥ }
-    ensures replies { IfOk result (λ goes_on. Replies B.known B.goes backend.old session.old line.now
-        (sides K.Source K.Sink link.old).outwards held.old goes_on backend.new session.new
-        (sides K.Source K.Sink link.new).outwards held.new) }
-    ensures stops { IfErr result (λ stop. StopsBy stop (MayBegin B.known B.goes backend.old (Some session.old) (text_of line.now) backend.new)
-        (B.known backend.old).faults (B.known backend.new).faults
-        (sides K.Source K.Sink link.old).outwards held.old (sides K.Source K.Sink link.new).outwards held.new) }
-    ensures incoming { (sides K.Source K.Sink link.new).inwards ≡ (sides K.Source K.Sink link.old).inwards }
-    ensures attends { OnOk result (Attends (B.known backend.new) session.new) }
+    ensures replies { IfOk result (λ goes_on. RepliesOver B.known B.goes line.now goes_on
+        backend.old (sides K.Source K.Sink link.old) ongoing.old
+        backend.new (sides K.Source K.Sink link.new) ongoing.new) }
+    ensures stops { IfErr result (λ stop. StopsOver stop
+        (MayBeginIn B.known B.goes backend.old ongoing.old.session (text_of line.now) backend.new)
+        (B.known backend.old) (sides K.Source K.Sink link.old) ongoing.old
+        (B.known backend.new) (sides K.Source K.Sink link.new) ongoing.new) }
+    ensures incoming { (sides K.Source K.Sink link.new).inwards
+        ≡ (sides K.Source K.Sink link.old).inwards }
+    ensures attends { OnOk result (Attends (B.known backend.new) ongoing.new.session) }
     ensures home { B.home backend.new ≡ B.home backend.old }
 {
     match line {
-        Line::Bytes(text) => text_answer(alloc, backend, reruns, link, session, held, text),
+        Line::Bytes(text) => text_answer(means, backend, link, ongoing, text),
         _ => {
-            hold_refusal(alloc, held)?;
+            hold_refusal(means.alloc, &mut ongoing.held)?;
             Ok(true)
         }
     }

@@ -4,12 +4,12 @@ ghost use Rattle.std.specs.Prelude.{◌≡◌, Ok, Err};
 ghost use Rattle.diamond_server.specs.Accounts.{seat, seat_of, IsNewcomer};
 
 use crate::ended::{Ended, serve};
+use crate::shared::Shared;
 use crate::ways::Serves;
-use diamond_store::{Gate, JoinError, Pass, Store};
+use diamond_store::{Gate, JoinError, Pass};
 use dio_core::End;
 use history_lock::Naming;
 use journal_core::Keep;
-use std::alloc::Global;
 use std::marker::{Model, PhantomData};
 use std::snapshot::Snapshot;
 use std::sync::Wait;
@@ -17,13 +17,13 @@ use std::thread::{Promise, PromisedHandle, Scope, Threads};
 
 /// What a thread promises: to serve the session of this pass over this link, in this way, and to end the link.
 #[derive(Drop)]
-struct Serving<L, K: Keep, N: Naming, S> {
+struct ToServe<L, K: Keep, N: Naming, S> {
     link: Snapshot<L>,
     pass: Snapshot<Pass<K, N>>,
     way: PhantomData<S>,
 }
 
-impl<L: End, K: Keep, N: Naming, S: Serves> Promise<(L, Pass<K, N>, u8)> for Serving<L, K, N, S> {
+impl<L: End, K: Keep, N: Naming, S: Serves> Promise<(L, Pass<K, N>, u8)> for ToServe<L, K, N, S> {
     ghost use Rattle.std.specs.Prelude.{Ok, IfSome, IsTrue};
     ghost use Rattle.diamond_server.specs.Accounts.{IsTold};
     ghost use Rattle.diamond_server.specs.Promises.{sides};
@@ -37,7 +37,7 @@ impl<L: End, K: Keep, N: Naming, S: Serves> Promise<(L, Pass<K, N>, u8)> for Ser
 struct Running<L: End, K: Keep, N: Naming, S: Serves> {
     was: Snapshot<L>,
     had: Snapshot<Pass<K, N>>,
-    handle: PromisedHandle<(L, Pass<K, N>, u8), Serving<L, K, N, S>>,
+    handle: PromisedHandle<(L, Pass<K, N>, u8), ToServe<L, K, N, S>>,
     ghost link: { handle.promise.link.value ≡ was.value },
     ghost pass: { handle.promise.pass.value ≡ had.value },
 }
@@ -90,7 +90,8 @@ impl<L: End, K: Keep, N: Naming, S: Serves> Model for Begun<L, K, N, S> {
 }
 
 /// Begins the session of a pass over a link in a thread of the scope. Where no thread can be started, the session is served here,
-/// and has ended when this returns.
+/// and has ended when this returns. (The thread's closure holds what is shared part by part: what a closure answers isn't known where
+/// it holds a type with a lifetime.)
 pub(crate) fn begin<
     's,
     'e: 's,
@@ -102,24 +103,35 @@ pub(crate) fn begin<
     R: Threads + Wait + Sync,
 >(
     scope: &'s Scope<'s, &'e ()>,
-    rt: &'e R,
-    alloc: Global,
-    store: &'e Store<K, G, N>,
+    shared: &Shared<'e, K, G, N, S, R>,
     link: L,
     pass: Pass<K, N>,
-    way: &'e S,
 ) -> Begun<L, K, N, S>
     requires newcomer { IsNewcomer pass }
     ensures { result ≡ seat link (Ok pass) }
 {
     let (link_was, pass_was) = (Snapshot::of(&link), Snapshot::of(&pass));
     let (was, had) = (Snapshot::of(&link), Snapshot::of(&pass));
-    let promise = Serving {
+    let promise = ToServe {
         link: Snapshot::of(&link),
         pass: Snapshot::of(&pass),
         way: PhantomData,
     };
-    let run = match scope.spawn_with(promise, move || serve(rt, alloc, store, link, pass, way)) {
+    let Shared {
+        rt,
+        alloc,
+        store,
+        way,
+    } = *shared;
+    let run = match scope.spawn_with(promise, move || {
+        let shared = Shared {
+            rt,
+            alloc,
+            store,
+            way,
+        };
+        serve(&shared, link, pass)
+    }) {
         Ok(handle) => Ok(Running { was, had, handle }),
         Err(refused) => Err(Ended::served(was, had, (refused.value)())),
     };

@@ -8,13 +8,13 @@ ghost use Rattle.diamond_server.specs.Promises.{sides};
 ghost use Rattle.diamond_server.specs.code.Settling.{IsNear, IsNearTalk};
 ghost use Rattle.dio_core.specs.Links.{Both};
 
+use crate::shared::Shared;
 use crate::status::unread_status;
 use crate::ways::Serves;
 use diamond_store::{Gate, JoinError, Pass, Served, Store};
 use dio_core::End;
 use history_lock::Naming;
 use journal_core::Keep;
-use std::alloc::Global;
 use std::marker::{Model, PhantomData};
 use std::snapshot::Snapshot;
 use std::sync::Wait;
@@ -74,19 +74,21 @@ impl<L: End, K: Keep, N: Naming, S: Serves> Model for Ended<L, K, N, S> {
 
 /// Serves the link of a new client in this way, and ends the link.
 pub(crate) fn serve<L: End, K: Keep, G: Gate + Drop, N: Naming, S: Serves, R: Wait>(
-    rt: &R,
-    alloc: Global,
-    store: &Store<K, G, N>,
+    shared: &Shared<'_, K, G, N, S, R>,
     mut link: L,
     pass: Pass<K, N>,
-    way: &S,
 ) -> (L, Pass<K, N>, u8)
     requires newcomer { IsNewcomer pass }
-    ensures told { IsTold S.promised (λ p. p) (sides L.Source L.Sink link) (sides L.Source L.Sink result.0) result.2 (Ok (pass, result.1)) }
+    ensures told { IsTold S.promised (λ p. p) (sides L.Source L.Sink link)
+        (sides L.Source L.Sink result.0) result.2 (Ok (pass, result.1)) }
     ensures ended { IfSome (L.ended result.0) IsTrue }
 {
-    let mut served = Served { store, pass, rt };
-    let status = way.serve(alloc, &mut served, &mut link);
+    let mut served = Served {
+        store: shared.store,
+        pass,
+        rt: shared.rt,
+    };
+    let status = shared.way.serve(shared.alloc, &mut served, &mut link);
     let Served { pass, .. } = served;
     (closed(link), pass, status)
 }

@@ -11,13 +11,15 @@ mod answering;
 mod begun;
 mod ended;
 mod link;
+mod ongoing;
 mod replies;
 mod serving;
 mod serving_all;
+mod shared;
 mod status;
 mod ways;
 
 pub use serving::{serve_by, serve_session};
-pub use serving_all::{Tally, serve_all, serve_all_by, serve_links};
+pub use serving_all::{Serving, Tally, serve_all, serve_all_by, serve_links};
 pub use status::{NO_CLIENT, STORE_FAULT};
 pub use ways::{Serves, SessionLines};

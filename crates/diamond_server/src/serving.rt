@@ -5,10 +5,11 @@ ghost use Rattle.session_core.specs.Holding.{Attends};
 ghost use Rattle.docc_prepare.specs.Readable.{IsNew};
 ghost use Rattle.diamond_server.specs.Promises.{sides, KeepsPromises, TellsStoreFault};
 ghost use Rattle.diamond_server.specs.code.Serving as spec;
-ghost use Rattle.diamond_server.specs.code.Serving.{Turns, Ends};
+ghost use Rattle.diamond_server.specs.code.Serving.{TurnsOver, Ends};
 
 use crate::answering::answer;
 use crate::link::{await_line, find_line, settle};
+use crate::ongoing::{LineMeans, Ongoing};
 use crate::status::{Cause, Stop, status_of};
 use dio_core::{End, Line};
 use docc_prepare::Waiter;
@@ -20,53 +21,48 @@ use watch_reruns::{One, Rerunner};
 
 /// Finds and does one line, and holds back what answers it. `true` says that another may follow.
 fn do_line<B: Waiter, K: End, R: Rerunner>(
-    alloc: Global,
+    means: &LineMeans<'_, R>,
     backend: &mut B,
-    reruns: &R,
     link: &mut K,
-    session: &mut Session,
-    held: &mut Text,
+    ongoing: &mut Ongoing,
 ) -> Result<bool, Stop>
-    requires attends { Attends (B.known backend.old) session.old }
-    ensures turns { Turns B.known B.goes result
-        backend.old session.old (sides K.Source K.Sink link.old) held.old
-        backend.new session.new (sides K.Source K.Sink link.new) held.new }
-    ensures attends { OnOk result (Attends (B.known backend.new) session.new) }
+    requires attends { Attends (B.known backend.old) ongoing.old.session }
+    ensures turns { TurnsOver B.known B.goes result
+        backend.old (sides K.Source K.Sink link.old) ongoing.old
+        backend.new (sides K.Source K.Sink link.new) ongoing.new }
+    ensures attends { OnOk result (Attends (B.known backend.new) ongoing.new.session) }
     ensures home { B.home backend.new ≡ B.home backend.old }
 {
-    let line = match find_line(alloc, link, held)? {
+    let line = match find_line(means.alloc, link, &mut ongoing.held)? {
         Line::End => return Ok(false),
         line => line,
     };
-    answer(alloc, backend, reruns, link, session, held, &line)
+    answer(means, backend, link, ongoing, &line)
 }
 
 /// Finds, does and answers one line. Only where another may follow is an answer held back.
 fn serve_line<B: Waiter, K: End, R: Rerunner>(
-    alloc: Global,
+    means: &LineMeans<'_, R>,
     backend: &mut B,
-    reruns: &R,
     link: &mut K,
-    session: &mut Session,
-    held: &mut Text,
+    ongoing: &mut Ongoing,
 ) -> Result<bool, Stop>
-    requires attends { Attends (B.known backend.old) session.old }
-    ensures turns { Turns B.known B.goes result
-        backend.old session.old (sides K.Source K.Sink link.old) held.old
-        backend.new session.new (sides K.Source K.Sink link.new) held.new }
-    ensures emptied { (result ≡ Ok true → ⊥) → held.new ≡ [] }
-    ensures attends { result ≡ Ok true → Attends (B.known backend.new) session.new }
+    requires attends { Attends (B.known backend.old) ongoing.old.session }
+    ensures turns { TurnsOver B.known B.goes result
+        backend.old (sides K.Source K.Sink link.old) ongoing.old
+        backend.new (sides K.Source K.Sink link.new) ongoing.new }
+    ensures emptied { (result ≡ Ok true → ⊥) → ongoing.new.held ≡ [] }
+    ensures attends { result ≡ Ok true → Attends (B.known backend.new) ongoing.new.session }
     ensures home { B.home backend.new ≡ B.home backend.old }
 {
-    let outcome = do_line(alloc, backend, reruns, link, session, held);
-    settle(link, held, outcome)
+    let outcome = do_line(means, backend, link, ongoing);
+    settle(link, &mut ongoing.held, outcome)
 }
 
 /// Serves the lines of a link to its end, or to a line that ends the session.
 fn serve_lines<B: Waiter, K: End, R: Rerunner>(
-    alloc: Global,
+    means: &LineMeans<'_, R>,
     backend: &mut B,
-    reruns: &R,
     link: &mut K,
 ) -> Result<(), Stop>
     requires new { IsNew (B.known backend.old) }
@@ -76,14 +72,15 @@ fn serve_lines<B: Waiter, K: End, R: Rerunner>(
     ensures home { B.home backend.new ≡ B.home backend.old }
 {
     let _shards = backend.shards();
-    let mut session = Session::new(alloc, backend.client(), backend.seen());
-    let mut held = Text::new(alloc);
+    let session = Session::new(means.alloc, backend.client(), backend.seen());
+    let held = Text::new(means.alloc);
+    let mut ongoing = Ongoing { session, held };
     for _ in 0..MOST_LINES {
-        if !serve_line(alloc, backend, reruns, link, &mut session, &mut held)? {
+        if !serve_line(means, backend, link, &mut ongoing)? {
             return Ok(());
         }
     }
-    at_most(&await_line(alloc, link, &mut held)?)
+    at_most(&await_line(means.alloc, link, &mut ongoing.held)?)
 }
 
 /// How the lines end behind the last one that may be read: with the input, or there is one more.
@@ -125,6 +122,6 @@ pub fn serve_by<B: Waiter, K: End, R: Rerunner>(
     ensures told { TellsStoreFault (B.known backend.old) (B.known backend.new) result }
     ensures home { B.home backend.new ≡ B.home backend.old }
 {
-    let ended = serve_lines(alloc, backend, reruns, link);
+    let ended = serve_lines(&LineMeans { alloc, reruns }, backend, link);
     status_of(ended)
 }

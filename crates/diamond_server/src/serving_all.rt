@@ -1,14 +1,17 @@
 //! The sessions of all links of a listener, each in a thread of its own.
 
-ghost use Rattle.std.specs.Prelude.{◌≡◌, ◌<◌, ◌+◌, ◌-◌, ◌^◌, ◌==◌, [], length, map, All, IfOk, OnOk, if◌then◌else◌};
+ghost use Rattle.std.specs.Prelude.{◌≡◌, ◌<◌, ◌+◌, ◌-◌, ◌^◌, ◌==◌, [], length, map, All, IfOk, OnOk};
+ghost use Rattle.std.specs.Prelude.{if◌then◌else◌};
 ghost use Rattle.diamond_store.specs.Answers.{Learns};
 ghost use Rattle.script_runner.specs.declared.status.TheConstants.{WHOLE};
-ghost use Rattle.diamond_server.specs.Accounts.{seat_of, joined_in, link_in, gatherings, Accepting, AllServedSince, ServedSince, AreEnded};
+ghost use Rattle.diamond_server.specs.Accounts.{seat_of, joined_in, link_in, gatherings, AreEnded};
+ghost use Rattle.diamond_server.specs.Accounts.{AllServedSince, ServedSince};
 ghost use Rattle.diamond_server.specs.Promises.{sides};
-ghost use Rattle.diamond_server.specs.code.Settling.{IsNear, JoinsNext, Settling};
+ghost use Rattle.diamond_server.specs.code.Settling.{IsNear, JoinsSince, AcceptingSince, Settling};
 
 use crate::begun::{Begun, begin};
 use crate::ended::Ended;
+use crate::shared::Shared;
 use crate::ways::{Serves, SessionLines};
 use diamond_store::{Gate, Pass, Store};
 use dio_core::{Accepted, End, Listener};
@@ -32,10 +35,22 @@ pub struct Tally {
     pub failed: bool,
 }
 
-/// Accepts up to so many links, and serves each in this way for a new client, in a thread of its own; one whose thread can't be
-/// started is served by this thread. Behind the last one the listener is closed, while sessions go on, so that who comes later is
-/// refused at once. Once all sessions have ended, the links are given back in the order of their accepting, each with its status:
-/// that of its session, or, where it wasn't read, 13 where no client's number was left and 5 where there was no memory for one.
+/// How the links of a listener are served.
+#[derive(Drop)]
+pub struct Serving<'a, K: Keep, G: Gate + Drop, N: Naming, S> {
+    /// The store that each link's client joins.
+    pub store: &'a Store<K, G, N>,
+    /// The most links that are accepted.
+    pub sessions: u32,
+    /// The way in which each link is served.
+    pub way: &'a S,
+}
+
+/// Accepts up to so many links, and serves each in this way for a new client of the store, in a thread of its own; one whose thread
+/// can't be started is served by this thread. Behind the last one the listener is closed, while sessions go on, so that who comes
+/// later is refused at once. Once all sessions have ended, the links are given back in the order of their accepting, each with its
+/// status: that of its session, or, where it wasn't read, 13 where no client's number was left and 5 where there was no memory for
+/// one.
 ///
 /// An error says that there was no memory for the list of sessions, or to give a link back. The sessions have ended then, too.
 pub fn serve_links<
@@ -49,22 +64,23 @@ pub fn serve_links<
     rt: &R,
     alloc: Global,
     listener: &mut Li,
-    store: &Store<K, G, N>,
     pass: &mut Pass<K, N>,
-    sessions: u32,
-    way: &S,
+    serving: &Serving<'_, K, G, N, S>,
 ) -> Result<Tally, AllocError>
     ensures learns { Learns pass.old pass.new }
-    ensures served { IfOk result (AllServedSince S.promised (sides Li.Link.Source Li.Link.Sink) N.lock.first pass.old pass.new sessions
+    ensures served { IfOk result (AllServedSince S.promised (sides Li.Link.Source Li.Link.Sink)
+        N.lock.first pass.old pass.new serving.now.sessions
         (gatherings Li.Listener listener.old listener.new)) }
-    ensures ended { OnOk result (AreEnded Li.Link.ended (Li.given_back listener.old) (Li.given_back listener.new)) }
+    ensures ended { OnOk result (AreEnded Li.Link.ended
+        (Li.given_back listener.old) (Li.given_back listener.new)) }
 {
+    S::tells_faults();
     let ran: Result<(Vec<Ended<Li::Link, K, N, S>>, bool), AllocError> = run_scoped(
-        rt, alloc, listener, store, pass, sessions, way,
+        rt, alloc, listener, pass, serving,
     );
     let (ended, failed) = ran?;
     let accepted = ended.len() as u32;
-    let faulted = give_all(rt, listener, store, pass, ended)?;
+    let faulted = give_all(rt, listener, serving.store, pass, ended)?;
     Ok(Tally {
         accepted,
         faulted,
@@ -88,9 +104,11 @@ pub fn serve_all<
     sessions: u32,
 ) -> Result<Tally, AllocError>
     ensures learns { Learns pass.old pass.new }
-    ensures served { IfOk result (ServedSince (sides Li.Link.Source Li.Link.Sink) N.lock.first pass.old pass.new sessions
+    ensures served { IfOk result (ServedSince (sides Li.Link.Source Li.Link.Sink)
+        N.lock.first pass.old pass.new sessions
         (gatherings Li.Listener listener.old listener.new)) }
-    ensures ended { OnOk result (AreEnded Li.Link.ended (Li.given_back listener.old) (Li.given_back listener.new)) }
+    ensures ended { OnOk result (AreEnded Li.Link.ended
+        (Li.given_back listener.old) (Li.given_back listener.new)) }
 {
     serve_all_by(rt, alloc, listener, store, pass, sessions, &One)
 }
@@ -113,12 +131,19 @@ pub fn serve_all_by<
     reruns: &P,
 ) -> Result<Tally, AllocError>
     ensures learns { Learns pass.old pass.new }
-    ensures served { IfOk result (ServedSince (sides Li.Link.Source Li.Link.Sink) N.lock.first pass.old pass.new sessions
+    ensures served { IfOk result (ServedSince (sides Li.Link.Source Li.Link.Sink)
+        N.lock.first pass.old pass.new sessions
         (gatherings Li.Listener listener.old listener.new)) }
-    ensures ended { OnOk result (AreEnded Li.Link.ended (Li.given_back listener.old) (Li.given_back listener.new)) }
+    ensures ended { OnOk result (AreEnded Li.Link.ended
+        (Li.given_back listener.old) (Li.given_back listener.new)) }
 {
     let lines = SessionLines { reruns };
-    serve_links(rt, alloc, listener, store, pass, sessions, &lines)
+    let serving = Serving {
+        store,
+        sessions,
+        way: &lines,
+    };
+    serve_links(rt, alloc, listener, pass, &serving)
 }
 
 /// Accepts and runs the sessions in a scope. The scope's closure gives back the `&mut`s that it was given, since what it writes
@@ -134,19 +159,28 @@ fn run_scoped<
     rt: &R,
     alloc: Global,
     listener: &mut Li,
-    store: &Store<K, G, N>,
     pass: &mut Pass<K, N>,
-    sessions: u32,
-    way: &S,
+    serving: &Serving<'_, K, G, N, S>,
 ) -> Result<(Vec<Ended<Li::Link, K, N, S>>, bool), AllocError>
     ensures learns { Learns pass.old pass.new }
     ensures given { Li.given_back listener.new ≡ Li.given_back listener.old }
-    ensures accepted { IfOk result (λ r. Accepting pass.new (N.lock.first + pass.old.draws) (N.lock.first + pass.new.draws) sessions
+    ensures accepted { IfOk result (λ r. AcceptingSince N.lock.first pass.old pass.new serving.now.sessions
         (gatherings Li.Listener listener.old listener.new) (map seat_of r.0.items) r.1) }
     ensures near { IfOk result (λ r. All (IsNear pass.new) r.0.items) }
 {
+    let Serving {
+        store,
+        sessions,
+        way,
+    } = *serving;
     let (ran, listener, _pass) = thread::scope(thread::scope_env(), rt, move |scope| {
-        let ran = run_all(scope, rt, alloc, listener, store, pass, sessions, way);
+        let shared = Shared {
+            rt,
+            alloc,
+            store,
+            way,
+        };
+        let ran = run_all(scope, &shared, listener, pass, sessions);
         (ran, listener, pass)
     });
     leave(listener);
@@ -172,24 +206,21 @@ fn run_all<
     R: Threads + Wait + Sync,
 >(
     scope: &'s Scope<'s, &'e ()>,
-    rt: &'e R,
-    alloc: Global,
+    shared: &Shared<'e, K, G, N, S, R>,
     listener: &mut Li,
-    store: &'e Store<K, G, N>,
     pass: &mut Pass<K, N>,
     sessions: u32,
-    way: &'e S,
 ) -> Result<(Vec<Ended<Li::Link, K, N, S>>, bool), AllocError>
     ensures learns { Learns pass.old pass.new }
     ensures given { Li.given_back listener.new ≡ Li.given_back listener.old }
-    ensures accepted { IfOk result (λ r. Accepting pass.new (N.lock.first + pass.old.draws) (N.lock.first + pass.new.draws) sessions
+    ensures accepted { IfOk result (λ r. AcceptingSince N.lock.first pass.old pass.new sessions
         (gatherings Li.Listener listener.old listener.new) (map seat_of r.0.items) r.1) }
     ensures near { IfOk result (λ r. All (IsNear pass.new) r.0.items) }
 {
-    let accepted = accept_all(scope, rt, alloc, listener, store, pass, sessions, way);
+    let accepted = accept_all(scope, shared, listener, pass, sessions);
     listener.close();
     let (begun, failed) = accepted?;
-    Ok((join_all(rt, alloc, store, pass, begun)?, failed))
+    Ok((join_all(shared, pass, begun)?, failed))
 }
 
 /// Accepts up to so many links, and begins a session of each. There is memory for all of them before the first is accepted, so none
@@ -205,26 +236,23 @@ fn accept_all<
     R: Threads + Wait + Sync,
 >(
     scope: &'s Scope<'s, &'e ()>,
-    rt: &'e R,
-    alloc: Global,
+    shared: &Shared<'e, K, G, N, S, R>,
     listener: &mut Li,
-    store: &'e Store<K, G, N>,
     pass: &mut Pass<K, N>,
     sessions: u32,
-    way: &'e S,
 ) -> Result<(Vec<Begun<Li::Link, K, N, S>>, bool), AllocError>
     ensures learns { Learns pass.old pass.new }
     ensures given { Li.given_back listener.new ≡ Li.given_back listener.old }
-    ensures accepted { IfOk result (λ r. Accepting pass.new (N.lock.first + pass.old.draws) (N.lock.first + pass.new.draws) sessions
+    ensures accepted { IfOk result (λ r. AcceptingSince N.lock.first pass.old pass.new sessions
         (gatherings Li.Listener listener.old listener.new) r.0.items r.1) }
 {
     let _seen = pass.seen();
-    let mut begun = Vec::with_capacity(alloc, sessions as usize)?;
+    let mut begun = Vec::with_capacity(shared.alloc, sessions as usize)?;
     for _turn in 0..sessions {
         begun.reserve(1)?;
         match listener.accept() {
             Accepted::Link(link) => {
-                begun.push_reserved(begin_next(scope, rt, alloc, store, pass, link, way));
+                begun.push_reserved(begin_next(scope, shared, pass, link));
             }
             Accepted::NoMore => return Ok((begun, false)),
             Accepted::Failed => return Ok((begun, true)),
@@ -245,28 +273,23 @@ fn begin_next<
     R: Threads + Wait + Sync,
 >(
     scope: &'s Scope<'s, &'e ()>,
-    rt: &'e R,
-    alloc: Global,
-    store: &'e Store<K, G, N>,
+    shared: &Shared<'e, K, G, N, S, R>,
     pass: &mut Pass<K, N>,
     link: L,
-    way: &'e S,
 ) -> Begun<L, K, N, S>
     ensures learns { Learns pass.old pass.new }
     ensures link { link_in result ≡ link }
-    ensures joined { JoinsNext pass.new (N.lock.first + pass.old.draws) (N.lock.first + pass.new.draws) (joined_in result) }
+    ensures joined { JoinsSince N.lock.first pass.old pass.new (joined_in result) }
 {
-    match store.join(pass) {
-        Ok(joined) => begin(scope, rt, alloc, store, link, joined, way),
+    match shared.store.join(pass) {
+        Ok(joined) => begin(scope, shared, link, joined),
         Err(error) => Begun::unread(link, error),
     }
 }
 
 /// Joins each session, and the pass learns what its client knows.
 fn join_all<L: End + Drop, K: Keep, G: Gate + Drop, N: Naming, S: Serves, R: Threads>(
-    rt: &R,
-    alloc: Global,
-    store: &Store<K, G, N>,
+    shared: &Shared<'_, K, G, N, S, R>,
     pass: &mut Pass<K, N>,
     begun: Vec<Begun<L, K, N, S>>,
 ) -> Result<Vec<Ended<L, K, N, S>>, AllocError>
@@ -275,10 +298,10 @@ fn join_all<L: End + Drop, K: Keep, G: Gate + Drop, N: Naming, S: Serves, R: Thr
     ensures near { IfOk result (λ ended. All (IsNear pass.new) ended.items) }
 {
     let _seen = pass.seen();
-    let mut all = Vec::with_capacity(alloc, begun.len())?;
+    let mut all = Vec::with_capacity(shared.alloc, begun.len())?;
     for session in begun {
-        let mut ended = session.join(rt);
-        ended.lend(store, pass);
+        let mut ended = session.join(shared.rt);
+        ended.lend(shared.store, pass);
         all.push(ended)?;
     }
     Ok(all)
@@ -299,7 +322,8 @@ fn give_all<Li: Listener, K: Keep, G: Gate + Drop, N: Naming, S: Serves, R: Wait
     ensures count { Li.accept_faults listener.new ≡ Li.accept_faults listener.old }
     ensures settled { IfOk result (λ faulted. Settling S.promised (sides Li.Link.Source Li.Link.Sink) pass.old all.items []
         (Li.given_back listener.old) (Li.given_back listener.new) faulted) }
-    ensures ended { OnOk result (AreEnded Li.Link.ended (Li.given_back listener.old) (Li.given_back listener.new)) }
+    ensures ended { OnOk result (AreEnded Li.Link.ended
+        (Li.given_back listener.old) (Li.given_back listener.new)) }
 {
     let mut faulted = 0;
     for ended in all {

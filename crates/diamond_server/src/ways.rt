@@ -3,7 +3,7 @@
 ghost use Rattle.std.specs.Prelude.{◌≡◌};
 ghost use Rattle.docc_prepare.specs.Readable.{IsNew};
 ghost use Rattle.diamond_server.specs.Promises.{sides};
-ghost use Rattle.diamond_server.specs.Ways.{Promising, StaysPromised};
+ghost use Rattle.diamond_server.specs.Ways.{Promising, StaysPromised, TellsFaults};
 
 use crate::serving::serve_by;
 use dio_core::End;
@@ -20,13 +20,18 @@ pub trait Serves {
     /// Serves a link for the backend's client, and answers a status.
     fn serve<B: Waiter, K: End>(&self, alloc: Global, backend: &mut B, link: &mut K) -> u8
         requires new { IsNew (B.known backend.old) }
-        ensures promises { promised (B.known backend.old) (B.known backend.new) (B.known backend.new) result
+        ensures promises { promised
+            (B.known backend.old) (B.known backend.new) (B.known backend.new) result
             (sides K.Source K.Sink link.old) (sides K.Source K.Sink link.new) }
         ensures home { B.home backend.new ≡ B.home backend.old };
 
     /// The law that what is promised stays so where the client learns more.
     fn stays_promised()
         ensures { StaysPromised promised };
+
+    /// The law that a fault of the store is told, whatever else is promised.
+    fn tells_faults()
+        ensures { TellsFaults promised };
 }
 
 /// Links are served as sessions of lines, all of whose reruns of watches are made by this.
@@ -46,4 +51,6 @@ impl<'p, P: Rerunner> Serves for SessionLines<'p, P> {
     }
 
     fn stays_promised() {}
+
+    fn tells_faults() {}
 }

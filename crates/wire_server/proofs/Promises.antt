@@ -21,7 +21,7 @@ use Rattle.wire_server.specs.declared.status.Cause.TheVariants as cause
 use Rattle.wire_server.specs.declared.status.TheConstants.{MALFORMED, TOO_MANY_REQUESTS, MOST_REQUESTS}
 use Rattle.wire_server.specs.Talking.{Exchange, Talks, first_service, request_of}
 use Rattle.wire_server.specs.Promises.{StaysLegal, ReadsToTheEnd, ReadsUpToAFault, ReadsOneMore, ReadsARefusal, IsServed, IsCutOff, IsStalled, IsFailed}
-use Rattle.wire_server.specs.Promises.{statuses, KeepsPromises}
+use Rattle.wire_server.specs.Promises.{statuses, KeepsPromises, TellsEachStoreFault}
 use Rattle.wire_server.specs.code.Serving.{Stop, status_of, Ends}
 use Rattle.wire_server.proofs.Framed.{few-frames, frames-last, sized-more}
 use Rattle.wire_server.proofs.Talked.{same-then, talk-comes, talk-safe, made-safe}
@@ -151,3 +151,35 @@ module _ {B : Type 0} (known : B → Known) (goes : B → Call → Answer → B 
       promises TOO_MANY_REQUESTS refl (talks-safe ends.0.exchanges ends.0.service ends.0.talks) ends.0 ends.1.0 ends.1.1
       (λ texts is fits few well written kept.
       absurd (told-over-most ends.0.service (known new) ends.0.exchanges texts x.inwards.left y.inwards.left ends.0.reads is fits few))
+
+  -- ---- faults of the store
+
+  -- a call that was made and has not failed by one counts none
+  made-counts-none : (s : Service) (there : B) (bytes : Text) → MadeCall known goes false s there bytes new
+      → (known new).faults ≡ (known there).faults
+  made-counts-none s there bytes m =
+      subst (λ (fault : Bool). IsCounted fault (known there).faults (known new).faults) m.made.fault m.made.step.answered.goes_on.faults
+
+  -- so where memory was wanting none was counted
+  stalled-counts-none : IsStalled known goes (known new) old new x y → (known new).faults ≡ (known old).faults
+  stalled-counts-none e = by e.stalled ∙ (talk-comes known goes first_service old e.service e.there e.exchanges e.talks).faults
+    where
+      again : (bytes : Text) (t : Service) → HasStalled known goes e.service e.there bytes t new → (known new).faults ≡ (known e.there).faults
+      again bytes t (inl same) = ap (λ (b : B). (known b).faults) same.backend
+      again bytes t (inr made) = made-counts-none e.service e.there bytes made
+
+      by : (new ≡ e.there) ⊎ ((bytes : Text) × (t : Service) × HasStalled known goes e.service e.there bytes t new)
+          → (known new).faults ≡ (known e.there).faults
+      by (inl same) = ap (λ (b : B). (known b).faults) same
+      by (inr lost) = again lost.0 lost.1 lost.2
+
+  -- EACH FAULT OF THE STORE IS TOLD, however the requests ended.
+  pub tells_each_fault : (ended : Result (Unit {0}) Stop) → Ends known goes ended old x new y
+      → TellsEachStoreFault (known old) (known new) (status_of ended)
+  tells_each_fault (Ok done) ends = ends.0.accounted.faults
+  tells_each_fault (Err stop.NoMemory) ends = stalled-counts-none ends.0
+  tells_each_fault (Err (stop.Cause cause.Malformed)) ends = ends.0.accounted.faults
+  tells_each_fault (Err (stop.Cause cause.ReadFault)) ends = ends.0.accounted.faults
+  tells_each_fault (Err (stop.Cause cause.WriteFault)) ends = ends.0.accounted.faults
+  tells_each_fault (Err (stop.Cause cause.StoreFault)) ends = ends.2
+  tells_each_fault (Err (stop.Cause cause.TooManyRequests)) ends = ends.0.accounted.faults

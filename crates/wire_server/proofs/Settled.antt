@@ -74,7 +74,8 @@ module _ {B : Type 0} (known : B → Known) (goes : B → Call → Answer → B 
   }
 
   -- PROMISES OVER A BACKEND are promises by what it knows.
-  pub promises-known : (status : ℕ) → Promises known goes m old new x y status → RequestsPromised (known old) (known new) m status x y
+  pub promises-known : (status : ℕ) → Promises known goes m old new x y status
+      → Promises (λ (n : Known). n) AnyStep m (known old) (known new) x y status
   promises-known status p = record {
     statuses = p.statuses;
     client = p.client;
@@ -168,21 +169,25 @@ module _ (first last other : Passed) (more : KnowsMore last other) (same : IsSam
       heard = e.heard;
     }
 
+    promises-met : (status : ℕ) → Promises (λ (n : Known). n) AnyStep (known_of last) (known_of first) (known_of last) x y status
+        → Promises (λ (n : Known). n) AnyStep met (known_of first) (known_of last) x y status
+    promises-met status p = record {
+      statuses = p.statuses;
+      client = p.client;
+      safe = safe-met p.safe;
+      whole = λ is. served-met _ (p.whole is);
+      broken_off = λ is. served-met _ (p.broken_off is);
+      too_many = λ is. served-met _ (p.too_many is);
+      refused = λ is. served-met _ (p.refused is);
+      cut_off = λ is. cut-met (p.cut_off is);
+      stalled = λ is. stalled-met (p.stalled is);
+      failed = λ is. failed-met (p.failed is);
+      reads = p.reads;
+      writes = p.writes;
+      store_failed = p.store_failed;
+      completes = p.completes;
+    }
+
 -- WHAT IS PROMISED STAYS SO.
 pub requests-stay : StaysPromised RequestsPromised
-requests-stay first last other status x y p more = record {
-  statuses = p.statuses;
-  client = p.client;
-  safe = safe-met first last other more p.client p.safe;
-  whole = λ is. served-met first last other more p.client x y _ (p.whole is);
-  broken_off = λ is. served-met first last other more p.client x y _ (p.broken_off is);
-  too_many = λ is. served-met first last other more p.client x y _ (p.too_many is);
-  refused = λ is. served-met first last other more p.client x y _ (p.refused is);
-  cut_off = λ is. cut-met first last other more p.client x y (p.cut_off is);
-  stalled = λ is. stalled-met first last other more p.client x y (p.stalled is);
-  failed = λ is. failed-met first last other more p.client x y (p.failed is);
-  reads = p.reads;
-  writes = p.writes;
-  store_failed = p.store_failed;
-  completes = p.completes;
-}
+requests-stay first last other status x y p more = (promises-met first last other more p.0.client x y status p.0, p.1)

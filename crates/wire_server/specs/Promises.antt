@@ -197,3 +197,21 @@ module _ {B : Type 0} (known : B → Known) (goes : B → Call → Answer → B 
 -- WHAT THE SERVING OF REQUESTS PROMISES, from its backend before it to the backend after it.
 abbrev pub KeepsPromises : {B : Type 0} → (B → Known) → (B → Call → Answer → B → Type 0) → ℕ → B → B → Both → Both → Type 0
 KeepsPromises known goes status old new x y = Promises known goes (known new) old new x y status
+
+-- EACH FAULT OF THE STORE IS TOLD: the store's count of faults rose at 6, and stood at every other status. (An answer is written before
+-- the next call is made, so at 4, too.)
+abbrev pub TellsEachStoreFault : Known → Known → ℕ → Type 0
+TellsEachStoreFault k l status = IsCounted (status == STORE_FAULT) k.faults l.faults
+
+-- ---- worked lines
+
+-- where a write failed, or memory was wanting, the store's count stands
+write-fault-counts-none : (k l : Known) → TellsEachStoreFault k l WRITE_FAULT → l.faults ≡ k.faults
+write-fault-counts-none k l told = told
+
+no-memory-counts-none : (k l : Known) → TellsEachStoreFault k l NO_MEMORY → l.faults ≡ k.faults
+no-memory-counts-none k l told = told
+
+-- and at 6 it doesn't
+store-fault-counts : (k l : Known) → TellsEachStoreFault k l STORE_FAULT → Rose k.faults l.faults
+store-fault-counts k l told = told

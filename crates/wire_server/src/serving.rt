@@ -4,7 +4,7 @@ ghost use Rattle.std.specs.Prelude.{◌≡◌, ◌<◌, ◌^◌, true, length, O
 ghost use Rattle.diamond_server.specs.Promises.{sides};
 ghost use Rattle.docc_prepare.specs.Readable.{IsNew};
 ghost use Rattle.remote_service.specs.Serving.{Serves};
-ghost use Rattle.wire_server.specs.Promises.{KeepsPromises};
+ghost use Rattle.wire_server.specs.Promises.{KeepsPromises, TellsEachStoreFault};
 ghost use Rattle.wire_server.specs.code.Serving as spec;
 ghost use Rattle.wire_server.specs.code.Serving.{Turns, Ends};
 
@@ -93,6 +93,7 @@ pub fn serve_wire<B: Waiter, K: End>(alloc: Global, backend: &mut B, link: &mut 
     requires new { IsNew (B.known backend.old) }
     ensures promises { KeepsPromises B.known B.goes result backend.old backend.new
         (sides K.Source K.Sink link.old) (sides K.Source K.Sink link.new) }
+    ensures told { TellsEachStoreFault (B.known backend.old) (B.known backend.new) result }
     ensures home { B.home backend.new ≡ B.home backend.old }
 {
     let ended = serve_requests(alloc, backend, link);

@@ -1,13 +1,13 @@
 //! The requests of clients far from a store over all links of a listener, each link in a thread of its own.
 
-ghost use Rattle.std.specs.Prelude.{◌≡◌, IfOk};
+ghost use Rattle.std.specs.Prelude.{◌≡◌, IfOk, OnOk};
 ghost use Rattle.diamond_store.specs.Answers.{Learns};
-ghost use Rattle.diamond_server.specs.Accounts.{gatherings, AllServedSince};
+ghost use Rattle.diamond_server.specs.Accounts.{gatherings, AllServedSince, AreEnded};
 ghost use Rattle.diamond_server.specs.Promises.{sides};
 ghost use Rattle.wire_server.specs.Links.{RequestsPromised};
 
 use crate::serving::serve_wire;
-use diamond_server::{Serves, Tally, serve_links};
+use diamond_server::{Serves, Serving, Tally, serve_links};
 use diamond_store::{Gate, Pass, Store};
 use dio_core::{End, Listener};
 use docc_prepare::Waiter;
@@ -31,6 +31,8 @@ impl Serves for Requests {
     }
 
     fn stays_promised() {}
+
+    fn tells_faults() {}
 }
 
 /// Accepts up to so many links, and answers the requests of a new client that come over each (`serve_wire`), as `serve_links` says.
@@ -49,8 +51,16 @@ pub fn serve_all_wire<
     sessions: u32,
 ) -> Result<Tally, AllocError>
     ensures learns { Learns pass.old pass.new }
-    ensures served { IfOk result (AllServedSince RequestsPromised (sides Li.Link.Source Li.Link.Sink) N.lock.first pass.old pass.new sessions
+    ensures served { IfOk result (AllServedSince RequestsPromised (sides Li.Link.Source Li.Link.Sink)
+        N.lock.first pass.old pass.new sessions
         (gatherings Li.Listener listener.old listener.new)) }
+    ensures ended { OnOk result (AreEnded Li.Link.ended
+        (Li.given_back listener.old) (Li.given_back listener.new)) }
 {
-    serve_links(rt, alloc, listener, store, pass, sessions, &Requests)
+    let serving = Serving {
+        store,
+        sessions,
+        way: &Requests,
+    };
+    serve_links(rt, alloc, listener, pass, &serving)
 }

@@ -24,6 +24,7 @@ use Rattle.script_runner.specs.declared.status.TheConstants.{WHOLE, READ_FAULT, 
 use Rattle.diamond_server.specs.declared.status.TheConstants.{STORE_FAULT}
 use Rattle.diamond_server.specs.declared.status.Cause.{Cause}
 use Rattle.diamond_server.specs.declared.status.Cause.TheVariants as cause
+use Rattle.diamond_server.specs.declared.ongoing.Ongoing.{Ongoing}
 use Rattle.diamond_server.specs.Talking.{Told, Does, Talks, HasBegun, MayBegin, first_session, printed, output, line_told}
 use Rattle.diamond_server.specs.Promises.{HasRead, ReadsToTheEnd, ReadsUpToAFault, ReadsOneMore, ReadsNext, TakesPart, TakesWhole, IsServed, IsCutShort}
 
@@ -189,6 +190,26 @@ StopsBy (stop.Cause cause.WriteFault) Began store store_then x held y after = Be
 StopsBy (stop.Cause cause.ReadFault) Began store store_then x held y after = ⊥
 StopsBy (stop.Cause cause.TooManyLines) Began store store_then x held y after = ⊥
 
+-- ---- the same of a session that goes on over a link
+
+-- a line of the session was begun, or none was
+abbrev pub MayBeginIn : {B : Type 0} → (B → Known) → (B → Call → Answer → B → Type 0) → B → Session → Option Text → B → Type 0
+MayBeginIn known goes old s text new = MayBegin known goes old (Some s) text new
+
+-- of what was held back some first bytes were taken
+abbrev pub HoldsOver : Both → Ongoing → Both → Ongoing → Type 0
+HoldsOver x s y t = HoldsBack x.outwards s.held y.outwards t.held
+
+-- what an error says, where so much has begun
+abbrev pub StopsOver : Stop → Type 0 → Known → Both → Ongoing → Known → Both → Ongoing → Type 0
+StopsOver stop Began k x s l y t = StopsBy stop Began k.faults l.faults x.outwards s.held y.outwards t.held
+
+-- a line is answered, and the session goes on or not
+abbrev pub RepliesOver : {B : Type 0} → (B → Known) → (B → Call → Answer → B → Type 0) → Line → Bool → B → Both → Ongoing → B → Both → Ongoing
+    → Type 0
+RepliesOver known goes l goes_on old x s new y t =
+    Replies known goes old s.session l x.outwards s.held goes_on new t.session y.outwards t.held
+
 -- ---- one line
 
 -- One line was read, done and answered.
@@ -238,6 +259,11 @@ Turns known goes (Err (stop.Cause cause.WriteFault)) old s x held new t y after 
 Turns known goes (Err (stop.Cause cause.StoreFault)) old s x held new t y after =
     StopsIn known goes old s x new y × HoldsBack x.outwards held y.outwards after × Rose (known old).faults (known new).faults
 Turns known goes (Err (stop.Cause cause.TooManyLines)) old s x held new t y after = ⊥
+
+-- the same of a session that goes on over a link
+abbrev pub TurnsOver : {B : Type 0} → (B → Known) → (B → Call → Answer → B → Type 0) → Result Bool Stop → B → Both → Ongoing → B → Both → Ongoing
+    → Type 0
+TurnsOver known goes result old x s new y t = Turns known goes result old s.session x s.held new t.session y t.held
 
 -- ---- many lines
 

@@ -1,6 +1,6 @@
 -- What the loops over links know on their way: of those that were accepted, and of those that were given back. The laws of
 -- proofs/Listing tie it to `Accepting` and `ServedAll` of specs/Accounts.
-use Rattle.std.specs.Prelude.{◌≡◌, ◌≤◌, ◌<◌, ℕ, List, ◌++◌, length, map, All, Option, Result, Ok, Err}
+use Rattle.std.specs.Prelude.{◌≡◌, ◌≤◌, ◌<◌, ◌+◌, ℕ, Bool, List, ◌++◌, length, map, All, Option, Result, Ok, Err}
 use mathlib.Core.List.{IsPrefix}
 use Rattle.dio_core.specs.Links.{Both}
 use Rattle.dio_core.specs.Sources.{with_prefix}
@@ -11,6 +11,7 @@ use Rattle.diamond_store.specs.declared.join_error.JoinError.TheVariants as join
 use Rattle.history_lock.specs.declared.limits.TheConstants.{MOST_DRAWS}
 use Rattle.session_core.specs.Explained.{setting_of}
 use Rattle.diamond_server.specs.Accounts.{Account, Seat, IsServed, Rises, given_of, status_in, joined_in, link_in, faults_of}
+use Rattle.diamond_server.specs.Accounts.{Gatherings, Accepting}
 use Rattle.diamond_server.specs.Ways.{Promising}
 
 -- what the client knew at its session's end, if there is one, this pass knows
@@ -26,6 +27,14 @@ abbrev pub JoinsNext : Passed → ℕ → ℕ → Result Passed JoinError → Ty
 JoinsNext pass mid high (Ok p) = (setting_of (known_of p) ≡ setting_of (known_of pass)) × (mid ≤ p.client) × (p.client < high)
 JoinsNext pass mid high (Err (join_error.Clients drawn)) = (MOST_DRAWS ≤ drawn) × (drawn ≤ pass.draws)
 JoinsNext pass mid high (Err join_error.NoMemory) = Unit {0}
+
+-- the same from one pass to the next, by the numbers of clients that it has drawn since, of which the store's first is `first`
+abbrev pub JoinsSince : ℕ → Passed → Passed → Result Passed JoinError → Type 0
+JoinsSince first old new joined = JoinsNext new (first + old.draws) (first + new.draws) joined
+
+-- what was accepted from one pass to the next
+abbrev pub AcceptingSince : {L : Type 0} → ℕ → Passed → Passed → ℕ → Gatherings L → List (Seat L) → Bool → Type 0
+AcceptingSince first old new most g seats failed = Accepting new (first + old.draws) (first + new.draws) most g seats failed
 
 -- so many turns were made, each of which accepted a link
 pub record Turns {L : Type 0} (pass : Passed) (low high turns : ℕ) (links rest : Option (List L)) (before after : ℕ) (seats : List (Seat L)) : Type 0 where

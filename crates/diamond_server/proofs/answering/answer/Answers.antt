@@ -11,7 +11,7 @@ returns-in_err-hold_refusal-in_default g c =
     let long = too-long c.args.line.now c.requires.some c.in_default.not-Bytes in
     rw (p.1, p.2) (record {
       replies = tt;
-      stops = stops-unrefused g.B.Backend.known g.B.Backend.goes c.args.backend.now c.args.session.now c.args.line.now _ c.args.held.now
+      stops = stops-unrefused g.B.Backend.known g.B.Backend.goes c.args.backend.now c.args.ongoing.now.session c.args.line.now _ c.args.ongoing.now.held
           c.hold_refusal.new.held long c.in_err-hold_refusal-in_default.ensures.same;
       incoming = refl;
       attends = tt;
@@ -21,7 +21,7 @@ returns-in_err-hold_refusal-in_default g c =
 -- the line is refused
 pub returns-in_ok-hold_refusal-in_default : goal.returns-in_ok-hold_refusal-in_default
 returns-in_ok-hold_refusal-in_default g c = record {
-  replies = refusal-replies g.B.Backend.known g.B.Backend.goes c.args.backend.now c.args.session.now c.args.line.now _ c.args.held.now
+  replies = refusal-replies g.B.Backend.known g.B.Backend.goes c.args.backend.now c.args.ongoing.now.session c.args.line.now _ c.args.ongoing.now.held
       c.hold_refusal.new.held (too-long c.args.line.now c.requires.some c.in_default.not-Bytes) c.in_ok-hold_refusal-in_default.ensures.held;
   stops = tt;
   incoming = refl;

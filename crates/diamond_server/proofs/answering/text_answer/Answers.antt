@@ -19,5 +19,5 @@ returns-in_err-hold_turn-in-Ok-clause-stops g c =
 -- the line stopped
 pub returns-in-Err-clause-stops : goal.returns-in-Err-clause-stops
 returns-in-Err-clause-stops g c =
-    stops-begun g.B.Backend.known g.B.Backend.goes c.args.backend.now c.args.session.now _ _ c.said.new.backend c.in-Err.stop _ _ _ _ _ _ c.requires.short
+    stops-begun g.B.Backend.known g.B.Backend.goes c.args.backend.now c.args.ongoing.now.session _ _ c.said.new.backend c.in-Err.stop _ _ _ _ _ _ c.requires.short
     c.as_slice.ensures c.in-Err.ensures.stops
