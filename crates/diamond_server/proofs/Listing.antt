@@ -20,10 +20,10 @@ use Rattle.diamond_store.specs.declared.join_error.JoinError.TheVariants as join
 use Rattle.session_core.specs.Explained.{setting_of}
 use Rattle.script_runner.specs.declared.status.TheConstants.{WHOLE}
 use Rattle.diamond_server.specs.Accounts.{Account, Seat, seat_of, given_of, status_in, joined_in, link_in, IsServed, Rises, faults_of}
-use Rattle.diamond_server.specs.Accounts.{Gatherings, gatherings, Accepting, AllServed, AreEnded, IsTold, FaultIsTold}
+use Rattle.diamond_server.specs.Accounts.{Gatherings, gatherings, Accepting, AllServed, AllServedSince, AreEnded, IsTold, FaultIsTold}
 use Rattle.diamond_server.specs.Promises.{TellsStoreFault}
 use Rattle.diamond_server.specs.Ways.{Promising, TellsFaults, having_met}
-use Rattle.diamond_server.specs.code.Settling.{IsNear, IsNearTalk, JoinsNext, Turns, Settling}
+use Rattle.diamond_server.specs.code.Settling.{IsNear, IsNearTalk, JoinsNext, AcceptingSince, Turns, Settling}
 
 -- ---- statuses
 
@@ -188,9 +188,9 @@ module _ {L : Type 0} where
 
   -- one that tells the same, as where it was closed
   pub accepting-same : {N : Type 0} (told : ListenerTells N L) (pass : Passed) (low high most : ℕ) (old mid new : N) (seats : List (Seat L)) (failed : Bool)
-      → told.links new ≡ told.links mid → told.given_back new ≡ told.given_back mid → told.accept_faults new ≡ told.accept_faults mid
+      → told.links new ≡ told.links mid → told.accept_faults new ≡ told.accept_faults mid
       → Accepting pass low high most (gatherings told old mid) seats failed → Accepting pass low high most (gatherings told old new) seats failed
-  accepting-same told pass low high most old mid new seats failed links given faults p =
+  accepting-same told pass low high most old mid new seats failed links faults p =
       record {
         taken = p.taken ∙ ap (with_prefix (map link_in seats)) (sym links);
         clients = p.clients;
@@ -291,6 +291,19 @@ module _ {L : Type 0} where
         given_back = q.given ∙ (ap (λ o. with_more o (map given_of q.done)) same ∙ ap (λ w. with_more g.given (map given_of w)) whole);
         faulted = q.faulted_is ∙ ap (λ w. faults_of (map status_in w)) whole;
       }
+
+  -- so it is of a serving, whose listener was given all of them back
+  pub served-since : {N : Type 0} (listened : ListenerTells N L) (Promised : Promising) (told : L → Both) (first : ℕ) (p q r : Passed) (most : ℕ) (old mid new : N)
+      (all : List (Account L)) (n k : ℕ) (failed : Bool) → TellsFaults Promised → r ≡ q → listened.links new ≡ listened.links mid
+      → listened.accept_faults new ≡ listened.accept_faults mid → listened.given_back mid ≡ listened.given_back old
+      → AcceptingSince first p q most (gatherings listened old mid) (map seat_of all) failed
+      → Settling Promised told q all [] (listened.given_back mid) (listened.given_back new) n → k ≡ length all
+      → AllServedSince Promised told first p r most (gatherings listened old new) (record { accepted = k; faulted = n; failed = failed })
+  served-since listened Promised told first p q r most old mid new all n k failed tells same links faults given accepted settled number =
+      subst (λ (w : Passed). AllServedSince Promised told first p w most (gatherings listened old new) (record { accepted = k; faulted = n; failed = failed }))
+      (sym same)
+      (served-all Promised told q (first + p.draws) (first + q.draws) most (gatherings listened old new) (listened.given_back mid) all n k failed tells
+      (accepting-same listened q (first + p.draws) (first + q.draws) most old mid new (map seat_of all) failed links faults accepted) given settled number)
 
   -- a pass that stayed the same explains the same
   pub served-at : (Promised : Promising) (told : L → Both) (u v : Passed) (a : Account L) → u ≡ v → IsServed Promised told u a → IsServed Promised told v a

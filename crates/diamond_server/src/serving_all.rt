@@ -75,6 +75,7 @@ pub fn serve_links<
         (Li.given_back listener.old) (Li.given_back listener.new)) }
 {
     S::tells_faults();
+    let _sessions = serving.sessions;
     let ran: Result<(Vec<Ended<Li::Link, K, N, S>>, bool), AllocError> = run_scoped(
         rt, alloc, listener, pass, serving,
     );
@@ -173,16 +174,29 @@ fn run_scoped<
         sessions,
         way,
     } = *serving;
-    let (ran, listener, _pass) = thread::scope(thread::scope_env(), rt, move |scope| {
-        let shared = Shared {
-            rt,
-            alloc,
-            store,
-            way,
-        };
-        let ran = run_all(scope, &shared, listener, pass, sessions);
-        (ran, listener, pass)
-    });
+    let (ran, listener, _pass) = thread::scope(
+        thread::scope_env(),
+        rt,
+        move |scope|
+            ensures same_listener { result.1.ghost_name ≡ listener.entry.ghost_name }
+            ensures same_pass { result.2.ghost_name ≡ pass.entry.ghost_name }
+            ensures learns { Learns pass.entry.now result.2.now }
+            ensures given { Li.given_back result.1.now ≡ Li.given_back listener.entry.now }
+            ensures accepted { IfOk result.0 (λ r. AcceptingSince N.lock.first
+                pass.entry.now result.2.now sessions
+                (gatherings Li.Listener listener.entry.now result.1.now) (map seat_of r.0.items) r.1) }
+            ensures near { IfOk result.0 (λ r. All (IsNear result.2.now) r.0.items) }
+        {
+            let shared = Shared {
+                rt,
+                alloc,
+                store,
+                way,
+            };
+            let ran = run_all(scope, &shared, listener, pass, sessions);
+            (ran, listener, pass)
+        },
+    );
     leave(listener);
     ran
 }

@@ -6,6 +6,5 @@ use Rattle.diamond_server.proofs.serving_all.run_all.Goals as goal
 pub returns-clause-accepted : goal.returns-clause-accepted
 returns-clause-accepted g c =
     let draws = c.join_all.ensures.learns.draws in
-    accepting-same g.Li.Listener _ _ _ _ _ c.accept_all-accepted.new.listener c.close.new.self _ _ c.close.ensures.links c.close.ensures.given
-    c.close.ensures.count
+    accepting-same g.Li.Listener _ _ _ _ _ c.accept_all-accepted.new.listener c.close.new.self _ _ c.close.ensures.links c.close.ensures.count
     (accepting-more _ _ _ _ _ _ _ _ _ _ c.in_ok-begun.ensures.accepted c.join_all.ensures.learns (omega arith) c.in_ok-join_all.ensures.seats)
